@@ -1,0 +1,15 @@
+-- A bench in memory with an empty record.
+use Rattle.std.proofs.Common.{◌≡◌, ◌∙◌, subst, sym, refl, ℕ, List, [], None}
+use Rattle.bench_model.specs.Record.{Recorded, at_rest}
+use Rattle.bench_model.specs.Memory.{memory_state}
+use Rattle.bench_model.specs.Loss.{IsAtRest}
+use Rattle.bench_model.proofs.LeftLemmas.{synced_only}
+
+-- a stop leaves it as it is
+pub rests : (file cells made_file made_cells : List ℕ) (store_faults device_faults : ℕ) (r : Recorded) (used room longest : ℕ)
+    → made_file ≡ file → made_cells ≡ cells
+    → r ≡ record { made = at_rest made_file made_cells; events = []; used = used; room = room; longest = longest }
+    → IsAtRest (memory_state file cells None store_faults device_faults r)
+rests file cells made_file made_cells store_faults device_faults r used room longest same_file same_cells is =
+    subst (λ (q : Recorded). IsAtRest (memory_state file cells None store_faults device_faults q)) (sym is)
+    (record { idle = refl; file = λ f at. synced_only made_file f at ∙ same_file; cells = λ c at. at ∙ same_cells })

@@ -1,0 +1,42 @@
+use Rattle.std.proofs.Common.{arith, refl, ap, sym, subst, ◌∙◌, ◌≡◌, ℕ, List, length, Option, Some, None}
+use Rattle.bench_model.specs.Calls.{SameOutside}
+use Rattle.bench_model.specs.Memory.{InStep}
+use Rattle.bench_model.specs.Record.{held_now, broken_off, broken}
+use Rattle.bench_model.proofs.MemoryLemmas.{step_broken, within, length-broken, only_broken, in_step_after, longest-after, made-after, greatest-after, ended_adds_nothing, file_stays_after}
+use Rattle.bench_model.proofs.memory.MemoryBenchBench.cells_drop.Goals as goal
+
+pub invariant_of-self-2 : goal.invariant_of-self-2
+invariant_of-self-2 c =
+    let m = c.args.self.now in
+    let e = broken_off c.byte_at-byte.result in
+    let r' = c.note.new.self in
+    let is = c.note.ensures in
+    let op : m.operation ≡ Some (c.in-Some.at, c.in-Some.len) = c.in-Some.is in
+    let inside = within (held_now m.history) m.file.items m.cells.items m.operation m.in_step c.in-Some.at c.in-Some.len op in
+    let new = broken c.byte_at-byte.result (Some (c.in-Some.at, c.in-Some.len)) m.cells.items in
+    let long = length-broken c.byte_at-byte.result c.in-Some.at c.in-Some.len m.cells.items inside in
+    let step = step_broken (held_now m.history) m.file.items m.cells.items m.operation m.in_step c.in-Some.at c.in-Some.len op c.byte_at-byte.result in
+    record {
+      in_step = subst (λ (l : List ℕ). InStep (held_now r') m.file.items l None) (sym c.leave.ensures) (in_step_after m.history r' e is _ _ _ step);
+      fits = omega (arith, m.fits, ap length c.leave.ensures, long);
+      counted = made-after m.history r' e is ∙ m.counted ∙ sym long ∙ sym (ap length c.leave.ensures);
+      within = omega (arith, m.within, greatest-after m.history r' e is, longest-after m.history r' e is);
+      file_fits = omega (arith, m.file_fits, longest-after m.history r' e is);
+      room_fits = omega (arith, m.room_fits, longest-after m.history r' e is);
+    }
+
+pub returns-clause-moments : goal.returns-clause-moments
+returns-clause-moments c =
+    let m = c.args.self.now in
+    let op : m.operation ≡ Some (c.in-Some.at, c.in-Some.len) = c.in-Some.is in
+    let inside = within (held_now m.history) m.file.items m.cells.items m.operation m.in_step c.in-Some.at c.in-Some.len op in
+    let new = broken c.byte_at-byte.result (Some (c.in-Some.at, c.in-Some.len)) m.cells.items in
+    let long = length-broken c.byte_at-byte.result c.in-Some.at c.in-Some.len m.cells.items inside in
+    let step = step_broken (held_now m.history) m.file.items m.cells.items m.operation m.in_step c.in-Some.at c.in-Some.len op c.byte_at-byte.result in
+    let only : SameOutside m.operation m.cells.items new = subst (λ (o : Option (ℕ × ℕ)). SameOutside o m.cells.items new) (sym op) (only_broken c.byte_at-byte.result c.in-Some.at c.in-Some.len m.cells.items inside) in
+    ended_adds_nothing m.history c.note.new.self (broken_off c.byte_at-byte.result) c.note.ensures m.file.items m.cells.items m.operation m.in_step new step only
+
+pub returns-clause-file : goal.returns-clause-file
+returns-clause-file c =
+    let m = c.args.self.now in
+    record { file = refl; faults = refl; half = file_stays_after m.history c.note.new.self (broken_off c.byte_at-byte.result) c.note.ensures refl }

@@ -1,0 +1,44 @@
+use Rattle.std.proofs.Common.{arith, refl, ap, sym, subst, ◌∙◌, ◌≡◌, ℕ, List, length, Option, Some, None}
+use Rattle.bench_model.specs.Calls.{written, SameOutside}
+use Rattle.bench_model.specs.Memory.{InStep}
+use Rattle.bench_model.specs.Record.{held_now, settled}
+use Rattle.bench_model.proofs.MemoryLemmas.{step_settled, within, length-in_range, only_in_range, length-open, in_step_after, longest-after, made-after, greatest-after, ended_adds_nothing, file_stays_after}
+use Rattle.bench_model.proofs.memory.MemoryBenchBench.cells_settle.Goals as goal
+
+pub invariant_of-self-2 : goal.invariant_of-self-2
+invariant_of-self-2 c =
+    let m = c.args.self.now in
+    let e = settled c.args.bytes.now in
+    let r' = c.note.new.self in
+    let is = c.note.ensures in
+    let op : m.operation ≡ Some (c.in-Some.at, c.in-Some.field-0-1) = c.in-Some.is in
+    let inside = within (held_now m.history) m.file.items m.cells.items m.operation m.in_step c.in-Some.at c.in-Some.field-0-1 op in
+    let new = written c.in-Some.at c.args.bytes.now m.cells.items in
+    let same = length-open (length c.args.bytes.now) m.operation c.in-Some.at c.in-Some.field-0-1 c.requires op in
+    let long = length-in_range m.cells.items c.in-Some.at c.in-Some.field-0-1 inside c.args.bytes.now same in
+    let step = step_settled (held_now m.history) m.file.items m.cells.items m.operation m.in_step c.in-Some.at c.in-Some.field-0-1 op c.args.bytes.now in
+    record {
+      in_step = subst (λ (l : List ℕ). InStep (held_now r') m.file.items l None) (sym c.settle.ensures.items) (in_step_after m.history r' e is _ _ _ step);
+      fits = omega (arith, m.fits, ap length c.settle.ensures.items, long);
+      counted = made-after m.history r' e is ∙ m.counted ∙ sym long ∙ sym (ap length c.settle.ensures.items);
+      within = omega (arith, m.within, greatest-after m.history r' e is, longest-after m.history r' e is);
+      file_fits = omega (arith, m.file_fits, longest-after m.history r' e is);
+      room_fits = omega (arith, m.room_fits, longest-after m.history r' e is);
+    }
+
+pub returns-clause-moments : goal.returns-clause-moments
+returns-clause-moments c =
+    let m = c.args.self.now in
+    let op : m.operation ≡ Some (c.in-Some.at, c.in-Some.field-0-1) = c.in-Some.is in
+    let inside = within (held_now m.history) m.file.items m.cells.items m.operation m.in_step c.in-Some.at c.in-Some.field-0-1 op in
+    let new = written c.in-Some.at c.args.bytes.now m.cells.items in
+    let same = length-open (length c.args.bytes.now) m.operation c.in-Some.at c.in-Some.field-0-1 c.requires op in
+    let long = length-in_range m.cells.items c.in-Some.at c.in-Some.field-0-1 inside c.args.bytes.now same in
+    let step = step_settled (held_now m.history) m.file.items m.cells.items m.operation m.in_step c.in-Some.at c.in-Some.field-0-1 op c.args.bytes.now in
+    let only : SameOutside m.operation m.cells.items new = subst (λ (o : Option (ℕ × ℕ)). SameOutside o m.cells.items new) (sym op) (only_in_range m.cells.items c.in-Some.at c.in-Some.field-0-1 inside c.args.bytes.now same) in
+    ended_adds_nothing m.history c.note.new.self (settled c.args.bytes.now) c.note.ensures m.file.items m.cells.items m.operation m.in_step new step only
+
+pub returns-clause-file : goal.returns-clause-file
+returns-clause-file c =
+    let m = c.args.self.now in
+    record { file = refl; faults = refl; half = file_stays_after m.history c.note.new.self (settled c.args.bytes.now) c.note.ensures refl }

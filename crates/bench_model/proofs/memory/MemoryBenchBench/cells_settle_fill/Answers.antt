@@ -1,0 +1,45 @@
+use Rattle.std.proofs.Common.{arith, refl, ap, sym, subst, ◌∙◌, ◌≡◌, ℕ, List, length, replicate, Option, Some, None}
+use Rattle.std.proofs.lemmas.List.{length-replicate}
+use Rattle.bench_model.specs.Calls.{written, SameOutside}
+use Rattle.bench_model.specs.Memory.{InStep}
+use Rattle.bench_model.specs.Record.{held_now, filled}
+use Rattle.bench_model.proofs.MemoryLemmas.{step_filled, within, length-in_range, only_in_range, in_step_after, longest-after, made-after, greatest-after, ended_adds_nothing, file_stays_after}
+use Rattle.bench_model.proofs.memory.MemoryBenchBench.cells_settle_fill.Goals as goal
+
+pub invariant_of-self-2 : goal.invariant_of-self-2
+invariant_of-self-2 c =
+    let m = c.args.self.now in
+    let e = filled c.args.value in
+    let r' = c.note.new.self in
+    let is = c.note.ensures in
+    let op : m.operation ≡ Some (c.in-Some.at, c.in-Some.len) = c.in-Some.is in
+    let inside = within (held_now m.history) m.file.items m.cells.items m.operation m.in_step c.in-Some.at c.in-Some.len op in
+    let new = written c.in-Some.at (replicate c.in-Some.len c.args.value) m.cells.items in
+    let same = length-replicate c.in-Some.len c.args.value in
+    let long = length-in_range m.cells.items c.in-Some.at c.in-Some.len inside (replicate c.in-Some.len c.args.value) same in
+    let step = step_filled (held_now m.history) m.file.items m.cells.items m.operation m.in_step c.in-Some.at c.in-Some.len op c.args.value in
+    record {
+      in_step = subst (λ (l : List ℕ). InStep (held_now r') m.file.items l None) (sym c.settle_fill.ensures.items) (in_step_after m.history r' e is _ _ _ step);
+      fits = omega (arith, m.fits, ap length c.settle_fill.ensures.items, long);
+      counted = made-after m.history r' e is ∙ m.counted ∙ sym long ∙ sym (ap length c.settle_fill.ensures.items);
+      within = omega (arith, m.within, greatest-after m.history r' e is, longest-after m.history r' e is);
+      file_fits = omega (arith, m.file_fits, longest-after m.history r' e is);
+      room_fits = omega (arith, m.room_fits, longest-after m.history r' e is);
+    }
+
+pub returns-clause-moments : goal.returns-clause-moments
+returns-clause-moments c =
+    let m = c.args.self.now in
+    let op : m.operation ≡ Some (c.in-Some.at, c.in-Some.len) = c.in-Some.is in
+    let inside = within (held_now m.history) m.file.items m.cells.items m.operation m.in_step c.in-Some.at c.in-Some.len op in
+    let new = written c.in-Some.at (replicate c.in-Some.len c.args.value) m.cells.items in
+    let same = length-replicate c.in-Some.len c.args.value in
+    let long = length-in_range m.cells.items c.in-Some.at c.in-Some.len inside (replicate c.in-Some.len c.args.value) same in
+    let step = step_filled (held_now m.history) m.file.items m.cells.items m.operation m.in_step c.in-Some.at c.in-Some.len op c.args.value in
+    let only : SameOutside m.operation m.cells.items new = subst (λ (o : Option (ℕ × ℕ)). SameOutside o m.cells.items new) (sym op) (only_in_range m.cells.items c.in-Some.at c.in-Some.len inside (replicate c.in-Some.len c.args.value) same) in
+    ended_adds_nothing m.history c.note.new.self (filled c.args.value) c.note.ensures m.file.items m.cells.items m.operation m.in_step new step only
+
+pub returns-clause-file : goal.returns-clause-file
+returns-clause-file c =
+    let m = c.args.self.now in
+    record { file = refl; faults = refl; half = file_stays_after m.history c.note.new.self (filled c.args.value) c.note.ensures refl }

@@ -1,0 +1,34 @@
+use Rattle.std.proofs.Common.{arith, refl, ap, ◌∙◌, length}
+use Rattle.bench_model.specs.Record.{held_now, synced}
+use Rattle.bench_model.proofs.MemoryLemmas.{step_synced, in_step_after, longest-after, made-after, greatest-after, synced_adds_nothing, synced_leaves_only, cells_stay_after}
+use Rattle.bench_model.proofs.memory.MemoryBenchBench.file_sync.Goals as goal
+
+pub invariant_of-self-2 : goal.invariant_of-self-2
+invariant_of-self-2 c =
+    let m = c.args.self.now in
+    let e = synced in
+    let r' = c.note_sync.new.self in
+    let is = c.note_sync.ensures in
+    record {
+      in_step = in_step_after m.history r' e is _ _ _ (step_synced (held_now m.history) m.file.items m.cells.items m.operation m.in_step);
+      fits = m.fits;
+      counted = made-after m.history r' e is ∙ m.counted;
+      within = omega (arith, m.within, greatest-after m.history r' e is, longest-after m.history r' e is, ap length m.in_step.same_file, m.in_step.left.no_longer);
+      file_fits = omega (arith, m.file_fits, longest-after m.history r' e is);
+      room_fits = omega (arith, m.room_fits, longest-after m.history r' e is);
+    }
+
+pub returns-clause-moments : goal.returns-clause-moments
+returns-clause-moments c =
+    let m = c.args.self.now in
+    synced_adds_nothing m.history c.note_sync.new.self synced c.note_sync.ensures m.file.items m.cells.items m.operation m.in_step refl
+
+pub returns-clause-ok : goal.returns-clause-ok
+returns-clause-ok c =
+    let m = c.args.self.now in
+    synced_leaves_only m.history c.note_sync.new.self synced c.note_sync.ensures m.file.items m.cells.items m.operation m.in_step refl
+
+pub returns-clause-cells : goal.returns-clause-cells
+returns-clause-cells c =
+    let m = c.args.self.now in
+    record { cells = refl; operation = refl; count = refl; faults = refl; half = cells_stay_after m.history c.note_sync.new.self (synced) c.note_sync.ensures (λ x. ((λ at. at), (λ at. at))) }

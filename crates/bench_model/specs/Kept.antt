@@ -1,0 +1,47 @@
+-- What a job file in memory keeps for a stop of the power, and which files a stop may leave of it.
+use Rattle.std.specs.Prelude.{◌<◌, ◌≤◌, ◌+◌, ◌≡◌, ◌⊎◌, ℕ, List, [], ◌∷◌, length, take, max, min, slice_index}
+use Rattle.bench_model.specs.Calls.{written}
+
+-- the file: as a read gives it, as the last sync left it, its least and greatest length since that sync, and the ranges
+-- (place, length) that were written since then
+pub record Kept : Type 0 where
+  pub file : List ℕ
+  pub synced : List ℕ
+  pub least : ℕ
+  pub greatest : ℕ
+  pub ranges : List (ℕ × ℕ)
+
+abbrev pub all_synced : List ℕ → Kept
+all_synced file = record { file = file; synced = file; least = length file; greatest = length file; ranges = [] }
+
+abbrev pub after_write : ℕ → List ℕ → Kept → Kept
+after_write at bytes k = record k {
+  file = written at bytes k.file;
+  greatest = max k.greatest (at + length bytes);
+  ranges = (at, length bytes) ∷ k.ranges;
+}
+
+abbrev pub after_cut : ℕ → Kept → Kept
+after_cut len k = record k { file = take len k.file; least = min k.least len }
+
+-- a place lies in one of the ranges
+abbrev pub IsWritten : List (ℕ × ℕ) → ℕ → Type 0
+IsWritten [] i = ⊥
+IsWritten (range ∷ ranges) i = ((range.0 ≤ i) × (i < range.0 + range.1)) ⊎ IsWritten ranges i
+
+-- a byte is pending: it was written since the last sync, or lies from the least length since then on
+abbrev pub IsPending : Kept → ℕ → Type 0
+IsPending k i = IsWritten k.ranges i ⊎ (k.least ≤ i)
+
+-- a stop may leave this file: its length is any from the least to the greatest since the last sync, pending bytes are
+-- any bytes, and all others are as that sync left them
+pub record IsLeft (k : Kept) (f : List ℕ) : Type 0 where
+  pub no_shorter : k.least ≤ length f
+  pub no_longer : length f ≤ k.greatest
+  pub same : (i : ℕ) → i < k.least → (IsWritten k.ranges i → ⊥) → slice_index f i ≡ slice_index k.synced i
+
+-- of these files the one of the greatest length whose pending bytes are all one value
+pub record IsFilled (value : ℕ) (k : Kept) (f : List ℕ) : Type 0 where
+  pub long : length f ≡ k.greatest
+  pub pending : (i : ℕ) → i < k.greatest → IsPending k i → slice_index f i ≡ value
+  pub same : (i : ℕ) → i < k.least → (IsWritten k.ranges i → ⊥) → slice_index f i ≡ slice_index k.synced i

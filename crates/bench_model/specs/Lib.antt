@@ -1,0 +1,13 @@
+pub mod History
+pub mod State
+pub mod Calls
+pub mod Pairs
+pub mod Untold
+pub mod Kept
+pub mod Record
+pub mod Numbers
+pub mod Memory
+pub mod Shown
+pub mod Picked
+pub mod Loss
+pub mod Stopped

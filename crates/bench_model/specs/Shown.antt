@@ -1,0 +1,89 @@
+-- A bench in memory as its contracts see it, and what each call does to it.
+use Rattle.std.specs.Prelude.{◌≡◌, ◌⊎◌, ℕ, List, Option, None, Result, MatchResult, slice_get, [], length, max}
+use Rattle.faults.specs.Counts.{raised}
+use Rattle.bench_model.specs.State.{BenchState}
+use Rattle.bench_model.specs.Numbers.{Numbered, IsDue, went, failed}
+use Rattle.bench_model.specs.Record.{Event, Recorded, at_rest, noted}
+use Rattle.bench_model.specs.Memory.{memory_state}
+use Rattle.bench_model.specs.declared.memory.MemoryBench.{MemoryBench}
+
+pub record Memory : Type 0 where
+  pub file : List ℕ
+  pub cells : List ℕ
+  pub operation : Option (ℕ × ℕ)
+  -- the calls that changed something
+  pub history : Recorded
+  -- the longest file that a write may give
+  pub file_room : ℕ
+  -- the file calls and the cell calls that can fail
+  pub store : Numbered
+  pub device : Numbered
+  -- what broken-off operations leave, a byte each, and how many were broken off
+  pub garbage : List ℕ
+  pub breaks : ℕ
+
+abbrev pub shown : MemoryBench → Memory
+shown m = record {
+  file = m.file.items;
+  cells = m.cells.items;
+  operation = m.operation;
+  history = m.history;
+  file_room = m.file_room;
+  store = m.store;
+  device = m.device;
+  garbage = m.garbage.items;
+  breaks = m.breaks;
+}
+
+-- what it means as a bench
+abbrev pub bench_of : MemoryBench → BenchState
+bench_of m = memory_state m.file.items m.cells.items m.operation m.store.faults m.device.faults m.history
+
+-- as it is made
+abbrev pub made_bench : (cells file : List ℕ) (file_room call_room : ℕ) (store_fails device_fails garbage : List ℕ) → Memory
+made_bench cells file file_room call_room store_fails device_fails garbage = record {
+  file = file;
+  cells = cells;
+  operation = None;
+  history = record { made = at_rest file cells; events = []; used = 0; room = call_room; longest = max (length file) file_room };
+  file_room = file_room;
+  store = record { calls = 0; fails = store_fails; faults = 0 };
+  device = record { calls = 0; fails = device_fails; faults = 0 };
+  garbage = garbage;
+  breaks = 0;
+}
+
+-- A call goes through exactly where its number isn't to fail and there is room for it, and each end leaves this.
+abbrev pub Ends : {T E : Type 0} → Result T E → Numbered → Type 0 → Memory → Memory → Memory → Type 0
+Ends result n room new on_ok on_err = MatchResult result
+    (λ value. (IsDue n → ⊥) × room × (new ≡ on_ok))
+    (λ fault. (IsDue n ⊎ (room → ⊥)) × (new ≡ on_err))
+
+-- a file call that went through and changed nothing, and one that failed
+abbrev pub store_went : Memory → Memory
+store_went m = record m { store = went m.store }
+
+abbrev pub store_failed : Memory → Memory
+store_failed m = record m { store = failed m.store }
+
+-- a file call that went through, with its event and the file after it
+abbrev pub stored : Event → List ℕ → Memory → Memory
+stored e file m = record m { file = file; history = noted e m.history; store = went m.store }
+
+-- the same of cell calls, with the cells and the open operation after it
+abbrev pub device_went : Memory → Memory
+device_went m = record m { device = went m.device }
+
+abbrev pub device_failed : Memory → Memory
+device_failed m = record m { device = failed m.device }
+
+abbrev pub worked : Event → List ℕ → Option (ℕ × ℕ) → Memory → Memory
+worked e cells operation m = record m { cells = cells; operation = operation; history = noted e m.history; device = went m.device }
+
+-- the byte that the next operation to be broken off leaves, if there is one
+abbrev pub next_garbage : Memory → Option ℕ
+next_garbage m = slice_get m.garbage m.breaks
+
+-- a cell call that broke off the open operation
+abbrev pub let_go : Event → List ℕ → Memory → Memory
+let_go e cells m = record (worked e cells None m) { breaks = raised m.breaks }

@@ -1,0 +1,33 @@
+-- What a bench means.
+use Rattle.std.specs.Prelude.{◌≤◌, ℕ, List, Option}
+use Rattle.bench_model.specs.History.{Half}
+
+pub record BenchState : Type 1 where
+  -- the bytes that a read of the job file gives
+  pub file : List ℕ
+  -- the cells of the device, and the range (place, length) of the open cell operation
+  pub cells : List ℕ
+  pub operation : Option (ℕ × ℕ)
+  -- the number of cells, which never changes, also where the cells aren't told
+  pub cell_count : ℕ
+  -- how many faults of the store and of the device were counted
+  pub store_faults : ℕ
+  pub device_faults : ℕ
+  -- the moment, and which files and which cells a stop may leave at each moment up to it
+  pub moment : ℕ
+  pub files_at : ℕ → List ℕ → Type 0
+  pub cells_at : ℕ → List ℕ → Type 0
+
+abbrev pub file_half : BenchState → Half
+file_half b = record { now = b.moment; at = b.files_at }
+
+abbrev pub cells_half : BenchState → Half
+cells_half b = record { now = b.moment; at = b.cells_at }
+
+-- a stop at this moment may leave this file and these cells
+abbrev pub Left : BenchState → List ℕ → List ℕ → Type 0
+Left b file cells = b.files_at b.moment file × b.cells_at b.moment cells
+
+-- a stop at some moment from `since` on may have left this file and these cells: each in its half at the same moment
+abbrev pub LeftSince : BenchState → ℕ → List ℕ → List ℕ → Type 0
+LeftSince b since file cells = (k : ℕ) × (since ≤ k) × (k ≤ b.moment) × b.files_at k file × b.cells_at k cells

@@ -1,0 +1,15 @@
+// A call that changed something, as a bench in memory records it.
+
+/// A recorded call. The bytes that it was handed stand beside it in the record.
+#[derive(Clone, Copy, Debug, PartialEq, Eq)]
+pub(crate) enum Change {
+    // place and length
+    Wrote(u64, u64),
+    Cut(u64),
+    Synced,
+    Opened(u32, u32),
+    Settled(u64),
+    Filled(u8),
+    // the byte that is left in the range
+    BrokenOff(Option<u8>),
+}

@@ -1,0 +1,404 @@
+// A bench in memory. It keeps each call that changed something, and so answers for every moment.
+ghost use Rattle.std.specs.Prelude.{◌≡◌, ◌≤◌, ◌<◌, ◌+◌, ◌^◌, ◌↔◌, [], ◌∷◌, List, ℕ, length, take, drop, max, replicate, slice_get, Option, Some, None, IsTrue, IfOk, OnOk, OnErr, IfSome, IfNone, IsSome, ⊤, vec_len, vec_capacity};
+ghost use Rattle.faults.specs.Counts.{HasCause};
+ghost use Rattle.bench_model.specs.History.{left, Leaves, AddsNothing, LeftOnly};
+ghost use Rattle.bench_model.specs.State.{file_half, cells_half};
+ghost use Rattle.bench_model.specs.Calls.{written, Torn, Cut, Shortened, Follows, SameOutside, FileStays, CellsStay, IsOpen};
+ghost use Rattle.std.specs.Option.{ForSome};
+ghost use Rattle.bench_model.specs.Memory.{InStep};
+ghost use Rattle.bench_model.specs.Picked.{IsPickedFile, picked_cells};
+ghost use Rattle.bench_model.specs.Record.{HasRoom, held_now, in_range, broken, at_rest, wrote, cut, synced, opened, settled, filled, broken_off};
+
+use crate::change::Change;
+use crate::lay::{overwrite, replace, settle, settle_fill};
+use crate::numbers::Numbers;
+use crate::pick::Pick;
+use crate::record::Record;
+use crate::{Bench, DeviceFault, StoreFault};
+use faults::OutOfMemory;
+use std::alloc::Global;
+
+/// A bench in memory, for tests and for devices that are emulated in a test. It tells its contents.
+///
+/// A call fails only where its number is to fail, or where there is no room for it; it then changes nothing but its
+/// number and the count of faults.
+#[derive(Drop)]
+pub struct MemoryBench {
+    file: Vec<u8>,
+    cells: Vec<u8>,
+    operation: Option<(u32, u32)>,
+    history: Record,
+    file_room: u64,
+    store: Numbers,
+    device: Numbers,
+    garbage: Vec<u8>,
+    breaks: u64,
+
+    ghost in_step: { InStep (held_now history) file.items cells.items operation },
+    ghost fits: { length cells.items < 2 ^ 32 },
+    ghost counted: { length history.made.cells ≡ length cells.items },
+    ghost within: { (held_now history).kept.greatest ≤ history.longest },
+    ghost file_fits: { history.longest ≤ vec_capacity file },
+    ghost room_fits: { file_room ≤ history.longest },
+}
+
+impl MemoryBench {
+    ghost use Rattle.bench_model.specs.Shown.{shown, bench_of, made_bench};
+    ghost use Rattle.bench_model.specs.Loss.{IsAtRest, IsPicked, after_loss};
+    ghost use Rattle.bench_model.specs.State.{Left};
+
+    /// A bench with these cells and this file, of which nothing is pending. It takes all memory that it ever needs.
+    ///
+    /// `file_room` is the longest file, in bytes, that a write may give. `call_room` is the room for recorded calls in
+    /// units: each takes one unit, and one more for each byte of the slice that it is handed. `store_fails` and
+    /// `device_fails` are the numbers from 1 of the file calls and of the cell calls that are to fail. Each operation
+    /// that is broken off leaves the next byte of `garbage` in its range, and its old bytes where none is left.
+    pub fn new(
+        alloc: Global,
+        cells: &[u8],
+        file: &[u8],
+        file_room: u64,
+        call_room: u64,
+        store_fails: &[u64],
+        device_fails: &[u64],
+        garbage: &[u8],
+    ) -> Result<MemoryBench, OutOfMemory>
+        requires { length cells.now < 2 ^ 32 }
+        ensures made { IfOk result (λ bench. shown bench ≡ made_bench cells.now file.now file_room call_room store_fails.now device_fails.now garbage.now) }
+        ensures rest { IfOk result (λ bench. IsAtRest (bench_of bench)) }
+    {
+        let longest = file.len().max(file_room as usize);
+        let mut own_file = Vec::with_capacity(alloc, longest)?;
+        replace(&mut own_file, file);
+        Ok(MemoryBench {
+            file: own_file,
+            cells: cells.to_vec(alloc)?,
+            operation: None,
+            history: Record::new(alloc, file, cells, call_room, longest)?,
+            file_room,
+            store: Numbers::new(alloc, store_fails)?,
+            device: Numbers::new(alloc, device_fails)?,
+            garbage: garbage.to_vec(alloc)?,
+            breaks: 0,
+        })
+    }
+
+    /// The cells.
+    pub fn cells(&self) -> &[u8]
+        ensures { result.now ≡ (bench_of self.now).cells }
+    {
+        &self.cells
+    }
+
+    /// The job file as a read gives it.
+    pub fn file(&self) -> &[u8]
+        ensures { result.now ≡ (bench_of self.now).file }
+    {
+        &self.file
+    }
+
+    /// Stops the power. What is left is one of the pairs of a file and cells that a stop may leave: the one that is
+    /// picked. Afterwards nothing is pending and no operation is open. The record is empty again, and its moments begin
+    /// anew. The counts of faults and the numbers of calls go on.
+    pub fn power_loss(&mut self, pick: Pick)
+        ensures left { Left (bench_of self.old) (bench_of self.new).file (bench_of self.new).cells }
+        ensures picked { IsPicked pick (shown self.old) (shown self.new).file (shown self.new).cells }
+        ensures rest { IsAtRest (bench_of self.new) }
+        ensures exact { shown self.new ≡ after_loss (shown self.new).file (shown self.new).cells (shown self.old) }
+    {
+        pick_file(&self.history, &mut self.file, pick);
+        pick_cells(&mut self.cells, self.operation, pick);
+        self.operation = None;
+        self.history.restart(&self.file, &self.cells);
+    }
+}
+
+// Puts the file that a stop leaves.
+fn pick_file(history: &Record, file: &mut Vec<u8>, pick: Pick)
+    requires longest { (held_now history.now).kept.greatest ≤ vec_capacity file.old }
+    requires older { length (held_now history.now).kept.synced ≤ vec_capacity file.old }
+    ensures items { IsPickedFile pick (held_now history.now).kept file.old.items file.new.items }
+    ensures capacity { vec_capacity file.old ≤ vec_capacity file.new }
+{
+    match pick {
+        Pick::AsWritten => {}
+        Pick::AsOld => replace(file, history.synced()),
+        Pick::Filled { value } => history.fill(file, value),
+    }
+}
+
+// Puts the cells that a stop leaves.
+fn pick_cells(cells: &mut Vec<u8>, operation: Option<(u32, u32)>, pick: Pick)
+    requires { ForSome operation (λ range. range.0 + range.1 ≤ vec_len cells.old) }
+    ensures items { cells.new.items ≡ picked_cells pick operation cells.old.items }
+{
+    if let (Pick::Filled { value }, Some((at, len))) = (pick, operation) {
+        settle_fill(cells, at as usize, len as usize, value);
+    }
+}
+
+// Whether there is room for a write in the file and in the record.
+fn can_write(history: &Record, file_room: u64, at: u64, len: usize) -> bool
+    ensures { IsTrue result ↔ (at + len ≤ file_room) × HasRoom len history.now }
+{
+    at <= file_room && len as u64 <= file_room - at && history.has_room(len)
+}
+
+// Leaves a byte in a range of cells, or the old bytes where there is none.
+fn leave(cells: &mut Vec<u8>, at: usize, len: usize, byte: Option<u8>)
+    requires { at + len ≤ vec_len cells.old }
+    ensures { cells.new.items ≡ broken byte (Some (at, len)) cells.old.items }
+{
+    if let Some(value) = byte {
+        settle_fill(cells, at, len, value);
+    }
+}
+
+// The byte at a place, where there is one.
+fn byte_at(bytes: &[u8], at: u64) -> Option<u8>
+    ensures { result ≡ slice_get bytes.now at }
+{
+    if at < bytes.len() as u64 {
+        return Some(bytes[at as usize]);
+    }
+    None
+}
+
+impl Bench for MemoryBench {
+    ghost use Rattle.bench_model.specs.Shown.{shown, bench_of, next_garbage, Ends, store_went, store_failed, stored, device_went, device_failed, worked, let_go};
+    ghost use Rattle.std.specs.Prelude.{true, ℕ, List, refl};
+    ghost use Rattle.bench_model.specs.Memory.{memory_state, left_as_read, left_as_told};
+
+    ghost tells = { true };
+
+    ghost state = { λ m. memory_state m.file.items m.cells.items m.operation m.store.faults m.device.faults m.history };
+
+    ghost as_read = { λ m told. left_as_read m.history m.file.items m.cells.items m.operation m.in_step };
+
+    ghost as_told = { λ m x told. left_as_told m.history m.file.items m.cells.items m.operation m.in_step x };
+
+    ghost all_told = { λ m told. refl };
+
+    fn file_len(&mut self) -> Result<u64, StoreFault>
+        ensures ok { IfOk result (λ len. len ≡ length (bench_of self.old).file) }
+        ensures file { (bench_of self.new).file ≡ (bench_of self.old).file }
+        ensures moments { AddsNothing (file_half (bench_of self.old)) (file_half (bench_of self.new)) }
+        ensures cells { CellsStay (bench_of self.old) (bench_of self.new) }
+        ensures cause { HasCause (bench_of self.old).store_faults (bench_of self.new).store_faults result }
+        ensures exact { Ends result (shown self.old).store ⊤ (shown self.new) (store_went (shown self.old)) (store_failed (shown self.old)) }
+    {
+        if !self.store.goes(true) {
+            return Err(StoreFault);
+        }
+        Ok(self.file.len() as u64)
+    }
+
+    fn file_read(&mut self, at: u64, out: &mut [u8]) -> Result<(), StoreFault>
+        requires { at + length out.old ≤ length (bench_of self.old).file }
+        ensures ok { OnOk result (out.new ≡ take (length out.old) (drop at (bench_of self.old).file)) }
+        ensures file { (bench_of self.new).file ≡ (bench_of self.old).file }
+        ensures moments { AddsNothing (file_half (bench_of self.old)) (file_half (bench_of self.new)) }
+        ensures cells { CellsStay (bench_of self.old) (bench_of self.new) }
+        ensures cause { HasCause (bench_of self.old).store_faults (bench_of self.new).store_faults result }
+        ensures exact { Ends result (shown self.old).store ⊤ (shown self.new) (store_went (shown self.old)) (store_failed (shown self.old)) }
+    {
+        if !self.store.goes(true) {
+            return Err(StoreFault);
+        }
+        let at = at as usize;
+        out.copy_from_slice(&self.file[at..at + out.len()]);
+        Ok(())
+    }
+
+    fn file_write(&mut self, at: u64, bytes: &[u8]) -> Result<(), StoreFault>
+        requires { at ≤ length (bench_of self.old).file }
+        ensures ok { OnOk result ((bench_of self.new).file ≡ written at bytes.now (bench_of self.old).file) }
+        ensures err { OnErr result (Torn at (length bytes.now) (bench_of self.old).file (bench_of self.new).file) }
+        ensures moments { Leaves (file_half (bench_of self.old)) (file_half (bench_of self.new))
+            (Follows (Torn at (length bytes.now)) (file_half (bench_of self.old))) }
+        ensures cells { CellsStay (bench_of self.old) (bench_of self.new) }
+        ensures cause { HasCause (bench_of self.old).store_faults (bench_of self.new).store_faults result }
+        ensures exact { Ends result (shown self.old).store ((at + length bytes.now ≤ (shown self.old).file_room) × HasRoom (length bytes.now) (shown self.old).history) (shown self.new)
+            (stored (wrote at bytes.now) (written at bytes.now (shown self.old).file) (shown self.old)) (store_failed (shown self.old)) }
+    {
+        let len = bytes.len();
+        let room = can_write(&self.history, self.file_room, at, len);
+        if !self.store.goes(room) {
+            return Err(StoreFault);
+        }
+        overwrite(&mut self.file, at as usize, bytes);
+        self.history.note(Change::Wrote(at, len as u64), bytes);
+        Ok(())
+    }
+
+    fn file_cut(&mut self, len: u64) -> Result<(), StoreFault>
+        requires { len ≤ length (bench_of self.old).file }
+        ensures ok { OnOk result ((bench_of self.new).file ≡ take len (bench_of self.old).file) }
+        ensures err { OnErr result (Shortened len (bench_of self.old).file (bench_of self.new).file) }
+        ensures moments { Leaves (file_half (bench_of self.old)) (file_half (bench_of self.new))
+            (Follows (Cut len) (file_half (bench_of self.old))) }
+        ensures cells { CellsStay (bench_of self.old) (bench_of self.new) }
+        ensures cause { HasCause (bench_of self.old).store_faults (bench_of self.new).store_faults result }
+        ensures exact { Ends result (shown self.old).store (HasRoom 0 (shown self.old).history) (shown self.new)
+            (stored (cut len) (take len (shown self.old).file) (shown self.old)) (store_failed (shown self.old)) }
+    {
+        let room = self.history.has_room(0);
+        if !self.store.goes(room) {
+            return Err(StoreFault);
+        }
+        self.file.truncate(len as usize);
+        self.history.note(Change::Cut(len), &[]);
+        Ok(())
+    }
+
+    fn file_sync(&mut self) -> Result<(), StoreFault>
+        ensures ok { OnOk result (LeftOnly (bench_of self.old).file (file_half (bench_of self.new))) }
+        ensures file { (bench_of self.new).file ≡ (bench_of self.old).file }
+        ensures moments { AddsNothing (file_half (bench_of self.old)) (file_half (bench_of self.new)) }
+        ensures cells { CellsStay (bench_of self.old) (bench_of self.new) }
+        ensures cause { HasCause (bench_of self.old).store_faults (bench_of self.new).store_faults result }
+        ensures exact { Ends result (shown self.old).store (HasRoom 0 (shown self.old).history) (shown self.new)
+            (stored synced (shown self.old).file (shown self.old)) (store_failed (shown self.old)) }
+    {
+        let room = self.history.has_room(0);
+        if !self.store.goes(room) {
+            return Err(StoreFault);
+        }
+        self.history.note_sync(&self.file);
+        Ok(())
+    }
+
+    fn cells_len(&self) -> u32
+        ensures { result ≡ (bench_of self.now).cell_count }
+    {
+        self.cells.len() as u32
+    }
+
+    fn cells_read(&mut self, at: u32, out: &mut [u8]) -> Result<(), DeviceFault>
+        requires range { at + length out.old ≤ (bench_of self.old).cell_count }
+        requires idle { (bench_of self.old).operation ≡ None }
+        ensures ok { OnOk result (out.new ≡ take (length out.old) (drop at (bench_of self.old).cells)) }
+        ensures cells { ((bench_of self.new).cells ≡ (bench_of self.old).cells)
+            × ((bench_of self.new).operation ≡ (bench_of self.old).operation) }
+        ensures count { (bench_of self.new).cell_count ≡ (bench_of self.old).cell_count }
+        ensures moments { AddsNothing (cells_half (bench_of self.old)) (cells_half (bench_of self.new)) }
+        ensures file { FileStays (bench_of self.old) (bench_of self.new) }
+        ensures cause { HasCause (bench_of self.old).device_faults (bench_of self.new).device_faults result }
+        ensures exact { Ends result (shown self.old).device ⊤ (shown self.new) (device_went (shown self.old)) (device_failed (shown self.old)) }
+    {
+        if !self.device.goes(true) {
+            return Err(DeviceFault);
+        }
+        let at = at as usize;
+        out.copy_from_slice(&self.cells[at..at + out.len()]);
+        Ok(())
+    }
+
+    fn cells_open(&mut self, at: u32, len: u32) -> Result<(), DeviceFault>
+        requires range { at + len ≤ (bench_of self.old).cell_count }
+        requires some { 0 < len }
+        requires idle { (bench_of self.old).operation ≡ None }
+        ensures ok { OnOk result ((bench_of self.new).operation ≡ Some (at, len)) }
+        ensures err { OnErr result ((bench_of self.new).operation ≡ None) }
+        ensures cells { (bench_of self.new).cells ≡ (bench_of self.old).cells }
+        ensures count { (bench_of self.new).cell_count ≡ (bench_of self.old).cell_count }
+        ensures moments { Leaves (cells_half (bench_of self.old)) (cells_half (bench_of self.new))
+            (left (cells_half (bench_of self.new))) }
+        ensures file { FileStays (bench_of self.old) (bench_of self.new) }
+        ensures cause { HasCause (bench_of self.old).device_faults (bench_of self.new).device_faults result }
+        ensures exact { Ends result (shown self.old).device (HasRoom 0 (shown self.old).history) (shown self.new)
+            (worked (opened at len) (shown self.old).cells (Some (at, len)) (shown self.old)) (device_failed (shown self.old)) }
+    {
+        let room = self.history.has_room(0);
+        if !self.device.goes(room) {
+            return Err(DeviceFault);
+        }
+        self.history.note(Change::Opened(at, len), &[]);
+        self.operation = Some((at, len));
+        Ok(())
+    }
+
+    fn cells_settle(&mut self, bytes: &[u8]) -> Result<(), DeviceFault>
+        requires { IsOpen (length bytes.now) (bench_of self.old).operation }
+        ensures ok { OnOk result (((bench_of self.new).operation ≡ None)
+            × IfSome (bench_of self.old).operation (λ range. (bench_of self.new).cells ≡ written range.0 bytes.now (bench_of self.old).cells)) }
+        ensures err { OnErr result (((bench_of self.new).operation ≡ (bench_of self.old).operation)
+            × ((bench_of self.new).cells ≡ (bench_of self.old).cells)) }
+        ensures count { (bench_of self.new).cell_count ≡ (bench_of self.old).cell_count }
+        ensures moments { AddsNothing (cells_half (bench_of self.old)) (cells_half (bench_of self.new)) }
+        ensures file { FileStays (bench_of self.old) (bench_of self.new) }
+        ensures cause { HasCause (bench_of self.old).device_faults (bench_of self.new).device_faults result }
+        ensures exact { Ends result (shown self.old).device (HasRoom (length bytes.now) (shown self.old).history) (shown self.new)
+            (worked (settled bytes.now) (in_range (λ n. bytes.now) (shown self.old).operation (shown self.old).cells) None (shown self.old)) (device_failed (shown self.old)) }
+    {
+        let Some((at, _)) = self.operation else {
+            unreachable!()
+        };
+        let room = self.history.has_room(bytes.len());
+        if !self.device.goes(room) {
+            return Err(DeviceFault);
+        }
+        settle(&mut self.cells, at as usize, bytes);
+        self.history
+            .note(Change::Settled(bytes.len() as u64), bytes);
+        self.operation = None;
+        Ok(())
+    }
+
+    fn cells_settle_fill(&mut self, value: u8) -> Result<(), DeviceFault>
+        requires { IsSome (bench_of self.old).operation }
+        ensures ok { OnOk result (((bench_of self.new).operation ≡ None)
+            × IfSome (bench_of self.old).operation (λ range. (bench_of self.new).cells ≡ written range.0 (replicate range.1 value) (bench_of self.old).cells)) }
+        ensures err { OnErr result (((bench_of self.new).operation ≡ (bench_of self.old).operation)
+            × ((bench_of self.new).cells ≡ (bench_of self.old).cells)) }
+        ensures count { (bench_of self.new).cell_count ≡ (bench_of self.old).cell_count }
+        ensures moments { AddsNothing (cells_half (bench_of self.old)) (cells_half (bench_of self.new)) }
+        ensures file { FileStays (bench_of self.old) (bench_of self.new) }
+        ensures cause { HasCause (bench_of self.old).device_faults (bench_of self.new).device_faults result }
+        ensures exact { Ends result (shown self.old).device (HasRoom 0 (shown self.old).history) (shown self.new)
+            (worked (filled value) (in_range (λ n. replicate n value) (shown self.old).operation (shown self.old).cells) None (shown self.old)) (device_failed (shown self.old)) }
+    {
+        let Some((at, len)) = self.operation else {
+            unreachable!()
+        };
+        let room = self.history.has_room(0);
+        if !self.device.goes(room) {
+            return Err(DeviceFault);
+        }
+        settle_fill(&mut self.cells, at as usize, len as usize, value);
+        self.history.note(Change::Filled(value), &[]);
+        self.operation = None;
+        Ok(())
+    }
+
+    fn cells_drop(&mut self) -> Result<(), DeviceFault>
+        ensures ok { OnOk result (((bench_of self.new).operation ≡ None)
+            × SameOutside (bench_of self.old).operation (bench_of self.old).cells (bench_of self.new).cells) }
+        ensures err { OnErr result (((bench_of self.new).operation ≡ (bench_of self.old).operation)
+            × ((bench_of self.new).cells ≡ (bench_of self.old).cells)) }
+        ensures count { (bench_of self.new).cell_count ≡ (bench_of self.old).cell_count }
+        ensures moments { AddsNothing (cells_half (bench_of self.old)) (cells_half (bench_of self.new)) }
+        ensures file { FileStays (bench_of self.old) (bench_of self.new) }
+        ensures cause { HasCause (bench_of self.old).device_faults (bench_of self.new).device_faults result }
+        ensures idle { IfNone (shown self.old).operation (Ends result (shown self.old).device ⊤ (shown self.new) (device_went (shown self.old)) (device_failed (shown self.old))) }
+        ensures exact { IfSome (shown self.old).operation (λ range. Ends result (shown self.old).device (HasRoom 0 (shown self.old).history) (shown self.new)
+            (let_go (broken_off (next_garbage (shown self.old))) (broken (next_garbage (shown self.old)) (shown self.old).operation (shown self.old).cells) (shown self.old)) (device_failed (shown self.old))) }
+    {
+        let Some((at, len)) = self.operation else {
+            if !self.device.goes(true) {
+                return Err(DeviceFault);
+            }
+            return Ok(());
+        };
+        let room = self.history.has_room(0);
+        if !self.device.goes(room) {
+            return Err(DeviceFault);
+        }
+        let byte = byte_at(&self.garbage, self.breaks);
+        leave(&mut self.cells, at as usize, len as usize, byte);
+        self.history.note(Change::BrokenOff(byte), &[]);
+        self.operation = None;
+        self.breaks = self.breaks.saturating_add(1);
+        Ok(())
+    }
+}
