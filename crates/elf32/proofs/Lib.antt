@@ -1,0 +1,5 @@
+pub mod SearchLemmas
+pub mod StringLemmas
+pub mod PlaceLemmas
+pub mod SymbolLemmas
+pub mod NameLemmas

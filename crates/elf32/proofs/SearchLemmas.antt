@@ -1,0 +1,68 @@
+-- Laws of the least number that passes a test.
+use Rattle.std.proofs.Common.{◌≡◌, ℕ, ◌+◌, ◌-◌, ◌<◌, Bool, true, false, List, [], ◌∷◌, ◌++◌, cond, Option, Some, None, refl, sym, ap, ◌∙◌, arith, suc, zero, zero-add, add-zero}
+use Rattle.std.specs.Option.{option_or}
+use Rattle.std.specs.Prelude.{map}
+use Rattle.std.specs.List.{range_with_len}
+use Rattle.std.proofs.lemmas.List.Folds.{find-append}
+use Rattle.std.proofs.lemmas.List.FromFn.{map-range_with_len_more}
+use Rattle.elf32.specs.Search.{first_below}
+
+map_same : (xs : List ℕ) → map (λ x. x) xs ≡ xs
+map_same [] = refl
+map_same (x ∷ xs) = ap (λ (r : List ℕ). x ∷ r) (map_same xs)
+
+range_more : (n : ℕ) → range_with_len 0 (n + 1) ≡ range_with_len 0 n ++ n ∷ []
+range_more n =
+    sym (map_same (range_with_len 0 (n + 1))) ∙ map-range_with_len_more (λ x. x) 0 n n (zero-add n)
+    ∙ rw (map_same (range_with_len 0 n)) refl
+
+-- one number more
+pub first_below-more : (p : ℕ → Bool) (n : ℕ) → first_below p (n + 1) ≡ option_or (first_below p n) (cond (p n) (Some n) None)
+unfolding first_below
+first_below-more p n = rw (range_more n) (find-append p (range_with_len 0 n) (n ∷ []))
+
+-- below 0 there is none
+pub first_below-zero : (p : ℕ → Bool) → first_below p 0 ≡ None
+unfolding first_below
+first_below-zero p = refl
+
+-- no number up to here passes
+pub first_below-none : (p : ℕ → Bool) (n : ℕ) → first_below p n ≡ None → p n ≡ false → first_below p (n + 1) ≡ None
+first_below-none p n before here = rw (first_below-more p n, before, here) refl
+
+-- the first that passes is this one
+pub first_below-here : (p : ℕ → Bool) (n : ℕ) → first_below p n ≡ None → p n ≡ true → first_below p (n + 1) ≡ Some n
+first_below-here p n before here = rw (first_below-more p n, before, here) refl
+
+-- and stays the first
+pub first_below-stays : (p : ℕ → Bool) (n i : ℕ) → first_below p n ≡ Some i → first_below p (n + 1) ≡ Some i
+first_below-stays p n i found = rw (first_below-more p n, found) refl
+
+first_below-later : (p : ℕ → Bool) (n i more : ℕ) → first_below p n ≡ Some i → first_below p (n + more) ≡ Some i
+first_below-later p n i zero found = rw (add-zero n) found
+first_below-later p n i (suc more) found =
+    let e : n + suc more ≡ n + more + 1 = omega arith in
+    rw e (first_below-stays p (n + more) i (first_below-later p n i more found))
+
+-- the first that passes, among more numbers
+pub first_below-first : (p : ℕ → Bool) (n i : ℕ) → i < n → first_below p i ≡ None → p i ≡ true → first_below p n ≡ Some i
+first_below-first p n i inside before here =
+    let e : i + 1 + (n - (i + 1)) ≡ n = omega arith in
+    rw e at (first_below-later p (i + 1) i (n - (i + 1)) (first_below-here p i before here))
+
+-- what is found passes, and is below the number
+inside_step : (b : Bool) (f : Option ℕ) (n i : ℕ) → option_or f (cond b (Some n) None) ≡ Some i → (f ≡ Some i → i < n) → i < n + 1
+inside_step b (Some x) n i found before = omega (arith, before found)
+inside_step true None n i found before = let e : n ≡ i = cc in omega arith
+inside_step false None n i found before = cc
+
+pub first_below-inside : (p : ℕ → Bool) (n i : ℕ) → first_below p n ≡ Some i → i < n
+first_below-inside p zero i found = let none = first_below-zero p in cc
+first_below-inside p (suc n) i found =
+    let e : n + 1 ≡ suc n = omega arith in
+    let more : option_or (first_below p n) (cond (p n) (Some n) None) ≡ Some i = sym (first_below-more p n) ∙ ap (first_below p) e ∙ found in
+    omega (arith, inside_step (p n) (first_below p n) n i more (first_below-inside p n i))
+
+-- tests that agree below a number find the same
+same_step : (p q : ℕ → Bool) (n : ℕ) → first_below p n ≡ first_below q n → p n ≡ q n → first_below p (n + 1) ≡ first_below q (n + 1)
+same_step p q n before here = rw (first_below-more p n, first_below-more q n, before, here) refl

@@ -1,0 +1,28 @@
+-- Sections by name and type, in the order of the file.
+use Rattle.std.specs.Prelude.{◌≡◌, ◌≤◌, length, ℕ, ◌==◌, ◌&&◌, List, [], ◌∷◌, ◌++◌, map, Option, Some, None, is_some, if◌then◌else◌}
+use Rattle.std.specs.Str.{bytes_eq}
+use Rattle.std.specs.Borrow.{Bor}
+use Rattle.elf32.specs.Search.{first_below}
+use Rattle.elf32.specs.Tables.{is_section}
+
+-- a section's name, its type, and its place in the table
+abbrev pub Placed : Type 0
+Placed = List ℕ × ℕ × ℕ
+
+-- the place of the first section of a name and type
+abbrev pub first_place : List ℕ → ℕ → List Placed → Option ℕ
+first_place name kind [] = None
+first_place name kind (p ∷ ps) = if bytes_eq name p.0 && (kind == p.1) then Some p.2 else first_place name kind ps
+
+-- the entries of the map as sections
+abbrev pub placed_of : List ((Bor (List ℕ) × ℕ) × ℕ) → List Placed
+placed_of es = map (λ e. (e.0.0.now, e.0.1, e.1)) es
+
+-- one more section, unless one of its name and type stands before it
+abbrev pub noted : List ℕ → ℕ → ℕ → List Placed → List Placed
+noted name kind place ps = if is_some (first_place name kind ps) then ps else ps ++ (name, kind, place) ∷ []
+
+-- the first of `n` sections of each name and type are found, where the name has at most 64 bytes
+abbrev pub AreKept : List ℕ → ℕ → List Placed → Type 0
+AreKept bytes n places =
+    (name : List ℕ) (kind : ℕ) → length name ≤ 64 → first_place name kind places ≡ first_below (is_section bytes name kind) n
