@@ -1,0 +1,6 @@
+pub mod CutLemmas
+pub mod ItemLemmas
+pub mod RunLemmas
+pub mod LimitLemmas
+pub mod DescribedLemmas
+pub mod PartLemmas

@@ -1,0 +1,9 @@
+pub mod Shape
+pub mod Lawful
+pub mod Results
+pub mod Shown
+pub mod Parts
+pub mod Described
+pub mod Limits
+pub mod Flm
+pub mod Seen
