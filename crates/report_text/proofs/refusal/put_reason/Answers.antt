@@ -1,0 +1,30 @@
+use Rattle.std.proofs.Common.{◌≡◌, ap, sym}
+use Rattle.report_text.specs.Refusal.{reason_of}
+use Rattle.report_text.specs.Shown.{shown}
+use Rattle.report_text.specs.declared.refusal.Refusal.{Refusal}
+use Rattle.report_text.proofs.PutLemmas.{puts_as, puts_stops, puts_failed}
+use Rattle.report_text.proofs.refusal.put_reason.Goals as goal
+
+says : {a b : Refusal} → a ≡ b → reason_of (shown a) ≡ reason_of (shown b)
+says same = ap (λ (r : Refusal). reason_of (shown r)) same
+
+pub returns-in_err-put_pieces-in-FlmRefused : goal.returns-in_err-put_pieces-in-FlmRefused
+unfolding reason_of
+returns-in_err-put_pieces-in-FlmRefused g c =
+    puts_as (says (sym c.in-FlmRefused.is)) (puts_failed _ c.from_residual.ensures.0 (puts_stops _ c.in_err-put_pieces-in-FlmRefused.ensures))
+
+pub returns-in-Usage : goal.returns-in-Usage
+unfolding reason_of
+returns-in-Usage g c = puts_as (says (sym c.in-Usage.is)) c.put_pieces-in-Usage.ensures
+
+pub returns-in-InputFault : goal.returns-in-InputFault
+unfolding reason_of
+returns-in-InputFault g c = puts_as (says (sym c.in-InputFault.is)) (rw c.bytes.ensures at c.put_pieces-in-InputFault.ensures)
+
+pub returns-in-DeviceFault : goal.returns-in-DeviceFault
+unfolding reason_of
+returns-in-DeviceFault g c = puts_as (says (sym c.in-DeviceFault.is)) c.put_pieces-in-DeviceFault.ensures
+
+pub returns-in-OutputFault : goal.returns-in-OutputFault
+unfolding reason_of
+returns-in-OutputFault g c = puts_as (says (sym c.in-OutputFault.is)) c.put_pieces-in-OutputFault.ensures

@@ -1,0 +1,7 @@
+pub mod Number
+pub mod Puts
+pub mod End
+pub mod Inspection
+pub mod Faults
+pub mod Refusal
+pub mod Shown

@@ -1,0 +1,49 @@
+-- The refusals of the top call: the status of each, and its line on standard error.
+use Rattle.std.specs.Prelude.{ℕ, List, [], ◌∷◌, ◌++◌, codes, decimal}
+use Rattle.std.specs.List.{concat}
+use Rattle.flm_descriptor.specs.declared.fault.FlmFault.{FlmFault}
+use Rattle.report_text.specs.Number.{hex_text}
+use Rattle.report_text.specs.Faults.{flm_text}
+
+pub data Refusal : Type 0 where
+  out_of_memory : Refusal
+  usage : Refusal
+  -- an input file could not be taken
+  input_fault : (name : List ℕ) → Refusal
+  -- a raw image has more bytes than there are cells
+  image_too_long : (bytes cells : ℕ) → Refusal
+  -- an input file is no FLM file
+  flm_refused : (fault : FlmFault) → Refusal
+  device_fault : Refusal
+  output_fault : Refusal
+  -- a cell isn't the image's byte at this place
+  differs : (place wanted found : ℕ) → Refusal
+  not_built : Refusal
+
+abbrev pub status_of : Refusal → ℕ
+status_of out_of_memory = 1
+status_of usage = 2
+status_of (input_fault name) = 3
+status_of (image_too_long bytes cells) = 4
+status_of (flm_refused fault) = 5
+status_of device_fault = 9
+status_of output_fault = 10
+status_of (differs place wanted found) = 13
+status_of not_built = 14
+
+-- what it says
+unfoldable pub reason_of : Refusal → List ℕ
+reason_of out_of_memory = codes "out of memory"
+reason_of usage = codes "usage: flm_tool JOB CELLS COMMAND [WORDS]"
+reason_of (input_fault name) = concat (codes "cannot read " ∷ name ∷ [])
+reason_of (image_too_long bytes cells) = concat (codes "image: " ∷ decimal bytes ∷ codes " bytes for " ∷ decimal cells ∷ codes " cells" ∷ [])
+reason_of (flm_refused fault) = codes "flm: " ++ flm_text fault
+reason_of device_fault = codes "device fault"
+reason_of output_fault = codes "output fault"
+reason_of (differs place wanted found) =
+    concat (codes "differs at " ∷ hex_text 8 place ∷ codes " wanted " ∷ hex_text 2 wanted ∷ codes " found " ∷ hex_text 2 found ∷ [])
+reason_of not_built = codes "not built"
+
+-- the whole line
+unfoldable pub line_of : Refusal → List ℕ
+line_of refusal = codes "flmprog: " ++ reason_of refusal ++ codes "\n"

@@ -1,0 +1,16 @@
+//! The texts that the flash programmer prints: an inspection, an end and a refusal, each put on a sink. No call takes memory.
+#![tactic(auto)]
+
+mod end;
+mod inspection;
+mod number;
+mod pieces;
+mod reason;
+mod refusal;
+
+pub use end::{End, put_end};
+pub use inspection::put_inspection;
+pub use refusal::{Refusal, put_refusal};
+
+#[cfg(test)]
+mod tests;

@@ -1,0 +1,12 @@
+//! Texts in pieces.
+ghost use Rattle.std.specs.List.{flat_map};
+ghost use Rattle.report_text.specs.Puts.{Puts};
+
+use outside_io::{OutputFault, Sink, put_all};
+
+/// Puts pieces one after the other.
+pub fn put_pieces<S: Sink>(out: &mut S, pieces: &[&[u8]]) -> Result<(), OutputFault>
+    ensures { Puts S.tells (S.state out.old) (S.state out.new) (flat_map (λ piece. piece.now) pieces.now) result }
+{
+    put_all(out, pieces)
+}
