@@ -1,0 +1,5 @@
+mod AnswerLemmas
+mod DueLemmas
+mod InspectLemmas
+mod ReadbackLemmas
+mod WordsLemmas

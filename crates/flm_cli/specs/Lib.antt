@@ -1,0 +1,9 @@
+pub mod Words
+pub mod Requested
+pub mod Shown
+pub mod Call
+pub mod Difference
+pub mod Readback
+pub mod Compare
+pub mod Inspect
+pub mod Unrun

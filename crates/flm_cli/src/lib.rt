@@ -1,0 +1,14 @@
+//! The top call of the flash programmer: from the words of a command line to a status.
+#![tactic(auto)]
+
+mod command;
+mod compare;
+mod inspect;
+mod law;
+mod readback;
+#[cfg(test)]
+mod tests;
+mod top;
+
+pub use law::words_ask_for_one_command;
+pub use top::flmprog;

@@ -1,0 +1,1 @@
+-- What contracts here say stands in the words of the crates below.

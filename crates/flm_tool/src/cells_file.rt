@@ -1,0 +1,105 @@
+//! The cells of the device as a file with one byte a cell.
+use std::fs::{File, OpenOptions};
+use std::io;
+use std::io::ErrorKind;
+use std::os::unix::fs::FileExt;
+
+/// How many cells are filled at a time.
+const CHUNK: usize = 256;
+
+/// A cells file with its open operation. One that can't be opened fails at every call.
+#[derive(Drop)]
+pub struct CellsFile {
+    file: Option<File>,
+    operation: Option<(u32, u32)>,
+    pending: bool,
+}
+
+impl CellsFile {
+    /// Opens the file, and answers it with its number of cells: its length, at most 2^32 - 1, or 0 where it can't be
+    /// opened.
+    pub fn open(rt: HostRuntime, name: &str) -> (CellsFile, u32) {
+        let (file, count) = match open_file(rt, name) {
+            Ok((file, count)) => (Some(file), count),
+            Err(_) => (None, 0),
+        };
+        let cells = CellsFile {
+            file,
+            operation: None,
+            pending: false,
+        };
+        (cells, count)
+    }
+
+    fn file(&self) -> io::Result<&File> {
+        self.file
+            .as_ref()
+            .ok_or(io::Error::from(ErrorKind::NotFound))
+    }
+
+    /// Fills `out` with the cells from place `at` on.
+    pub fn read(&self, at: u32, out: &mut [u8]) -> io::Result<()> {
+        self.file()?.read_exact_at(out, u64::from(at))
+    }
+
+    /// Opens an operation on `len` cells, where none is open.
+    pub fn begin(&mut self, at: u32, len: u32) -> io::Result<()> {
+        self.file()?;
+        if self.operation.is_some() {
+            return Err(io::Error::from(ErrorKind::ResourceBusy));
+        }
+        self.operation = Some((at, len));
+        Ok(())
+    }
+
+    /// Ends the open operation with these bytes, of which there are as many as cells in its range.
+    pub fn settle(&mut self, bytes: &[u8]) -> io::Result<()> {
+        let (at, len) = self.operation.ok_or(io::Error::from(ErrorKind::NotFound))?;
+        if bytes.len() != len as usize {
+            return Err(io::Error::from(ErrorKind::InvalidInput));
+        }
+        self.pending = true;
+        self.file()?.write_all_at(bytes, u64::from(at))?;
+        self.operation = None;
+        Ok(())
+    }
+
+    /// Ends the open operation with `value` in each cell of its range.
+    pub fn settle_fill(&mut self, value: u8) -> io::Result<()> {
+        let (at, len) = self.operation.ok_or(io::Error::from(ErrorKind::NotFound))?;
+        self.pending = true;
+        let file = self.file()?;
+        let chunk = [value; CHUNK];
+        let mut done = 0u64;
+        while done < u64::from(len) {
+            let size = (u64::from(len) - done).min(CHUNK as u64) as usize;
+            file.write_all_at(&chunk[..size], u64::from(at) + done)?;
+            done += size as u64;
+        }
+        self.operation = None;
+        Ok(())
+    }
+
+    /// Breaks off an open operation, whose range keeps its old bytes.
+    pub fn drop_operation(&mut self) -> io::Result<()> {
+        self.file()?;
+        self.operation = None;
+        Ok(())
+    }
+
+    /// Brings the cells to the disk that were written since they were last synced.
+    pub fn sync(&mut self) -> io::Result<()> {
+        if self.pending {
+            self.file()?.sync_all()?;
+            self.pending = false;
+        }
+        Ok(())
+    }
+}
+
+/// Opens a file of cells to read and write, with its number of cells.
+fn open_file(rt: HostRuntime, name: &str) -> io::Result<(File, u32)> {
+    let file = OpenOptions::new().read(true).write(true).open(&rt, name)?;
+    let count = file.metadata()?.len().min(u64::from(u32::MAX)) as u32;
+    Ok((file, count))
+}
