@@ -1,0 +1,4 @@
+pub mod RowsLemmas
+pub mod Masks
+pub mod TableLemmas
+pub mod Near

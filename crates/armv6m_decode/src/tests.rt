@@ -1,0 +1,4 @@
+//! Tests of the decoder.
+
+mod binutils;
+mod walk;
