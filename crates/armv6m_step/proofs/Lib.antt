@@ -1,0 +1,4 @@
+pub mod RunLemmas
+pub mod ListLemmas
+pub mod InstructionLemmas
+pub mod FunctionalLemmas

@@ -1,0 +1,14 @@
+pub mod Access
+pub mod Ends
+pub mod Registers
+pub mod Numbers
+pub mod Meaning
+pub mod DataRows
+pub mod MemoryRows
+pub mod ListRows
+pub mod BranchRows
+pub mod OtherRows
+pub mod Step
+pub mod Functional
+pub mod ByteMap
+pub mod MemoryActs

@@ -1,0 +1,51 @@
+// The bus as the core sees it.
+ghost use Rattle.std.specs.Prelude.{◌≡◌, ◌<◌, ◌^◌, ◌%◌, ℕ, Result, IfOk};
+ghost use Rattle.bench_model.specs.declared.bench_fault.BusEnd.{BusEnd};
+ghost use Rattle.armv6m_step.specs.Access.{Access, Load, Store, stored, is_device, HasDeviceCause};
+
+use bench_model::BusEnd;
+
+/// What loads and stores go to. Addresses are in bytes, values little-endian.
+pub trait Bus {
+    /// From before, the bus may give this answer to the access and go on to after.
+    ghost acts: { Self → Access → Result ℕ BusEnd → Self → Type 0 };
+
+    /// How often the device behind the bus has failed.
+    ghost faults: { Self → ℕ };
+
+    /// Loads a byte.
+    fn load8(&mut self, at: u32) -> Result<u32, BusEnd>
+        ensures acts { acts self.old (Load 1 at) result self.new }
+        ensures fits { IfOk result (λ v. v < 2 ^ 8) };
+
+    /// Loads a halfword at an even address.
+    fn load16(&mut self, at: u32) -> Result<u32, BusEnd>
+        requires { at % 2 ≡ 0 }
+        ensures acts { acts self.old (Load 2 at) result self.new }
+        ensures fits { IfOk result (λ v. v < 2 ^ 16) };
+
+    /// Loads a word at a multiple of 4.
+    fn load32(&mut self, at: u32) -> Result<u32, BusEnd>
+        requires { at % 4 ≡ 0 }
+        ensures { acts self.old (Load 4 at) result self.new };
+
+    /// Stores a byte.
+    fn store8(&mut self, at: u32, value: u32) -> Result<(), BusEnd>
+        requires { value < 2 ^ 8 }
+        ensures { acts self.old (Store 1 at value) (stored result) self.new };
+
+    /// Stores a halfword at an even address.
+    fn store16(&mut self, at: u32, value: u32) -> Result<(), BusEnd>
+        requires even { at % 2 ≡ 0 }
+        requires fits { value < 2 ^ 16 }
+        ensures { acts self.old (Store 2 at value) (stored result) self.new };
+
+    /// Stores a word at a multiple of 4.
+    fn store32(&mut self, at: u32, value: u32) -> Result<(), BusEnd>
+        requires { at % 4 ≡ 0 }
+        ensures { acts self.old (Store 4 at value) (stored result) self.new };
+
+    /// The count of device faults never falls: it rises where an access is answered `Device`, and else it stays.
+    ghost counted: { (before : Self) (access : Access) (answer : Result ℕ BusEnd) (after : Self) → acts before access answer after
+        → HasDeviceCause (faults before) (faults after) (is_device answer) };
+}

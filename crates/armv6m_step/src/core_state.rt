@@ -1,0 +1,83 @@
+// The registers and flags, and how instructions read and write them.
+ghost use Rattle.std.specs.Prelude.{◌≡◌};
+ghost use Rattle.armv6m_step.specs.Registers.{pc_of, reg, written, moved, with_nz, with_carry, with_nzcv};
+
+use armv6m_alu::Sum;
+
+/// The registers and flags of the core. Register 15 is the address of the instruction to come, 14 is LR and 13 is SP.
+#[derive(Clone, Copy, PartialEq, Eq, Debug)]
+pub struct Core {
+    pub regs: [u32; 16],
+    /// The last result was negative.
+    pub n: bool,
+    /// The last result was zero.
+    pub z: bool,
+    /// Carry.
+    pub c: bool,
+    /// Overflow.
+    pub v: bool,
+    /// No interrupts are taken. The core has none, so this is just kept.
+    pub primask: bool,
+}
+
+impl Core {
+    // The address of the instruction.
+    pub(crate) fn pc(&self) -> u32
+        ensures { result ≡ pc_of self.now }
+    {
+        self.regs[15]
+    }
+
+    // A register as an operand.
+    #[tactic(auto, unfolding(crate::specs::Registers::reg))]
+    pub(crate) fn read(&self, n: u8) -> u32
+        ensures { result ≡ reg self.now n }
+    {
+        let value = self.regs[(n % 16) as usize];
+        if n % 16 == 15 {
+            value.wrapping_add(4)
+        } else {
+            value
+        }
+    }
+
+    #[tactic(auto, unfolding(crate::specs::Registers::written))]
+    pub(crate) fn write(&mut self, n: u8, value: u32)
+        ensures { self.new ≡ written self.old n value }
+    {
+        self.regs[(n % 16) as usize] = if n % 16 == 13 { value / 4 * 4 } else { value };
+    }
+
+    #[tactic(auto, unfolding(crate::specs::Registers::moved))]
+    pub(crate) fn go_to(&mut self, pc: u32)
+        ensures { self.new ≡ moved self.old pc }
+    {
+        self.regs[15] = pc;
+    }
+
+    // Sets N and Z by a result.
+    #[tactic(auto, unfolding(crate::specs::Registers::with_nz))]
+    pub(crate) fn set_nz(&mut self, value: u32)
+        ensures { self.new ≡ with_nz self.old value }
+    {
+        self.n = value >= 0x8000_0000;
+        self.z = value == 0;
+    }
+
+    #[tactic(auto, unfolding(crate::specs::Registers::with_carry))]
+    pub(crate) fn set_carry(&mut self, carry: bool)
+        ensures { self.new ≡ with_carry self.old carry }
+    {
+        self.c = carry;
+    }
+
+    // Sets N, Z, C and V by a sum.
+    #[tactic(auto, unfolding(crate::specs::Registers::with_nzcv))]
+    pub(crate) fn set_nzcv(&mut self, sum: Sum)
+        ensures { self.new ≡ with_nzcv self.old sum }
+    {
+        self.set_nz(sum.value);
+        self.c = sum.carry;
+        self.v = sum.overflow;
+    }
+}

@@ -1,0 +1,56 @@
+// One instruction.
+ghost use Rattle.std.specs.Prelude.{◌≡◌, ◌⊎◌};
+ghost use Rattle.armv6m_step.specs.Access.{HasDeviceCause};
+ghost use Rattle.armv6m_step.specs.Ends.{end_of, is_device_end};
+ghost use Rattle.armv6m_step.specs.Meaning.{Runs};
+ghost use Rattle.armv6m_step.specs.Step.{meaning, instruction};
+
+use crate::access::load16;
+use crate::data::undefined;
+use crate::ends::step_end;
+use crate::{Bus, Core, StepEnd, Stop, branch, data, many, memory, other};
+use armv6m_decode::{Decoded, Instr, decode16, decode32};
+
+#[tactic(auto, using(crate::proofs::RunLemmas::asks))]
+fn execute<B: Bus>(core: &mut Core, bus: &mut B, next: u32, instr: Instr) -> Result<(), Stop>
+    ensures { Runs B.acts (meaning core.old next instr) core.old bus.old (end_of result) core.new bus.new }
+{
+    match instr {
+        Instr::Alu(op) => data::run(core, next, op),
+        Instr::Memory(op) => memory::run(core, bus, next, op),
+        Instr::Many(op) => many::run(core, bus, next, op),
+        Instr::Branch(op) => branch::run(core, next, op),
+        Instr::Other(op) => other::run(core, next, op),
+    }
+}
+
+// Fetches the instruction at the PC and does it.
+#[tactic(auto, using(crate::proofs::RunLemmas::asks), unfolding(crate::specs::Step::instruction))]
+fn fetch_and_execute<B: Bus>(core: &mut Core, bus: &mut B) -> Result<(), Stop>
+    ensures { Runs B.acts (instruction core.old) core.old bus.old (end_of result) core.new bus.new }
+{
+    let pc = core.pc();
+    let half = load16(bus, pc)? as u16;
+    match decode16(half) {
+        Decoded::Op(instr) => execute(core, bus, pc.wrapping_add(2), instr),
+        Decoded::NeedsSecond => {
+            let second = load16(bus, pc.wrapping_add(2))? as u16;
+            match decode32(half, second) {
+                Some(instr) => execute(core, bus, pc.wrapping_add(4), instr),
+                None => undefined(core),
+            }
+        }
+        Decoded::Undefined => undefined(core),
+    }
+}
+
+/// Does the instruction at the PC: what its row of the table means, with its end. The bus goes through its accesses in order, up
+/// to the first that is not answered. An instruction that ends otherwise than `Went` leaves every register and flag as it was;
+/// its stores before a fault stand. `Device` comes only where the bus's count of device faults rose.
+pub fn step<B: Bus>(core: &mut Core, bus: &mut B) -> StepEnd
+    ensures runs { Runs B.acts (instruction core.old) core.old bus.old result core.new bus.new }
+    ensures kept { (result ≡ StepEnd.Went) ⊎ (core.new ≡ core.old) }
+    ensures cause { HasDeviceCause (B.faults bus.old) (B.faults bus.new) (is_device_end result) }
+{
+    step_end(fetch_and_execute(core, bus))
+}

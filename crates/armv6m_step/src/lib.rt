@@ -1,0 +1,25 @@
+//! One Armv6-M instruction over any bus.
+//!
+//! `specs/` has what each instruction means, row by row beside the pseudocode of the Armv6-M Architecture Reference Manual; `step`
+//! is proved to do just that. No call takes memory.
+#![tactic(auto)]
+
+mod access;
+mod branch;
+mod bus;
+mod core_state;
+mod data;
+mod ends;
+mod instruction;
+mod many;
+mod memory;
+mod memory_bus;
+mod other;
+#[cfg(test)]
+mod tests;
+
+pub use bus::Bus;
+pub use core_state::Core;
+pub use ends::{StepEnd, Stop};
+pub use instruction::step;
+pub use memory_bus::{MemoryBus, step_in_memory};

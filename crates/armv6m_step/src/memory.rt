@@ -1,0 +1,236 @@
+// Loads and stores of one register.
+#![tactic(auto, using(crate::proofs::RunLemmas::asks))]
+
+ghost use Rattle.std.specs.Prelude.{◌≡◌, ◌*◌, ◌^◌, ◌<◌};
+ghost use Rattle.armv6m_step.specs.Numbers.{sum, sign_extended, aligned_pc};
+ghost use Rattle.armv6m_step.specs.Ends.{end_of};
+ghost use Rattle.armv6m_step.specs.Registers.{reg};
+ghost use Rattle.armv6m_step.specs.Meaning.{Runs};
+ghost use Rattle.armv6m_step.specs.MemoryRows.{load_word, load_half, load_byte, load_signed_half, load_signed_byte, store_word, store_half, store_byte, memory};
+
+use crate::access::{load8, load16, load32, store8, store16, store32};
+use crate::{Bus, Core, Stop};
+use armv6m_decode::Memory;
+
+pub(crate) fn extend8(value: u32) -> u32
+    requires { value < 2 ^ 8 }
+    ensures { result ≡ sign_extended 8 value }
+{
+    if value >= 0x80 {
+        value + 0xFFFF_FF00
+    } else {
+        value
+    }
+}
+
+pub(crate) fn extend16(value: u32) -> u32
+    requires { value < 2 ^ 16 }
+    ensures { result ≡ sign_extended 16 value }
+{
+    if value >= 0x8000 {
+        value + 0xFFFF_0000
+    } else {
+        value
+    }
+}
+
+#[tactic(auto, using(crate::proofs::RunLemmas::asks), unfolding(crate::specs::MemoryRows::load_word))]
+fn word_into<B: Bus>(core: &mut Core, bus: &mut B, next: u32, t: u8, at: u32) -> Result<(), Stop>
+    ensures { Runs B.acts (load_word core.old next t at) core.old bus.old (end_of result) core.new bus.new }
+{
+    let value = load32(bus, at)?;
+    core.write(t, value);
+    core.go_to(next);
+    Ok(())
+}
+
+#[tactic(auto, using(crate::proofs::RunLemmas::asks), unfolding(crate::specs::MemoryRows::load_half))]
+fn half_into<B: Bus>(core: &mut Core, bus: &mut B, next: u32, t: u8, at: u32) -> Result<(), Stop>
+    ensures { Runs B.acts (load_half core.old next t at) core.old bus.old (end_of result) core.new bus.new }
+{
+    let value = load16(bus, at)?;
+    core.write(t, value);
+    core.go_to(next);
+    Ok(())
+}
+
+#[tactic(auto, using(crate::proofs::RunLemmas::asks), unfolding(crate::specs::MemoryRows::load_byte))]
+fn byte_into<B: Bus>(core: &mut Core, bus: &mut B, next: u32, t: u8, at: u32) -> Result<(), Stop>
+    ensures { Runs B.acts (load_byte core.old next t at) core.old bus.old (end_of result) core.new bus.new }
+{
+    let value = load8(bus, at)?;
+    core.write(t, value);
+    core.go_to(next);
+    Ok(())
+}
+
+#[tactic(auto, using(crate::proofs::RunLemmas::asks), unfolding(crate::specs::MemoryRows::load_signed_half))]
+fn signed_half_into<B: Bus>(
+    core: &mut Core,
+    bus: &mut B,
+    next: u32,
+    t: u8,
+    at: u32,
+) -> Result<(), Stop>
+    ensures { Runs B.acts (load_signed_half core.old next t at) core.old bus.old (end_of result) core.new bus.new }
+{
+    let value = load16(bus, at)?;
+    core.write(t, extend16(value));
+    core.go_to(next);
+    Ok(())
+}
+
+#[tactic(auto, using(crate::proofs::RunLemmas::asks), unfolding(crate::specs::MemoryRows::load_signed_byte))]
+fn signed_byte_into<B: Bus>(
+    core: &mut Core,
+    bus: &mut B,
+    next: u32,
+    t: u8,
+    at: u32,
+) -> Result<(), Stop>
+    ensures { Runs B.acts (load_signed_byte core.old next t at) core.old bus.old (end_of result) core.new bus.new }
+{
+    let value = load8(bus, at)?;
+    core.write(t, extend8(value));
+    core.go_to(next);
+    Ok(())
+}
+
+#[tactic(auto, using(crate::proofs::RunLemmas::asks), unfolding(crate::specs::MemoryRows::store_word))]
+fn word_from<B: Bus>(core: &mut Core, bus: &mut B, next: u32, t: u8, at: u32) -> Result<(), Stop>
+    ensures { Runs B.acts (store_word core.old next t at) core.old bus.old (end_of result) core.new bus.new }
+{
+    store32(bus, at, core.read(t))?;
+    core.go_to(next);
+    Ok(())
+}
+
+#[tactic(auto, using(crate::proofs::RunLemmas::asks), unfolding(crate::specs::MemoryRows::store_half))]
+fn half_from<B: Bus>(core: &mut Core, bus: &mut B, next: u32, t: u8, at: u32) -> Result<(), Stop>
+    ensures { Runs B.acts (store_half core.old next t at) core.old bus.old (end_of result) core.new bus.new }
+{
+    store16(bus, at, core.read(t) % 0x1_0000)?;
+    core.go_to(next);
+    Ok(())
+}
+
+#[tactic(auto, using(crate::proofs::RunLemmas::asks), unfolding(crate::specs::MemoryRows::store_byte))]
+fn byte_from<B: Bus>(core: &mut Core, bus: &mut B, next: u32, t: u8, at: u32) -> Result<(), Stop>
+    ensures { Runs B.acts (store_byte core.old next t at) core.old bus.old (end_of result) core.new bus.new }
+{
+    store8(bus, at, core.read(t) % 0x100)?;
+    core.go_to(next);
+    Ok(())
+}
+
+// The address of a register and an offset in bytes.
+fn at_offset(core: &Core, n: u8, offset: u32) -> u32
+    ensures { result ≡ sum (reg core.now n) offset }
+{
+    core.read(n).wrapping_add(offset)
+}
+
+// The address of the sum of two registers.
+fn at_sum(core: &Core, n: u8, m: u8) -> u32
+    ensures { result ≡ sum (reg core.now n) (reg core.now m) }
+{
+    core.read(n).wrapping_add(core.read(m))
+}
+
+// The address of a literal.
+pub(crate) fn at_literal(core: &Core, immediate: u8) -> u32
+    ensures { result ≡ sum (aligned_pc core.now) (4 * immediate) }
+{
+    (core.read(15) / 4 * 4).wrapping_add(4 * u32::from(immediate))
+}
+
+/// Does the instruction, where the next one is at `next`.
+pub(crate) fn run<B: Bus>(core: &mut Core, bus: &mut B, next: u32, op: Memory) -> Result<(), Stop>
+    ensures { Runs B.acts (memory core.old next op) core.old bus.old (end_of result) core.new bus.new }
+{
+    match op {
+        Memory::LdrLiteral { t, immediate: i } => word_into(
+            core,
+            bus,
+            next,
+            t,
+            at_literal(core, i),
+        ),
+        Memory::StrRegister { t, n, m } => word_from(core, bus, next, t, at_sum(core, n, m)),
+        Memory::StrhRegister { t, n, m } => half_from(core, bus, next, t, at_sum(core, n, m)),
+        Memory::StrbRegister { t, n, m } => byte_from(core, bus, next, t, at_sum(core, n, m)),
+        Memory::LdrsbRegister { t, n, m } => signed_byte_into(
+            core,
+            bus,
+            next,
+            t,
+            at_sum(core, n, m),
+        ),
+        Memory::LdrRegister { t, n, m } => word_into(core, bus, next, t, at_sum(core, n, m)),
+        Memory::LdrhRegister { t, n, m } => half_into(core, bus, next, t, at_sum(core, n, m)),
+        Memory::LdrbRegister { t, n, m } => byte_into(core, bus, next, t, at_sum(core, n, m)),
+        Memory::LdrshRegister { t, n, m } => signed_half_into(
+            core,
+            bus,
+            next,
+            t,
+            at_sum(core, n, m),
+        ),
+        Memory::StrImmediate { t, n, immediate: i } => word_from(
+            core,
+            bus,
+            next,
+            t,
+            at_offset(core, n, 4 * u32::from(i)),
+        ),
+        Memory::LdrImmediate { t, n, immediate: i } => word_into(
+            core,
+            bus,
+            next,
+            t,
+            at_offset(core, n, 4 * u32::from(i)),
+        ),
+        Memory::StrbImmediate { t, n, immediate: i } => byte_from(
+            core,
+            bus,
+            next,
+            t,
+            at_offset(core, n, u32::from(i)),
+        ),
+        Memory::LdrbImmediate { t, n, immediate: i } => byte_into(
+            core,
+            bus,
+            next,
+            t,
+            at_offset(core, n, u32::from(i)),
+        ),
+        Memory::StrhImmediate { t, n, immediate: i } => half_from(
+            core,
+            bus,
+            next,
+            t,
+            at_offset(core, n, 2 * u32::from(i)),
+        ),
+        Memory::LdrhImmediate { t, n, immediate: i } => half_into(
+            core,
+            bus,
+            next,
+            t,
+            at_offset(core, n, 2 * u32::from(i)),
+        ),
+        Memory::StrSp { t, immediate: i } => word_from(
+            core,
+            bus,
+            next,
+            t,
+            at_offset(core, 13, 4 * u32::from(i)),
+        ),
+        Memory::LdrSp { t, immediate: i } => word_into(
+            core,
+            bus,
+            next,
+            t,
+            at_offset(core, 13, 4 * u32::from(i)),
+        ),
+    }
+}

@@ -1,0 +1,155 @@
+// Addresses, extensions, byte orders, hints, barriers and the special registers.
+#![tactic(auto, using(std::proofs::lemmas::Bool::Decides::nat_tests))]
+
+ghost use Rattle.std.specs.Prelude.{◌≡◌, ◌<◌, ◌^◌, Result, Ok};
+ghost use Rattle.armv6m_alu.specs.Sums.{number_of};
+ghost use Rattle.armv6m_step.specs.Ends.{end_of};
+ghost use Rattle.armv6m_step.specs.Meaning.{Leaves};
+ghost use Rattle.armv6m_step.specs.Registers.{moved};
+ghost use Rattle.armv6m_step.specs.OtherRows.{other, put, swapped_half, swapped_halves, flags_number, with_flags_of, with_primask, read_special, write_special};
+
+use crate::data::undefined;
+use crate::memory::{at_literal, extend8, extend16};
+use crate::{Core, Stop};
+use armv6m_decode::Other;
+
+fn put_into(core: &mut Core, next: u32, d: u8, value: u32)
+    ensures { put core.old next d value ≡ Ok core.new }
+{
+    core.write(d, value);
+    core.go_to(next);
+}
+
+fn swap_half(half: u32) -> u32
+    requires { half < 2 ^ 16 }
+    ensures value { result ≡ swapped_half half }
+    ensures fits { result < 2 ^ 16 }
+{
+    half % 0x100 * 0x100 + half / 0x100 % 0x100
+}
+
+fn swap_halves(value: u32) -> u32
+    ensures { result ≡ swapped_halves value }
+{
+    swap_half(value >> 16) * 0x1_0000 + swap_half(value % 0x1_0000)
+}
+
+fn number(flag: bool) -> u32
+    ensures value { result ≡ number_of flag }
+    ensures bound { result < 2 }
+{
+    if flag { 1 } else { 0 }
+}
+
+fn flags(core: &Core) -> u32
+    ensures { result ≡ flags_number core.now }
+{
+    number(core.n) * 0x8000_0000
+        + number(core.z) * 0x4000_0000
+        + number(core.c) * 0x2000_0000
+        + number(core.v) * 0x1000_0000
+}
+
+#[tactic(auto, unfolding(crate::specs::OtherRows::with_flags_of))]
+fn set_flags(core: &mut Core, x: u32)
+    ensures { core.new ≡ with_flags_of core.old x }
+{
+    core.n = (x >> 31) % 2 == 1;
+    core.z = (x >> 30) % 2 == 1;
+    core.c = (x >> 29) % 2 == 1;
+    core.v = (x >> 28) % 2 == 1;
+}
+
+#[tactic(auto, unfolding(crate::specs::OtherRows::with_primask))]
+fn set_primask(core: &mut Core, on: bool)
+    ensures { core.new ≡ with_primask core.old on }
+{
+    core.primask = on;
+}
+
+fn read_from(core: &mut Core, next: u32, d: u8, special: u8) -> Result<(), Stop>
+    ensures { Leaves (read_special core.old next d special) core.old (end_of result) core.new }
+{
+    if d == 13 || d == 15 {
+        return undefined(core);
+    }
+    match special {
+        0 => put_into(core, next, d, flags(core)),
+        8 => put_into(core, next, d, core.read(13)),
+        16 => put_into(core, next, d, number(core.primask)),
+        _ => return undefined(core),
+    }
+    Ok(())
+}
+
+fn write_to(core: &mut Core, next: u32, n: u8, special: u8) -> Result<(), Stop>
+    ensures { Leaves (write_special core.old next n special) core.old (end_of result) core.new }
+{
+    if n == 13 || n == 15 {
+        return undefined(core);
+    }
+    let value = core.read(n);
+    match special {
+        0 => set_flags(core, value),
+        8 => core.write(13, value),
+        16 => set_primask(core, value % 2 == 1),
+        _ => return undefined(core),
+    }
+    core.go_to(next);
+    Ok(())
+}
+
+/// Does the instruction, where the next one is at `next`.
+pub(crate) fn run(core: &mut Core, next: u32, op: Other) -> Result<(), Stop>
+    ensures { Leaves (other core.old next op) core.old (end_of result) core.new }
+{
+    match op {
+        Other::Adr { d, immediate: i } => put_into(core, next, d, at_literal(core, i)),
+        Other::AddFromSp { d, immediate: i } => put_into(
+            core,
+            next,
+            d,
+            core.read(13).wrapping_add(4 * u32::from(i)),
+        ),
+        Other::AddToSp { immediate: i } => put_into(
+            core,
+            next,
+            13,
+            core.read(13).wrapping_add(4 * u32::from(i)),
+        ),
+        Other::SubFromSp { immediate: i } => put_into(
+            core,
+            next,
+            13,
+            core.read(13).wrapping_sub(4 * u32::from(i)),
+        ),
+        Other::Sxth { d, m } => put_into(core, next, d, extend16(core.read(m) % 0x1_0000)),
+        Other::Sxtb { d, m } => put_into(core, next, d, extend8(core.read(m) % 0x100)),
+        Other::Uxth { d, m } => put_into(core, next, d, core.read(m) % 0x1_0000),
+        Other::Uxtb { d, m } => put_into(core, next, d, core.read(m) % 0x100),
+        Other::Cpsie => mask(core, next, false),
+        Other::Cpsid => mask(core, next, true),
+        Other::Rev { d, m } => put_into(core, next, d, core.read(m).swap_bytes()),
+        Other::Rev16 { d, m } => put_into(core, next, d, swap_halves(core.read(m))),
+        Other::Revsh { d, m } => put_into(
+            core,
+            next,
+            d,
+            extend16(swap_half(core.read(m) % 0x1_0000)),
+        ),
+        Other::Nop | Other::Yield | Other::Wfe | Other::Wfi | Other::Sev => core.go_to(next),
+        Other::Dsb | Other::Dmb | Other::Isb => core.go_to(next),
+        Other::Bkpt { immediate: _ } => return Err(Stop::Break { pc: core.pc() }),
+        Other::Udf { immediate: _ } | Other::Svc { immediate: _ } => return undefined(core),
+        Other::Mrs { d, special } => return read_from(core, next, d, special),
+        Other::Msr { n, special } => return write_to(core, next, n, special),
+    }
+    Ok(())
+}
+
+fn mask(core: &mut Core, next: u32, on: bool)
+    ensures { core.new ≡ moved (with_primask core.old on) next }
+{
+    set_primask(core, on);
+    core.go_to(next);
+}
