@@ -1,0 +1,14 @@
+//! The encoder of the assembler: from Armv6-M instructions to their code. It takes no memory.
+#![tactic(auto)]
+
+mod alu;
+mod branch;
+mod code;
+mod many;
+mod memory;
+mod other;
+mod pairs;
+#[cfg(test)]
+mod tests;
+
+pub use code::{Encoding, encode, has_encoding};
