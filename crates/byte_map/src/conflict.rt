@@ -1,0 +1,50 @@
+//! The least address at which a piece and a map have unequal bytes.
+ghost use Rattle.std.specs.Prelude.{◌+◌, ◌≤◌, ◌^◌, length, MatchOption};
+ghost use Rattle.byte_map.specs.Image.{Run, AreMaximal};
+ghost use Rattle.byte_map.specs.Laying.{AgreesBelow, AgreesWithRun, ClashesWithRun, IsFirstClash};
+
+use crate::run_buffer::RunBuffer;
+
+/// Bytes found unequal at an address.
+#[derive(Clone, Copy)]
+pub struct Clash {
+    pub at: u32,
+    pub old: u8,
+    pub new: u8,
+}
+
+/// The first byte of a piece, `bytes` from `at` on, that differs from the run's.
+fn first_clash(run: &RunBuffer, at: u32, bytes: &[u8]) -> Option<Clash>
+    requires { at + length bytes.now ≤ 2 ^ 32 }
+    ensures { let piece : Run = record { at = at; bytes = bytes.now } in MatchOption result (AgreesWithRun piece run.now (2 ^ 32)) (λ c. ClashesWithRun piece run.now c.at c.old c.new) }
+{
+    let start = run.at().max(at);
+    let end = run.end().min(u64::from(at) + bytes.len() as u64);
+    for address in u64::from(start)..end {
+        let old = run.bytes()[(address - u64::from(run.at())) as usize];
+        let new = bytes[(address - u64::from(at)) as usize];
+        if old != new {
+            return Some(Clash {
+                at: address as u32,
+                old,
+                new,
+            });
+        }
+    }
+    None
+}
+
+/// The first byte of a piece that differs from a map's. The map is given by those of its runs that
+/// the piece may touch.
+pub fn find_clash(runs: &[RunBuffer], at: u32, bytes: &[u8]) -> Option<Clash>
+    requires fits { at + length bytes.now ≤ 2 ^ 32 }
+    requires maximal { AreMaximal 0 (2 ^ 32) runs.now }
+    ensures { let piece : Run = record { at = at; bytes = bytes.now } in MatchOption result (AgreesBelow piece runs.now (2 ^ 32)) (λ c. IsFirstClash piece runs.now c.at c.old c.new) }
+{
+    for run in runs {
+        if let Some(clash) = first_clash(run, at, bytes) {
+            return Some(clash);
+        }
+    }
+    None
+}

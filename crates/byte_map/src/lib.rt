@@ -1,0 +1,17 @@
+//! Images as finite maps from address to byte, kept as sorted runs that are each as long as possible.
+#![tactic(auto)]
+
+mod conflict;
+mod fault;
+mod joining;
+mod law;
+mod map;
+mod overlay;
+mod run_buffer;
+mod search;
+#[cfg(test)]
+mod tests;
+
+pub use fault::LayFault;
+pub use law::images_have_one_list;
+pub use map::ByteMap;

@@ -1,0 +1,112 @@
+//! A finite map from address to byte.
+ghost use Rattle.std.specs.Prelude.{◌≡◌, ◌+◌, ◌≤◌, ◌<◌, ◌^◌, [], length, slice_get, Some, OnOk, OnErr, IfErr};
+ghost use Rattle.byte_map.specs.Image.{byte_at, over, AreMaximal};
+
+use crate::conflict::find_clash;
+use crate::fault::LayFault;
+use crate::joining::join;
+use crate::overlay::overlay;
+use crate::run_buffer::RunBuffer;
+use crate::search::{count_ending_below, find_touched};
+use std::alloc::Global;
+use std::marker::Model;
+
+/// How many addresses there are.
+const ADDRESSES: u64 = 1 << 32;
+
+/// A finite map from address to byte. It is seen as its runs, each as long as possible, which rise
+/// and don't touch: there is one way to write a map so.
+#[derive(Drop)]
+pub struct ByteMap {
+    runs: Vec<RunBuffer>,
+}
+
+impl Model for ByteMap {
+    ghost use Rattle.std.specs.Prelude.{List, ◌^◌};
+    ghost use Rattle.byte_map.specs.Image.{Run, AreMaximal};
+
+    ghost Value = { List Run };
+
+    ghost view = { λ m. m.runs.items };
+
+    ghost invariant = { λ m. AreMaximal 0 (2 ^ 32) m.runs.items };
+}
+
+impl ByteMap {
+    ghost use Rattle.byte_map.specs.Laying.{Lays, IsLayFault};
+
+    /// The empty map.
+    pub fn new(alloc: Global) -> ByteMap
+        ensures { result ≡ [] }
+    {
+        ByteMap {
+            runs: Vec::new(alloc),
+        }
+    }
+
+    /// Adds the bytes from the address `at` on. A byte that the map has already is accepted. Records
+    /// in rising order, and those in falling order, cost amortised constant time per byte.
+    pub fn lay(&mut self, at: u32, bytes: &[u8]) -> Result<(), LayFault>
+        ensures ok { OnOk result (Lays (record { at = at; bytes = bytes.now }) self.old self.new) }
+        ensures refused { IfErr result (IsLayFault (record { at = at; bytes = bytes.now }) self.old) }
+        ensures err { OnErr result (self.new ≡ self.old) }
+    {
+        if u64::from(at) + bytes.len() as u64 > ADDRESSES {
+            return Err(LayFault::PastEnd { at });
+        }
+        let (first, last) = find_touched(&self.runs, at, bytes);
+        if bytes.is_empty() {
+            return Ok(());
+        }
+        if let Some(clash) = find_clash(&self.runs[first..last], at, bytes) {
+            return Err(LayFault::Conflict {
+                at: clash.at,
+                old: clash.old,
+                new: clash.new,
+            });
+        }
+        join(&mut self.runs, first, last, at, bytes)?;
+        Ok(())
+    }
+
+    /// The byte at an address, in a time logarithmic in the number of runs.
+    pub fn get(&self, at: u32) -> Option<u8>
+        ensures { result ≡ byte_at self.now at }
+    {
+        let index = count_ending_below(&self.runs, u64::from(at) + 1);
+        if index == self.runs.len() {
+            return None;
+        }
+        let run = &self.runs[index];
+        if at < run.at() {
+            return None;
+        }
+        Some(run.bytes()[(at - run.at()) as usize])
+    }
+
+    /// How many runs the map has.
+    pub fn runs(&self) -> usize
+        ensures count { result ≡ length self.now }
+        ensures maximal { AreMaximal 0 (2 ^ 32) self.now }
+    {
+        self.runs.len()
+    }
+
+    /// A run: the address of its first byte, and its bytes. The runs rise with their index.
+    pub fn run(&self, index: usize) -> (u32, &[u8])
+        requires { index < length self.now }
+        ensures { slice_get self.now index ≡ Some (record { at = result.0; bytes = result.1.now }) }
+    {
+        let run = &self.runs[index];
+        (run.at(), run.bytes())
+    }
+
+    /// Lays the map over cells, the first of which has the address `base`: each becomes the map's byte
+    /// at its address, and stays where the map has none.
+    pub fn overlay_into(&self, base: u32, old: &mut [u8])
+        requires { base + length old.old ≤ 2 ^ 32 }
+        ensures { old.new ≡ over self.now base old.old }
+    {
+        overlay(&self.runs, base, old);
+    }
+}

@@ -1,0 +1,34 @@
+//! The bytes of a map laid over a list of cells.
+ghost use Rattle.std.specs.Prelude.{◌≡◌, ◌+◌, ◌≤◌, ◌^◌, [], ◌∷◌, length};
+ghost use Rattle.byte_map.specs.Image.{AreMaximal, over};
+
+use crate::run_buffer::RunBuffer;
+use crate::search::{count_beginning_below, count_ending_below};
+
+/// Lays a map, given by its runs, over cells whose first one has the address `base`.
+pub fn overlay(runs: &[RunBuffer], base: u32, cells: &mut [u8])
+    requires maximal { AreMaximal 0 (2 ^ 32) runs.now }
+    requires fits { base + length cells.old ≤ 2 ^ 32 }
+    ensures { cells.new ≡ over runs.now base cells.old }
+{
+    let base = u64::from(base);
+    let first = count_ending_below(runs, base + 1);
+    let last = count_beginning_below(runs, base + cells.len() as u64);
+    for run in &runs[first..last] {
+        copy_run(run, base, cells);
+    }
+}
+
+/// Lays one run over cells.
+fn copy_run(run: &RunBuffer, base: u64, cells: &mut [u8])
+    requires { base + length cells.old ≤ 2 ^ 32 }
+    ensures { cells.new ≡ over (run.now ∷ []) base cells.old }
+{
+    let at = u64::from(run.at());
+    let start = at.max(base);
+    let end = run.end().min(base + cells.len() as u64);
+    if start < end {
+        let bytes = &run.bytes()[(start - at) as usize..(end - at) as usize];
+        cells[(start - base) as usize..(end - base) as usize].copy_from_slice(bytes);
+    }
+}
