@@ -1,0 +1,27 @@
+//! The description of a target board: where its RAM, its flash and its flash controller lie, how long
+//! the controller takes, how fast the core runs, and what erasing and programming weigh.
+//!
+//! The text is TOML. `read_board` reads it, and every `Board` keeps the ranges and the limits of the format.
+#![tactic(auto)]
+
+mod arrays;
+mod board;
+mod fault;
+mod key;
+mod limits;
+mod place;
+mod read;
+mod region;
+mod rows;
+mod sectors;
+mod sum;
+#[cfg(test)]
+mod tests;
+mod written;
+
+pub use board::{Board, Weights};
+pub use fault::BoardFault;
+pub use key::{Key, Part};
+pub use read::read_board;
+pub use region::{Region, Regions};
+pub use sectors::{SectorRun, Sectors};
