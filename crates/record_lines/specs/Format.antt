@@ -1,0 +1,91 @@
+-- What a text of records says, line by line. A line is judged by itself and by the lines before it.
+use Rattle.std.specs.Prelude.{◌≡◌, ◌+◌, ◌<◌, ◌≤◌, ℕ, zero, suc, min, Bool, true, false, List, [], ◌++◌, length, get_or, Option, Some, None, Result, Ok, Err}
+use Rattle.byte_map.specs.Image.{Run}
+use Rattle.record_lines.specs.Cells.{Cell, Clash, first_clash, IsImageOf}
+
+-- a format of records R, which may be at fault by F. C is what a record needs to know of the lines before it.
+pub record Format (C R F : Type 0) : Type 0 where
+  -- what a line says by itself: nothing where it is blank, a record, or a fault
+  pub read : List ℕ → Result (Option R) F
+  -- what is to be known of the lines before a place
+  pub context : List (List ℕ) → ℕ → C
+  -- whether a record ends the text
+  pub is_end : R → Bool
+  -- the bytes of a record, in its own order
+  pub cells : C → R → List Cell
+  -- what of a record is at fault after those lines, before its bytes are compared with theirs
+  pub refused : C → R → Option F
+  -- the fault of a record with another byte at an address than a record before it
+  pub conflict : Clash → F
+
+-- the line at a place, from 0 on
+abbrev pub line_at : List (List ℕ) → ℕ → List ℕ
+line_at lines n = get_or lines n []
+
+-- the cells of a line that reads so
+abbrev pub line_cells : {C R F : Type 0} → Format C R F → C → Result (Option R) F → List Cell
+line_cells f c (Ok None) = []
+line_cells f c (Ok (Some r)) = f.cells c r
+line_cells f c (Err fault) = []
+
+-- whether it ends the text
+abbrev pub line_ends : {C R F : Type 0} → Format C R F → Result (Option R) F → Bool
+line_ends f (Ok None) = false
+line_ends f (Ok (Some r)) = f.is_end r
+line_ends f (Err fault) = false
+
+-- a clash as a fault, where no other is there
+abbrev pub or_clash : {C R F : Type 0} → Format C R F → Option F → Option Clash → Option F
+or_clash f (Some fault) clash = Some fault
+or_clash f None None = None
+or_clash f None (Some clash) = Some (f.conflict clash)
+
+-- what is at fault with a line that reads so, behind lines that know c and have the cells `before`
+abbrev pub line_fault : {C R F : Type 0} → Format C R F → C → List Cell → Result (Option R) F → Option F
+line_fault f c before (Ok None) = None
+line_fault f c before (Ok (Some r)) = or_clash f (f.refused c r) (first_clash before (f.cells c r))
+line_fault f c before (Err fault) = Some fault
+
+-- the cells of the lines before a place
+abbrev pub cells_before : {C R F : Type 0} → Format C R F → List (List ℕ) → ℕ → List Cell
+cells_before f lines zero = []
+cells_before f lines (suc n) = line_cells f (f.context lines n) (f.read (line_at lines n)) ++ cells_before f lines n
+
+-- what is at fault at a place, and whether the text ends there
+abbrev pub fault_at : {C R F : Type 0} → Format C R F → List (List ℕ) → ℕ → Option F
+fault_at f lines n = line_fault f (f.context lines n) (cells_before f lines n) (f.read (line_at lines n))
+
+abbrev pub ends_at : {C R F : Type 0} → Format C R F → List (List ℕ) → ℕ → Bool
+ends_at f lines n = line_ends f (f.read (line_at lines n))
+
+-- the lines before a place are right, and the text doesn't end there
+pub record AreRight {C R F : Type 0} (f : Format C R F) (lines : List (List ℕ)) (n : ℕ) : Type 0 where
+  pub within : n ≤ length lines
+  pub right : (k : ℕ) → k < n → fault_at f lines k ≡ None
+  pub goes_on : (k : ℕ) → k < n → ends_at f lines k ≡ false
+
+-- a text's image: the union of the records before the first end record, where all lines up to it are right
+pub record IsImageOfText {C R F : Type 0} (f : Format C R F) (lines : List (List ℕ)) (image : List Run) : Type 0 where
+  pub place : ℕ
+  pub before : AreRight f lines place
+  pub inside : place < length lines
+  pub right : fault_at f lines place ≡ None
+  pub ends : ends_at f lines place ≡ true
+  pub image_is : IsImageOf (cells_before f lines place) image
+
+-- a line's number, from 1 on. It stands still at 4,294,967,295.
+abbrev pub line_number : ℕ → ℕ
+line_number n = min n 4294967295
+
+-- a text's fault: at the least place where a line is at fault, with no end record before it
+pub record IsFaultOfLine {C R F : Type 0} (f : Format C R F) (lines : List (List ℕ)) (line : ℕ) (fault : F) : Type 0 where
+  pub place : ℕ
+  pub before : AreRight f lines place
+  pub inside : place < length lines
+  pub fault_is : fault_at f lines place ≡ Some fault
+  pub line_is : line ≡ line_number (place + 1)
+
+-- or at its end, where all lines are right and none ends it
+pub record HasNoEnd {C R F : Type 0} (f : Format C R F) (lines : List (List ℕ)) (line : ℕ) : Type 0 where
+  pub all : AreRight f lines (length lines)
+  pub line_is : line ≡ line_number (length lines)

@@ -1,0 +1,4 @@
+pub mod Digits
+pub mod Cells
+pub mod Format
+pub mod Clashes
