@@ -1,0 +1,66 @@
+-- A text of S-records: its image, and its fault.
+use Rattle.std.specs.Prelude.{◌≡◌, ◌+◌, ◌^◌, ◌==◌, ℕ, zero, suc, nat_lt, Bool, true, false, List, [], ◌∷◌, length, Option, Some, None, Result, Ok, Err, if◌then◌else◌}
+use Rattle.record_lines.specs.Cells.{Cell, Clash, cells_from}
+use Rattle.record_lines.specs.Format.{Format, line_at, IsFaultOfLine, HasNoEnd}
+use Rattle.image_srec.specs.declared.fault.SrecKind.{SrecKind}
+use Rattle.image_srec.specs.declared.fault.SrecKind.TheVariants.{NotRecord, BadDigit, BadLength, BadSum, BadType, CountDiffers, PastEnd, Conflict, NoEnd, OutOfMemory}
+use Rattle.image_srec.specs.declared.record.SrecRecord.{SrecRecord}
+use Rattle.image_srec.specs.declared.record.SrecRecord.TheVariants.{Header, Data, Count, End}
+use Rattle.image_srec.specs.Record.{Reading, read_line}
+
+-- how many data records there are up to a line, where `earlier` are before it
+abbrev pub count_behind : Reading → ℕ → ℕ
+count_behind (Ok None) earlier = earlier
+count_behind (Ok (Some Header)) earlier = earlier
+count_behind (Ok (Some (Data at bytes))) earlier = earlier + 1
+count_behind (Ok (Some (Count said))) earlier = earlier
+count_behind (Ok (Some End)) earlier = earlier
+count_behind (Err fault) earlier = earlier
+
+-- how many there are before a place
+abbrev pub count_before : List (List ℕ) → ℕ → ℕ
+count_before lines zero = 0
+count_before lines (suc n) = count_behind (read_line (line_at lines n)) (count_before lines n)
+
+abbrev pub record_cells : ℕ → SrecRecord → List Cell
+record_cells seen Header = []
+record_cells seen (Data at bytes) = cells_from at bytes
+record_cells seen (Count said) = []
+record_cells seen End = []
+
+-- a count record tells another number than that, or a data record goes past the last address
+abbrev pub refused : ℕ → SrecRecord → Option SrecKind
+refused seen Header = None
+refused seen (Data at bytes) = if nat_lt 4294967296 (at + length bytes) then Some (PastEnd at) else None
+refused seen (Count said) = if said == seen then None else Some (CountDiffers said seen)
+refused seen End = None
+
+abbrev pub is_end : SrecRecord → Bool
+is_end Header = false
+is_end (Data at bytes) = false
+is_end (Count said) = false
+is_end End = true
+
+-- the format
+abbrev pub srec : Format ℕ SrecRecord SrecKind
+srec = record {
+  read = read_line;
+  context = count_before;
+  is_end = is_end;
+  cells = record_cells;
+  refused = refused;
+  conflict = λ clash. Conflict clash.at clash.old clash.new;
+}
+
+-- a fault of a text: want of memory, which has line 0, or what is at fault with its lines
+abbrev pub IsSrecFault : List (List ℕ) → ℕ → SrecKind → Type 0
+IsSrecFault lines line NotRecord = IsFaultOfLine srec lines line NotRecord
+IsSrecFault lines line BadDigit = IsFaultOfLine srec lines line BadDigit
+IsSrecFault lines line BadLength = IsFaultOfLine srec lines line BadLength
+IsSrecFault lines line (BadSum said due) = IsFaultOfLine srec lines line (BadSum said due)
+IsSrecFault lines line (BadType value) = IsFaultOfLine srec lines line (BadType value)
+IsSrecFault lines line (CountDiffers said seen) = IsFaultOfLine srec lines line (CountDiffers said seen)
+IsSrecFault lines line (PastEnd at) = IsFaultOfLine srec lines line (PastEnd at)
+IsSrecFault lines line (Conflict at old new) = IsFaultOfLine srec lines line (Conflict at old new)
+IsSrecFault lines line NoEnd = HasNoEnd srec lines line
+IsSrecFault lines line OutOfMemory = line ≡ 0

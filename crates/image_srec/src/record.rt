@@ -1,0 +1,121 @@
+//! One S-record.
+ghost use Rattle.std.specs.Prelude.{◌≡◌, ◌+◌, ◌≤◌, ◌<◌, ◌≢◌, length};
+ghost use Rattle.image_srec.specs.Record.{read_line, read_digits, checked, record_of, address_len, is_long_enough, number_of};
+
+use crate::fault::SrecKind;
+use octets::hex_pair;
+use record_lines::{Payload, all_digits, byte_sum, decode};
+
+/// A record, as far as an image needs it.
+#[derive(Drop)]
+pub enum SrecRecord {
+    Header,
+    Data { at: u32, bytes: Payload },
+    Count { said: u32 },
+    End,
+}
+
+/// What a line says: nothing where it is blank, a record, or a fault.
+pub fn parse(line: &[u8]) -> Result<Option<SrecRecord>, SrecKind>
+    ensures { result ≡ read_line line.now }
+{
+    match line {
+        [] => Ok(None),
+        [b'S', b'0'..=b'9', ..] => parse_digits(line[1] - b'0', &line[2..]),
+        _ => Err(SrecKind::NotRecord),
+    }
+}
+
+/// What the digits behind a type say.
+fn parse_digits(value: u8, digits: &[u8]) -> Result<Option<SrecRecord>, SrecKind>
+    requires { value < 10 }
+    ensures { result ≡ read_digits value digits.now }
+{
+    if !all_digits(digits) {
+        return Err(SrecKind::BadDigit);
+    }
+    if value == 4 {
+        return Err(SrecKind::BadType { value });
+    }
+    if digits.len() < 2 {
+        return Err(SrecKind::BadLength);
+    }
+    let count = hex_pair(digits[0], digits[1]).unwrap_or(0);
+    if digits.len() != 2 + 2 * usize::from(count) || !fits_type(value, count) {
+        return Err(SrecKind::BadLength);
+    }
+    let mut buffer = [0; 256];
+    let bytes = &mut buffer[..1 + usize::from(count)];
+    decode(digits, bytes);
+    check(value, bytes)
+}
+
+/// Whether so many bytes behind the count fit a type.
+fn fits_type(value: u8, count: u8) -> bool
+    ensures { result ≡ is_long_enough value count }
+{
+    let least = address_bytes(value) + 1;
+    if value < 4 {
+        least <= count
+    } else {
+        count == least
+    }
+}
+
+/// How many bytes the address of a type has.
+fn address_bytes(value: u8) -> u8
+    ensures len { result ≡ address_len value }
+    ensures few { result ≤ 4 }
+    ensures some { 2 ≤ result }
+{
+    match value {
+        3 | 7 => 4,
+        2 | 6 | 8 => 3,
+        _ => 2,
+    }
+}
+
+/// A record from its bytes, if its checksum is right.
+fn check(value: u8, bytes: &[u8]) -> Result<Option<SrecRecord>, SrecKind>
+    requires long { address_len value + 2 ≤ length bytes.now }
+    requires most { length bytes.now ≤ 256 }
+    ensures { result ≡ checked value bytes.now }
+{
+    let last = bytes.len() - 1;
+    let said = bytes[last];
+    let due = (255 - byte_sum(&bytes[..last]) % 256) as u8;
+    if said != due {
+        return Err(SrecKind::BadSum { said, due });
+    }
+    let data_at = 1 + usize::from(address_bytes(value));
+    Ok(Some(record(value, number(&bytes[1..data_at]), &bytes[data_at..last])))
+}
+
+/// The number that two, three or four bytes hold, the high one first.
+fn number(bytes: &[u8]) -> u32
+    ensures { result ≡ number_of bytes.now }
+{
+    match bytes {
+        [a, b] => u32::from(*a) * 256 + u32::from(*b),
+        [a, b, c] => (u32::from(*a) * 256 + u32::from(*b)) * 256 + u32::from(*c),
+        [a, b, c, d] => ((u32::from(*a) * 256 + u32::from(*b)) * 256 + u32::from(*c)) * 256
+            + u32::from(*d),
+        _ => 0,
+    }
+}
+
+/// A record of a type.
+fn record(value: u8, address: u32, bytes: &[u8]) -> SrecRecord
+    requires { length bytes.now ≤ 255 }
+    ensures { result ≡ record_of value address bytes.now }
+{
+    match value {
+        0 => SrecRecord::Header,
+        1 | 2 | 3 => SrecRecord::Data {
+            at: address,
+            bytes: Payload::copy(bytes),
+        },
+        5 | 6 => SrecRecord::Count { said: address },
+        _ => SrecRecord::End,
+    }
+}
