@@ -1,0 +1,6 @@
+use Rattle.std.proofs.Common.{arith}
+use Rattle.image_set.proofs.RangeLemmas.{none_inside}
+use Rattle.image_set.proofs.ranges.skip_range.Goals as goal
+
+pub returns-clause-outside : goal.returns-clause-outside
+returns-clause-outside c = λ is. none_inside c.args.ranges.now c.args.address (λ k lt. c.loop-base.invariant k (omega arith))

@@ -1,0 +1,71 @@
+-- The image of an ELF file (System V ABI, chapter 5, "Program Header").
+use Rattle.std.specs.Prelude.{◌≡◌, ◌⊎◌, ◌≤◌, ◌<◌, ◌^◌, ◌==◌, ℕ, zero, suc, Bool, IsTrue, List, [], ◌∷◌, Some, None, Ok, Err, if◌then◌else◌}
+use Rattle.byte_map.specs.Image.{Run, end_of, IsSameMap, AreMaximal}
+use Rattle.byte_map.specs.Laying.{AgreesBelow, IsLayFault}
+use Rattle.byte_map.specs.declared.fault.LayFault.TheVariants as lay
+use Rattle.elf32.specs.declared.fault.ElfFault.{ElfFault}
+use Rattle.elf32.specs.Format.{e_phnum, segment_at}
+use Rattle.elf32.specs.Checks.{part, file_fault}
+use Rattle.elf32.specs.Tables.{segment_part}
+use Rattle.image_set.specs.declared.fault.ImageFault.{ImageFault}
+use Rattle.image_set.specs.declared.fault.ImageFault.TheVariants.{NoForm, Hex, Srec, Elf, Conflict, PastEnd, OutsideDevice, EmptyImage, OutOfMemory}
+
+-- PT_LOAD, 1, marks a segment that is loaded
+abbrev pub is_loaded : List ℕ → ℕ → Bool
+is_loaded bytes k = (segment_at bytes k).kind == 1
+
+-- the p_filesz bytes of segment `k` in the file, from p_paddr on
+abbrev pub piece_at : List ℕ → ℕ → Run
+piece_at bytes k = record { at = (segment_at bytes k).paddr; bytes = part bytes (segment_at bytes k).offset (segment_at bytes k).filesz }
+
+-- the pieces of the loaded segments before a place of the table
+abbrev pub pieces_before : List ℕ → ℕ → List Run
+pieces_before bytes zero = []
+pieces_before bytes (suc k) = if is_loaded bytes k then piece_at bytes k ∷ pieces_before bytes k else pieces_before bytes k
+
+-- segment `k` is right: it ends in the file and at 2^32 or below it, and agrees with the loaded segments before it
+pub record IsRight (bytes : List ℕ) (k : ℕ) : Type 0 where
+  pub whole : segment_part bytes k ≡ Ok (piece_at bytes k).bytes
+  pub fits : end_of (piece_at bytes k) ≤ 2 ^ 32
+  pub agrees : AgreesBelow (piece_at bytes k) (pieces_before bytes k) (2 ^ 32)
+
+-- the loaded ones of the first `n` segments are right
+abbrev pub AreRight : List ℕ → ℕ → Type 0
+AreRight bytes n = (k : ℕ) → k < n → IsTrue (is_loaded bytes k) → IsRight bytes k
+
+-- the first `n` segments are right, and the image is the union of the loaded ones
+pub record IsImageBefore (bytes : List ℕ) (n : ℕ) (image : List Run) : Type 0 where
+  pub right : AreRight bytes n
+  pub union : IsSameMap image (pieces_before bytes n)
+  pub maximal : AreMaximal 0 (2 ^ 32) image
+
+-- the image of a file
+pub record IsElfImage (bytes : List ℕ) (image : List Run) : Type 0 where
+  pub readable : file_fault bytes ≡ None
+  pub segments : IsImageBefore bytes (e_phnum bytes) image
+
+-- why segment `k` is refused behind segments that make an image: it goes past the file's end, or else past 2^32, or
+-- else it clashes with the image
+abbrev pub IsSegmentFault : List ℕ → ℕ → List Run → ImageFault → Type 0
+IsSegmentFault bytes k image NoForm = ⊥
+IsSegmentFault bytes k image (Hex fault) = ⊥
+IsSegmentFault bytes k image (Srec fault) = ⊥
+IsSegmentFault bytes k image (Elf fault) = segment_part bytes k ≡ Err fault
+IsSegmentFault bytes k image (Conflict at old new) = (segment_part bytes k ≡ Ok (piece_at bytes k).bytes) × IsLayFault (piece_at bytes k) image (lay.Conflict at old new)
+IsSegmentFault bytes k image (PastEnd at) = (segment_part bytes k ≡ Ok (piece_at bytes k).bytes) × IsLayFault (piece_at bytes k) image (lay.PastEnd at)
+IsSegmentFault bytes k image (OutsideDevice at) = ⊥
+IsSegmentFault bytes k image EmptyImage = ⊥
+IsSegmentFault bytes k image OutOfMemory = Unit {0}
+
+-- the first loaded segment that isn't right is refused
+pub record IsFirstRefused (bytes : List ℕ) (fault : ImageFault) : Type 0 where
+  pub readable : file_fault bytes ≡ None
+  pub place : ℕ
+  pub inside : place < e_phnum bytes
+  pub loaded : IsTrue (is_loaded bytes place)
+  pub before : AreRight bytes place
+  pub refused : IsSegmentFault bytes place (pieces_before bytes place) fault
+
+-- what the ELF format refuses: the file, or else a segment
+abbrev pub IsElfFault : List ℕ → ElfFault → Type 0
+IsElfFault bytes fault = (file_fault bytes ≡ Some fault) ⊎ IsFirstRefused bytes (Elf fault)

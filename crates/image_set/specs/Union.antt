@@ -1,0 +1,42 @@
+-- The union of two images.
+use Rattle.std.specs.Prelude.{◌≡◌, ◌≢◌, ◌<◌, ◌^◌, ℕ, List, ◌++◌, Some}
+use Rattle.byte_map.specs.Image.{Run, byte_at, IsSameMap, AreMaximal}
+use Rattle.byte_map.specs.declared.fault.LayFault.{LayFault}
+use Rattle.byte_map.specs.declared.fault.LayFault.TheVariants as lay
+use Rattle.image_set.specs.declared.fault.ImageFault.{ImageFault}
+use Rattle.image_set.specs.declared.fault.ImageFault.TheVariants.{NoForm, Hex, Srec, Elf, Conflict, PastEnd, OutsideDevice, EmptyImage, OutOfMemory}
+
+-- below an address, the images have equal bytes wherever both have one
+abbrev pub AgreeBelow : List Run → List Run → ℕ → Type 0
+AgreeBelow image other limit = (a old new : ℕ) → a < limit → byte_at image a ≡ Some old → byte_at other a ≡ Some new → old ≡ new
+
+-- the images agree, and the third is their union, in runs that are each as long as possible
+pub record IsUnion (image other union : List Run) : Type 0 where
+  pub agree : AgreeBelow image other (2 ^ 32)
+  pub same : IsSameMap union (other ++ image)
+  pub maximal : AreMaximal 0 (2 ^ 32) union
+
+-- the least address at which both images have a byte, and the two are unequal
+pub record IsLeastClash (image other : List Run) (at old new : ℕ) : Type 0 where
+  pub old_is : byte_at image at ≡ Some old
+  pub new_is : byte_at other at ≡ Some new
+  pub unequal : old ≢ new
+  pub first : AgreeBelow image other at
+
+-- why two images have no union
+abbrev pub IsUnionFault : List Run → List Run → ImageFault → Type 0
+IsUnionFault image other NoForm = ⊥
+IsUnionFault image other (Hex fault) = ⊥
+IsUnionFault image other (Srec fault) = ⊥
+IsUnionFault image other (Elf fault) = ⊥
+IsUnionFault image other (Conflict at old new) = IsLeastClash image other at old new
+IsUnionFault image other (PastEnd at) = ⊥
+IsUnionFault image other (OutsideDevice at) = ⊥
+IsUnionFault image other EmptyImage = ⊥
+IsUnionFault image other OutOfMemory = Unit {0}
+
+-- the same of adding the bytes of one to the other
+abbrev pub IsLayFaultOfUnion : List Run → List Run → LayFault → Type 0
+IsLayFaultOfUnion image other (lay.Conflict at old new) = IsLeastClash image other at old new
+IsLayFaultOfUnion image other (lay.PastEnd at) = ⊥
+IsLayFaultOfUnion image other lay.OutOfMemory = Unit {0}

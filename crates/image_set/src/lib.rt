@@ -1,0 +1,16 @@
+//! Firmware images from files of any form, their union, and whether an image lies in given ranges of addresses.
+#![tactic(auto)]
+
+mod fault;
+mod form;
+mod ranges;
+mod read;
+mod segments;
+#[cfg(test)]
+mod tests;
+mod union;
+
+pub use fault::ImageFault;
+pub use ranges::{check, check_ranges};
+pub use read::read_image;
+pub use union::merge;
