@@ -1,7 +1,7 @@
 //! The encodings of two halfwords (A5.3.1).
 
 ghost use Rattle.std.specs.Prelude.{◌≡◌, ◌<◌, ◌^◌};
-ghost use Rattle.armv6m_asm.specs.Encoding.{IsEncodedAs};
+ghost use Rattle.armv6m_encode.specs.Encoding.{IsEncodedAs};
 
 use crate::code::Encoding;
 use armv6m_decode::{Branch, Instr, Other};

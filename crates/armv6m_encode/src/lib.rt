@@ -1,4 +1,4 @@
-//! The encoder of the assembler: from Armv6-M instructions to their code. It takes no memory.
+//! The encoder: from Armv6-M instructions to their code. It takes no memory.
 #![tactic(auto)]
 
 mod alu;

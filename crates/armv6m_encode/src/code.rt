@@ -1,7 +1,7 @@
 //! From instructions to their code.
 
 ghost use Rattle.std.specs.Prelude.{◌≡◌, true, IsTrue};
-ghost use Rattle.armv6m_asm.specs.Encoding.{fields_fit, IsEncodedAs};
+ghost use Rattle.armv6m_encode.specs.Encoding.{fields_fit, IsEncodedAs};
 
 use crate::{alu, branch, many, memory, other};
 use armv6m_decode::Instr;

@@ -9,14 +9,14 @@ use Rattle.armv6m_decode.specs.declared.instr.Branch.TheVariants.{Bx, Blx, Bcc, 
 use Rattle.armv6m_decode.specs.declared.instr.Other.TheVariants.{Adr, AddFromSp, AddToSp, SubFromSp, Sxth, Sxtb, Uxth, Uxtb, Cpsie, Cpsid, Rev, Rev16, Revsh, Bkpt, Nop, Yield, Wfe, Wfi, Sev, Udf, Svc, Mrs, Msr, Dsb, Dmb, Isb}
 use Rattle.armv6m_decode.specs.declared.instr.Decoded.TheVariants.{Op, NeedsSecond}
 use Rattle.armv6m_decode.specs.Table.{decoded, decoded_pair}
-use Rattle.armv6m_asm.specs.declared.code.Encoding.{Encoding}
-use Rattle.armv6m_asm.specs.declared.code.Encoding.TheVariants.{Half, Pair}
+use Rattle.armv6m_encode.specs.declared.code.Encoding.{Encoding}
+use Rattle.armv6m_encode.specs.declared.code.Encoding.TheVariants.{Half, Pair}
 
 abbrev pub IsEncodedAs : Instr → Encoding → Type 0
 IsEncodedAs i (Half half) = decoded half ≡ Op i
 IsEncodedAs i (Pair first second) = (decoded first ≡ NeedsSecond) × (decoded_pair first second ≡ Some i)
 
--- each field of the instruction fits the bits that its row has for it; fields of eight bits always do
+-- each field of the instruction fits the bits that its row has for it
 abbrev pub fields_fit : Instr → Bool
 fields_fit (instr.Alu (LslsImmediate d m immediate)) = nat_lt d 8 && nat_lt m 8 && nat_lt immediate 32
 fields_fit (instr.Alu (LsrsImmediate d m immediate)) = nat_lt d 8 && nat_lt m 8 && nat_lt immediate 32
@@ -25,10 +25,10 @@ fields_fit (instr.Alu (AddsRegister d n m)) = nat_lt d 8 && nat_lt n 8 && nat_lt
 fields_fit (instr.Alu (SubsRegister d n m)) = nat_lt d 8 && nat_lt n 8 && nat_lt m 8
 fields_fit (instr.Alu (AddsImmediate3 d n immediate)) = nat_lt d 8 && nat_lt n 8 && nat_lt immediate 8
 fields_fit (instr.Alu (SubsImmediate3 d n immediate)) = nat_lt d 8 && nat_lt n 8 && nat_lt immediate 8
-fields_fit (instr.Alu (MovsImmediate d _)) = nat_lt d 8
-fields_fit (instr.Alu (CmpImmediate n _)) = nat_lt n 8
-fields_fit (instr.Alu (AddsImmediate8 d _)) = nat_lt d 8
-fields_fit (instr.Alu (SubsImmediate8 d _)) = nat_lt d 8
+fields_fit (instr.Alu (MovsImmediate d immediate)) = nat_lt d 8 && nat_lt immediate 256
+fields_fit (instr.Alu (CmpImmediate n immediate)) = nat_lt n 8 && nat_lt immediate 256
+fields_fit (instr.Alu (AddsImmediate8 d immediate)) = nat_lt d 8 && nat_lt immediate 256
+fields_fit (instr.Alu (SubsImmediate8 d immediate)) = nat_lt d 8 && nat_lt immediate 256
 fields_fit (instr.Alu (Ands d m)) = nat_lt d 8 && nat_lt m 8
 fields_fit (instr.Alu (Eors d m)) = nat_lt d 8 && nat_lt m 8
 fields_fit (instr.Alu (LslsRegister d m)) = nat_lt d 8 && nat_lt m 8
@@ -48,7 +48,7 @@ fields_fit (instr.Alu (Mvns d m)) = nat_lt d 8 && nat_lt m 8
 fields_fit (instr.Alu (AddHigh d m)) = nat_lt d 16 && nat_lt m 16
 fields_fit (instr.Alu (CmpHigh n m)) = nat_lt n 16 && nat_lt m 16
 fields_fit (instr.Alu (MovHigh d m)) = nat_lt d 16 && nat_lt m 16
-fields_fit (instr.Memory (LdrLiteral t _)) = nat_lt t 8
+fields_fit (instr.Memory (LdrLiteral t immediate)) = nat_lt t 8 && nat_lt immediate 256
 fields_fit (instr.Memory (StrRegister t n m)) = nat_lt t 8 && nat_lt n 8 && nat_lt m 8
 fields_fit (instr.Memory (StrhRegister t n m)) = nat_lt t 8 && nat_lt n 8 && nat_lt m 8
 fields_fit (instr.Memory (StrbRegister t n m)) = nat_lt t 8 && nat_lt n 8 && nat_lt m 8
@@ -63,19 +63,19 @@ fields_fit (instr.Memory (StrbImmediate t n immediate)) = nat_lt t 8 && nat_lt n
 fields_fit (instr.Memory (LdrbImmediate t n immediate)) = nat_lt t 8 && nat_lt n 8 && nat_lt immediate 32
 fields_fit (instr.Memory (StrhImmediate t n immediate)) = nat_lt t 8 && nat_lt n 8 && nat_lt immediate 32
 fields_fit (instr.Memory (LdrhImmediate t n immediate)) = nat_lt t 8 && nat_lt n 8 && nat_lt immediate 32
-fields_fit (instr.Memory (StrSp t _)) = nat_lt t 8
-fields_fit (instr.Memory (LdrSp t _)) = nat_lt t 8
-fields_fit (instr.Many (Push _ _)) = true
-fields_fit (instr.Many (Pop _ _)) = true
-fields_fit (instr.Many (Stm n _)) = nat_lt n 8
-fields_fit (instr.Many (Ldm n _)) = nat_lt n 8
+fields_fit (instr.Memory (StrSp t immediate)) = nat_lt t 8 && nat_lt immediate 256
+fields_fit (instr.Memory (LdrSp t immediate)) = nat_lt t 8 && nat_lt immediate 256
+fields_fit (instr.Many (Push lr list)) = nat_lt list 256
+fields_fit (instr.Many (Pop to_pc list)) = nat_lt list 256
+fields_fit (instr.Many (Stm n list)) = nat_lt n 8 && nat_lt list 256
+fields_fit (instr.Many (Ldm n list)) = nat_lt n 8 && nat_lt list 256
 fields_fit (instr.Branch (Bx m)) = nat_lt m 16
 fields_fit (instr.Branch (Blx m)) = nat_lt m 16
-fields_fit (instr.Branch (Bcc condition _)) = nat_lt condition 14
+fields_fit (instr.Branch (Bcc condition immediate)) = nat_lt condition 14 && nat_lt immediate 256
 fields_fit (instr.Branch (B immediate)) = nat_lt immediate 2048
 fields_fit (instr.Branch (Bl immediate)) = nat_lt immediate 16777216
-fields_fit (instr.Other (Adr d _)) = nat_lt d 8
-fields_fit (instr.Other (AddFromSp d _)) = nat_lt d 8
+fields_fit (instr.Other (Adr d immediate)) = nat_lt d 8 && nat_lt immediate 256
+fields_fit (instr.Other (AddFromSp d immediate)) = nat_lt d 8 && nat_lt immediate 256
 fields_fit (instr.Other (AddToSp immediate)) = nat_lt immediate 128
 fields_fit (instr.Other (SubFromSp immediate)) = nat_lt immediate 128
 fields_fit (instr.Other (Sxth d m)) = nat_lt d 8 && nat_lt m 8
@@ -87,16 +87,16 @@ fields_fit (instr.Other Cpsid) = true
 fields_fit (instr.Other (Rev d m)) = nat_lt d 8 && nat_lt m 8
 fields_fit (instr.Other (Rev16 d m)) = nat_lt d 8 && nat_lt m 8
 fields_fit (instr.Other (Revsh d m)) = nat_lt d 8 && nat_lt m 8
-fields_fit (instr.Other (Bkpt _)) = true
+fields_fit (instr.Other (Bkpt immediate)) = nat_lt immediate 256
 fields_fit (instr.Other Nop) = true
 fields_fit (instr.Other Yield) = true
 fields_fit (instr.Other Wfe) = true
 fields_fit (instr.Other Wfi) = true
 fields_fit (instr.Other Sev) = true
-fields_fit (instr.Other (Udf _)) = true
-fields_fit (instr.Other (Svc _)) = true
-fields_fit (instr.Other (Mrs d _)) = nat_lt d 16
-fields_fit (instr.Other (Msr n _)) = nat_lt n 16
+fields_fit (instr.Other (Udf immediate)) = nat_lt immediate 256
+fields_fit (instr.Other (Svc immediate)) = nat_lt immediate 256
+fields_fit (instr.Other (Mrs d special)) = nat_lt d 16 && nat_lt special 256
+fields_fit (instr.Other (Msr n special)) = nat_lt n 16 && nat_lt special 256
 fields_fit (instr.Other Dsb) = true
 fields_fit (instr.Other Dmb) = true
 fields_fit (instr.Other Isb) = true

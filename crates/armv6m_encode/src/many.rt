@@ -2,7 +2,7 @@
 
 ghost use Rattle.std.specs.Prelude.{◌≡◌, ◌<◌, true, IsTrue};
 ghost use Rattle.armv6m_decode.specs.Table.{decoded};
-ghost use Rattle.armv6m_asm.specs.Encoding.{fields_fit};
+ghost use Rattle.armv6m_encode.specs.Encoding.{fields_fit};
 
 use armv6m_decode::{Decoded, Instr, Many};
 
