@@ -1,5 +1,5 @@
 // The registers and flags, and how instructions read and write them.
-ghost use Rattle.std.specs.Prelude.{◌≡◌};
+ghost use Rattle.std.specs.Prelude.{◌≡◌, ◌%◌, ◌^◌};
 ghost use Rattle.armv6m_step.specs.Registers.{pc_of, reg, written, moved, with_nz, with_carry, with_nzcv};
 
 use armv6m_alu::Sum;
@@ -39,6 +39,20 @@ impl Core {
         } else {
             value
         }
+    }
+
+    // Bits 7 to 0 of a register.
+    pub(crate) fn low_byte(&self, n: u8) -> u32
+        ensures { result ≡ reg self.now n % 2 ^ 8 }
+    {
+        self.read(n) % 0x100
+    }
+
+    // Bits 15 to 0 of a register.
+    pub(crate) fn low_half(&self, n: u8) -> u32
+        ensures { result ≡ reg self.now n % 2 ^ 16 }
+    {
+        self.read(n) % 0x1_0000
     }
 
     #[tactic(auto, unfolding(crate::specs::Registers::written))]

@@ -1,8 +1,11 @@
 // Data processing.
 #![tactic(auto, using(std::proofs::lemmas::Bool::Decides::nat_tests))]
 
-ghost use Rattle.std.specs.Prelude.{◌≡◌, Result, Ok};
+ghost use Rattle.std.specs.Prelude.{◌≡◌, false, Result, Ok};
+ghost use Rattle.armv6m_alu.specs.Sums.{sum_with_carry};
+ghost use Rattle.armv6m_alu.specs.Shifts.{shifted_left, shifted_right, shifted_right_signed, rotated_right};
 ghost use Rattle.armv6m_step.specs.Ends.{end_of};
+ghost use Rattle.armv6m_step.specs.Registers.{reg};
 ghost use Rattle.armv6m_step.specs.Meaning.{Leaves};
 ghost use Rattle.armv6m_step.specs.DataRows.{alu, value_into, shift_into, sum_into, compared, tested, plain_into, undefined_at, subtraction, shift_amount};
 
@@ -37,7 +40,7 @@ fn put_sum(core: &mut Core, next: u32, d: u8, sum: Sum)
     core.go_to(next);
 }
 
-fn compare(core: &mut Core, next: u32, sum: Sum)
+fn put_flags(core: &mut Core, next: u32, sum: Sum)
     ensures { compared core.old next sum ≡ Ok core.new }
 {
     core.set_nzcv(sum);
@@ -78,6 +81,69 @@ fn amount(immediate: u8) -> u32
     }
 }
 
+// LSLS: R[d] = R[m] shifted left.
+fn lsls(core: &mut Core, next: u32, d: u8, m: u8, by: u32)
+    ensures { shift_into core.old next d (shifted_left (reg core.old m) by core.old.c) ≡ Ok core.new }
+{
+    put_shift(core, next, d, shift_left(core.read(m), by, core.c));
+}
+
+// LSRS: R[d] = R[m] shifted right.
+fn lsrs(core: &mut Core, next: u32, d: u8, m: u8, by: u32)
+    ensures { shift_into core.old next d (shifted_right (reg core.old m) by core.old.c) ≡ Ok core.new }
+{
+    put_shift(core, next, d, shift_right(core.read(m), by, core.c));
+}
+
+// ASRS: R[d] = R[m] shifted right with its sign.
+fn asrs(core: &mut Core, next: u32, d: u8, m: u8, by: u32)
+    ensures { shift_into core.old next d (shifted_right_signed (reg core.old m) by core.old.c) ≡ Ok core.new }
+{
+    put_shift(core, next, d, shift_right_signed(core.read(m), by, core.c));
+}
+
+// ADDS: R[d] = R[n] + y.
+fn adds(core: &mut Core, next: u32, d: u8, n: u8, y: u32)
+    ensures { sum_into core.old next d (sum_with_carry (reg core.old n) y false) ≡ Ok core.new }
+{
+    put_sum(core, next, d, add_with_carry(core.read(n), y, false));
+}
+
+// SUBS: R[d] = R[n] - y.
+fn subs(core: &mut Core, next: u32, d: u8, n: u8, y: u32)
+    ensures { sum_into core.old next d (subtraction (reg core.old n) y) ≡ Ok core.new }
+{
+    put_sum(core, next, d, subtract(core.read(n), y));
+}
+
+// CMP: the flags of R[n] - y.
+fn cmp(core: &mut Core, next: u32, n: u8, y: u32)
+    ensures { compared core.old next (subtraction (reg core.old n) y) ≡ Ok core.new }
+{
+    put_flags(core, next, subtract(core.read(n), y));
+}
+
+// ADCS: R[d] = R[d] + y + C. SBCS adds NOT R[m].
+fn adcs(core: &mut Core, next: u32, d: u8, y: u32)
+    ensures { sum_into core.old next d (sum_with_carry (reg core.old d) y core.old.c) ≡ Ok core.new }
+{
+    put_sum(core, next, d, add_with_carry(core.read(d), y, core.c));
+}
+
+// RORS: R[d] = R[d] rotated right.
+fn rors(core: &mut Core, next: u32, d: u8, by: u32)
+    ensures { shift_into core.old next d (rotated_right (reg core.old d) by core.old.c) ≡ Ok core.new }
+{
+    put_shift(core, next, d, rotate_right(core.read(d), by, core.c));
+}
+
+// CMN: the flags of R[n] + y.
+fn cmn(core: &mut Core, next: u32, n: u8, y: u32)
+    ensures { compared core.old next (sum_with_carry (reg core.old n) y false) ≡ Ok core.new }
+{
+    put_flags(core, next, add_with_carry(core.read(n), y, false));
+}
+
 pub(crate) fn undefined(core: &Core) -> Result<(), Stop>
     ensures { Leaves (undefined_at core.now) core.now (end_of result) core.now }
 {
@@ -100,7 +166,7 @@ fn compare_high(core: &mut Core, next: u32, n: u8, m: u8) -> Result<(), Stop>
     if (n < 8 && m < 8) || n == 15 || m == 15 {
         return undefined(core);
     }
-    compare(core, next, subtract(core.read(n), core.read(m)));
+    cmp(core, next, n, core.read(m));
     Ok(())
 }
 
@@ -109,112 +175,29 @@ pub(crate) fn run(core: &mut Core, next: u32, op: Alu) -> Result<(), Stop>
     ensures { Leaves (alu core.old next op) core.old (end_of result) core.new }
 {
     match op {
-        Alu::LslsImmediate { d, m, immediate: i } => put_shift(
-            core,
-            next,
-            d,
-            shift_left(core.read(m), u32::from(i), core.c),
-        ),
-        Alu::LsrsImmediate { d, m, immediate: i } => put_shift(
-            core,
-            next,
-            d,
-            shift_right(core.read(m), amount(i), core.c),
-        ),
-        Alu::AsrsImmediate { d, m, immediate: i } => put_shift(
-            core,
-            next,
-            d,
-            shift_right_signed(core.read(m), amount(i), core.c),
-        ),
-        Alu::AddsRegister { d, n, m } => put_sum(
-            core,
-            next,
-            d,
-            add_with_carry(core.read(n), core.read(m), false),
-        ),
-        Alu::SubsRegister { d, n, m } => put_sum(
-            core,
-            next,
-            d,
-            subtract(core.read(n), core.read(m)),
-        ),
-        Alu::AddsImmediate3 { d, n, immediate: i } => put_sum(
-            core,
-            next,
-            d,
-            add_with_carry(core.read(n), u32::from(i), false),
-        ),
-        Alu::SubsImmediate3 { d, n, immediate: i } => put_sum(
-            core,
-            next,
-            d,
-            subtract(core.read(n), u32::from(i)),
-        ),
+        Alu::LslsImmediate { d, m, immediate: i } => lsls(core, next, d, m, u32::from(i)),
+        Alu::LsrsImmediate { d, m, immediate: i } => lsrs(core, next, d, m, amount(i)),
+        Alu::AsrsImmediate { d, m, immediate: i } => asrs(core, next, d, m, amount(i)),
+        Alu::AddsRegister { d, n, m } => adds(core, next, d, n, core.read(m)),
+        Alu::SubsRegister { d, n, m } => subs(core, next, d, n, core.read(m)),
+        Alu::AddsImmediate3 { d, n, immediate: i } => adds(core, next, d, n, u32::from(i)),
+        Alu::SubsImmediate3 { d, n, immediate: i } => subs(core, next, d, n, u32::from(i)),
         Alu::MovsImmediate { d, immediate: i } => put_value(core, next, d, u32::from(i)),
-        Alu::CmpImmediate { n, immediate: i } => compare(
-            core,
-            next,
-            subtract(core.read(n), u32::from(i)),
-        ),
-        Alu::AddsImmediate8 { d, immediate: i } => put_sum(
-            core,
-            next,
-            d,
-            add_with_carry(core.read(d), u32::from(i), false),
-        ),
-        Alu::SubsImmediate8 { d, immediate: i } => put_sum(
-            core,
-            next,
-            d,
-            subtract(core.read(d), u32::from(i)),
-        ),
+        Alu::CmpImmediate { n, immediate: i } => cmp(core, next, n, u32::from(i)),
+        Alu::AddsImmediate8 { d, immediate: i } => adds(core, next, d, d, u32::from(i)),
+        Alu::SubsImmediate8 { d, immediate: i } => subs(core, next, d, d, u32::from(i)),
         Alu::Ands { d, m } => put_value(core, next, d, core.read(d) & core.read(m)),
         Alu::Eors { d, m } => put_value(core, next, d, core.read(d) ^ core.read(m)),
-        Alu::LslsRegister { d, m } => put_shift(
-            core,
-            next,
-            d,
-            shift_left(core.read(d), core.read(m) % 0x100, core.c),
-        ),
-        Alu::LsrsRegister { d, m } => put_shift(
-            core,
-            next,
-            d,
-            shift_right(core.read(d), core.read(m) % 0x100, core.c),
-        ),
-        Alu::AsrsRegister { d, m } => put_shift(
-            core,
-            next,
-            d,
-            shift_right_signed(core.read(d), core.read(m) % 0x100, core.c),
-        ),
-        Alu::Adcs { d, m } => put_sum(
-            core,
-            next,
-            d,
-            add_with_carry(core.read(d), core.read(m), core.c),
-        ),
-        Alu::Sbcs { d, m } => put_sum(
-            core,
-            next,
-            d,
-            add_with_carry(core.read(d), !core.read(m), core.c),
-        ),
-        Alu::Rors { d, m } => put_shift(
-            core,
-            next,
-            d,
-            rotate_right(core.read(d), core.read(m) % 0x100, core.c),
-        ),
+        Alu::LslsRegister { d, m } => lsls(core, next, d, d, core.low_byte(m)),
+        Alu::LsrsRegister { d, m } => lsrs(core, next, d, d, core.low_byte(m)),
+        Alu::AsrsRegister { d, m } => asrs(core, next, d, d, core.low_byte(m)),
+        Alu::Adcs { d, m } => adcs(core, next, d, core.read(m)),
+        Alu::Sbcs { d, m } => adcs(core, next, d, !core.read(m)),
+        Alu::Rors { d, m } => rors(core, next, d, core.low_byte(m)),
         Alu::Tst { d, m } => test(core, next, core.read(d) & core.read(m)),
         Alu::Rsbs { d, n } => put_sum(core, next, d, subtract(0, core.read(n))),
-        Alu::CmpRegister { d, m } => compare(core, next, subtract(core.read(d), core.read(m))),
-        Alu::Cmn { d, m } => compare(
-            core,
-            next,
-            add_with_carry(core.read(d), core.read(m), false),
-        ),
+        Alu::CmpRegister { d, m } => cmp(core, next, d, core.read(m)),
+        Alu::Cmn { d, m } => cmn(core, next, d, core.read(m)),
         Alu::Orrs { d, m } => put_value(core, next, d, core.read(d) | core.read(m)),
         Alu::Muls { d, m } => put_value(core, next, d, core.read(d).wrapping_mul(core.read(m))),
         Alu::Bics { d, m } => put_value(core, next, d, core.read(d) & !core.read(m)),

@@ -34,93 +34,23 @@ pub(crate) fn extend16(value: u32) -> u32
     }
 }
 
-#[tactic(auto, using(crate::proofs::RunLemmas::asks), unfolding(crate::specs::MemoryRows::load_word))]
-fn word_into<B: Bus>(core: &mut Core, bus: &mut B, next: u32, t: u8, at: u32) -> Result<(), Stop>
-    ensures { Runs B.acts (load_word core.old next t at) core.old bus.old (end_of result) core.new bus.new }
+// An offset in bytes, from an immediate that counts words, halfwords or bytes.
+pub(crate) fn words(count: u8) -> u32
+    ensures { result ≡ 4 * count }
 {
-    let value = load32(bus, at)?;
-    core.write(t, value);
-    core.go_to(next);
-    Ok(())
+    4 * u32::from(count)
 }
 
-#[tactic(auto, using(crate::proofs::RunLemmas::asks), unfolding(crate::specs::MemoryRows::load_half))]
-fn half_into<B: Bus>(core: &mut Core, bus: &mut B, next: u32, t: u8, at: u32) -> Result<(), Stop>
-    ensures { Runs B.acts (load_half core.old next t at) core.old bus.old (end_of result) core.new bus.new }
+fn halves(count: u8) -> u32
+    ensures { result ≡ 2 * count }
 {
-    let value = load16(bus, at)?;
-    core.write(t, value);
-    core.go_to(next);
-    Ok(())
+    2 * u32::from(count)
 }
 
-#[tactic(auto, using(crate::proofs::RunLemmas::asks), unfolding(crate::specs::MemoryRows::load_byte))]
-fn byte_into<B: Bus>(core: &mut Core, bus: &mut B, next: u32, t: u8, at: u32) -> Result<(), Stop>
-    ensures { Runs B.acts (load_byte core.old next t at) core.old bus.old (end_of result) core.new bus.new }
+fn bytes(count: u8) -> u32
+    ensures { result ≡ count }
 {
-    let value = load8(bus, at)?;
-    core.write(t, value);
-    core.go_to(next);
-    Ok(())
-}
-
-#[tactic(auto, using(crate::proofs::RunLemmas::asks), unfolding(crate::specs::MemoryRows::load_signed_half))]
-fn signed_half_into<B: Bus>(
-    core: &mut Core,
-    bus: &mut B,
-    next: u32,
-    t: u8,
-    at: u32,
-) -> Result<(), Stop>
-    ensures { Runs B.acts (load_signed_half core.old next t at) core.old bus.old (end_of result) core.new bus.new }
-{
-    let value = load16(bus, at)?;
-    core.write(t, extend16(value));
-    core.go_to(next);
-    Ok(())
-}
-
-#[tactic(auto, using(crate::proofs::RunLemmas::asks), unfolding(crate::specs::MemoryRows::load_signed_byte))]
-fn signed_byte_into<B: Bus>(
-    core: &mut Core,
-    bus: &mut B,
-    next: u32,
-    t: u8,
-    at: u32,
-) -> Result<(), Stop>
-    ensures { Runs B.acts (load_signed_byte core.old next t at) core.old bus.old (end_of result) core.new bus.new }
-{
-    let value = load8(bus, at)?;
-    core.write(t, extend8(value));
-    core.go_to(next);
-    Ok(())
-}
-
-#[tactic(auto, using(crate::proofs::RunLemmas::asks), unfolding(crate::specs::MemoryRows::store_word))]
-fn word_from<B: Bus>(core: &mut Core, bus: &mut B, next: u32, t: u8, at: u32) -> Result<(), Stop>
-    ensures { Runs B.acts (store_word core.old next t at) core.old bus.old (end_of result) core.new bus.new }
-{
-    store32(bus, at, core.read(t))?;
-    core.go_to(next);
-    Ok(())
-}
-
-#[tactic(auto, using(crate::proofs::RunLemmas::asks), unfolding(crate::specs::MemoryRows::store_half))]
-fn half_from<B: Bus>(core: &mut Core, bus: &mut B, next: u32, t: u8, at: u32) -> Result<(), Stop>
-    ensures { Runs B.acts (store_half core.old next t at) core.old bus.old (end_of result) core.new bus.new }
-{
-    store16(bus, at, core.read(t) % 0x1_0000)?;
-    core.go_to(next);
-    Ok(())
-}
-
-#[tactic(auto, using(crate::proofs::RunLemmas::asks), unfolding(crate::specs::MemoryRows::store_byte))]
-fn byte_from<B: Bus>(core: &mut Core, bus: &mut B, next: u32, t: u8, at: u32) -> Result<(), Stop>
-    ensures { Runs B.acts (store_byte core.old next t at) core.old bus.old (end_of result) core.new bus.new }
-{
-    store8(bus, at, core.read(t) % 0x100)?;
-    core.go_to(next);
-    Ok(())
+    u32::from(count)
 }
 
 // The address of a register and an offset in bytes.
@@ -130,18 +60,163 @@ fn at_offset(core: &Core, n: u8, offset: u32) -> u32
     core.read(n).wrapping_add(offset)
 }
 
-// The address of the sum of two registers.
-fn at_sum(core: &Core, n: u8, m: u8) -> u32
-    ensures { result ≡ sum (reg core.now n) (reg core.now m) }
-{
-    core.read(n).wrapping_add(core.read(m))
-}
-
 // The address of a literal.
 pub(crate) fn at_literal(core: &Core, immediate: u8) -> u32
     ensures { result ≡ sum (aligned_pc core.now) (4 * immediate) }
 {
-    (core.read(15) / 4 * 4).wrapping_add(4 * u32::from(immediate))
+    (core.read(15) / 4 * 4).wrapping_add(words(immediate))
+}
+
+// LDR of a literal.
+#[tactic(auto, using(crate::proofs::RunLemmas::asks), unfolding(crate::specs::MemoryRows::load_word))]
+fn literal_into<B: Bus>(core: &mut Core, bus: &mut B, next: u32, t: u8, i: u8) -> Result<(), Stop>
+    ensures { Runs B.acts (memory core.old next (Memory.LdrLiteral t i)) core.old bus.old (end_of result) core.new bus.new }
+{
+    let value = load32(bus, at_literal(core, i))?;
+    core.write(t, value);
+    core.go_to(next);
+    Ok(())
+}
+
+// LDR: the word at R[n] + offset, into R[t].
+#[tactic(auto, using(crate::proofs::RunLemmas::asks), unfolding(crate::specs::MemoryRows::load_word))]
+fn word_into<B: Bus>(
+    core: &mut Core,
+    bus: &mut B,
+    next: u32,
+    t: u8,
+    n: u8,
+    offset: u32,
+) -> Result<(), Stop>
+    ensures { Runs B.acts (load_word core.old next t (sum (reg core.old n) offset)) core.old bus.old (end_of result) core.new bus.new }
+{
+    let value = load32(bus, at_offset(core, n, offset))?;
+    core.write(t, value);
+    core.go_to(next);
+    Ok(())
+}
+
+// LDRH: the halfword, with zeros above it.
+#[tactic(auto, using(crate::proofs::RunLemmas::asks), unfolding(crate::specs::MemoryRows::load_half))]
+fn half_into<B: Bus>(
+    core: &mut Core,
+    bus: &mut B,
+    next: u32,
+    t: u8,
+    n: u8,
+    offset: u32,
+) -> Result<(), Stop>
+    ensures { Runs B.acts (load_half core.old next t (sum (reg core.old n) offset)) core.old bus.old (end_of result) core.new bus.new }
+{
+    let value = load16(bus, at_offset(core, n, offset))?;
+    core.write(t, value);
+    core.go_to(next);
+    Ok(())
+}
+
+// LDRB: the byte, with zeros above it.
+#[tactic(auto, using(crate::proofs::RunLemmas::asks), unfolding(crate::specs::MemoryRows::load_byte))]
+fn byte_into<B: Bus>(
+    core: &mut Core,
+    bus: &mut B,
+    next: u32,
+    t: u8,
+    n: u8,
+    offset: u32,
+) -> Result<(), Stop>
+    ensures { Runs B.acts (load_byte core.old next t (sum (reg core.old n) offset)) core.old bus.old (end_of result) core.new bus.new }
+{
+    let value = load8(bus, at_offset(core, n, offset))?;
+    core.write(t, value);
+    core.go_to(next);
+    Ok(())
+}
+
+// LDRSH: the halfword, with its sign above it.
+#[tactic(auto, using(crate::proofs::RunLemmas::asks), unfolding(crate::specs::MemoryRows::load_signed_half))]
+fn signed_half_into<B: Bus>(
+    core: &mut Core,
+    bus: &mut B,
+    next: u32,
+    t: u8,
+    n: u8,
+    offset: u32,
+) -> Result<(), Stop>
+    ensures { Runs B.acts (load_signed_half core.old next t (sum (reg core.old n) offset)) core.old bus.old (end_of result) core.new bus.new }
+{
+    let value = load16(bus, at_offset(core, n, offset))?;
+    core.write(t, extend16(value));
+    core.go_to(next);
+    Ok(())
+}
+
+// LDRSB: the byte, with its sign above it.
+#[tactic(auto, using(crate::proofs::RunLemmas::asks), unfolding(crate::specs::MemoryRows::load_signed_byte))]
+fn signed_byte_into<B: Bus>(
+    core: &mut Core,
+    bus: &mut B,
+    next: u32,
+    t: u8,
+    n: u8,
+    offset: u32,
+) -> Result<(), Stop>
+    ensures { Runs B.acts (load_signed_byte core.old next t (sum (reg core.old n) offset)) core.old bus.old (end_of result) core.new bus.new }
+{
+    let value = load8(bus, at_offset(core, n, offset))?;
+    core.write(t, extend8(value));
+    core.go_to(next);
+    Ok(())
+}
+
+// STR: R[t], to the word at R[n] + offset.
+#[tactic(auto, using(crate::proofs::RunLemmas::asks), unfolding(crate::specs::MemoryRows::store_word))]
+fn word_from<B: Bus>(
+    core: &mut Core,
+    bus: &mut B,
+    next: u32,
+    t: u8,
+    n: u8,
+    offset: u32,
+) -> Result<(), Stop>
+    ensures { Runs B.acts (store_word core.old next t (sum (reg core.old n) offset)) core.old bus.old (end_of result) core.new bus.new }
+{
+    store32(bus, at_offset(core, n, offset), core.read(t))?;
+    core.go_to(next);
+    Ok(())
+}
+
+// STRH: the low halfword of R[t].
+#[tactic(auto, using(crate::proofs::RunLemmas::asks), unfolding(crate::specs::MemoryRows::store_half))]
+fn half_from<B: Bus>(
+    core: &mut Core,
+    bus: &mut B,
+    next: u32,
+    t: u8,
+    n: u8,
+    offset: u32,
+) -> Result<(), Stop>
+    ensures { Runs B.acts (store_half core.old next t (sum (reg core.old n) offset)) core.old bus.old (end_of result) core.new bus.new }
+{
+    store16(bus, at_offset(core, n, offset), core.low_half(t))?;
+    core.go_to(next);
+    Ok(())
+}
+
+// STRB: the low byte of R[t].
+#[tactic(auto, using(crate::proofs::RunLemmas::asks), unfolding(crate::specs::MemoryRows::store_byte))]
+fn byte_from<B: Bus>(
+    core: &mut Core,
+    bus: &mut B,
+    next: u32,
+    t: u8,
+    n: u8,
+    offset: u32,
+) -> Result<(), Stop>
+    ensures { Runs B.acts (store_byte core.old next t (sum (reg core.old n) offset)) core.old bus.old (end_of result) core.new bus.new }
+{
+    store8(bus, at_offset(core, n, offset), core.low_byte(t))?;
+    core.go_to(next);
+    Ok(())
 }
 
 /// Does the instruction, where the next one is at `next`.
@@ -149,88 +224,22 @@ pub(crate) fn run<B: Bus>(core: &mut Core, bus: &mut B, next: u32, op: Memory) -
     ensures { Runs B.acts (memory core.old next op) core.old bus.old (end_of result) core.new bus.new }
 {
     match op {
-        Memory::LdrLiteral { t, immediate: i } => word_into(
-            core,
-            bus,
-            next,
-            t,
-            at_literal(core, i),
-        ),
-        Memory::StrRegister { t, n, m } => word_from(core, bus, next, t, at_sum(core, n, m)),
-        Memory::StrhRegister { t, n, m } => half_from(core, bus, next, t, at_sum(core, n, m)),
-        Memory::StrbRegister { t, n, m } => byte_from(core, bus, next, t, at_sum(core, n, m)),
-        Memory::LdrsbRegister { t, n, m } => signed_byte_into(
-            core,
-            bus,
-            next,
-            t,
-            at_sum(core, n, m),
-        ),
-        Memory::LdrRegister { t, n, m } => word_into(core, bus, next, t, at_sum(core, n, m)),
-        Memory::LdrhRegister { t, n, m } => half_into(core, bus, next, t, at_sum(core, n, m)),
-        Memory::LdrbRegister { t, n, m } => byte_into(core, bus, next, t, at_sum(core, n, m)),
-        Memory::LdrshRegister { t, n, m } => signed_half_into(
-            core,
-            bus,
-            next,
-            t,
-            at_sum(core, n, m),
-        ),
-        Memory::StrImmediate { t, n, immediate: i } => word_from(
-            core,
-            bus,
-            next,
-            t,
-            at_offset(core, n, 4 * u32::from(i)),
-        ),
-        Memory::LdrImmediate { t, n, immediate: i } => word_into(
-            core,
-            bus,
-            next,
-            t,
-            at_offset(core, n, 4 * u32::from(i)),
-        ),
-        Memory::StrbImmediate { t, n, immediate: i } => byte_from(
-            core,
-            bus,
-            next,
-            t,
-            at_offset(core, n, u32::from(i)),
-        ),
-        Memory::LdrbImmediate { t, n, immediate: i } => byte_into(
-            core,
-            bus,
-            next,
-            t,
-            at_offset(core, n, u32::from(i)),
-        ),
-        Memory::StrhImmediate { t, n, immediate: i } => half_from(
-            core,
-            bus,
-            next,
-            t,
-            at_offset(core, n, 2 * u32::from(i)),
-        ),
-        Memory::LdrhImmediate { t, n, immediate: i } => half_into(
-            core,
-            bus,
-            next,
-            t,
-            at_offset(core, n, 2 * u32::from(i)),
-        ),
-        Memory::StrSp { t, immediate: i } => word_from(
-            core,
-            bus,
-            next,
-            t,
-            at_offset(core, 13, 4 * u32::from(i)),
-        ),
-        Memory::LdrSp { t, immediate: i } => word_into(
-            core,
-            bus,
-            next,
-            t,
-            at_offset(core, 13, 4 * u32::from(i)),
-        ),
+        Memory::LdrLiteral { t, immediate: i } => literal_into(core, bus, next, t, i),
+        Memory::StrRegister { t, n, m } => word_from(core, bus, next, t, n, core.read(m)),
+        Memory::StrhRegister { t, n, m } => half_from(core, bus, next, t, n, core.read(m)),
+        Memory::StrbRegister { t, n, m } => byte_from(core, bus, next, t, n, core.read(m)),
+        Memory::LdrsbRegister { t, n, m } => signed_byte_into(core, bus, next, t, n, core.read(m)),
+        Memory::LdrRegister { t, n, m } => word_into(core, bus, next, t, n, core.read(m)),
+        Memory::LdrhRegister { t, n, m } => half_into(core, bus, next, t, n, core.read(m)),
+        Memory::LdrbRegister { t, n, m } => byte_into(core, bus, next, t, n, core.read(m)),
+        Memory::LdrshRegister { t, n, m } => signed_half_into(core, bus, next, t, n, core.read(m)),
+        Memory::StrImmediate { t, n, immediate: i } => word_from(core, bus, next, t, n, words(i)),
+        Memory::LdrImmediate { t, n, immediate: i } => word_into(core, bus, next, t, n, words(i)),
+        Memory::StrbImmediate { t, n, immediate: i } => byte_from(core, bus, next, t, n, bytes(i)),
+        Memory::LdrbImmediate { t, n, immediate: i } => byte_into(core, bus, next, t, n, bytes(i)),
+        Memory::StrhImmediate { t, n, immediate: i } => half_from(core, bus, next, t, n, halves(i)),
+        Memory::LdrhImmediate { t, n, immediate: i } => half_into(core, bus, next, t, n, halves(i)),
+        Memory::StrSp { t, immediate: i } => word_from(core, bus, next, t, 13, words(i)),
+        Memory::LdrSp { t, immediate: i } => word_into(core, bus, next, t, 13, words(i)),
     }
 }

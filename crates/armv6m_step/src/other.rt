@@ -1,15 +1,16 @@
 // Addresses, extensions, byte orders, hints, barriers and the special registers.
 #![tactic(auto, using(std::proofs::lemmas::Bool::Decides::nat_tests))]
 
-ghost use Rattle.std.specs.Prelude.{◌≡◌, ◌<◌, ◌^◌, Result, Ok};
+ghost use Rattle.std.specs.Prelude.{◌≡◌, ◌<◌, ◌*◌, ◌^◌, Result, Ok};
 ghost use Rattle.armv6m_alu.specs.Sums.{number_of};
+ghost use Rattle.armv6m_step.specs.Numbers.{sum, difference};
 ghost use Rattle.armv6m_step.specs.Ends.{end_of};
 ghost use Rattle.armv6m_step.specs.Meaning.{Leaves};
-ghost use Rattle.armv6m_step.specs.Registers.{moved};
+ghost use Rattle.armv6m_step.specs.Registers.{reg, moved};
 ghost use Rattle.armv6m_step.specs.OtherRows.{other, put, swapped_half, swapped_halves, flags_number, with_flags_of, with_primask, read_special, write_special};
 
 use crate::data::undefined;
-use crate::memory::{at_literal, extend8, extend16};
+use crate::memory::{at_literal, extend8, extend16, words};
 use crate::{Core, Stop};
 use armv6m_decode::Other;
 
@@ -18,6 +19,19 @@ fn put_into(core: &mut Core, next: u32, d: u8, value: u32)
 {
     core.write(d, value);
     core.go_to(next);
+}
+
+// SP plus and minus so many words.
+fn above_sp(core: &Core, count: u8) -> u32
+    ensures { result ≡ sum (reg core.now 13) (4 * count) }
+{
+    core.read(13).wrapping_add(words(count))
+}
+
+fn below_sp(core: &Core, count: u8) -> u32
+    ensures { result ≡ difference (reg core.now 13) (4 * count) }
+{
+    core.read(13).wrapping_sub(words(count))
 }
 
 fn swap_half(half: u32) -> u32
@@ -105,38 +119,18 @@ pub(crate) fn run(core: &mut Core, next: u32, op: Other) -> Result<(), Stop>
 {
     match op {
         Other::Adr { d, immediate: i } => put_into(core, next, d, at_literal(core, i)),
-        Other::AddFromSp { d, immediate: i } => put_into(
-            core,
-            next,
-            d,
-            core.read(13).wrapping_add(4 * u32::from(i)),
-        ),
-        Other::AddToSp { immediate: i } => put_into(
-            core,
-            next,
-            13,
-            core.read(13).wrapping_add(4 * u32::from(i)),
-        ),
-        Other::SubFromSp { immediate: i } => put_into(
-            core,
-            next,
-            13,
-            core.read(13).wrapping_sub(4 * u32::from(i)),
-        ),
-        Other::Sxth { d, m } => put_into(core, next, d, extend16(core.read(m) % 0x1_0000)),
-        Other::Sxtb { d, m } => put_into(core, next, d, extend8(core.read(m) % 0x100)),
-        Other::Uxth { d, m } => put_into(core, next, d, core.read(m) % 0x1_0000),
-        Other::Uxtb { d, m } => put_into(core, next, d, core.read(m) % 0x100),
+        Other::AddFromSp { d, immediate: i } => put_into(core, next, d, above_sp(core, i)),
+        Other::AddToSp { immediate: i } => put_into(core, next, 13, above_sp(core, i)),
+        Other::SubFromSp { immediate: i } => put_into(core, next, 13, below_sp(core, i)),
+        Other::Sxth { d, m } => put_into(core, next, d, extend16(core.low_half(m))),
+        Other::Sxtb { d, m } => put_into(core, next, d, extend8(core.low_byte(m))),
+        Other::Uxth { d, m } => put_into(core, next, d, core.low_half(m)),
+        Other::Uxtb { d, m } => put_into(core, next, d, core.low_byte(m)),
         Other::Cpsie => mask(core, next, false),
         Other::Cpsid => mask(core, next, true),
         Other::Rev { d, m } => put_into(core, next, d, core.read(m).swap_bytes()),
         Other::Rev16 { d, m } => put_into(core, next, d, swap_halves(core.read(m))),
-        Other::Revsh { d, m } => put_into(
-            core,
-            next,
-            d,
-            extend16(swap_half(core.read(m) % 0x1_0000)),
-        ),
+        Other::Revsh { d, m } => put_into(core, next, d, extend16(swap_half(core.low_half(m)))),
         Other::Nop | Other::Yield | Other::Wfe | Other::Wfi | Other::Sev => core.go_to(next),
         Other::Dsb | Other::Dmb | Other::Isb => core.go_to(next),
         Other::Bkpt { immediate: _ } => return Err(Stop::Break { pc: core.pc() }),
