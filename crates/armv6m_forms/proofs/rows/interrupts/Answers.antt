@@ -1,0 +1,10 @@
+use Rattle.std.proofs.Common.{arith, refl, None}
+use Rattle.std.proofs.lemmas.Bool.Decides.{nat_tests}
+use Rattle.armv6m_forms.proofs.ReadLemmas.{read_interrupts, unread_interrupts}
+use Rattle.armv6m_forms.proofs.rows.interrupts.Goals as goal
+
+pub returns-in_default : goal.returns-in_default
+returns-in_default c = unread_interrupts c.args.mnemonic None (grind (arith, nat_tests)) refl
+
+pub returns : goal.returns
+returns c = read_interrupts c.args.mnemonic c.match-mnemonic.instr _ (grind (arith, nat_tests)) c.fitting.ensures

@@ -1,0 +1,4 @@
+pub mod Form
+pub mod Room
+pub mod Row
+pub mod Text
