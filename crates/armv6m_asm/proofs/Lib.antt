@@ -1,0 +1,15 @@
+mod Even
+mod LawLemmas
+mod ListLemmas
+mod Names
+mod NumberLemmas
+mod OperandLemmas
+mod Places
+mod SpelledLemmas
+mod StatementLemmas
+mod Steps
+mod SymbolLemmas
+mod TokenLemmas
+mod UsableLemmas
+mod Widths
+mod WordLemmas

@@ -1,0 +1,38 @@
+-- Names as labels and targets.
+use Rattle.std.proofs.Common.{◌≡◌, ◌≢◌, ◌<◌, ◌+◌, inl, inr, ℕ, List, [], ◌∷◌, ◌++◌, length, get_or, take, subst, ◌∙◌, arith, drop, refl, sym, ap}
+use Rattle.std.specs.Prelude.{Contains}
+use Rattle.std.proofs.lemmas.List.{get_or_default, map_more}
+use Rattle.std.proofs.lemmas.List.Quantifiers.{all_pairs_push}
+use Rattle.std.proofs.lemmas.List.Elements.{Contains-push_cases}
+use Rattle.armv6m_asm.specs.declared.labels.Label.{Label}
+use Rattle.armv6m_asm.specs.Label.{names_of, IsFirstNamed}
+use Rattle.armv6m_asm.specs.Assembly.{AreOnce}
+use Rattle.armv6m_asm.proofs.Places.{split_at}
+
+pub no_name_twice : AreOnce []
+no_name_twice i j d lt inside = absurd (omega arith)
+
+pub name_missing : (name : List ℕ) → Contains [] name → ⊥
+name_missing name here = omega (arith, here.1)
+
+-- one name more, which stands nowhere before
+pub once_more : (names : List (List ℕ)) (name : List ℕ) → AreOnce names → (Contains names name → ⊥) → AreOnce (names ++ name ∷ [])
+once_more names name once new =
+    all_pairs_push (λ (first second : List ℕ). first ≢ second) names name once
+    (λ k d lt same. new (k, lt, (let at : get_or names k name ≡ get_or names k d = get_or_default names k name d lt in at) ∙ same))
+
+-- one label more that has another name
+pub not_yet : (labels : List Label) (k : ℕ) (d : Label) (name : List ℕ) → k < length labels → (Contains (names_of (take k labels)) name → ⊥) → (get_or labels k d).name ≢ name → Contains (names_of (take (k + 1) labels)) name → ⊥
+not_yet labels k d name lt before other here =
+    let more : names_of (take (k + 1) labels) ≡ names_of (take k labels) ++ (get_or labels k d).name ∷ [] = map_more (λ (l : Label). l.name) labels k d lt in
+    elim (Contains-push_cases (names_of (take k labels)) (get_or labels k d).name name (subst (λ (ns : List (List ℕ)). Contains ns name) more here)) [ inl b ↦ before b | inr e ↦ other e ]
+
+-- a label with the name, and none before it
+pub first_named : (labels : List Label) (k : ℕ) (d : Label) (name : List ℕ) → k < length labels → (Contains (names_of (take k labels)) name → ⊥) → d ≡ get_or labels k d → d.name ≡ name → IsFirstNamed labels name d.place
+first_named labels k d name lt none here same =
+    record {
+      before = take k labels;
+      after = drop (k + 1) labels;
+      labels_are = split_at labels k d lt ∙ ap (λ (l : Label). take k labels ++ l ∷ drop (k + 1) labels) (sym here ∙ ap (λ (n : List ℕ). record { name = n; place = d.place }) same);
+      first = none;
+    }

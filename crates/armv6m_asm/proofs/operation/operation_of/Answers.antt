@@ -1,0 +1,7 @@
+use Rattle.armv6m_asm.proofs.StatementLemmas.{no_operation}
+use Rattle.armv6m_asm.proofs.operation.operation_of.Goals as goal
+
+pub returns-in_default-read_aimed : goal.returns-in_default-read_aimed
+returns-in_default-read_aimed c =
+    no_operation _ _ (λ are. let passes = c.is_align.ensures.1 are in let fails = c.if-is_align.false in cc)
+    c.in_default.ensures c.in_default-read_plain.ensures c.in_default-read_aimed.ensures

@@ -1,0 +1,13 @@
+pub mod Alike
+pub mod Assembly
+pub mod Label
+pub mod Passes
+pub mod Reading
+pub mod Scanned
+pub mod Statement
+pub mod Token
+pub mod Usable
+pub use Rattle.octets.specs.Lines
+pub use Rattle.armv6m_encode.specs.Encoding
+pub use Rattle.armv6m_forms.specs.Form
+pub use Rattle.armv6m_forms.specs.Text

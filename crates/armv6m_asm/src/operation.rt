@@ -1,0 +1,97 @@
+//! What a statement does.
+ghost use Rattle.std.specs.Prelude.{◌≡◌, ◌↔◌, ℕ, List, [], ◌∷◌, codes, IsTrue, MatchOption};
+ghost use Rattle.armv6m_decode.specs.declared.instr.Instr.{Instr};
+ghost use Rattle.armv6m_forms.specs.Text.{IsBranch};
+ghost use Rattle.armv6m_forms.specs.declared.form.Aim.{Aim};
+ghost use Rattle.armv6m_asm.specs.Statement.{Are, exactly, number, ArePlain, AreAimed, AreOperation};
+ghost use Rattle.armv6m_asm.specs.Token.{word, tokens_of};
+ghost use Rattle.armv6m_asm.specs.declared.statement.Operation.{Operation};
+ghost use Rattle.armv6m_asm.specs.declared.statement.Target.{Target};
+
+use crate::number::read_number;
+use crate::operands::read_operands;
+use crate::statement::{Operation, Target};
+use crate::target::{last_pair, last_target};
+use crate::token::{is_end, split_word};
+use armv6m_decode::Instr;
+use armv6m_forms::{Aim, instruction, read_branch, read_mnemonic};
+
+/// The operation that a text is, and none where it is none.
+pub(crate) fn read_operation(line: &[u8]) -> Option<Operation<'_>>
+    ensures { MatchOption result ((operation : Operation) → AreOperation operation (tokens_of line.now) → ⊥) (λ operation. AreOperation operation (tokens_of line.now)) }
+{
+    if is_end(line) {
+        return Some(Operation::Nothing);
+    }
+    let (first, rest) = split_word(line)?;
+    operation_of(first, rest)
+}
+
+/// The operation that begins with this word.
+fn operation_of<'a>(first: &[u8], rest: &'a [u8]) -> Option<Operation<'a>>
+    ensures { MatchOption result ((operation : Operation) → AreOperation operation (word first.now ∷ tokens_of rest.now) → ⊥)
+        (λ operation. AreOperation operation (word first.now ∷ tokens_of rest.now)) }
+{
+    if is_align(first, rest) {
+        Some(Operation::Align)
+    } else if let Some(value) = read_word(first, rest) {
+        Some(Operation::Word { value })
+    } else if let Some(instr) = read_plain(first, rest) {
+        Some(Operation::Plain { instr })
+    } else if let Some((aim, target)) = read_aimed(first, rest) {
+        Some(Operation::Aimed { aim, target })
+    } else {
+        None
+    }
+}
+
+/// Whether this is `.align`.
+fn is_align(first: &[u8], rest: &[u8]) -> bool
+    ensures { IsTrue result ↔ Are (exactly (codes ".align") ∷ []) (word first.now ∷ tokens_of rest.now) }
+{
+    first == b".align".as_slice() && is_end(rest)
+}
+
+/// The value behind `.word`.
+fn read_word(first: &[u8], rest: &[u8]) -> Option<u32>
+    ensures { MatchOption result ((value : ℕ) → Are (exactly (codes ".word") ∷ number value ∷ []) (word first.now ∷ tokens_of rest.now) → ⊥)
+        (λ value. Are (exactly (codes ".word") ∷ number value ∷ []) (word first.now ∷ tokens_of rest.now)) }
+{
+    if first != b".word".as_slice() {
+        return None;
+    }
+    let (bytes, behind) = split_word(rest)?;
+    if is_end(behind) {
+        read_number(bytes)
+    } else {
+        None
+    }
+}
+
+/// The instruction without a target.
+fn read_plain(first: &[u8], rest: &[u8]) -> Option<Instr>
+    ensures { MatchOption result ((instr : Instr) → ArePlain instr (word first.now ∷ tokens_of rest.now) → ⊥)
+        (λ instr. ArePlain instr (word first.now ∷ tokens_of rest.now)) }
+{
+    let mnemonic = read_mnemonic(first)?;
+    let operands = read_operands(rest)?;
+    instruction(mnemonic, operands)
+}
+
+/// The instruction with a target.
+fn read_aimed<'a>(first: &[u8], rest: &'a [u8]) -> Option<(Aim, Target<'a>)>
+    ensures { MatchOption result ((aim : Aim) (to : Target) → AreAimed aim to (word first.now ∷ tokens_of rest.now) → ⊥)
+        (λ aimed. AreAimed aimed.0 aimed.1 (word first.now ∷ tokens_of rest.now)) }
+{
+    if first == b"LDR".as_slice() {
+        let (t, target) = last_pair(rest)?;
+        Some((Aim::Load { t }, target))
+    } else if first == b"ADR".as_slice() {
+        let (d, target) = last_pair(rest)?;
+        Some((Aim::Address { d }, target))
+    } else {
+        let aim = read_branch(first)?;
+        let target = last_target(rest)?;
+        Some((aim, target))
+    }
+}
