@@ -3,10 +3,11 @@ use Rattle.std.proofs.Common.{◌≡◌, ◌<◌, ◌≤◌, ◌+◌, ◌∙◌,
 use Rattle.std.proofs.Math.Seq.{take-length}
 use Rattle.std.proofs.lemmas.List.{get_or-take}
 use Rattle.std.proofs.lemmas.Bool.{cases_lt}
-use Rattle.report_text.specs.Refusal.{out_of_memory, usage, input_fault, image_too_long, flm_refused, device_fault, output_fault, differs, not_built}
+use Rattle.report_text.specs.Refusal.{out_of_memory, usage, input_fault, image_too_long, flm_refused, board_refused, image_refused, image_misplaced, cells_differ, device_fault, output_fault, differs, not_built}
 use Rattle.flm_cli.specs.Call.{BenchCall, InputsCall, SinkCall, Answer, done, refused, IsFile}
 use Rattle.flm_cli.specs.Difference.{IsFirstDifference}
-use Rattle.flm_cli.specs.Compare.{Comes, IsTooLong, IsUnless, IsFaultless, IsDue, SomeFault}
+use Rattle.flm_cli.specs.Comparison.{IsUnless, SomeFault}
+use Rattle.flm_cli.specs.Compare.{Comes, IsTooLong, IsFaultless, IsDue}
 
 -- where a difference is, the cells aren't the bytes
 never_both : (cells bytes : List ℕ) (place wanted found : ℕ) → IsFirstDifference true cells 0 bytes place wanted found
@@ -54,6 +55,10 @@ module _ (bench : BenchCall) (inputs : InputsCall) (out : SinkCall) (image bytes
       let cells_are = comes.cells_are in
       inl (cc)
   is_too_long (refused (flm_refused fault)) comes more = absurd comes
+  is_too_long (refused (board_refused fault')) comes more = absurd comes
+  is_too_long (refused (image_refused name fault')) comes more = absurd comes
+  is_too_long (refused (image_misplaced fault')) comes more = absurd comes
+  is_too_long (refused (cells_differ w f)) comes more = absurd comes
   is_too_long (refused device_fault) comes more = inr (inr (inl (inr comes)))
   is_too_long (refused output_fault) comes more = inr (inr (inr comes))
   is_too_long (refused (differs place wanted found)) comes more = absurd (omega (arith, comes.fits, more, ap length (same_file comes.bytes comes.file)))
@@ -76,6 +81,10 @@ module _ (bench : BenchCall) (inputs : InputsCall) (out : SinkCall) (image bytes
   is_different (refused (input_fault name)) comes place wanted found tells fits first = inr (inr (inl (inl comes.1)))
   is_different (refused (image_too_long count cells)) comes place wanted found tells fits first = absurd (too_long_isn't count cells comes fits)
   is_different (refused (flm_refused fault)) comes place wanted found tells fits first = absurd comes
+  is_different (refused (board_refused fault')) comes place wanted found tells fits first = absurd comes
+  is_different (refused (image_refused name fault')) comes place wanted found tells fits first = absurd comes
+  is_different (refused (image_misplaced fault')) comes place wanted found tells fits first = absurd comes
+  is_different (refused (cells_differ w f)) comes place wanted found tells fits first = absurd comes
   is_different (refused device_fault) comes place wanted found tells fits first = inr (inr (inl (inr comes)))
   is_different (refused output_fault) comes place wanted found tells fits first = inr (inr (inr comes))
   is_different (refused (differs p w f)) comes place wanted found tells fits first =
@@ -92,6 +101,10 @@ module _ (bench : BenchCall) (inputs : InputsCall) (out : SinkCall) (image bytes
   is_same (refused (input_fault name)) comes tells fits agrees = inr (inr (inl (inl comes.1)))
   is_same (refused (image_too_long count cells)) comes tells fits agrees = absurd (too_long_isn't count cells comes fits)
   is_same (refused (flm_refused fault)) comes tells fits agrees = absurd comes
+  is_same (refused (board_refused fault')) comes tells fits agrees = absurd comes
+  is_same (refused (image_refused name fault')) comes tells fits agrees = absurd comes
+  is_same (refused (image_misplaced fault')) comes tells fits agrees = absurd comes
+  is_same (refused (cells_differ w f)) comes tells fits agrees = absurd comes
   is_same (refused device_fault) comes tells fits agrees = inr (inr (inl (inr comes)))
   is_same (refused output_fault) comes tells fits agrees = inr (inr (inr comes))
   is_same (refused (differs p w f)) comes tells fits agrees =
@@ -108,6 +121,10 @@ module _ (bench : BenchCall) (inputs : InputsCall) (out : SinkCall) (image bytes
   is_complete (refused (input_fault name)) comes fits none = none (inl (inl comes.1))
   is_complete (refused (image_too_long count cells)) comes fits none = too_long_isn't count cells comes fits
   is_complete (refused (flm_refused fault)) comes fits none = comes
+  is_complete (refused (board_refused fault')) comes fits none = comes
+  is_complete (refused (image_refused name fault')) comes fits none = comes
+  is_complete (refused (image_misplaced fault')) comes fits none = comes
+  is_complete (refused (cells_differ w f)) comes fits none = comes
   is_complete (refused device_fault) comes fits none = none (inl (inr comes))
   is_complete (refused output_fault) comes fits none = none (inr comes)
   is_complete (refused (differs place wanted found)) comes fits none = tt

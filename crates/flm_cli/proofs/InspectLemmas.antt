@@ -4,7 +4,7 @@ use Rattle.faults.specs.Counts.{Rose}
 use Rattle.flm_descriptor.specs.Flm.{flm_of}
 use Rattle.flm_descriptor.specs.Shown.{Shown}
 use Rattle.flm_descriptor.specs.declared.fault.FlmFault.{FlmFault}
-use Rattle.report_text.specs.Refusal.{out_of_memory, usage, input_fault, image_too_long, flm_refused, device_fault, output_fault, differs, not_built}
+use Rattle.report_text.specs.Refusal.{out_of_memory, usage, input_fault, image_too_long, flm_refused, board_refused, image_refused, image_misplaced, cells_differ, device_fault, output_fault, differs, not_built}
 use Rattle.flm_cli.specs.Call.{InputsCall, SinkCall, Answer, done, refused}
 use Rattle.flm_cli.specs.Inspect.{Comes, IsDue, IsAlgorithm, IsNoAlgorithm}
 use Rattle.flm_cli.proofs.DueLemmas.{one_file}
@@ -31,6 +31,10 @@ module _ (inputs : InputsCall) (out : SinkCall) (flm bytes : List ℕ)
   is_inspected (refused (image_too_long count cells)) comes algorithm is = absurd comes.0
   is_inspected (refused (flm_refused fault)) comes algorithm is = absurd (never_both algorithm fault is (refuses fault comes.0))
   is_inspected (refused device_fault) comes algorithm is = absurd comes.0
+  is_inspected (refused (board_refused fault')) comes algorithm is = absurd comes.0
+  is_inspected (refused (image_refused name fault')) comes algorithm is = absurd comes.0
+  is_inspected (refused (image_misplaced fault')) comes algorithm is = absurd comes.0
+  is_inspected (refused (cells_differ w f)) comes algorithm is = absurd comes.0
   is_inspected (refused output_fault) comes algorithm is = inr (inr (inr comes.prints.rose))
   is_inspected (refused (differs place wanted found)) comes algorithm is = absurd comes.0
   is_inspected (refused not_built) comes algorithm is = absurd comes.0
@@ -44,6 +48,10 @@ module _ (inputs : InputsCall) (out : SinkCall) (flm bytes : List ℕ)
   is_refused (refused (image_too_long count cells)) comes fault is = absurd comes.0
   is_refused (refused (flm_refused other)) comes fault is = let its = refuses other comes.0 in let same : other ≡ fault = cc in inl (cc)
   is_refused (refused device_fault) comes fault is = absurd comes.0
+  is_refused (refused (board_refused fault')) comes fault is = absurd comes.0
+  is_refused (refused (image_refused name fault')) comes fault is = absurd comes.0
+  is_refused (refused (image_misplaced fault')) comes fault is = absurd comes.0
+  is_refused (refused (cells_differ w f)) comes fault is = absurd comes.0
   is_refused (refused output_fault) comes fault is = absurd (never_both comes.algorithm fault (says comes.algorithm comes.is_algorithm) is)
   is_refused (refused (differs place wanted found)) comes fault is = absurd comes.0
   is_refused (refused not_built) comes fault is = absurd comes.0

@@ -1,9 +1,11 @@
 -- Words and what they ask for.
-use Rattle.std.proofs.Common.{◌≡◌, ◌≢◌, ◌<◌, ◌≤◌, ◌∙◌, sym, ap, subst, refl, arith, inl, inr, ◌==◌, if◌then◌else◌, Bool, true, ◌⊎◌, ⊎_elim, ℕ, List, [], ◌∷◌, ◌++◌, length, get_or, take, drop, ◌-◌, length-drop}
+use Rattle.std.proofs.Common.{◌≡◌, ◌≢◌, ◌<◌, ◌≤◌, ◌∙◌, sym, ap, subst, refl, arith, inr, ◌==◌, if◌then◌else◌, Bool, true, ℕ, List, [], ◌∷◌, length, get_or, take, drop, ◌-◌, length-drop, Option}
 use Rattle.std.proofs.lemmas.List.{take_all}
-use Rattle.flm_cli.specs.Words.{text_of, is_built, dashes, AllPositional, EndedByDashes, Positional, HasOneName, IsCompare, IsInspect, IsNotBuilt, Command, compare, inspect, not_built, Asks, AsksNothing}
+use Rattle.flm_cli.specs.Words.{text_of, is_built, dashes, Positional, AreArguments, AreFew, HasOneName, IsVerify, IsCompare, IsInspect, IsNotBuilt, Command, verify, compare, inspect, not_built, Asks, AsksNothing}
+use Rattle.flm_cli.specs.Requested.{AreVerifyNames}
 use Rattle.flm_cli.specs.declared.command.CommandName.{CommandName}
 use Rattle.flm_cli.specs.declared.command.CommandName.TheVariants.{Program, Resume, Revert, Plan, Verify, Compare, Status, Inspect, Demo}
+use Rattle.flm_cli.proofs.ArgumentLemmas.{one_positional, one_arguments}
 
 -- `--` and one word
 pub after_dashes : (words : List (List ℕ)) (end name : List ℕ) → 2 ≤ length words → length words < 3
@@ -22,6 +24,8 @@ after_dashes (x ∷ y ∷ z ∷ zs) end name least most end_is name_is is_dashes
 -- a first word that names no command
 pub AsksNothing-unknown : (words : List (List ℕ)) (first : List ℕ) → first ≡ get_or words 0 first
     → ((name : CommandName) → first ≢ text_of name) → AsksNothing words
+AsksNothing-unknown words first is none (verify raw_at board images) asked =
+    none Verify (is ∙ ap (λ (w : List (List ℕ)). get_or w 0 first) asked.words_are)
 AsksNothing-unknown words first is none (compare image) asked =
     none Compare (is ∙ ap (λ (w : List (List ℕ)). get_or w 0 first) asked.words_are)
 AsksNothing-unknown words first is none (inspect flm) asked =
@@ -58,67 +62,76 @@ named-text_of Demo = refl
 pub one_name : (a b : CommandName) → text_of a ≡ text_of b → a ≡ b
 one_name a b same = sym (named-text_of a) ∙ ap named same ∙ named-text_of b
 
--- a command that is built, with other words than one name
-pub AsksNothing-other_names : (command : CommandName) (words : List (List ℕ)) (first : List ℕ) → is_built command ≡ true
+-- words that begin with the name of a command
+module _ (command : CommandName) (words : List (List ℕ)) (first : List ℕ) (is : first ≡ get_or words 0 first) (is_text : first ≡ text_of command) where
+  -- begin with that of no other one
+  same_as : (other : CommandName) (others : List (List ℕ)) → words ≡ text_of other ∷ others → other ≡ command
+  same_as other others words_are = one_name other command (ap (λ (w : List (List ℕ)). get_or w 0 first) (sym words_are) ∙ sym is ∙ is_text)
+
+  isn't_built : is_built command ≡ true → IsNotBuilt words → ⊥
+  isn't_built built asked =
+      let same : asked.name ≡ command = same_as asked.name asked.others asked.words_are in
+      let isn't = asked.not_built in
+      cc
+
+-- the words behind the first
+others_are : (words others : List (List ℕ)) (first : List ℕ) → words ≡ first ∷ others → others ≡ take (length words - 1) (drop 1 words)
+others_are words others first words_are =
+    ap (λ (w : List (List ℕ)). drop 1 w) (sym words_are) ∙ sym (take_all _ (drop 1 words) (omega (arith, length-drop 1 words)))
+
+-- `compare` or `inspect`, with other words than one name
+pub AsksNothing-other_names : (command : CommandName) (words : List (List ℕ)) (first : List ℕ) → is_built command ≡ true → Verify ≢ command
     → first ≡ get_or words 0 first → first ≡ text_of command
     → ((name : List ℕ) → Positional (take (length words - 1) (drop 1 words)) (name ∷ []) → ⊥) → AsksNothing words
-AsksNothing-other_names command words first built is named none = nothing where
+AsksNothing-other_names command words first built other is named none = nothing where
   one : (other : CommandName) (name : List ℕ) → HasOneName other words name → ⊥
-  one other name asked =
-      let rest : take (length words - 1) (drop 1 words) ≡ drop 1 words = take_all _ _ (omega (arith, length-drop 1 words)) in
-      let others : asked.others ≡ drop 1 words = ap (λ (w : List (List ℕ)). drop 1 w) (sym asked.words_are) in
-      none name (subst (λ (w : List (List ℕ)). Positional w (name ∷ [])) (others ∙ sym rest) asked.one)
+  one other name asked = none name (subst (λ (w : List (List ℕ)). Positional w (name ∷ [])) (others_are words asked.others (text_of other) asked.words_are) asked.one)
 
   nothing : AsksNothing words
+  nothing (verify raw_at board images) asked = other (same_as command words first is named Verify asked.others asked.words_are)
   nothing (compare image) asked = one Compare image asked
   nothing (inspect flm) asked = one Inspect flm asked
-  nothing not_built asked =
-      let same : asked.name ≡ command =
-      one_name asked.name command (ap (λ (w : List (List ℕ)). get_or w 0 first) (sym asked.words_are) ∙ sym is ∙ named) in
-      let isn't = asked.not_built in
-      absurd (cc)
+  nothing not_built asked = isn't_built command words first is named built asked
+
+-- `verify` with words that don't fit
+pub AsksNothing-verify : (words : List (List ℕ)) (first : List ℕ) → first ≡ get_or words 0 first → first ≡ text_of Verify
+    → ((raw_at : Option ℕ) (names : List (List ℕ)) → AreVerifyNames (take (length words - 1) (drop 1 words)) raw_at names → ⊥) → AsksNothing words
+AsksNothing-verify words first is text none (verify raw_at board images) asked =
+    none raw_at (board ∷ images) (record {
+      arguments = subst (λ (w : List (List ℕ)). AreArguments w raw_at (board ∷ images)) (others_are words asked.others (text_of Verify) asked.words_are)
+          asked.arguments;
+      board = omega arith;
+      few = subst (λ (n : ℕ). AreFew raw_at n) (omega arith) asked.few;
+    })
+AsksNothing-verify words first is text none (compare image) asked =
+    let same : Compare ≡ Verify = same_as Verify words first is text Compare asked.others asked.words_are in cc
+AsksNothing-verify words first is text none (inspect flm) asked =
+    let same : Inspect ≡ Verify = same_as Verify words first is text Inspect asked.others asked.words_are in cc
+AsksNothing-verify words first is text none not_built asked = isn't_built Verify words first is text refl asked
+
+-- and with words that do
+pub is_verify : (words : List (List ℕ)) (first : List ℕ) (raw_at : Option ℕ) (names : List (List ℕ)) → 1 ≤ length words
+    → first ≡ get_or words 0 first → first ≡ text_of Verify
+    → AreVerifyNames (take (length words - 1) (drop 1 words)) raw_at names → IsVerify words raw_at (get_or names 0 []) (drop 1 names)
+is_verify [] first raw_at names some is text are = absurd (omega (arith, some))
+is_verify (x ∷ xs) first raw_at [] some is text are = absurd (omega (arith, are.board))
+is_verify (x ∷ xs) first raw_at (board ∷ images) some is text are = record {
+  others = xs;
+  words_are = ap (λ (w : List ℕ). w ∷ xs) (sym is ∙ text);
+  arguments = subst (λ (w : List (List ℕ)). AreArguments w raw_at (board ∷ images)) (take_all _ xs (omega arith)) are.arguments;
+  few = subst (λ (n : ℕ). AreFew raw_at n) (omega arith) are.few;
+}
+
+-- words with other names than `verify` has
+pub no_verify_names : (words : List (List ℕ)) (raw_at : Option ℕ) (names : List (List ℕ)) → AreArguments words raw_at names
+    → ((1 ≤ length names) × AreFew raw_at (length names - 1) → ⊥)
+    → (other : Option ℕ) (others : List (List ℕ)) → AreVerifyNames words other others → ⊥
+no_verify_names words raw_at names are many other others fit =
+    let same = one_arguments words raw_at other names others are fit.arguments in
+    many (subst (λ (n : List (List ℕ)). (1 ≤ length n) × AreFew raw_at (length n - 1)) (sym same.names)
+    (fit.board, subst (λ (r : Option ℕ). AreFew r (length others - 1)) (sym same.raw_at) fit.few))
 
 -- A list of words has at most one command.
-
--- one word in two parts
-in_two_parts : (before after : List (List ℕ)) (a : List ℕ) → before ++ after ≡ a ∷ []
-    → ((before ≡ []) × (after ≡ a ∷ [])) ⊎ ((before ≡ a ∷ []) × (after ≡ []))
-in_two_parts [] after a one = inl (refl, one)
-in_two_parts (x ∷ []) after a one = let same : x ≡ a = cc in let none : after ≡ [] = cc in inr (ap (λ (w : List ℕ). w ∷ []) same, none)
-in_two_parts (x ∷ y ∷ zs) after a one = absurd (cc)
-
--- the two ways to have `--` and one positional word
-ended_words : (words : List (List ℕ)) (a : List ℕ) → EndedByDashes words (a ∷ [])
-    → (words ≡ dashes ∷ a ∷ []) ⊎ (words ≡ a ∷ dashes ∷ [])
-ended_words words a ended = ⊎_elim
-    (λ (first : (ended.before ≡ []) × (ended.after ≡ a ∷ [])). let none = first.0 in let one = first.1 in
-    inl (ended.words_are ∙ ap (λ (w : List (List ℕ)). w ++ dashes ∷ ended.after) none ∙ ap (λ (w : List (List ℕ)). dashes ∷ w) one))
-    (λ (second : (ended.before ≡ a ∷ []) × (ended.after ≡ [])). let one = second.0 in let none = second.1 in
-    inr (ended.words_are ∙ ap (λ (w : List (List ℕ)). w ++ dashes ∷ ended.after) one ∙ ap (λ (w : List (List ℕ)). a ∷ dashes ∷ w) none))
-    (in_two_parts ended.before ended.after a (sym ended.others))
-
--- one word isn't two words
-one_or_two : (words : List (List ℕ)) (a b c : List ℕ) → words ≡ a ∷ [] → words ≡ b ∷ c ∷ [] → ⊥
-one_or_two words a b c one two = omega (arith, ap length one, ap length two)
-
-plain_or_ended : (words : List (List ℕ)) (a b : List ℕ) → a ∷ [] ≡ words → EndedByDashes words (b ∷ []) → ⊥
-plain_or_ended words a b plain ended = ⊎_elim
-    (λ two. one_or_two words a dashes b (sym plain) two) (λ two. one_or_two words a b dashes (sym plain) two) (ended_words words b ended)
-
-one_image : (words : List (List ℕ)) (a b : List ℕ) → Positional words (a ∷ []) → Positional words (b ∷ []) → a ≡ b
-one_image words a b one two = ⊎_elim
-    (λ (one : AllPositional words (a ∷ [])). ⊎_elim
-    (λ (two : AllPositional words (b ∷ [])). let x = one.all in let y = two.all in cc)
-    (λ two. absurd (plain_or_ended words a b one.all two)) two)
-    (λ (one : EndedByDashes words (a ∷ [])). ⊎_elim
-    (λ (two : AllPositional words (b ∷ [])). absurd (plain_or_ended words b a two.all one))
-    (λ two. both one two) two)
-    one where
-      both : EndedByDashes words (a ∷ []) → EndedByDashes words (b ∷ []) → a ≡ b
-      both one two = ⊎_elim
-          (λ x. ⊎_elim (λ y. cc) (λ y. cc) (ended_words words b two))
-          (λ x. ⊎_elim (λ y. cc) (λ y. cc) (ended_words words b two))
-          (ended_words words a one)
 
 same_command : (words : List (List ℕ)) (a b : CommandName) (xs ys : List (List ℕ)) → words ≡ text_of a ∷ xs → words ≡ text_of b ∷ ys → a ≡ b
 same_command words a b xs ys one two = one_name a b (ap (λ (w : List (List ℕ)). get_or w 0 []) (sym one ∙ two))
@@ -130,17 +143,59 @@ built_or_not command words name built one two =
     let isn't = two.not_built in
     cc
 
+one_name_alone : (words : List (List ℕ)) (a b : List ℕ) → Positional words (a ∷ []) → Positional words (b ∷ []) → a ≡ b
+one_name_alone words a b one two = let same = one_positional words (a ∷ []) (b ∷ []) one two in cc
+
 pub same_name : (command : CommandName) (words : List (List ℕ)) (a b : List ℕ) → HasOneName command words a → HasOneName command words b → a ≡ b
 same_name command words a b one two =
     let same : one.others ≡ two.others = ap (λ (w : List (List ℕ)). drop 1 w) (sym one.words_are ∙ two.words_are) in
-    one_image two.others a b (subst (λ (w : List (List ℕ)). Positional w (a ∷ [])) same one.one) two.one
+    one_name_alone two.others a b (subst (λ (w : List (List ℕ)). Positional w (a ∷ [])) same one.one) two.one
 
 compare_or_inspect : (words : List (List ℕ)) (a b : List ℕ) → IsCompare words a → IsInspect words b → ⊥
 compare_or_inspect words a b one two =
     let same : Compare ≡ Inspect = same_command words Compare Inspect one.others two.others one.words_are two.words_are in
     cc
 
+-- `verify` isn't a command that has one name
+verify_or_other : (command : CommandName) (words : List (List ℕ)) (raw_at : Option ℕ) (board name : List ℕ) (images : List (List ℕ)) → Verify ≢ command
+    → IsVerify words raw_at board images → HasOneName command words name → ⊥
+verify_or_other command words raw_at board name images other one two =
+    other (same_command words Verify command one.others two.others one.words_are two.words_are)
+
+verify_or_not_built : (words : List (List ℕ)) (raw_at : Option ℕ) (board : List ℕ) (images : List (List ℕ)) → IsVerify words raw_at board images
+    → IsNotBuilt words → ⊥
+verify_or_not_built words raw_at board images one two =
+    let same : Verify ≡ two.name = same_command words Verify two.name one.others two.others one.words_are two.words_are in
+    let isn't = two.not_built in
+    cc
+
+-- `verify` of these words has one address, or none, and one list of names
+pub record IsSameVerify (a b : Option ℕ) (x y : List ℕ) (xs ys : List (List ℕ)) : Type 0 where
+  pub raw_at : a ≡ b
+  pub board : x ≡ y
+  pub images : xs ≡ ys
+
+pub same_verify : (words : List (List ℕ)) (a b : Option ℕ) (x y : List ℕ) (xs ys : List (List ℕ)) → IsVerify words a x xs → IsVerify words b y ys
+    → IsSameVerify a b x y xs ys
+same_verify words a b x y xs ys one two =
+    let others : one.others ≡ two.others = ap (λ (w : List (List ℕ)). drop 1 w) (sym one.words_are ∙ two.words_are) in
+    let same = one_arguments two.others a b (x ∷ xs) (y ∷ ys) (subst (λ (w : List (List ℕ)). AreArguments w a (x ∷ xs)) others one.arguments) two.arguments in
+    let names = same.names in
+    record { raw_at = same.raw_at; board = cc; images = cc }
+
 pub one_command : (words : List (List ℕ)) (a b : Command) → Asks words a → Asks words b → a ≡ b
+one_command words (verify a x xs) (verify b y ys) one two =
+    let same = same_verify words a b x y xs ys one two in
+    let raw_at = same.raw_at in
+    let board = same.board in
+    let images = same.images in
+    cc
+one_command words (verify a x xs) (compare b) one two = absurd (verify_or_other Compare words a x b xs (λ same. cc) one two)
+one_command words (verify a x xs) (inspect b) one two = absurd (verify_or_other Inspect words a x b xs (λ same. cc) one two)
+one_command words (verify a x xs) not_built one two = absurd (verify_or_not_built words a x xs one two)
+one_command words (compare a) (verify b y ys) one two = absurd (verify_or_other Compare words b y a ys (λ same. cc) two one)
+one_command words (inspect a) (verify b y ys) one two = absurd (verify_or_other Inspect words b y a ys (λ same. cc) two one)
+one_command words not_built (verify b y ys) one two = absurd (verify_or_not_built words b y ys two one)
 one_command words (compare a) (compare b) one two = ap compare (same_name Compare words a b one two)
 one_command words (compare a) (inspect b) one two = absurd (compare_or_inspect words a b one two)
 one_command words (compare a) not_built one two = absurd (built_or_not Compare words a refl one two)

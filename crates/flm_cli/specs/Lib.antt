@@ -1,9 +1,13 @@
 pub mod Words
+pub mod Names
 pub mod Requested
 pub mod Shown
 pub mod Call
 pub mod Difference
 pub mod Readback
+pub mod Comparison
 pub mod Compare
 pub mod Inspect
+pub mod Verify
+pub mod Steps
 pub mod Unrun

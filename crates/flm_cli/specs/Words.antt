@@ -1,5 +1,6 @@
 -- What the words of a command line ask for.
-use Rattle.std.specs.Prelude.{◌≡◌, ◌<◌, ◌⊎◌, ℕ, Bool, true, false, List, [], ◌∷◌, ◌++◌, length, All, slice_index, codes}
+use Rattle.std.specs.Prelude.{◌≡◌, ◌≤◌, ◌<◌, ◌^◌, ◌⊎◌, ℕ, Bool, true, false, List, [], ◌∷◌, ◌++◌, length, All, slice_index, codes, Option, Some, None}
+use Rattle.std.specs.Str.Parse.{IsNumeral, digits_value}
 use Rattle.flm_cli.specs.declared.command.CommandName.{CommandName}
 use Rattle.flm_cli.specs.declared.command.CommandName.TheVariants.{Program, Resume, Revert, Plan, Verify, Compare, Status, Inspect, Demo}
 
@@ -16,6 +17,7 @@ text_of Inspect = codes "inspect"
 text_of Demo = codes "demo"
 
 abbrev pub is_built : CommandName → Bool
+is_built Verify = true
 is_built Compare = true
 is_built Inspect = true
 is_built _ = false
@@ -62,6 +64,71 @@ IsCompare words image = HasOneName Compare words image
 abbrev pub IsInspect : List (List ℕ) → List ℕ → Type 0
 IsInspect words flm = HasOneName Inspect words flm
 
+-- An address: `0x` with 1 to 8 hexadecimal digits, or decimal digits of a value below 2^32. It has no sign.
+
+pub record IsHexadecimal (word : List ℕ) (at : ℕ) : Type 0 where
+  pub digits : List ℕ
+  pub word_is : word ≡ codes "0x" ++ digits
+  pub numeral : IsNumeral 16 digits
+  pub few : length digits ≤ 8
+  pub value : at ≡ digits_value 16 digits
+
+pub record IsDecimal (word : List ℕ) (at : ℕ) : Type 0 where
+  pub numeral : IsNumeral 10 word
+  pub small : digits_value 10 word < 2 ^ 32
+  pub value : at ≡ digits_value 10 word
+
+abbrev pub IsAddress : List ℕ → ℕ → Type 0
+IsAddress word at = IsHexadecimal word at ⊎ IsDecimal word at
+
+-- The option `--raw-at ADDR`, two words, or `--raw-at=ADDR`, one word.
+
+abbrev pub raw_at_name : List ℕ
+raw_at_name = codes "--raw-at"
+
+abbrev pub raw_at_equals : List ℕ
+raw_at_equals = codes "--raw-at="
+
+pub record InTwoWords (option : List (List ℕ)) (at : ℕ) : Type 0 where
+  pub address : List ℕ
+  pub words_are : option ≡ raw_at_name ∷ address ∷ []
+  pub is_address : IsAddress address at
+
+pub record InOneWord (option : List (List ℕ)) (at : ℕ) : Type 0 where
+  pub address : List ℕ
+  pub words_are : option ≡ (raw_at_equals ++ address) ∷ []
+  pub is_address : IsAddress address at
+
+abbrev pub IsRawAt : List (List ℕ) → ℕ → Type 0
+IsRawAt option at = InTwoWords option at ⊎ InOneWord option at
+
+-- the option stands once, before any `--`; without it the words have the positional ones and no other option
+pub record HasRawAt (words : List (List ℕ)) (at : ℕ) (positional : List (List ℕ)) : Type 0 where
+  pub before : List (List ℕ)
+  pub option : List (List ℕ)
+  pub after : List (List ℕ)
+  pub words_are : words ≡ before ++ (option ++ after)
+  pub is_option : IsRawAt option at
+  pub plain : HasNoOption before
+  pub others : Positional (before ++ after) positional
+
+-- the words after the name of a command that may have this option
+abbrev pub AreArguments : List (List ℕ) → Option ℕ → List (List ℕ) → Type 0
+AreArguments words None positional = Positional words positional
+AreArguments words (Some at) positional = HasRawAt words at positional
+
+-- how many images there may be: one of raw bytes, else 1 to 16
+abbrev pub AreFew : Option ℕ → ℕ → Type 0
+AreFew None images = (1 ≤ images) × (images ≤ 16)
+AreFew (Some at) images = images ≡ 1
+
+-- `verify [--raw-at ADDR] BOARD IMAGE...`
+pub record IsVerify (words : List (List ℕ)) (raw_at : Option ℕ) (board : List ℕ) (images : List (List ℕ)) : Type 0 where
+  pub others : List (List ℕ)
+  pub words_are : words ≡ text_of Verify ∷ others
+  pub arguments : AreArguments others raw_at (board ∷ images)
+  pub few : AreFew raw_at (length images)
+
 -- the first word names a command that isn't built, whatever the other words are
 pub record IsNotBuilt (words : List (List ℕ)) : Type 0 where
   pub name : CommandName
@@ -71,11 +138,13 @@ pub record IsNotBuilt (words : List (List ℕ)) : Type 0 where
 
 -- what words ask for
 pub data Command : Type 0 where
+  verify : (raw_at : Option ℕ) (board : List ℕ) (images : List (List ℕ)) → Command
   compare : (image : List ℕ) → Command
   inspect : (flm : List ℕ) → Command
   not_built : Command
 
 abbrev pub Asks : List (List ℕ) → Command → Type 0
+Asks words (verify raw_at board images) = IsVerify words raw_at board images
 Asks words (compare image) = IsCompare words image
 Asks words (inspect flm) = IsInspect words flm
 Asks words not_built = IsNotBuilt words

@@ -1,9 +1,11 @@
 //! What the words of a command line ask for.
-ghost use Rattle.std.specs.Prelude.{◌≡◌, ◌≢◌, ◌↔◌, ℕ, List, [], ◌∷◌, MatchOption, IfSome, IfNone, IsTrue};
-ghost use Rattle.flm_cli.specs.Words.{text_of, IsOption, dashes, Positional, AsksNothing, Asks};
-ghost use Rattle.flm_cli.specs.Requested.{command_of};
+ghost use Rattle.std.specs.Prelude.{◌≡◌, ◌≢◌, ◌≤◌, ◌-◌, ◌↔◌, ℕ, List, [], ◌∷◌, Option, MatchOption, IfSome, IfNone, IsTrue};
+ghost use Rattle.flm_cli.specs.Words.{text_of, AreFew, Positional, AsksNothing, Asks};
+ghost use Rattle.flm_cli.specs.Names.{names_of};
+ghost use Rattle.flm_cli.specs.Requested.{command_of, AreVerifyNames};
 ghost use Rattle.flm_cli.specs.declared.command.CommandName.{CommandName};
 
+use crate::arguments::{Arguments, Names, is_dashes, is_option, read_arguments};
 use octets::Word;
 
 /// A command, as its first word names it.
@@ -44,11 +46,22 @@ impl CommandName {
 /// A command with its names.
 #[derive(Clone, Copy)]
 pub enum Request<'a> {
+    /// Compares the cells with the union of images, on a board. The names are the board's and the images'; with an
+    /// address the image is raw bytes from there on.
+    Verify {
+        raw_at: Option<u32>,
+        names: Names<'a>,
+    },
+
     /// Compares the cells with the raw bytes of this file.
-    Compare { image: &'a Word },
+    Compare {
+        image: &'a Word,
+    },
 
     /// Prints what this FLM file says of itself.
-    Inspect { flm: &'a Word },
+    Inspect {
+        flm: &'a Word,
+    },
 
     /// A command that isn't built yet.
     NotBuilt,
@@ -62,6 +75,10 @@ pub fn read_request(words: &[Word]) -> Option<Request<'_>>
         [] => None,
         [first, others @ ..] => match CommandName::read(first) {
             None => None,
+            Some(CommandName::Verify) => {
+                let Arguments { raw_at, names } = verify_arguments(others)?;
+                Some(Request::Verify { raw_at, names })
+            }
             Some(CommandName::Compare) => Some(Request::Compare {
                 image: only_name(others)?,
             }),
@@ -70,6 +87,32 @@ pub fn read_request(words: &[Word]) -> Option<Request<'_>>
             }),
             Some(_) => Some(Request::NotBuilt),
         },
+    }
+}
+
+/// The most images of a command.
+const MOST_IMAGES: usize = 16;
+
+/// The option and the names of `verify`: a board and 1 to 16 images, and just one where an address is given.
+fn verify_arguments(words: &[Word]) -> Option<Arguments<'_>>
+    ensures some { IfSome result (λ a. AreVerifyNames words.now a.raw_at (names_of a.names)) }
+    ensures none { IfNone result ((raw_at : Option ℕ) (names : List (List ℕ)) → AreVerifyNames words.now raw_at names → ⊥) }
+{
+    let arguments = read_arguments(words)?;
+    if are_few(arguments.raw_at, arguments.names.len()) {
+        Some(arguments)
+    } else {
+        None
+    }
+}
+
+/// Whether so many names are a board and as many images as there may be.
+fn are_few(raw_at: Option<u32>, names: usize) -> bool
+    ensures { IsTrue result ↔ ((1 ≤ names) × AreFew raw_at (names - 1)) }
+{
+    match raw_at {
+        None => names > 1 && names <= 1 + MOST_IMAGES,
+        Some(_) => names == 2,
     }
 }
 
@@ -84,19 +127,4 @@ fn only_name(words: &[Word]) -> Option<&Word>
         [name, end] if !is_option(name) && is_dashes(end) => Some(name),
         _ => None,
     }
-}
-
-/// Whether a word is an option.
-fn is_option(word: &Word) -> bool
-    ensures { IsTrue result ↔ IsOption word.now }
-{
-    let bytes = word.bytes();
-    bytes.len() > 1 && bytes[0] == b'-'
-}
-
-/// Whether a word ends the options.
-fn is_dashes(word: &Word) -> bool
-    ensures { IsTrue result ↔ (word.now ≡ dashes) }
-{
-    word.bytes() == b"--".as_slice()
 }

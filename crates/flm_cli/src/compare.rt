@@ -3,15 +3,12 @@ ghost use Rattle.flm_cli.specs.Call.{bench_call, inputs_call, sink_call};
 ghost use Rattle.flm_cli.specs.Compare.{CompareEnds};
 ghost use Rattle.flm_cli.specs.Shown.{answer_of};
 
-use crate::readback::{Difference, first_difference};
+use crate::readback::{Difference, WINDOW, first_difference};
 use bench_model::Bench;
 use octets::Word;
 use outside_io::{Inputs, Sink, TakeFault};
 use report_text::{End, Refusal, put_end};
 use std::alloc::Global;
-
-/// How many cells are read at a time.
-const WINDOW: usize = 256;
 
 /// Compares the cells from place 0 on with the bytes of a file, and prints `same` where they agree.
 pub fn compare<'a, B: Bench, I: Inputs, O: Sink>(

@@ -5,6 +5,9 @@ ghost use Rattle.flm_cli.specs.Readback.{Finds, OnlyReadsCells};
 
 use bench_model::{Bench, DeviceFault};
 
+/// How many cells are read at a time.
+pub const WINDOW: usize = 256;
+
 /// A cell that isn't the wanted byte: its place, the byte that is wanted there and the one that was found.
 #[derive(Clone, Copy, Debug, PartialEq, Eq)]
 pub struct Difference {

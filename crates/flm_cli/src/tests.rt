@@ -1,5 +1,6 @@
-//! `compare`, `inspect` and the refusals, from words to status, over a bench, inputs and sinks in memory.
+//! `compare`, `inspect`, `verify` and the refusals, from words to status, over a bench, inputs and sinks in memory.
 mod files;
+mod verifies;
 
 use super::*;
 use bench_model::MemoryBench;

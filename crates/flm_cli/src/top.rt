@@ -1,16 +1,18 @@
 //! The top call.
-ghost use Rattle.std.specs.Prelude.{ℕ, List};
-ghost use Rattle.flm_cli.specs.Words.{IsCompare, IsInspect, IsNotBuilt, AsksNothing};
+ghost use Rattle.std.specs.Prelude.{◌<◌, ◌∷◌, ℕ, List, Option, length};
+ghost use Rattle.flm_cli.specs.Words.{IsVerify, IsCompare, IsInspect, IsNotBuilt, AsksNothing};
 ghost use Rattle.report_text.specs.Refusal as refusal;
 ghost use Rattle.flm_cli.specs.Call.{call_of, bench_call, inputs_call, sink_call, IsUntouched, Says};
 ghost use Rattle.flm_cli.specs.Compare.{CompareAnswers, CompareEnds};
 ghost use Rattle.flm_cli.specs.Inspect.{InspectAnswers, InspectEnds};
+ghost use Rattle.flm_cli.specs.Verify.{name_at, VerifyAnswers, VerifyEnds};
 ghost use Rattle.flm_cli.specs.Unrun.{RefusesAtOnce, EndsAtOnce};
 ghost use Rattle.flm_cli.specs.Shown.{answer_of};
 
 use crate::command::{Request, read_request};
 use crate::compare::compare;
 use crate::inspect::inspect;
+use crate::verify::verify;
 use bench_model::Bench;
 use octets::Word;
 use outside_io::{Inputs, Sink};
@@ -27,8 +29,13 @@ pub fn flmprog<B: Bench, I: Inputs, O: Sink, E: Sink>(
     out: &mut O,
     err: &mut E,
 ) -> u8
+    requires verify { (raw_at : Option ℕ) (board : List ℕ) (images : List (List ℕ)) (k : ℕ) → IsVerify words.now raw_at board images
+        → k < length (board ∷ images) → I.may_take inputs.old (name_at (board ∷ images) k) }
     requires compare { (image : List ℕ) → IsCompare words.now image → I.may_take inputs.old image }
     requires inspect { (flm : List ℕ) → IsInspect words.now flm → I.may_take inputs.old flm }
+    ensures verify { (raw_at : Option ℕ) (board : List ℕ) (images : List (List ℕ)) → IsVerify words.now raw_at board images → VerifyAnswers (call_of result
+        (bench_call B.tells (B.state bench.old) (B.state bench.new)) (inputs_call I.tells (I.state inputs.old) (I.state inputs.new))
+        (sink_call O.tells (O.state out.old) (O.state out.new)) (sink_call E.tells (E.state err.old) (E.state err.new))) raw_at board images }
     ensures compare { (image : List ℕ) → IsCompare words.now image → CompareAnswers (call_of result
         (bench_call B.tells (B.state bench.old) (B.state bench.new)) (inputs_call I.tells (I.state inputs.old) (I.state inputs.new))
         (sink_call O.tells (O.state out.old) (O.state out.new)) (sink_call E.tells (E.state err.old) (E.state err.new))) image }
@@ -54,8 +61,13 @@ fn run<'a, B: Bench, I: Inputs, O: Sink>(
     inputs: &mut I,
     out: &mut O,
 ) -> Result<(), Refusal<'a>>
+    requires verify { (raw_at : Option ℕ) (board : List ℕ) (images : List (List ℕ)) (k : ℕ) → IsVerify words.now raw_at board images
+        → k < length (board ∷ images) → I.may_take inputs.old (name_at (board ∷ images) k) }
     requires compare { (image : List ℕ) → IsCompare words.now image → I.may_take inputs.old image }
     requires inspect { (flm : List ℕ) → IsInspect words.now flm → I.may_take inputs.old flm }
+    ensures verify { (raw_at : Option ℕ) (board : List ℕ) (images : List (List ℕ)) → IsVerify words.now raw_at board images
+        → VerifyEnds (bench_call B.tells (B.state bench.old) (B.state bench.new)) (inputs_call I.tells (I.state inputs.old) (I.state inputs.new))
+        (sink_call O.tells (O.state out.old) (O.state out.new)) raw_at board images (answer_of result) }
     ensures compare { (image : List ℕ) → IsCompare words.now image → CompareEnds (bench_call B.tells (B.state bench.old) (B.state bench.new))
         (inputs_call I.tells (I.state inputs.old) (I.state inputs.new)) (sink_call O.tells (O.state out.old) (O.state out.new)) image (answer_of result) }
     ensures inspect { (flm : List ℕ) → IsInspect words.now flm → InspectEnds
@@ -69,6 +81,9 @@ fn run<'a, B: Bench, I: Inputs, O: Sink>(
     match read_request(words) {
         None => Err(Refusal::Usage),
         Some(Request::NotBuilt) => Err(Refusal::NotBuilt),
+        Some(Request::Verify { raw_at, names }) => {
+            verify(alloc, raw_at, &names, bench, inputs, out)
+        }
         Some(Request::Compare { image }) => compare(alloc, image, bench, inputs, out),
         Some(Request::Inspect { flm }) => inspect(alloc, flm, inputs, out),
     }

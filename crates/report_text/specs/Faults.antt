@@ -1,6 +1,9 @@
 -- What the refusals of files are called: the name, then the fields, each after a space, and a nested refusal after the outer name.
-use Rattle.std.specs.Prelude.{ℕ, List, [], ◌∷◌, ◌++◌, codes, decimal}
+use Rattle.std.specs.Prelude.{ℕ, List, [], ◌∷◌, ◌++◌, codes, decimal, Option, Some, None}
 use Rattle.std.specs.List.{concat}
+use Rattle.board_file.specs.Table.{spelt, part_spelt}
+use Rattle.board_file.specs.declared.fault.BoardFault.{BoardFault}
+use Rattle.board_file.specs.declared.fault.BoardFault.TheVariants as board
 use Rattle.elf32.specs.declared.fault.ElfFault.{ElfFault}
 use Rattle.elf32.specs.declared.fault.ElfFault.TheVariants as elf
 use Rattle.elf32.specs.declared.fault.Field.{Field}
@@ -8,6 +11,12 @@ use Rattle.elf32.specs.declared.fault.Field.TheVariants as field
 use Rattle.flm_descriptor.specs.Parts.{text_of}
 use Rattle.flm_descriptor.specs.declared.fault.FlmFault.{FlmFault}
 use Rattle.flm_descriptor.specs.declared.fault.FlmFault.TheVariants as flm
+use Rattle.image_hex.specs.declared.fault.HexKind.{HexKind}
+use Rattle.image_hex.specs.declared.fault.HexKind.TheVariants as hex
+use Rattle.image_set.specs.declared.fault.ImageFault.{ImageFault}
+use Rattle.image_set.specs.declared.fault.ImageFault.TheVariants as image
+use Rattle.image_srec.specs.declared.fault.SrecKind.{SrecKind}
+use Rattle.image_srec.specs.declared.fault.SrecKind.TheVariants as srec
 use Rattle.report_text.specs.Number.{hex_text}
 
 unfoldable pub field_text : Field → List ℕ
@@ -48,3 +57,81 @@ flm_text flm.SectorGap = codes "SectorGap"
 flm_text (flm.SectorOrder item) = concat (codes "SectorOrder " ∷ decimal item ∷ [])
 flm_text (flm.SectorSize item) = concat (codes "SectorSize " ∷ decimal item ∷ [])
 flm_text (flm.BadDevice size) = concat (codes "BadDevice " ∷ decimal size ∷ [])
+
+-- of a board's text, with keys and parts as that text writes them
+unfoldable pub board_text : BoardFault → List ℕ
+board_text board.OutOfMemory = codes "OutOfMemory"
+board_text board.NotToml = codes "NotToml"
+board_text (board.Missing key) = concat (codes "Missing " ∷ spelt key ∷ [])
+board_text (board.BadValue key) = concat (codes "BadValue " ∷ spelt key ∷ [])
+board_text (board.Overlap a b) = concat (codes "Overlap " ∷ part_spelt a ∷ codes " " ∷ part_spelt b ∷ [])
+board_text (board.TooBig key) = concat (codes "TooBig " ∷ spelt key ∷ [])
+board_text board.ManyRegions = codes "ManyRegions"
+
+-- two unequal bytes of an address
+unfoldable pub conflict_text : ℕ → ℕ → ℕ → List ℕ
+conflict_text at old new = concat (codes "Conflict " ∷ hex_text 8 at ∷ codes " " ∷ hex_text 2 old ∷ codes " " ∷ hex_text 2 new ∷ [])
+
+-- the checksum of a record, and the one that the other bytes ask for
+unfoldable pub checksum_text : ℕ → ℕ → List ℕ
+checksum_text said due = concat (codes "BadSum " ∷ hex_text 2 said ∷ codes " " ∷ hex_text 2 due ∷ [])
+
+-- how many data records a count record says there are, and how many there are
+unfoldable pub count_text : ℕ → ℕ → List ℕ
+count_text said seen = concat (codes "CountDiffers " ∷ decimal said ∷ codes " " ∷ decimal seen ∷ [])
+
+-- of a line of Intel HEX
+unfoldable pub hex_kind_text : HexKind → List ℕ
+hex_kind_text hex.NotRecord = codes "NotRecord"
+hex_kind_text hex.BadDigit = codes "BadDigit"
+hex_kind_text hex.BadLength = codes "BadLength"
+hex_kind_text (hex.BadSum said due) = checksum_text said due
+hex_kind_text (hex.BadType value) = concat (codes "BadType " ∷ decimal value ∷ [])
+hex_kind_text (hex.Conflict at old new) = conflict_text at old new
+hex_kind_text hex.NoEnd = codes "NoEnd"
+hex_kind_text hex.OutOfMemory = codes "OutOfMemory"
+
+-- of a line of S-records
+unfoldable pub srec_kind_text : SrecKind → List ℕ
+srec_kind_text srec.NotRecord = codes "NotRecord"
+srec_kind_text srec.BadDigit = codes "BadDigit"
+srec_kind_text srec.BadLength = codes "BadLength"
+srec_kind_text (srec.BadSum said due) = checksum_text said due
+srec_kind_text (srec.BadType value) = concat (codes "BadType " ∷ decimal value ∷ [])
+srec_kind_text (srec.CountDiffers said seen) = count_text said seen
+srec_kind_text (srec.PastEnd at) = concat (codes "PastEnd " ∷ hex_text 8 at ∷ [])
+srec_kind_text (srec.Conflict at old new) = conflict_text at old new
+srec_kind_text srec.NoEnd = codes "NoEnd"
+srec_kind_text srec.OutOfMemory = codes "OutOfMemory"
+
+-- of an image; the line of a file isn't named here
+unfoldable pub image_text : ImageFault → List ℕ
+image_text image.NoForm = codes "NoForm"
+image_text (image.Hex fault) = codes "Hex " ++ hex_kind_text fault.kind
+image_text (image.Srec fault) = codes "Srec " ++ srec_kind_text fault.kind
+image_text (image.Elf fault) = codes "Elf " ++ elf_text fault
+image_text (image.Conflict at old new) = conflict_text at old new
+image_text (image.PastEnd at) = concat (codes "PastEnd " ∷ hex_text 8 at ∷ [])
+image_text (image.OutsideDevice at) = concat (codes "OutsideDevice " ∷ hex_text 8 at ∷ [])
+image_text image.EmptyImage = codes "EmptyImage"
+image_text image.OutOfMemory = codes "OutOfMemory"
+
+-- the line that is at fault, in a file that is read by lines
+abbrev pub faulty_line : ImageFault → Option ℕ
+faulty_line image.NoForm = None
+faulty_line (image.Hex fault) = Some fault.line
+faulty_line (image.Srec fault) = Some fault.line
+faulty_line (image.Elf fault) = None
+faulty_line (image.Conflict at old new) = None
+faulty_line (image.PastEnd at) = None
+faulty_line (image.OutsideDevice at) = None
+faulty_line image.EmptyImage = None
+faulty_line image.OutOfMemory = None
+
+-- the file of an image, and the line where there is one
+unfoldable pub place_text : List ℕ → Option ℕ → List ℕ
+place_text name None = concat (codes "image " ∷ name ∷ codes ": " ∷ [])
+place_text name (Some line) = concat (codes "image " ∷ name ∷ codes " line " ∷ decimal line ∷ codes ": " ∷ [])
+
+abbrev pub file_text : List ℕ → ImageFault → List ℕ
+file_text name fault = place_text name (faulty_line fault)

@@ -1,9 +1,11 @@
 -- The refusals of the top call: the status of each, and its line on standard error.
 use Rattle.std.specs.Prelude.{ℕ, List, [], ◌∷◌, ◌++◌, codes, decimal}
 use Rattle.std.specs.List.{concat}
+use Rattle.board_file.specs.declared.fault.BoardFault.{BoardFault}
 use Rattle.flm_descriptor.specs.declared.fault.FlmFault.{FlmFault}
+use Rattle.image_set.specs.declared.fault.ImageFault.{ImageFault}
 use Rattle.report_text.specs.Number.{hex_text}
-use Rattle.report_text.specs.Faults.{flm_text}
+use Rattle.report_text.specs.Faults.{board_text, flm_text, image_text, file_text}
 
 pub data Refusal : Type 0 where
   out_of_memory : Refusal
@@ -12,8 +14,16 @@ pub data Refusal : Type 0 where
   input_fault : (name : List ℕ) → Refusal
   -- a raw image has more bytes than there are cells
   image_too_long : (bytes cells : ℕ) → Refusal
+  -- a file of an image is refused
+  image_refused : (name : List ℕ) (fault : ImageFault) → Refusal
+  -- the image has no byte, or one outside the device
+  image_misplaced : (fault : ImageFault) → Refusal
   -- an input file is no FLM file
   flm_refused : (fault : FlmFault) → Refusal
+  -- an input file describes no board
+  board_refused : (fault : BoardFault) → Refusal
+  -- there are other than the region's number of cells
+  cells_differ : (wanted found : ℕ) → Refusal
   device_fault : Refusal
   output_fault : Refusal
   -- a cell isn't the image's byte at this place
@@ -25,7 +35,11 @@ status_of out_of_memory = 1
 status_of usage = 2
 status_of (input_fault name) = 3
 status_of (image_too_long bytes cells) = 4
+status_of (image_refused name fault) = 4
+status_of (image_misplaced fault) = 4
 status_of (flm_refused fault) = 5
+status_of (board_refused fault) = 6
+status_of (cells_differ wanted found) = 7
 status_of device_fault = 9
 status_of output_fault = 10
 status_of (differs place wanted found) = 13
@@ -37,7 +51,11 @@ reason_of out_of_memory = codes "out of memory"
 reason_of usage = codes "usage: flm_tool JOB CELLS COMMAND [WORDS]"
 reason_of (input_fault name) = concat (codes "cannot read " ∷ name ∷ [])
 reason_of (image_too_long bytes cells) = concat (codes "image: " ∷ decimal bytes ∷ codes " bytes for " ∷ decimal cells ∷ codes " cells" ∷ [])
+reason_of (image_refused name fault) = file_text name fault ++ image_text fault
+reason_of (image_misplaced fault) = codes "image: " ++ image_text fault
 reason_of (flm_refused fault) = codes "flm: " ++ flm_text fault
+reason_of (board_refused fault) = codes "board: " ++ board_text fault
+reason_of (cells_differ wanted found) = concat (codes "job: " ∷ decimal wanted ∷ codes " cells wanted, " ∷ decimal found ∷ codes " found" ∷ [])
 reason_of device_fault = codes "device fault"
 reason_of output_fault = codes "output fault"
 reason_of (differs place wanted found) =

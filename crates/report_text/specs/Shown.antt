@@ -1,14 +1,18 @@
 -- The refusal that a value of the program is.
 use Rattle.report_text.specs.Refusal as refusal
 use Rattle.report_text.specs.declared.refusal.Refusal.{Refusal}
-use Rattle.report_text.specs.declared.refusal.Refusal.TheVariants.{OutOfMemory, Usage, InputFault, ImageTooLong, FlmRefused, DeviceFault, OutputFault, Differs, NotBuilt}
+use Rattle.report_text.specs.declared.refusal.Refusal.TheVariants.{OutOfMemory, Usage, InputFault, ImageTooLong, ImageRefused, ImageMisplaced, FlmRefused, BoardRefused, CellsDiffer, DeviceFault, OutputFault, Differs, NotBuilt}
 
 abbrev pub shown : Refusal → refusal.Refusal
 shown OutOfMemory = refusal.out_of_memory
 shown Usage = refusal.usage
 shown (InputFault name) = refusal.input_fault name.now
 shown (ImageTooLong bytes cells) = refusal.image_too_long bytes cells
+shown (ImageRefused name fault) = refusal.image_refused name.now fault
+shown (ImageMisplaced fault) = refusal.image_misplaced fault
 shown (FlmRefused fault) = refusal.flm_refused fault
+shown (BoardRefused fault) = refusal.board_refused fault
+shown (CellsDiffer wanted found) = refusal.cells_differ wanted found
 shown DeviceFault = refusal.device_fault
 shown OutputFault = refusal.output_fault
 shown (Differs at want got) = refusal.differs at want got

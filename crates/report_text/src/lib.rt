@@ -1,7 +1,9 @@
 //! The texts that the flash programmer prints: an inspection, an end and a refusal, each put on a sink. No call takes memory.
 #![tactic(auto)]
 
+mod board_reason;
 mod end;
+mod image_reason;
 mod inspection;
 mod number;
 mod pieces;

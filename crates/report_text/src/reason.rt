@@ -41,7 +41,7 @@ pub fn put_flm_fault<E: Sink>(err: &mut E, fault: FlmFault) -> Result<(), Output
 
 /// Puts the refusal of an ELF file.
 #[tactic(auto, unfolding(crate::specs::Faults::elf_text))]
-fn put_elf_fault<E: Sink>(err: &mut E, fault: ElfFault) -> Result<(), OutputFault>
+pub fn put_elf_fault<E: Sink>(err: &mut E, fault: ElfFault) -> Result<(), OutputFault>
     ensures { Puts E.tells (E.state err.old) (E.state err.new) (elf_text fault) result }
 {
     match fault {
@@ -62,7 +62,7 @@ fn put_elf_fault<E: Sink>(err: &mut E, fault: ElfFault) -> Result<(), OutputFaul
 }
 
 /// Puts a name and a decimal number.
-fn put_number<E: Sink>(err: &mut E, name: &[u8], number: u32) -> Result<(), OutputFault>
+pub fn put_number<E: Sink>(err: &mut E, name: &[u8], number: u32) -> Result<(), OutputFault>
     ensures { Puts E.tells (E.state err.old) (E.state err.new) (concat (name.now ∷ decimal number ∷ [])) result }
 {
     let mut of_number = Buffer::new();

@@ -1,13 +1,17 @@
 //! The refusals of the top call, and the line of each on standard error.
 ghost use Rattle.std.specs.Prelude.{◌≡◌};
 ghost use Rattle.report_text.specs.Puts.{Puts};
-ghost use Rattle.report_text.specs.Refusal.{status_of, reason_of, line_of, image_too_long, differs};
+ghost use Rattle.report_text.specs.Refusal.{status_of, reason_of, line_of, image_too_long, cells_differ, differs};
 ghost use Rattle.report_text.specs.Shown.{shown};
 
+use crate::board_reason::put_board_fault;
+use crate::image_reason::{put_image_fault, put_image_file};
 use crate::number::{hex_byte, hex_word};
 use crate::pieces::put_pieces;
 use crate::reason::put_flm_fault;
+use board_file::BoardFault;
 use flm_descriptor::FlmFault;
+use image_set::ImageFault;
 use itoa::Buffer;
 use octets::Word;
 use outside_io::{OutputFault, Sink};
@@ -27,8 +31,20 @@ pub enum Refusal<'a> {
     /// A raw image has more bytes than there are cells.
     ImageTooLong { bytes: usize, cells: u32 },
 
+    /// The image file of this name is refused.
+    ImageRefused { name: &'a Word, fault: ImageFault },
+
+    /// The image has no byte, or one outside the device.
+    ImageMisplaced { fault: ImageFault },
+
     /// An input file is no FLM file.
     FlmRefused { fault: FlmFault },
+
+    /// An input file describes no board.
+    BoardRefused { fault: BoardFault },
+
+    /// There are other than the region's number of cells.
+    CellsDiffer { wanted: u32, found: u32 },
 
     /// The device failed.
     DeviceFault,
@@ -53,7 +69,14 @@ impl Refusal<'_> {
             Refusal::Usage => 2,
             Refusal::InputFault { name: _ } => 3,
             Refusal::ImageTooLong { bytes: _, cells: _ } => 4,
+            Refusal::ImageRefused { name: _, fault: _ } => 4,
+            Refusal::ImageMisplaced { fault: _ } => 4,
             Refusal::FlmRefused { fault: _ } => 5,
+            Refusal::BoardRefused { fault: _ } => 6,
+            Refusal::CellsDiffer {
+                wanted: _,
+                found: _,
+            } => 7,
             Refusal::DeviceFault => 9,
             Refusal::OutputFault => 10,
             Refusal::Differs {
@@ -85,10 +108,20 @@ fn put_reason<E: Sink>(err: &mut E, refusal: &Refusal<'_>) -> Result<(), OutputF
         Refusal::Usage => put_pieces(err, &[b"usage: flm_tool JOB CELLS COMMAND [WORDS]"]),
         Refusal::InputFault { name } => put_pieces(err, &[b"cannot read ", name.bytes()]),
         Refusal::ImageTooLong { bytes, cells } => put_lengths(err, *bytes, *cells),
+        Refusal::ImageRefused { name, fault } => put_image_file(err, name.bytes(), *fault),
+        Refusal::ImageMisplaced { fault } => {
+            put_pieces(err, &[b"image: "])?;
+            put_image_fault(err, *fault)
+        }
         Refusal::FlmRefused { fault } => {
             put_pieces(err, &[b"flm: "])?;
             put_flm_fault(err, *fault)
         }
+        Refusal::BoardRefused { fault } => {
+            put_pieces(err, &[b"board: "])?;
+            put_board_fault(err, *fault)
+        }
+        Refusal::CellsDiffer { wanted, found } => put_cells(err, *wanted, *found),
         Refusal::DeviceFault => put_pieces(err, &[b"device fault"]),
         Refusal::OutputFault => put_pieces(err, &[b"output fault"]),
         Refusal::Differs { at, want, got } => put_difference(err, *at, *want, *got),
@@ -106,6 +139,21 @@ fn put_lengths<E: Sink>(err: &mut E, bytes: usize, cells: u32) -> Result<(), Out
     let bytes = of_bytes.format(bytes).as_bytes();
     let cells = of_cells.format(cells).as_bytes();
     put_pieces(err, &[b"image: ", bytes, b" bytes for ", cells, b" cells"])
+}
+
+/// Puts how many cells are wanted, and how many there are.
+#[tactic(auto, unfolding(crate::specs::Refusal::reason_of))]
+fn put_cells<E: Sink>(err: &mut E, wanted: u32, found: u32) -> Result<(), OutputFault>
+    ensures { Puts E.tells (E.state err.old) (E.state err.new) (reason_of (cells_differ wanted found)) result }
+{
+    let mut of_wanted = Buffer::new();
+    let mut of_found = Buffer::new();
+    let wanted = of_wanted.format(wanted).as_bytes();
+    let found = of_found.format(found).as_bytes();
+    put_pieces(
+        err,
+        &[b"job: ", wanted, b" cells wanted, ", found, b" found"],
+    )
 }
 
 /// Puts a place with the byte that is wanted there and the one that was found.

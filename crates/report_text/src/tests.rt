@@ -1,6 +1,7 @@
 //! Texts line by line, over a sink in memory.
 
 mod files;
+mod refused;
 
 use super::*;
 use elf32::{ElfFault, Field};

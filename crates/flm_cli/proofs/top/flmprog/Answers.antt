@@ -1,5 +1,9 @@
-use Rattle.flm_cli.proofs.AnswerLemmas.{compare_answers, inspect_answers, refuses_at_once}
+use Rattle.flm_cli.proofs.AnswerLemmas.{verify_answers, compare_answers, inspect_answers, refuses_at_once}
 use Rattle.flm_cli.proofs.top.flmprog.Goals as goal
+
+pub returns-clause-verify : goal.returns-clause-verify
+returns-clause-verify g c = λ raw_at board images asked.
+    verify_answers _ raw_at board images _ c.report.ensures (c.run-end.ensures.verify raw_at board images asked)
 
 pub returns-clause-compare : goal.returns-clause-compare
 returns-clause-compare g c = λ image asked. compare_answers _ image _ c.report.ensures (c.run-end.ensures.compare image asked)

@@ -8,10 +8,23 @@ use Rattle.report_text.proofs.refusal.put_reason.Goals as goal
 says : {a b : Refusal} → a ≡ b → reason_of (shown a) ≡ reason_of (shown b)
 says same = ap (λ (r : Refusal). reason_of (shown r)) same
 
+pub returns-in_err-put_pieces-in-ImageMisplaced : goal.returns-in_err-put_pieces-in-ImageMisplaced
+unfolding reason_of
+returns-in_err-put_pieces-in-ImageMisplaced g c =
+    puts_as (says (sym c.in-ImageMisplaced.is))
+    (puts_failed _ c.from_residual.ensures.0 (puts_stops _ c.in_err-put_pieces-in-ImageMisplaced.ensures))
+
 pub returns-in_err-put_pieces-in-FlmRefused : goal.returns-in_err-put_pieces-in-FlmRefused
 unfolding reason_of
 returns-in_err-put_pieces-in-FlmRefused g c =
-    puts_as (says (sym c.in-FlmRefused.is)) (puts_failed _ c.from_residual.ensures.0 (puts_stops _ c.in_err-put_pieces-in-FlmRefused.ensures))
+    puts_as (says (sym c.in-FlmRefused.is))
+    (puts_failed _ c.from_residual-in_err-put_pieces-in-FlmRefused.ensures.0 (puts_stops _ c.in_err-put_pieces-in-FlmRefused.ensures))
+
+pub returns-in_err-put_pieces-in-BoardRefused : goal.returns-in_err-put_pieces-in-BoardRefused
+unfolding reason_of
+returns-in_err-put_pieces-in-BoardRefused g c =
+    puts_as (says (sym c.in-BoardRefused.is))
+    (puts_failed _ c.from_residual-in_err-put_pieces-in-BoardRefused.ensures.0 (puts_stops _ c.in_err-put_pieces-in-BoardRefused.ensures))
 
 pub returns-in-Usage : goal.returns-in-Usage
 unfolding reason_of

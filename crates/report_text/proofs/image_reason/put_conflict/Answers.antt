@@ -1,0 +1,6 @@
+use Rattle.report_text.specs.Faults.{conflict_text}
+use Rattle.report_text.proofs.image_reason.put_conflict.Goals as goal
+
+pub returns : goal.returns
+unfolding conflict_text
+returns g c = rw (c.hex_word-at.ensures, c.hex_byte-old.ensures, c.hex_byte-new.ensures) at c.put_pieces.ensures

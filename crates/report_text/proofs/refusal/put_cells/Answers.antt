@@ -1,0 +1,8 @@
+use Rattle.report_text.specs.Refusal.{reason_of}
+use Rattle.report_text.proofs.refusal.put_cells.Goals as goal
+
+pub returns : goal.returns
+unfolding reason_of
+returns g c =
+    rw (c.as_bytes-wanted.ensures.value, c.format.ensures.text, c.as_bytes-found.ensures.value, c.format-2.ensures.text)
+    at c.put_pieces.ensures
