@@ -1,4 +1,5 @@
 //! The cells of the device as a file with one byte a cell.
+use crate::sync_guard::SyncGuard;
 use std::fs::{File, OpenOptions};
 use std::io;
 use std::io::ErrorKind;
@@ -13,6 +14,7 @@ pub struct CellsFile {
     file: Option<File>,
     operation: Option<(u32, u32)>,
     pending: bool,
+    guard: SyncGuard,
 }
 
 impl CellsFile {
@@ -27,6 +29,7 @@ impl CellsFile {
             file,
             operation: None,
             pending: false,
+            guard: SyncGuard::new(),
         };
         (cells, count)
     }
@@ -87,12 +90,16 @@ impl CellsFile {
         Ok(())
     }
 
-    /// Brings the cells to the disk that were written since they were last synced.
+    /// Brings the cells to the disk that were written since they were last synced. Once that has failed it always does.
     pub fn sync(&mut self) -> io::Result<()> {
-        if self.pending {
-            self.file()?.sync_all()?;
-            self.pending = false;
+        if !self.pending {
+            return Ok(());
         }
+        match &self.file {
+            Some(file) => self.guard.sync(file)?,
+            None => return Err(io::Error::from(ErrorKind::NotFound)),
+        }
+        self.pending = false;
         Ok(())
     }
 }

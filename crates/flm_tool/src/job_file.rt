@@ -1,4 +1,5 @@
 //! The job file on the disk.
+use crate::sync_guard::SyncGuard;
 use octets::Word;
 use std::fs::{File, OpenOptions};
 use std::io;
@@ -12,6 +13,7 @@ pub struct JobFile {
     rt: HostRuntime,
     name: Word,
     file: Option<File>,
+    guard: SyncGuard,
 }
 
 impl JobFile {
@@ -21,6 +23,7 @@ impl JobFile {
             rt,
             name,
             file: None,
+            guard: SyncGuard::new(),
         }
     }
 
@@ -54,9 +57,13 @@ impl JobFile {
         self.open()?.set_len(len)
     }
 
-    /// Brings the file to the disk.
+    /// Brings the file to the disk. Once that has failed it always does.
     pub fn sync(&mut self) -> io::Result<()> {
-        self.open()?.sync_all()
+        self.open()?;
+        match &self.file {
+            Some(file) => self.guard.sync(file),
+            None => Err(io::Error::from(ErrorKind::NotFound)),
+        }
     }
 }
 

@@ -6,6 +6,7 @@ mod file_bench;
 mod file_inputs;
 mod job_file;
 mod std_sink;
+mod sync_guard;
 #[cfg(test)]
 mod tests;
 

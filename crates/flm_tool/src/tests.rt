@@ -1,4 +1,7 @@
 //! Each adapter over real files, in the system's folder for temporary files.
+
+mod firmware;
+
 use crate::file_bench::FileBench;
 use crate::file_inputs::FileInputs;
 use crate::std_sink::StdSink;
