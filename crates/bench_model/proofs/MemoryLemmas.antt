@@ -1,7 +1,11 @@
 -- What each recorded call does to a bench in memory.
-use Rattle.std.proofs.Common.{◌≡◌, ◌↔◌, ◌≤◌, ◌+◌, ◌∙◌, ap, subst, sym, refl, ℕ, List, ◌++◌, length, take, drop, replicate, Option, Some, None, arith, append_assoc, length-append, length-take, length-drop}
+use Rattle.std.proofs.Common.{◌≡◌, ◌↔◌, ◌<◌, ◌≤◌, ◌+◌, ◌∙◌, ap, subst, sym, refl, ℕ, List, ◌++◌, length, take, drop, replicate, Option, Some, None, arith, append_assoc, length-append, length-take, length-drop}
 use Rattle.std.proofs.lemmas.List.{take_at, drop_at, length-replicate}
+use Rattle.std.proofs.lemmas.Bool.{false≢true}
+use Rattle.std.specs.Prelude.{IfSome, Ok}
 use Rattle.std.specs.Option.{ForSome}
+use Rattle.faults.specs.Counts.{HasCause}
+use Rattle.faults.specs.Numbers.{Numbered, went}
 use Rattle.bench_model.specs.History.{left, Leaves, AddsNothing, Stays, LeftOnly}
 use Rattle.bench_model.specs.Calls.{written, Torn, Cut, Follows, SameOutside, IsOpen}
 use Rattle.bench_model.specs.Kept.{Kept, IsLeft, all_synced, after_write, after_cut}
@@ -50,18 +54,18 @@ module _ (h : Held) (file cells : List ℕ) (op : Option (ℕ × ℕ)) (s : InSt
     in_range = s.in_range;
   }
 
-  none_in_range : (cs : List ℕ) → ForSome None (λ (range : ℕ × ℕ). range.0 + range.1 ≤ length cs)
+  none_in_range : (cs : List ℕ) → ForSome None (λ (range : ℕ × ℕ). (0 < range.1) × (range.0 + range.1 ≤ length cs))
   none_in_range cs range is = cc
 
-  pub step_opened : (at len : ℕ) → at + len ≤ length cells → InStep (after (opened at len) h) file cells (Some (at, len))
-  step_opened at len le = record {
+  pub step_opened : (at len : ℕ) → 0 < len → at + len ≤ length cells → InStep (after (opened at len) h) file cells (Some (at, len))
+  step_opened at len some le = record {
     same_file = s.same_file;
     same_cells = s.same_cells;
     same_operation = refl;
     left = s.left;
     enough = s.enough;
     older = s.older;
-    in_range = λ range is. let e : (at, len) ≡ range = cc in subst (λ (r : ℕ × ℕ). r.0 + r.1 ≤ length cells) e le;
+    in_range = λ range is. let e : (at, len) ≡ range = cc in subst (λ (r : ℕ × ℕ). (0 < r.1) × (r.0 + r.1 ≤ length cells)) e (some, le);
   }
 
   -- the operation ends with these cells
@@ -81,7 +85,7 @@ module _ (h : Held) (file cells : List ℕ) (op : Option (ℕ × ℕ)) (s : InSt
     ended_cells bytes = ap (λ (o : Option (ℕ × ℕ)). in_range bytes o h.cells) (s.same_operation ∙ is) ∙ ap (λ (c : List ℕ). written at (bytes len) c) s.same_cells
 
     pub within : at + len ≤ length cells
-    within = s.in_range (at, len) is
+    within = (s.in_range (at, len) is).1
 
     pub step_settled : (bytes : List ℕ) → InStep (after (settled bytes) h) file (written at bytes cells) None
     step_settled bytes = step_ended (after (settled bytes) h) (written at bytes cells) refl (ended_cells (λ n. bytes)) refl
@@ -122,11 +126,6 @@ same_outside_all None cells x is = is
 same_outside_all (Some range) cells x is = (ap length is, ap (λ (l : List ℕ). take range.0 l) is, ap (λ (l : List ℕ). drop (range.0 + range.1) l) is)
 
 -- the cells once an operation is broken off
-pub only_in_open : (bytes : ℕ → List ℕ) → ((n : ℕ) → length (bytes n) ≡ n) → (op : Option (ℕ × ℕ)) (cells : List ℕ)
-    → ForSome op (λ (range : ℕ × ℕ). range.0 + range.1 ≤ length cells) → SameOutside op cells (in_range bytes op cells)
-only_in_open bytes long None cells inside = refl
-only_in_open bytes long (Some range) cells inside = only_in_range cells range.0 range.1 (inside range refl) (bytes range.1) (long range.1)
-
 pub only_broken : (byte : Option ℕ) (at len : ℕ) (cells : List ℕ) → at + len ≤ length cells → SameOutside (Some (at, len)) cells (broken byte (Some (at, len)) cells)
 only_broken None at len cells inside = same_outside_all (Some (at, len)) cells cells refl
 only_broken (Some value) at len cells inside = only_in_range cells at len inside (replicate len value) (length-replicate len value)
@@ -134,6 +133,17 @@ only_broken (Some value) at len cells inside = only_in_range cells at len inside
 pub length-broken : (byte : Option ℕ) (at len : ℕ) (cells : List ℕ) → at + len ≤ length cells → length (broken byte (Some (at, len)) cells) ≡ length cells
 length-broken None at len cells inside = refl
 length-broken (Some value) at len cells inside = length-in_range cells at len inside (replicate len value) (length-replicate len value)
+
+-- a call that went through counts no fault
+pub went_cause : {T E : Type 0} (value : T) (n new : Numbered) → new ≡ went n → HasCause {T = T} {E = E} n.faults new.faults (Ok value)
+went_cause value n new is =
+    let same : new.faults ≡ n.faults = ap (λ (k : Numbered). k.faults) is in
+    record { later = omega (arith, same); on_fault = λ fault. absurd (false≢true fault); on_ok = λ ok. same }
+
+-- the bytes in the range of the open operation
+pub in_open : (bytes : ℕ → List ℕ) (op : Option (ℕ × ℕ)) (at len : ℕ) → op ≡ Some (at, len) → (cells new : List ℕ) → new ≡ written at (bytes len) cells
+    → IfSome op (λ (range : ℕ × ℕ). new ≡ written range.0 (bytes range.1) cells)
+in_open bytes op at len is cells new items = subst (λ (o : Option (ℕ × ℕ)). IfSome o (λ (range : ℕ × ℕ). new ≡ written range.0 (bytes range.1) cells)) (sym is) items
 
 -- the length of the open operation
 pub length-open : (n : ℕ) (op : Option (ℕ × ℕ)) (at len : ℕ) → IsOpen n op → op ≡ Some (at, len) → n ≡ len
@@ -184,10 +194,10 @@ module _ (r r' : Recorded) (e : Event) (is : r' ≡ noted e r) where
         (λ x at. next x ((told (after e (held_now r)) file' cells' op' s' x).0 at))
 
     -- an operation opens
-    pub opened_leaves : (at len : ℕ) → op ≡ None → at + len ≤ length cells → e ≡ opened at len → Leaves (half_of CellsOf r) (half_of CellsOf r') (left (half_of CellsOf r'))
-    opened_leaves at len none within same =
+    pub opened_leaves : (at len : ℕ) → op ≡ None → 0 < len → at + len ≤ length cells → e ≡ opened at len → Leaves (half_of CellsOf r) (half_of CellsOf r') (left (half_of CellsOf r'))
+    opened_leaves at len none some within same =
         let s' : InStep (after e (held_now r)) file cells (Some (at, len)) =
-        subst (λ (d : Event). InStep (after d (held_now r)) file cells (Some (at, len))) (sym same) (step_opened (held_now r) file cells op s at len within) in
+        subst (λ (d : Event). InStep (after d (held_now r)) file cells (Some (at, len))) (sym same) (step_opened (held_now r) file cells op s at len some within) in
         let s'' = in_step_after file cells (Some (at, len)) s' in
         let back = λ (x : List ℕ) (at_end : SameOutside (Some (at, len)) cells x). (half_now CellsOf r' x).1 ((told (held_now r') file cells (Some (at, len)) s'' x).1 at_end) in
         told_leaves file cells (Some (at, len)) s' (left (half_of CellsOf r'))

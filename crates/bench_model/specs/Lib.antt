@@ -1,13 +1,16 @@
 pub mod History
 pub mod State
 pub mod Calls
+pub mod Device
+pub mod Does
+pub mod Act
 pub mod Pairs
 pub mod Untold
 pub mod Kept
 pub mod Record
-pub mod Numbers
 pub mod Memory
 pub mod Shown
+pub mod MemoryActs
 pub mod Picked
 pub mod Loss
 pub mod Stopped

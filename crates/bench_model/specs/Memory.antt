@@ -1,5 +1,5 @@
 -- What a bench in memory means.
-use Rattle.std.specs.Prelude.{◌≡◌, ◌≤◌, ◌+◌, ◌↔◌, ℕ, List, length, take, Option}
+use Rattle.std.specs.Prelude.{◌≡◌, ◌<◌, ◌≤◌, ◌+◌, ◌↔◌, ℕ, List, length, take, Option}
 use Rattle.std.specs.Option.{ForSome}
 use Rattle.std.proofs.Common.{subst, sym}
 use Rattle.std.proofs.Math.Nat.{le_refl}
@@ -17,7 +17,7 @@ pub record InStep (now : Held) (file cells : List ℕ) (operation : Option (ℕ 
   pub left : IsLeft now.kept file
   pub enough : now.kept.least ≤ length now.kept.synced
   pub older : length now.kept.synced ≤ now.kept.greatest
-  pub in_range : ForSome operation (λ range. range.0 + range.1 ≤ length cells)
+  pub in_range : ForSome operation (λ range. (0 < range.1) × (range.0 + range.1 ≤ length cells))
 
 abbrev pub memory_state : (file cells : List ℕ) → Option (ℕ × ℕ) → (store_faults device_faults : ℕ) → Recorded → BenchState
 memory_state file cells operation store_faults device_faults r = record {

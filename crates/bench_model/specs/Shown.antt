@@ -1,8 +1,8 @@
 -- A bench in memory as its contracts see it, and what each call does to it.
-use Rattle.std.specs.Prelude.{◌≡◌, ◌⊎◌, ℕ, List, Option, None, Result, MatchResult, slice_get, [], length, max}
+use Rattle.std.specs.Prelude.{ℕ, List, Option, None, slice_get, [], length, max}
 use Rattle.faults.specs.Counts.{raised}
 use Rattle.bench_model.specs.State.{BenchState}
-use Rattle.bench_model.specs.Numbers.{Numbered, IsDue, went, failed}
+use Rattle.faults.specs.Numbers.{Numbered, unused, went, failed}
 use Rattle.bench_model.specs.Record.{Event, Recorded, at_rest, noted}
 use Rattle.bench_model.specs.Memory.{memory_state}
 use Rattle.bench_model.specs.declared.memory.MemoryBench.{MemoryBench}
@@ -47,17 +47,11 @@ made_bench cells file file_room call_room store_fails device_fails garbage = rec
   operation = None;
   history = record { made = at_rest file cells; events = []; used = 0; room = call_room; longest = max (length file) file_room };
   file_room = file_room;
-  store = record { calls = 0; fails = store_fails; faults = 0 };
-  device = record { calls = 0; fails = device_fails; faults = 0 };
+  store = unused store_fails;
+  device = unused device_fails;
   garbage = garbage;
   breaks = 0;
 }
-
--- A call goes through exactly where its number isn't to fail and there is room for it, and each end leaves this.
-abbrev pub Ends : {T E : Type 0} → Result T E → Numbered → Type 0 → Memory → Memory → Memory → Type 0
-Ends result n room new on_ok on_err = MatchResult result
-    (λ value. (IsDue n → ⊥) × room × (new ≡ on_ok))
-    (λ fault. (IsDue n ⊎ (room → ⊥)) × (new ≡ on_err))
 
 -- a file call that went through and changed nothing, and one that failed
 abbrev pub store_went : Memory → Memory

@@ -1,9 +1,11 @@
-// The bench as the crates above see it.
-ghost use Rattle.std.specs.Prelude.{◌≡◌, ◌≤◌, ◌+◌, ◌<◌, ◌↔◌, List, ℕ, Bool, length, take, drop, replicate, IsTrue, IfOk, OnOk, OnErr, IfSome, IsSome, Option, None};
-ghost use Rattle.faults.specs.Counts.{HasCause};
-ghost use Rattle.bench_model.specs.History.{left, Leaves, AddsNothing, LeftOnly};
+//! The bench as the crates above see it.
+ghost use Rattle.std.specs.Prelude.{◌≡◌, ◌≤◌, ◌+◌, ◌<◌, ◌^◌, ◌↔◌, List, ℕ, Bool, length, replicate, IsTrue, IsSome, None};
+ghost use Rattle.std.specs.Option.{ForSome};
+ghost use Rattle.bench_model.specs.Act.{Act, FileLen, FileRead, FileWrite, FileCut, FileSync, CellsRead, CellsOpen, CellsSettle, CellsSettleFill, CellsDrop};
+ghost use Rattle.bench_model.specs.History.{left};
 ghost use Rattle.bench_model.specs.State.{BenchState, file_half, cells_half};
-ghost use Rattle.bench_model.specs.Calls.{written, Torn, Cut, Shortened, Follows, SameOutside, FileStays, CellsStay, IsOpen};
+ghost use Rattle.bench_model.specs.Calls.{SameOutside, IsOpen};
+ghost use Rattle.bench_model.specs.Does.{MeasuresFile, ReadsFile, WritesFile, CutsFile, SyncsFile, ReadsCells, OpensCells, SettlesCells, DropsCells};
 
 use crate::{DeviceFault, StoreFault};
 
@@ -11,7 +13,8 @@ use crate::{DeviceFault, StoreFault};
 /// in cells, which are bytes too. At most one operation on the cells is open at a time.
 ///
 /// Each call speaks of its own half (the file, or the cells) at every moment of the call, and says that the other half
-/// stayed. A call fails only where its count of faults rose.
+/// stayed. A call fails only where its count of faults rose. `does` is what every bench keeps, and `acts` what this one
+/// says more.
 pub trait Bench {
     /// Whether it tells its contents. Clauses and conditions on contents hold where it does.
     ghost tells: { Bool };
@@ -19,52 +22,38 @@ pub trait Bench {
     /// What it means.
     ghost state: { Self → BenchState };
 
+    /// From before, a call may go so and leave after.
+    ghost acts: { Self → Act → Self → Type 0 };
+
     /// The file's length.
     fn file_len(&mut self) -> Result<u64, StoreFault>
-        ensures ok { IsTrue tells → IfOk result (λ len. len ≡ length (state self.old).file) }
-        ensures file { IsTrue tells → (state self.new).file ≡ (state self.old).file }
-        ensures moments { AddsNothing (file_half (state self.old)) (file_half (state self.new)) }
-        ensures cells { CellsStay (state self.old) (state self.new) }
-        ensures cause { HasCause (state self.old).store_faults (state self.new).store_faults result };
+        ensures does { MeasuresFile tells (state self.old) (state self.new) result }
+        ensures acts { acts self.old (FileLen result) self.new };
 
     /// Reads a range of the file. On a fault the buffer holds any bytes.
     fn file_read(&mut self, at: u64, out: &mut [u8]) -> Result<(), StoreFault>
         requires { IsTrue tells → at + length out.old ≤ length (state self.old).file }
-        ensures ok { IsTrue tells → OnOk result (out.new ≡ take (length out.old) (drop at (state self.old).file)) }
-        ensures file { IsTrue tells → (state self.new).file ≡ (state self.old).file }
-        ensures moments { AddsNothing (file_half (state self.old)) (file_half (state self.new)) }
-        ensures cells { CellsStay (state self.old) (state self.new) }
-        ensures cause { HasCause (state self.old).store_faults (state self.new).store_faults result };
+        ensures does { ReadsFile tells (state self.old) (state self.new) at out.old out.new result }
+        ensures acts { acts self.old (FileRead at out.old out.new result) self.new };
 
     /// Writes over a range of the file, and past its end. Until the next sync a stop may leave the write torn, and on a
     /// fault the file as read may be torn so too.
     fn file_write(&mut self, at: u64, bytes: &[u8]) -> Result<(), StoreFault>
         requires { IsTrue tells → at ≤ length (state self.old).file }
-        ensures ok { IsTrue tells → OnOk result ((state self.new).file ≡ written at bytes.now (state self.old).file) }
-        ensures err { IsTrue tells → OnErr result (Torn at (length bytes.now) (state self.old).file (state self.new).file) }
-        ensures moments { Leaves (file_half (state self.old)) (file_half (state self.new))
-            (Follows (Torn at (length bytes.now)) (file_half (state self.old))) }
-        ensures cells { CellsStay (state self.old) (state self.new) }
-        ensures cause { HasCause (state self.old).store_faults (state self.new).store_faults result };
+        ensures does { WritesFile tells (state self.old) (state self.new) at bytes.now result }
+        ensures acts { acts self.old (FileWrite at bytes.now result) self.new };
 
     /// Cuts the file to a length. Until the next sync a stop may leave any length that it had, with any bytes from the
     /// cut on. On a fault the file as read may be cut in part.
     fn file_cut(&mut self, len: u64) -> Result<(), StoreFault>
         requires { IsTrue tells → len ≤ length (state self.old).file }
-        ensures ok { IsTrue tells → OnOk result ((state self.new).file ≡ take len (state self.old).file) }
-        ensures err { IsTrue tells → OnErr result (Shortened len (state self.old).file (state self.new).file) }
-        ensures moments { Leaves (file_half (state self.old)) (file_half (state self.new))
-            (Follows (Cut len) (file_half (state self.old))) }
-        ensures cells { CellsStay (state self.old) (state self.new) }
-        ensures cause { HasCause (state self.old).store_faults (state self.new).store_faults result };
+        ensures does { CutsFile tells (state self.old) (state self.new) len result }
+        ensures acts { acts self.old (FileCut len result) self.new };
 
     /// Brings the file to the disk: after it a stop leaves the file as a read gives it. A fault leaves pending what was.
     fn file_sync(&mut self) -> Result<(), StoreFault>
-        ensures ok { IsTrue tells → OnOk result (LeftOnly (state self.old).file (file_half (state self.new))) }
-        ensures file { IsTrue tells → (state self.new).file ≡ (state self.old).file }
-        ensures moments { AddsNothing (file_half (state self.old)) (file_half (state self.new)) }
-        ensures cells { CellsStay (state self.old) (state self.new) }
-        ensures cause { HasCause (state self.old).store_faults (state self.new).store_faults result };
+        ensures does { SyncsFile tells (state self.old) (state self.new) result }
+        ensures acts { acts self.old (FileSync result) self.new };
 
     /// The number of cells, which no call changes.
     fn cells_len(&self) -> u32
@@ -74,13 +63,8 @@ pub trait Bench {
     fn cells_read(&mut self, at: u32, out: &mut [u8]) -> Result<(), DeviceFault>
         requires range { at + length out.old ≤ (state self.old).cell_count }
         requires idle { IsTrue tells → (state self.old).operation ≡ None }
-        ensures ok { IsTrue tells → OnOk result (out.new ≡ take (length out.old) (drop at (state self.old).cells)) }
-        ensures cells { IsTrue tells → ((state self.new).cells ≡ (state self.old).cells)
-            × ((state self.new).operation ≡ (state self.old).operation) }
-        ensures count { (state self.new).cell_count ≡ (state self.old).cell_count }
-        ensures moments { AddsNothing (cells_half (state self.old)) (cells_half (state self.new)) }
-        ensures file { FileStays (state self.old) (state self.new) }
-        ensures cause { HasCause (state self.old).device_faults (state self.new).device_faults result };
+        ensures does { ReadsCells tells (state self.old) (state self.new) at out.old out.new result }
+        ensures acts { acts self.old (CellsRead at out.old out.new result) self.new };
 
     /// Opens an operation on a range of the cells, where none is open. While it is open a stop may leave any bytes in
     /// the range. On a fault none is open.
@@ -88,50 +72,25 @@ pub trait Bench {
         requires range { at + len ≤ (state self.old).cell_count }
         requires some { 0 < len }
         requires idle { IsTrue tells → (state self.old).operation ≡ None }
-        ensures ok { IsTrue tells → OnOk result ((state self.new).operation ≡ Some (at, len)) }
-        ensures err { IsTrue tells → OnErr result ((state self.new).operation ≡ None) }
-        ensures cells { IsTrue tells → (state self.new).cells ≡ (state self.old).cells }
-        ensures count { (state self.new).cell_count ≡ (state self.old).cell_count }
-        // opening only adds, so all that a stop may leave meanwhile is among what one after it may leave
-        ensures moments { Leaves (cells_half (state self.old)) (cells_half (state self.new))
-            (left (cells_half (state self.new))) }
-        ensures file { FileStays (state self.old) (state self.new) }
-        ensures cause { HasCause (state self.old).device_faults (state self.new).device_faults result };
+        ensures does { OpensCells tells (state self.old) (state self.new) at len result }
+        ensures acts { acts self.old (CellsOpen at len result) self.new };
 
     /// Ends the open operation with these bytes in its range. On a fault it stays open.
     fn cells_settle(&mut self, bytes: &[u8]) -> Result<(), DeviceFault>
         requires { IsTrue tells → IsOpen (length bytes.now) (state self.old).operation }
-        ensures ok { IsTrue tells → OnOk result (((state self.new).operation ≡ None)
-            × IfSome (state self.old).operation (λ range. (state self.new).cells ≡ written range.0 bytes.now (state self.old).cells)) }
-        ensures err { IsTrue tells → OnErr result (((state self.new).operation ≡ (state self.old).operation)
-            × ((state self.new).cells ≡ (state self.old).cells)) }
-        ensures count { (state self.new).cell_count ≡ (state self.old).cell_count }
-        ensures moments { AddsNothing (cells_half (state self.old)) (cells_half (state self.new)) }
-        ensures file { FileStays (state self.old) (state self.new) }
-        ensures cause { HasCause (state self.old).device_faults (state self.new).device_faults result };
+        ensures does { SettlesCells tells (state self.old) (state self.new) (λ n. bytes.now) result }
+        ensures acts { acts self.old (CellsSettle bytes.now result) self.new };
 
     /// Ends the open operation with its range filled with one byte. On a fault it stays open.
     fn cells_settle_fill(&mut self, value: u8) -> Result<(), DeviceFault>
         requires { IsTrue tells → IsSome (state self.old).operation }
-        ensures ok { IsTrue tells → OnOk result (((state self.new).operation ≡ None)
-            × IfSome (state self.old).operation (λ range. (state self.new).cells ≡ written range.0 (replicate range.1 value) (state self.old).cells)) }
-        ensures err { IsTrue tells → OnErr result (((state self.new).operation ≡ (state self.old).operation)
-            × ((state self.new).cells ≡ (state self.old).cells)) }
-        ensures count { (state self.new).cell_count ≡ (state self.old).cell_count }
-        ensures moments { AddsNothing (cells_half (state self.old)) (cells_half (state self.new)) }
-        ensures file { FileStays (state self.old) (state self.new) }
-        ensures cause { HasCause (state self.old).device_faults (state self.new).device_faults result };
+        ensures does { SettlesCells tells (state self.old) (state self.new) (λ n. replicate n value) result }
+        ensures acts { acts self.old (CellsSettleFill value result) self.new };
 
     /// Breaks off an open operation, whose range then holds any bytes. On a fault it stays open.
     fn cells_drop(&mut self) -> Result<(), DeviceFault>
-        ensures ok { IsTrue tells → OnOk result (((state self.new).operation ≡ None)
-            × SameOutside (state self.old).operation (state self.old).cells (state self.new).cells) }
-        ensures err { IsTrue tells → OnErr result (((state self.new).operation ≡ (state self.old).operation)
-            × ((state self.new).cells ≡ (state self.old).cells)) }
-        ensures count { (state self.new).cell_count ≡ (state self.old).cell_count }
-        ensures moments { AddsNothing (cells_half (state self.old)) (cells_half (state self.new)) }
-        ensures file { FileStays (state self.old) (state self.new) }
-        ensures cause { HasCause (state self.old).device_faults (state self.new).device_faults result };
+        ensures does { DropsCells tells (state self.old) (state self.new) result }
+        ensures acts { acts self.old (CellsDrop result) self.new };
 
     /// The file as read is among those that a stop may leave.
     ghost as_read: { (bench : Self) → IsTrue tells → left (file_half (state bench)) (state bench).file };
@@ -142,4 +101,11 @@ pub trait Bench {
 
     /// There are as many cells as it says.
     ghost all_told: { (bench : Self) → IsTrue tells → length (state bench).cells ≡ (state bench).cell_count };
+
+    /// There are fewer cells than 2^32, also where they aren't told.
+    ghost few: { (bench : Self) → (state bench).cell_count < 2 ^ 32 };
+
+    /// An open operation has at least one cell, and lies in the cells.
+    ghost inside: { (bench : Self) → IsTrue tells
+        → ForSome (state bench).operation (λ range. (0 < range.1) × (range.0 + range.1 ≤ (state bench).cell_count)) };
 }

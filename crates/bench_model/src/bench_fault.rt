@@ -1,4 +1,4 @@
-// What a call on a bench, or on a bus before it, may fail with.
+//! What a call on a bench, or on a bus before it, may fail with.
 ghost use Rattle.std.specs.Prelude.{◌≡◌};
 
 use thiserror::Error;

@@ -1,4 +1,4 @@
-// A call that changed something, as a bench in memory records it.
+//! A call that changed something, as a bench in memory records it.
 
 /// A recorded call. The bytes that it was handed stand beside it in the record.
 #[derive(Clone, Copy, Debug, PartialEq, Eq)]

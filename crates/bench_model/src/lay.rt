@@ -1,9 +1,9 @@
-// Bytes laid over others.
+//! Bytes laid over others.
 ghost use Rattle.std.specs.Prelude.{◌≡◌, ◌≤◌, ◌+◌, length, replicate, vec_len, vec_capacity};
 ghost use Rattle.bench_model.specs.Calls.{written};
 ghost use Rattle.bench_model.specs.Record.{marked};
 
-// Lays bytes over others.
+/// Lays bytes over others.
 pub(crate) fn overlay(old: &mut [u8], at: usize, bytes: &[u8])
     requires { at + length bytes.now ≤ length old.old }
     ensures { old.new ≡ written at bytes.now old.old }
@@ -11,7 +11,7 @@ pub(crate) fn overlay(old: &mut [u8], at: usize, bytes: &[u8])
     old[at..at + bytes.len()].copy_from_slice(bytes);
 }
 
-// Fills a range.
+/// Fills a range.
 pub(crate) fn overfill(old: &mut [u8], at: usize, len: usize, value: u8)
     requires { at + len ≤ length old.old }
     ensures { old.new ≡ written at (replicate len value) old.old }
@@ -19,7 +19,7 @@ pub(crate) fn overfill(old: &mut [u8], at: usize, len: usize, value: u8)
     old[at..at + len].fill(value);
 }
 
-// Lays bytes over others and past their end.
+/// Lays bytes over others and past their end.
 pub(crate) fn overwrite(file: &mut Vec<u8>, at: usize, bytes: &[u8])
     requires inside { at ≤ vec_len file.old }
     requires room { at + length bytes.now ≤ vec_capacity file.old }
@@ -34,7 +34,7 @@ pub(crate) fn overwrite(file: &mut Vec<u8>, at: usize, bytes: &[u8])
     }
 }
 
-// Lays bytes over cells.
+/// Lays bytes over cells.
 pub(crate) fn settle(cells: &mut Vec<u8>, at: usize, bytes: &[u8])
     requires { at + length bytes.now ≤ vec_len cells.old }
     ensures items { cells.new.items ≡ written at bytes.now cells.old.items }
@@ -42,7 +42,7 @@ pub(crate) fn settle(cells: &mut Vec<u8>, at: usize, bytes: &[u8])
     overlay(cells, at, bytes);
 }
 
-// Fills a range of cells.
+/// Fills a range of cells.
 pub(crate) fn settle_fill(cells: &mut Vec<u8>, at: usize, len: usize, value: u8)
     requires { at + len ≤ vec_len cells.old }
     ensures items { cells.new.items ≡ written at (replicate len value) cells.old.items }
@@ -50,7 +50,7 @@ pub(crate) fn settle_fill(cells: &mut Vec<u8>, at: usize, len: usize, value: u8)
     overfill(cells, at, len, value);
 }
 
-// Makes one list a copy of another.
+/// Makes one list a copy of another.
 pub(crate) fn replace(old: &mut Vec<u8>, bytes: &[u8])
     requires { length bytes.now ≤ vec_capacity old.old }
     ensures items { old.new.items ≡ bytes.now }
@@ -60,7 +60,7 @@ pub(crate) fn replace(old: &mut Vec<u8>, bytes: &[u8])
     let _ = old.extend_from_slice(bytes);
 }
 
-// Marks a range, and past the end.
+/// Marks a range, and past the end.
 pub(crate) fn mark(marks: &mut Vec<bool>, from: usize, to: usize)
     requires order { from ≤ to }
     requires inside { from ≤ vec_len marks.old }

@@ -6,7 +6,6 @@ mod bench_fault;
 mod change;
 mod lay;
 mod memory;
-mod numbers;
 mod pick;
 mod record;
 mod stop;

@@ -1,21 +1,16 @@
-// A bench in memory. It keeps each call that changed something, and so answers for every moment.
-ghost use Rattle.std.specs.Prelude.{◌≡◌, ◌≤◌, ◌<◌, ◌+◌, ◌^◌, ◌↔◌, [], ◌∷◌, List, ℕ, length, take, drop, max, replicate, slice_get, Option, Some, None, IsTrue, IfOk, OnOk, OnErr, IfSome, IfNone, IsSome, ⊤, vec_len, vec_capacity};
-ghost use Rattle.faults.specs.Counts.{HasCause};
-ghost use Rattle.bench_model.specs.History.{left, Leaves, AddsNothing, LeftOnly};
-ghost use Rattle.bench_model.specs.State.{file_half, cells_half};
-ghost use Rattle.bench_model.specs.Calls.{written, Torn, Cut, Shortened, Follows, SameOutside, FileStays, CellsStay, IsOpen};
+//! A bench in memory. It keeps each call that changed something, and so answers for every moment.
+ghost use Rattle.std.specs.Prelude.{◌≡◌, ◌≤◌, ◌<◌, ◌+◌, ◌^◌, ◌↔◌, length, slice_get, Some, IsTrue, IfOk, vec_len, vec_capacity};
 ghost use Rattle.std.specs.Option.{ForSome};
 ghost use Rattle.bench_model.specs.Memory.{InStep};
 ghost use Rattle.bench_model.specs.Picked.{IsPickedFile, picked_cells};
-ghost use Rattle.bench_model.specs.Record.{HasRoom, held_now, in_range, broken, at_rest, wrote, cut, synced, opened, settled, filled, broken_off};
+ghost use Rattle.bench_model.specs.Record.{HasRoom, held_now, broken};
 
 use crate::change::Change;
 use crate::lay::{overwrite, replace, settle, settle_fill};
-use crate::numbers::Numbers;
 use crate::pick::Pick;
 use crate::record::Record;
 use crate::{Bench, DeviceFault, StoreFault};
-use faults::OutOfMemory;
+use faults::{Numbers, OutOfMemory};
 use std::alloc::Global;
 
 /// A bench in memory, for tests and for devices that are emulated in a test. It tells its contents.
@@ -113,7 +108,7 @@ impl MemoryBench {
     }
 }
 
-// Puts the file that a stop leaves.
+/// Puts the file that a stop leaves.
 fn pick_file(history: &Record, file: &mut Vec<u8>, pick: Pick)
     requires longest { (held_now history.now).kept.greatest ≤ vec_capacity file.old }
     requires older { length (held_now history.now).kept.synced ≤ vec_capacity file.old }
@@ -127,7 +122,7 @@ fn pick_file(history: &Record, file: &mut Vec<u8>, pick: Pick)
     }
 }
 
-// Puts the cells that a stop leaves.
+/// Puts the cells that a stop leaves.
 fn pick_cells(cells: &mut Vec<u8>, operation: Option<(u32, u32)>, pick: Pick)
     requires { ForSome operation (λ range. range.0 + range.1 ≤ vec_len cells.old) }
     ensures items { cells.new.items ≡ picked_cells pick operation cells.old.items }
@@ -137,14 +132,14 @@ fn pick_cells(cells: &mut Vec<u8>, operation: Option<(u32, u32)>, pick: Pick)
     }
 }
 
-// Whether there is room for a write in the file and in the record.
+/// Whether there is room for a write in the file and in the record.
 fn can_write(history: &Record, file_room: u64, at: u64, len: usize) -> bool
     ensures { IsTrue result ↔ (at + len ≤ file_room) × HasRoom len history.now }
 {
     at <= file_room && len as u64 <= file_room - at && history.has_room(len)
 }
 
-// Leaves a byte in a range of cells, or the old bytes where there is none.
+/// Leaves a byte in a range of cells, or the old bytes where there is none.
 fn leave(cells: &mut Vec<u8>, at: usize, len: usize, byte: Option<u8>)
     requires { at + len ≤ vec_len cells.old }
     ensures { cells.new.items ≡ broken byte (Some (at, len)) cells.old.items }
@@ -154,7 +149,7 @@ fn leave(cells: &mut Vec<u8>, at: usize, len: usize, byte: Option<u8>)
     }
 }
 
-// The byte at a place, where there is one.
+/// The byte at a place, where there is one.
 fn byte_at(bytes: &[u8], at: u64) -> Option<u8>
     ensures { result ≡ slice_get bytes.now at }
 {
@@ -165,13 +160,15 @@ fn byte_at(bytes: &[u8], at: u64) -> Option<u8>
 }
 
 impl Bench for MemoryBench {
-    ghost use Rattle.bench_model.specs.Shown.{shown, bench_of, next_garbage, Ends, store_went, store_failed, stored, device_went, device_failed, worked, let_go};
-    ghost use Rattle.std.specs.Prelude.{true, ℕ, List, refl};
+    ghost use Rattle.std.specs.Prelude.{true, refl};
     ghost use Rattle.bench_model.specs.Memory.{memory_state, left_as_read, left_as_told};
+    ghost use Rattle.bench_model.specs.MemoryActs.{memory_acts};
 
     ghost tells = { true };
 
     ghost state = { λ m. memory_state m.file.items m.cells.items m.operation m.store.faults m.device.faults m.history };
+
+    ghost acts = { memory_acts };
 
     ghost as_read = { λ m told. left_as_read m.history m.file.items m.cells.items m.operation m.in_step };
 
@@ -179,29 +176,18 @@ impl Bench for MemoryBench {
 
     ghost all_told = { λ m told. refl };
 
-    fn file_len(&mut self) -> Result<u64, StoreFault>
-        ensures ok { IfOk result (λ len. len ≡ length (bench_of self.old).file) }
-        ensures file { (bench_of self.new).file ≡ (bench_of self.old).file }
-        ensures moments { AddsNothing (file_half (bench_of self.old)) (file_half (bench_of self.new)) }
-        ensures cells { CellsStay (bench_of self.old) (bench_of self.new) }
-        ensures cause { HasCause (bench_of self.old).store_faults (bench_of self.new).store_faults result }
-        ensures exact { Ends result (shown self.old).store ⊤ (shown self.new) (store_went (shown self.old)) (store_failed (shown self.old)) }
-    {
+    ghost few = { λ m. m.fits };
+
+    ghost inside = { λ m told. m.in_step.in_range };
+
+    fn file_len(&mut self) -> Result<u64, StoreFault> {
         if !self.store.goes(true) {
             return Err(StoreFault);
         }
         Ok(self.file.len() as u64)
     }
 
-    fn file_read(&mut self, at: u64, out: &mut [u8]) -> Result<(), StoreFault>
-        requires { at + length out.old ≤ length (bench_of self.old).file }
-        ensures ok { OnOk result (out.new ≡ take (length out.old) (drop at (bench_of self.old).file)) }
-        ensures file { (bench_of self.new).file ≡ (bench_of self.old).file }
-        ensures moments { AddsNothing (file_half (bench_of self.old)) (file_half (bench_of self.new)) }
-        ensures cells { CellsStay (bench_of self.old) (bench_of self.new) }
-        ensures cause { HasCause (bench_of self.old).store_faults (bench_of self.new).store_faults result }
-        ensures exact { Ends result (shown self.old).store ⊤ (shown self.new) (store_went (shown self.old)) (store_failed (shown self.old)) }
-    {
+    fn file_read(&mut self, at: u64, out: &mut [u8]) -> Result<(), StoreFault> {
         if !self.store.goes(true) {
             return Err(StoreFault);
         }
@@ -210,17 +196,7 @@ impl Bench for MemoryBench {
         Ok(())
     }
 
-    fn file_write(&mut self, at: u64, bytes: &[u8]) -> Result<(), StoreFault>
-        requires { at ≤ length (bench_of self.old).file }
-        ensures ok { OnOk result ((bench_of self.new).file ≡ written at bytes.now (bench_of self.old).file) }
-        ensures err { OnErr result (Torn at (length bytes.now) (bench_of self.old).file (bench_of self.new).file) }
-        ensures moments { Leaves (file_half (bench_of self.old)) (file_half (bench_of self.new))
-            (Follows (Torn at (length bytes.now)) (file_half (bench_of self.old))) }
-        ensures cells { CellsStay (bench_of self.old) (bench_of self.new) }
-        ensures cause { HasCause (bench_of self.old).store_faults (bench_of self.new).store_faults result }
-        ensures exact { Ends result (shown self.old).store ((at + length bytes.now ≤ (shown self.old).file_room) × HasRoom (length bytes.now) (shown self.old).history) (shown self.new)
-            (stored (wrote at bytes.now) (written at bytes.now (shown self.old).file) (shown self.old)) (store_failed (shown self.old)) }
-    {
+    fn file_write(&mut self, at: u64, bytes: &[u8]) -> Result<(), StoreFault> {
         let len = bytes.len();
         let room = can_write(&self.history, self.file_room, at, len);
         if !self.store.goes(room) {
@@ -231,17 +207,7 @@ impl Bench for MemoryBench {
         Ok(())
     }
 
-    fn file_cut(&mut self, len: u64) -> Result<(), StoreFault>
-        requires { len ≤ length (bench_of self.old).file }
-        ensures ok { OnOk result ((bench_of self.new).file ≡ take len (bench_of self.old).file) }
-        ensures err { OnErr result (Shortened len (bench_of self.old).file (bench_of self.new).file) }
-        ensures moments { Leaves (file_half (bench_of self.old)) (file_half (bench_of self.new))
-            (Follows (Cut len) (file_half (bench_of self.old))) }
-        ensures cells { CellsStay (bench_of self.old) (bench_of self.new) }
-        ensures cause { HasCause (bench_of self.old).store_faults (bench_of self.new).store_faults result }
-        ensures exact { Ends result (shown self.old).store (HasRoom 0 (shown self.old).history) (shown self.new)
-            (stored (cut len) (take len (shown self.old).file) (shown self.old)) (store_failed (shown self.old)) }
-    {
+    fn file_cut(&mut self, len: u64) -> Result<(), StoreFault> {
         let room = self.history.has_room(0);
         if !self.store.goes(room) {
             return Err(StoreFault);
@@ -251,15 +217,7 @@ impl Bench for MemoryBench {
         Ok(())
     }
 
-    fn file_sync(&mut self) -> Result<(), StoreFault>
-        ensures ok { OnOk result (LeftOnly (bench_of self.old).file (file_half (bench_of self.new))) }
-        ensures file { (bench_of self.new).file ≡ (bench_of self.old).file }
-        ensures moments { AddsNothing (file_half (bench_of self.old)) (file_half (bench_of self.new)) }
-        ensures cells { CellsStay (bench_of self.old) (bench_of self.new) }
-        ensures cause { HasCause (bench_of self.old).store_faults (bench_of self.new).store_faults result }
-        ensures exact { Ends result (shown self.old).store (HasRoom 0 (shown self.old).history) (shown self.new)
-            (stored synced (shown self.old).file (shown self.old)) (store_failed (shown self.old)) }
-    {
+    fn file_sync(&mut self) -> Result<(), StoreFault> {
         let room = self.history.has_room(0);
         if !self.store.goes(room) {
             return Err(StoreFault);
@@ -268,24 +226,11 @@ impl Bench for MemoryBench {
         Ok(())
     }
 
-    fn cells_len(&self) -> u32
-        ensures { result ≡ (bench_of self.now).cell_count }
-    {
+    fn cells_len(&self) -> u32 {
         self.cells.len() as u32
     }
 
-    fn cells_read(&mut self, at: u32, out: &mut [u8]) -> Result<(), DeviceFault>
-        requires range { at + length out.old ≤ (bench_of self.old).cell_count }
-        requires idle { (bench_of self.old).operation ≡ None }
-        ensures ok { OnOk result (out.new ≡ take (length out.old) (drop at (bench_of self.old).cells)) }
-        ensures cells { ((bench_of self.new).cells ≡ (bench_of self.old).cells)
-            × ((bench_of self.new).operation ≡ (bench_of self.old).operation) }
-        ensures count { (bench_of self.new).cell_count ≡ (bench_of self.old).cell_count }
-        ensures moments { AddsNothing (cells_half (bench_of self.old)) (cells_half (bench_of self.new)) }
-        ensures file { FileStays (bench_of self.old) (bench_of self.new) }
-        ensures cause { HasCause (bench_of self.old).device_faults (bench_of self.new).device_faults result }
-        ensures exact { Ends result (shown self.old).device ⊤ (shown self.new) (device_went (shown self.old)) (device_failed (shown self.old)) }
-    {
+    fn cells_read(&mut self, at: u32, out: &mut [u8]) -> Result<(), DeviceFault> {
         if !self.device.goes(true) {
             return Err(DeviceFault);
         }
@@ -294,21 +239,7 @@ impl Bench for MemoryBench {
         Ok(())
     }
 
-    fn cells_open(&mut self, at: u32, len: u32) -> Result<(), DeviceFault>
-        requires range { at + len ≤ (bench_of self.old).cell_count }
-        requires some { 0 < len }
-        requires idle { (bench_of self.old).operation ≡ None }
-        ensures ok { OnOk result ((bench_of self.new).operation ≡ Some (at, len)) }
-        ensures err { OnErr result ((bench_of self.new).operation ≡ None) }
-        ensures cells { (bench_of self.new).cells ≡ (bench_of self.old).cells }
-        ensures count { (bench_of self.new).cell_count ≡ (bench_of self.old).cell_count }
-        ensures moments { Leaves (cells_half (bench_of self.old)) (cells_half (bench_of self.new))
-            (left (cells_half (bench_of self.new))) }
-        ensures file { FileStays (bench_of self.old) (bench_of self.new) }
-        ensures cause { HasCause (bench_of self.old).device_faults (bench_of self.new).device_faults result }
-        ensures exact { Ends result (shown self.old).device (HasRoom 0 (shown self.old).history) (shown self.new)
-            (worked (opened at len) (shown self.old).cells (Some (at, len)) (shown self.old)) (device_failed (shown self.old)) }
-    {
+    fn cells_open(&mut self, at: u32, len: u32) -> Result<(), DeviceFault> {
         let room = self.history.has_room(0);
         if !self.device.goes(room) {
             return Err(DeviceFault);
@@ -318,19 +249,7 @@ impl Bench for MemoryBench {
         Ok(())
     }
 
-    fn cells_settle(&mut self, bytes: &[u8]) -> Result<(), DeviceFault>
-        requires { IsOpen (length bytes.now) (bench_of self.old).operation }
-        ensures ok { OnOk result (((bench_of self.new).operation ≡ None)
-            × IfSome (bench_of self.old).operation (λ range. (bench_of self.new).cells ≡ written range.0 bytes.now (bench_of self.old).cells)) }
-        ensures err { OnErr result (((bench_of self.new).operation ≡ (bench_of self.old).operation)
-            × ((bench_of self.new).cells ≡ (bench_of self.old).cells)) }
-        ensures count { (bench_of self.new).cell_count ≡ (bench_of self.old).cell_count }
-        ensures moments { AddsNothing (cells_half (bench_of self.old)) (cells_half (bench_of self.new)) }
-        ensures file { FileStays (bench_of self.old) (bench_of self.new) }
-        ensures cause { HasCause (bench_of self.old).device_faults (bench_of self.new).device_faults result }
-        ensures exact { Ends result (shown self.old).device (HasRoom (length bytes.now) (shown self.old).history) (shown self.new)
-            (worked (settled bytes.now) (in_range (λ n. bytes.now) (shown self.old).operation (shown self.old).cells) None (shown self.old)) (device_failed (shown self.old)) }
-    {
+    fn cells_settle(&mut self, bytes: &[u8]) -> Result<(), DeviceFault> {
         let Some((at, _)) = self.operation else {
             unreachable!()
         };
@@ -345,19 +264,7 @@ impl Bench for MemoryBench {
         Ok(())
     }
 
-    fn cells_settle_fill(&mut self, value: u8) -> Result<(), DeviceFault>
-        requires { IsSome (bench_of self.old).operation }
-        ensures ok { OnOk result (((bench_of self.new).operation ≡ None)
-            × IfSome (bench_of self.old).operation (λ range. (bench_of self.new).cells ≡ written range.0 (replicate range.1 value) (bench_of self.old).cells)) }
-        ensures err { OnErr result (((bench_of self.new).operation ≡ (bench_of self.old).operation)
-            × ((bench_of self.new).cells ≡ (bench_of self.old).cells)) }
-        ensures count { (bench_of self.new).cell_count ≡ (bench_of self.old).cell_count }
-        ensures moments { AddsNothing (cells_half (bench_of self.old)) (cells_half (bench_of self.new)) }
-        ensures file { FileStays (bench_of self.old) (bench_of self.new) }
-        ensures cause { HasCause (bench_of self.old).device_faults (bench_of self.new).device_faults result }
-        ensures exact { Ends result (shown self.old).device (HasRoom 0 (shown self.old).history) (shown self.new)
-            (worked (filled value) (in_range (λ n. replicate n value) (shown self.old).operation (shown self.old).cells) None (shown self.old)) (device_failed (shown self.old)) }
-    {
+    fn cells_settle_fill(&mut self, value: u8) -> Result<(), DeviceFault> {
         let Some((at, len)) = self.operation else {
             unreachable!()
         };
@@ -371,19 +278,7 @@ impl Bench for MemoryBench {
         Ok(())
     }
 
-    fn cells_drop(&mut self) -> Result<(), DeviceFault>
-        ensures ok { OnOk result (((bench_of self.new).operation ≡ None)
-            × SameOutside (bench_of self.old).operation (bench_of self.old).cells (bench_of self.new).cells) }
-        ensures err { OnErr result (((bench_of self.new).operation ≡ (bench_of self.old).operation)
-            × ((bench_of self.new).cells ≡ (bench_of self.old).cells)) }
-        ensures count { (bench_of self.new).cell_count ≡ (bench_of self.old).cell_count }
-        ensures moments { AddsNothing (cells_half (bench_of self.old)) (cells_half (bench_of self.new)) }
-        ensures file { FileStays (bench_of self.old) (bench_of self.new) }
-        ensures cause { HasCause (bench_of self.old).device_faults (bench_of self.new).device_faults result }
-        ensures idle { IfNone (shown self.old).operation (Ends result (shown self.old).device ⊤ (shown self.new) (device_went (shown self.old)) (device_failed (shown self.old))) }
-        ensures exact { IfSome (shown self.old).operation (λ range. Ends result (shown self.old).device (HasRoom 0 (shown self.old).history) (shown self.new)
-            (let_go (broken_off (next_garbage (shown self.old))) (broken (next_garbage (shown self.old)) (shown self.old).operation (shown self.old).cells) (shown self.old)) (device_failed (shown self.old))) }
-    {
+    fn cells_drop(&mut self) -> Result<(), DeviceFault> {
         let Some((at, len)) = self.operation else {
             if !self.device.goes(true) {
                 return Err(DeviceFault);

@@ -1,4 +1,4 @@
-// What a stop of the power leaves of a bench in memory.
+//! What a stop of the power leaves of a bench in memory.
 
 /// Which of the files and cells that a stop may leave is left.
 #[derive(Clone, Copy, Debug, PartialEq, Eq)]

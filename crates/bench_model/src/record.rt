@@ -1,4 +1,4 @@
-// The record of a bench in memory.
+//! The record of a bench in memory.
 ghost use Rattle.std.specs.Prelude.{◌≡◌, ◌≤◌, ◌+◌, ◌<◌, ◌↔◌, ◌++◌, [], ◌∷◌, length, replicate, false, true, slice_index, slice_index_or, ℕ, IsTrue, IfOk, vec_len, vec_capacity};
 ghost use Rattle.bench_model.specs.Record.{handed, event_of, noted, synced, HasRoom, CanMark, marked, marked_by, at_rest, held_now};
 ghost use Rattle.bench_model.specs.Kept.{IsFilled};
@@ -43,7 +43,7 @@ impl Model for Record {
         r.used r.room r.longest (vec_capacity r.changes) (vec_capacity r.handed) (vec_capacity r.made_file) (vec_capacity r.synced) (vec_capacity r.marks) };
 }
 
-// Puts a call at the end.
+/// Puts a call at the end.
 fn push(changes: &mut Vec<Change>, handed: &mut Vec<u8>, change: Change, bytes: &[u8])
     requires change_room { vec_len changes.old < vec_capacity changes.old }
     requires byte_room { vec_len handed.old + length bytes.now ≤ vec_capacity handed.old }
@@ -56,7 +56,7 @@ fn push(changes: &mut Vec<Change>, handed: &mut Vec<u8>, change: Change, bytes: 
     let _ = handed.extend_from_slice(bytes);
 }
 
-// Marks what a call leaves pending.
+/// Marks what a call leaves pending.
 fn mark_by(marks: &mut Vec<bool>, change: Change, longest: usize)
     requires can { CanMark change (vec_len marks.old) longest }
     requires room { longest ≤ vec_capacity marks.old }
@@ -80,7 +80,7 @@ fn mark_from(marks: &mut Vec<bool>, from: usize)
 }
 
 impl Record {
-    // An empty record of a bench at rest, with room for so many units and for files of this length.
+    /// An empty record of a bench at rest, with room for so many units and for files of this length.
     pub(crate) fn new(
         alloc: Global,
         file: &[u8],
@@ -110,14 +110,14 @@ impl Record {
         })
     }
 
-    // Whether there is room for a call that is handed so many bytes.
+    /// Whether there is room for a call that is handed so many bytes.
     pub(crate) fn has_room(&self, bytes: usize) -> bool
         ensures { IsTrue result ↔ HasRoom bytes self.now }
     {
         (bytes as u64) < self.room - self.used
     }
 
-    // Records a call other than a sync.
+    /// Records a call other than a sync.
     pub(crate) fn note(&mut self, change: Change, bytes: &[u8])
         requires room { HasRoom (length bytes.now) self.old }
         requires handed { handed change ≡ length bytes.now }
@@ -129,7 +129,7 @@ impl Record {
         self.used += 1 + bytes.len() as u64;
     }
 
-    // Records a sync of this file.
+    /// Records a sync of this file.
     pub(crate) fn note_sync(&mut self, file: &[u8])
         requires room { HasRoom 0 self.old }
         requires file { (held_now self.old).kept.file ≡ file.now }
@@ -142,14 +142,14 @@ impl Record {
         self.used += 1;
     }
 
-    // The file as the last sync left it.
+    /// The file as the last sync left it.
     pub(crate) fn synced(&self) -> &[u8]
         ensures { result.now ≡ (held_now self.now).kept.synced }
     {
         &self.synced
     }
 
-    // Puts the longest file that a stop may leave, with one value at each byte that is pending.
+    /// Puts the longest file that a stop may leave, with one value at each byte that is pending.
     pub(crate) fn fill(&self, file: &mut Vec<u8>, value: u8)
         requires { (held_now self.now).kept.greatest ≤ vec_capacity file.old }
         ensures items { IsFilled value (held_now self.now).kept file.new.items }
@@ -160,7 +160,7 @@ impl Record {
         put_clear(file, &self.marks, &self.synced, value);
     }
 
-    // Begins anew with a bench at rest.
+    /// Begins anew with a bench at rest.
     pub(crate) fn restart(&mut self, file: &[u8], cells: &[u8])
         requires file { length file.now ≤ self.old.longest }
         requires cells { length cells.now ≡ length self.old.made.cells }
@@ -176,7 +176,7 @@ impl Record {
     }
 }
 
-// Puts the bytes that aren't marked over a file whose bytes are all one value.
+/// Puts the bytes that aren't marked over a file whose bytes are all one value.
 fn put_clear(file: &mut [u8], marks: &[bool], bytes: &[u8], value: u8)
     requires filled { file.old ≡ replicate (length marks.now) value }
     requires enough { (i : ℕ) → i < length marks.now → slice_index_or marks.now i true ≡ false → i < length bytes.now }
@@ -191,7 +191,7 @@ fn put_clear(file: &mut [u8], marks: &[bool], bytes: &[u8], value: u8)
     }
 }
 
-// Nothing of so many bytes is pending.
+/// Nothing of so many bytes is pending.
 fn unmark(marks: &mut Vec<bool>, len: usize)
     requires { len ≤ vec_capacity marks.old }
     ensures items { marks.new.items ≡ replicate len false }

@@ -1,4 +1,4 @@
-// A change of the file that is on the disk before the call answers Ok.
+//! A change of the file that is on the disk before the call answers Ok.
 ghost use Rattle.std.specs.Prelude.{◌≡◌, ◌≤◌, length, take, IsTrue, OnOk};
 ghost use Rattle.faults.specs.Counts.{HasCause};
 ghost use Rattle.bench_model.specs.History.{Leaves, LeftOnly};

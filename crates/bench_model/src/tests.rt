@@ -1,3 +1,5 @@
+//! Stops of a bench in memory, and its failing calls.
+
 ghost use Rattle.std.specs.Prelude.{◌≡◌, length, None};
 ghost use Rattle.bench_model.specs.Shown.{bench_of};
 

@@ -7,12 +7,12 @@ use Rattle.bench_model.proofs.synced.cut_synced.Goals as goal
 
 pub returns-clause-ok : goal.returns-clause-ok
 returns-clause-ok g c told =
-    let same = c.file_sync.ensures.file told in
+    let same = c.file_sync.ensures.does.file told in
     on_ok_weaker c.file_sync.result
-    (λ only. (same ∙ c.in_ok-file_cut.ensures.ok told, λ y at. only y at ∙ sym same))
-    (c.file_sync.ensures.ok told)
+    (λ only. (same ∙ c.in_ok-file_cut.ensures.does.ok told, λ y at. only y at ∙ sym same))
+    (c.file_sync.ensures.does.ok told)
 
 pub returns-clause-moments : goal.returns-clause-moments
 returns-clause-moments g c =
     let P = Follows (Cut c.args.len) (file_half (g.B.Bench.state c.args.bench.now)) in
-    leaves_then_nothing P c.in_ok-file_cut.ensures.moments c.file_sync.ensures.moments
+    leaves_then_nothing P c.in_ok-file_cut.ensures.does.moments c.file_sync.ensures.does.moments

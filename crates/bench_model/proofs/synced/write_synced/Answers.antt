@@ -7,4 +7,4 @@ use Rattle.bench_model.proofs.synced.write_synced.Goals as goal
 pub returns-clause-moments : goal.returns-clause-moments
 returns-clause-moments g c =
     let P = Follows (Torn c.args.at (length c.args.bytes.now)) (file_half (g.B.Bench.state c.args.bench.now)) in
-    leaves_then_nothing P c.in_ok-file_write.ensures.moments c.file_sync.ensures.moments
+    leaves_then_nothing P c.in_ok-file_write.ensures.does.moments c.file_sync.ensures.does.moments

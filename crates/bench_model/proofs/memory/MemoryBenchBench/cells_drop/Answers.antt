@@ -2,7 +2,7 @@ use Rattle.std.proofs.Common.{arith, refl, ap, sym, subst, ◌∙◌, ◌≡◌,
 use Rattle.bench_model.specs.Calls.{SameOutside}
 use Rattle.bench_model.specs.Memory.{InStep}
 use Rattle.bench_model.specs.Record.{held_now, broken_off, broken}
-use Rattle.bench_model.proofs.MemoryLemmas.{step_broken, within, length-broken, only_broken, in_step_after, longest-after, made-after, greatest-after, ended_adds_nothing, file_stays_after}
+use Rattle.bench_model.proofs.MemoryLemmas.{went_cause, step_broken, within, length-broken, only_broken, in_step_after, longest-after, made-after, greatest-after, ended_adds_nothing, file_stays_after}
 use Rattle.bench_model.proofs.memory.MemoryBenchBench.cells_drop.Goals as goal
 
 pub invariant_of-self-2 : goal.invariant_of-self-2
@@ -25,18 +25,23 @@ invariant_of-self-2 c =
       room_fits = omega (arith, m.room_fits, longest-after m.history r' e is);
     }
 
-pub returns-clause-moments : goal.returns-clause-moments
-returns-clause-moments c =
+pub returns-clause-does : goal.returns-clause-does
+returns-clause-does c =
     let m = c.args.self.now in
+    let e = broken_off c.byte_at-byte.result in
+    let r' = c.note.new.self in
+    let is = c.note.ensures in
     let op : m.operation ≡ Some (c.in-Some.at, c.in-Some.len) = c.in-Some.is in
     let inside = within (held_now m.history) m.file.items m.cells.items m.operation m.in_step c.in-Some.at c.in-Some.len op in
     let new = broken c.byte_at-byte.result (Some (c.in-Some.at, c.in-Some.len)) m.cells.items in
     let long = length-broken c.byte_at-byte.result c.in-Some.at c.in-Some.len m.cells.items inside in
     let step = step_broken (held_now m.history) m.file.items m.cells.items m.operation m.in_step c.in-Some.at c.in-Some.len op c.byte_at-byte.result in
     let only : SameOutside m.operation m.cells.items new = subst (λ (o : Option (ℕ × ℕ)). SameOutside o m.cells.items new) (sym op) (only_broken c.byte_at-byte.result c.in-Some.at c.in-Some.len m.cells.items inside) in
-    ended_adds_nothing m.history c.note.new.self (broken_off c.byte_at-byte.result) c.note.ensures m.file.items m.cells.items m.operation m.in_step new step only
-
-pub returns-clause-file : goal.returns-clause-file
-returns-clause-file c =
-    let m = c.args.self.now in
-    record { file = refl; faults = refl; half = file_stays_after m.history c.note.new.self (broken_off c.byte_at-byte.result) c.note.ensures refl }
+    record {
+      ok = λ told. record { operation = refl; cells = subst (λ (l : List ℕ). SameOutside m.operation m.cells.items l) (sym c.leave.ensures) only };
+      err = λ told. tt;
+      count = ap length c.leave.ensures ∙ long;
+      moments = ended_adds_nothing m.history r' e is m.file.items m.cells.items m.operation m.in_step new step only;
+      file = record { file = refl; faults = refl; half = file_stays_after m.history r' e is refl };
+      cause = went_cause tt m.device c.goes-2.new.self (c.goes-2.ensures.goes c.if-not-goes-2.false).0;
+    }

@@ -2,7 +2,7 @@ use Rattle.std.proofs.Common.{arith, refl, ap, sym, subst, ◌∙◌, ◌≡◌,
 use Rattle.bench_model.specs.Calls.{written, SameOutside}
 use Rattle.bench_model.specs.Memory.{InStep}
 use Rattle.bench_model.specs.Record.{held_now, settled}
-use Rattle.bench_model.proofs.MemoryLemmas.{step_settled, within, length-in_range, only_in_range, length-open, in_step_after, longest-after, made-after, greatest-after, ended_adds_nothing, file_stays_after}
+use Rattle.bench_model.proofs.MemoryLemmas.{went_cause, in_open, step_settled, within, length-in_range, only_in_range, length-open, in_step_after, longest-after, made-after, greatest-after, ended_adds_nothing, file_stays_after}
 use Rattle.bench_model.proofs.memory.MemoryBenchBench.cells_settle.Goals as goal
 
 pub invariant_of-self-2 : goal.invariant_of-self-2
@@ -14,7 +14,7 @@ invariant_of-self-2 c =
     let op : m.operation ≡ Some (c.in-Some.at, c.in-Some.field-0-1) = c.in-Some.is in
     let inside = within (held_now m.history) m.file.items m.cells.items m.operation m.in_step c.in-Some.at c.in-Some.field-0-1 op in
     let new = written c.in-Some.at c.args.bytes.now m.cells.items in
-    let same = length-open (length c.args.bytes.now) m.operation c.in-Some.at c.in-Some.field-0-1 c.requires op in
+    let same = length-open (length c.args.bytes.now) m.operation c.in-Some.at c.in-Some.field-0-1 (c.requires refl) op in
     let long = length-in_range m.cells.items c.in-Some.at c.in-Some.field-0-1 inside c.args.bytes.now same in
     let step = step_settled (held_now m.history) m.file.items m.cells.items m.operation m.in_step c.in-Some.at c.in-Some.field-0-1 op c.args.bytes.now in
     record {
@@ -26,19 +26,24 @@ invariant_of-self-2 c =
       room_fits = omega (arith, m.room_fits, longest-after m.history r' e is);
     }
 
-pub returns-clause-moments : goal.returns-clause-moments
-returns-clause-moments c =
+pub returns-clause-does : goal.returns-clause-does
+returns-clause-does c =
     let m = c.args.self.now in
+    let e = settled c.args.bytes.now in
+    let r' = c.note.new.self in
+    let is = c.note.ensures in
     let op : m.operation ≡ Some (c.in-Some.at, c.in-Some.field-0-1) = c.in-Some.is in
     let inside = within (held_now m.history) m.file.items m.cells.items m.operation m.in_step c.in-Some.at c.in-Some.field-0-1 op in
     let new = written c.in-Some.at c.args.bytes.now m.cells.items in
-    let same = length-open (length c.args.bytes.now) m.operation c.in-Some.at c.in-Some.field-0-1 c.requires op in
+    let same = length-open (length c.args.bytes.now) m.operation c.in-Some.at c.in-Some.field-0-1 (c.requires refl) op in
     let long = length-in_range m.cells.items c.in-Some.at c.in-Some.field-0-1 inside c.args.bytes.now same in
     let step = step_settled (held_now m.history) m.file.items m.cells.items m.operation m.in_step c.in-Some.at c.in-Some.field-0-1 op c.args.bytes.now in
     let only : SameOutside m.operation m.cells.items new = subst (λ (o : Option (ℕ × ℕ)). SameOutside o m.cells.items new) (sym op) (only_in_range m.cells.items c.in-Some.at c.in-Some.field-0-1 inside c.args.bytes.now same) in
-    ended_adds_nothing m.history c.note.new.self (settled c.args.bytes.now) c.note.ensures m.file.items m.cells.items m.operation m.in_step new step only
-
-pub returns-clause-file : goal.returns-clause-file
-returns-clause-file c =
-    let m = c.args.self.now in
-    record { file = refl; faults = refl; half = file_stays_after m.history c.note.new.self (settled c.args.bytes.now) c.note.ensures refl }
+    record {
+      ok = λ told. record { operation = refl; cells = in_open (λ n. c.args.bytes.now) m.operation c.in-Some.at c.in-Some.field-0-1 op m.cells.items _ c.settle.ensures.items };
+      err = λ told. tt;
+      count = ap length c.settle.ensures.items ∙ long;
+      moments = ended_adds_nothing m.history r' e is m.file.items m.cells.items m.operation m.in_step new step only;
+      file = record { file = refl; faults = refl; half = file_stays_after m.history r' e is refl };
+      cause = went_cause tt m.device c.goes.new.self (c.goes.ensures.goes c.if-not-goes.false).0;
+    }

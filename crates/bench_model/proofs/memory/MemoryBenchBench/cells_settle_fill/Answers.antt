@@ -3,7 +3,7 @@ use Rattle.std.proofs.lemmas.List.{length-replicate}
 use Rattle.bench_model.specs.Calls.{written, SameOutside}
 use Rattle.bench_model.specs.Memory.{InStep}
 use Rattle.bench_model.specs.Record.{held_now, filled}
-use Rattle.bench_model.proofs.MemoryLemmas.{step_filled, within, length-in_range, only_in_range, in_step_after, longest-after, made-after, greatest-after, ended_adds_nothing, file_stays_after}
+use Rattle.bench_model.proofs.MemoryLemmas.{went_cause, in_open, step_filled, within, length-in_range, only_in_range, in_step_after, longest-after, made-after, greatest-after, ended_adds_nothing, file_stays_after}
 use Rattle.bench_model.proofs.memory.MemoryBenchBench.cells_settle_fill.Goals as goal
 
 pub invariant_of-self-2 : goal.invariant_of-self-2
@@ -27,9 +27,12 @@ invariant_of-self-2 c =
       room_fits = omega (arith, m.room_fits, longest-after m.history r' e is);
     }
 
-pub returns-clause-moments : goal.returns-clause-moments
-returns-clause-moments c =
+pub returns-clause-does : goal.returns-clause-does
+returns-clause-does c =
     let m = c.args.self.now in
+    let e = filled c.args.value in
+    let r' = c.note.new.self in
+    let is = c.note.ensures in
     let op : m.operation ≡ Some (c.in-Some.at, c.in-Some.len) = c.in-Some.is in
     let inside = within (held_now m.history) m.file.items m.cells.items m.operation m.in_step c.in-Some.at c.in-Some.len op in
     let new = written c.in-Some.at (replicate c.in-Some.len c.args.value) m.cells.items in
@@ -37,9 +40,11 @@ returns-clause-moments c =
     let long = length-in_range m.cells.items c.in-Some.at c.in-Some.len inside (replicate c.in-Some.len c.args.value) same in
     let step = step_filled (held_now m.history) m.file.items m.cells.items m.operation m.in_step c.in-Some.at c.in-Some.len op c.args.value in
     let only : SameOutside m.operation m.cells.items new = subst (λ (o : Option (ℕ × ℕ)). SameOutside o m.cells.items new) (sym op) (only_in_range m.cells.items c.in-Some.at c.in-Some.len inside (replicate c.in-Some.len c.args.value) same) in
-    ended_adds_nothing m.history c.note.new.self (filled c.args.value) c.note.ensures m.file.items m.cells.items m.operation m.in_step new step only
-
-pub returns-clause-file : goal.returns-clause-file
-returns-clause-file c =
-    let m = c.args.self.now in
-    record { file = refl; faults = refl; half = file_stays_after m.history c.note.new.self (filled c.args.value) c.note.ensures refl }
+    record {
+      ok = λ told. record { operation = refl; cells = in_open (λ n. replicate n c.args.value) m.operation c.in-Some.at c.in-Some.len op m.cells.items _ c.settle_fill.ensures.items };
+      err = λ told. tt;
+      count = ap length c.settle_fill.ensures.items ∙ long;
+      moments = ended_adds_nothing m.history r' e is m.file.items m.cells.items m.operation m.in_step new step only;
+      file = record { file = refl; faults = refl; half = file_stays_after m.history r' e is refl };
+      cause = went_cause tt m.device c.goes.new.self (c.goes.ensures.goes c.if-not-goes.false).0;
+    }

@@ -1,7 +1,7 @@
 use Rattle.std.proofs.Common.{arith, refl, sym, subst, ◌∙◌, ℕ, List}
 use Rattle.bench_model.specs.Memory.{InStep}
 use Rattle.bench_model.specs.Record.{held_now, cut}
-use Rattle.bench_model.proofs.MemoryLemmas.{step_cut, in_step_after, longest-after, made-after, greatest-after, cut_leaves, cells_stay_after}
+use Rattle.bench_model.proofs.MemoryLemmas.{went_cause, step_cut, in_step_after, longest-after, made-after, greatest-after, cut_leaves, cells_stay_after}
 use Rattle.bench_model.proofs.memory.MemoryBenchBench.file_cut.Goals as goal
 
 pub invariant_of-self-2 : goal.invariant_of-self-2
@@ -12,7 +12,7 @@ invariant_of-self-2 c =
     let is = c.note.ensures in
     record {
       in_step = subst (λ (f : List ℕ). InStep (held_now r') f m.cells.items m.operation) (sym c.truncate.ensures.items)
-          (in_step_after m.history r' e is _ _ _ (step_cut (held_now m.history) m.file.items m.cells.items m.operation m.in_step c.args.len c.requires));
+          (in_step_after m.history r' e is _ _ _ (step_cut (held_now m.history) m.file.items m.cells.items m.operation m.in_step c.args.len (c.requires refl)));
       fits = m.fits;
       counted = made-after m.history r' e is ∙ m.counted;
       within = omega (arith, m.within, greatest-after m.history r' e is, longest-after m.history r' e is);
@@ -20,12 +20,16 @@ invariant_of-self-2 c =
       room_fits = omega (arith, m.room_fits, longest-after m.history r' e is);
     }
 
-pub returns-clause-moments : goal.returns-clause-moments
-returns-clause-moments c =
+pub returns-clause-does : goal.returns-clause-does
+returns-clause-does c =
     let m = c.args.self.now in
-    cut_leaves m.history c.note.new.self (cut c.args.len) c.note.ensures m.file.items m.cells.items m.operation m.in_step c.args.len c.requires refl
-
-pub returns-clause-cells : goal.returns-clause-cells
-returns-clause-cells c =
-    let m = c.args.self.now in
-    record { cells = refl; operation = refl; count = refl; faults = refl; half = cells_stay_after m.history c.note.new.self (cut c.args.len) c.note.ensures (λ x. ((λ at. at), (λ at. at))) }
+    let e = cut c.args.len in
+    let r' = c.note.new.self in
+    let is = c.note.ensures in
+    record {
+      ok = λ told. c.truncate.ensures.items;
+      err = λ told. tt;
+      moments = cut_leaves m.history r' e is m.file.items m.cells.items m.operation m.in_step c.args.len (c.requires refl) refl;
+      cells = record { cells = refl; operation = refl; count = refl; faults = refl; half = cells_stay_after m.history r' e is (λ x. ((λ at. at), (λ at. at))) };
+      cause = went_cause tt m.store c.goes.new.self (c.goes.ensures.goes c.if-not-goes.false).0;
+    }

@@ -1,6 +1,6 @@
 use Rattle.std.proofs.Common.{arith, refl, ap, ◌∙◌, length}
 use Rattle.bench_model.specs.Record.{held_now, synced}
-use Rattle.bench_model.proofs.MemoryLemmas.{step_synced, in_step_after, longest-after, made-after, greatest-after, synced_adds_nothing, synced_leaves_only, cells_stay_after}
+use Rattle.bench_model.proofs.MemoryLemmas.{went_cause, step_synced, in_step_after, longest-after, made-after, greatest-after, synced_adds_nothing, synced_leaves_only, cells_stay_after}
 use Rattle.bench_model.proofs.memory.MemoryBenchBench.file_sync.Goals as goal
 
 pub invariant_of-self-2 : goal.invariant_of-self-2
@@ -18,17 +18,16 @@ invariant_of-self-2 c =
       room_fits = omega (arith, m.room_fits, longest-after m.history r' e is);
     }
 
-pub returns-clause-moments : goal.returns-clause-moments
-returns-clause-moments c =
+pub returns-clause-does : goal.returns-clause-does
+returns-clause-does c =
     let m = c.args.self.now in
-    synced_adds_nothing m.history c.note_sync.new.self synced c.note_sync.ensures m.file.items m.cells.items m.operation m.in_step refl
-
-pub returns-clause-ok : goal.returns-clause-ok
-returns-clause-ok c =
-    let m = c.args.self.now in
-    synced_leaves_only m.history c.note_sync.new.self synced c.note_sync.ensures m.file.items m.cells.items m.operation m.in_step refl
-
-pub returns-clause-cells : goal.returns-clause-cells
-returns-clause-cells c =
-    let m = c.args.self.now in
-    record { cells = refl; operation = refl; count = refl; faults = refl; half = cells_stay_after m.history c.note_sync.new.self (synced) c.note_sync.ensures (λ x. ((λ at. at), (λ at. at))) }
+    let e = synced in
+    let r' = c.note_sync.new.self in
+    let is = c.note_sync.ensures in
+    record {
+      ok = λ told. synced_leaves_only m.history r' e is m.file.items m.cells.items m.operation m.in_step refl;
+      file = λ told. refl;
+      moments = synced_adds_nothing m.history r' e is m.file.items m.cells.items m.operation m.in_step refl;
+      cells = record { cells = refl; operation = refl; count = refl; faults = refl; half = cells_stay_after m.history r' e is (λ x. ((λ at. at), (λ at. at))) };
+      cause = went_cause tt m.store c.goes.new.self (c.goes.ensures.goes c.if-not-goes.false).0;
+    }
