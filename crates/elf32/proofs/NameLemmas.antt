@@ -1,17 +1,18 @@
 -- Laws of section names and of the sections that are kept.
 use Rattle.std.proofs.Common.{◌≡◌, ℕ, ◌+◌, ◌<◌, ◌≤◌, ◌==◌, ◌&&◌, Bool, true, false, List, [], ◌∷◌, ◌++◌, length, Option, Some, None, is_some, cond, refl, ap, sym, ◌∙◌, arith}
-use Rattle.std.specs.Prelude.{is_none}
+use Rattle.std.specs.Prelude.{is_none, MatchOption}
 use Rattle.std.specs.Option.{option_or}
 use Rattle.std.specs.Result.{result_ok, result_err}
 use Rattle.std.specs.Str.{bytes_eq}
+use Rattle.std.specs.Borrow.{Bor}
 use Rattle.std.proofs.lemmas.Bool.{ne_eqb, lt-leb, eqb-true, and_parts}
 use Rattle.std.proofs.lemmas.Slice.Eq.{bytes_eq-Decides}
 use Rattle.elf32.specs.declared.fault.ElfFault.TheVariants.{BadName}
 use Rattle.elf32.specs.Search.{first_below}
 use Rattle.elf32.specs.Format.{section_at, section_name_at, e_shnum, e_shstrndx}
-use Rattle.elf32.specs.Strings.{is_name, IsLonger}
+use Rattle.elf32.specs.Strings.{is_name, IsLonger, IsWithin}
 use Rattle.elf32.specs.Checks.{section_name, section_names, index_fault, name_fault, names_part}
-use Rattle.elf32.specs.Places.{Placed, first_place, noted, AreKept}
+use Rattle.elf32.specs.Places.{Placed, first_place, noted, AreKept, HasNoShortName}
 use Rattle.elf32.specs.Tables.{is_section}
 use Rattle.elf32.proofs.SearchLemmas.{first_below-first, first_below-more}
 
@@ -87,23 +88,33 @@ kept-more bytes i places text named kept name kind short =
     kept_step bytes i places text name kind named (kept name kind short) (is_some (first_place text (section_at bytes i).kind places)) refl
 
 -- a short name isn't a longer one
-not_longer : (name : List ℕ) (found : Option (List ℕ)) (b : Bool) → IsLonger 64 found → length name ≤ 64 → is_name name found ≡ b → b ≡ false
-not_longer name None b long short same = absurd long
-not_longer name (Some text) false long short same = refl
-not_longer name (Some text) true long short same =
-    let names : name ≡ text = (bytes_eq-Decides name text).0 same in
-    absurd (omega (arith, long, short, ap length names))
+not_longer : (name : List ℕ) (found : Option (List ℕ)) → IsLonger 64 found → length name ≤ 64 → is_name name found ≡ false
+not_longer name None long short = absurd long
+not_longer name (Some text) long short = other (bytes_eq name text) refl
+  where
+    other : (b : Bool) → bytes_eq name text ≡ b → b ≡ false
+    other false same = refl
+    other true same = let names : name ≡ text = (bytes_eq-Decides name text).0 same in absurd (omega (arith, long, short, ap length names))
 
--- a section of a longer name needs no place
-pub kept-longer : (bytes : List ℕ) (i : ℕ) (places : List Placed) → IsLonger 64 (section_name bytes i)
+-- a section that has no short name needs no place
+pub kept-other : (bytes : List ℕ) (i : ℕ) (places : List Placed) → HasNoShortName bytes i
     → AreKept bytes i places → AreKept bytes (i + 1) places
-kept-longer bytes i places long kept name kind short =
-    let other : is_name name (section_name bytes i) ≡ false =
-    not_longer name (section_name bytes i) (is_name name (section_name bytes i)) long short refl in
-    rw (first_below-more (is_section bytes name kind) i, other, kept name kind short)
+kept-other bytes i places other kept name kind short =
+    rw (first_below-more (is_section bytes name kind) i, other name short, kept name kind short)
     (sym (or_none (first_below (is_section bytes name kind) i)))
 
--- and has a name
-pub longer_named : (found : Option (List ℕ)) → IsLonger 64 found → is_none found ≡ false
-longer_named None long = absurd long
-longer_named (Some text) long = refl
+-- what is lent of a name within a limit, or longer than it, is of a name
+pub within_named : (limit : ℕ) (found : Option (List ℕ)) (lent : Option (Bor (List ℕ))) → IsWithin limit found lent → is_none found ≡ false
+within_named limit found (Some text) within = rw within.0 refl
+within_named limit None None within = absurd within
+within_named limit (Some text) None within = refl
+
+-- what is lent of a name of at most 64 bytes
+pub short_lent : (bytes : List ℕ) (k : ℕ) (lent : Option (Bor (List ℕ))) → IsWithin 64 (section_name bytes k) lent
+    → MatchOption lent (HasNoShortName bytes k) (λ text. section_name bytes k ≡ Some text.now)
+short_lent bytes k (Some text) within = within.0
+short_lent bytes k None longer = λ name short. not_longer name (section_name bytes k) longer short
+
+-- without a name it has no short one
+pub none_short : (bytes : List ℕ) (k : ℕ) → section_name bytes k ≡ None → HasNoShortName bytes k
+none_short bytes k none name short = rw none refl

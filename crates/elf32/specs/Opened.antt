@@ -2,7 +2,7 @@
 use Rattle.std.specs.Prelude.{◌≡◌, ◌+◌, ◌*◌, ◌≤◌, ℕ, List, length, Option, None}
 use Rattle.elf32.specs.Format.{e_phoff, e_phnum, e_shoff, e_shnum}
 use Rattle.elf32.specs.Checks.{name_fault, section_names}
-use Rattle.elf32.specs.Places.{Placed, AreKept}
+use Rattle.elf32.specs.Places.{Placed, AreKept, kept_of}
 
 pub record IsOpened (bytes : List ℕ) (names : Option (List ℕ)) (places : List Placed) : Type 0 where
   pub header : 52 ≤ length bytes
@@ -10,4 +10,4 @@ pub record IsOpened (bytes : List ℕ) (names : Option (List ℕ)) (places : Lis
   pub sections : e_shoff bytes + 40 * e_shnum bytes ≤ length bytes
   pub named : names ≡ section_names bytes
   pub good : name_fault bytes ≡ None
-  pub kept : AreKept bytes (e_shnum bytes) places
+  pub kept : AreKept bytes (kept_of bytes) places

@@ -1,8 +1,11 @@
 -- Sections by name and type, in the order of the file.
-use Rattle.std.specs.Prelude.{◌≡◌, ◌≤◌, length, ℕ, ◌==◌, ◌&&◌, List, [], ◌∷◌, ◌++◌, map, Option, Some, None, is_some, if◌then◌else◌}
+use Rattle.std.specs.Prelude.{◌≡◌, ◌≤◌, length, ℕ, ◌==◌, ◌&&◌, false, List, [], ◌∷◌, ◌++◌, map, min, Option, Some, None, is_some, if◌then◌else◌}
 use Rattle.std.specs.Str.{bytes_eq}
 use Rattle.std.specs.Borrow.{Bor}
 use Rattle.elf32.specs.Search.{first_below}
+use Rattle.elf32.specs.Format.{e_shnum}
+use Rattle.elf32.specs.Strings.{is_name}
+use Rattle.elf32.specs.Checks.{section_name}
 use Rattle.elf32.specs.Tables.{is_section}
 
 -- a section's name, its type, and its place in the table
@@ -22,7 +25,15 @@ placed_of es = map (λ e. (e.0.0.now, e.0.1, e.1)) es
 abbrev pub noted : List ℕ → ℕ → ℕ → List Placed → List Placed
 noted name kind place ps = if is_some (first_place name kind ps) then ps else ps ++ (name, kind, place) ∷ []
 
+-- how many sections, from the first on, have their names kept
+abbrev pub kept_of : List ℕ → ℕ
+kept_of bytes = min (e_shnum bytes) 64
+
 -- the first of `n` sections of each name and type are found, where the name has at most 64 bytes
 abbrev pub AreKept : List ℕ → ℕ → List Placed → Type 0
 AreKept bytes n places =
     (name : List ℕ) (kind : ℕ) → length name ≤ 64 → first_place name kind places ≡ first_below (is_section bytes name kind) n
+
+-- section `k` isn't found by any name of at most 64 bytes
+abbrev pub HasNoShortName : List ℕ → ℕ → Type 0
+HasNoShortName bytes k = (name : List ℕ) → length name ≤ 64 → is_name name (section_name bytes k) ≡ false

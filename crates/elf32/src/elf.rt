@@ -7,8 +7,8 @@ ghost use Rattle.elf32.specs.Tables.{section_of, section_part, segment_part, sym
 use crate::checks::{check_header, check_sizes, check_tables, part};
 use crate::entries::{Section, Segment, Symbol};
 use crate::fault::{ElfFault, Field};
-use crate::headers::{section, segment, segment_count};
-use crate::names::{find_section, keep_names, section_names};
+use crate::headers::{section_at, segment_at, segment_count};
+use crate::names::{check_names, find_section, keep_names, section_names};
 use crate::places::Places;
 use crate::strings::Strings;
 use crate::symbols::{symbol_in, symbol_table};
@@ -46,6 +46,7 @@ impl<'a> Elf<'a> {
         check_sizes(bytes)?;
         check_tables(bytes)?;
         let names = section_names(bytes)?;
+        check_names(bytes, &names)?;
         let places = keep_names(alloc, bytes, &names)?;
         Ok(Elf {
             bytes,
@@ -60,7 +61,7 @@ impl<'a> Elf<'a> {
         ensures { result ≡ section_of self.now name.now kind }
     {
         let index = find_section(self.bytes, &self.names, &self.places, name, kind)?;
-        Some(section(self.bytes, index))
+        Some(section_at(self.bytes, index))
     }
 
     /// The bytes of a section; one of type NOBITS has none in the file.
@@ -97,7 +98,7 @@ impl<'a> Elf<'a> {
         requires { index < e_phnum self.now }
         ensures { result ≡ segment_at self.now index }
     {
-        segment(self.bytes, index)
+        segment_at(self.bytes, index)
     }
 
     /// The bytes of segment `index` in the file.
@@ -106,7 +107,7 @@ impl<'a> Elf<'a> {
         requires { index < e_phnum self.now }
         ensures { Lends (segment_part self.entry.now index) result }
     {
-        let segment = segment(self.bytes, index);
+        let segment = segment_at(self.bytes, index);
         part(self.bytes, Field::Segment, segment.offset, segment.filesz)
     }
 }

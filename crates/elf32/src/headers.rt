@@ -1,5 +1,6 @@
 //! The ELF header's fields, and the entries of the tables that it names. Each takes a file whose header or table is whole.
 ghost use Rattle.std.specs.Prelude.{◌≡◌, ◌≤◌, ◌<◌, ◌+◌, ◌*◌, length};
+ghost use Rattle.elf32.specs.Fields.{words};
 ghost use Rattle.elf32.specs.Format.{e_machine, e_phoff, e_shoff, e_phentsize, e_phnum, e_shentsize, e_shnum, e_shstrndx, section_at, section_name_at, segment_at, symbol_at, symbol_name_at, symbol_section};
 
 use crate::entries::{Section, Segment, Symbol};
@@ -31,7 +32,7 @@ pub fn machine(bytes: &[u8]) -> u16
 pub fn segments_at(bytes: &[u8]) -> usize
     requires { 52 ≤ length bytes.now }
     ensures value { result ≡ e_phoff bytes.now }
-    ensures small { result < 4294967296 }
+    ensures small { result < words }
 {
     word(bytes, 28) as usize
 }
@@ -41,7 +42,7 @@ pub fn segments_at(bytes: &[u8]) -> usize
 pub fn sections_at(bytes: &[u8]) -> usize
     requires { 52 ≤ length bytes.now }
     ensures value { result ≡ e_shoff bytes.now }
-    ensures small { result < 4294967296 }
+    ensures small { result < words }
 {
     word(bytes, 32) as usize
 }
@@ -98,7 +99,7 @@ pub fn name_index(bytes: &[u8]) -> usize
 
 /// Section header `index`.
 #[tactic(auto, unfolding(crate::specs::Format::section_at))]
-pub fn section(bytes: &[u8], index: usize) -> Section
+pub fn section_at(bytes: &[u8], index: usize) -> Section
     requires header { 52 ≤ length bytes.now }
     requires table { e_shoff bytes.now + 40 * e_shnum bytes.now ≤ length bytes.now }
     requires inside { index < e_shnum bytes.now }
@@ -127,7 +128,7 @@ pub fn section_name_offset(bytes: &[u8], index: usize) -> u32
 
 /// Program header `index`.
 #[tactic(auto, unfolding(crate::specs::Format::segment_at))]
-pub fn segment(bytes: &[u8], index: usize) -> Segment
+pub fn segment_at(bytes: &[u8], index: usize) -> Segment
     requires header { 52 ≤ length bytes.now }
     requires table { e_phoff bytes.now + 32 * e_phnum bytes.now ≤ length bytes.now }
     requires inside { index < e_phnum bytes.now }
@@ -148,7 +149,7 @@ pub fn segment(bytes: &[u8], index: usize) -> Segment
 
 /// The symbol at `at`.
 #[tactic(auto, unfolding(crate::specs::Format::symbol_at))]
-pub fn symbol(bytes: &[u8], at: usize) -> Symbol
+pub fn symbol_at(bytes: &[u8], at: usize) -> Symbol
     requires { at + 16 ≤ length bytes.now }
     ensures { result ≡ symbol_at bytes.now at }
 {

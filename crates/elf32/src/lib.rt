@@ -8,6 +8,7 @@ mod entries;
 mod fault;
 mod fields;
 mod headers;
+mod law;
 mod names;
 mod places;
 mod strings;
@@ -16,6 +17,7 @@ mod symbols;
 pub use elf::Elf;
 pub use entries::{Section, Segment, Symbol};
 pub use fault::{ElfFault, Field};
+pub use law::first_is_least;
 
 #[cfg(test)]
 mod tests;

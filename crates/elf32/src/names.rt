@@ -1,22 +1,25 @@
 //! The names of sections.
-ghost use Rattle.std.specs.Prelude.{◌≡◌, ◌≢◌, ◌≤◌, ◌<◌, ◌+◌, ◌*◌, ◌^◌, None, Some, length, OnOk, IfOk, IfErr};
+ghost use Rattle.std.specs.Prelude.{◌≡◌, ◌≤◌, ◌<◌, ◌+◌, ◌*◌, ◌^◌, None, Some, length, MatchOption, IfOk, IfErr};
 ghost use Rattle.elf32.specs.Search.{first_below};
 ghost use Rattle.elf32.specs.Format.{e_shoff, e_shnum, section_at, section_name_at};
 ghost use Rattle.elf32.specs.Strings.{IsWithin, is_name};
 ghost use Rattle.elf32.specs.Checks.{index_fault, name_fault, section_name, section_names, Finds};
 ghost use Rattle.elf32.specs.Tables.{is_section};
-ghost use Rattle.elf32.specs.Places.{AreKept};
+ghost use Rattle.elf32.specs.Places.{AreKept, HasNoShortName, kept_of};
 
 use crate::checks::part;
 use crate::fault::{ElfFault, Field};
-use crate::headers::{name_index, section, section_count, section_name_offset};
+use crate::headers::{name_index, section_at, section_count, section_name_offset};
 use crate::places::Places;
 use crate::strings::Strings;
-use std::alloc::Global;
+use std::alloc::{AllocError, Global};
 
-/// The longest section name that is kept in a map, in bytes. So the work of keeping names grows with the number of sections
-/// alone, whatever their names; a longer name is sought in the file.
+/// The longest section name that is kept in a map, in bytes. A longer name is sought in the headers.
 pub const LONGEST_KEPT: usize = 64;
+
+/// How many sections, from the first on, have their names kept in a map. The map's hash has a fixed seed, so whoever makes a
+/// file can make its names collide; so few names cost little even then. A section behind them is sought in the headers.
+pub const MOST_KEPT: usize = 64;
 
 /// The string table of section names, where there is one.
 #[tactic(auto, unfolding(crate::specs::Checks::index_fault, crate::specs::Checks::section_names))]
@@ -39,7 +42,7 @@ pub fn section_names<'a>(bytes: &'a [u8]) -> Result<Option<Strings<'a>>, ElfFaul
     if index == 0 {
         return Ok(None);
     }
-    let table = section(bytes, index);
+    let table = section_at(bytes, index);
     let names = part(bytes, Field::Names, table.offset, table.size)?;
     Ok(Some(Strings::new(names)))
 }
@@ -66,23 +69,49 @@ pub fn section_name<'a>(
     }
 }
 
-/// The places of the sections by name and type, but for those of longer names. The first bad name is refused.
+/// The first section name that begins outside its string table, or has no end in it, is refused. No more than one byte of a
+/// name is looked at.
+pub fn check_names(bytes: &[u8], names: &Option<Strings>) -> Result<(), ElfFault>
+    requires header { 52 ≤ length bytes.now }
+    requires table { e_shoff bytes.now + 40 * e_shnum bytes.now ≤ length bytes.now }
+    requires names { names.now ≡ section_names bytes.now }
+    ensures { Finds (name_fault bytes.now) result }
+{
+    for index in 0..section_count(bytes) {
+        section_name(bytes, names, index, 0)?;
+    }
+    Ok(())
+}
+
+/// The name of section `index`, where it has one that is short enough to be kept.
+fn short_name<'a>(bytes: &[u8], names: &Option<Strings<'a>>, index: usize) -> Option<&'a [u8]>
+    requires header { 52 ≤ length bytes.now }
+    requires table { e_shoff bytes.now + 40 * e_shnum bytes.now ≤ length bytes.now }
+    requires inside { index < e_shnum bytes.now }
+    requires names { names.now ≡ section_names bytes.now }
+    ensures { MatchOption result (HasNoShortName bytes.now index) (λ text. section_name bytes.now index ≡ Some text.now) }
+{
+    match section_name(bytes, names, index, LONGEST_KEPT) {
+        Ok(name) => name,
+        Err(_) => None,
+    }
+}
+
+/// The places of the first sections by name and type, but for those of longer names.
 pub fn keep_names<'a>(
     alloc: Global,
     bytes: &'a [u8],
     names: &Option<Strings<'a>>,
-) -> Result<Places<'a>, ElfFault>
+) -> Result<Places<'a>, AllocError>
     requires header { 52 ≤ length bytes.now }
     requires table { e_shoff bytes.now + 40 * e_shnum bytes.now ≤ length bytes.now }
     requires names { names.now ≡ section_names bytes.now }
-    ensures good { OnOk result (name_fault bytes.entry.now ≡ None) }
-    ensures kept { IfOk result (AreKept bytes.entry.now (e_shnum bytes.entry.now)) }
-    ensures refused { IfErr result (λ fault. fault ≢ ElfFault.OutOfMemory → name_fault bytes.entry.now ≡ Some fault) }
+    ensures { IfOk result (AreKept bytes.entry.now (kept_of bytes.entry.now)) }
 {
     let mut places = Places::new(alloc);
-    for index in 0..section_count(bytes) {
-        if let Some(name) = section_name(bytes, names, index, LONGEST_KEPT)? {
-            places.note(name, section(bytes, index).kind, index)?;
+    for index in 0..section_count(bytes).min(MOST_KEPT) {
+        if let Some(name) = short_name(bytes, names, index) {
+            places.note(name, section_at(bytes, index).kind, index)?;
         }
     }
     Ok(places)
@@ -99,14 +128,37 @@ pub fn find_section(
     requires header { 52 ≤ length bytes.now }
     requires table { e_shoff bytes.now + 40 * e_shnum bytes.now ≤ length bytes.now }
     requires names { names.now ≡ section_names bytes.now }
-    requires good { name_fault bytes.now ≡ None }
-    requires kept { AreKept bytes.now (e_shnum bytes.now) places.now }
+    requires kept { AreKept bytes.now (kept_of bytes.now) places.now }
     ensures { result ≡ first_below (is_section bytes.now name.now kind) (e_shnum bytes.now) }
 {
-    if name.len() <= LONGEST_KEPT {
-        return places.place(name, kind);
+    if name.len() > LONGEST_KEPT {
+        return find_from(bytes, names, 0, name, kind);
     }
-    for index in 0..section_count(bytes) {
+    match places.place(name, kind) {
+        Some(index) => Some(index),
+        None => {
+            let start = section_count(bytes).min(MOST_KEPT);
+            find_from(bytes, names, start, name, kind)
+        }
+    }
+}
+
+/// The place of the first section of a name and type, where none before `start` has them.
+fn find_from(
+    bytes: &[u8],
+    names: &Option<Strings>,
+    start: usize,
+    name: &[u8],
+    kind: u32,
+) -> Option<usize>
+    requires header { 52 ≤ length bytes.now }
+    requires table { e_shoff bytes.now + 40 * e_shnum bytes.now ≤ length bytes.now }
+    requires names { names.now ≡ section_names bytes.now }
+    requires inside { start ≤ e_shnum bytes.now }
+    requires before { first_below (is_section bytes.now name.now kind) start ≡ None }
+    ensures { result ≡ first_below (is_section bytes.now name.now kind) (e_shnum bytes.now) }
+{
+    for index in start..section_count(bytes) {
         if is_section(bytes, names, index, name, kind) {
             return Some(index);
         }
@@ -122,7 +174,7 @@ fn is_section(bytes: &[u8], names: &Option<Strings>, index: usize, name: &[u8], 
     requires names { names.now ≡ section_names bytes.now }
     ensures { result ≡ is_section bytes.now name.now kind index }
 {
-    has_name(bytes, names, index, name) && kind == section(bytes, index).kind
+    kind == section_at(bytes, index).kind && has_name(bytes, names, index, name)
 }
 
 /// Whether section `index` has this name.

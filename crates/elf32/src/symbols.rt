@@ -7,7 +7,7 @@ use crate::checks::part;
 use crate::entries::{Section, Symbol};
 use crate::fault::{ElfFault, Field};
 use crate::headers::{
-    SYMBOL_LEN, section, section_count, symbol, symbol_name_offset, symbol_section,
+    SYMBOL_LEN, section_at, section_count, symbol_at, symbol_name_offset, symbol_section,
 };
 use crate::strings::Strings;
 
@@ -18,7 +18,7 @@ pub fn symbol_table(bytes: &[u8]) -> Option<Section>
     ensures { result ≡ symbol_table bytes.now }
 {
     for index in 0..section_count(bytes) {
-        let found = section(bytes, index);
+        let found = section_at(bytes, index);
         if found.kind == Section::SYMTAB {
             return Some(found);
         }
@@ -40,7 +40,7 @@ pub fn symbol_in(bytes: &[u8], table: Section, name: &[u8]) -> Result<Option<Sym
             value: table.link,
         });
     }
-    let linked = section(bytes, table.link as usize);
+    let linked = section_at(bytes, table.link as usize);
     let strings = part(bytes, Field::Strings, linked.offset, linked.size)?;
     symbol_among(bytes, &Strings::new(strings), table, name)
 }
@@ -58,7 +58,7 @@ fn symbol_among(
     for index in 0..table.size as usize / SYMBOL_LEN {
         let at = table.offset as usize + SYMBOL_LEN * index;
         if is_symbol(bytes, strings, at, name)? {
-            return Ok(Some(symbol(bytes, at)));
+            return Ok(Some(symbol_at(bytes, at)));
         }
     }
     Ok(None)

@@ -16,7 +16,7 @@ returns-in_err-is_symbol c =
 
 pub returns-then-branch : goal.returns-then-branch
 returns-then-branch c =
-    rw c.symbol.ensures
+    rw c.symbol_at.ensures
     (sym (symbol_among-found c.args.bytes.now c.args.strings.now c.args.table c.args.name.now c.loop-index.index c.loop-index.invariant
     c.loop-index-test.true c.in_ok-is_symbol.ensures.good (sym c.in_ok-is_symbol.ensures.value ∙ c.if-branch.true)))
 

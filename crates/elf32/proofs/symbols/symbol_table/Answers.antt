@@ -11,13 +11,13 @@ loop-index-init c = first_below-zero (λ k. (section_at c.args.bytes.now k).kind
 pub returns-then-found-eq-SYMTAB : goal.returns-then-found-eq-SYMTAB
 returns-then-found-eq-SYMTAB c =
     let inside : c.loop-index.index < e_shnum c.args.bytes.now = omega arith in
-    rw c.section-found.ensures (sym (symbol_table-found c.args.bytes.now c.loop-index.index c.loop-index.invariant inside
-    (eq-eqb (section_at c.args.bytes.now c.loop-index.index).kind 2 (rw c.section-found.ensures at c.if-found-eq-SYMTAB.true))))
+    rw c.section_at-found.ensures (sym (symbol_table-found c.args.bytes.now c.loop-index.index c.loop-index.invariant inside
+    (eq-eqb (section_at c.args.bytes.now c.loop-index.index).kind 2 (rw c.section_at-found.ensures at c.if-found-eq-SYMTAB.true))))
 
 pub loop-index-preserved : goal.loop-index-preserved
 loop-index-preserved c =
     first_below-none (λ k. (section_at c.args.bytes.now k).kind == 2) c.loop-index.index c.loop-index.invariant
-    (ne_eqb (section_at c.args.bytes.now c.loop-index.index).kind 2 (rw c.section-found.ensures at c.if-found-eq-SYMTAB.false))
+    (ne_eqb (section_at c.args.bytes.now c.loop-index.index).kind 2 (rw c.section_at-found.ensures at c.if-found-eq-SYMTAB.false))
 
 pub returns : goal.returns
 returns c =

@@ -1,7 +1,7 @@
 use Rattle.std.proofs.Common.{◌≡◌, None}
 use Rattle.elf32.specs.Search.{first_below}
 use Rattle.elf32.specs.Tables.{is_section}
-use Rattle.elf32.proofs.names.find_section.Given as goal
+use Rattle.elf32.proofs.names.find_from.Given as goal
 
 abbrev pub invariant-loop-index : goal.invariant-loop-index
 invariant-loop-index l = first_below (is_section l.bytes l.name l.kind) l.index ≡ None

@@ -1,0 +1,96 @@
+//! Reads an ELF file of 65,279 sections and looks for one by its name, as often as it is told: `elf_speed NAMES TIMES`, or
+//! `elf_speed colliding TIMES TABLE`. It prints the place of the section in the file's table. The time that it takes is to
+//! be measured from outside.
+#![tactic(auto)]
+
+mod names;
+
+use anyhow::{Result, bail};
+use elf32::{Elf, Section};
+use names::{Names, Table};
+use std::alloc::{AllocError, Global};
+use std::env;
+use std::fs::File;
+use std::io::Read;
+
+/// The most sections that a file may have.
+const SECTIONS: u32 = 0xFEFF;
+
+/// The most bytes of a string table here: 64 MiB.
+const MOST: u32 = 1 << 26;
+
+/// The bytes of the ELF header, and of a section header.
+const HEADER_LEN: u32 = 52;
+
+const SECTION_LEN: u32 = 40;
+
+/// An ELF header with its magic bytes, class, data, version, type and machine.
+const BEGIN: [u8; 20] = [
+    0x7F, b'E', b'L', b'F', 1, 1, 1, 0, 0, 0, 0, 0, 0, 0, 0, 0, 1, 0, 40, 0,
+];
+
+/// The words of a section header or of a part of one.
+fn push_words(file: &mut Vec<u8>, words: &[u32]) -> Result<(), AllocError> {
+    for word in words {
+        file.extend_from_slice(&word.to_le_bytes())?;
+    }
+    Ok(())
+}
+
+/// A file with a section for each name. Section 1 has the names, and each other says its own place as its offset.
+fn file_of(alloc: Global, table: &Table) -> Result<Vec<u8>, AllocError> {
+    let mut file = Vec::new(alloc);
+    file.extend_from_slice(&BEGIN)?;
+    push_words(&mut file, &[1, 0, 0, HEADER_LEN, 0, 52])?;
+    push_words(&mut file, &[SECTION_LEN << 16, 1 << 16 | SECTIONS])?;
+    let strings = HEADER_LEN + SECTION_LEN * SECTIONS;
+    let len = table.strings.len().min(MOST as usize) as u32;
+    for (index, start) in (0..SECTIONS).zip(table.starts.iter()) {
+        let (kind, offset, size) = if index == 1 {
+            (3, strings, len)
+        } else {
+            (Section::PROGBITS, index, 0)
+        };
+        push_words(&mut file, &[*start, kind, 0, 0, offset, size, 0, 0, 0, 0])?;
+    }
+    file.extend_from_slice(&table.strings)?;
+    Ok(file)
+}
+
+/// The bytes of a file.
+fn read_file(rt: &HostRuntime, name: &str) -> Result<Vec<u8>> {
+    let mut file = File::open(rt, name)?;
+    let mut bytes = Vec::new(rt.alloc());
+    file.read_to_end(&mut bytes)?;
+    Ok(bytes)
+}
+
+fn main(rt: HostRuntime) -> Result<()> {
+    let mut names = None;
+    let mut times = 0;
+    let mut colliding = Vec::new(rt.alloc());
+    for word in env::args(&rt)?.skip(1) {
+        if let Ok(number) = word.parse::<u32>() {
+            times = number;
+        } else if let Some(form) = Names::named(word.as_str()) {
+            names = Some(form);
+        } else {
+            colliding = read_file(&rt, word.as_str())?;
+        }
+    }
+    let Some(names) = names else {
+        bail!("names are wanted: random, colliding, one or overlapping");
+    };
+    let table = names.table(rt.alloc(), SECTIONS, &colliding)?;
+    let file = file_of(rt.alloc(), &table)?;
+    let mut found = None;
+    for _time in 0..times {
+        let elf = Elf::read(rt.alloc(), &file)?;
+        found = elf.section(&table.sought, Section::PROGBITS);
+    }
+    match found {
+        Some(section) => println!(rt; "section {}", section.offset)?,
+        None => println!(rt; "no section")?,
+    }
+    Ok(())
+}
