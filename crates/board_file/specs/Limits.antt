@@ -1,5 +1,5 @@
 -- How much a board may have, and where its parts lie.
-use Rattle.std.specs.Prelude.{◌&&◌, ◌||◌, ◌+◌, ◌*◌, ◌^◌, ℕ, Bool, not, nat_lt, nat_eq, List, [], ◌∷◌, ◌++◌, map, length, sum_by, Option, Some, None, if◌then◌else◌}
+use Rattle.std.specs.Prelude.{◌&&◌, ◌||◌, ◌+◌, ◌*◌, ℕ, Bool, not, nat_lt, nat_eq, List, [], ◌∷◌, ◌++◌, map, length, sum_by, Option, Some, None, if◌then◌else◌}
 use Rattle.std.specs.List.{list_all}
 use Rattle.board_file.specs.declared.key.Key.TheVariants as key
 use Rattle.board_file.specs.declared.key.Part.{Part}
@@ -7,7 +7,7 @@ use Rattle.board_file.specs.declared.key.Part.TheVariants as part
 use Rattle.board_file.specs.declared.sectors.SectorRun.{SectorRun}
 use Rattle.board_file.specs.declared.region.Region.{Region}
 use Rattle.board_file.specs.declared.place.Placed.{Placed}
-use Rattle.board_file.specs.Table.{row_of, in_range, counts, sizes}
+use Rattle.board_file.specs.Table.{addresses, row_of, in_range, counts, sizes}
 
 -- the most bytes of RAM, the most cells of a board, the most sectors of a region
 abbrev pub most_ram : ℕ
@@ -18,10 +18,6 @@ most_cells = 16_777_216
 
 abbrev pub most_sectors : ℕ
 most_sectors = 65_536
-
--- how many addresses there are
-abbrev pub addresses : ℕ
-addresses = 2 ^ 32
 
 -- how many bytes and how many sectors these runs have
 abbrev pub cells_of : List SectorRun → ℕ

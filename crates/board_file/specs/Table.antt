@@ -11,9 +11,13 @@ use Rattle.board_file.specs.declared.key.Range.{Range}
 abbrev pub numbers : ℕ → ℕ → ℕ → Range
 numbers least most step = record { least = least; most = most; step = step }
 
+-- how many addresses there are: one for each number of 32 bits
+abbrev pub addresses : ℕ
+addresses = 2 ^ 32
+
 -- the greatest number of 32 bits, and the greatest integer of a TOML text
 abbrev pub word : ℕ
-word = 2 ^ 32 - 1
+word = addresses - 1
 
 abbrev pub greatest : ℕ
 greatest = 2 ^ 63 - 1

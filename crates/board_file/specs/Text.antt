@@ -18,7 +18,8 @@ use Rattle.board_file.specs.declared.fault.BoardFault.{BoardFault}
 use Rattle.board_file.specs.declared.fault.BoardFault.TheVariants as fault
 use Rattle.board_file.specs.Table.{row_of, in_range, counts, sizes}
 use Rattle.board_file.specs.Limits.{cells_of, is_ram_too_big, is_too_big, parts_of, overlap}
-use Rattle.board_file.specs.Answer.{◌>>=◌, Fails}
+use Rattle.faults.specs.Results.{◌>>=◌}
+use Rattle.board_file.specs.Answer.{Fails}
 use Rattle.board_file.specs.Shown.{Shown}
 
 -- the value that the text writes at a key

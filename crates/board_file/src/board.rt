@@ -3,8 +3,8 @@ ghost use Rattle.std.specs.Prelude.{◌≡◌, ◌≤◌, ◌<◌, ◌+◌, ◌^
 ghost use Rattle.std.specs.List.{list_all};
 ghost use Rattle.board_file.specs.declared.key.Key.TheVariants as key;
 ghost use Rattle.board_file.specs.declared.region.Region.{Region};
-ghost use Rattle.board_file.specs.Table.{IsFor};
-ghost use Rattle.board_file.specs.Limits.{region_fits, parts_of, overlap, most_ram, most_cells, addresses};
+ghost use Rattle.board_file.specs.Table.{addresses, IsFor};
+ghost use Rattle.board_file.specs.Limits.{region_fits, parts_of, overlap, most_ram, most_cells};
 ghost use Rattle.std.proofs.Props.{props};
 
 use crate::region::Regions;

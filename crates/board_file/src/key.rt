@@ -44,7 +44,7 @@ pub(crate) struct Range {
 /// A row of the key table: the table of the text that the key stands in, its name there, the numbers
 /// that it takes, and the number that stands where the text doesn't write the key.
 #[derive(Clone, Copy)]
-pub(crate) struct Row {
+pub(crate) struct KeyRow {
     pub table: &'static str,
     pub name: &'static str,
     pub range: Range,
@@ -98,10 +98,10 @@ fn numbers(least: u64, most: u64, step: u64) -> Range
     Range { least, most, step }
 }
 
-fn required(table: &'static str, name: &'static str, range: Range) -> Row
+fn required(table: &'static str, name: &'static str, range: Range) -> KeyRow
     ensures { row_shown result ≡ table_required table.now name.now range }
 {
-    Row {
+    KeyRow {
         table,
         name,
         range,
@@ -109,10 +109,10 @@ fn required(table: &'static str, name: &'static str, range: Range) -> Row
     }
 }
 
-fn optional(table: &'static str, name: &'static str, range: Range, default: u64) -> Row
+fn optional(table: &'static str, name: &'static str, range: Range, default: u64) -> KeyRow
     ensures { row_shown result ≡ table_optional table.now name.now range default }
 {
-    Row {
+    KeyRow {
         table,
         name,
         range,
@@ -122,7 +122,7 @@ fn optional(table: &'static str, name: &'static str, range: Range, default: u64)
 
 impl Key {
     /// The key's row of the key table.
-    pub(crate) fn row(self) -> Row
+    pub(crate) fn row(self) -> KeyRow
         ensures { row_shown result ≡ row_of self }
     {
         match self {

@@ -3,7 +3,8 @@ ghost use Rattle.std.specs.Prelude.{◌≡◌, ◌<◌, ◌≤◌, ◌+◌, List
 ghost use Rattle.std.specs.List.{list_all};
 ghost use Rattle.board_file.specs.declared.region.Region.{Region};
 ghost use Rattle.board_file.specs.Answer.{Gives};
-ghost use Rattle.board_file.specs.Limits.{run_fits, region_fits, parts_of, overlap, most_ram, most_cells, addresses};
+ghost use Rattle.board_file.specs.Limits.{run_fits, region_fits, parts_of, overlap, most_ram, most_cells};
+ghost use Rattle.board_file.specs.Table.{addresses};
 ghost use Rattle.board_file.specs.Written.{runs_shown, region_shown};
 ghost use Rattle.board_file.specs.Small.{small, small_region};
 ghost use Rattle.board_file.specs.Text.{limited};
@@ -50,7 +51,7 @@ fn sectors(
 }
 
 /// The region that a text writes, unless it is too big.
-fn region(alloc: Global, written: &WrittenRegion) -> Result<Region, BoardFault>
+fn small_region(alloc: Global, written: &WrittenRegion) -> Result<Region, BoardFault>
     ensures said { Gives (λ r. r) result (small_region (region_shown written.now)) }
     ensures fits { IfOk result (λ r. IsTrue (region_fits r)) }
 {
@@ -94,7 +95,7 @@ pub(crate) fn limited(
     if ram_size > MOST_RAM || u64::from(ram_base) + ram_size > ADDRESSES {
         return Err(BoardFault::TooBig { key: Key::RamSize });
     }
-    let region = region(alloc, &written[0])?;
+    let region = small_region(alloc, &written[0])?;
     let parts = [
         Placed {
             part: Part::Ram,

@@ -1,3 +1,4 @@
+-- Laws of runs and items.
 use Rattle.std.proofs.Common.{◌≡◌, ℕ, zero, suc, ◌+◌, ◌<◌, ◌≤◌, min, refl, sym, ap, arith, ◌∙◌, List, [], ◌∷◌, drop, length, get_or}
 use Rattle.std.proofs.lemmas.List.{drop_more, drop_all}
 use Rattle.flm_descriptor.specs.declared.items.SectorItem.{SectorItem}

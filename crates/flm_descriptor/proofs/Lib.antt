@@ -4,3 +4,4 @@ pub mod RunLemmas
 pub mod LimitLemmas
 pub mod DescribedLemmas
 pub mod PartLemmas
+pub mod Laws

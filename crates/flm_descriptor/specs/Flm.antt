@@ -7,7 +7,8 @@ use Rattle.flm_descriptor.specs.declared.fault.Name.TheVariants as name
 use Rattle.flm_descriptor.specs.declared.device.Device.{Device}
 use Rattle.flm_descriptor.specs.declared.items.SectorItem.{SectorItem}
 use Rattle.flm_descriptor.specs.declared.parts.Sections.{Sections}
-use Rattle.flm_descriptor.specs.Results.{◌>>=◌, outer, unless}
+use Rattle.faults.specs.Results.{◌>>=◌}
+use Rattle.flm_descriptor.specs.Results.{outer, unless}
 use Rattle.flm_descriptor.specs.Shape.{shape}
 use Rattle.flm_descriptor.specs.Shown.{Shown}
 use Rattle.flm_descriptor.specs.Parts.{Contents, sections_of, contents_of, symbols_of, entries_of, layout_of, place_of}

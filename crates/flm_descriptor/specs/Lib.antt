@@ -7,3 +7,4 @@ pub mod Described
 pub mod Limits
 pub mod Flm
 pub mod Seen
+pub mod Laws

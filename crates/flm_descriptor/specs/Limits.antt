@@ -1,10 +1,11 @@
 -- What a device's page, sector items and size have to be, check by check.
-use Rattle.std.specs.Prelude.{ℕ, ◌≤◌, ◌^◌, ◌+◌, ◌-◌, ◌==◌, ◌||◌, not, nat_lt, nat_le, Bool, List, length, Option, Some, None, if◌then◌else◌}
+use Rattle.std.specs.Prelude.{ℕ, ◌≤◌, ◌+◌, ◌-◌, ◌==◌, ◌||◌, not, nat_lt, nat_le, Bool, List, length, Option, Some, None, if◌then◌else◌}
 use Rattle.std.specs.Option.{option_map}
 use Rattle.elf32.specs.Search.{first_below}
 use Rattle.flm_descriptor.specs.declared.fault.FlmFault.{FlmFault}
 use Rattle.flm_descriptor.specs.declared.fault.FlmFault.TheVariants.{BadPage, SectorGap, SectorOrder, SectorSize, BadDevice}
 use Rattle.flm_descriptor.specs.declared.items.SectorItem.{SectorItem}
+use Rattle.flm_descriptor.specs.Lawful.{addresses}
 use Rattle.flm_descriptor.specs.Shape.{Shape, sectors, pages, offset_at, size_at}
 
 -- a page has 1 to 65,536 bytes (PAGE_MAX)
@@ -29,10 +30,10 @@ is_void items k = size_at items k == 0
 unfoldable pub size_fault : List SectorItem → Option FlmFault
 size_fault items = option_map (λ k. SectorSize k) (first_below (is_void items) (length items))
 
--- 1 to 16,777,216 bytes that end at most at 2 ^ 32, at most 65,536 sectors and at most 1,048,576 pages
+-- 1 to 16,777,216 bytes that end at the last address or before, at most 65,536 sectors and at most 1,048,576 pages
 unfoldable pub device_fault : ℕ → Shape → Option FlmFault
 device_fault base s =
-    if (s.size == 0) || nat_lt 16777216 s.size || nat_lt 4294967296 (base + s.size)
+    if (s.size == 0) || nat_lt 16777216 s.size || nat_lt addresses (base + s.size)
     || nat_lt 65536 (length (sectors s)) || nat_lt 1048576 (length (pages s))
     then Some (BadDevice s.size)
     else None
@@ -41,6 +42,6 @@ device_fault base s =
 pub record IsFitting (base : ℕ) (s : Shape) : Type 0 where
   pub size_some : 1 ≤ s.size
   pub size_limit : s.size ≤ 16777216
-  pub in_memory : base + s.size ≤ 2 ^ 32
+  pub in_memory : base + s.size ≤ addresses
   pub sectors_limit : length (sectors s) ≤ 65536
   pub pages_limit : length (pages s) ≤ 1048576

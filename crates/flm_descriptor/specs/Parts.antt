@@ -12,7 +12,8 @@ use Rattle.flm_descriptor.specs.declared.parts.Sections.{Sections}
 use Rattle.flm_descriptor.specs.declared.parts.Symbols.{Symbols}
 use Rattle.flm_descriptor.specs.declared.parts.Layout.{Layout}
 use Rattle.flm_descriptor.specs.declared.algorithm.Entries.{Entries}
-use Rattle.flm_descriptor.specs.Results.{◌>>=◌, from_elf}
+use Rattle.faults.specs.Results.{◌>>=◌}
+use Rattle.flm_descriptor.specs.Results.{from_elf}
 
 -- the names as they stand in a file
 unfoldable pub text_of : Name → List ℕ

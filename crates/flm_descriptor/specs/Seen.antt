@@ -1,5 +1,5 @@
 -- The bytes of the sections, as lists.
-use Rattle.flm_descriptor.specs.declared.parts.Contents.{Contents as LentContents}
+use Rattle.flm_descriptor.specs.declared.parts.LentContents.{LentContents}
 use Rattle.flm_descriptor.specs.Parts.{Contents}
 use Rattle.flm_descriptor.specs.declared.read.Description.{Description}
 use Rattle.flm_descriptor.specs.Flm.{Described}

@@ -1,7 +1,7 @@
 //! A flash algorithm.
-ghost use Rattle.std.specs.Prelude.{◌+◌, ◌≤◌, ◌^◌, length};
+ghost use Rattle.std.specs.Prelude.{◌+◌, ◌≤◌, length};
 ghost use Rattle.flm_descriptor.specs.Shape.{shape, IsLawful};
-ghost use Rattle.flm_descriptor.specs.Lawful.{AreInside, AreInOrder};
+ghost use Rattle.flm_descriptor.specs.Lawful.{addresses, AreInside, AreInOrder};
 
 use crate::device::Device;
 use crate::geometry::count_sectors;
@@ -37,7 +37,7 @@ pub struct Algorithm {
     pub items: Items,
     pub ghost inside: { AreInside (length code) entries },
     pub ghost ordered: { AreInOrder (length code) (length init_data) data_at zero_at zero_len },
-    pub ghost in_memory: { device.base + device.size ≤ 2 ^ 32 },
+    pub ghost in_memory: { device.base + device.size ≤ addresses },
     pub ghost lawful: { IsLawful (shape device.size device.page items) },
 }
 

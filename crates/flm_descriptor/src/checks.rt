@@ -1,7 +1,8 @@
 //! What a device's page, sector items and size have to be.
-ghost use Rattle.std.specs.Prelude.{◌≡◌, ℕ, ◌+◌, ◌<◌, ◌≤◌, ◌^◌, length, OnOk};
+ghost use Rattle.std.specs.Prelude.{◌≡◌, ℕ, ◌+◌, ◌<◌, ◌≤◌, length, OnOk};
 ghost use Rattle.flm_descriptor.specs.Shape.{shape, offset_at, size_at, IsLawful};
 ghost use Rattle.flm_descriptor.specs.Results.{unless};
+ghost use Rattle.flm_descriptor.specs.Lawful.{addresses};
 ghost use Rattle.flm_descriptor.specs.Limits.{IsFitting, device_fault, gap_fault, order_fault, page_fault, size_fault};
 ghost use Rattle.flm_descriptor.specs.Flm.{limits_of};
 
@@ -21,13 +22,16 @@ const SECTORS_MAX: u64 = 65_536;
 
 const PAGES_MAX: u64 = 1_048_576;
 
+/// How many addresses there are.
+const ADDRESSES: u64 = 1 << 32;
+
 /// The checks of a device and its items; the first that fails is answered.
 #[tactic(auto, unfolding(crate::specs::Flm::limits_of))]
 pub fn check_limits(device: &Device, items: &[SectorItem]) -> Result<(), FlmFault>
     requires { length items.now ≤ 512 }
     ensures limits { result ≡ limits_of device.now items.now }
     ensures lawful { OnOk result (IsLawful (shape device.now.size device.now.page items.now)) }
-    ensures in_memory { OnOk result (device.now.base + device.now.size ≤ 2 ^ 32) }
+    ensures in_memory { OnOk result (device.now.base + device.now.size ≤ addresses) }
 {
     check_page(device.page)?;
     check_first(items)?;
@@ -104,7 +108,7 @@ fn check_device(device: &Device, items: &[SectorItem]) -> Result<(), FlmFault>
 {
     let size = device.size;
     let bad = Err(FlmFault::BadDevice { size });
-    if size == 0 || size > DEVICE_MAX || u64::from(device.base) + u64::from(size) > 1 << 32 {
+    if size == 0 || size > DEVICE_MAX || u64::from(device.base) + u64::from(size) > ADDRESSES {
         return bad;
     }
     if count_sectors(size, items) > SECTORS_MAX {

@@ -8,6 +8,7 @@ mod device;
 mod fault;
 mod geometry;
 mod items;
+mod law;
 mod parts;
 mod read;
 
@@ -16,6 +17,7 @@ pub use device::Device;
 pub use fault::{FlmFault, Name};
 pub use geometry::Run;
 pub use items::{Items, SectorItem};
+pub use law::{pages_stand_by_division, pieces_stand_in_order};
 pub use read::read_flm;
 
 #[cfg(test)]

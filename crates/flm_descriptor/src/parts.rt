@@ -21,7 +21,7 @@ pub struct Sections {
 
 /// The bytes of code, data and description.
 #[derive(Clone, Copy)]
-pub struct Contents<'a> {
+pub struct LentContents<'a> {
     pub code: &'a [u8],
     pub init_data: &'a [u8],
     pub descriptor: &'a [u8],
@@ -88,7 +88,7 @@ fn present(elf: &Elf, kind: u32) -> Option<Section>
 
 /// The bytes of the sections.
 #[tactic(auto, unfolding(crate::specs::Parts::contents_of))]
-pub fn take_contents<'a>(elf: &'a Elf, sections: &Sections) -> Result<Contents<'a>, FlmFault>
+pub fn take_contents<'a>(elf: &'a Elf, sections: &Sections) -> Result<LentContents<'a>, FlmFault>
     requires { AreTyped sections.now }
     ensures contents { Gives seen result (contents_of elf.entry.now sections.entry.now) }
     ensures long { IfOk result (λ contents. AreLong sections.entry.now (seen contents)) }
@@ -96,7 +96,7 @@ pub fn take_contents<'a>(elf: &'a Elf, sections: &Sections) -> Result<Contents<'
     let code = bytes_of(elf, sections.code)?;
     let init_data = optional_bytes(elf, sections.init_data)?;
     let descriptor = elf.section_bytes(&sections.descriptor)?;
-    Ok(Contents {
+    Ok(LentContents {
         code,
         init_data,
         descriptor,

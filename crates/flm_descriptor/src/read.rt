@@ -1,10 +1,11 @@
 //! Reading an FLM file.
-ghost use Rattle.std.specs.Prelude.{◌≡◌, ◌≢◌, ℕ, ◌+◌, ◌*◌, ◌<◌, ◌≤◌, ◌^◌, Ok, Err, length, position, IfOk, IfErr, IfSome};
+ghost use Rattle.std.specs.Prelude.{◌≡◌, ◌≢◌, ℕ, ◌+◌, ◌*◌, ◌<◌, ◌≤◌, Ok, Err, length, position, IfOk, IfErr, IfSome};
 ghost use Rattle.std.specs.List.{before_first};
 ghost use Rattle.elf32.specs.Search.{first_below};
 ghost use Rattle.elf32.specs.Strings.{is_zero};
 ghost use Rattle.flm_descriptor.specs.Results.{Gives};
 ghost use Rattle.flm_descriptor.specs.Described.{device_of, fields_at, is_end, item_at, items_of, pairs};
+ghost use Rattle.flm_descriptor.specs.Lawful.{addresses};
 ghost use Rattle.flm_descriptor.specs.Parts.{AreLong};
 ghost use Rattle.flm_descriptor.specs.Seen.{seen, seen_description};
 ghost use Rattle.flm_descriptor.specs.Shape.{shape, IsLawful};
@@ -17,7 +18,7 @@ use crate::device::Device;
 use crate::fault::{FlmFault, Name};
 use crate::items::{Items, SectorItem};
 use crate::parts::{
-    Contents, Sections, find_sections, find_symbols, lay_out, place_entries, place_in,
+    LentContents, Sections, find_sections, find_symbols, lay_out, place_entries, place_in,
     take_contents,
 };
 use elf32::Elf;
@@ -58,7 +59,7 @@ fn algorithm(
     alloc: Global,
     elf: &Elf,
     sections: &Sections,
-    contents: &Contents,
+    contents: &LentContents,
 ) -> Result<Algorithm, FlmFault>
     requires { AreLong sections.now (seen contents.now) }
     ensures { Gives shown result (algorithm_of elf.now sections.now (seen contents.now)) }
@@ -94,7 +95,7 @@ fn algorithm(
 fn describe(alloc: Global, descriptor: &[u8], at: u32) -> Result<Description, FlmFault>
     ensures described { Gives seen_description result (described_of descriptor.now at) }
     ensures lawful { IfOk result (λ d. IsLawful (shape d.device.size d.device.page d.items)) }
-    ensures in_memory { IfOk result (λ d. d.device.base + d.device.size ≤ 2 ^ 32) }
+    ensures in_memory { IfOk result (λ d. d.device.base + d.device.size ≤ addresses) }
 {
     let device = read_device(alloc, descriptor, at as usize)?;
     let items = read_items(alloc, descriptor, at as usize)?;
@@ -105,14 +106,14 @@ fn describe(alloc: Global, descriptor: &[u8], at: u32) -> Result<Description, Fl
 /// The fields of the structure at a place.
 #[tactic(auto, unfolding(crate::specs::Described::device_of, crate::specs::Described::fields_at))]
 fn read_device(alloc: Global, bytes: &[u8], at: usize) -> Result<Device, FlmFault>
-    requires { at < 2 ^ 32 }
+    requires { at < addresses }
     ensures device { Gives (λ device. device) result (device_of bytes.now at) }
     ensures long { IfOk result (λ _. at + 160 ≤ length bytes.now) }
 {
     if bytes.len() < at + DEVICE_LEN {
         return Err(FlmFault::DescriptorShort);
     }
-    let name = Bytes::copy(alloc, text(&bytes[at + 2..at + 130]))?;
+    let name = Bytes::copy(alloc, before_zero(&bytes[at + 2..at + 130]))?;
     Ok(Device {
         vers: le16(bytes, at),
         name,
@@ -128,7 +129,7 @@ fn read_device(alloc: Global, bytes: &[u8], at: usize) -> Result<Device, FlmFaul
 }
 
 /// What stands before the first zero byte.
-fn text(bytes: &[u8]) -> &[u8]
+fn before_zero(bytes: &[u8]) -> &[u8]
     ensures { result.now ≡ before_first is_zero bytes.now }
 {
     let len = zero_place(bytes).unwrap_or(bytes.len());

@@ -11,7 +11,7 @@ returns-clause-device c =
     rw (
       long,
       c.in_ok-name.ensures,
-      c.text.ensures,
+      c.before_zero.ensures,
       name_part c.args.bytes.now c.args.at,
       c.le16.ensures,
       c.le16-2.ensures,

@@ -1,7 +1,7 @@
 use Rattle.std.proofs.Common.{refl}
 use Rattle.elf32.specs.Strings.{is_zero}
 use Rattle.octets.proofs.LineLemmas.{unwrap_or-position}
-use Rattle.flm_descriptor.proofs.read.text.Goals as goal
+use Rattle.flm_descriptor.proofs.read.before_zero.Goals as goal
 
 pub returns : goal.returns
 returns c = rw (c.unwrap_or-len.ensures, c.zero_place.ensures, unwrap_or-position is_zero c.args.bytes.now) refl
