@@ -4,3 +4,6 @@ pub mod Joined
 pub mod Grown
 pub mod Clashes
 pub mod Overlays
+pub mod Sides
+pub mod Cuts
+pub mod Beside

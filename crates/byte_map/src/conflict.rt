@@ -1,9 +1,11 @@
 //! The least address at which a piece and a map have unequal bytes.
 ghost use Rattle.std.specs.Prelude.{◌+◌, ◌≤◌, ◌^◌, length, MatchOption};
 ghost use Rattle.byte_map.specs.Image.{Run, AreMaximal};
+ghost use Rattle.byte_map.specs.Joining.{Touches};
 ghost use Rattle.byte_map.specs.Laying.{AgreesBelow, AgreesWithRun, ClashesWithRun, IsFirstClash};
 
 use crate::run_buffer::RunBuffer;
+use crate::run_list::RunList;
 
 /// Bytes found unequal at an address.
 #[derive(Clone, Copy)]
@@ -34,15 +36,16 @@ fn first_clash(run: &RunBuffer, at: u32, bytes: &[u8]) -> Option<Clash>
     None
 }
 
-/// The first byte of a piece that differs from a map's. The map is given by those of its runs that
-/// the piece may touch.
-pub fn find_clash(runs: &[RunBuffer], at: u32, bytes: &[u8]) -> Option<Clash>
+/// The first byte of a piece that differs from a map's. The piece touches the map's runs from `first` on
+/// and before `last`.
+pub fn find_clash(runs: &RunList, first: usize, last: usize, at: u32, bytes: &[u8]) -> Option<Clash>
     requires fits { at + length bytes.now ≤ 2 ^ 32 }
     requires maximal { AreMaximal 0 (2 ^ 32) runs.now }
+    requires touches { Touches (record { at = at; bytes = bytes.now }) runs.now first last }
     ensures { let piece : Run = record { at = at; bytes = bytes.now } in MatchOption result (AgreesBelow piece runs.now (2 ^ 32)) (λ c. IsFirstClash piece runs.now c.at c.old c.new) }
 {
-    for run in runs {
-        if let Some(clash) = first_clash(run, at, bytes) {
+    for index in first..last {
+        if let Some(clash) = first_clash(runs.get(index), at, bytes) {
             return Some(clash);
         }
     }

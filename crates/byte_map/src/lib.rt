@@ -1,4 +1,4 @@
-//! Images as finite maps from address to byte, kept as sorted runs that are each as long as possible.
+//! Images as finite maps from address to byte, kept as sorted runs that are each as long as possible, in a balanced tree.
 #![tactic(auto)]
 
 mod conflict;
@@ -8,9 +8,11 @@ mod law;
 mod map;
 mod overlay;
 mod run_buffer;
+mod run_list;
 mod search;
 #[cfg(test)]
 mod tests;
+mod tree;
 
 pub use fault::LayFault;
 pub use law::images_have_one_list;

@@ -6,8 +6,8 @@ use crate::conflict::find_clash;
 use crate::fault::LayFault;
 use crate::joining::join;
 use crate::overlay::overlay;
-use crate::run_buffer::RunBuffer;
-use crate::search::{count_ending_below, find_touched};
+use crate::run_list::RunList;
+use crate::search::find_touched;
 use std::alloc::Global;
 use std::marker::Model;
 
@@ -18,7 +18,7 @@ const ADDRESSES: u64 = 1 << 32;
 /// and don't touch: there is one way to write a map so.
 #[derive(Drop)]
 pub struct ByteMap {
-    runs: Vec<RunBuffer>,
+    runs: RunList,
 }
 
 impl Model for ByteMap {
@@ -27,12 +27,13 @@ impl Model for ByteMap {
 
     ghost Value = { List Run };
 
-    ghost view = { λ m. m.runs.items };
+    ghost view = { λ m. m.runs };
 
-    ghost invariant = { λ m. AreMaximal 0 (2 ^ 32) m.runs.items };
+    ghost invariant = { λ m. AreMaximal 0 (2 ^ 32) m.runs };
 }
 
 impl ByteMap {
+    ghost use Rattle.byte_map.specs.Joining.{Touches};
     ghost use Rattle.byte_map.specs.Laying.{Lays, IsLayFault};
 
     /// The empty map.
@@ -40,12 +41,13 @@ impl ByteMap {
         ensures { result ≡ [] }
     {
         ByteMap {
-            runs: Vec::new(alloc),
+            runs: RunList::new(alloc),
         }
     }
 
-    /// Adds the bytes from the address `at` on. A byte that the map has already is accepted. Records
-    /// in rising order, and those in falling order, cost amortised constant time per byte.
+    /// Adds the bytes from the address `at` on. A byte that the map has already is accepted. A record costs
+    /// time logarithmic in the number of runs, in whatever order records come, and amortised constant time a
+    /// byte. What touches only the run laid last, or lies beside it, is found without a search.
     pub fn lay(&mut self, at: u32, bytes: &[u8]) -> Result<(), LayFault>
         ensures ok { OnOk result (Lays (record { at = at; bytes = bytes.now }) self.old self.new) }
         ensures refused { IfErr result (IsLayFault (record { at = at; bytes = bytes.now }) self.old) }
@@ -54,16 +56,34 @@ impl ByteMap {
         if u64::from(at) + bytes.len() as u64 > ADDRESSES {
             return Err(LayFault::PastEnd { at });
         }
-        let (first, last) = find_touched(&self.runs, at, bytes);
-        if bytes.is_empty() {
-            return Ok(());
+        if let Some((first, last)) = self.runs.touched_near(at, bytes) {
+            return self.add(first, last, at, bytes);
         }
-        if let Some(clash) = find_clash(&self.runs[first..last], at, bytes) {
+        let (first, last) = find_touched(&self.runs, at, bytes);
+        self.add(first, last, at, bytes)?;
+        if first < last && first < self.runs.len() {
+            self.runs.single_out(first);
+        }
+        Ok(())
+    }
+
+    /// Adds a piece, `bytes` from `at` on, that touches the runs from `first` on and before `last`.
+    fn add(&mut self, first: usize, last: usize, at: u32, bytes: &[u8]) -> Result<(), LayFault>
+        requires fits { at + length bytes.now ≤ 2 ^ 32 }
+        requires touches { Touches (record { at = at; bytes = bytes.now }) self.old first last }
+        ensures ok { OnOk result (Lays (record { at = at; bytes = bytes.now }) self.old self.new) }
+        ensures refused { IfErr result (IsLayFault (record { at = at; bytes = bytes.now }) self.old) }
+        ensures err { OnErr result (self.new ≡ self.old) }
+    {
+        if let Some(clash) = find_clash(&self.runs, first, last, at, bytes) {
             return Err(LayFault::Conflict {
                 at: clash.at,
                 old: clash.old,
                 new: clash.new,
             });
+        }
+        if bytes.is_empty() {
+            return Ok(());
         }
         join(&mut self.runs, first, last, at, bytes)?;
         Ok(())
@@ -73,11 +93,11 @@ impl ByteMap {
     pub fn get(&self, at: u32) -> Option<u8>
         ensures { result ≡ byte_at self.now at }
     {
-        let index = count_ending_below(&self.runs, u64::from(at) + 1);
+        let index = self.runs.count_ending_below(u64::from(at) + 1);
         if index == self.runs.len() {
             return None;
         }
-        let run = &self.runs[index];
+        let run = self.runs.get(index);
         if at < run.at() {
             return None;
         }
@@ -92,12 +112,13 @@ impl ByteMap {
         self.runs.len()
     }
 
-    /// A run: the address of its first byte, and its bytes. The runs rise with their index.
+    /// A run: the address of its first byte, and its bytes, in a time logarithmic in the number of runs. The
+    /// runs rise with their index.
     pub fn run(&self, index: usize) -> (u32, &[u8])
         requires { index < length self.now }
         ensures { slice_get self.now index ≡ Some (record { at = result.0; bytes = result.1.now }) }
     {
-        let run = &self.runs[index];
+        let run = self.runs.get(index);
         (run.at(), run.bytes())
     }
 

@@ -3,19 +3,19 @@ ghost use Rattle.std.specs.Prelude.{◌≡◌, ◌+◌, ◌≤◌, ◌^◌, [], 
 ghost use Rattle.byte_map.specs.Image.{AreMaximal, over};
 
 use crate::run_buffer::RunBuffer;
-use crate::search::{count_beginning_below, count_ending_below};
+use crate::run_list::RunList;
 
 /// Lays a map, given by its runs, over cells whose first one has the address `base`.
-pub fn overlay(runs: &[RunBuffer], base: u32, cells: &mut [u8])
+pub fn overlay(runs: &RunList, base: u32, cells: &mut [u8])
     requires maximal { AreMaximal 0 (2 ^ 32) runs.now }
     requires fits { base + length cells.old ≤ 2 ^ 32 }
     ensures { cells.new ≡ over runs.now base cells.old }
 {
     let base = u64::from(base);
-    let first = count_ending_below(runs, base + 1);
-    let last = count_beginning_below(runs, base + cells.len() as u64);
-    for run in &runs[first..last] {
-        copy_run(run, base, cells);
+    let first = runs.count_ending_below(base + 1);
+    let last = runs.count_beginning_below(base + cells.len() as u64);
+    for index in first..last {
+        copy_run(runs.get(index), base, cells);
     }
 }
 
