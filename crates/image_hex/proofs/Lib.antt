@@ -1,3 +1,4 @@
 pub mod Records
 pub mod Pieces
 pub mod LineLemmas
+pub mod OneHex

@@ -1,33 +1,37 @@
--- What taking one line answers, by what the line says.
-use Rattle.std.proofs.Common.{◌≡◌, ◌++◌, ◌+◌, ◌-◌, ◌*◌, ℕ, Bool, true, false, cond, List, [], ◌∷◌, Some, None, Ok, Err, length, get_or, take, drop, refl, sym, ap, subst}
+-- What is at fault with a line of Intel HEX, and what taking it answers.
+use Rattle.std.proofs.Common.{◌≡◌, ◌++◌, ◌+◌, ◌-◌, ◌*◌, ℕ, Bool, true, false, cond, List, [], ◌∷◌, Option, Some, None, Ok, Err, length, get_or, take, drop, refl, sym, ap, subst}
 use Rattle.std.specs.Prelude.{◌==◌, ◌&&◌, ◌||◌, not, nat_lt, slice_range}
 use Rattle.std.specs.List.{list_all}
 use Rattle.byte_map.specs.Image.{Run}
-use Rattle.byte_map.specs.declared.fault.LayFault.{LayFault}
-use Rattle.byte_map.specs.declared.fault.LayFault.TheVariants as lay
 use Rattle.record_lines.specs.Digits.{is_hex_digit, pairs}
-use Rattle.record_lines.specs.Cells.{Cell, first_clash, IsImageOf}
+use Rattle.record_lines.specs.Cells.{Cell, Clash, first_clash, IsImageOf}
 use Rattle.record_lines.specs.Clashes.{IsClashFault}
-use Rattle.record_lines.specs.Format.{line_cells, line_ends, line_fault, or_clash, IsFaultOfLine}
+use Rattle.record_lines.specs.Format.{line_fault, or_clash, line_at, context_before, cells_before, IsFaultOfLine, TakesLine, IsLineFault, IsTextFault}
+use Rattle.record_lines.specs.declared.fault.ClashFault.{ClashFault}
+use Rattle.record_lines.specs.declared.fault.ClashFault.TheVariants as clash
+use Rattle.record_lines.specs.declared.fault.TextFault.{TextFault}
 use Rattle.image_hex.specs.declared.fault.HexKind.{HexKind}
 use Rattle.image_hex.specs.declared.fault.HexKind.TheVariants.{NotRecord, BadDigit, BadLength, BadSum, BadType, Conflict, NoEnd, OutOfMemory}
 use Rattle.image_hex.specs.declared.record.Base.{Base}
-use Rattle.image_hex.specs.declared.record.HexRecord.TheVariants.{Data, End, Sets, Ignored}
+use Rattle.image_hex.specs.declared.record.HexRecord.TheVariants.{Data}
 use Rattle.image_hex.specs.Record.{Reading, read_line, checked, record_of, word_of, checksum_of}
 use Rattle.image_hex.specs.Hex.{hex, data_cells, IsHexFault}
-use Rattle.image_hex.specs.Lines.{TakesLine, IsFaultOfReading, IsKindOf}
+use Rattle.image_hex.specs.Clashes.{line_fault_of}
 
--- a line by itself lacks no end record
+-- a kind that a line may have: no missing end record, and no want of memory
+abbrev pub IsKindOfLine : HexKind → Type 0
+IsKindOfLine NotRecord = Unit {0}
+IsKindOfLine BadDigit = Unit {0}
+IsKindOfLine BadLength = Unit {0}
+IsKindOfLine (BadSum said due) = Unit {0}
+IsKindOfLine (BadType value) = Unit {0}
+IsKindOfLine (Conflict at old new) = Unit {0}
+IsKindOfLine NoEnd = ⊥
+IsKindOfLine OutOfMemory = ⊥
+
 abbrev pub IsProper : Reading → Type 0
 IsProper (Ok record_) = Unit {0}
-IsProper (Err NotRecord) = Unit {0}
-IsProper (Err BadDigit) = Unit {0}
-IsProper (Err BadLength) = Unit {0}
-IsProper (Err (BadSum said due)) = Unit {0}
-IsProper (Err (BadType value)) = Unit {0}
-IsProper (Err (Conflict at old new)) = Unit {0}
-IsProper (Err NoEnd) = ⊥
-IsProper (Err OutOfMemory) = Unit {0}
+IsProper (Err kind) = IsKindOfLine kind
 
 proper : (b : Bool) (x y : Reading) → IsProper x → IsProper y → IsProper (cond b x y)
 proper true x y p q = p
@@ -52,55 +56,48 @@ proper_line (first ∷ digits) =
     proper (first == 58) _ _
     (proper (not (list_all is_hex_digit digits)) _ _ tt (proper (nat_lt (length digits) 10 || not (length digits == 10 + 2 * get_or (pairs digits) 0 0)) _ _ tt (proper_checked (pairs digits)))) tt
 
-proper_fault : (kind : HexKind) (before : List Cell) (base : Base) → IsProper (Err kind) → IsFaultOfReading (Err kind) before base kind
-proper_fault NotRecord before base p = refl
-proper_fault BadDigit before base p = refl
-proper_fault BadLength before base p = refl
-proper_fault (BadSum said due) before base p = refl
-proper_fault (BadType value) before base p = refl
-proper_fault (Conflict at old new) before base p = refl
-proper_fault NoEnd before base p = p
-proper_fault OutOfMemory before base p = tt
+of_clash : (o : Option Clash) (kind : HexKind) → or_clash hex None o ≡ Some kind → IsKindOfLine kind
+of_clash None kind is = let nothing : None ≡ Some kind = is in absurd (cc)
+of_clash (Some c) kind is = let some : Some (Conflict c.at c.old c.new) ≡ Some kind = is in let same : Conflict c.at c.old c.new ≡ kind = cc in subst IsKindOfLine same tt
+
+of_reading : (reading : Reading) (base : Base) (before : List Cell) (kind : HexKind) → IsProper reading → line_fault hex base before reading ≡ Some kind → IsKindOfLine kind
+of_reading (Ok None) base before kind proper_ is = let nothing : None ≡ Some kind = is in absurd (cc)
+of_reading (Ok (Some r)) base before kind proper_ is = of_clash (first_clash before (hex.cells base r)) kind is
+of_reading (Err fault) base before kind proper_ is = let some : Some fault ≡ Some kind = is in let same : fault ≡ kind = cc in subst IsKindOfLine same proper_
+
+of_line : (lines : List (List ℕ)) (line : ℕ) (kind : HexKind) → IsFaultOfLine hex lines line kind → IsKindOfLine kind
+of_line lines line kind is =
+    of_reading (read_line (line_at lines is.place)) (context_before hex lines is.place) (cells_before hex lines is.place) kind (proper_line (line_at lines is.place)) is.fault_is
+
+-- a fault of a line as the text's fault
+pub line_as_hex : (lines : List (List ℕ)) (line : ℕ) (kind : HexKind) → IsFaultOfLine hex lines line kind → IsHexFault lines line kind
+line_as_hex lines line NotRecord is = is
+line_as_hex lines line BadDigit is = is
+line_as_hex lines line BadLength is = is
+line_as_hex lines line (BadSum said due) is = is
+line_as_hex lines line (BadType value) is = is
+line_as_hex lines line (Conflict at old new) is = is
+line_as_hex lines line NoEnd is = absurd (of_line lines line NoEnd is)
+line_as_hex lines line OutOfMemory is = absurd (of_line lines line OutOfMemory is)
 
 -- a line that is at fault by itself
-pub faulty : (line : List ℕ) (kind : HexKind) (before : List Cell) (base : Base) → read_line line ≡ Err kind → IsFaultOfReading (read_line line) before base kind
-faulty line kind before base is =
-    subst (λ (r : Reading). IsFaultOfReading r before base kind) (sym is) (proper_fault kind before base (subst IsProper is (proper_line line)))
+pub faulty : (reading : Reading) (kind : HexKind) (before : List Cell) (base : Base) → reading ≡ Err kind → line_fault hex base before reading ≡ Some kind
+faulty reading kind before base is = ap (line_fault hex base before) is
 
 -- a data record whose bytes were added
 pub took_data : (reading : Reading) (before : List Cell) (base : Base) (offset : ℕ) (bytes : List ℕ) (image : List Run) → reading ≡ Ok (Some (Data offset bytes))
-    → (first_clash before (data_cells base offset bytes) ≡ None) × IsImageOf (data_cells base offset bytes ++ before) image → TakesLine reading before base base false image
+    → (first_clash before (data_cells base offset bytes) ≡ None) × IsImageOf (data_cells base offset bytes ++ before) image → TakesLine hex reading before base base false image
 took_data reading before base offset bytes image is laid =
-    subst (λ (r : Reading). TakesLine r before base base false image) (sym is)
-    (record { right = ap (or_clash hex None) laid.0; ends_is = refl; base_is = refl; image_is = laid.1 })
+    subst (λ (r : Reading). TakesLine hex r before base base false image) (sym is)
+    (record { right = ap (or_clash hex None) laid.0; ends_is = refl; known_is = refl; image_is = laid.1; end_cells = tt })
 
 -- or that clashed
-clash_kind : (fault : LayFault) (kind : HexKind) (before : List Cell) (base : Base) (offset : ℕ) (bytes : List ℕ) → IsKindOf fault kind → IsClashFault fault (first_clash before (data_cells base offset bytes)) → IsFaultOfReading (Ok (Some (Data offset bytes))) before base kind
-clash_kind (lay.Conflict at old new) kind before base offset bytes kind_is clash =
-    subst (λ (k : HexKind). IsFaultOfReading (Ok (Some (Data offset bytes))) before base k) (sym kind_is) (ap (or_clash hex None) clash)
-clash_kind (lay.PastEnd at) kind before base offset bytes kind_is clash = absurd clash
-clash_kind lay.OutOfMemory kind before base offset bytes kind_is clash = subst (λ (k : HexKind). IsFaultOfReading (Ok (Some (Data offset bytes))) before base k) (sym kind_is) tt
+clash_as_line : (fault : ClashFault) (before : List Cell) (base : Base) (offset : ℕ) (bytes : List ℕ) → IsClashFault fault (first_clash before (data_cells base offset bytes))
+    → IsLineFault hex (Ok (Some (Data offset bytes))) before base (line_fault_of fault)
+clash_as_line (clash.Conflict at old new) before base offset bytes is = ap (or_clash hex None) is
+clash_as_line clash.OutOfMemory before base offset bytes is = tt
 
-pub clashed : (reading : Reading) (fault : LayFault) (kind : HexKind) (before : List Cell) (base : Base) (offset : ℕ) (bytes : List ℕ) → reading ≡ Ok (Some (Data offset bytes)) → IsKindOf fault kind → IsClashFault fault (first_clash before (data_cells base offset bytes)) → IsFaultOfReading reading before base kind
-clashed reading fault kind before base offset bytes is kind_is clash = subst (λ (r : Reading). IsFaultOfReading r before base kind) (sym is) (clash_kind fault kind before base offset bytes kind_is clash)
-
--- the end record has no bytes
-pub end_cells : (reading : Reading) (base : Base) → line_ends hex reading ≡ true → line_cells hex base reading ≡ []
-end_cells (Ok None) base ends = refl
-end_cells (Ok (Some (Data offset bytes))) base ends = absurd (cc)
-end_cells (Ok (Some End)) base ends = refl
-end_cells (Ok (Some (Sets other))) base ends = refl
-end_cells (Ok (Some Ignored)) base ends = refl
-end_cells (Err fault) base ends = refl
-
--- a fault of a line as the text's fault
-pub text_fault : (lines : List (List ℕ)) (kind : HexKind) (line number : ℕ) (reading : Reading) (before : List Cell) (base : Base) → (line_fault hex base before reading ≡ Some kind → IsFaultOfLine hex lines number kind)
-    → IsFaultOfReading reading before base kind → (kind ≡ OutOfMemory → line ≡ 0) → ((kind ≡ OutOfMemory → ⊥) → line ≡ number) → IsHexFault lines line kind
-text_fault lines NotRecord line number reading before base at is memory other = subst (λ (l : ℕ). IsFaultOfLine hex lines l NotRecord) (sym (other (λ e. cc))) (at is)
-text_fault lines BadDigit line number reading before base at is memory other = subst (λ (l : ℕ). IsFaultOfLine hex lines l BadDigit) (sym (other (λ e. cc))) (at is)
-text_fault lines BadLength line number reading before base at is memory other = subst (λ (l : ℕ). IsFaultOfLine hex lines l BadLength) (sym (other (λ e. cc))) (at is)
-text_fault lines (BadSum said due) line number reading before base at is memory other = subst (λ (l : ℕ). IsFaultOfLine hex lines l (BadSum said due)) (sym (other (λ e. cc))) (at is)
-text_fault lines (BadType value) line number reading before base at is memory other = subst (λ (l : ℕ). IsFaultOfLine hex lines l (BadType value)) (sym (other (λ e. cc))) (at is)
-text_fault lines (Conflict a o n) line number reading before base at is memory other = subst (λ (l : ℕ). IsFaultOfLine hex lines l (Conflict a o n)) (sym (other (λ e. cc))) (at is)
-text_fault lines NoEnd line number reading before base at is memory other = absurd is
-text_fault lines OutOfMemory line number reading before base at is memory other = memory refl
+pub clashed : (reading : Reading) (fault : ClashFault) (before : List Cell) (base : Base) (offset : ℕ) (bytes : List ℕ) → reading ≡ Ok (Some (Data offset bytes))
+    → IsClashFault fault (first_clash before (data_cells base offset bytes)) → IsLineFault hex reading before base (line_fault_of fault)
+clashed reading fault before base offset bytes is there =
+    subst (λ (r : Reading). IsLineFault hex r before base (line_fault_of fault)) (sym is) (clash_as_line fault before base offset bytes there)

@@ -1,8 +1,8 @@
 -- The bytes of a data record as one or two pieces.
 use Rattle.std.proofs.Common.{◌≡◌, ⊎_elim, ◌≤◌, ◌<◌, ◌+◌, ◌-◌, ℕ, suc, List, [], ◌∷◌, ◌++◌, length, take, drop, Option, Some, None, Result, Ok, Err, OnOk, IfErr, min, refl, sym, ap, subst, ◌∙◌, arith}
 use Rattle.std.proofs.lemmas.Bool.{cases_lt}
-use Rattle.byte_map.specs.declared.fault.LayFault.{LayFault}
-use Rattle.byte_map.specs.declared.fault.LayFault.TheVariants.{Conflict, PastEnd, OutOfMemory}
+use Rattle.record_lines.specs.declared.fault.ClashFault.{ClashFault}
+use Rattle.record_lines.specs.declared.fault.ClashFault.TheVariants.{Conflict, OutOfMemory}
 use Rattle.record_lines.specs.Clashes.{IsClashFault}
 use Rattle.std.proofs.lemmas.List.{append_assoc, take-append-drop, length-take, length-drop}
 use Rattle.byte_map.specs.Image.{Run}
@@ -80,7 +80,7 @@ two_pieces base offset first room low bytes count xs ys straight_is wrapped_is f
     ap (address_of base) (let is : offset + length xs + k ≡ offset + (room + k) = omega (arith, front, back) in is) ∙ wrapped_is k (omega (arith, back))))
 
 -- both pieces laid
-pub both_ok : (r : Result (Unit {0}) LayFault) (cells : List Cell) (at at' : ℕ) (xs ys : List ℕ) (old mid new : List Run) → at' + length ys ≤ at → cells ≡ cells_from at xs ++ cells_from at' ys
+pub both_ok : (r : Result (Unit {0}) ClashFault) (cells : List Cell) (at at' : ℕ) (xs ys : List ℕ) (old mid new : List Run) → at' + length ys ≤ at → cells ≡ cells_from at xs ++ cells_from at' ys
     → ((before : List Cell) → IsImageOf before old → (first_clash before (cells_from at xs) ≡ None) × IsImageOf (cells_from at xs ++ before) mid)
     → OnOk r ((before : List Cell) → IsImageOf before mid → (first_clash before (cells_from at' ys) ≡ None) × IsImageOf (cells_from at' ys ++ before) new)
     → OnOk r ((before : List Cell) → IsImageOf before old → (first_clash before cells ≡ None) × IsImageOf (cells ++ before) new)
@@ -90,20 +90,19 @@ both_ok (Ok u) cells at at' xs ys old mid new apart is one two = λ before image
     (ap (first_clash before) is ∙ two_clash at at' xs ys before apart first.0 ∙ second.0, subst (λ (cs : List Cell). IsImageOf (cs ++ before) new) (sym is) (two_image at at' xs ys before new apart second.1))
 both_ok (Err fault) cells at at' xs ys old mid new apart is one two = tt
 
-pub clash_same : (fault : LayFault) (o p : Option Clash) → ((c : Clash) → o ≡ Some c → p ≡ Some c) → IsClashFault fault o → IsClashFault fault p
+pub clash_same : (fault : ClashFault) (o p : Option Clash) → ((c : Clash) → o ≡ Some c → p ≡ Some c) → IsClashFault fault o → IsClashFault fault p
 clash_same (Conflict a old new) o p same is = same (record { at = a; old = old; new = new }) is
-clash_same (PastEnd a) o p same is = is
 clash_same OutOfMemory o p same is = tt
 
-pub first_err : (fault : LayFault) (cells : List Cell) (at at' : ℕ) (xs ys : List ℕ) (old : List Run) → cells ≡ cells_from at xs ++ cells_from at' ys
+pub first_err : (fault : ClashFault) (cells : List Cell) (at at' : ℕ) (xs ys : List ℕ) (old : List Run) → cells ≡ cells_from at xs ++ cells_from at' ys
     → ((before : List Cell) → IsImageOf before old → IsClashFault fault (first_clash before (cells_from at xs))) → (before : List Cell) → IsImageOf before old → IsClashFault fault (first_clash before cells)
 first_err fault cells at at' xs ys old is one before image =
     clash_same fault (first_clash before (cells_from at xs)) (first_clash before cells) (λ c there. ap (first_clash before) is ∙ first_clash-some before (cells_from at xs) (cells_from at' ys) c there) (one before image)
 
-pub second_err : (r : Result (Unit {0}) LayFault) (cells : List Cell) (at at' : ℕ) (xs ys : List ℕ) (old mid : List Run) → at' + length ys ≤ at → cells ≡ cells_from at xs ++ cells_from at' ys
+pub second_err : (r : Result (Unit {0}) ClashFault) (cells : List Cell) (at at' : ℕ) (xs ys : List ℕ) (old mid : List Run) → at' + length ys ≤ at → cells ≡ cells_from at xs ++ cells_from at' ys
     → ((before : List Cell) → IsImageOf before old → (first_clash before (cells_from at xs) ≡ None) × IsImageOf (cells_from at xs ++ before) mid)
-    → IfErr r (λ (fault : LayFault). (before : List Cell) → IsImageOf before mid → IsClashFault fault (first_clash before (cells_from at' ys)))
-    → IfErr r (λ (fault : LayFault). (before : List Cell) → IsImageOf before old → IsClashFault fault (first_clash before cells))
+    → IfErr r (λ (fault : ClashFault). (before : List Cell) → IsImageOf before mid → IsClashFault fault (first_clash before (cells_from at' ys)))
+    → IfErr r (λ (fault : ClashFault). (before : List Cell) → IsImageOf before old → IsClashFault fault (first_clash before cells))
 second_err (Ok u) cells at at' xs ys old mid apart is one two = tt
 second_err (Err fault) cells at at' xs ys old mid apart is one two = λ before image.
     let first = one before image in

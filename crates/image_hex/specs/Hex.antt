@@ -1,7 +1,7 @@
 -- A text of Intel HEX: its image, and its fault.
-use Rattle.std.specs.Prelude.{◌≡◌, ◌+◌, ◌*◌, ◌%◌, ℕ, zero, suc, Bool, true, false, List, [], ◌∷◌, Some, None, Ok, Err}
+use Rattle.std.specs.Prelude.{◌≡◌, ◌+◌, ◌*◌, ◌%◌, ℕ, Bool, true, false, List, [], ◌∷◌, Some, None, Ok, Err}
 use Rattle.record_lines.specs.Cells.{Cell}
-use Rattle.record_lines.specs.Format.{Format, line_at, IsFaultOfLine, HasNoEnd}
+use Rattle.record_lines.specs.Format.{Format, IsFaultOfLine, HasNoEnd}
 use Rattle.image_hex.specs.declared.fault.HexKind.{HexKind}
 use Rattle.image_hex.specs.declared.fault.HexKind.TheVariants.{NotRecord, BadDigit, BadLength, BadSum, BadType, Conflict, NoEnd, OutOfMemory}
 use Rattle.image_hex.specs.declared.record.Base.{Base}
@@ -10,7 +10,7 @@ use Rattle.image_hex.specs.declared.record.HexRecord.{HexRecord}
 use Rattle.image_hex.specs.declared.record.HexRecord.TheVariants.{Data, End, Sets, Ignored}
 use Rattle.image_hex.specs.Record.{Reading, read_line}
 
--- the base behind a line, where `earlier` is the one before it
+-- the base behind a line, where `earlier` is the one before it; before the first line it is the upper half 0
 abbrev pub base_behind : Reading → Base → Base
 base_behind (Ok None) earlier = earlier
 base_behind (Ok (Some (Data offset bytes))) earlier = earlier
@@ -18,11 +18,6 @@ base_behind (Ok (Some End)) earlier = earlier
 base_behind (Ok (Some (Sets base))) earlier = base
 base_behind (Ok (Some Ignored)) earlier = earlier
 base_behind (Err fault) earlier = earlier
-
--- the base at a place, looking back: that of the last record before it that sets one, else the upper half 0
-abbrev pub base_before : List (List ℕ) → ℕ → Base
-base_before lines zero = Upper 0
-base_before lines (suc n) = base_behind (read_line (line_at lines n)) (base_before lines n)
 
 -- "Data Record": the address of the byte that stands `offset` behind a base. Behind an upper half addresses go on modulo
 -- 2^32, and behind a segment they wrap within its 64 KiB.
@@ -51,7 +46,8 @@ is_end Ignored = false
 abbrev pub hex : Format Base HexRecord HexKind
 hex = record {
   read = read_line;
-  context = base_before;
+  start = Upper 0;
+  behind = base_behind;
   is_end = is_end;
   cells = record_cells;
   refused = λ base r. None;

@@ -1,3 +1,3 @@
 pub mod Record
 pub mod Hex
-pub mod Lines
+pub mod Clashes

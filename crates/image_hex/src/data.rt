@@ -5,8 +5,8 @@ ghost use Rattle.record_lines.specs.Clashes.{IsClashFault};
 ghost use Rattle.image_hex.specs.Hex.{address_of, data_cells};
 
 use crate::record::Base;
-use byte_map::{ByteMap, LayFault};
-use record_lines::lay_cells;
+use byte_map::ByteMap;
+use record_lines::{ClashFault, lay_cells};
 
 /// How many addresses there are, and how many a segment has.
 const ADDRESSES: u64 = 1 << 32;
@@ -53,7 +53,7 @@ fn way_behind(base: Base, offset: u16) -> Way
 }
 
 /// Adds the bytes of a data record to an image.
-pub fn lay_data(map: &mut ByteMap, base: Base, offset: u16, bytes: &[u8]) -> Result<(), LayFault>
+pub fn lay_data(map: &mut ByteMap, base: Base, offset: u16, bytes: &[u8]) -> Result<(), ClashFault>
     requires { length bytes.now ≤ 255 }
     ensures ok { OnOk result ((before : List Cell) → IsImageOf before map.old → (first_clash before (data_cells base offset bytes.now) ≡ None) × IsImageOf (data_cells base offset bytes.now ++ before) map.new) }
     ensures err { IfErr result (λ fault. (before : List Cell) → IsImageOf before map.old → IsClashFault fault (first_clash before (data_cells base offset bytes.now))) }

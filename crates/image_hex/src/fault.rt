@@ -7,34 +7,35 @@ use thiserror::Error;
 pub struct HexFault {
     /// The line; 0 where no memory was left, or the text is empty.
     pub line: u32,
+    /// What is at fault with it.
     pub kind: HexKind,
 }
 
-/// What is at fault.
+/// What is at fault, printed by its name and its fields.
 #[derive(Clone, Copy, Debug, PartialEq, Eq, Error)]
 pub enum HexKind {
     /// The line doesn't begin with a colon.
-    #[error("no record")]
+    #[error("NotRecord")]
     NotRecord,
     /// A byte behind the colon is no hexadecimal digit.
-    #[error("bad digit")]
+    #[error("BadDigit")]
     BadDigit,
     /// There are fewer than 10 digits, or not 10 and two for each byte that the record counts.
-    #[error("bad length")]
+    #[error("BadLength")]
     BadLength,
     /// The checksum is another than the one that the other bytes ask for.
-    #[error("checksum {said:02X} in place of {due:02X}")]
+    #[error("BadSum {said:02X} {due:02X}")]
     BadSum { said: u8, due: u8 },
     /// The type is above 5, or the record has not as much data as its type.
-    #[error("bad type {value}")]
+    #[error("BadType {value}")]
     BadType { value: u8 },
     /// A record before has another byte at this address.
-    #[error("conflict at {at:08X}: {old:02X} and {new:02X}")]
+    #[error("Conflict {at:08X} {old:02X} {new:02X}")]
     Conflict { at: u32, old: u8, new: u8 },
     /// The text has no end record.
-    #[error("no end record")]
+    #[error("NoEnd")]
     NoEnd,
     /// No memory was left.
-    #[error("out of memory")]
+    #[error("OutOfMemory")]
     OutOfMemory,
 }

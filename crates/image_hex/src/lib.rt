@@ -3,10 +3,13 @@
 
 mod data;
 mod fault;
+mod format;
+mod law;
 mod reader;
 mod record;
 #[cfg(test)]
 mod tests;
 
 pub use fault::{HexFault, HexKind};
+pub use law::hex_has_one_reading;
 pub use reader::read_hex;

@@ -18,8 +18,11 @@ pub enum Base {
 /// A record, as far as an image needs it.
 #[derive(Drop)]
 pub enum HexRecord {
+    /// Bytes, the first one so far behind the base.
     Data { offset: u16, bytes: Payload },
+    /// The end of the text.
     End,
+    /// Another base.
     Sets(Base),
     /// A start address.
     Ignored,

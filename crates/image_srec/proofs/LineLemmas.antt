@@ -1,33 +1,40 @@
--- What taking one line answers, by what the line says.
+-- What is at fault with a line of S-records, and what taking it answers.
 use Rattle.std.proofs.Common.{◌≡◌, ◌++◌, ◌+◌, ◌-◌, ◌*◌, ◌∙◌, ◌≤◌, ℕ, Bool, true, false, cond, List, [], ◌∷◌, Option, Some, None, Result, Ok, Err, length, get_or, take, drop, refl, sym, ap, subst, arith}
 use Rattle.std.specs.Prelude.{◌==◌, ◌&&◌, ◌||◌, not, nat_lt, nat_le}
 use Rattle.std.specs.List.{list_all}
 use Rattle.std.proofs.lemmas.Bool.Decides.{nat_tests}
 use Rattle.byte_map.specs.Image.{Run}
 use Rattle.record_lines.specs.Digits.{is_hex_digit, pairs}
-use Rattle.record_lines.specs.Cells.{Cell, cells_from, first_clash, IsImageOf}
-use Rattle.record_lines.specs.Format.{line_cells, line_ends, line_fault, or_clash, IsFaultOfLine}
+use Rattle.record_lines.specs.Cells.{Cell, Clash, cells_from, first_clash, IsImageOf}
+use Rattle.record_lines.specs.Clashes.{IsClashFault}
+use Rattle.record_lines.specs.Format.{line_fault, or_clash, line_at, context_before, cells_before, IsFaultOfLine, TakesLine, IsLineFault}
+use Rattle.record_lines.specs.declared.fault.ClashFault.{ClashFault}
+use Rattle.record_lines.specs.declared.fault.ClashFault.TheVariants as clash
 use Rattle.image_srec.specs.declared.fault.SrecKind.{SrecKind}
 use Rattle.image_srec.specs.declared.fault.SrecKind.TheVariants.{NotRecord, BadDigit, BadLength, BadSum, BadType, CountDiffers, PastEnd, Conflict, NoEnd, OutOfMemory}
+use Rattle.image_srec.specs.declared.record.Seen.{Seen}
 use Rattle.image_srec.specs.declared.record.SrecRecord.{SrecRecord}
 use Rattle.image_srec.specs.declared.record.SrecRecord.TheVariants.{Header, Data, Count, End}
 use Rattle.image_srec.specs.Record.{Reading, read_line, read_digits, checked, checksum_of, is_long_enough}
-use Rattle.image_srec.specs.Srec.{srec, IsSrecFault}
-use Rattle.image_srec.specs.Lines.{TakesLine, IsFaultOfReading}
+use Rattle.image_srec.specs.Srec.{srec, refused, IsSrecFault}
+use Rattle.image_srec.specs.Clashes.{line_fault_of}
 
--- a line by itself lacks no end record
+-- a kind that a line may have: no missing end record, and no want of memory
+abbrev pub IsKindOfLine : SrecKind → Type 0
+IsKindOfLine NotRecord = Unit {0}
+IsKindOfLine BadDigit = Unit {0}
+IsKindOfLine BadLength = Unit {0}
+IsKindOfLine (BadSum said due) = Unit {0}
+IsKindOfLine (BadType value) = Unit {0}
+IsKindOfLine (CountDiffers said seen) = Unit {0}
+IsKindOfLine (PastEnd at) = Unit {0}
+IsKindOfLine (Conflict at old new) = Unit {0}
+IsKindOfLine NoEnd = ⊥
+IsKindOfLine OutOfMemory = ⊥
+
 abbrev pub IsProper : Reading → Type 0
 IsProper (Ok record_) = Unit {0}
-IsProper (Err NotRecord) = Unit {0}
-IsProper (Err BadDigit) = Unit {0}
-IsProper (Err BadLength) = Unit {0}
-IsProper (Err (BadSum said due)) = Unit {0}
-IsProper (Err (BadType value)) = Unit {0}
-IsProper (Err (CountDiffers said seen)) = Unit {0}
-IsProper (Err (PastEnd at)) = Unit {0}
-IsProper (Err (Conflict at old new)) = Unit {0}
-IsProper (Err NoEnd) = ⊥
-IsProper (Err OutOfMemory) = Unit {0}
+IsProper (Err kind) = IsKindOfLine kind
 
 proper : (b : Bool) (x y : Reading) → IsProper x → IsProper y → IsProper (cond b x y)
 proper true x y p q = p
@@ -47,53 +54,80 @@ proper_line [] = tt
 proper_line (first ∷ []) = tt
 proper_line (first ∷ kind ∷ digits) = proper ((first == 83) && (nat_le 48 kind && nat_le kind 57)) _ _ (proper_digits (kind - 48) digits) tt
 
-proper_fault : (kind : SrecKind) (before : List Cell) (seen : ℕ) → IsProper (Err kind) → IsFaultOfReading (Err kind) before seen kind
-proper_fault NotRecord before seen p = refl
-proper_fault BadDigit before seen p = refl
-proper_fault BadLength before seen p = refl
-proper_fault (BadSum said due) before seen p = refl
-proper_fault (BadType value) before seen p = refl
-proper_fault (CountDiffers said found) before seen p = refl
-proper_fault (PastEnd at) before seen p = refl
-proper_fault (Conflict at old new) before seen p = refl
-proper_fault NoEnd before seen p = p
-proper_fault OutOfMemory before seen p = tt
+-- what a record is refused for
+abbrev pub IsRefusal : Option SrecKind → Type 0
+IsRefusal None = Unit {0}
+IsRefusal (Some kind) = IsKindOfLine kind
+
+either : (b : Bool) (x y : Option SrecKind) → IsRefusal x → IsRefusal y → IsRefusal (cond b x y)
+either true x y p q = p
+either false x y p q = q
+
+of_record : (seen : Seen) (r : SrecRecord) → IsRefusal (refused seen r)
+of_record seen Header = tt
+of_record seen (Data at bytes) = either (nat_lt 4294967296 (at + length bytes)) _ _ tt tt
+of_record seen (Count said) = either (said == seen.records) _ _ tt tt
+of_record seen End = tt
+
+of_clash : (o : Option SrecKind) (c : Option Clash) (kind : SrecKind) → IsRefusal o → or_clash srec o c ≡ Some kind → IsKindOfLine kind
+of_clash (Some fault) c kind proper_ is = let some : Some fault ≡ Some kind = is in let same : fault ≡ kind = cc in subst IsKindOfLine same proper_
+of_clash None None kind proper_ is = let nothing : None ≡ Some kind = is in absurd (cc)
+of_clash None (Some c) kind proper_ is = let some : Some (Conflict c.at c.old c.new) ≡ Some kind = is in let same : Conflict c.at c.old c.new ≡ kind = cc in subst IsKindOfLine same tt
+
+of_reading : (reading : Reading) (seen : Seen) (before : List Cell) (kind : SrecKind) → IsProper reading → line_fault srec seen before reading ≡ Some kind → IsKindOfLine kind
+of_reading (Ok None) seen before kind proper_ is = let nothing : None ≡ Some kind = is in absurd (cc)
+of_reading (Ok (Some r)) seen before kind proper_ is = of_clash (refused seen r) (first_clash before (srec.cells seen r)) kind (of_record seen r) is
+of_reading (Err fault) seen before kind proper_ is = let some : Some fault ≡ Some kind = is in let same : fault ≡ kind = cc in subst IsKindOfLine same proper_
+
+of_line : (lines : List (List ℕ)) (line : ℕ) (kind : SrecKind) → IsFaultOfLine srec lines line kind → IsKindOfLine kind
+of_line lines line kind is =
+    of_reading (read_line (line_at lines is.place)) (context_before srec lines is.place) (cells_before srec lines is.place) kind (proper_line (line_at lines is.place)) is.fault_is
+
+-- a fault of a line as the text's fault
+pub line_as_srec : (lines : List (List ℕ)) (line : ℕ) (kind : SrecKind) → IsFaultOfLine srec lines line kind → IsSrecFault lines line kind
+line_as_srec lines line NotRecord is = is
+line_as_srec lines line BadDigit is = is
+line_as_srec lines line BadLength is = is
+line_as_srec lines line (BadSum said due) is = is
+line_as_srec lines line (BadType value) is = is
+line_as_srec lines line (CountDiffers said seen) is = is
+line_as_srec lines line (PastEnd at) is = is
+line_as_srec lines line (Conflict at old new) is = is
+line_as_srec lines line NoEnd is = absurd (of_line lines line NoEnd is)
+line_as_srec lines line OutOfMemory is = absurd (of_line lines line OutOfMemory is)
 
 -- a line that is at fault by itself
-pub faulty : (line : List ℕ) (kind : SrecKind) (before : List Cell) (seen : ℕ) → read_line line ≡ Err kind → IsFaultOfReading (read_line line) before seen kind
-faulty line kind before seen is =
-    subst (λ (r : Reading). IsFaultOfReading r before seen kind) (sym is) (proper_fault kind before seen (subst IsProper is (proper_line line)))
+pub faulty : (reading : Reading) (kind : SrecKind) (before : List Cell) (seen : Seen) → reading ≡ Err kind → line_fault srec seen before reading ≡ Some kind
+faulty reading kind before seen is = ap (line_fault srec seen before) is
 
 not_past : (a b : ℕ) → b ≤ a → nat_lt a b ≡ false
 not_past a b le = grind (arith, nat_tests)
 
--- a data record whose bytes were added
-pub took_data : (reading : Reading) (before : List Cell) (seen at : ℕ) (bytes : List ℕ) (image : List Run) → reading ≡ Ok (Some (Data at bytes)) → at + length bytes ≤ 4294967296
-    → (first_clash before (cells_from at bytes) ≡ None) × IsImageOf (cells_from at bytes ++ before) image → TakesLine reading before seen (seen + 1) false image
-took_data reading before seen at bytes image is fits laid =
-    let in_range : cond (nat_lt 4294967296 (at + length bytes)) (Some (PastEnd at)) None ≡ None = ap (λ (b : Bool). cond b (Some (PastEnd at)) None) (not_past 4294967296 (at + length bytes) fits) in
-    subst (λ (r : Reading). TakesLine r before seen (seen + 1) false image) (sym is)
-    (record { right = ap (λ (o : Option SrecKind). or_clash srec o (first_clash before (cells_from at bytes))) in_range ∙ ap (or_clash srec None) laid.0; ends_is = refl; count_is = refl; image_is = laid.1 })
+-- a data record within the addresses
+in_range : (at : ℕ) (bytes : List ℕ) → at + length bytes ≤ 4294967296 → cond (nat_lt 4294967296 (at + length bytes)) (Some (PastEnd at)) None ≡ None
+in_range at bytes fits = ap (λ (b : Bool). cond b (Some (PastEnd at)) None) (not_past 4294967296 (at + length bytes) fits)
 
--- the end record has no bytes
-pub end_cells : (reading : Reading) (seen : ℕ) → line_ends srec reading ≡ true → line_cells srec seen reading ≡ []
-end_cells (Ok None) seen ends = refl
-end_cells (Ok (Some Header)) seen ends = refl
-end_cells (Ok (Some (Data at bytes))) seen ends = absurd (cc)
-end_cells (Ok (Some (Count said))) seen ends = refl
-end_cells (Ok (Some End)) seen ends = refl
-end_cells (Err fault) seen ends = refl
+-- whose bytes were added
+pub took_data : (reading : Reading) (before : List Cell) (seen next : Seen) (at : ℕ) (bytes : List ℕ) (image : List Run) → reading ≡ Ok (Some (Data at bytes)) → at + length bytes ≤ 4294967296
+    → next ≡ record { records = seen.records + 1 } → (first_clash before (cells_from at bytes) ≡ None) × IsImageOf (cells_from at bytes ++ before) image → TakesLine srec reading before seen next false image
+took_data reading before seen next at bytes image is fits counted laid =
+    subst (λ (r : Reading). TakesLine srec r before seen next false image) (sym is)
+    (record {
+      right = ap (λ (o : Option SrecKind). or_clash srec o (first_clash before (cells_from at bytes))) (in_range at bytes fits) ∙ ap (or_clash srec None) laid.0;
+      ends_is = refl;
+      known_is = counted;
+      image_is = laid.1;
+      end_cells = tt;
+    })
 
--- a fault of a line as the text's fault
-pub text_fault : (lines : List (List ℕ)) (kind : SrecKind) (line number : ℕ) (reading : Reading) (before : List Cell) (seen : ℕ) → (line_fault srec seen before reading ≡ Some kind → IsFaultOfLine srec lines number kind)
-    → IsFaultOfReading reading before seen kind → (kind ≡ OutOfMemory → line ≡ 0) → ((kind ≡ OutOfMemory → ⊥) → line ≡ number) → IsSrecFault lines line kind
-text_fault lines NotRecord line number reading before seen at is memory other = subst (λ (l : ℕ). IsFaultOfLine srec lines l NotRecord) (sym (other (λ e. cc))) (at is)
-text_fault lines BadDigit line number reading before seen at is memory other = subst (λ (l : ℕ). IsFaultOfLine srec lines l BadDigit) (sym (other (λ e. cc))) (at is)
-text_fault lines BadLength line number reading before seen at is memory other = subst (λ (l : ℕ). IsFaultOfLine srec lines l BadLength) (sym (other (λ e. cc))) (at is)
-text_fault lines (BadSum said due) line number reading before seen at is memory other = subst (λ (l : ℕ). IsFaultOfLine srec lines l (BadSum said due)) (sym (other (λ e. cc))) (at is)
-text_fault lines (BadType value) line number reading before seen at is memory other = subst (λ (l : ℕ). IsFaultOfLine srec lines l (BadType value)) (sym (other (λ e. cc))) (at is)
-text_fault lines (CountDiffers said found) line number reading before seen at is memory other = subst (λ (l : ℕ). IsFaultOfLine srec lines l (CountDiffers said found)) (sym (other (λ e. cc))) (at is)
-text_fault lines (PastEnd a) line number reading before seen at is memory other = subst (λ (l : ℕ). IsFaultOfLine srec lines l (PastEnd a)) (sym (other (λ e. cc))) (at is)
-text_fault lines (Conflict a o n) line number reading before seen at is memory other = subst (λ (l : ℕ). IsFaultOfLine srec lines l (Conflict a o n)) (sym (other (λ e. cc))) (at is)
-text_fault lines NoEnd line number reading before seen at is memory other = absurd is
-text_fault lines OutOfMemory line number reading before seen at is memory other = memory refl
+-- or that clashed
+clash_as_line : (fault : ClashFault) (before : List Cell) (seen : Seen) (at : ℕ) (bytes : List ℕ) → at + length bytes ≤ 4294967296
+    → IsClashFault fault (first_clash before (cells_from at bytes)) → IsLineFault srec (Ok (Some (Data at bytes))) before seen (line_fault_of fault)
+clash_as_line (clash.Conflict a o n) before seen at bytes fits is =
+    ap (λ (x : Option SrecKind). or_clash srec x (first_clash before (cells_from at bytes))) (in_range at bytes fits) ∙ ap (or_clash srec None) is
+clash_as_line clash.OutOfMemory before seen at bytes fits is = tt
+
+pub clashed : (reading : Reading) (fault : ClashFault) (before : List Cell) (seen : Seen) (at : ℕ) (bytes : List ℕ) → reading ≡ Ok (Some (Data at bytes)) → at + length bytes ≤ 4294967296
+    → IsClashFault fault (first_clash before (cells_from at bytes)) → IsLineFault srec reading before seen (line_fault_of fault)
+clashed reading fault before seen at bytes is fits there =
+    subst (λ (r : Reading). IsLineFault srec r before seen (line_fault_of fault)) (sym is) (clash_as_line fault before seen at bytes fits there)

@@ -1,3 +1,3 @@
 pub mod Record
 pub mod Srec
-pub mod Lines
+pub mod Clashes

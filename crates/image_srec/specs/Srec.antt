@@ -1,38 +1,34 @@
 -- A text of S-records: its image, and its fault.
-use Rattle.std.specs.Prelude.{◌≡◌, ◌+◌, ◌^◌, ◌==◌, ℕ, zero, suc, nat_lt, Bool, true, false, List, [], ◌∷◌, length, Option, Some, None, Result, Ok, Err, if◌then◌else◌}
+use Rattle.std.specs.Prelude.{◌≡◌, ◌+◌, ◌^◌, ◌==◌, ℕ, nat_lt, Bool, true, false, List, [], ◌∷◌, length, Option, Some, None, Result, Ok, Err, if◌then◌else◌}
 use Rattle.record_lines.specs.Cells.{Cell, Clash, cells_from}
-use Rattle.record_lines.specs.Format.{Format, line_at, IsFaultOfLine, HasNoEnd}
+use Rattle.record_lines.specs.Format.{Format, IsFaultOfLine, HasNoEnd}
 use Rattle.image_srec.specs.declared.fault.SrecKind.{SrecKind}
 use Rattle.image_srec.specs.declared.fault.SrecKind.TheVariants.{NotRecord, BadDigit, BadLength, BadSum, BadType, CountDiffers, PastEnd, Conflict, NoEnd, OutOfMemory}
+use Rattle.image_srec.specs.declared.record.Seen.{Seen}
 use Rattle.image_srec.specs.declared.record.SrecRecord.{SrecRecord}
 use Rattle.image_srec.specs.declared.record.SrecRecord.TheVariants.{Header, Data, Count, End}
 use Rattle.image_srec.specs.Record.{Reading, read_line}
 
--- how many data records there are up to a line, where `earlier` are before it
-abbrev pub count_behind : Reading → ℕ → ℕ
+-- how many data records there are up to a line, where `earlier` are before it; before the first line there is none
+abbrev pub count_behind : Reading → Seen → Seen
 count_behind (Ok None) earlier = earlier
 count_behind (Ok (Some Header)) earlier = earlier
-count_behind (Ok (Some (Data at bytes))) earlier = earlier + 1
+count_behind (Ok (Some (Data at bytes))) earlier = record { records = earlier.records + 1 }
 count_behind (Ok (Some (Count said))) earlier = earlier
 count_behind (Ok (Some End)) earlier = earlier
 count_behind (Err fault) earlier = earlier
 
--- how many there are before a place
-abbrev pub count_before : List (List ℕ) → ℕ → ℕ
-count_before lines zero = 0
-count_before lines (suc n) = count_behind (read_line (line_at lines n)) (count_before lines n)
-
-abbrev pub record_cells : ℕ → SrecRecord → List Cell
+abbrev pub record_cells : Seen → SrecRecord → List Cell
 record_cells seen Header = []
 record_cells seen (Data at bytes) = cells_from at bytes
 record_cells seen (Count said) = []
 record_cells seen End = []
 
 -- a count record tells another number than that, or a data record goes past the last address
-abbrev pub refused : ℕ → SrecRecord → Option SrecKind
+abbrev pub refused : Seen → SrecRecord → Option SrecKind
 refused seen Header = None
 refused seen (Data at bytes) = if nat_lt 4294967296 (at + length bytes) then Some (PastEnd at) else None
-refused seen (Count said) = if said == seen then None else Some (CountDiffers said seen)
+refused seen (Count said) = if said == seen.records then None else Some (CountDiffers said seen.records)
 refused seen End = None
 
 abbrev pub is_end : SrecRecord → Bool
@@ -42,10 +38,11 @@ is_end (Count said) = false
 is_end End = true
 
 -- the format
-abbrev pub srec : Format ℕ SrecRecord SrecKind
+abbrev pub srec : Format Seen SrecRecord SrecKind
 srec = record {
   read = read_line;
-  context = count_before;
+  start = record { records = 0 };
+  behind = count_behind;
   is_end = is_end;
   cells = record_cells;
   refused = refused;

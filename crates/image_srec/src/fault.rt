@@ -7,40 +7,41 @@ use thiserror::Error;
 pub struct SrecFault {
     /// The line; 0 where no memory was left, or the text is empty.
     pub line: u32,
+    /// What is at fault with it.
     pub kind: SrecKind,
 }
 
-/// What is at fault.
+/// What is at fault, printed by its name and its fields.
 #[derive(Clone, Copy, Debug, PartialEq, Eq, Error)]
 pub enum SrecKind {
     /// The line doesn't begin with a capital S and a decimal digit.
-    #[error("no record")]
+    #[error("NotRecord")]
     NotRecord,
     /// A byte behind these is no hexadecimal digit.
-    #[error("bad digit")]
+    #[error("BadDigit")]
     BadDigit,
     /// The pairs of digits are not as many as the first one counts, or don't fit the type.
-    #[error("bad length")]
+    #[error("BadLength")]
     BadLength,
     /// The checksum is another than the one that the other bytes ask for.
-    #[error("checksum {said:02X} in place of {due:02X}")]
+    #[error("BadSum {said:02X} {due:02X}")]
     BadSum { said: u8, due: u8 },
     /// The type is 4, which is reserved.
-    #[error("bad type {value}")]
+    #[error("BadType {value}")]
     BadType { value: u8 },
     /// A count record says another number of data records than there are before it.
-    #[error("{said} records counted, {seen} found")]
+    #[error("CountDiffers {said} {seen}")]
     CountDiffers { said: u32, seen: u64 },
     /// A data record from this address on goes past the last address, 0xFFFF_FFFF.
-    #[error("the bytes from {at:08X} go past the last address")]
+    #[error("PastEnd {at:08X}")]
     PastEnd { at: u32 },
     /// A record before has another byte at this address.
-    #[error("conflict at {at:08X}: {old:02X} and {new:02X}")]
+    #[error("Conflict {at:08X} {old:02X} {new:02X}")]
     Conflict { at: u32, old: u8, new: u8 },
     /// The text has no end record.
-    #[error("no end record")]
+    #[error("NoEnd")]
     NoEnd,
     /// No memory was left.
-    #[error("out of memory")]
+    #[error("OutOfMemory")]
     OutOfMemory,
 }

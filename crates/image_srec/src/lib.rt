@@ -2,10 +2,13 @@
 #![tactic(auto)]
 
 mod fault;
+mod format;
+mod law;
 mod reader;
 mod record;
 #[cfg(test)]
 mod tests;
 
 pub use fault::{SrecFault, SrecKind};
+pub use law::srec_has_one_reading;
 pub use reader::read_srec;

@@ -6,12 +6,23 @@ use crate::fault::SrecKind;
 use octets::hex_pair;
 use record_lines::{Payload, all_digits, byte_sum, decode};
 
+/// How many data records stand before a line.
+#[derive(Clone, Copy)]
+pub struct Seen {
+    /// The number of data records.
+    pub records: u64,
+}
+
 /// A record, as far as an image needs it.
 #[derive(Drop)]
 pub enum SrecRecord {
+    /// A header.
     Header,
+    /// Bytes, the first one at this address.
     Data { at: u32, bytes: Payload },
+    /// How many data records there are before it.
     Count { said: u32 },
+    /// The end of the text.
     End,
 }
 

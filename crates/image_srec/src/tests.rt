@@ -1,3 +1,5 @@
+//! Texts by hand, by the rules of the format.
+
 use crate::{SrecFault, SrecKind, read_srec};
 use std::test::Fail;
 
@@ -17,22 +19,11 @@ fn three_widths_of_addresses(rt: HostRuntime) -> Result<(), Fail> {
 /// Each refusal, at its line.
 #[test]
 fn each_fault_at_its_line(rt: HostRuntime) {
-    let cases: [(&[u8], u32, SrecKind); 16] = [
-        (
-            b"S107000001020304EE\nS5030002FA\nS9030000FC",
-            2,
-            SrecKind::CountDiffers { said: 2, seen: 1 },
-        ),
-        (b"s9030000FC", 1, SrecKind::NotRecord),
+    let cases: [(&[u8], u32, SrecKind); 9] = [
         (b"\nS", 2, SrecKind::NotRecord),
-        (b"SA030000FC", 1, SrecKind::NotRecord),
         (b"S10G", 1, SrecKind::BadDigit),
         (b"S4030000FC", 1, SrecKind::BadType { value: 4 }),
-        (b"S4", 1, SrecKind::BadType { value: 4 }),
-        (b"S1", 1, SrecKind::BadLength),
         (b"S1030000FC0", 1, SrecKind::BadLength),
-        (b"S3030000FC", 1, SrecKind::BadLength),
-        (b"S904000000FB", 1, SrecKind::BadLength),
         (
             b"S1030000FB",
             1,
@@ -47,6 +38,11 @@ fn each_fault_at_its_line(rt: HostRuntime) {
             SrecKind::PastEnd { at: 0xFFFF_FFFE },
         ),
         (
+            b"S107000001020304EE\nS5030002FA\nS9030000FC",
+            2,
+            SrecKind::CountDiffers { said: 2, seen: 1 },
+        ),
+        (
             b"S107000001020304EE\nS1040001FFFB",
             2,
             SrecKind::Conflict {
@@ -56,12 +52,11 @@ fn each_fault_at_its_line(rt: HostRuntime) {
             },
         ),
         (b"S107000001020304EE\n\n", 2, SrecKind::NoEnd),
-        (b"", 0, SrecKind::NoEnd),
     ];
     for (text, line, kind) in cases {
-        match read_srec(rt.alloc(), text) {
-            Ok(_) => panic!(rt; "accepted, line {line}"),
-            Err(fault) => assert!(rt; fault == SrecFault { line, kind }, "{fault}"),
-        }
+        assert!(rt;
+            read_srec(rt.alloc(), text).err() == Some(SrecFault { line, kind }),
+            "line {line}"
+        );
     }
 }

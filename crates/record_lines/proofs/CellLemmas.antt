@@ -1,9 +1,7 @@
 -- Cells at rising addresses against a run of a map.
 use Rattle.std.proofs.Common.{◌≡◌, ◌≢◌, ⊎_elim, ◌≤◌, ◌<◌, ◌+◌, ◌-◌, ◌^◌, ℕ, zero, suc, List, [], ◌∷◌, ◌++◌, length, get_or, Option, Some, None, refl, sym, ap, ◌∙◌, cond, Bool, true, false, arith}
-use Rattle.std.specs.Prelude.{◌==◌, Result, Ok, Err, OnOk, IfErr}
-use Rattle.byte_map.specs.declared.fault.LayFault.{LayFault}
-use Rattle.byte_map.specs.declared.fault.LayFault.TheVariants.{Conflict, PastEnd, OutOfMemory}
-use Rattle.record_lines.specs.Clashes.{IsClashFault}
+use Rattle.std.specs.Prelude.{◌==◌}
+use Rattle.byte_map.specs.declared.fault.LayFault.TheVariants.{Conflict, PastEnd}
 use Rattle.std.proofs.lemmas.Bool.{cases_lt}
 use Rattle.std.proofs.lemmas.Bool.Decides.{nat_tests}
 use Rattle.byte_map.specs.Image.{Run, holds, byte_of, byte_at}
@@ -134,21 +132,17 @@ first_clash-append before [] ys none = refl
 first_clash-append before (x ∷ xs) ys none = first_clash-append_at before (held before x.at) x xs ys none (λ later. first_clash-append before xs ys later)
 
 -- what `lay` answers, for the cells of the old image
-pub laid_ok : (r : Result (Unit {0}) LayFault) (at : ℕ) (bytes : List ℕ) (old new : List Run) → OnOk r (Lays (record { at = at; bytes = bytes }) old new)
-    → OnOk r ((before : List Cell) → IsImageOf before old → (first_clash before (cells_from at bytes) ≡ None) × IsImageOf (cells_from at bytes ++ before) new)
-laid_ok (Ok u) at bytes old new lays = λ before image.
+pub laid_ok : (at : ℕ) (bytes : List ℕ) (old new : List Run) → Lays (record { at = at; bytes = bytes }) old new
+    → (before : List Cell) → IsImageOf before old → (first_clash before (cells_from at bytes) ≡ None) × IsImageOf (cells_from at bytes ++ before) new
+laid_ok at bytes old new lays before image =
     (no_clash_laid at bytes old new before lays image.same, record { maximal = lays.maximal; same = held-laid at bytes old new before lays image.same })
-laid_ok (Err fault) at bytes old new lays = tt
 
-laid_fault : (fault : LayFault) (at : ℕ) (bytes : List ℕ) (old : List Run) → at + length bytes ≤ 2 ^ 32 → IsLayFault (record { at = at; bytes = bytes }) old fault → (before : List Cell) → IsImageOf before old → IsClashFault fault (first_clash before (cells_from at bytes))
-laid_fault (Conflict a o n) at bytes old fits is before image = clash_refused at bytes old before a o n is.1 image.same
-laid_fault (PastEnd a) at bytes old fits is before image = omega (arith, is.1)
-laid_fault OutOfMemory at bytes old fits is before image = tt
+pub laid_clash : (at : ℕ) (bytes : List ℕ) (old : List Run) (a o n : ℕ) → IsLayFault (record { at = at; bytes = bytes }) old (Conflict a o n)
+    → (before : List Cell) → IsImageOf before old → first_clash before (cells_from at bytes) ≡ Some (record { at = a; old = o; new = n })
+laid_clash at bytes old a o n is before image = clash_refused at bytes old before a o n is.1 image.same
 
-pub laid_err : (r : Result (Unit {0}) LayFault) (at : ℕ) (bytes : List ℕ) (old : List Run) → at + length bytes ≤ 2 ^ 32 → IfErr r (IsLayFault (record { at = at; bytes = bytes }) old)
-    → IfErr r (λ (fault : LayFault). (before : List Cell) → IsImageOf before old → IsClashFault fault (first_clash before (cells_from at bytes)))
-laid_err (Ok u) at bytes old fits fault = tt
-laid_err (Err fault) at bytes old fits is = laid_fault fault at bytes old fits is
+pub fits_within : (at : ℕ) (bytes : List ℕ) (old : List Run) (a : ℕ) → at + length bytes ≤ 2 ^ 32 → IsLayFault (record { at = at; bytes = bytes }) old (PastEnd a) → ⊥
+fits_within at bytes old a fits is = omega (arith, fits, is.1)
 
 first_clash-some_at : (before : List Cell) (o : Option ℕ) (x : Cell) (xs ys : List Cell) (c : Clash) → clash_with o x (first_clash before xs) ≡ Some c → (first_clash before xs ≡ Some c → first_clash before (xs ++ ys) ≡ Some c) → clash_with o x (first_clash before (xs ++ ys)) ≡ Some c
 first_clash-some_at before None x xs ys c is later = later is

@@ -1,3 +1,4 @@
 pub mod Pairs
 pub mod CellLemmas
 pub mod Reading
+pub mod OneReading

@@ -4,20 +4,20 @@ use Rattle.std.proofs.lemmas.List.{length-drop, get_or-drop, drop-drop, drop_all
 use Rattle.octets.specs.Lines.{lines_of, whole_lines}
 use Rattle.byte_map.specs.Image.{Run}
 use Rattle.record_lines.specs.Cells.{Cell, IsImageOf}
-use Rattle.record_lines.specs.Format.{Format, line_at, line_cells, line_ends, line_fault, cells_before, fault_at, ends_at, AreRight, IsImageOfText, line_number, IsFaultOfLine, HasNoEnd}
+use Rattle.record_lines.specs.Format.{Format, line_at, context_before, line_cells, line_ends, line_fault, cells_before, fault_at, ends_at, AreRight, IsImageOfText, line_number, IsFaultOfLine, HasNoEnd}
 
 -- behind the first n lines, which end at `from`: all are right, c is known, and the image has their bytes
 pub record HasRead {C R F : Type 0} (f : Format C R F) (text : List ℕ) (from line : ℕ) (c : C) (image : List Run) (n : ℕ) : Type 0 where
   pub rest : lines_of (drop from text) ≡ drop n (lines_of text)
   pub before : AreRight f (lines_of text) n
-  pub context_is : c ≡ f.context (lines_of text) n
+  pub context_is : c ≡ context_before f (lines_of text) n
   pub image_is : IsImageOf (cells_before f (lines_of text) n) image
   pub line_is : line ≡ line_number n
 
 pub empty_image : IsImageOf [] []
 empty_image = record { maximal = tt; same = λ a. refl }
 
-pub read_nothing : {C R F : Type 0} (f : Format C R F) (text : List ℕ) (c : C) → c ≡ f.context (lines_of text) 0 → HasRead f text 0 0 c [] 0
+pub read_nothing : {C R F : Type 0} (f : Format C R F) (text : List ℕ) (c : C) → c ≡ f.start → HasRead f text 0 0 c [] 0
 read_nothing f text c is =
     record {
       rest = refl;
@@ -53,7 +53,7 @@ at_end f text from line c image n next here h lines = ap (λ (l : List ℕ). lin
 
 -- one right line more
 pub read_more : {C R F : Type 0} (f : Format C R F) (text : List ℕ) (from line : ℕ) (c : C) (image : List Run) (n next : ℕ) (here : List ℕ) (c' : C) (image' : List Run) → HasRead f text from line c image n → lines_of (drop from text) ≡ here ∷ lines_of (drop next text)
-    → line_fault f c (cells_before f (lines_of text) n) (f.read here) ≡ None → line_ends f (f.read here) ≡ false → c' ≡ f.context (lines_of text) (suc n)
+    → line_fault f c (cells_before f (lines_of text) n) (f.read here) ≡ None → line_ends f (f.read here) ≡ false → c' ≡ f.behind (f.read here) c
     → IsImageOf (line_cells f c (f.read here) ++ cells_before f (lines_of text) n) image' → HasRead f text next (min (line + 1) 4294967295) c' image' (suc n)
 read_more {C = C} f text from line c image n next here c' image' h lines right goes_on c_is image_is =
     let inside = next_inside f text from line c image n next here h lines in
@@ -61,6 +61,9 @@ read_more {C = C} f text from line c image n next here c' image' h lines right g
     let cells : line_cells f c (f.read here) ++ cells_before f (lines_of text) n ≡ cells_before f (lines_of text) (suc n) =
     sym (ap (λ (k : C). line_cells f k (f.read (line_at (lines_of text) n)) ++ cells_before f (lines_of text) n) (sym h.context_is)
     ∙ ap (λ (l : List ℕ). line_cells f c (f.read l) ++ cells_before f (lines_of text) n) (next_is f text from line c image n next here h lines)) in
+    let known : c' ≡ context_before f (lines_of text) (suc n) =
+    c_is ∙ ap (f.behind (f.read here)) h.context_is
+    ∙ ap (λ (l : List ℕ). f.behind (f.read l) (context_before f (lines_of text) n)) (sym (next_is f text from line c image n next here h lines)) in
     record {
       rest = sym (ap (λ (k : ℕ). drop k (lines_of text)) (let is : suc n ≡ n + 1 = omega arith in is) ∙ sym (drop-drop 1 n (lines_of text)) ∙ ap (drop 1) whole);
       before = record {
@@ -68,7 +71,7 @@ read_more {C = C} f text from line c image n next here c' image' h lines right g
         right = λ k lt. below_more (λ (j : ℕ). fault_at f (lines_of text) j ≡ None) n h.before.right (at_fault f text from line c image n next here h lines ∙ right) k (omega arith);
         goes_on = λ k lt. below_more (λ (j : ℕ). ends_at f (lines_of text) j ≡ false) n h.before.goes_on (at_end f text from line c image n next here h lines ∙ goes_on) k (omega arith);
       };
-      context_is = c_is;
+      context_is = known;
       image_is = subst (λ (cs : List Cell). IsImageOf cs image') cells image_is;
       line_is = omega (arith, h.line_is);
     }

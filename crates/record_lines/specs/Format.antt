@@ -1,14 +1,23 @@
 -- What a text of records says, line by line. A line is judged by itself and by the lines before it.
 use Rattle.std.specs.Prelude.{◌≡◌, ◌+◌, ◌<◌, ◌≤◌, ℕ, zero, suc, min, Bool, true, false, List, [], ◌++◌, length, get_or, Option, Some, None, Result, Ok, Err}
+use Rattle.std.specs.Bool.{OnTrue}
 use Rattle.byte_map.specs.Image.{Run}
 use Rattle.record_lines.specs.Cells.{Cell, Clash, first_clash, IsImageOf}
+use Rattle.record_lines.specs.declared.fault.LineFault.{LineFault}
+use Rattle.record_lines.specs.declared.fault.LineFault.TheVariants as line
+use Rattle.record_lines.specs.declared.fault.LineFault.TheVariants.{Refused}
+use Rattle.record_lines.specs.declared.fault.TextFault.{TextFault}
+use Rattle.record_lines.specs.declared.fault.TextFault.TheVariants as text
+use Rattle.record_lines.specs.declared.fault.TextFault.TheVariants.{Line, NoEnd}
 
 -- a format of records R, which may be at fault by F. C is what a record needs to know of the lines before it.
 pub record Format (C R F : Type 0) : Type 0 where
   -- what a line says by itself: nothing where it is blank, a record, or a fault
   pub read : List ℕ → Result (Option R) F
-  -- what is to be known of the lines before a place
-  pub context : List (List ℕ) → ℕ → C
+  -- what is known before the first line
+  pub start : C
+  -- what is known behind a line that reads so, where C is known before it
+  pub behind : Result (Option R) F → C → C
   -- whether a record ends the text
   pub is_end : R → Bool
   -- the bytes of a record, in its own order
@@ -21,6 +30,11 @@ pub record Format (C R F : Type 0) : Type 0 where
 -- the line at a place, from 0 on
 abbrev pub line_at : List (List ℕ) → ℕ → List ℕ
 line_at lines n = get_or lines n []
+
+-- what is known of the lines before a place
+abbrev pub context_before : {C R F : Type 0} → Format C R F → List (List ℕ) → ℕ → C
+context_before f lines zero = f.start
+context_before f lines (suc n) = f.behind (f.read (line_at lines n)) (context_before f lines n)
 
 -- the cells of a line that reads so
 abbrev pub line_cells : {C R F : Type 0} → Format C R F → C → Result (Option R) F → List Cell
@@ -49,11 +63,11 @@ line_fault f c before (Err fault) = Some fault
 -- the cells of the lines before a place
 abbrev pub cells_before : {C R F : Type 0} → Format C R F → List (List ℕ) → ℕ → List Cell
 cells_before f lines zero = []
-cells_before f lines (suc n) = line_cells f (f.context lines n) (f.read (line_at lines n)) ++ cells_before f lines n
+cells_before f lines (suc n) = line_cells f (context_before f lines n) (f.read (line_at lines n)) ++ cells_before f lines n
 
 -- what is at fault at a place, and whether the text ends there
 abbrev pub fault_at : {C R F : Type 0} → Format C R F → List (List ℕ) → ℕ → Option F
-fault_at f lines n = line_fault f (f.context lines n) (cells_before f lines n) (f.read (line_at lines n))
+fault_at f lines n = line_fault f (context_before f lines n) (cells_before f lines n) (f.read (line_at lines n))
 
 abbrev pub ends_at : {C R F : Type 0} → Format C R F → List (List ℕ) → ℕ → Bool
 ends_at f lines n = line_ends f (f.read (line_at lines n))
@@ -89,3 +103,32 @@ pub record IsFaultOfLine {C R F : Type 0} (f : Format C R F) (lines : List (List
 pub record HasNoEnd {C R F : Type 0} (f : Format C R F) (lines : List (List ℕ)) (line : ℕ) : Type 0 where
   pub all : AreRight f lines (length lines)
   pub line_is : line ≡ line_number (length lines)
+
+-- The lines of a text, read one at a time.
+
+-- taking a line that reads so, behind lines that know c and have the cells `before`: nothing is at fault with it, it ends the text or
+-- not, `known` is known behind it, and the image has its bytes besides
+pub record TakesLine {C R F : Type 0} (f : Format C R F) (reading : Result (Option R) F) (before : List Cell) (c known : C) (ends : Bool) (image : List Run) : Type 0 where
+  pub right : line_fault f c before reading ≡ None
+  pub ends_is : line_ends f reading ≡ ends
+  pub known_is : known ≡ f.behind reading c
+  pub image_is : IsImageOf (line_cells f c reading ++ before) image
+  -- a line that ends the text has no bytes
+  pub end_cells : OnTrue ends (line_cells f c reading ≡ [])
+
+-- what is at fault with that line, or that no memory was left
+abbrev pub IsLineFault : {C R F : Type 0} → Format C R F → Result (Option R) F → List Cell → C → LineFault F → Type 0
+IsLineFault f reading before c (Refused fault) = line_fault f c before reading ≡ Some fault
+IsLineFault f reading before c line.OutOfMemory = Unit {0}
+
+-- what is at fault with a text, or that no memory was left
+abbrev pub IsTextFault : {C R F : Type 0} → Format C R F → List (List ℕ) → TextFault F → Type 0
+IsTextFault f lines (Line line fault) = IsFaultOfLine f lines line fault
+IsTextFault f lines (NoEnd line) = HasNoEnd f lines line
+IsTextFault f lines text.OutOfMemory = Unit {0}
+
+-- whether it is that no memory was left, which says nothing of the text
+abbrev pub IsMemoryFault : {F : Type 0} → TextFault F → Type 0
+IsMemoryFault (Line line fault) = ⊥
+IsMemoryFault (NoEnd line) = ⊥
+IsMemoryFault text.OutOfMemory = Unit {0}

@@ -3,14 +3,20 @@ ghost use Rattle.std.specs.Prelude.{◌≡◌, ◌+◌, ◌≤◌, ◌^◌, ◌+
 ghost use Rattle.record_lines.specs.Cells.{Cell, cells_from, first_clash, IsImageOf};
 ghost use Rattle.record_lines.specs.Clashes.{IsClashFault};
 
+use crate::fault::ClashFault;
 use byte_map::{ByteMap, LayFault};
 
 /// Adds `bytes` from `at` on to an image: they clash nowhere with the cells that it has, and it has
 /// them besides. Else it answers the first clash, or that no memory was left.
-pub fn lay_cells(map: &mut ByteMap, at: u32, bytes: &[u8]) -> Result<(), LayFault>
+pub fn lay_cells(map: &mut ByteMap, at: u32, bytes: &[u8]) -> Result<(), ClashFault>
     requires { at + length bytes.now ≤ 2 ^ 32 }
     ensures ok { OnOk result ((before : List Cell) → IsImageOf before map.old → (first_clash before (cells_from at bytes.now) ≡ None) × IsImageOf (cells_from at bytes.now ++ before) map.new) }
     ensures err { IfErr result (λ fault. (before : List Cell) → IsImageOf before map.old → IsClashFault fault (first_clash before (cells_from at bytes.now))) }
 {
-    map.lay(at, bytes)
+    match map.lay(at, bytes) {
+        Ok(()) => Ok(()),
+        Err(LayFault::Conflict { at, old, new }) => Err(ClashFault::Conflict { at, old, new }),
+        Err(LayFault::PastEnd { .. }) => unreachable!(),
+        Err(LayFault::OutOfMemory) => Err(ClashFault::OutOfMemory),
+    }
 }

@@ -3,11 +3,17 @@
 #![tactic(auto)]
 
 mod digits;
+mod fault;
+mod law;
 mod laying;
 mod payload;
+mod reader;
 #[cfg(test)]
 mod tests;
 
 pub use digits::{all_digits, byte_sum, decode};
+pub use fault::{ClashFault, LineFault, TextFault};
+pub use law::texts_have_one_reading;
 pub use laying::lay_cells;
 pub use payload::Payload;
+pub use reader::{RecordFormat, read_records};

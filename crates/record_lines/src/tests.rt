@@ -1,5 +1,7 @@
-use crate::{Payload, all_digits, byte_sum, decode, lay_cells};
-use byte_map::{ByteMap, LayFault};
+//! Records by hand: digits, sums, and bytes that are added.
+
+use crate::{ClashFault, Payload, all_digits, byte_sum, decode, lay_cells};
+use byte_map::ByteMap;
 
 #[test]
 fn digits_become_bytes(rt: HostRuntime) {
@@ -19,7 +21,7 @@ fn bytes_are_added_once(rt: HostRuntime) {
     assert!(rt; lay_cells(&mut map, 0x11, &[2, 3]) == Ok(()));
     assert!(rt;
         lay_cells(&mut map, 0x11, &[2, 4])
-            == Err(LayFault::Conflict {
+            == Err(ClashFault::Conflict {
                 at: 0x12,
                 old: 3,
                 new: 4

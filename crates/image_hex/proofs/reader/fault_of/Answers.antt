@@ -1,0 +1,14 @@
+use Rattle.std.proofs.Common.{refl, subst}
+use Rattle.record_lines.specs.Format.{IsTextFault}
+use Rattle.image_hex.specs.Hex.{hex}
+use Rattle.image_hex.proofs.LineLemmas.{line_as_hex}
+use Rattle.image_hex.proofs.reader.fault_of.Goals as goal
+
+pub returns-in-Line : goal.returns-in-Line
+returns-in-Line c = λ lines is. line_as_hex lines c.in-Line.line c.in-Line.fault (subst (IsTextFault hex lines) c.in-Line.is is)
+
+pub returns-in-NoEnd : goal.returns-in-NoEnd
+returns-in-NoEnd c = λ lines is. subst (IsTextFault hex lines) c.in-NoEnd.is is
+
+pub returns-in-OutOfMemory : goal.returns-in-OutOfMemory
+returns-in-OutOfMemory c = λ lines is. refl

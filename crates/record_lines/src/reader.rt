@@ -1,0 +1,61 @@
+//! A text of records, read line by line.
+ghost use Rattle.std.specs.Prelude.{◌≡◌, ◌≤◌, ◌<◌, ◌+◌, ◌-◌, ◌^◌, ℕ, List, IfOk, IfErr};
+ghost use Rattle.octets.specs.Lines.{lines_of};
+ghost use Rattle.record_lines.specs.Cells.{Cell, IsImageOf};
+ghost use Rattle.record_lines.specs.Format.{Format, TakesLine, IsLineFault, IsImageOfText, IsTextFault};
+
+use crate::fault::{LineFault, TextFault};
+use byte_map::ByteMap;
+use octets::next_line;
+use std::alloc::Global;
+
+/// A format of records. A value is what is known of the lines that were read.
+pub trait RecordFormat: Drop {
+    /// A record.
+    type Record;
+    /// What may be at fault with a line.
+    type Fault;
+
+    ghost format: { Format Self Self.Record Self.Fault };
+
+    /// How many lines more may be taken.
+    ghost room: { Self → ℕ };
+
+    /// What is known before the first line.
+    fn start() -> Self
+        ensures known { result ≡ format.start }
+        ensures room { 2 ^ 64 - 1 ≤ room result };
+
+    /// Takes one line, and says whether it ends the text.
+    fn take_line(&mut self, map: &mut ByteMap, line: &[u8]) -> Result<bool, LineFault<Self::Fault>>
+        requires { 0 < room self.old }
+        ensures ok { IfOk result (λ ends. (before : List Cell) → IsImageOf before map.old → TakesLine format (format.read line.now) before self.old self.new ends map.new) }
+        ensures err { IfErr result (λ fault. (before : List Cell) → IsImageOf before map.old → IsLineFault format (format.read line.now) before self.old fault) }
+        ensures room { room self.old ≤ room self.new + 1 };
+}
+
+/// Reads a text of records: the image is the union of the records before the first end record. What follows that record is left
+/// unread. A fault is the first one of the first line at fault.
+pub fn read_records<S: RecordFormat>(
+    alloc: Global,
+    text: &[u8],
+) -> Result<ByteMap, TextFault<S::Fault>>
+    ensures ok { IfOk result (IsImageOfText S.format (lines_of text.now)) }
+    ensures err { IfErr result (IsTextFault S.format (lines_of text.now)) }
+{
+    let mut map = ByteMap::new(alloc);
+    let mut known = S::start();
+    let mut line: u32 = 0;
+    let mut from = 0;
+    while from < text.len() {
+        let (start, end, next) = next_line(text, from);
+        line = line.saturating_add(1);
+        match known.take_line(&mut map, &text[start..end]) {
+            Ok(false) => from = next,
+            Ok(true) => return Ok(map),
+            Err(LineFault::Refused(fault)) => return Err(TextFault::Line { line, fault }),
+            Err(LineFault::OutOfMemory) => return Err(TextFault::OutOfMemory),
+        }
+    }
+    Err(TextFault::NoEnd { line })
+}
