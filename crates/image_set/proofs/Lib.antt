@@ -1,3 +1,6 @@
 pub mod SegmentLemmas
 pub mod UnionLemmas
 pub mod RangeLemmas
+pub mod SegmentLaws
+pub mod FileLemmas
+pub mod FilesLemmas

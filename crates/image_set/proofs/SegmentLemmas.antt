@@ -1,5 +1,5 @@
 -- The segments of an ELF file, one after another.
-use Rattle.std.proofs.Common.{◌≡◌, ◌<◌, ◌+◌, ◌^◌, ◌∙◌, ℕ, List, [], ◌∷◌, Option, Some, None, Bool, true, false, cond, Ok, Err, inr, refl, sym, ap, arith, below_more, add-one}
+use Rattle.std.proofs.Common.{◌≡◌, ◌<◌, ◌+◌, ◌^◌, ◌∙◌, ℕ, List, [], ◌∷◌, length, Option, Some, None, Bool, true, false, cond, Ok, Err, inr, refl, sym, ap, arith, below_more, add-one}
 use Rattle.std.specs.Prelude.{IsTrue}
 use Rattle.byte_map.specs.Image.{Run, byte_at, holds, byte_of, IsSameMap}
 use Rattle.byte_map.specs.Laying.{AgreesBelow, IsFirstClash, Lays, IsLayFault}
@@ -12,7 +12,7 @@ use Rattle.elf32.specs.Tables.{segment_part}
 use Rattle.byte_map.specs.declared.fault.LayFault.{LayFault}
 use Rattle.byte_map.specs.declared.fault.LayFault.TheVariants as lay
 use Rattle.image_set.specs.Fault.{fault_of}
-use Rattle.image_set.specs.Segments.{is_loaded, piece_at, pieces_before, IsRight, IsImageBefore, IsSegmentFault, IsFirstRefused}
+use Rattle.image_set.specs.Segments.{is_loaded, piece_at, pieces_before, size_before, IsRight, IsImageBefore, IsSegmentFault, IsFirstRefused}
 use Rattle.image_set.specs.Read.{IsFaultOfForm}
 use Rattle.image_set.specs.declared.form.Form.TheVariants as form
 use Rattle.image_set.specs.declared.fault.ImageFault.{ImageFault}
@@ -28,6 +28,10 @@ no_segment bytes = record { right = λ k lt loaded. absurd (omega arith); union 
 pieces_more : (bytes : List ℕ) (k : ℕ) (loaded : Bool) → is_loaded bytes k ≡ loaded → pieces_before bytes (k + 1) ≡ cond loaded (piece_at bytes k ∷ pieces_before bytes k) (pieces_before bytes k)
 pieces_more bytes k loaded is =
     ap (pieces_before bytes) (add-one k) ∙ ap (λ (b : Bool). cond b (piece_at bytes k ∷ pieces_before bytes k) (pieces_before bytes k)) is
+
+pub size_more : (bytes : List ℕ) (k : ℕ) (loaded : Bool) → is_loaded bytes k ≡ loaded → size_before bytes (k + 1) ≡ cond loaded (length (piece_at bytes k).bytes + size_before bytes k) (size_before bytes k)
+size_more bytes k loaded is =
+    ap (size_before bytes) (add-one k) ∙ ap (λ (b : Bool). cond b (length (piece_at bytes k).bytes + size_before bytes k) (size_before bytes k)) is
 
 -- one more segment that is loaded
 pub segment_more : (bytes : List ℕ) (k : ℕ) (image new : List Run) → IsImageBefore bytes k image → is_loaded bytes k ≡ true → segment_part bytes k ≡ Ok (piece_at bytes k).bytes → Lays (piece_at bytes k) image new → IsImageBefore bytes (k + 1) new

@@ -4,3 +4,4 @@ pub mod Segments
 pub mod Read
 pub mod Union
 pub mod Ranges
+pub mod Files

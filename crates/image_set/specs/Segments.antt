@@ -1,5 +1,5 @@
 -- The image of an ELF file (System V ABI, chapter 5, "Program Header").
-use Rattle.std.specs.Prelude.{◌≡◌, ◌⊎◌, ◌≤◌, ◌<◌, ◌^◌, ◌==◌, ℕ, zero, suc, Bool, IsTrue, List, [], ◌∷◌, Some, None, Ok, Err, if◌then◌else◌}
+use Rattle.std.specs.Prelude.{◌≡◌, ◌⊎◌, ◌≤◌, ◌<◌, ◌^◌, ◌==◌, ◌+◌, ℕ, zero, suc, Bool, IsTrue, List, [], ◌∷◌, length, Some, None, Ok, Err, if◌then◌else◌}
 use Rattle.byte_map.specs.Image.{Run, end_of, IsSameMap, AreMaximal}
 use Rattle.byte_map.specs.Laying.{AgreesBelow, IsLayFault}
 use Rattle.byte_map.specs.declared.fault.LayFault.TheVariants as lay
@@ -22,6 +22,11 @@ piece_at bytes k = record { at = (segment_at bytes k).paddr; bytes = part bytes 
 abbrev pub pieces_before : List ℕ → ℕ → List Run
 pieces_before bytes zero = []
 pieces_before bytes (suc k) = if is_loaded bytes k then piece_at bytes k ∷ pieces_before bytes k else pieces_before bytes k
+
+-- how many bytes those pieces have
+abbrev pub size_before : List ℕ → ℕ → ℕ
+size_before bytes zero = 0
+size_before bytes (suc k) = if is_loaded bytes k then length (piece_at bytes k).bytes + size_before bytes k else size_before bytes k
 
 -- segment `k` is right: it ends in the file and at 2^32 or below it, and agrees with the loaded segments before it
 pub record IsRight (bytes : List ℕ) (k : ℕ) : Type 0 where

@@ -1,5 +1,5 @@
 -- The union of two images.
-use Rattle.std.specs.Prelude.{◌≡◌, ◌≢◌, ◌<◌, ◌^◌, ℕ, List, ◌++◌, Some}
+use Rattle.std.specs.Prelude.{◌≡◌, ◌≢◌, ◌≤◌, ◌<◌, ◌-◌, ◌^◌, ℕ, List, ◌++◌, length, take, Some}
 use Rattle.byte_map.specs.Image.{Run, byte_at, IsSameMap, AreMaximal}
 use Rattle.byte_map.specs.declared.fault.LayFault.{LayFault}
 use Rattle.byte_map.specs.declared.fault.LayFault.TheVariants as lay
@@ -35,8 +35,15 @@ IsUnionFault image other (OutsideDevice at) = ⊥
 IsUnionFault image other EmptyImage = ⊥
 IsUnionFault image other OutOfMemory = Unit {0}
 
--- the same of adding the bytes of one to the other
-abbrev pub IsLayFaultOfUnion : List Run → List Run → LayFault → Type 0
-IsLayFaultOfUnion image other (lay.Conflict at old new) = IsLeastClash image other at old new
-IsLayFaultOfUnion image other (lay.PastEnd at) = ⊥
-IsLayFaultOfUnion image other lay.OutOfMemory = Unit {0}
+-- `index` runs of two images are laid, `old` of them the first image's: the union of the first runs of both
+pub record IsUnited (image other : List Run) (index old : ℕ) (union : List Run) : Type 0 where
+  pub union_is : IsUnion (take old image) (take (index - old) other) union
+  pub ordered : old ≤ index
+  pub old_within : old ≤ length image
+  pub new_within : index - old ≤ length other
+
+-- a clash with the two images in the other order
+abbrev pub swapped : LayFault → LayFault
+swapped (lay.Conflict at old new) = lay.Conflict at new old
+swapped (lay.PastEnd at) = lay.PastEnd at
+swapped lay.OutOfMemory = lay.OutOfMemory

@@ -3,6 +3,7 @@
 
 mod fault;
 mod form;
+mod law;
 mod ranges;
 mod read;
 mod segments;
@@ -11,6 +12,10 @@ mod tests;
 mod union;
 
 pub use fault::ImageFault;
+pub use law::{
+    files_have_one_fault, files_have_one_image, images_have_no_fault,
+    unions_have_the_bytes_of_files,
+};
 pub use ranges::{check, check_ranges};
 pub use read::read_image;
 pub use union::merge;

@@ -1,4 +1,4 @@
-use Rattle.std.proofs.Common.{◌≡◌, ◌∙◌, ℕ, List, Ok, ap, subst, refl}
+use Rattle.std.proofs.Common.{◌≡◌, ◌∙◌, ℕ, List, Ok, ap, subst, refl, arith, length}
 use Rattle.std.proofs.lemmas.Result.{err_from_is_err_and}
 use Rattle.byte_map.specs.Image.{Run}
 use Rattle.byte_map.specs.Laying.{Lays, IsLayFault}
@@ -24,3 +24,6 @@ returns-in_err-lay-clause-err c =
     let p = err_from_is_err_and c.from_residual.result c.from_residual.ensures.1 in
     rw (p.1, p.2) (lay_refused c.args.elf.now c.args.index c.args.map.now c.in_err-lay.field-0.0 whole
     (subst (λ (piece : Run). IsLayFault piece c.args.map.now c.in_err-lay.field-0.0) is c.in_err-lay.ensures.refused))
+
+pub returns-clause-size : goal.returns-clause-size
+returns-clause-size c = omega (arith, ap length (part_is c.args.elf.now c.args.index c.in-Ok.bytes.now c.in-Ok.ensures))

@@ -1,0 +1,5 @@
+use Rattle.image_set.proofs.FileLemmas.{memory_alone}
+use Rattle.image_set.proofs.law.images_have_no_fault.Goals as goal
+
+pub returns : goal.returns
+returns c = memory_alone
