@@ -17,7 +17,7 @@ use Rattle.image_set.specs.declared.fault.ImageFault.{ImageFault}
 use Rattle.image_set.specs.declared.fault.ImageFault.TheVariants as image
 use Rattle.image_srec.specs.declared.fault.SrecKind.{SrecKind}
 use Rattle.image_srec.specs.declared.fault.SrecKind.TheVariants as srec
-use Rattle.report_text.specs.Number.{hex_text}
+use Rattle.octets.specs.Digit.{hex_text}
 
 unfoldable pub field_text : Field → List ℕ
 field_text field.Header = codes "Header"
@@ -77,8 +77,8 @@ unfoldable pub checksum_text : ℕ → ℕ → List ℕ
 checksum_text said due = concat (codes "BadSum " ∷ hex_text 2 said ∷ codes " " ∷ hex_text 2 due ∷ [])
 
 -- how many data records a count record says there are, and how many there are
-unfoldable pub count_text : ℕ → ℕ → List ℕ
-count_text said seen = concat (codes "CountDiffers " ∷ decimal said ∷ codes " " ∷ decimal seen ∷ [])
+unfoldable pub counts_text : ℕ → ℕ → List ℕ
+counts_text said seen = concat (codes "CountDiffers " ∷ decimal said ∷ codes " " ∷ decimal seen ∷ [])
 
 -- of a line of Intel HEX
 unfoldable pub hex_kind_text : HexKind → List ℕ
@@ -98,7 +98,7 @@ srec_kind_text srec.BadDigit = codes "BadDigit"
 srec_kind_text srec.BadLength = codes "BadLength"
 srec_kind_text (srec.BadSum said due) = checksum_text said due
 srec_kind_text (srec.BadType value) = concat (codes "BadType " ∷ decimal value ∷ [])
-srec_kind_text (srec.CountDiffers said seen) = count_text said seen
+srec_kind_text (srec.CountDiffers said seen) = counts_text said seen
 srec_kind_text (srec.PastEnd at) = concat (codes "PastEnd " ∷ hex_text 8 at ∷ [])
 srec_kind_text (srec.Conflict at old new) = conflict_text at old new
 srec_kind_text srec.NoEnd = codes "NoEnd"
@@ -118,15 +118,9 @@ image_text image.OutOfMemory = codes "OutOfMemory"
 
 -- the line that is at fault, in a file that is read by lines
 abbrev pub faulty_line : ImageFault → Option ℕ
-faulty_line image.NoForm = None
 faulty_line (image.Hex fault) = Some fault.line
 faulty_line (image.Srec fault) = Some fault.line
-faulty_line (image.Elf fault) = None
-faulty_line (image.Conflict at old new) = None
-faulty_line (image.PastEnd at) = None
-faulty_line (image.OutsideDevice at) = None
-faulty_line image.EmptyImage = None
-faulty_line image.OutOfMemory = None
+faulty_line other = None
 
 -- the file of an image, and the line where there is one
 unfoldable pub place_text : List ℕ → Option ℕ → List ℕ

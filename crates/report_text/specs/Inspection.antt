@@ -9,7 +9,7 @@ use Rattle.flm_descriptor.specs.declared.device.Device.{Device}
 use Rattle.flm_descriptor.specs.declared.fault.Name.{Name}
 use Rattle.flm_descriptor.specs.declared.fault.Name.TheVariants.{Init, UnInit, EraseSector, ProgramPage, EraseChip, Verify}
 use Rattle.flm_descriptor.specs.declared.items.SectorItem.{SectorItem}
-use Rattle.report_text.specs.Number.{hex_text}
+use Rattle.octets.specs.Digit.{hex_text}
 
 -- the pieces of a line with the line feed that ends it
 abbrev pub ended : List (List ℕ) → List (List ℕ)

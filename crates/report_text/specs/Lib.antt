@@ -1,4 +1,3 @@
-pub mod Number
 pub mod Puts
 pub mod End
 pub mod Inspection

@@ -4,7 +4,7 @@ use Rattle.std.specs.List.{concat}
 use Rattle.board_file.specs.declared.fault.BoardFault.{BoardFault}
 use Rattle.flm_descriptor.specs.declared.fault.FlmFault.{FlmFault}
 use Rattle.image_set.specs.declared.fault.ImageFault.{ImageFault}
-use Rattle.report_text.specs.Number.{hex_text}
+use Rattle.octets.specs.Digit.{hex_text}
 use Rattle.report_text.specs.Faults.{board_text, flm_text, image_text, file_text}
 
 pub data Refusal : Type 0 where

@@ -15,5 +15,5 @@ shown (BoardRefused fault) = refusal.board_refused fault
 shown (CellsDiffer wanted found) = refusal.cells_differ wanted found
 shown DeviceFault = refusal.device_fault
 shown OutputFault = refusal.output_fault
-shown (Differs at want got) = refusal.differs at want got
+shown (Differs at wanted found) = refusal.differs at wanted found
 shown NotBuilt = refusal.not_built

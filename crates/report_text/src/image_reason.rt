@@ -1,17 +1,17 @@
 //! What the refusals of images are called.
 ghost use Rattle.std.specs.Prelude.{◌≡◌, ◌++◌, [], ◌∷◌, decimal};
 ghost use Rattle.std.specs.List.{concat};
-ghost use Rattle.report_text.specs.Faults.{checksum_text, conflict_text, count_text, faulty_line, file_text, hex_kind_text, image_text, place_text, srec_kind_text};
-ghost use Rattle.report_text.specs.Number.{hex_text};
+ghost use Rattle.report_text.specs.Faults.{checksum_text, conflict_text, counts_text, faulty_line, file_text, hex_kind_text, image_text, place_text, srec_kind_text};
+ghost use Rattle.octets.specs.Digit.{hex_text};
 ghost use Rattle.report_text.specs.Puts.{Puts};
 
-use crate::number::{hex_byte, hex_word};
 use crate::pieces::put_pieces;
 use crate::reason::{put_elf_fault, put_number};
 use image_hex::HexKind;
 use image_set::ImageFault;
 use image_srec::SrecKind;
 use itoa::Buffer;
+use octets::hex_digits;
 use outside_io::{OutputFault, Sink};
 
 /// Puts the name of an image file, the line that is at fault where there is one, and the refusal.
@@ -120,8 +120,8 @@ fn put_srec_kind<E: Sink>(err: &mut E, kind: SrecKind) -> Result<(), OutputFault
 fn put_checksum<E: Sink>(err: &mut E, said: u8, due: u8) -> Result<(), OutputFault>
     ensures { Puts E.tells (E.state err.old) (E.state err.new) (checksum_text said due) result }
 {
-    let said = hex_byte(said);
-    let due = hex_byte(due);
+    let said = hex_digits::<2>(u32::from(said));
+    let due = hex_digits::<2>(u32::from(due));
     put_pieces(err, &[b"BadSum ", &said, b" ", &due])
 }
 
@@ -130,16 +130,16 @@ fn put_checksum<E: Sink>(err: &mut E, said: u8, due: u8) -> Result<(), OutputFau
 fn put_conflict<E: Sink>(err: &mut E, at: u32, old: u8, new: u8) -> Result<(), OutputFault>
     ensures { Puts E.tells (E.state err.old) (E.state err.new) (conflict_text at old new) result }
 {
-    let at = hex_word(at);
-    let old = hex_byte(old);
-    let new = hex_byte(new);
+    let at = hex_digits::<8>(at);
+    let old = hex_digits::<2>(u32::from(old));
+    let new = hex_digits::<2>(u32::from(new));
     put_pieces(err, &[b"Conflict ", &at, b" ", &old, b" ", &new])
 }
 
 /// Puts how many data records a count record says there are, and how many there are.
-#[tactic(auto, unfolding(crate::specs::Faults::count_text))]
+#[tactic(auto, unfolding(crate::specs::Faults::counts_text))]
 fn put_counts<E: Sink>(err: &mut E, said: u32, seen: u64) -> Result<(), OutputFault>
-    ensures { Puts E.tells (E.state err.old) (E.state err.new) (count_text said seen) result }
+    ensures { Puts E.tells (E.state err.old) (E.state err.new) (counts_text said seen) result }
 {
     let mut of_said = Buffer::new();
     let mut of_seen = Buffer::new();
@@ -152,6 +152,6 @@ fn put_counts<E: Sink>(err: &mut E, said: u32, seen: u64) -> Result<(), OutputFa
 fn put_address<E: Sink>(err: &mut E, name: &[u8], address: u32) -> Result<(), OutputFault>
     ensures { Puts E.tells (E.state err.old) (E.state err.new) (concat (name.now ∷ hex_text 8 address ∷ [])) result }
 {
-    let address = hex_word(address);
+    let address = hex_digits::<8>(address);
     put_pieces(err, &[name, &address])
 }

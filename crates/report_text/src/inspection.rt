@@ -6,10 +6,10 @@ ghost use Rattle.flm_descriptor.specs.Shown.{shown};
 ghost use Rattle.report_text.specs.Inspection.{printable, name_text, kind_text, values_text, device_text, count_text, item_text, parts_text, entry_text, optional_entry_text, entries_text, inspection_text};
 ghost use Rattle.report_text.specs.Puts.{Puts};
 
-use crate::number::{hex_byte, hex_half, hex_word};
 use crate::pieces::put_pieces;
 use flm_descriptor::{Algorithm, Device, Entries, Name, SectorItem};
 use itoa::Buffer;
+use octets::hex_digits;
 use outside_io::{OutputFault, Sink};
 
 /// Puts what a flash algorithm says of itself, line by line. A fault may leave a beginning of it.
@@ -68,9 +68,9 @@ fn put_kind<O: Sink>(out: &mut O, device: &Device) -> Result<(), OutputFault>
 {
     let mut of_kind = Buffer::new();
     let mut of_size = Buffer::new();
-    let version = hex_half(device.vers);
+    let version = hex_digits::<4>(u32::from(device.vers));
     let kind = of_kind.format(device.kind).as_bytes();
-    let base = hex_word(device.base);
+    let base = hex_digits::<8>(device.base);
     let size = of_size.format(device.size).as_bytes();
     put_pieces(
         out,
@@ -97,8 +97,8 @@ fn put_values<O: Sink>(out: &mut O, device: &Device) -> Result<(), OutputFault>
     let mut of_prog = Buffer::new();
     let mut of_erase = Buffer::new();
     let page = of_page.format(device.page).as_bytes();
-    let empty = hex_byte(device.empty);
-    let reserved = hex_word(device.res);
+    let empty = hex_digits::<2>(u32::from(device.empty));
+    let reserved = hex_digits::<8>(device.res);
     let prog = of_prog.format(device.to_prog).as_bytes();
     let erase = of_erase.format(device.to_erase).as_bytes();
     put_pieces(
@@ -146,7 +146,7 @@ fn put_item<O: Sink>(out: &mut O, item: SectorItem) -> Result<(), OutputFault>
     ensures { Puts O.tells (O.state out.old) (O.state out.new) (item_text item) result }
 {
     let mut of_size = Buffer::new();
-    let offset = hex_word(item.offset);
+    let offset = hex_digits::<8>(item.offset);
     let size = of_size.format(item.size).as_bytes();
     put_pieces(out, &[b"item ", &offset, b" ", size, b"\n"])
 }
@@ -188,7 +188,7 @@ fn put_entries<O: Sink>(out: &mut O, entries: &Entries) -> Result<(), OutputFaul
 fn put_entry<O: Sink>(out: &mut O, name: Name, place: u32) -> Result<(), OutputFault>
     ensures { Puts O.tells (O.state out.old) (O.state out.new) (entry_text name place) result }
 {
-    let place = hex_word(place);
+    let place = hex_digits::<8>(place);
     put_pieces(out, &[b"entry ", name.text(), b" ", &place, b"\n"])
 }
 

@@ -5,7 +5,6 @@ mod board_reason;
 mod end;
 mod image_reason;
 mod inspection;
-mod number;
 mod pieces;
 mod reason;
 mod refusal;

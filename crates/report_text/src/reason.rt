@@ -4,11 +4,11 @@ ghost use Rattle.std.specs.List.{concat};
 ghost use Rattle.report_text.specs.Faults.{elf_text, field_text, flm_text};
 ghost use Rattle.report_text.specs.Puts.{Puts};
 
-use crate::number::hex_word;
 use crate::pieces::put_pieces;
 use elf32::{ElfFault, Field};
 use flm_descriptor::FlmFault;
 use itoa::Buffer;
+use octets::hex_digits;
 use outside_io::{OutputFault, Sink};
 
 /// Puts the refusal of an FLM file.
@@ -25,7 +25,7 @@ pub fn put_flm_fault<E: Sink>(err: &mut E, fault: FlmFault) -> Result<(), Output
         FlmFault::NoSection { name } => put_pieces(err, &[b"NoSection ", name.text()]),
         FlmFault::NoSymbol { name } => put_pieces(err, &[b"NoSymbol ", name.text()]),
         FlmFault::SymbolOutside { name, value } => {
-            let value = hex_word(value);
+            let value = hex_digits::<8>(value);
             put_pieces(err, &[b"SymbolOutside ", name.text(), b" ", &value])
         }
         FlmFault::DataBeforeCode => put_pieces(err, &[b"DataBeforeCode"]),
@@ -55,7 +55,7 @@ pub fn put_elf_fault<E: Sink>(err: &mut E, fault: ElfFault) -> Result<(), Output
             put_pieces(err, &[b"BadIndex ", field_text(field), b" ", value])
         }
         ElfFault::BadName { offset } => {
-            let offset = hex_word(offset);
+            let offset = hex_digits::<8>(offset);
             put_pieces(err, &[b"BadName ", &offset])
         }
     }

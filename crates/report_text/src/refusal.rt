@@ -6,14 +6,13 @@ ghost use Rattle.report_text.specs.Shown.{shown};
 
 use crate::board_reason::put_board_fault;
 use crate::image_reason::{put_image_fault, put_image_file};
-use crate::number::{hex_byte, hex_word};
 use crate::pieces::put_pieces;
 use crate::reason::put_flm_fault;
 use board_file::BoardFault;
 use flm_descriptor::FlmFault;
 use image_set::ImageFault;
 use itoa::Buffer;
-use octets::Word;
+use octets::{Word, hex_digits};
 use outside_io::{OutputFault, Sink};
 
 /// Why a call ends otherwise than done.
@@ -53,7 +52,7 @@ pub enum Refusal<'a> {
     OutputFault,
 
     /// The cell at a place isn't the byte that is wanted there.
-    Differs { at: u32, want: u8, got: u8 },
+    Differs { at: u32, wanted: u8, found: u8 },
 
     /// The command isn't built yet.
     NotBuilt,
@@ -67,23 +66,16 @@ impl Refusal<'_> {
         match self {
             Refusal::OutOfMemory => 1,
             Refusal::Usage => 2,
-            Refusal::InputFault { name: _ } => 3,
-            Refusal::ImageTooLong { bytes: _, cells: _ } => 4,
-            Refusal::ImageRefused { name: _, fault: _ } => 4,
-            Refusal::ImageMisplaced { fault: _ } => 4,
-            Refusal::FlmRefused { fault: _ } => 5,
-            Refusal::BoardRefused { fault: _ } => 6,
-            Refusal::CellsDiffer {
-                wanted: _,
-                found: _,
-            } => 7,
+            Refusal::InputFault { .. } => 3,
+            Refusal::ImageTooLong { .. } => 4,
+            Refusal::ImageRefused { .. } => 4,
+            Refusal::ImageMisplaced { .. } => 4,
+            Refusal::FlmRefused { .. } => 5,
+            Refusal::BoardRefused { .. } => 6,
+            Refusal::CellsDiffer { .. } => 7,
             Refusal::DeviceFault => 9,
             Refusal::OutputFault => 10,
-            Refusal::Differs {
-                at: _,
-                want: _,
-                got: _,
-            } => 13,
+            Refusal::Differs { .. } => 13,
             Refusal::NotBuilt => 14,
         }
     }
@@ -124,7 +116,7 @@ fn put_reason<E: Sink>(err: &mut E, refusal: &Refusal<'_>) -> Result<(), OutputF
         Refusal::CellsDiffer { wanted, found } => put_cells(err, *wanted, *found),
         Refusal::DeviceFault => put_pieces(err, &[b"device fault"]),
         Refusal::OutputFault => put_pieces(err, &[b"output fault"]),
-        Refusal::Differs { at, want, got } => put_difference(err, *at, *want, *got),
+        Refusal::Differs { at, wanted, found } => put_difference(err, *at, *wanted, *found),
         Refusal::NotBuilt => put_pieces(err, &[b"not built"]),
     }
 }
@@ -158,14 +150,21 @@ fn put_cells<E: Sink>(err: &mut E, wanted: u32, found: u32) -> Result<(), Output
 
 /// Puts a place with the byte that is wanted there and the one that was found.
 #[tactic(auto, unfolding(crate::specs::Refusal::reason_of))]
-fn put_difference<E: Sink>(err: &mut E, at: u32, want: u8, got: u8) -> Result<(), OutputFault>
-    ensures { Puts E.tells (E.state err.old) (E.state err.new) (reason_of (differs at want got)) result }
+fn put_difference<E: Sink>(err: &mut E, at: u32, wanted: u8, found: u8) -> Result<(), OutputFault>
+    ensures { Puts E.tells (E.state err.old) (E.state err.new) (reason_of (differs at wanted found)) result }
 {
-    let at = hex_word(at);
-    let want = hex_byte(want);
-    let got = hex_byte(got);
+    let at = hex_digits::<8>(at);
+    let wanted = hex_digits::<2>(u32::from(wanted));
+    let found = hex_digits::<2>(u32::from(found));
     put_pieces(
         err,
-        &[b"differs at ", &at, b" wanted ", &want, b" found ", &got],
+        &[
+            b"differs at ",
+            &at,
+            b" wanted ",
+            &wanted,
+            b" found ",
+            &found,
+        ],
     )
 }

@@ -102,8 +102,8 @@ fn a_refusal_has_a_status_and_a_line(rt: HostRuntime) -> Result<(), Fail> {
         (
             Refusal::Differs {
                 at: 0xABC,
-                want: 0x0D,
-                got: 0xEF,
+                wanted: 0x0D,
+                found: 0xEF,
             },
             13,
             "flmprog: differs at 00000ABC wanted 0D found EF\n",

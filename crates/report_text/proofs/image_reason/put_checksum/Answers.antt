@@ -3,4 +3,4 @@ use Rattle.report_text.proofs.image_reason.put_checksum.Goals as goal
 
 pub returns : goal.returns
 unfolding checksum_text
-returns g c = rw (c.hex_byte-said.ensures, c.hex_byte-due.ensures) at c.put_pieces.ensures
+returns g c = rw (c.hex_digits-said.ensures, c.hex_digits-due.ensures, c.from.ensures, c.from-2.ensures) at c.put_pieces.ensures

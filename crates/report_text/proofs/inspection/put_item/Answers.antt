@@ -3,4 +3,4 @@ use Rattle.report_text.proofs.inspection.put_item.Goals as goal
 
 pub returns : goal.returns
 unfolding item_text
-returns g c = rw (c.hex_word-offset.ensures, c.as_bytes-size.ensures.value, c.format.ensures.text) at c.put_pieces.ensures
+returns g c = rw (c.hex_digits-offset.ensures, c.as_bytes-size.ensures.value, c.format.ensures.text) at c.put_pieces.ensures

@@ -7,8 +7,9 @@ returns g c =
     rw (
       c.as_bytes-page.ensures.value,
       c.format.ensures.text,
-      c.hex_byte-empty.ensures,
-      c.hex_word-reserved.ensures,
+      c.hex_digits-empty.ensures,
+      c.from.ensures,
+      c.hex_digits-reserved.ensures,
       c.as_bytes-prog.ensures.value,
       c.format-2.ensures.text,
       c.as_bytes-erase.ensures.value,

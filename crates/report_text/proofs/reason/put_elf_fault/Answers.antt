@@ -5,4 +5,4 @@ use Rattle.report_text.proofs.reason.put_elf_fault.Goals as goal
 
 pub returns-in-BadName : goal.returns-in-BadName
 unfolding elf_text
-returns-in-BadName g c = puts_as (ap elf_text (sym c.in-BadName.is)) (rw c.hex_word-offset.ensures at c.put_pieces-in-BadName.ensures)
+returns-in-BadName g c = puts_as (ap elf_text (sym c.in-BadName.is)) (rw c.hex_digits-offset.ensures at c.put_pieces-in-BadName.ensures)

@@ -32,4 +32,4 @@ pub returns-in-SymbolOutside : goal.returns-in-SymbolOutside
 unfolding flm_text
 returns-in-SymbolOutside g c =
     puts_as (ap flm_text (sym c.in-SymbolOutside.is))
-    (rw (c.text-in-SymbolOutside.ensures, c.hex_word-value.ensures) at c.put_pieces-in-SymbolOutside.ensures)
+    (rw (c.text-in-SymbolOutside.ensures, c.hex_digits-value.ensures) at c.put_pieces-in-SymbolOutside.ensures)

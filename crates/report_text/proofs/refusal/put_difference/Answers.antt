@@ -3,4 +3,4 @@ use Rattle.report_text.proofs.refusal.put_difference.Goals as goal
 
 pub returns : goal.returns
 unfolding reason_of
-returns g c = rw (c.hex_word-at.ensures, c.hex_byte-want.ensures, c.hex_byte-got.ensures) at c.put_pieces.ensures
+returns g c = rw (c.hex_digits-at.ensures, c.hex_digits-wanted.ensures, c.hex_digits-found.ensures, c.from.ensures, c.from-2.ensures) at c.put_pieces.ensures
