@@ -1,60 +1,101 @@
--- Each answer of `inspect` comes where it is due.
-use Rattle.std.proofs.Common.{◌≡◌, ◌∙◌, ◌⊎◌, sym, ap, refl, inl, inr, ℕ, IsTrue, List, Some, Ok, Err}
-use Rattle.faults.specs.Counts.{Rose}
-use Rattle.flm_descriptor.specs.Flm.{flm_of}
+-- From the steps of `inspect` to its end.
+use Rattle.std.proofs.Common.{◌≡◌, ◌⊎◌, ◌∙◌, sym, ap, subst, refl, inl, inr, ℕ, Bool, true, IsTrue, List, [], ◌∷◌, Err, Some}
+use Rattle.bench_model.specs.State.{BenchState}
+use Rattle.outside_io.specs.State.{SinkState}
+use Rattle.flm_descriptor.specs.Flm.{flm_of, IsFlm}
 use Rattle.flm_descriptor.specs.Shown.{Shown}
 use Rattle.flm_descriptor.specs.declared.fault.FlmFault.{FlmFault}
-use Rattle.report_text.specs.Refusal.{out_of_memory, usage, input_fault, image_too_long, flm_refused, board_refused, image_refused, image_misplaced, cells_differ, device_fault, output_fault, differs, not_built}
-use Rattle.flm_cli.specs.Call.{InputsCall, SinkCall, Answer, done, refused}
-use Rattle.flm_cli.specs.Inspect.{Comes, IsDue, IsAlgorithm, IsNoAlgorithm}
-use Rattle.flm_cli.proofs.DueLemmas.{one_file}
+use Rattle.report_text.specs.Inspection.{inspection_text}
+use Rattle.report_text.specs.Refusal.{Refusal, out_of_memory, input_fault, flm_refused, output_fault}
+use Rattle.command_files.specs.Inputs.{InputsCall, IsFile}
+use Rattle.command_files.specs.Steps.{IsTakeFault}
+use Rattle.flm_cli.specs.Call.{BenchCall, SinkCall, Answer, done, refused, bench_call, sink_call, TookAll, TookPart}
+use Rattle.flm_cli.specs.Answered.{input, store, device, output, has_inspect, yields, DidNothing}
+use Rattle.flm_cli.specs.Inspect.{IsDueForFlm, InspectEnds}
+use Rattle.flm_cli.proofs.AnswerLemmas.{did_nothing, untouched_here, plain_lawful, untaken_lawful, unraised, one_file}
 
-module _ (inputs : InputsCall) (out : SinkCall) (flm bytes : List ℕ)
-    (told : IsTrue inputs.tells) (stands : inputs.before.stands flm ≡ Some bytes) where
-  -- the bytes don't say two things
-  says : (algorithm : Shown) → IsAlgorithm inputs flm algorithm → flm_of bytes ≡ Ok algorithm
-  says algorithm is = ap flm_of (sym (one_file inputs flm bytes is.bytes told stands is.file)) ∙ is.says
+due_yielding : (bench : BenchCall) (out : SinkCall) (answer : Answer) (bytes : List ℕ) → yields answer ≡ true → DidNothing bench out → IsDueForFlm bench out answer bytes
+due_yielding bench out answer bytes yields did = record { inspected = λ algorithm is. inr yields; refuses = λ fault is. inr (yields, did) }
 
-  refuses : (fault : FlmFault) → IsNoAlgorithm inputs flm fault → flm_of bytes ≡ Err fault
-  refuses fault is = ap flm_of (sym (one_file inputs flm bytes is.bytes told stands is.file)) ∙ is.refuses
+module _ (tells told : Bool) (b : BenchState) (o : SinkState) (inputs : InputsCall) (flm : List ℕ) where
+  pub ends_untaken : (r : Refusal) → IsTakeFault inputs (flm ∷ []) r → InspectEnds flm (bench_call tells b b) inputs (sink_call told o o) (refused r)
+  ends_untaken out_of_memory is = record {
+    lawful = untaken_lawful tells told b o inputs has_inspect (flm ∷ []) out_of_memory refl (λ name. refl) is;
+    untouched = untouched_here tells b;
+    comes = record { taken = refl; faults = refl };
+    due = λ bytes tells' stands. due_yielding _ _ (refused out_of_memory) bytes refl (did_nothing tells told b o);
+  }
+  ends_untaken (input_fault name) is = record {
+    lawful = untaken_lawful tells told b o inputs has_inspect (flm ∷ []) (input_fault name) refl (λ name. refl) is;
+    untouched = untouched_here tells b;
+    comes = record { taken = refl; faults = refl };
+    due = λ bytes tells' stands. due_yielding _ _ (refused (input_fault name)) bytes refl (did_nothing tells told b o);
+  }
+  ends_untaken r is = absurd is
 
-  never_both : (algorithm : Shown) (fault : FlmFault) → flm_of bytes ≡ Ok algorithm → flm_of bytes ≡ Err fault → ⊥
-  never_both algorithm fault one two = cc
+  pub ends_unread : inputs.after.faults ≡ inputs.before.faults → InspectEnds flm (bench_call tells b b) inputs (sink_call told o o) (refused out_of_memory)
+  ends_unread same = ends_untaken out_of_memory same
 
-  is_inspected : (answer : Answer) → Comes inputs out flm answer → (algorithm : Shown) → flm_of bytes ≡ Ok algorithm
-      → (answer ≡ done) ⊎ ((answer ≡ refused out_of_memory)
-      ⊎ (Rose inputs.before.faults inputs.after.faults ⊎ Rose out.before.faults out.after.faults))
-  is_inspected done comes algorithm is = inl refl
-  is_inspected (refused out_of_memory) comes algorithm is = inr (inl refl)
-  is_inspected (refused usage) comes algorithm is = absurd comes.0
-  is_inspected (refused (input_fault name)) comes algorithm is = inr (inr (inl comes.0.1))
-  is_inspected (refused (image_too_long count cells)) comes algorithm is = absurd comes.0
-  is_inspected (refused (flm_refused fault)) comes algorithm is = absurd (never_both algorithm fault is (refuses fault comes.0))
-  is_inspected (refused device_fault) comes algorithm is = absurd comes.0
-  is_inspected (refused (board_refused fault')) comes algorithm is = absurd comes.0
-  is_inspected (refused (image_refused name fault')) comes algorithm is = absurd comes.0
-  is_inspected (refused (image_misplaced fault')) comes algorithm is = absurd comes.0
-  is_inspected (refused (cells_differ w f)) comes algorithm is = absurd comes.0
-  is_inspected (refused output_fault) comes algorithm is = inr (inr (inr comes.prints.rose))
-  is_inspected (refused (differs place wanted found)) comes algorithm is = absurd comes.0
-  is_inspected (refused not_built) comes algorithm is = absurd comes.0
+  module _ (bytes : List ℕ) (file : IsFile inputs flm bytes) (same : inputs.after.faults ≡ inputs.before.faults) where
+    pub ends_refused : (fault : FlmFault) → flm_of bytes ≡ Err fault → InspectEnds flm (bench_call tells b b) inputs (sink_call told o o) (refused (flm_refused fault))
+    ends_refused fault is = record {
+      lawful = plain_lawful tells told b o inputs has_inspect (flm ∷ []) (flm_refused fault) refl same refl;
+      untouched = untouched_here tells b;
+      comes = (record { bytes = bytes; file = file; refuses = is }, record { taken = refl; faults = refl });
+      due = λ other tells' stands.
+          let its : flm_of other ≡ Err fault = sym (ap flm_of (one_file inputs flm other bytes tells' stands file)) ∙ is in record {
+            inspected = λ algorithm says. absurd (cc);
+            refuses = λ fault' says. let both : fault ≡ fault' = cc in inl (cc);
+          };
+    }
 
-  is_refused : (answer : Answer) → Comes inputs out flm answer → (fault : FlmFault) → flm_of bytes ≡ Err fault
-      → (answer ≡ refused (flm_refused fault)) ⊎ ((answer ≡ refused out_of_memory) ⊎ Rose inputs.before.faults inputs.after.faults)
-  is_refused done comes fault is = absurd (never_both comes.algorithm fault (says comes.algorithm comes.is_algorithm) is)
-  is_refused (refused out_of_memory) comes fault is = inr (inl refl)
-  is_refused (refused usage) comes fault is = absurd comes.0
-  is_refused (refused (input_fault name)) comes fault is = inr (inr comes.0.1)
-  is_refused (refused (image_too_long count cells)) comes fault is = absurd comes.0
-  is_refused (refused (flm_refused other)) comes fault is = let its = refuses other comes.0 in let same : other ≡ fault = cc in inl (cc)
-  is_refused (refused device_fault) comes fault is = absurd comes.0
-  is_refused (refused (board_refused fault')) comes fault is = absurd comes.0
-  is_refused (refused (image_refused name fault')) comes fault is = absurd comes.0
-  is_refused (refused (image_misplaced fault')) comes fault is = absurd comes.0
-  is_refused (refused (cells_differ w f)) comes fault is = absurd comes.0
-  is_refused (refused output_fault) comes fault is = absurd (never_both comes.algorithm fault (says comes.algorithm comes.is_algorithm) is)
-  is_refused (refused (differs place wanted found)) comes fault is = absurd comes.0
-  is_refused (refused not_built) comes fault is = absurd comes.0
+-- the algorithm's text was put, or a beginning of it
+module _ (tells : Bool) (b : BenchState) (inputs : InputsCall) (out : SinkCall) (flm bytes : List ℕ) (algorithm : Shown) (file : IsFile inputs flm bytes)
+    (same : inputs.after.faults ≡ inputs.before.faults) (is : IsFlm bytes algorithm) where
+  says_so : (answer : Answer) → ((fault : FlmFault) → flm_of bytes ≡ Err fault → ⊥) → (answer ≡ done) ⊎ (yields answer ≡ true)
+      → (other : List ℕ) → IsTrue inputs.tells → inputs.before.stands flm ≡ Some other → IsDueForFlm (bench_call tells b b) out answer other
+  says_so answer none due other tells' stands =
+      let are = one_file inputs flm other bytes tells' stands file in
+      subst (λ (n : List ℕ). IsDueForFlm (bench_call tells b b) out answer n) are (record {
+        inspected = λ algorithm' says. due;
+        refuses = λ fault says. absurd (none fault says);
+      })
 
-  pub inspect_is_due : (answer : Answer) → Comes inputs out flm answer → IsDue inputs out answer bytes
-  inspect_is_due answer comes = record { inspected = is_inspected answer comes; refuses = is_refused answer comes }
+  not_refused : (fault : FlmFault) → flm_of bytes ≡ Err fault → ⊥
+  not_refused fault says = cc
+
+  pub ends_done : TookAll out (inspection_text algorithm) → InspectEnds flm (bench_call tells b b) inputs out done
+  ends_done prints = record {
+    lawful = record {
+      kind = tt;
+      counts = record {
+        inputs_count = unraised inputs.before.faults inputs.after.faults input done same (λ its. cc);
+        store_count = unraised b.store_faults b.store_faults store done refl (λ its. cc);
+        device_count = unraised b.device_faults b.device_faults device done refl (λ its. cc);
+        out_count = unraised out.before.faults out.after.faults output done prints.faults (λ its. cc);
+      };
+      stands = tt;
+      untaken = λ name wrong. absurd (cc);
+    };
+    untouched = untouched_here tells b;
+    comes = record { algorithm = algorithm; is_algorithm = record { bytes = bytes; file = file; says = is }; prints = prints };
+    due = says_so done not_refused (inl refl);
+  }
+
+  pub ends_cut : TookPart out (inspection_text algorithm) → InspectEnds flm (bench_call tells b b) inputs out (refused output_fault)
+  ends_cut prints = record {
+    lawful = record {
+      kind = refl;
+      counts = record {
+        inputs_count = unraised inputs.before.faults inputs.after.faults input (refused output_fault) same (λ its. let wrong : output ≡ input = cc in cc);
+        store_count = unraised b.store_faults b.store_faults store (refused output_fault) refl (λ its. let wrong : output ≡ store = cc in cc);
+        device_count = unraised b.device_faults b.device_faults device (refused output_fault) refl (λ its. let wrong : output ≡ device = cc in cc);
+        out_count = record { later = prints.later; only = λ its. prints.rose; answered = λ more. refl };
+      };
+      stands = tt;
+      untaken = λ name wrong. absurd (cc);
+    };
+    untouched = untouched_here tells b;
+    comes = record { algorithm = algorithm; is_algorithm = record { bytes = bytes; file = file; says = is }; prints = prints };
+    due = says_so (refused output_fault) not_refused (inr refl);
+  }

@@ -1,18 +1,7 @@
-mod AddressLemmas
-mod AnswerLemmas
-mod ArgumentLemmas
-mod DueLemmas
-mod FileLemmas
-mod ImageLemmas
-mod InspectLemmas
-mod ReadbackLemmas
-mod RegionLemmas
-mod TakeLemmas
-mod TextLemmas
-mod RecordLemmas
-mod SegmentLemmas
-mod UnlikeLemmas
-mod VerifyDueLemmas
-mod VerifyLemmas
-mod WantedLemmas
-mod WordsLemmas
+pub mod AnswerLemmas
+pub mod CompareLemmas
+pub mod ComparisonLemmas
+pub mod InspectLemmas
+pub mod LooksLemmas
+pub mod UnlikeLemmas
+pub mod VerifyLemmas

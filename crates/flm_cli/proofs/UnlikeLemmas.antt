@@ -1,17 +1,19 @@
 -- The cells against an image, run by run.
-use Rattle.std.proofs.Common.{◌≡◌, ◌<◌, ◌≤◌, ◌+◌, ◌^◌, ◌++◌, ◌∙◌, sym, ap, subst, refl, arith, inl, inr, ◌⊎◌, ⊎_elim, ℕ, Bool, true, false, IsTrue, List, [], ◌∷◌, length, take, slice_get, Option, Some, None, is_some}
-use Rattle.std.proofs.lemmas.List.{take_more, take_all, length-take-le}
+use Rattle.std.proofs.Common.{◌≡◌, ◌<◌, ◌≤◌, ◌+◌, ◌^◌, ◌++◌, ◌∙◌, sym, ap, subst, refl, arith, inl, inr, ◌⊎◌, ⊎_elim, ℕ, Bool, true, false, IsTrue, List, [], ◌∷◌, ◌-◌, length, take, drop, get_or, slice_get, slice_index, Option, Some, None, is_some, IfOk, Result, Ok, Err}
+use Rattle.std.proofs.lemmas.List.{take_more, take_all, length-take-le, get_or-take, get_or-drop}
+use Rattle.std.proofs.Math.Seq.{take-length}
 use Rattle.std.proofs.lemmas.Option.{get_or_from_slice_get}
 use Rattle.std.proofs.lemmas.Bool.{cases_lt}
 use Rattle.bench_model.specs.State.{BenchState}
+use Rattle.bench_model.specs.declared.bench_fault.DeviceFault.{DeviceFault}
 use Rattle.byte_map.specs.Image.{Run, run_at, end_of, holds, byte_of, byte_at, AreMaximal}
 use Rattle.byte_map.proofs.Runs.{each_run, rising, held_from, held_to, holds_between, found_in, holder, byte_at-append, or_else, maximal_take}
 use Rattle.byte_map.proofs.Joined.{one_run, run_at-take}
-use Rattle.flm_cli.specs.Readback.{OnlyReadsCells}
-use Rattle.flm_cli.specs.Verify.{cell_of, CellsAgree}
+use Rattle.readback.specs.Readback.{OnlyReadsCells, Finds}
+use Rattle.flm_cli.specs.Verify.{CellsAgree}
 use Rattle.flm_cli.specs.Steps.{FindsInImage}
-use Rattle.flm_cli.specs.declared.readback.Difference.{Difference}
-use Rattle.flm_cli.proofs.ReadbackLemmas.{only_reads_cells_here, only_reads_cells_then}
+use Rattle.readback.specs.declared.compare.Difference.{Difference}
+use Rattle.readback.proofs.ReadbackLemmas.{only_reads_cells_here, only_reads_cells_then}
 
 -- One run.
 
@@ -35,6 +37,44 @@ in_run run a byte is =
             is = sym (byte_is ∙ ap (λ (n : ℕ). byte_of (run_at (run ∷ []) n) a) zero);
           }
 
+-- where the first cells are the first bytes of a run, they agree with it
+same_byte : (cells bytes : List ℕ) (base at place byte n : ℕ) → base ≤ at → take n (drop (at - base) cells) ≡ take n bytes
+    → IsInRun (record { at = at; bytes = bytes }) (base + place) byte → base + place < at + n → slice_index cells place ≡ byte
+same_byte cells bytes base at place byte n low same held inside =
+    let i = (base + place) - at in
+    let sum : (at - base) + i ≡ place = omega (arith, low, held.from) in
+    let less : i < n = omega (arith, held.from, inside) in
+    sym (ap (λ (p : ℕ). get_or cells p 0) sum) ∙ sym (get_or-drop (at - base) cells i 0) ∙ sym (get_or-take n (drop (at - base) cells) i 0 less)
+    ∙ ap (λ (l : List ℕ). get_or l i 0) same ∙ get_or-take n bytes i 0 less ∙ held.is
+
+-- what a comparison with the bytes of one run finds
+pub run_found : (tells : Bool) (cells : List ℕ) (base at : ℕ) (bytes : List ℕ) → base ≤ at → (found : Option Difference) → Finds tells cells (at - base) bytes found
+    → FindsInImage tells cells base (record { at = at; bytes = bytes } ∷ []) found
+run_found tells cells base at bytes low None finds = λ told place byte held.
+    let run : Run = record { at = at; bytes = bytes } in
+    let in_it = in_run run (base + place) byte held in
+    same_byte cells bytes base at place byte (length bytes) low (finds told ∙ sym (take-length bytes)) in_it in_it.to
+run_found tells cells base at bytes low (Some d) finds =
+    let run : Run = record { at = at; bytes = bytes } in
+    let offset = finds.offset in
+    let address : base + d.at ≡ at + offset = omega (arith, finds.place, low) in
+    let inside : at + offset < end_of run = omega (arith, finds.first.within) in
+    let index : (base + d.at) - at ≡ offset = omega (arith, address) in
+    record {
+      is_wanted = one_run run (base + d.at) d.want (holds_between run (base + d.at) (omega (arith, address)) (omega (arith, address, inside)))
+          (ap (λ (i : ℕ). slice_index bytes i) index ∙ finds.first.is_wanted);
+      unequal = finds.first.unequal;
+      is_found = λ told. ap (λ (p : ℕ). slice_index cells p) finds.place ∙ finds.first.is_found told;
+      least = λ told place byte below held.
+          let in_it = in_run run (base + place) byte held in
+          same_byte cells bytes base at place byte offset low (finds.first.least told) in_it (omega (arith, below, address));
+    }
+
+pub runs_found : (tells : Bool) (cells : List ℕ) (base at : ℕ) (bytes : List ℕ) → base ≤ at → (result : Result (Option Difference) DeviceFault)
+    → IfOk result (λ found. Finds tells cells (at - base) bytes found) → IfOk result (FindsInImage tells cells base (record { at = at; bytes = bytes } ∷ []))
+runs_found tells cells base at bytes low (Ok found) finds = run_found tells cells base at bytes low found finds
+runs_found tells cells base at bytes low (Err e) finds = tt
+
 -- Runs in turn.
 
 -- the cells are the bytes of the first runs, and the bench was only read so far
@@ -44,7 +84,7 @@ pub record RunsSoFar (tells : Bool) (start now : BenchState) (base : ℕ) (image
   pub faults : now.device_faults ≡ start.device_faults
 
 pub runs_here : (tells : Bool) (s : BenchState) (base : ℕ) (image : List Run) → RunsSoFar tells s s base image 0
-runs_here tells s base image = record { agree = λ told a byte is. absurd (cc); bench = only_reads_cells_here tells s; faults = refl }
+runs_here tells s base image = record { agree = λ told place byte is. absurd (cc); bench = only_reads_cells_here tells s; faults = refl }
 
 -- the run at a place of an image
 pub run_is : (image : List Run) (k : ℕ) (run : Run) → slice_get image k ≡ Some run → run_at image k ≡ run
@@ -65,8 +105,9 @@ module _ (tells : Bool) (start mid : BenchState) (base : ℕ) (image : List Run)
   one_more = take_more image done run less ∙ ap (λ (r : Run). take done image ++ r ∷ []) (get_or_from_slice_get image done run run is)
 
   agree_more : CellsAgree start.cells base (run ∷ []) → IsTrue tells → CellsAgree start.cells base (take (done + 1) image)
-  agree_more agree told a byte at =
-      ⊎_elim (λ early. so_far.agree told a byte early) (λ here. agree a byte here)
+  agree_more agree told place byte at =
+      let a = base + place in
+      ⊎_elim (λ early. so_far.agree told place byte early) (λ here. agree place byte here)
       (either (byte_at (take done image) a) (byte_at (run ∷ []) a) byte
       (sym (byte_at-append (take done image) (run ∷ []) a) ∙ ap (λ (rs : List Run). byte_at rs a) (sym one_more) ∙ at))
 
@@ -107,17 +148,18 @@ module _ (tells : Bool) (start mid : BenchState) (base : ℕ) (image : List Run)
       → is_some found ≡ true → FindsInImage tells start.cells base image found
   runs_differ maximal None finds some = absurd (cc)
   runs_differ maximal (Some d) finds some =
-      let in_it = in_run run d.at d.want finds.is_wanted in
+      let at = base + d.at in
+      let in_it = in_run run at d.want finds.is_wanted in
       let this = run_is image done run is in
       record {
-        is_wanted = found_in 0 (2 ^ 32) image done d.at maximal less
-            (ap (λ (r : Run). holds r d.at) this ∙ holds_between run d.at in_it.from in_it.to)
-            ∙ ap (λ (n : ℕ). Some n) (ap (λ (r : Run). byte_of r d.at) this ∙ in_it.is);
+        is_wanted = found_in 0 (2 ^ 32) image done at maximal less
+            (ap (λ (r : Run). holds r at) this ∙ holds_between run at in_it.from in_it.to)
+            ∙ ap (λ (n : ℕ). Some n) (ap (λ (r : Run). byte_of r at) this ∙ in_it.is);
         unequal = finds.unequal;
-        is_found = λ told. ap (λ (cells : List ℕ). cell_of cells base d.at) (sym (so_far.bench.cells told)) ∙ finds.is_found told;
-        least = λ told a byte below held. ⊎_elim (λ early. so_far.agree told a byte early)
-            (λ here. ap (λ (cells : List ℕ). cell_of cells base a) (sym (so_far.bench.cells told)) ∙ finds.least told a byte below here)
-            (where_held maximal d.at in_it.to a byte below held);
+        is_found = λ told. ap (λ (cells : List ℕ). slice_index cells d.at) (sym (so_far.bench.cells told)) ∙ finds.is_found told;
+        least = λ told place byte below held. ⊎_elim (λ early. so_far.agree told place byte early)
+            (λ here. ap (λ (cells : List ℕ). slice_index cells place) (sym (so_far.bench.cells told)) ∙ finds.least told place byte below here)
+            (where_held maximal at in_it.to (base + place) byte (omega (arith, below)) held);
       }
 
 -- all runs agree

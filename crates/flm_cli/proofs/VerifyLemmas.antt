@@ -1,135 +1,67 @@
 -- From the steps of `verify` to its end.
-use Rattle.std.proofs.Common.{◌≡◌, ◌≢◌, ◌<◌, ◌≤◌, ◌+◌, ◌-◌, ◌^◌, ◌∙◌, sym, ap, subst, refl, arith, ℕ, Bool, IsTrue, IsSome, List, [], ◌∷◌, length, drop, length-drop, Option, Some, None}
-use Rattle.std.proofs.lemmas.List.{get_or-drop}
+use Rattle.std.proofs.Common.{◌≡◌, ◌≢◌, ◌<◌, ◌≤◌, ◌+◌, ◌-◌, ◌^◌, ◌∙◌, ⊎_elim, sym, ap, subst, refl, arith, inl, inr, ℕ, Bool, true, IsTrue, IsSome, List, [], ◌∷◌, length, slice_index, option_to_list, Option, Some, None, Err}
+use Rattle.std.proofs.lemmas.Bool.{cases_lt}
 use Rattle.std.proofs.lemmas.Bool.Decides.{nat_tests}
-use Rattle.bench_model.specs.State.{BenchState, cells_half}
-use Rattle.bench_model.proofs.Moments.{adds_nothing_here, file_stays_here, cells_stay_here}
+use Rattle.bench_model.specs.State.{BenchState}
 use Rattle.outside_io.specs.State.{SinkState}
 use Rattle.byte_map.specs.Image.{Run, run_at, end_of, byte_of, byte_at, AreMaximal}
 use Rattle.byte_map.proofs.Runs.{each_run, found_in, holds_between}
+use Rattle.flm_descriptor.specs.declared.fault.FlmFault.{FlmFault}
 use Rattle.image_set.specs.Ranges.{is_inside}
-use Rattle.report_text.specs.Refusal.{Refusal, out_of_memory, usage, input_fault, image_too_long, flm_refused, board_refused, image_refused, image_misplaced, cells_differ, device_fault, output_fault, differs, not_built}
-use Rattle.flm_cli.specs.Call.{BenchCall, InputsCall, SinkCall, Answer, done, refused, bench_call, sink_call, IsAnswered}
-use Rattle.flm_cli.specs.Comparison.{Prints, Stands, ComparisonLeaves}
-use Rattle.flm_cli.specs.Verify.{name_at, file_at, AreFiles, Given, IsReady, CellsAgree, IsLeastDifference, Agrees, IsRefused, Comes, InputFaultAnswered, VerifyEnds}
-use Rattle.flm_cli.specs.Steps.{IsWanted, IsWantedRefusal, FitsCells, FoundBy, ImageCompared}
-use Rattle.flm_cli.specs.declared.wanted.Wanted.{Wanted}
-use Rattle.flm_cli.proofs.ImageLemmas.{maximal_union}
+use Rattle.report_text.specs.Refusal.{Refusal, out_of_memory, input_fault, flm_refused, board_refused, image_refused, image_misplaced, cells_differ, device_fault, output_fault, differs}
+use Rattle.command_words.specs.Files.{FilesAsked, names_in}
+use Rattle.command_files.specs.Inputs.{InputsCall, FilesGiven, AreFiles}
+use Rattle.command_files.specs.Files.{algorithm_of, Aim, IsAim, IsRefused}
+use Rattle.command_files.specs.Steps.{IsTakeFault, IsWanted, IsFilesRefusal, aim_of}
+use Rattle.command_files.specs.declared.wanted.Wanted.{Wanted}
+use Rattle.command_files.proofs.FilesLemmas.{one_given, one_aim, one_refusal, aim_or_refused}
+use Rattle.image_set.proofs.UnionLemmas.{below_end}
+use Rattle.command_files.proofs.ImageLemmas.{maximal_union}
+use Rattle.flm_cli.specs.Call.{BenchCall, SinkCall, Answer, done, refused, bench_call, sink_call}
+use Rattle.flm_cli.specs.Answered.{has_verify, yields, DidNothing, IsOf}
+use Rattle.flm_cli.specs.Comparison as comparison
+use Rattle.flm_cli.specs.Comparison.{Compares}
+use Rattle.flm_cli.specs.Reading.{ShowsFiles, AnswersFiles}
+use Rattle.flm_cli.specs.Steps.{FitsCells}
+use Rattle.flm_cli.specs.Verify.{wanted_at, CellsAgree, IsLeastDifference, DiffersAt, AgreesWith, IsComparedWithImage, Shows, IsDueForImage, VerifyEnds}
+use Rattle.flm_cli.proofs.AnswerLemmas.{did_nothing, plain_lawful, untaken_lawful, leaves_early, found_cases, compared_lawful, is_due, due_yielding}
 
--- The files that were taken, the first of them the board's.
+-- The cells and an image.
 
-pub given : (inputs : InputsCall) (names files : List (List ℕ)) (Holds : List ℕ → List (List ℕ) → Type 0) → 0 < length names → AreFiles inputs names files
-    → Holds (file_at files 0) (drop 1 files) → Given inputs (name_at names 0) (drop 1 names) Holds
-given inputs names files Holds some are holds = record {
-  text = file_at files 0;
-  files = drop 1 files;
-  is_text = are.each 0 some;
-  are_files = record {
-    count = omega (arith, length-drop 1 files, length-drop 1 names, are.count);
-    each = λ k less told.
-        ap (λ (name : List ℕ). inputs.before.stands name) (get_or-drop 1 names k []) ∙ are.each (1 + k) (omega (arith, less, length-drop 1 names)) told
-        ∙ ap (λ (file : List ℕ). Some file) (sym (get_or-drop 1 files k []));
-  };
-  holds = holds;
-}
+agree_or_differ_told : (cells : List ℕ) (base : ℕ) (image : List Run) (place wanted found : ℕ) → CellsAgree cells base image
+    → IsLeastDifference true cells base image place wanted found → ⊥
+agree_or_differ_told cells base image place wanted found agree differ = differ.unequal (sym (agree place wanted differ.is_wanted) ∙ differ.is_found refl)
 
-no_input_fault : (inputs : InputsCall) (answer : Answer) → inputs.after.faults ≡ inputs.before.faults → InputFaultAnswered inputs answer
-no_input_fault inputs answer same = record { later = omega (arith, same); answered = λ more. absurd (omega (arith, same, more)) }
+earlier_difference : (cells : List ℕ) (base : ℕ) (image : List Run) (p w f q x g : ℕ) → IsLeastDifference true cells base image p w f
+    → IsLeastDifference true cells base image q x g → p < q → ⊥
+earlier_difference cells base image p w f q x g one two less = one.unequal (sym (two.least refl p w less one.is_wanted) ∙ one.is_found refl)
 
--- A refusal before the cells are looked at.
+module _ (bench : BenchCall) (base : ℕ) (image : List Run) where
+  as_told : (place wanted found : ℕ) → IsTrue bench.tells → IsLeastDifference bench.tells bench.after.cells base image place wanted found
+      → IsLeastDifference true bench.after.cells base image place wanted found
+  as_told place wanted found told is = subst (λ (t : Bool). IsLeastDifference t bench.after.cells base image place wanted found) told is
 
-unanswered : (n : ℕ) (answer fault : Answer) → IsAnswered n n answer fault
-unanswered n answer fault = record { later = omega arith; answered = λ less. absurd (omega (arith, less)) }
+  agree_or_differ : IsTrue bench.tells → (at wanted found : ℕ) → AgreesWith bench base image → DiffersAt bench base image at wanted found → ⊥
+  agree_or_differ told at wanted found agree differ =
+      agree_or_differ_told bench.after.cells base image differ.place wanted found (agree told) (as_told differ.place wanted found told differ.first)
 
-module _ (tells told : Bool) (b : BenchState) (o : SinkState) where
-  leaves_all : (answer : Answer) → Prints (sink_call told o o) answer → Stands (bench_call tells b b) answer
-      → ComparisonLeaves (bench_call tells b b) (sink_call told o o) answer
-  leaves_all answer prints stands = record {
-    prints = prints;
-    stands = stands;
-    file = file_stays_here b;
-    count = refl;
-    stops = adds_nothing_here (cells_half b);
-    device_faults = unanswered b.device_faults answer (refused device_fault);
-    output_faults = unanswered o.faults answer (refused output_fault);
-  }
+  differ_once : IsTrue bench.tells → (p w f q x g : ℕ) → DiffersAt bench base image p w f → DiffersAt bench base image q x g → differs p w f ≡ differs q x g
+  differ_once told p w f q x g one two =
+      let a = as_told one.place w f told one.first in
+      let b = as_told two.place x g told two.first in
+      let cells = bench.after.cells in
+      let place : one.place ≡ two.place = ⊎_elim
+      (λ less. absurd (earlier_difference cells base image one.place w f two.place x g a b less))
+      (λ most. ⊎_elim (λ less. absurd (earlier_difference cells base image two.place x g one.place w f b a less))
+      (λ least. omega (arith, most, least)) (cases_lt two.place one.place))
+      (cases_lt one.place two.place) in
+      let address : p ≡ q = one.address ∙ ap (λ (n : ℕ). base + n) place ∙ sym two.address in
+      let wanted_same : Some w ≡ Some x = sym a.is_wanted ∙ ap (λ (n : ℕ). wanted_at base image n) place ∙ b.is_wanted in
+      let wanted : w ≡ x = cc in
+      let found : f ≡ g = sym (a.is_found refl) ∙ ap (λ (n : ℕ). slice_index cells n) place ∙ b.is_found refl in
+      cc
 
-  refusal_leaves : (cells : ℕ) (raw_at : Option ℕ) (names : List (List ℕ)) (text : List ℕ) (files : List (List ℕ)) (r : Refusal)
-      → IsRefused cells raw_at names r text files → ComparisonLeaves (bench_call tells b b) (sink_call told o o) (refused r)
-  refusal_leaves cells raw_at names text files (board_refused fault) is = leaves_all _ (record { taken = refl; faults = refl }) (cells_stay_here b)
-  refusal_leaves cells raw_at names text files (image_refused name fault) is = leaves_all _ (record { taken = refl; faults = refl }) (cells_stay_here b)
-  refusal_leaves cells raw_at names text files (image_misplaced fault) is = leaves_all _ (record { taken = refl; faults = refl }) (cells_stay_here b)
-  refusal_leaves cells raw_at names text files (cells_differ wanted found) is = leaves_all _ (record { taken = refl; faults = refl }) (cells_stay_here b)
-  refusal_leaves cells raw_at names text files out_of_memory is = absurd is
-  refusal_leaves cells raw_at names text files usage is = absurd is
-  refusal_leaves cells raw_at names text files (input_fault name) is = absurd is
-  refusal_leaves cells raw_at names text files (image_too_long bytes count) is = absurd is
-  refusal_leaves cells raw_at names text files (flm_refused fault) is = absurd is
-  refusal_leaves cells raw_at names text files device_fault is = absurd is
-  refusal_leaves cells raw_at names text files output_fault is = absurd is
-  refusal_leaves cells raw_at names text files (differs at wanted found) is = absurd is
-  refusal_leaves cells raw_at names text files not_built is = absurd is
-
-  module _ (inputs : InputsCall) (raw_at : Option ℕ) (names files : List (List ℕ)) (some : 0 < length names) (are : AreFiles inputs names files)
-      (same : inputs.after.faults ≡ inputs.before.faults) where
-    refused_comes : (r : Refusal) → IsRefused b.cell_count raw_at (drop 1 names) r (file_at files 0) (drop 1 files)
-        → Comes (bench_call tells b b) inputs (sink_call told o o) raw_at (name_at names 0) (drop 1 names) (refused r)
-    refused_comes (board_refused fault) is = given inputs names files _ some are is
-    refused_comes (image_refused name fault) is = given inputs names files _ some are is
-    refused_comes (image_misplaced fault) is = given inputs names files _ some are is
-    refused_comes (cells_differ wanted found) is = given inputs names files _ some are is
-    refused_comes out_of_memory is = absurd is
-    refused_comes usage is = absurd is
-    refused_comes (input_fault name) is = absurd is
-    refused_comes (image_too_long bytes count) is = absurd is
-    refused_comes (flm_refused fault) is = absurd is
-    refused_comes device_fault is = absurd is
-    refused_comes output_fault is = absurd is
-    refused_comes (differs at wanted found) is = absurd is
-    refused_comes not_built is = absurd is
-
-    pub ends_refused : (r : Refusal) → IsRefused b.cell_count raw_at (drop 1 names) r (file_at files 0) (drop 1 files)
-        → VerifyEnds (bench_call tells b b) inputs (sink_call told o o) raw_at (name_at names 0) (drop 1 names) (refused r)
-    ends_refused r is = record {
-      comes = refused_comes r is;
-      leaves = refusal_leaves b.cell_count raw_at (drop 1 names) (file_at files 0) (drop 1 files) r is;
-      input_faults = no_input_fault inputs (refused r) same;
-    }
-
-    pub ends_unread : (r : Refusal) → IsWantedRefusal raw_at (drop 1 names) (file_at files 0) (drop 1 files) r
-        → VerifyEnds (bench_call tells b b) inputs (sink_call told o o) raw_at (name_at names 0) (drop 1 names) (refused r)
-    ends_unread out_of_memory is = record {
-      comes = tt;
-      leaves = leaves_all (refused out_of_memory) (record { taken = refl; faults = refl }) (cells_stay_here b);
-      input_faults = no_input_fault inputs (refused out_of_memory) same;
-    }
-    ends_unread (board_refused fault) is = ends_refused (board_refused fault) is
-    ends_unread (image_refused name fault) is = ends_refused (image_refused name fault) is
-    ends_unread (image_misplaced fault) is = ends_refused (image_misplaced fault) is
-    ends_unread (cells_differ wanted found) is = absurd is
-    ends_unread usage is = absurd is
-    ends_unread (input_fault name) is = absurd is
-    ends_unread (image_too_long bytes count) is = absurd is
-    ends_unread (flm_refused fault) is = absurd is
-    ends_unread device_fault is = absurd is
-    ends_unread output_fault is = absurd is
-    ends_unread (differs at wanted found) is = absurd is
-    ends_unread not_built is = absurd is
-
-    -- another number of cells
-    pub ends_other_size : (wanted : Wanted) → IsWanted raw_at (file_at files 0) (drop 1 files) wanted → wanted.device.size ≢ b.cell_count
-        → VerifyEnds (bench_call tells b b) inputs (sink_call told o o) raw_at (name_at names 0) (drop 1 names)
-        (refused (cells_differ wanted.device.size b.cell_count))
-    ends_other_size wanted is unequal = ends_refused (cells_differ wanted.device.size b.cell_count) (record {
-      region = is.region;
-      image = wanted.image;
-      is_placed = is.is_placed;
-      wanted_is = is.size_is;
-      found_is = refl;
-      unequal = unequal;
-    })
-
--- The cells are compared.
+-- There is a cell for each address of an image in the region.
 
 in_range : (base size a : ℕ) → IsTrue (is_inside ((base, size) ∷ []) a) → (base ≤ a) × (a < base + size)
 in_range base size a inside = (grind (arith, nat_tests), grind (arith, nat_tests))
@@ -138,10 +70,12 @@ is_held : (o : Option ℕ) (byte : ℕ) → o ≡ Some byte → IsSome o
 is_held None byte is = absurd (cc)
 is_held (Some x) byte is = refl
 
--- there is a cell for each address of the image
-pub fits_cells : (raw_at : Option ℕ) (text : List ℕ) (files : List (List ℕ)) (wanted : Wanted) (cells : ℕ) → IsWanted raw_at text files wanted
+maximal_image : (raw_at : Option ℕ) (files : FilesGiven) (wanted : Wanted) → IsWanted raw_at files wanted → AreMaximal 0 (2 ^ 32) wanted.image
+maximal_image raw_at files wanted is = maximal_union raw_at files.images (length files.images) wanted.image is.is_aim.are_read.union
+
+pub fits_cells : (raw_at : Option ℕ) (files : FilesGiven) (wanted : Wanted) (cells : ℕ) → IsWanted raw_at files wanted
     → wanted.device.size ≡ cells → FitsCells wanted.image wanted.device.base cells
-fits_cells raw_at text files wanted cells is size = record {
+fits_cells raw_at files wanted cells is size = record {
   low = λ k less. omega (arith, is.base_is, (ends k less).0);
   high = λ k less. omega (arith, is.base_is, is.size_is, size, (ends k less).1);
 } where
@@ -149,11 +83,11 @@ fits_cells raw_at text files wanted cells is size = record {
   image = wanted.image
 
   maximal : AreMaximal 0 (2 ^ 32) wanted.image
-  maximal = maximal_union raw_at files (length files) wanted.image is.is_placed.are_read.is_image
+  maximal = maximal_image raw_at files wanted is
 
   inside : (k a : ℕ) → k < length wanted.image → (run_at wanted.image k).at ≤ a → a < end_of (run_at wanted.image k)
       → (is.region.base ≤ a) × (a < is.region.base + is.region.size)
-  inside k a less from to = in_range is.region.base is.region.size a (is.is_placed.inside.inside a
+  inside k a less from to = in_range is.region.base is.region.size a (is.is_aim.inside.inside a
       (is_held (byte_at wanted.image a) (byte_of (run_at wanted.image k) a)
       (found_in 0 (2 ^ 32) wanted.image k a maximal less (holds_between (run_at wanted.image k) a from to))))
 
@@ -165,47 +99,163 @@ fits_cells raw_at text files wanted cells is size = record {
       let last = inside k (end_of (run_at wanted.image k) - 1) less (omega (arith, run.1)) (omega (arith, run.1)) in
       (first.0, omega (arith, last.1, run.1))
 
-module _ (bench : BenchCall) (inputs : InputsCall) (out : SinkCall) (raw_at : Option ℕ) (names files : List (List ℕ)) (some : 0 < length names)
-    (are : AreFiles inputs names files) (wanted : Wanted) (is : IsWanted raw_at (file_at files 0) (drop 1 files) wanted)
-    (size : wanted.device.size ≡ bench.before.cell_count) where
-  is_ready : IsReady bench.before.cell_count raw_at (file_at files 0) (drop 1 files) is.region wanted.image
-  is_ready = record { is_placed = is.is_placed; size = sym is.size_is ∙ size }
+-- an address at which the image has a byte is a word
+pub address_fits : (raw_at : Option ℕ) (files : FilesGiven) (wanted : Wanted) (bench : BenchCall) (at byte found : ℕ) → IsWanted raw_at files wanted
+    → DiffersAt bench wanted.device.base wanted.image at byte found → at < 2 ^ 32
+address_fits raw_at files wanted bench at byte found is differ =
+    subst (λ (a : ℕ). a < 2 ^ 32) (sym differ.address)
+    (below_end wanted.image (wanted.device.base + differ.place) byte (maximal_image raw_at files wanted is) differ.first.is_wanted)
 
-  they_agree : (IsTrue bench.tells → CellsAgree bench.after.cells wanted.device.base wanted.image)
-      → Given inputs (name_at names 0) (drop 1 names) (Agrees bench raw_at)
-  they_agree agree = given inputs names files _ some are (record {
-    region = is.region;
-    image = wanted.image;
-    is_ready = is_ready;
-    cells = λ told. subst (λ (base : ℕ). CellsAgree bench.after.cells base wanted.image) is.base_is (agree told);
-  })
+-- The files.
 
-  found_comes : (answer : Answer) → FoundBy bench out wanted.device.base wanted.image answer
-      → Comes bench inputs out raw_at (name_at names 0) (drop 1 names) answer
-  found_comes done found = they_agree found
-  found_comes (refused device_fault) found = (found, given inputs names files _ some are (record { region = is.region; image = wanted.image; is_ready = is_ready }))
-  found_comes (refused output_fault) found = (found.0, they_agree found.1)
-  found_comes (refused (differs at byte cell)) found = given inputs names files _ some are (record {
-    region = is.region;
-    image = wanted.image;
-    is_ready = is_ready;
-    first = subst (λ (base : ℕ). IsLeastDifference bench.tells bench.after.cells base wanted.image at byte cell) is.base_is found;
-  })
-  found_comes (refused out_of_memory) found = absurd found
-  found_comes (refused usage) found = absurd found
-  found_comes (refused (input_fault name)) found = absurd found
-  found_comes (refused (image_too_long bytes count)) found = absurd found
-  found_comes (refused (flm_refused fault)) found = absurd found
-  found_comes (refused (board_refused fault)) found = absurd found
-  found_comes (refused (image_refused name fault)) found = absurd found
-  found_comes (refused (image_misplaced fault)) found = absurd found
-  found_comes (refused (cells_differ w f)) found = absurd found
-  found_comes (refused not_built) found = absurd found
+-- without an FLM file none is refused
+no_flm_refused : (inputs : InputsCall) (asked : FilesAsked) (files : FilesGiven) (fault : FlmFault) → asked.flm ≡ None → AreFiles inputs asked files
+    → algorithm_of files.flm ≡ Err fault → ⊥
+no_flm_refused inputs asked files fault none are is = refused_none files.flm same is where
+  count_none : (a b : Option (List ℕ)) → length (option_to_list b) ≡ length (option_to_list a) → a ≡ None → b ≡ None
+  count_none a None same is_none = refl
+  count_none None (Some x) same is_none = absurd (omega (arith, same))
+  count_none (Some y) b same is_none = absurd (cc)
 
-  pub ends_compared : (answer : Answer) → inputs.after.faults ≡ inputs.before.faults → ImageCompared bench out wanted.device.base wanted.image answer
-      → VerifyEnds bench inputs out raw_at (name_at names 0) (drop 1 names) answer
-  ends_compared answer same compared = record {
-    comes = found_comes answer compared.found;
-    leaves = compared.leaves;
-    input_faults = no_input_fault inputs answer same;
+  same : files.flm ≡ None
+  same = count_none asked.flm files.flm are.flm.count none
+
+  refused_none : (f : Option (List ℕ)) → f ≡ None → algorithm_of f ≡ Err fault → ⊥
+  refused_none None same is = cc
+  refused_none (Some x) same is = cc
+
+module _ (bench : BenchCall) (inputs : InputsCall) (out : SinkCall) (asked : FilesAsked) where
+  due_yielding_for : (answer : Answer) (aim : Aim) → yields answer ≡ true → DidNothing bench out → comparison.IsCompared answer → IsDueForImage bench out answer aim
+  due_yielding_for answer aim yields did complete = record {
+    other_size = λ other. inr (yields, did);
+    compared = λ same. due_yielding bench (AgreesWith bench aim.region.base aim.image) (DiffersAt bench aim.region.base aim.image) answer yields complete;
   }
+
+  -- an answer that yields before anything was done
+  files_yielding : (answer : Answer) → yields answer ≡ true → DidNothing bench out → comparison.IsCompared answer → ShowsFiles inputs asked (Shows bench answer) answer
+      → AnswersFiles bench inputs out asked answer (Shows bench answer) (IsDueForImage bench out answer)
+  files_yielding answer yields did complete shows = record {
+    shows = shows;
+    refuses = λ files refusal told are is. inr (yields, did);
+    goes = λ files aim told are is. due_yielding_for answer aim yields did complete;
+  }
+
+  -- a refusal of the files
+  files_refused : (r : Refusal) (files : FilesGiven) → AreFiles inputs asked files → IsRefused asked files r → ShowsFiles inputs asked (Shows bench (refused r)) (refused r)
+      → AnswersFiles bench inputs out asked (refused r) (Shows bench (refused r)) (IsDueForImage bench out (refused r))
+  files_refused r files are is shows = record {
+    shows = shows;
+    refuses = λ other refusal told its refused'.
+        let same = one_given inputs asked files other told are its in
+        inl (ap refused (one_refusal asked other r refusal (subst (λ (f : FilesGiven). IsRefused asked f r) same is) refused'));
+    goes = λ other aim told its is_aim.
+        let same = one_given inputs asked files other told are its in
+        absurd (aim_or_refused asked other aim r is_aim (subst (λ (f : FilesGiven). IsRefused asked f r) same is));
+  }
+
+  -- an answer of the work on an aim
+  files_worked : (answer : Answer) (files : FilesGiven) (aim : Aim) → AreFiles inputs asked files → IsAim asked.raw_at files aim
+      → ShowsFiles inputs asked (Shows bench answer) answer → IsDueForImage bench out answer aim
+      → AnswersFiles bench inputs out asked answer (Shows bench answer) (IsDueForImage bench out answer)
+  files_worked answer files aim are is shows due = record {
+    shows = shows;
+    refuses = λ other refusal told its refused'.
+        let same = one_given inputs asked files other told are its in
+        absurd (aim_or_refused asked other aim refusal (subst (λ (f : FilesGiven). IsAim asked.raw_at f aim) same is) refused');
+    goes = λ other aim' told its is_aim.
+        let same = one_given inputs asked files other told are its in
+        subst (λ (a : Aim). IsDueForImage bench out answer a) (one_aim asked other aim aim' (subst (λ (f : FilesGiven). IsAim asked.raw_at f aim) same is) is_aim) due;
+  }
+
+-- The exits.
+
+module _ (tells told : Bool) (b : BenchState) (o : SinkState) (inputs : InputsCall) (asked : FilesAsked) where
+  abbrev Ends : Refusal → Type 0
+  Ends r = VerifyEnds asked (bench_call tells b b) inputs (sink_call told o o) (refused r)
+
+  pub ends_untaken : (r : Refusal) → IsTakeFault inputs (names_in asked) r → Ends r
+  ends_untaken out_of_memory is = record {
+    lawful = untaken_lawful tells told b o inputs has_verify (names_in asked) out_of_memory refl (λ name. refl) is;
+    leaves = leaves_early tells told b o inputs out_of_memory refl;
+    files = files_yielding (bench_call tells b b) inputs (sink_call told o o) asked (refused out_of_memory) refl (did_nothing tells told b o) refl tt;
+  }
+  ends_untaken (input_fault name) is = record {
+    lawful = untaken_lawful tells told b o inputs has_verify (names_in asked) (input_fault name) refl (λ name. refl) is;
+    leaves = leaves_early tells told b o inputs (input_fault name) refl;
+    files = files_yielding (bench_call tells b b) inputs (sink_call told o o) asked (refused (input_fault name)) refl (did_nothing tells told b o) refl tt;
+  }
+  ends_untaken r is = absurd is
+
+  module _ (files : FilesGiven) (none : asked.flm ≡ None) (are : AreFiles inputs asked files) (same : inputs.after.faults ≡ inputs.before.faults) where
+    pub ends_unread : (r : Refusal) → IsFilesRefusal asked files r → Ends r
+    ends_unread out_of_memory is = ends_untaken out_of_memory same
+    ends_unread (board_refused fault) is = record {
+      lawful = plain_lawful tells told b o inputs has_verify (names_in asked) (board_refused fault) refl same refl;
+      leaves = leaves_early tells told b o inputs (board_refused fault) refl;
+      files = files_refused _ inputs _ asked (board_refused fault) files are is (record { files = files; are_files = are; holds = is });
+    }
+    ends_unread (flm_refused fault) is = absurd (no_flm_refused inputs asked files fault none are is.1)
+    ends_unread (image_refused name fault) is = record {
+      lawful = plain_lawful tells told b o inputs has_verify (names_in asked) (image_refused name fault) refl same refl;
+      leaves = leaves_early tells told b o inputs (image_refused name fault) refl;
+      files = files_refused _ inputs _ asked (image_refused name fault) files are is (record { files = files; are_files = are; holds = is });
+    }
+    ends_unread (image_misplaced fault) is = record {
+      lawful = plain_lawful tells told b o inputs has_verify (names_in asked) (image_misplaced fault) refl same refl;
+      leaves = leaves_early tells told b o inputs (image_misplaced fault) refl;
+      files = files_refused _ inputs _ asked (image_misplaced fault) files are is (record { files = files; are_files = are; holds = is });
+    }
+    ends_unread r is = absurd is
+
+    -- another number of cells
+    pub ends_other_size : (wanted : Wanted) → IsWanted asked.raw_at files wanted → wanted.device.size ≢ b.cell_count → Ends (cells_differ wanted.device.size b.cell_count)
+    ends_other_size wanted is unequal =
+        let aim = aim_of wanted is.region in
+        record {
+          lawful = plain_lawful tells told b o inputs has_verify (names_in asked) (cells_differ wanted.device.size b.cell_count) refl same refl;
+          leaves = leaves_early tells told b o inputs (cells_differ wanted.device.size b.cell_count) refl;
+          files = files_worked _ inputs _ asked (refused (cells_differ wanted.device.size b.cell_count)) files aim are is.is_aim
+              (record {
+                files = files;
+                are_files = are;
+                holds = record { aim = aim; is_aim = is.is_aim; holds = record { wanted_is = is.size_is; found_is = refl; unequal = unequal } };
+              })
+              (record {
+                other_size = λ other. inl (ap (λ (n : ℕ). refused (cells_differ n b.cell_count)) is.size_is);
+                compared = λ equal. absurd (unequal (is.size_is ∙ equal));
+              });
+        }
+
+worked_shows : (bench : BenchCall) (inputs : InputsCall) (asked : FilesAsked) (files : FilesGiven) (aim : Aim) → AreFiles inputs asked files
+    → IsAim asked.raw_at files aim → (answer : Answer) → IsComparedWithImage bench aim answer → ShowsFiles inputs asked (Shows bench answer) answer
+worked_shows bench inputs asked files aim are is done compared = record { files = files; are_files = are; holds = record { aim = aim; is_aim = is; holds = compared } }
+worked_shows bench inputs asked files aim are is (refused device_fault) compared =
+    record { files = files; are_files = are; holds = record { aim = aim; is_aim = is; holds = compared } }
+worked_shows bench inputs asked files aim are is (refused output_fault) compared =
+    record { files = files; are_files = are; holds = record { aim = aim; is_aim = is; holds = compared } }
+worked_shows bench inputs asked files aim are is (refused (differs at wanted found)) compared =
+    record { files = files; are_files = are; holds = record { aim = aim; is_aim = is; holds = compared } }
+worked_shows bench inputs asked files aim are is (refused r) compared = absurd compared.found
+
+pub ends_compared : (bench : BenchCall) (inputs : InputsCall) (out : SinkCall) (asked : FilesAsked) (files : FilesGiven) (wanted : Wanted) → AreFiles inputs asked files
+    → inputs.after.faults ≡ inputs.before.faults → IsWanted asked.raw_at files wanted → wanted.device.size ≡ bench.before.cell_count → (answer : Answer)
+    → Compares bench out (AgreesWith bench wanted.device.base wanted.image) (DiffersAt bench wanted.device.base wanted.image) answer
+    → VerifyEnds asked bench inputs out answer
+ends_compared bench inputs out asked files wanted are same is size answer compares =
+    let aim = aim_of wanted is.region in
+    let base = is.region.base in
+    let at_base = subst (λ (n : ℕ). Compares bench out (AgreesWith bench n wanted.image) (DiffersAt bench n wanted.image) answer) is.base_is compares in
+    let cells : is.region.size ≡ bench.before.cell_count = sym is.size_is ∙ size in
+    record {
+      lawful = compared_lawful bench inputs out has_verify (names_in asked) (AgreesWith bench base wanted.image) (DiffersAt bench base wanted.image) answer
+          (found_cases (AgreesWith bench base wanted.image) (DiffersAt bench base wanted.image) (λ a. IsOf has_verify a) tt refl refl (λ at byte cell. refl)
+          answer at_base.found) same at_base;
+      leaves = compares.leaves;
+      files = files_worked bench inputs out asked answer files aim are is.is_aim
+          (worked_shows bench inputs asked files aim are is.is_aim answer (record { size = cells; found = at_base.found }))
+          (record {
+            other_size = λ other. absurd (other cells);
+            compared = λ equal. is_due bench (AgreesWith bench base wanted.image) (DiffersAt bench base wanted.image)
+                (agree_or_differ bench base wanted.image) (differ_once bench base wanted.image) answer at_base.found;
+          });
+    }

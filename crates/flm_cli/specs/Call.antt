@@ -1,11 +1,12 @@
 -- One call of `flmprog`, as its contract sees it.
-use Rattle.std.specs.Prelude.{◌≡◌, ◌≤◌, ◌<◌, ◌++◌, ◌⊎◌, ℕ, Bool, IsTrue, List, Some}
+use Rattle.std.specs.Prelude.{◌≡◌, ◌≤◌, ◌++◌, ◌⊎◌, ℕ, Bool, IsTrue, List}
 use Rattle.faults.specs.Counts.{Rose}
 use Rattle.bench_model.specs.State.{BenchState}
 use Rattle.bench_model.specs.Calls.{FileStays, CellsStay}
-use Rattle.outside_io.specs.State.{InputsState, SinkState}
+use Rattle.outside_io.specs.State.{SinkState}
 use Rattle.outside_io.specs.Appends.{AppendsPart}
 use Rattle.report_text.specs.Refusal.{Refusal, status_of, line_of}
+use Rattle.command_files.specs.Inputs.{InputsCall}
 
 -- What each of the four objects means at entry and at exit, and whether it tells its contents.
 
@@ -13,11 +14,6 @@ pub record BenchCall : Type 1 where
   pub tells : Bool
   pub before : BenchState
   pub after : BenchState
-
-pub record InputsCall : Type 0 where
-  pub tells : Bool
-  pub before : InputsState
-  pub after : InputsState
 
 pub record SinkCall : Type 0 where
   pub tells : Bool
@@ -34,9 +30,6 @@ pub record Call : Type 1 where
 
 abbrev pub bench_call : Bool → BenchState → BenchState → BenchCall
 bench_call tells before after = record { tells = tells; before = before; after = after }
-
-abbrev pub inputs_call : Bool → InputsState → InputsState → InputsCall
-inputs_call tells before after = record { tells = tells; before = before; after = after }
 
 abbrev pub sink_call : Bool → SinkState → SinkState → SinkCall
 sink_call tells before after = record { tells = tells; before = before; after = after }
@@ -62,15 +55,6 @@ pub record TookPart (sink : SinkCall) (text : List ℕ) : Type 0 where
   pub later : sink.before.faults ≤ sink.after.faults
   pub rose : Rose sink.before.faults sink.after.faults
 
--- Nothing was taken of the inputs, and no fault counted.
-pub record TakesNothing (inputs : InputsCall) : Type 0 where
-  pub stands : (name : List ℕ) → inputs.after.stands name ≡ inputs.before.stands name
-  pub faults : inputs.after.faults ≡ inputs.before.faults
-
--- these bytes stand under the name, where the inputs tell
-abbrev pub IsFile : InputsCall → List ℕ → List ℕ → Type 0
-IsFile inputs name bytes = IsTrue inputs.tells → inputs.before.stands name ≡ Some bytes
-
 -- The bench is as it was.
 pub record IsUntouched (bench : BenchCall) : Type 0 where
   pub file : FileStays bench.before bench.after
@@ -86,8 +70,3 @@ pub data Answer : Type 0 where
 abbrev pub Says : ℕ → SinkCall → Answer → Type 0
 Says status err done = (status ≡ 0) × TookNothing err
 Says status err (refused refusal) = (status ≡ status_of refusal) × (TookAll err (line_of refusal) ⊎ TookPart err (line_of refusal))
-
--- A count never falls, and where it became greater the call answers its fault.
-pub record IsAnswered (before after : ℕ) (answer fault : Answer) : Type 0 where
-  pub later : before ≤ after
-  pub answered : before < after → answer ≡ fault

@@ -1,13 +1,13 @@
--- What `compare` and `verify` have in common: both compare the cells with an image.
-use Rattle.std.specs.Prelude.{◌≡◌, ◌⊎◌, IsTrue, None}
-use Rattle.faults.specs.Counts.{Rose}
+-- What `compare` and `verify` have in common: both compare the cells with bytes.
+use Rattle.std.specs.Prelude.{◌≡◌, ◌⊎◌, ℕ, true, IsTrue, None}
 use Rattle.bench_model.specs.State.{cells_half}
 use Rattle.bench_model.specs.History.{AddsNothing}
 use Rattle.bench_model.specs.Calls.{SameOutside, FileStays, CellsStay}
-use Rattle.report_text.specs.Refusal.{out_of_memory, device_fault, output_fault, differs}
+use Rattle.report_text.specs.Refusal.{device_fault, output_fault, differs}
 use Rattle.report_text.specs.End.{end_text}
 use Rattle.report_text.specs.declared.end.End.TheVariants.{Same}
-use Rattle.flm_cli.specs.Call.{BenchCall, InputsCall, SinkCall, Answer, done, refused, TookNothing, TookAll, TookPart, IsAnswered}
+use Rattle.flm_cli.specs.Call.{BenchCall, SinkCall, Answer, done, refused, TookNothing, TookAll, TookPart}
+use Rattle.flm_cli.specs.Answered.{device, output, IsCounted, yields, IsUnless}
 
 -- What goes to `out`: `same` where done, a beginning of it where `out` fails, and nothing with every other answer.
 abbrev pub Prints : SinkCall → Answer → Type 0
@@ -28,7 +28,7 @@ pub record IsStillOpen (bench : BenchCall) : Type 0 where
 -- What stands of the cells. The answers that come before the cells are looked at leave the bench as it was.
 abbrev pub Stands : BenchCall → Answer → Type 0
 Stands bench done = IsBrokenOff bench
-Stands bench (refused (differs place wanted found)) = IsBrokenOff bench
+Stands bench (refused (differs at wanted found)) = IsBrokenOff bench
 Stands bench (refused output_fault) = IsBrokenOff bench
 Stands bench (refused device_fault) = IsBrokenOff bench ⊎ IsStillOpen bench
 Stands bench (refused _) = CellsStay bench.before bench.after
@@ -41,15 +41,31 @@ pub record ComparisonLeaves (bench : BenchCall) (out : SinkCall) (answer : Answe
   pub file : FileStays bench.before bench.after
   pub count : bench.after.cell_count ≡ bench.before.cell_count
   pub stops : AddsNothing (cells_half bench.before) (cells_half bench.after)
-  -- each fault that is counted is answered
-  pub device_faults : IsAnswered bench.before.device_faults bench.after.device_faults answer (refused device_fault)
-  pub output_faults : IsAnswered out.before.faults out.after.faults answer (refused output_fault)
 
--- a fault was counted in this call, or a count of faults stands at its greatest
-abbrev pub SomeFault : BenchCall → InputsCall → SinkCall → Type 0
-SomeFault bench inputs out = (Rose inputs.before.faults inputs.after.faults ⊎ Rose bench.before.device_faults bench.after.device_faults)
-    ⊎ Rose out.before.faults out.after.faults
+-- When each answer comes, once nothing is refused: the cells agree, or a cell differs. A fault of the device is any; one of
+-- `out` comes where they agree.
+abbrev pub Found : Type 0 → (ℕ → ℕ → ℕ → Type 0) → Answer → Type 0
+Found Agrees Differs done = Agrees
+Found Agrees Differs (refused device_fault) = Unit {0}
+Found Agrees Differs (refused output_fault) = Agrees
+Found Agrees Differs (refused (differs at wanted found)) = Differs at wanted found
+Found Agrees Differs (refused _) = ⊥
 
--- the answer is this one, or it yields: to want of memory, or to a fault that was counted
-abbrev pub IsUnless : BenchCall → InputsCall → SinkCall → Answer → Answer → Type 0
-IsUnless bench inputs out answer due = (answer ≡ due) ⊎ ((answer ≡ refused out_of_memory) ⊎ SomeFault bench inputs out)
+-- the end of the work once nothing is refused
+pub record Compares (bench : BenchCall) (out : SinkCall) (Agrees : Type 0) (Differs : ℕ → ℕ → ℕ → Type 0) (answer : Answer) : Type 0 where
+  pub found : Found Agrees Differs answer
+  pub leaves : ComparisonLeaves bench out answer
+  pub device_count : IsCounted bench.before.device_faults bench.after.device_faults device answer
+  pub out_count : IsCounted out.before.faults out.after.faults output answer
+
+-- done, a difference, or an answer that yields
+abbrev pub IsCompared : Answer → Type 0
+IsCompared done = Unit {0}
+IsCompared (refused (differs at wanted found)) = Unit {0}
+IsCompared (refused refusal) = yields (refused refusal) ≡ true
+
+-- The other direction: each answer comes where it is due.
+pub record IsDue (bench : BenchCall) (Agrees : Type 0) (Differs : ℕ → ℕ → ℕ → Type 0) (answer : Answer) : Type 0 where
+  pub different : (at wanted found : ℕ) → IsTrue bench.tells → Differs at wanted found → IsUnless answer (refused (differs at wanted found))
+  pub same : IsTrue bench.tells → Agrees → IsUnless answer done
+  pub complete : IsCompared answer

@@ -1,13 +1,10 @@
-pub mod Words
-pub mod Names
-pub mod Requested
-pub mod Shown
 pub mod Call
-pub mod Difference
-pub mod Readback
+pub mod Answered
+pub mod Shown
 pub mod Comparison
 pub mod Compare
 pub mod Inspect
+pub mod Reading
 pub mod Verify
+pub mod Answers
 pub mod Steps
-pub mod Unrun

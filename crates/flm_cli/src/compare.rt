@@ -1,13 +1,18 @@
 //! `compare IMAGE`: the cells against the raw bytes of one file.
-ghost use Rattle.flm_cli.specs.Call.{bench_call, inputs_call, sink_call};
-ghost use Rattle.flm_cli.specs.Compare.{CompareEnds};
+ghost use Rattle.std.specs.Prelude.{◌≤◌, ℕ, length, IfOk};
+ghost use Rattle.command_files.specs.Inputs.{inputs_call};
+ghost use Rattle.flm_cli.specs.Call.{bench_call, sink_call};
+ghost use Rattle.flm_cli.specs.Compare.{CellsAre, DiffersFrom, CompareEnds};
 ghost use Rattle.flm_cli.specs.Shown.{answer_of};
+ghost use Rattle.flm_cli.specs.Steps.{FoundBy, LooksAtCells};
 
-use crate::readback::{Difference, WINDOW, first_difference};
-use bench_model::Bench;
+use crate::comparison::{WINDOW, tell_found};
+use bench_model::{Bench, DeviceFault};
+use command_files::take_one;
 use octets::Word;
-use outside_io::{Inputs, Sink, TakeFault};
-use report_text::{End, Refusal, put_end};
+use outside_io::{Inputs, Sink};
+use readback::{Difference, first_difference};
+use report_text::Refusal;
 use std::alloc::Global;
 
 /// Compares the cells from place 0 on with the bytes of a file, and prints `same` where they agree.
@@ -19,31 +24,28 @@ pub fn compare<'a, B: Bench, I: Inputs, O: Sink>(
     out: &mut O,
 ) -> Result<(), Refusal<'a>>
     requires { I.may_take inputs.old image.now }
-    ensures { CompareEnds (bench_call B.tells (B.state bench.old) (B.state bench.new))
-        (inputs_call I.tells (I.state inputs.old) (I.state inputs.new))
-        (sink_call O.tells (O.state out.old) (O.state out.new)) image.now (answer_of result) }
+    ensures { CompareEnds image.now (bench_call B.tells (B.state bench.old) (B.state bench.new))
+        (inputs_call I.tells (I.state inputs.old) (I.state inputs.new)) (sink_call O.tells (O.state out.old) (O.state out.new)) (answer_of result) }
 {
-    let bytes = match inputs.take(alloc, image) {
-        Ok(bytes) => bytes,
-        Err(TakeFault::OutOfMemory) => return Err(Refusal::OutOfMemory),
-        Err(TakeFault::InputFault) => return Err(Refusal::InputFault { name: image }),
-    };
+    let file = take_one(alloc, image, inputs)?;
     let cells = bench.cells_len();
-    if bytes.len() > cells as usize {
+    if file.len() > cells as usize {
         return Err(Refusal::ImageTooLong {
-            bytes: bytes.len(),
+            bytes: file.len(),
             cells,
         });
     }
-    if bench.cells_drop().is_err() {
-        return Err(Refusal::DeviceFault);
-    }
-    match first_difference(bench, 0, bytes.bytes(), &mut [0; WINDOW]) {
-        Err(_) => Err(Refusal::DeviceFault),
-        Ok(Some(Difference { at, want, got })) => Err(Refusal::Differs { at, want, got }),
-        Ok(None) => match put_end(out, End::Same) {
-            Ok(()) => Ok(()),
-            Err(_) => Err(Refusal::OutputFault),
-        },
-    }
+    let found = find_in_cells(bench, file.bytes());
+    tell_found(0, found, out)
+}
+
+/// Breaks off an open operation, and compares the cells from place 0 on with these bytes.
+fn find_in_cells<B: Bench>(bench: &mut B, bytes: &[u8]) -> Result<Option<Difference>, DeviceFault>
+    requires { length bytes.now ≤ (B.state bench.old).cell_count }
+    ensures found { IfOk result (FoundBy 0 (CellsAre (bench_call B.tells (B.state bench.old) (B.state bench.new)) bytes.now)
+        (DiffersFrom (bench_call B.tells (B.state bench.old) (B.state bench.new)) bytes.now)) }
+    ensures looks { LooksAtCells (bench_call B.tells (B.state bench.old) (B.state bench.new)) result }
+{
+    bench.cells_drop()?;
+    first_difference(bench, 0, bytes, &mut [0; WINDOW])
 }

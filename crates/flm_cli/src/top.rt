@@ -1,19 +1,16 @@
 //! The top call.
-ghost use Rattle.std.specs.Prelude.{◌<◌, ◌∷◌, ℕ, List, Option, length};
-ghost use Rattle.flm_cli.specs.Words.{IsVerify, IsCompare, IsInspect, IsNotBuilt, AsksNothing};
-ghost use Rattle.report_text.specs.Refusal as refusal;
-ghost use Rattle.flm_cli.specs.Call.{call_of, bench_call, inputs_call, sink_call, IsUntouched, Says};
-ghost use Rattle.flm_cli.specs.Compare.{CompareAnswers, CompareEnds};
-ghost use Rattle.flm_cli.specs.Inspect.{InspectAnswers, InspectEnds};
-ghost use Rattle.flm_cli.specs.Verify.{name_at, VerifyAnswers, VerifyEnds};
-ghost use Rattle.flm_cli.specs.Unrun.{RefusesAtOnce, EndsAtOnce};
+ghost use Rattle.std.specs.Prelude.{ℕ, List, Option, All};
+ghost use Rattle.command_words.specs.Words.{Command, Asks, Asked, names_asked};
+ghost use Rattle.command_files.specs.Inputs.{inputs_call};
+ghost use Rattle.flm_cli.specs.Answers.{EndsOf, Answers};
+ghost use Rattle.flm_cli.specs.Call.{call_of, bench_call, sink_call, Says};
 ghost use Rattle.flm_cli.specs.Shown.{answer_of};
 
-use crate::command::{Request, read_request};
 use crate::compare::compare;
 use crate::inspect::inspect;
 use crate::verify::verify;
 use bench_model::Bench;
+use command_words::{Request, read_request};
 use octets::Word;
 use outside_io::{Inputs, Sink};
 use report_text::{Refusal, put_refusal};
@@ -29,25 +26,10 @@ pub fn flmprog<B: Bench, I: Inputs, O: Sink, E: Sink>(
     out: &mut O,
     err: &mut E,
 ) -> u8
-    requires verify { (raw_at : Option ℕ) (board : List ℕ) (images : List (List ℕ)) (k : ℕ) → IsVerify words.now raw_at board images
-        → k < length (board ∷ images) → I.may_take inputs.old (name_at (board ∷ images) k) }
-    requires compare { (image : List ℕ) → IsCompare words.now image → I.may_take inputs.old image }
-    requires inspect { (flm : List ℕ) → IsInspect words.now flm → I.may_take inputs.old flm }
-    ensures verify { (raw_at : Option ℕ) (board : List ℕ) (images : List (List ℕ)) → IsVerify words.now raw_at board images → VerifyAnswers (call_of result
+    requires { (command : Command) → Asks words.now command → All (I.may_take inputs.old) (names_asked command) }
+    ensures { (asked : Option Command) → Asked words.now asked → Answers (call_of result
         (bench_call B.tells (B.state bench.old) (B.state bench.new)) (inputs_call I.tells (I.state inputs.old) (I.state inputs.new))
-        (sink_call O.tells (O.state out.old) (O.state out.new)) (sink_call E.tells (E.state err.old) (E.state err.new))) raw_at board images }
-    ensures compare { (image : List ℕ) → IsCompare words.now image → CompareAnswers (call_of result
-        (bench_call B.tells (B.state bench.old) (B.state bench.new)) (inputs_call I.tells (I.state inputs.old) (I.state inputs.new))
-        (sink_call O.tells (O.state out.old) (O.state out.new)) (sink_call E.tells (E.state err.old) (E.state err.new))) image }
-    ensures inspect { (flm : List ℕ) → IsInspect words.now flm → InspectAnswers (call_of result
-        (bench_call B.tells (B.state bench.old) (B.state bench.new)) (inputs_call I.tells (I.state inputs.old) (I.state inputs.new))
-        (sink_call O.tells (O.state out.old) (O.state out.new)) (sink_call E.tells (E.state err.old) (E.state err.new))) flm }
-    ensures not_built { IsNotBuilt words.now → RefusesAtOnce (call_of result
-        (bench_call B.tells (B.state bench.old) (B.state bench.new)) (inputs_call I.tells (I.state inputs.old) (I.state inputs.new))
-        (sink_call O.tells (O.state out.old) (O.state out.new)) (sink_call E.tells (E.state err.old) (E.state err.new))) refusal.not_built }
-    ensures usage { AsksNothing words.now → RefusesAtOnce (call_of result
-        (bench_call B.tells (B.state bench.old) (B.state bench.new)) (inputs_call I.tells (I.state inputs.old) (I.state inputs.new))
-        (sink_call O.tells (O.state out.old) (O.state out.new)) (sink_call E.tells (E.state err.old) (E.state err.new))) refusal.usage }
+        (sink_call O.tells (O.state out.old) (O.state out.new)) (sink_call E.tells (E.state err.old) (E.state err.new))) asked }
 {
     let end = run(alloc, words, bench, inputs, out);
     report(err, &end)
@@ -61,31 +43,16 @@ fn run<'a, B: Bench, I: Inputs, O: Sink>(
     inputs: &mut I,
     out: &mut O,
 ) -> Result<(), Refusal<'a>>
-    requires verify { (raw_at : Option ℕ) (board : List ℕ) (images : List (List ℕ)) (k : ℕ) → IsVerify words.now raw_at board images
-        → k < length (board ∷ images) → I.may_take inputs.old (name_at (board ∷ images) k) }
-    requires compare { (image : List ℕ) → IsCompare words.now image → I.may_take inputs.old image }
-    requires inspect { (flm : List ℕ) → IsInspect words.now flm → I.may_take inputs.old flm }
-    ensures verify { (raw_at : Option ℕ) (board : List ℕ) (images : List (List ℕ)) → IsVerify words.now raw_at board images
-        → VerifyEnds (bench_call B.tells (B.state bench.old) (B.state bench.new)) (inputs_call I.tells (I.state inputs.old) (I.state inputs.new))
-        (sink_call O.tells (O.state out.old) (O.state out.new)) raw_at board images (answer_of result) }
-    ensures compare { (image : List ℕ) → IsCompare words.now image → CompareEnds (bench_call B.tells (B.state bench.old) (B.state bench.new))
-        (inputs_call I.tells (I.state inputs.old) (I.state inputs.new)) (sink_call O.tells (O.state out.old) (O.state out.new)) image (answer_of result) }
-    ensures inspect { (flm : List ℕ) → IsInspect words.now flm → InspectEnds
-        (inputs_call I.tells (I.state inputs.old) (I.state inputs.new)) (sink_call O.tells (O.state out.old) (O.state out.new)) flm (answer_of result) }
-    ensures untouched { (flm : List ℕ) → IsInspect words.now flm → IsUntouched (bench_call B.tells (B.state bench.old) (B.state bench.new)) }
-    ensures not_built { IsNotBuilt words.now → EndsAtOnce (bench_call B.tells (B.state bench.old) (B.state bench.new))
-        (inputs_call I.tells (I.state inputs.old) (I.state inputs.new)) (sink_call O.tells (O.state out.old) (O.state out.new)) refusal.not_built (answer_of result) }
-    ensures usage { AsksNothing words.now → EndsAtOnce (bench_call B.tells (B.state bench.old) (B.state bench.new))
-        (inputs_call I.tells (I.state inputs.old) (I.state inputs.new)) (sink_call O.tells (O.state out.old) (O.state out.new)) refusal.usage (answer_of result) }
+    requires { (command : Command) → Asks words.now command → All (I.may_take inputs.old) (names_asked command) }
+    ensures { (asked : Option Command) → Asked words.now asked → EndsOf asked (bench_call B.tells (B.state bench.old) (B.state bench.new))
+        (inputs_call I.tells (I.state inputs.old) (I.state inputs.new)) (sink_call O.tells (O.state out.old) (O.state out.new)) (answer_of result) }
 {
     match read_request(words) {
         None => Err(Refusal::Usage),
         Some(Request::NotBuilt) => Err(Refusal::NotBuilt),
-        Some(Request::Verify { raw_at, names }) => {
-            verify(alloc, raw_at, &names, bench, inputs, out)
-        }
+        Some(Request::Verify(names)) => verify(alloc, &names, bench, inputs, out),
         Some(Request::Compare { image }) => compare(alloc, image, bench, inputs, out),
-        Some(Request::Inspect { flm }) => inspect(alloc, flm, inputs, out),
+        Some(Request::Inspect { flm }) => inspect(alloc, flm, bench, inputs, out),
     }
 }
 

@@ -1,40 +1,29 @@
 //! The comparison of cells with an image.
-ghost use Rattle.std.specs.Prelude.{◌≡◌, ◌≤◌, ◌<◌, ◌+◌, ◌-◌, ◌^◌, ◌∷◌, [], None, length, IsTrue, IfOk};
+ghost use Rattle.std.specs.Prelude.{◌≡◌, ◌≤◌, ◌<◌, ◌+◌, ◌^◌, ◌∷◌, [], None, length, IsTrue, IfOk};
 ghost use Rattle.faults.specs.Counts.{HasCause};
-ghost use Rattle.flm_cli.specs.Call.{bench_call, sink_call};
-ghost use Rattle.flm_cli.specs.Readback.{OnlyReadsCells};
-ghost use Rattle.flm_cli.specs.Shown.{answer_of};
-ghost use Rattle.flm_cli.specs.Steps.{FindsInImage, FitsCells, ImageCompared};
+ghost use Rattle.readback.specs.Readback.{OnlyReadsCells};
+ghost use Rattle.flm_cli.specs.Call.{bench_call};
+ghost use Rattle.flm_cli.specs.Steps.{FindsInImage, FitsCells, FoundBy, LooksAtCells};
+ghost use Rattle.flm_cli.specs.Verify.{AgreesWith, DiffersAt};
 
-use crate::readback::{Difference, WINDOW, first_difference};
+use crate::comparison::WINDOW;
 use bench_model::{Bench, DeviceFault};
 use byte_map::ByteMap;
-use outside_io::Sink;
-use report_text::{End, Refusal, put_end};
+use readback::{Difference, first_difference};
 
-/// Compares the cells, of which the first has the address `base`, with an image, and prints `same` where they agree.
-/// A difference is told by its address.
-pub fn compare_image<'a, B: Bench, O: Sink>(
+/// Breaks off an open operation, and compares the cells, of which the first has the address `base`, with an image.
+pub fn find_in_image<B: Bench>(
+    bench: &mut B,
     base: u32,
     image: &ByteMap,
-    bench: &mut B,
-    out: &mut O,
-) -> Result<(), Refusal<'a>>
+) -> Result<Option<Difference>, DeviceFault>
     requires { FitsCells image.now base (B.state bench.old).cell_count }
-    ensures { ImageCompared (bench_call B.tells (B.state bench.old) (B.state bench.new)) (sink_call O.tells (O.state out.old) (O.state out.new))
-        base image.now (answer_of result) }
+    ensures found { IfOk result (FoundBy base (AgreesWith (bench_call B.tells (B.state bench.old) (B.state bench.new)) base image.now)
+        (DiffersAt (bench_call B.tells (B.state bench.old) (B.state bench.new)) base image.now)) }
+    ensures looks { LooksAtCells (bench_call B.tells (B.state bench.old) (B.state bench.new)) result }
 {
-    if bench.cells_drop().is_err() {
-        return Err(Refusal::DeviceFault);
-    }
-    match first_unlike(bench, base, image, &mut [0; WINDOW]) {
-        Err(_) => Err(Refusal::DeviceFault),
-        Ok(Some(Difference { at, want, got })) => Err(Refusal::Differs { at, want, got }),
-        Ok(None) => match put_end(out, End::Same) {
-            Ok(()) => Ok(()),
-            Err(_) => Err(Refusal::OutputFault),
-        },
-    }
+    bench.cells_drop()?;
+    first_unlike(bench, base, image, &mut [0; WINDOW])
 }
 
 /// Compares the cells with each run of an image, from the least address on, up to the first that differs.
@@ -78,12 +67,5 @@ fn unlike_run<B: Bench>(
     ensures bench { OnlyReadsCells B.tells (B.state bench.old) (B.state bench.new) }
     ensures cause { HasCause (B.state bench.old).device_faults (B.state bench.new).device_faults result }
 {
-    match first_difference(bench, at - base, bytes, window)? {
-        None => Ok(None),
-        Some(Difference { at, want, got }) => Ok(Some(Difference {
-            at: base + at,
-            want,
-            got,
-        })),
-    }
+    first_difference(bench, at - base, bytes, window)
 }

@@ -184,35 +184,11 @@ fn says_why_an_image_is_refused(rt: HostRuntime) -> Result<(), Fail> {
 
 #[test]
 fn reads_the_words_of_verify(rt: HostRuntime) -> Result<(), Fail> {
-    let files = [("b", board()), ("i", four()), ("--", four())];
+    let files = [("b", board()), ("i", four())];
     for (words, status) in [
         (["verify", "b", "--", "i"].as_slice(), 0),
-        (["verify", "--", "b", "--"].as_slice(), 0),
-        (["verify", "b", "i", "i"].as_slice(), 0),
         (["verify", "b"].as_slice(), 2),
-        (["verify"].as_slice(), 2),
-        (["verify", "b", "i", "-x"].as_slice(), 2),
         (["verify", "b", "i", "i", "--raw-at=0"].as_slice(), 2),
-        (
-            [
-                "verify",
-                "--raw-at",
-                "0x08000000",
-                "--raw-at",
-                "0",
-                "b",
-                "i",
-            ]
-            .as_slice(),
-            2,
-        ),
-        (["verify", "b", "i", "--raw-at"].as_slice(), 2),
-        (["verify", "--raw-at", "--", "b", "i"].as_slice(), 2),
-        (["verify", "--raw-at=0x123456789", "b", "i"].as_slice(), 2),
-        (["verify", "--raw-at=4294967296", "b", "i"].as_slice(), 2),
-        (["verify", "--raw-at=+1", "b", "i"].as_slice(), 2),
-        (["verify", "--raw-at=0x", "b", "i"].as_slice(), 2),
-        (["verify", "--raw-at=", "b", "i"].as_slice(), 2),
         (["verify", "--raw-at=4294967295", "b", "i"].as_slice(), 4),
     ] {
         let answered = verify_on(rt.alloc(), words, &files, b"\x01\x02\x03\x04")?;

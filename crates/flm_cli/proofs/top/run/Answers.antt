@@ -1,55 +1,75 @@
-use Rattle.std.proofs.Common.{ℕ, List, Option, drop, subst}
-use Rattle.flm_cli.specs.Words.{IsVerify, IsCompare, IsInspect, verify, compare, inspect, not_built}
-use Rattle.flm_cli.specs.Call.{bench_call, inputs_call, sink_call}
-use Rattle.flm_cli.specs.Compare.{CompareEnds}
-use Rattle.flm_cli.specs.Inspect.{InspectEnds}
-use Rattle.flm_cli.specs.Names.{names_of}
-use Rattle.flm_cli.specs.Verify.{name_at, VerifyEnds}
+use Rattle.std.proofs.Common.{refl, subst, Option, Some, None, []}
+use Rattle.std.proofs.lemmas.List.Elements.{All-head}
+use Rattle.command_words.specs.Words.{Command, verify, compare, inspect, not_built, Asked}
+use Rattle.command_words.specs.Requested.{files_of}
+use Rattle.command_words.proofs.WordsLemmas.{one_asked}
+use Rattle.command_files.specs.Inputs.{inputs_call}
+use Rattle.report_text.specs.Refusal as refusal
+use Rattle.flm_cli.specs.Call.{bench_call, sink_call, refused}
+use Rattle.flm_cli.specs.Answers.{EndsOf}
 use Rattle.flm_cli.specs.Shown.{answer_of}
-use Rattle.flm_cli.specs.declared.command.CommandName.TheVariants.{Compare, Inspect}
-use Rattle.flm_cli.proofs.WordsLemmas.{same_name, same_verify}
+use Rattle.flm_cli.proofs.AnswerLemmas.{did_nothing}
 use Rattle.flm_cli.proofs.top.run.Goals as goal
 
-pub returns-in-None-clause-verify : goal.returns-in-None-clause-verify
-returns-in-None-clause-verify g c = λ raw_at board images asked. absurd (c.in-None.ensures (verify raw_at board images) asked)
+pub returns-in-None : goal.returns-in-None
+returns-in-None g c = λ asked given.
+    let b = g.B.Bench.state c.args.bench.now in
+    let i = g.I.Inputs.state c.args.inputs.now in
+    let o = g.O.Sink.state c.args.out.now in
+    subst (λ (a : Option Command). EndsOf a (bench_call g.B.Bench.tells b b) (inputs_call g.I.Inputs.tells i i) (sink_call g.O.Sink.tells o o) (refused refusal.usage))
+    (one_asked c.args.words.now None asked c.in-None.ensures given)
+    (record { answer_is = refl; did = did_nothing g.B.Bench.tells g.O.Sink.tells b o; takes = record { stands = λ name. refl; faults = refl } })
 
-pub returns-in-None-clause-compare : goal.returns-in-None-clause-compare
-returns-in-None-clause-compare g c = λ image asked. absurd (c.in-None.ensures (compare image) asked)
+pub returns-in-Some-NotBuilt : goal.returns-in-Some-NotBuilt
+returns-in-Some-NotBuilt g c = λ asked given.
+    let b = g.B.Bench.state c.args.bench.now in
+    let i = g.I.Inputs.state c.args.inputs.now in
+    let o = g.O.Sink.state c.args.out.now in
+    let read : Asked c.args.words.now (Some not_built) = rw c.in-Some-NotBuilt.field-0-is at c.in-Some-NotBuilt.ensures in
+    subst (λ (a : Option Command). EndsOf a (bench_call g.B.Bench.tells b b) (inputs_call g.I.Inputs.tells i i) (sink_call g.O.Sink.tells o o) (refused refusal.not_built))
+    (one_asked c.args.words.now (Some not_built) asked read given)
+    (record { answer_is = refl; did = did_nothing g.B.Bench.tells g.O.Sink.tells b o; takes = record { stands = λ name. refl; faults = refl } })
 
-pub returns-in-None-clause-inspect : goal.returns-in-None-clause-inspect
-returns-in-None-clause-inspect g c = λ flm asked. absurd (c.in-None.ensures (inspect flm) asked)
+pub verify-requires-clause-no_flm : goal.verify-requires-clause-no_flm
+verify-requires-clause-no_flm g c =
+    let read : Asked c.args.words.now (Some (verify (files_of c.in-Some-Verify.names))) = rw c.in-Some-Verify.field-0-is at c.in-Some-Verify.ensures in
+    read.names.no_flm
 
-pub returns-in-None-clause-untouched : goal.returns-in-None-clause-untouched
-returns-in-None-clause-untouched g c = λ flm asked. absurd (c.in-None.ensures (inspect flm) asked)
+pub verify-requires-clause-may_take : goal.verify-requires-clause-may_take
+verify-requires-clause-may_take g c =
+    let read : Asked c.args.words.now (Some (verify (files_of c.in-Some-Verify.names))) = rw c.in-Some-Verify.field-0-is at c.in-Some-Verify.ensures in
+    c.requires (verify (files_of c.in-Some-Verify.names)) read
 
-pub returns-in-None-clause-not_built : goal.returns-in-None-clause-not_built
-returns-in-None-clause-not_built g c = λ asked. absurd (c.in-None.ensures not_built asked)
-
-pub returns-in-Some-Compare-clause-compare : goal.returns-in-Some-Compare-clause-compare
-returns-in-Some-Compare-clause-compare g c = λ image asked.
-    let given : IsCompare c.args.words.now c.in-Some-Compare.image.now = rw c.in-Some-Compare.field-0-is at c.in-Some-Compare.ensures in
-    subst (λ (name : List ℕ). CompareEnds (bench_call g.B.Bench.tells (g.B.Bench.state c.args.bench.now) (g.B.Bench.state c.compare.new.bench))
-    (inputs_call g.I.Inputs.tells (g.I.Inputs.state c.args.inputs.now) (g.I.Inputs.state c.compare.new.inputs))
-    (sink_call g.O.Sink.tells (g.O.Sink.state c.args.out.now) (g.O.Sink.state c.compare.new.out)) name (answer_of c.compare.result))
-    (same_name Compare c.args.words.now _ image given asked) c.compare.ensures
-
-pub returns-in-Some-Inspect-clause-inspect : goal.returns-in-Some-Inspect-clause-inspect
-returns-in-Some-Inspect-clause-inspect g c = λ flm asked.
-    let given : IsInspect c.args.words.now c.in-Some-Inspect.flm.now = rw c.in-Some-Inspect.field-0-is at c.in-Some-Inspect.ensures in
-    subst (λ (name : List ℕ). InspectEnds
-    (inputs_call g.I.Inputs.tells (g.I.Inputs.state c.args.inputs.now) (g.I.Inputs.state c.inspect.new.inputs))
-    (sink_call g.O.Sink.tells (g.O.Sink.state c.args.out.now) (g.O.Sink.state c.inspect.new.out)) name (answer_of c.inspect.result))
-    (same_name Inspect c.args.words.now _ flm given asked) c.inspect.ensures
-
-pub returns-in-Some-Verify-clause-verify : goal.returns-in-Some-Verify-clause-verify
-returns-in-Some-Verify-clause-verify g c = λ raw_at board images asked.
-    let request = c.in-Some-Verify in
-    let names = names_of request.names in
-    let given : IsVerify c.args.words.now request.raw_at (name_at names 0) (drop 1 names) = rw request.field-0-is at request.ensures in
-    let same = same_verify c.args.words.now request.raw_at raw_at (name_at names 0) board (drop 1 names) images given asked in
-    let Ends : Option ℕ → List ℕ → List (List ℕ) → Type 0 = λ r b i. VerifyEnds
-    (bench_call g.B.Bench.tells (g.B.Bench.state c.args.bench.now) (g.B.Bench.state c.verify.new.bench))
+pub returns-in-Some-Verify : goal.returns-in-Some-Verify
+returns-in-Some-Verify g c = λ asked given.
+    let read : Asked c.args.words.now (Some (verify (files_of c.in-Some-Verify.names))) = rw c.in-Some-Verify.field-0-is at c.in-Some-Verify.ensures in
+    subst (λ (a : Option Command). EndsOf a (bench_call g.B.Bench.tells (g.B.Bench.state c.args.bench.now) (g.B.Bench.state c.verify.new.bench))
     (inputs_call g.I.Inputs.tells (g.I.Inputs.state c.args.inputs.now) (g.I.Inputs.state c.verify.new.inputs))
-    (sink_call g.O.Sink.tells (g.O.Sink.state c.args.out.now) (g.O.Sink.state c.verify.new.out)) r b i (answer_of c.verify.result) in
-    subst (λ (r : Option ℕ). Ends r board images) same.raw_at
-    (subst (λ (b : List ℕ). Ends request.raw_at b images) same.board (subst (λ (i : List (List ℕ)). Ends request.raw_at (name_at names 0) i) same.images c.verify.ensures))
+    (sink_call g.O.Sink.tells (g.O.Sink.state c.args.out.now) (g.O.Sink.state c.verify.new.out)) (answer_of c.verify.result))
+    (one_asked c.args.words.now (Some (verify (files_of c.in-Some-Verify.names))) asked read given) c.verify.ensures
+
+pub compare-requires : goal.compare-requires
+compare-requires g c =
+    let read : Asked c.args.words.now (Some (compare c.in-Some-Compare.image.now)) = rw c.in-Some-Compare.field-0-is at c.in-Some-Compare.ensures in
+    All-head (g.I.Inputs.may_take c.args.inputs.now) c.in-Some-Compare.image.now [] (c.requires (compare c.in-Some-Compare.image.now) read)
+
+pub returns-in-Some-Compare : goal.returns-in-Some-Compare
+returns-in-Some-Compare g c = λ asked given.
+    let read : Asked c.args.words.now (Some (compare c.in-Some-Compare.image.now)) = rw c.in-Some-Compare.field-0-is at c.in-Some-Compare.ensures in
+    subst (λ (a : Option Command). EndsOf a (bench_call g.B.Bench.tells (g.B.Bench.state c.args.bench.now) (g.B.Bench.state c.compare.new.bench))
+    (inputs_call g.I.Inputs.tells (g.I.Inputs.state c.args.inputs.now) (g.I.Inputs.state c.compare.new.inputs))
+    (sink_call g.O.Sink.tells (g.O.Sink.state c.args.out.now) (g.O.Sink.state c.compare.new.out)) (answer_of c.compare.result))
+    (one_asked c.args.words.now (Some (compare c.in-Some-Compare.image.now)) asked read given) c.compare.ensures
+
+pub inspect-requires : goal.inspect-requires
+inspect-requires g c =
+    let read : Asked c.args.words.now (Some (inspect c.in-Some-Inspect.flm.now)) = rw c.in-Some-Inspect.field-0-is at c.in-Some-Inspect.ensures in
+    All-head (g.I.Inputs.may_take c.args.inputs.now) c.in-Some-Inspect.flm.now [] (c.requires (inspect c.in-Some-Inspect.flm.now) read)
+
+pub returns-in-Some-Inspect : goal.returns-in-Some-Inspect
+returns-in-Some-Inspect g c = λ asked given.
+    let read : Asked c.args.words.now (Some (inspect c.in-Some-Inspect.flm.now)) = rw c.in-Some-Inspect.field-0-is at c.in-Some-Inspect.ensures in
+    subst (λ (a : Option Command). EndsOf a (bench_call g.B.Bench.tells (g.B.Bench.state c.args.bench.now) (g.B.Bench.state c.inspect.new.bench))
+    (inputs_call g.I.Inputs.tells (g.I.Inputs.state c.args.inputs.now) (g.I.Inputs.state c.inspect.new.inputs))
+    (sink_call g.O.Sink.tells (g.O.Sink.state c.args.out.now) (g.O.Sink.state c.inspect.new.out)) (answer_of c.inspect.result))
+    (one_asked c.args.words.now (Some (inspect c.in-Some-Inspect.flm.now)) asked read given) c.inspect.ensures

@@ -1,0 +1,145 @@
+-- Files say one thing.
+use Rattle.std.proofs.Common.{◌≡◌, ◌∙◌, sym, ap, subst, refl, arith, ℕ, IsTrue, List, [], ◌∷◌, length, Option, option_to_list, Some, None, Err}
+use Rattle.std.proofs.lemmas.List.{ext_get_or}
+use Rattle.byte_map.specs.Image.{Run}
+use Rattle.board_file.specs.declared.fault.BoardFault.{BoardFault}
+use Rattle.board_file.specs.declared.region.Region.{Region}
+use Rattle.board_file.specs.Shown as board
+use Rattle.board_file.specs.Text.{reading}
+use Rattle.flm_descriptor.specs.Shown as flm
+use Rattle.flm_descriptor.specs.declared.fault.FlmFault.{FlmFault}
+use Rattle.image_set.specs.declared.fault.ImageFault.{ImageFault}
+use Rattle.image_set.specs.Ranges.{IsPlaceFault}
+use Rattle.report_text.specs.Refusal.{Refusal, flm_refused, board_refused, image_refused, image_misplaced}
+use Rattle.command_words.specs.Files.{FilesAsked}
+use Rattle.command_files.specs.Inputs.{InputsCall, FilesGiven, AreEach, AreFiles, Given}
+use Rattle.image_set.specs.Files.{file_at}
+use Rattle.command_files.specs.Files.{IsBoardWith, HasBoard, HasTarget, Aim, range_of, AreRead, IsAim, IsMisplaced, IsImageRefused, IsRefused}
+use Rattle.command_files.proofs.ImageLemmas.{one_union, images_or_refused, one_image_refused, inside_or_fault, one_place_fault}
+
+-- The files that stand under the names.
+
+one_each : (inputs : InputsCall) (names xs ys : List (List ℕ)) → IsTrue inputs.tells → AreEach inputs names xs → AreEach inputs names ys → xs ≡ ys
+one_each inputs names xs ys told one two = ext_get_or [] xs ys (one.count ∙ sym two.count) (λ k less.
+    same_file (file_at xs k) (file_at ys k) (sym (one.each k (omega (arith, less, one.count)) told) ∙ two.each k (omega (arith, less, one.count)) told)) where
+      same_file : (a b : List ℕ) → Some a ≡ Some b → a ≡ b
+      same_file a b same = cc
+
+one_optional : (a b : Option (List ℕ)) → option_to_list a ≡ option_to_list b → a ≡ b
+one_optional None None same = refl
+one_optional None (Some b) same = absurd (cc)
+one_optional (Some a) None same = absurd (cc)
+one_optional (Some a) (Some b) same = cc
+
+pub one_given : (inputs : InputsCall) (asked : FilesAsked) (a b : FilesGiven) → IsTrue inputs.tells → AreFiles inputs asked a → AreFiles inputs asked b → a ≡ b
+one_given inputs asked a b told one two =
+    let x = one.board told in
+    let y = two.board told in
+    let board_same : Some a.board ≡ Some b.board = sym x ∙ y in
+    let board : a.board ≡ b.board = cc in
+    same_record a.board b.board a.flm b.flm a.images b.images board
+    (one_optional a.flm b.flm (one_each inputs (option_to_list asked.flm) (option_to_list a.flm) (option_to_list b.flm) told one.flm two.flm))
+    (one_each inputs asked.images a.images b.images told one.images two.images) where
+      same_record : (x y : List ℕ) (f g : Option (List ℕ)) (is js : List (List ℕ)) → x ≡ y → f ≡ g → is ≡ js
+          → ◌≡◌ {A = FilesGiven} (record { board = x; flm = f; images = is }) (record { board = y; flm = g; images = js })
+      same_record x y f g is js board flm images = cc
+
+-- what holds of the files that were given holds of those that stand under the names
+pub holds_of : (inputs : InputsCall) (asked : FilesAsked) (files : FilesGiven) (Holds : FilesGiven → Type 0) → IsTrue inputs.tells → AreFiles inputs asked files
+    → Given inputs asked Holds → Holds files
+holds_of inputs asked files Holds told are given = subst Holds (one_given inputs asked given.files files told given.are_files are) given.holds
+
+-- What they say.
+
+pub record IsSameBoard (a b : board.Shown) (r s : Region) : Type 0 where
+  pub board : a ≡ b
+  pub region : r ≡ s
+
+one_board : (text : List ℕ) (a b : board.Shown) (r s : Region) → IsBoardWith text a r → IsBoardWith text b s → IsSameBoard a b r s
+one_board text a b r s one two =
+    let x = one.is_board in
+    let y = two.is_board in
+    let same : a ≡ b = cc in
+    let regions : r ∷ [] ≡ s ∷ [] = sym one.only ∙ ap (λ (b : board.Shown). b.regions) same ∙ two.only in
+    record { board = same; region = cc }
+
+-- what is read is one
+pub one_read : (raw_at : Option ℕ) (files : FilesGiven) (a b : Aim) → AreRead raw_at files a → AreRead raw_at files b → a ≡ b
+one_read raw_at files a b one two =
+    let boards = one_board files.board a.board b.board a.region b.region one.board two.board in
+    let x = one.algorithm in
+    let y = two.algorithm in
+    let algorithm : a.algorithm ≡ b.algorithm = cc in
+    same_record a.board b.board a.region b.region a.algorithm b.algorithm a.image b.image boards.board boards.region algorithm
+    (one_union raw_at files.images (length files.images) a.image b.image one.union two.union) where
+      same_record : (x y : board.Shown) (r s : Region) (f g : Option flm.Shown) (i j : List Run) → x ≡ y → r ≡ s → f ≡ g → i ≡ j
+          → ◌≡◌ {A = Aim} (record { board = x; region = r; algorithm = f; image = i }) (record { board = y; region = s; algorithm = g; image = j })
+      same_record x y r s f g i j board region algorithm image = cc
+
+pub one_aim : (asked : FilesAsked) (files : FilesGiven) (a b : Aim) → IsAim asked.raw_at files a → IsAim asked.raw_at files b → a ≡ b
+one_aim asked files a b one two = one_read asked.raw_at files a b one.are_read two.are_read
+
+module _ (asked : FilesAsked) (files : FilesGiven) where
+  misplaced_again : (a b : Aim) (fault : ImageFault) → AreRead asked.raw_at files a → AreRead asked.raw_at files b → IsPlaceFault a.image (range_of a.region) fault
+      → IsPlaceFault b.image (range_of b.region) fault
+  misplaced_again a b fault one two is = subst (λ (x : Aim). IsPlaceFault x.image (range_of x.region) fault) (one_read asked.raw_at files a b one two) is
+
+  -- files that are right aren't refused
+  pub aim_or_refused : (aim : Aim) (r : Refusal) → IsAim asked.raw_at files aim → IsRefused asked files r → ⊥
+  aim_or_refused aim (board_refused fault) one two = let is = one.are_read.board.is_board in cc
+  aim_or_refused aim (flm_refused fault) one two = let is = one.are_read.algorithm in let isn't = two.1 in cc
+  aim_or_refused aim (image_refused name fault) one two =
+      images_or_refused asked.raw_at asked.images files.images name fault aim.image two.1 one.are_read.union
+  aim_or_refused aim (image_misplaced fault) one two = inside_or_fault aim.image (range_of aim.region) fault one.inside
+      (misplaced_again two.aim aim fault two.are_read one.are_read two.is_fault)
+  aim_or_refused aim r one two = two
+
+  -- nor are files refused in two ways
+  board_or_refused : (fault : BoardFault) → HasBoard files → reading files.board ≡ Err fault → ⊥
+  board_or_refused fault has isn't = let is = has.is_board.is_board in cc
+
+  target_or_refused : (fault : FlmFault) → HasTarget files → IsRefused asked files (flm_refused fault) → ⊥
+  target_or_refused fault has refused = let is = has.is_algorithm in let isn't = refused.1 in cc
+
+  has_target : (aim : Aim) → AreRead asked.raw_at files aim → HasTarget files
+  has_target aim are = record {
+    has_board = record { board = aim.board; region = aim.region; is_board = are.board };
+    algorithm = aim.algorithm;
+    is_algorithm = are.algorithm;
+  }
+
+  image_or_misplaced : (name : List ℕ) (a b : ImageFault) → IsImageRefused asked.raw_at asked.images files.images name a → IsMisplaced asked.raw_at files b → ⊥
+  image_or_misplaced name a b one two =
+      images_or_refused asked.raw_at asked.images files.images name a two.aim.image one two.are_read.union
+
+  pub one_refusal : (a b : Refusal) → IsRefused asked files a → IsRefused asked files b → a ≡ b
+  one_refusal (board_refused a) (board_refused b) one two = let same : a ≡ b = cc in ap board_refused same
+  one_refusal (board_refused a) (flm_refused b) one two = absurd (board_or_refused a two.0 one)
+  one_refusal (board_refused a) (image_refused name b) one two = absurd (board_or_refused a two.0.has_board one)
+  one_refusal (board_refused a) (image_misplaced b) one two = absurd (board_or_refused a (has_target two.aim two.are_read).has_board one)
+  one_refusal (board_refused a) b one two = absurd two
+  one_refusal (flm_refused a) (board_refused b) one two = absurd (board_or_refused b one.0 two)
+  one_refusal (flm_refused a) (flm_refused b) one two =
+      let x = one.1 in
+      let y = two.1 in
+      let same : a ≡ b = cc in
+      ap flm_refused same
+  one_refusal (flm_refused a) (image_refused name b) one two = absurd (target_or_refused a two.0 one)
+  one_refusal (flm_refused a) (image_misplaced b) one two = absurd (target_or_refused a (has_target two.aim two.are_read) one)
+  one_refusal (flm_refused a) b one two = absurd two
+  one_refusal (image_refused name a) (board_refused b) one two = absurd (board_or_refused b one.0.has_board two)
+  one_refusal (image_refused name a) (flm_refused b) one two = absurd (target_or_refused b one.0 two)
+  one_refusal (image_refused name a) (image_refused other b) one two =
+      let same = one_image_refused asked.raw_at asked.images files.images name other a b one.1 two.1 in
+      let names_are = same.name in
+      let faults_are = same.fault in
+      cc
+  one_refusal (image_refused name a) (image_misplaced b) one two = absurd (image_or_misplaced name a b one.1 two)
+  one_refusal (image_refused name a) b one two = absurd two
+  one_refusal (image_misplaced a) (board_refused b) one two = absurd (board_or_refused b (has_target one.aim one.are_read).has_board two)
+  one_refusal (image_misplaced a) (flm_refused b) one two = absurd (target_or_refused b (has_target one.aim one.are_read) two)
+  one_refusal (image_misplaced a) (image_refused name b) one two = absurd (image_or_misplaced name b a two.1 one)
+  one_refusal (image_misplaced a) (image_misplaced b) one two = ap image_misplaced (one_place_fault two.aim.image (range_of two.aim.region) a b
+      (misplaced_again one.aim two.aim a one.are_read two.are_read one.is_fault) two.is_fault)
+  one_refusal (image_misplaced a) b one two = absurd two
+  one_refusal a b one two = absurd one

@@ -1,0 +1,40 @@
+use Rattle.std.proofs.Common.{rules, ◌≡◌, ◌+◌, ◌∙◌, sym, ap, subst, arith, ℕ, Bool, List, ◌∷◌, [], ◌++◌, cond, Err}
+use Rattle.std.proofs.lemmas.Option.{get_or_from_slice_get}
+use Rattle.report_text.specs.Shown.{shown}
+use Rattle.command_words.specs.Names.{names_of}
+use Rattle.command_files.specs.Inputs.{inputs_call}
+use Rattle.command_files.specs.Steps.{IsTakeFault}
+use Rattle.command_files.proofs.TakeLemmas.{TakenSoFar, taken_then, untaken_then}
+use Rattle.command_files.proofs.take.take_each.Goals as goal
+
+pub take_one-requires : goal.take_one-requires
+take_one-requires g c =
+    let name = get_or_from_slice_get (names_of c.args.names.now) c.loop-index.index c.name.result.now [] c.name.ensures in
+    c.loop-index.invariant.may_take c.name.result.now
+    (subst (λ (n : List ℕ). g.I.Inputs.may_take c.args.inputs.now n) name (c.requires c.loop-index.index [] (omega arith)))
+
+pub returns-in_err-bytes : goal.returns-in_err-bytes
+returns-in_err-bytes g c =
+    let u = c.from_residual.ensures in
+    let is : c.from_residual.result ≡ Err c.in_err-bytes.field-0.0 = search rules in
+    let name = sym (get_or_from_slice_get (names_of c.args.names.now) c.loop-index.index c.name.result.now [] c.name.ensures) in
+    let fault = subst (λ (n : List ℕ). IsTakeFault (inputs_call g.I.Inputs.tells (g.I.Inputs.state c.loop-index.inputs) (g.I.Inputs.state c.take_one.new.inputs))
+    (n ∷ []) (shown c.in_err-bytes.field-0.0)) name c.in_err-bytes.ensures.takes in
+    rw is (untaken_then (g.I.Inputs.state c.take_one.new.inputs) (shown c.in_err-bytes.field-0.0) c.loop-index.invariant.so_far (omega arith) fault)
+
+pub loop-index-preserved : goal.loop-index-preserved
+loop-index-preserved g c =
+    let names = names_of c.args.names.now in
+    let index = c.loop-index.index in
+    let bytes = c.in_ok-bytes.bytes in
+    let name = sym (get_or_from_slice_get names index c.name.result.now [] c.name.ensures) in
+    let files : c.push.new.self.items ≡ c.loop-index.files.items ++ bytes ∷ [] =
+    c.push.ensures.items ∙ ap (λ (b : Bool). cond b (c.loop-index.files.items ++ bytes ∷ []) c.loop-index.files.items) c.if-is_err.ensures.negation in
+    let then_ = taken_then bytes c.loop-index.invariant.so_far (omega arith)
+    (λ told. ap (λ (n : List ℕ). (g.I.Inputs.state c.loop-index.inputs).stands n) (sym name) ∙ c.in_ok-bytes.ensures.takes.0.each 0 (omega arith) told)
+    c.in_ok-bytes.ensures.stands c.in_ok-bytes.ensures.takes.1 in
+    record {
+      so_far = subst (λ (f : List (List ℕ)). TakenSoFar g.I.Inputs.tells (g.I.Inputs.state c.args.inputs.now) (g.I.Inputs.state c.take_one.new.inputs) names f (index + 1))
+          (sym files) then_;
+      may_take = λ other may. (c.in_ok-bytes.ensures.leave other).1 (c.loop-index.invariant.may_take other may);
+    }

@@ -1,0 +1,10 @@
+use Rattle.std.proofs.Common.{ℕ, List}
+use Rattle.command_words.specs.Names.{names_of}
+use Rattle.command_files.proofs.TakeLemmas.{TakenSoFar}
+use Rattle.command_files.proofs.take.take_each.Given as goal
+
+abbrev pub invariant-loop-index : goal.invariant-loop-index
+invariant-loop-index g l = record {
+  so_far : TakenSoFar g.I.Inputs.tells (g.I.Inputs.state l.initial.inputs) (g.I.Inputs.state l.inputs) (names_of l.names) l.files.items l.index;
+  may_take : (name : List ℕ) → g.I.Inputs.may_take l.initial.inputs name → g.I.Inputs.may_take l.inputs name;
+}

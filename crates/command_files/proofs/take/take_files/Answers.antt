@@ -1,0 +1,65 @@
+use Rattle.std.proofs.Common.{rules, ◌≡◌, ◌∙◌, arith, ◌∷◌, [], ◌++◌, option_to_list, Err}
+use Rattle.std.proofs.lemmas.List.Elements.{All-head, All-tail, All-weaker}
+use Rattle.report_text.specs.Shown.{shown}
+use Rattle.command_words.specs.Requested.{files_of}
+use Rattle.command_files.specs.Inputs.{inputs_call}
+use Rattle.command_files.proofs.TakeLemmas.{all_front, all_back, each_earlier, fault_before, fault_behind}
+use Rattle.command_files.proofs.take.take_files.Goals as goal
+
+pub take_one-requires : goal.take_one-requires
+take_one-requires g c =
+    let asked = files_of c.args.names.now in
+    All-head (g.I.Inputs.may_take c.args.inputs.now) asked.board (option_to_list asked.flm ++ asked.images) c.requires
+
+pub take_optional-requires : goal.take_optional-requires
+take_optional-requires g c =
+    let asked = files_of c.args.names.now in
+    let may = g.I.Inputs.may_take c.args.inputs.now in
+    All-weaker may (g.I.Inputs.may_take c.take_one.new.inputs) (λ name can. (c.in_ok-board.ensures.leave name).1 can) (option_to_list asked.flm)
+    (all_front may (option_to_list asked.flm) asked.images (All-tail may asked.board (option_to_list asked.flm ++ asked.images) c.requires))
+
+pub take_each-requires : goal.take_each-requires
+take_each-requires g c =
+    let asked = files_of c.args.names.now in
+    let may = g.I.Inputs.may_take c.args.inputs.now in
+    All-weaker may (g.I.Inputs.may_take c.take_optional.new.inputs) (λ name can. (c.in_ok-flm.ensures.leave name).1 ((c.in_ok-board.ensures.leave name).1 can)) asked.images
+    (all_back may (option_to_list asked.flm) asked.images (All-tail may asked.board (option_to_list asked.flm ++ asked.images) c.requires))
+
+pub returns-in_err-board : goal.returns-in_err-board
+returns-in_err-board g c =
+    let asked = files_of c.args.names.now in
+    let u = c.from_residual.ensures in
+    let is : c.from_residual.result ≡ Err c.in_err-board.field-0.0 = search rules in
+    rw is (fault_before (inputs_call g.I.Inputs.tells (g.I.Inputs.state c.args.inputs.now) (g.I.Inputs.state c.take_one.new.inputs)) (asked.board ∷ [])
+    (option_to_list asked.flm ++ asked.images) (shown c.in_err-board.field-0.0) c.in_err-board.ensures.takes)
+
+pub returns-in_err-flm : goal.returns-in_err-flm
+returns-in_err-flm g c =
+    let asked = files_of c.args.names.now in
+    let r = shown c.in_err-flm.field-0.0 in
+    let u = c.from_residual-in_err-flm.ensures in
+    let is : c.from_residual-in_err-flm.result ≡ Err c.in_err-flm.field-0.0 = search rules in
+    rw is (fault_behind (g.I.Inputs.state c.take_optional.new.inputs) (option_to_list asked.flm ++ asked.images) r c.in_ok-board.ensures.takes.0
+    c.in_ok-board.ensures.stands c.in_ok-board.ensures.takes.1
+    (fault_before (inputs_call g.I.Inputs.tells (g.I.Inputs.state c.take_one.new.inputs) (g.I.Inputs.state c.take_optional.new.inputs)) (option_to_list asked.flm)
+    asked.images r c.in_err-flm.ensures.takes))
+
+pub returns-in_err-images : goal.returns-in_err-images
+returns-in_err-images g c =
+    let asked = files_of c.args.names.now in
+    let r = shown c.in_err-images.field-0.0 in
+    let u = c.from_residual-in_err-images.ensures in
+    let is : c.from_residual-in_err-images.result ≡ Err c.in_err-images.field-0.0 = search rules in
+    rw is (fault_behind (g.I.Inputs.state c.take_each.new.inputs) (option_to_list asked.flm ++ asked.images) r c.in_ok-board.ensures.takes.0
+    c.in_ok-board.ensures.stands c.in_ok-board.ensures.takes.1
+    (fault_behind (g.I.Inputs.state c.take_each.new.inputs) asked.images r c.in_ok-flm.ensures.takes.0 c.in_ok-flm.ensures.stands c.in_ok-flm.ensures.takes.1 c.in_err-images.ensures))
+
+pub returns : goal.returns
+returns g c = (
+  record {
+    board = λ told. c.in_ok-board.ensures.takes.0.each 0 (omega arith) told;
+    flm = each_earlier c.in_ok-flm.ensures.takes.0 c.in_ok-board.ensures.stands;
+    images = each_earlier c.in_ok-images.ensures.0 (λ name. c.in_ok-flm.ensures.stands name ∙ c.in_ok-board.ensures.stands name);
+  },
+  c.in_ok-images.ensures.1 ∙ c.in_ok-flm.ensures.takes.1 ∙ c.in_ok-board.ensures.takes.1,
+)

@@ -1,0 +1,115 @@
+-- What the steps answer that take and read a command's files.
+use Rattle.std.specs.Prelude.{◌≡◌, ◌≤◌, ◌+◌, ◌^◌, ◌⊎◌, ℕ, List, length, slice_get, Option, Some, Result, Ok, Err, option_map}
+use Rattle.faults.specs.Counts.{Rose}
+use Rattle.byte_map.specs.Image.{Run}
+use Rattle.board_file.specs.declared.region.Region.{Region}
+use Rattle.board_file.specs.declared.board.Board.{Board}
+use Rattle.board_file.specs.Shown as board
+use Rattle.board_file.specs.Text.{reading, IsBoard}
+use Rattle.flm_descriptor.specs.Shown as flm
+use Rattle.flm_descriptor.specs.declared.algorithm.Algorithm.{Algorithm}
+use Rattle.image_set.specs.declared.fault.ImageFault.{ImageFault}
+use Rattle.image_set.specs.Read.{IsImage, IsFault}
+use Rattle.image_set.specs.Union.{IsUnion}
+use Rattle.report_text.specs.Refusal as refusal
+use Rattle.report_text.specs.Shown.{shown}
+use Rattle.report_text.specs.declared.refusal.Refusal.{Refusal}
+use Rattle.command_words.specs.Files.{FilesAsked}
+use Rattle.command_files.specs.Inputs.{InputsCall, FilesGiven, AreEach, AreFiles, IsUntaken}
+use Rattle.image_set.specs.Files.{IsUnionBefore}
+use Rattle.command_files.specs.Files.{algorithm_of, Clashes, IsImageRefused, Aim, IsAim, IsRefused}
+use Rattle.command_files.specs.declared.take.Files.{Files}
+use Rattle.command_files.specs.declared.wanted.Device.{Device}
+use Rattle.command_files.specs.declared.wanted.Wanted.{Wanted}
+
+-- Taking the files of some names.
+
+-- why it ends early; no fault is counted for want of memory
+abbrev pub IsTakeFault : InputsCall → List (List ℕ) → refusal.Refusal → Type 0
+IsTakeFault inputs names refusal.out_of_memory = inputs.after.faults ≡ inputs.before.faults
+IsTakeFault inputs names (refusal.input_fault name) =
+    (inputs.before.faults ≤ inputs.after.faults) × Rose inputs.before.faults inputs.after.faults × IsUntaken inputs names name
+IsTakeFault inputs names _ = ⊥
+
+abbrev pub TakesEach : InputsCall → List (List ℕ) → Result (List (List ℕ)) Refusal → Type 0
+TakesEach inputs names (Ok files) = AreEach inputs names files × (inputs.after.faults ≡ inputs.before.faults)
+TakesEach inputs names (Err e) = IsTakeFault inputs names (shown e)
+
+-- the bytes of files that were taken
+abbrev pub bytes_of : Files → FilesGiven
+bytes_of files = record { board = files.board; flm = files.flm; images = files.images.items }
+
+abbrev pub TakesFiles : InputsCall → FilesAsked → List (List ℕ) → Result Files Refusal → Type 0
+TakesFiles inputs asked names (Ok files) = AreFiles inputs asked (bytes_of files) × (inputs.after.faults ≡ inputs.before.faults)
+TakesFiles inputs asked names (Err e) = IsTakeFault inputs names (shown e)
+
+-- Reading the files.
+
+-- the device is the first of some regions
+pub record IsFirstRegion (regions : List Region) (device : Device) : Type 0 where
+  pub region : Region
+  pub first : slice_get regions 0 ≡ Some region
+  pub base_is : device.base ≡ region.base
+  pub size_is : device.size ≡ region.size
+  pub ends : device.base + device.size ≤ 2 ^ 32
+
+abbrev pub IsBoardRefusal : List ℕ → refusal.Refusal → Type 0
+IsBoardRefusal text refusal.out_of_memory = Unit {0}
+IsBoardRefusal text (refusal.board_refused fault) = reading text ≡ Err fault
+IsBoardRefusal text _ = ⊥
+
+abbrev pub ReadsBoard : List ℕ → Result Board Refusal → Type 0
+ReadsBoard text (Ok b) = IsBoard text (board.shown b)
+ReadsBoard text (Err e) = IsBoardRefusal text (shown e)
+
+abbrev pub IsFlmRefusal : Option (List ℕ) → refusal.Refusal → Type 0
+IsFlmRefusal file refusal.out_of_memory = Unit {0}
+IsFlmRefusal file (refusal.flm_refused fault) = algorithm_of file ≡ Err fault
+IsFlmRefusal file _ = ⊥
+
+abbrev pub ReadsAlgorithm : Option (List ℕ) → Result (Option Algorithm) Refusal → Type 0
+ReadsAlgorithm file (Ok algorithm) = algorithm_of file ≡ Ok (option_map flm.shown algorithm)
+ReadsAlgorithm file (Err e) = IsFlmRefusal file (shown e)
+
+-- a file's image was added to those before it
+pub record Adds (raw_at : Option ℕ) (file : List ℕ) (before after : List Run) : Type 0 where
+  pub image : List Run
+  pub is_image : IsImage raw_at file image
+  pub union : IsUnion before image after
+
+-- why it was not
+abbrev pub IsAddFault : Option ℕ → List ℕ → List Run → ImageFault → Type 0
+IsAddFault raw_at file before fault = IsFault raw_at file fault ⊎ Clashes raw_at file before fault
+
+abbrev pub IsImagesRefusal : Option ℕ → List (List ℕ) → List (List ℕ) → refusal.Refusal → Type 0
+IsImagesRefusal raw_at names files refusal.out_of_memory = Unit {0}
+IsImagesRefusal raw_at names files (refusal.image_refused name fault) = IsImageRefused raw_at names files name fault
+IsImagesRefusal raw_at names files _ = ⊥
+
+abbrev pub ReadsImages : Option ℕ → List (List ℕ) → List (List ℕ) → Result (List Run) Refusal → Type 0
+ReadsImages raw_at names files (Ok image) = IsUnionBefore raw_at files (length files) image
+ReadsImages raw_at names files (Err e) = IsImagesRefusal raw_at names files (shown e)
+
+-- what is wanted, with the region of its board
+abbrev pub aim_of : Wanted → Region → Aim
+aim_of wanted region = record {
+  board = board.shown wanted.board;
+  region = region;
+  algorithm = option_map flm.shown wanted.algorithm;
+  image = wanted.image;
+}
+
+pub record IsWanted (raw_at : Option ℕ) (files : FilesGiven) (wanted : Wanted) : Type 0 where
+  pub region : Region
+  pub is_aim : IsAim raw_at files (aim_of wanted region)
+  pub base_is : wanted.device.base ≡ region.base
+  pub size_is : wanted.device.size ≡ region.size
+  pub ends : wanted.device.base + wanted.device.size ≤ 2 ^ 32
+
+abbrev pub IsFilesRefusal : FilesAsked → FilesGiven → refusal.Refusal → Type 0
+IsFilesRefusal asked files refusal.out_of_memory = Unit {0}
+IsFilesRefusal asked files r = IsRefused asked files r
+
+abbrev pub ReadsFiles : FilesAsked → FilesGiven → Result Wanted Refusal → Type 0
+ReadsFiles asked files (Ok wanted) = IsWanted asked.raw_at files wanted
+ReadsFiles asked files (Err e) = IsFilesRefusal asked files (shown e)

@@ -1,0 +1,22 @@
+-- The command that a request is.
+use Rattle.std.specs.Prelude.{option_copied}
+use Rattle.command_words.specs.Files.{FilesAsked}
+use Rattle.command_words.specs.Words.{Command, verify, compare, inspect, not_built}
+use Rattle.command_words.specs.Names.{names_of}
+use Rattle.command_words.specs.declared.command.FileNames.{FileNames}
+use Rattle.command_words.specs.declared.command.Request.{Request}
+use Rattle.command_words.specs.declared.command.Request.TheVariants.{Verify, Compare, Inspect, NotBuilt}
+
+abbrev pub files_of : FileNames → FilesAsked
+files_of files = record {
+  raw_at = files.raw_at;
+  board = files.board.now;
+  flm = option_copied files.flm;
+  images = names_of files.images;
+}
+
+abbrev pub command_of : Request → Command
+command_of (Verify files) = verify (files_of files)
+command_of (Compare image) = compare image.now
+command_of (Inspect flm) = inspect flm.now
+command_of NotBuilt = not_built

@@ -1,0 +1,173 @@
+-- What the words of a command line ask for.
+use Rattle.std.specs.Prelude.{◌≡◌, ◌≤◌, ◌<◌, ◌^◌, ◌⊎◌, ℕ, Bool, true, false, List, [], ◌∷◌, ◌++◌, length, All, slice_index, codes, Option, Some, None}
+use Rattle.std.specs.Str.Parse.{IsNumeral, digits_value}
+use Rattle.command_words.specs.Files.{FilesAsked, names_in}
+use Rattle.command_words.specs.declared.command.CommandName.{CommandName}
+use Rattle.command_words.specs.declared.command.CommandName.TheVariants.{Program, Resume, Revert, Plan, Verify, Compare, Status, Inspect, Demo}
+
+-- the first word, which names the command
+abbrev pub text_of : CommandName → List ℕ
+text_of Program = codes "program"
+text_of Resume = codes "resume"
+text_of Revert = codes "revert"
+text_of Plan = codes "plan"
+text_of Verify = codes "verify"
+text_of Compare = codes "compare"
+text_of Status = codes "status"
+text_of Inspect = codes "inspect"
+text_of Demo = codes "demo"
+
+abbrev pub is_built : CommandName → Bool
+is_built Verify = true
+is_built Compare = true
+is_built Inspect = true
+is_built _ = false
+
+-- an option begins with `-` and is longer than one byte
+abbrev pub IsOption : List ℕ → Type 0
+IsOption word = (slice_index word 0 ≡ 45) × (1 < length word)
+
+abbrev pub HasNoOption : List (List ℕ) → Type 0
+HasNoOption words = All (λ word. IsOption word → ⊥) words
+
+-- `--`, which ends the options
+abbrev pub dashes : List ℕ
+dashes = codes "--"
+
+-- no word is an option: each is positional
+pub record AllPositional (words positional : List (List ℕ)) : Type 0 where
+  pub plain : HasNoOption words
+  pub all : positional ≡ words
+
+-- the first `--` ends the options: each other word is positional, and none before it is an option
+pub record EndedByDashes (words positional : List (List ℕ)) : Type 0 where
+  pub before : List (List ℕ)
+  pub after : List (List ℕ)
+  pub plain : HasNoOption before
+  pub words_are : words ≡ before ++ dashes ∷ after
+  pub others : positional ≡ before ++ after
+
+-- the positional words among those after the name of a command that has no options
+abbrev pub Positional : List (List ℕ) → List (List ℕ) → Type 0
+Positional words positional = AllPositional words positional ⊎ EndedByDashes words positional
+
+-- the command with exactly one name
+pub record HasOneName (command : CommandName) (words : List (List ℕ)) (name : List ℕ) : Type 0 where
+  pub others : List (List ℕ)
+  pub words_are : words ≡ text_of command ∷ others
+  pub one : Positional others (name ∷ [])
+
+-- `compare IMAGE`
+abbrev pub IsCompare : List (List ℕ) → List ℕ → Type 0
+IsCompare words image = HasOneName Compare words image
+
+-- `inspect FLM`
+abbrev pub IsInspect : List (List ℕ) → List ℕ → Type 0
+IsInspect words flm = HasOneName Inspect words flm
+
+-- An address: `0x` with 1 to 8 hexadecimal digits, or decimal digits of a value below 2^32. It has no sign.
+
+pub record IsHexadecimal (word : List ℕ) (at : ℕ) : Type 0 where
+  pub digits : List ℕ
+  pub word_is : word ≡ codes "0x" ++ digits
+  pub numeral : IsNumeral 16 digits
+  pub few : length digits ≤ 8
+  pub value : at ≡ digits_value 16 digits
+
+pub record IsDecimal (word : List ℕ) (at : ℕ) : Type 0 where
+  pub numeral : IsNumeral 10 word
+  pub small : digits_value 10 word < 2 ^ 32
+  pub value : at ≡ digits_value 10 word
+
+abbrev pub IsAddress : List ℕ → ℕ → Type 0
+IsAddress word at = IsHexadecimal word at ⊎ IsDecimal word at
+
+-- The option `--raw-at ADDR`, two words, or `--raw-at=ADDR`, one word.
+
+abbrev pub raw_at_name : List ℕ
+raw_at_name = codes "--raw-at"
+
+abbrev pub raw_at_equals : List ℕ
+raw_at_equals = codes "--raw-at="
+
+pub record InTwoWords (option : List (List ℕ)) (at : ℕ) : Type 0 where
+  pub address : List ℕ
+  pub words_are : option ≡ raw_at_name ∷ address ∷ []
+  pub is_address : IsAddress address at
+
+pub record InOneWord (option : List (List ℕ)) (at : ℕ) : Type 0 where
+  pub address : List ℕ
+  pub words_are : option ≡ (raw_at_equals ++ address) ∷ []
+  pub is_address : IsAddress address at
+
+abbrev pub IsRawAt : List (List ℕ) → ℕ → Type 0
+IsRawAt option at = InTwoWords option at ⊎ InOneWord option at
+
+-- the option stands once, before any `--`; without it the words have the positional ones and no other option
+pub record HasRawAt (words : List (List ℕ)) (at : ℕ) (positional : List (List ℕ)) : Type 0 where
+  pub before : List (List ℕ)
+  pub option : List (List ℕ)
+  pub after : List (List ℕ)
+  pub words_are : words ≡ before ++ (option ++ after)
+  pub is_option : IsRawAt option at
+  pub plain : HasNoOption before
+  pub others : Positional (before ++ after) positional
+
+-- the words after the name of a command that may have this option
+abbrev pub AreArguments : List (List ℕ) → Option ℕ → List (List ℕ) → Type 0
+AreArguments words None positional = Positional words positional
+AreArguments words (Some at) positional = HasRawAt words at positional
+
+-- how many images there may be: one of raw bytes, else 1 to 16
+abbrev pub AreFew : Option ℕ → ℕ → Type 0
+AreFew None images = (1 ≤ images) × (images ≤ 16)
+AreFew (Some at) images = images ≡ 1
+
+-- the words after a command's name are a board and images, with as many images as there may be, and no FLM file
+pub record HasBoardAndImages (words : List (List ℕ)) (files : FilesAsked) : Type 0 where
+  pub arguments : AreArguments words files.raw_at (files.board ∷ files.images)
+  pub no_flm : files.flm ≡ None
+  pub few : AreFew files.raw_at (length files.images)
+
+-- `verify [--raw-at ADDR] BOARD IMAGE...`
+pub record IsVerify (words : List (List ℕ)) (files : FilesAsked) : Type 0 where
+  pub others : List (List ℕ)
+  pub words_are : words ≡ text_of Verify ∷ others
+  pub names : HasBoardAndImages others files
+
+-- the first word names a command that isn't built, whatever the other words are
+pub record IsNotBuilt (words : List (List ℕ)) : Type 0 where
+  pub name : CommandName
+  pub others : List (List ℕ)
+  pub words_are : words ≡ text_of name ∷ others
+  pub not_built : is_built name ≡ false
+
+-- What words ask for: a command, with the names of its files.
+
+pub data Command : Type 0 where
+  verify : (files : FilesAsked) → Command
+  compare : (image : List ℕ) → Command
+  inspect : (flm : List ℕ) → Command
+  not_built : Command
+
+abbrev pub Asks : List (List ℕ) → Command → Type 0
+Asks words (verify files) = IsVerify words files
+Asks words (compare image) = IsCompare words image
+Asks words (inspect flm) = IsInspect words flm
+Asks words not_built = IsNotBuilt words
+
+-- the names of the files that a command may take, in the order of the words
+abbrev pub names_asked : Command → List (List ℕ)
+names_asked (verify files) = names_in files
+names_asked (compare image) = image ∷ []
+names_asked (inspect flm) = flm ∷ []
+names_asked not_built = []
+
+-- the words fit no command
+abbrev pub AsksNothing : List (List ℕ) → Type 0
+AsksNothing words = (command : Command) → Asks words command → ⊥
+
+-- what the words ask for: this command, or nothing
+abbrev pub Asked : List (List ℕ) → Option Command → Type 0
+Asked words (Some command) = Asks words command
+Asked words None = AsksNothing words

@@ -1,0 +1,121 @@
+-- What each answer says, whatever the command.
+use Rattle.std.specs.Prelude.{◌≡◌, ◌≤◌, ◌<◌, ◌⊎◌, ℕ, Bool, true, false, List, Option, Some, None}
+use Rattle.faults.specs.Counts.{Rose}
+use Rattle.report_text.specs.Refusal.{Refusal, out_of_memory, usage, input_fault, image_too_long, flm_refused, board_refused, image_refused, image_misplaced, cells_differ, device_fault, output_fault, differs, not_built}
+use Rattle.command_files.specs.Inputs.{InputsCall, IsUntaken}
+use Rattle.flm_cli.specs.Call.{BenchCall, SinkCall, Call, TookNothing, IsUntouched, Answer, done, refused, Says}
+
+-- Faults.
+
+pub data Fault : Type 0 where
+  input : Fault
+  store : Fault
+  device : Fault
+  output : Fault
+
+-- the fault that an answer is
+abbrev pub fault_in : Answer → Option Fault
+fault_in (refused (input_fault name)) = Some input
+fault_in (refused device_fault) = Some device
+fault_in (refused output_fault) = Some output
+fault_in _ = None
+
+-- a fault is answered only where its count rose, and where its count became greater it is answered
+pub record IsCounted (before after : ℕ) (fault : Fault) (answer : Answer) : Type 0 where
+  pub later : before ≤ after
+  pub only : fault_in answer ≡ Some fault → Rose before after
+  pub answered : before < after → fault_in answer ≡ Some fault
+
+pub record AreCounted (bench : BenchCall) (inputs : InputsCall) (out : SinkCall) (answer : Answer) : Type 0 where
+  pub inputs_count : IsCounted inputs.before.faults inputs.after.faults input answer
+  pub store_count : IsCounted bench.before.store_faults bench.after.store_faults store answer
+  pub device_count : IsCounted bench.before.device_faults bench.after.device_faults device answer
+  pub out_count : IsCounted out.before.faults out.after.faults output answer
+
+-- The refusals of each command.
+
+abbrev pub has_verify : Refusal → Bool
+has_verify out_of_memory = true
+has_verify (input_fault name) = true
+has_verify (board_refused fault) = true
+has_verify (image_refused name fault) = true
+has_verify (image_misplaced fault) = true
+has_verify (cells_differ wanted found) = true
+has_verify device_fault = true
+has_verify output_fault = true
+has_verify (differs at wanted found) = true
+has_verify _ = false
+
+abbrev pub has_compare : Refusal → Bool
+has_compare out_of_memory = true
+has_compare (input_fault name) = true
+has_compare (image_too_long bytes cells) = true
+has_compare device_fault = true
+has_compare output_fault = true
+has_compare (differs at wanted found) = true
+has_compare _ = false
+
+abbrev pub has_inspect : Refusal → Bool
+has_inspect out_of_memory = true
+has_inspect (input_fault name) = true
+has_inspect (flm_refused fault) = true
+has_inspect output_fault = true
+has_inspect _ = false
+
+-- Yielding: want of memory may be answered in place of any answer, and so may a fault, by its count.
+
+abbrev pub yields : Answer → Bool
+yields (refused out_of_memory) = true
+yields (refused (input_fault name)) = true
+yields (refused device_fault) = true
+yields (refused output_fault) = true
+yields _ = false
+
+-- the answer is the one that is due, or yields
+abbrev pub IsUnless : Answer → Answer → Type 0
+IsUnless answer due = (answer ≡ due) ⊎ (yields answer ≡ true)
+
+-- the same, and where it yields no more was done than this
+abbrev pub Refuses : Type 0 → Answer → Refusal → Type 0
+Refuses Done answer refusal = (answer ≡ refused refusal) ⊎ ((yields answer ≡ true) × Done)
+
+-- What stands after the refusals that come before any work.
+
+-- the bench is as it was, and nothing went to `out`
+pub record DidNothing (bench : BenchCall) (out : SinkCall) : Type 0 where
+  pub untouched : IsUntouched bench
+  pub prints : TookNothing out
+
+-- statuses 2 to 7, and 14
+abbrev pub StandsEarly : BenchCall → SinkCall → Answer → Type 0
+StandsEarly bench out (refused usage) = DidNothing bench out
+StandsEarly bench out (refused (input_fault name)) = DidNothing bench out
+StandsEarly bench out (refused (image_too_long bytes cells)) = DidNothing bench out
+StandsEarly bench out (refused (image_refused name fault)) = DidNothing bench out
+StandsEarly bench out (refused (image_misplaced fault)) = DidNothing bench out
+StandsEarly bench out (refused (flm_refused fault)) = DidNothing bench out
+StandsEarly bench out (refused (board_refused fault)) = DidNothing bench out
+StandsEarly bench out (refused (cells_differ wanted found)) = DidNothing bench out
+StandsEarly bench out (refused not_built) = DidNothing bench out
+StandsEarly bench out _ = Unit {0}
+
+-- the answer is done, or a refusal that passes the test
+abbrev pub IsOf : (Refusal → Bool) → Answer → Type 0
+IsOf has done = Unit {0}
+IsOf has (refused refusal) = has refusal ≡ true
+
+-- What holds of the work of each command that has these refusals and may ask for these files, whatever the objects tell:
+-- which refusals it has, its counts of faults, what stands after an early refusal, and that it asks for no other file.
+pub record EndsLawfully (bench : BenchCall) (inputs : InputsCall) (out : SinkCall) (has : Refusal → Bool) (names : List (List ℕ)) (answer : Answer) : Type 0 where
+  pub kind : IsOf has answer
+  pub counts : AreCounted bench inputs out answer
+  pub stands : StandsEarly bench out answer
+  pub untaken : (name : List ℕ) → answer ≡ refused (input_fault name) → IsUntaken inputs names name
+
+-- A call whose work ends so: its answer, its status and its line on `err`.
+pub record AnswersBy (call : Call) (Ends : BenchCall → InputsCall → SinkCall → Answer → Type 0) : Type 0 where
+  pub answer : Answer
+  pub says : Says call.status call.err answer
+  -- status 0 is nothing else than done
+  pub zero : call.status ≡ 0 → answer ≡ done
+  pub ends : Ends call.bench call.inputs call.out answer

@@ -1,8 +1,0 @@
-//! A law of the words.
-ghost use Rattle.std.specs.Prelude.{◌≡◌, ℕ, List};
-ghost use Rattle.flm_cli.specs.Words as words;
-
-/// A list of words asks for at most one command.
-pub fn words_ask_for_one_command()
-    ensures { (given : List (List ℕ)) (one other : words.Command) → words.Asks given one → words.Asks given other → one ≡ other }
-{}

@@ -1,0 +1,10 @@
+//! The cells of a device, read back: into a buffer, or against the bytes that they are to hold. No call takes memory.
+#![tactic(auto)]
+
+mod cells;
+mod compare;
+#[cfg(test)]
+mod tests;
+
+pub use cells::read_cells;
+pub use compare::{Difference, first_difference};
