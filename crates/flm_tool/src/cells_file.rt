@@ -9,6 +9,8 @@ use std::os::unix::fs::FileExt;
 const CHUNK: usize = 256;
 
 /// A cells file with its open operation. One that can't be opened fails at every call.
+///
+/// Its cells are pending from the moment it is opened: a run that was killed may have written them and not synced them.
 #[derive(Drop)]
 pub struct CellsFile {
     file: Option<File>,
@@ -26,9 +28,9 @@ impl CellsFile {
             Err(_) => (None, 0),
         };
         let cells = CellsFile {
+            pending: file.is_some(),
             file,
             operation: None,
-            pending: false,
             guard: SyncGuard::new(),
         };
         (cells, count)
@@ -90,7 +92,8 @@ impl CellsFile {
         Ok(())
     }
 
-    /// Brings the cells to the disk that were written since they were last synced. Once that has failed it always does.
+    /// Brings the cells to the disk that may have been written since they were last synced. Once that has failed it
+    /// always does.
     pub fn sync(&mut self) -> io::Result<()> {
         if !self.pending {
             return Ok(());

@@ -1,4 +1,5 @@
 //! The job file and the cells file as a bench.
+ghost use Rattle.std.specs.Prelude.{◌<◌, ◌^◌};
 ghost use Rattle.faults.specs.Counts.{HasCause};
 
 use crate::cells_file::CellsFile;
@@ -10,8 +11,8 @@ use std::io;
 
 /// A bench over two files of the system. It tells no contents.
 ///
-/// Before the job file is written or cut, cells that were written since they were last synced are synced: a host that
-/// loses power never has the later job file with the earlier cells.
+/// Before the job file is first written or cut, the cells are synced, and before each later time again where cells were
+/// written since: a host that loses power never has the later job file with the earlier cells.
 #[derive(Drop)]
 pub struct FileBench {
     job: JobFile,
@@ -19,6 +20,7 @@ pub struct FileBench {
     cell_count: u32,
     store_faults: FaultCount,
     device_faults: FaultCount,
+    ghost few: { cell_count < 2 ^ 32 },
 }
 
 impl FileBench {
@@ -74,11 +76,17 @@ impl Bench for FileBench {
 
     ghost state = { λ b. untold_state b.cell_count b.store_faults b.device_faults };
 
+    ghost acts = { λ before act after. Unit {0} };
+
     ghost as_read = { λ b told. untold_law told };
 
     ghost as_told = { λ b cells told. untold_law told };
 
     ghost all_told = { λ b told. untold_law told };
+
+    ghost few = { λ b. b.few };
+
+    ghost inside = { λ b told. untold_law told };
 
     fn file_len(&mut self) -> Result<u64, StoreFault> {
         let answer = self.job.len();

@@ -35,10 +35,22 @@ fn read_file(rt: HostRuntime, alloc: Global, path: &str) -> io::Result<Vec<u8>>
 {
     let mut file = File::open(&rt, path)?;
     let size = file.metadata()?.len().min(LONGEST as u64) as usize;
-    let mut bytes = Vec::with_capacity(alloc, size)?;
+    read_to_end(&mut file, Vec::with_capacity(alloc, size)?)
+}
+
+/// Appends what a reader gives up to its end. More than `LONGEST` bytes are an error. A read that a signal interrupted
+/// is taken up again.
+pub fn read_to_end<R: Read>(reader: &mut R, mut bytes: Vec<u8>) -> io::Result<Vec<u8>>
+    requires { vec_len bytes ≤ LONGEST }
+    ensures { IfOk result (λ read. vec_len read ≤ LONGEST) }
+{
     let mut chunk = [0; CHUNK];
     for _ in 0..u64::MAX {
-        let count = file.read(&mut chunk)?;
+        let count = match reader.read(&mut chunk) {
+            Ok(count) => count,
+            Err(fault) if fault.kind() == ErrorKind::Interrupted => continue,
+            Err(fault) => return Err(fault),
+        };
         if count == 0 {
             return Ok(bytes);
         }

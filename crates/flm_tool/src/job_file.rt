@@ -2,10 +2,10 @@
 use crate::sync_guard::SyncGuard;
 use octets::Word;
 use std::fs::{File, OpenOptions};
-use std::io;
 use std::io::ErrorKind;
 use std::os::unix::fs::FileExt;
 use std::path::Path;
+use std::{fs, io};
 
 /// A job file, which its first call opens, and makes where it is missing.
 #[derive(Drop)]
@@ -30,7 +30,7 @@ impl JobFile {
     /// The file, opened.
     fn open(&mut self) -> io::Result<&File> {
         if self.file.is_none() {
-            self.file = Some(open_or_make(self.rt, self.name.text())?);
+            self.file = Some(open_or_make(self.rt, self.name.text(), &mut self.guard)?);
         }
         self.file
             .as_ref()
@@ -57,7 +57,7 @@ impl JobFile {
         self.open()?.set_len(len)
     }
 
-    /// Brings the file to the disk. Once that has failed it always does.
+    /// Brings the file to the disk. Once that has failed, or the sync of its folder, it always does.
     pub fn sync(&mut self) -> io::Result<()> {
         self.open()?;
         match &self.file {
@@ -67,25 +67,43 @@ impl JobFile {
     }
 }
 
-/// Opens a job file, or makes it. An empty one, as it is when it was just made, has its entry in its directory synced,
-/// so that a host which loses power still finds the file under its name.
-fn open_or_make(rt: HostRuntime, name: &str) -> io::Result<File> {
-    let file = OpenOptions::new()
-        .read(true)
-        .write(true)
-        .create(true)
-        .open(&rt, name)?;
-    if file.metadata()?.len() == 0 {
-        sync_entry(rt, name)?;
+/// Opens a job file, or makes it. An empty one, as it is when it was just made, has its entry in its folder synced, so
+/// that a host which loses power still finds the file under its name.
+fn open_or_make(rt: HostRuntime, name: &str, guard: &mut SyncGuard) -> io::Result<File> {
+    match OpenOptions::new().read(true).write(true).open(&rt, name) {
+        Ok(file) => {
+            if file.metadata()?.len() == 0 {
+                guard.sync(&open_real_folder(rt, name)?)?;
+            }
+            Ok(file)
+        }
+        Err(fault) if fault.kind() == ErrorKind::NotFound => make(rt, name, guard),
+        Err(fault) => Err(fault),
     }
+}
+
+/// Makes a job file where there is none. A link that leads to no file is an error, and so is a folder that can't be opened
+/// for its sync: then no file is made.
+fn make(rt: HostRuntime, name: &str, guard: &mut SyncGuard) -> io::Result<File> {
+    let folder = open_folder(rt, Path::new(name))?;
+    let file = File::create_new(&rt, name)?;
+    guard.sync(&folder)?;
     Ok(file)
 }
 
-/// Syncs the directory in which a file stands.
-fn sync_entry(rt: HostRuntime, name: &str) -> io::Result<()> {
-    let folder = match Path::new(name).parent() {
-        Some(folder) if !folder.as_os_str().is_empty() => folder,
-        _ => Path::new("."),
-    };
-    File::open(&rt, folder)?.sync_all()
+/// Opens the folder in which a file stands. Where its name is that of a link, that is the folder to which it leads.
+fn open_real_folder(rt: HostRuntime, name: &str) -> io::Result<File> {
+    if fs::symlink_metadata(&rt, name)?.is_symlink() {
+        open_folder(rt, fs::canonicalize(&rt, name)?.as_path())
+    } else {
+        open_folder(rt, Path::new(name))
+    }
+}
+
+/// Opens the folder of this path's last name.
+fn open_folder(rt: HostRuntime, path: Path<'_>) -> io::Result<File> {
+    match path.parent() {
+        Some(folder) if !folder.as_os_str().is_empty() => File::open(&rt, folder),
+        _ => File::open(&rt, "."),
+    }
 }

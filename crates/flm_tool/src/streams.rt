@@ -1,0 +1,24 @@
+//! The numbers of the standard streams, which no file of the program's may get.
+use std::fs::File;
+use std::io;
+use std::os::fd::{AsRawFd, IntoRawFd};
+
+/// What takes the number of a stream that is closed.
+const NULL_DEVICE: &str = "/dev/null";
+
+/// The numbers of standard input, output and error are 0 to this.
+const LAST_STREAM: i32 = 2;
+
+/// Takes those of the standard streams' numbers that are free, so that no file which is opened later stands under one
+/// of them and is printed over. The system gives a file the lowest free number. They are taken for reading only, so
+/// whatever is put on a stream that was closed still fails.
+pub fn hold_streams(rt: HostRuntime) -> io::Result<()> {
+    for _ in 0..=LAST_STREAM {
+        let held = File::open(&rt, NULL_DEVICE)?;
+        if held.as_raw_fd() > LAST_STREAM {
+            break;
+        }
+        let _number = held.into_raw_fd();
+    }
+    Ok(())
+}

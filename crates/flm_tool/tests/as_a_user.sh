@@ -1,0 +1,113 @@
+#!/bin/bash
+# Runs the built program as a user does, and compares its status and what it writes on both streams.
+#   bash tests/as_a_user.sh [PROGRAM]        (from crates/flm_tool; PROGRAM is out/flm_tool unless it is given)
+# It works in a folder of its own, and ends with status 0 where all is as wanted.
+set -u
+program=$(realpath "${1:-out/flm_tool}") || exit 1
+folder=$(mktemp -d) || exit 1
+trap 'rm -rf "$folder"' EXIT
+cd "$folder" || exit 1
+right=0
+wrong=0
+
+# Compares what a run gave with what was wanted: NAME, then wanted and found by turns.
+same() {
+    local name=$1
+    shift
+    while [ $# -ge 2 ]; do
+        if [ "$1" != "$2" ]; then
+            echo "$name: wanted '$1', found '$2'"
+            wrong=$((wrong + 1))
+            return
+        fi
+        shift 2
+    done
+    right=$((right + 1))
+}
+
+# A run of the program: the wanted status, standard output and standard error, and then its words.
+run() {
+    local status=$1 out=$2 err=$3
+    shift 3
+    "$program" "$@" > out 2> err
+    same "$*" "$status" $? "$out" "$(cat out)" "$err" "$(cat err)"
+}
+
+printf '\1\2\377\377' > cells
+cp cells before
+printf '\1\2' > same
+printf '\1\2\63' > other
+printf '12345' > long
+printf '' > empty
+cat > board.toml <<'BOARD'
+[ram]
+base = 0x20000000
+size = 4096
+[[region]]
+base = 0x08000000
+sectors = [[1, 4]]
+[controller]
+base = 0x40022000
+BOARD
+printf ':020000040800F2\n:020000000102FB\n:00000001FF\n' > right.hex
+printf ':020000040800F2\n:020000000103FA\n:00000001FF\n' > wrong.hex
+
+usage='flmprog: usage: flm_tool JOB CELLS COMMAND [WORDS]'
+
+# Each status that the built commands have without a fault of the system, with both streams.
+run 0 same '' job cells compare same
+run 0 same '' job cells compare empty
+run 0 same '' job cells verify board.toml right.hex
+run 0 same '' job cells verify --raw-at 0x08000000 board.toml same
+run 2 '' "$usage"
+run 2 '' "$usage" job cells
+run 2 '' "$usage" job cells compare
+run 2 '' "$usage" job cells compare same other
+run 2 '' "$usage" job cells compare --no-such same
+run 3 '' 'flmprog: cannot read missing' job cells compare missing
+run 3 '' 'flmprog: cannot read .' job cells compare .
+run 4 '' 'flmprog: image: 5 bytes for 4 cells' job cells compare long
+run 4 '' 'flmprog: image: 2 bytes for 0 cells' job missing compare same
+run 13 '' 'flmprog: differs at 00000002 wanted 33 found FF' job cells compare other
+run 13 '' 'flmprog: differs at 08000001 wanted 03 found 02' job cells verify board.toml wrong.hex
+run 14 '' 'flmprog: not built' job cells status
+
+# Words that aren't UTF-8: the command keeps its own answer.
+run 2 '' "$usage" job cells compare $'\377'
+run 2 '' "$usage" $'\377' cells compare same
+run 2 '' "$usage" job $'\377' compare same
+run 2 '' "$usage" job cells $'\377' same
+run 14 '' 'flmprog: not built' job cells status $'\377'
+run 14 '' 'flmprog: not built' $'\377' cells status
+
+# A stream that is closed: nothing is printed into a file, and what can't be printed on standard output is status 10.
+for words in 'compare same' 'verify board.toml right.hex'; do
+    "$program" job cells $words > out 2> err <&-
+    same "$words, no input" 0 $? same "$(cat out)" '' "$(cat err)"
+    "$program" job cells $words 2> err >&-
+    same "$words, no output" 10 $? 'flmprog: output fault' "$(cat err)"
+    "$program" job cells $words > out 2>&-
+    same "$words, no error" 0 $? same "$(cat out)"
+    "$program" job cells $words <&- >&- 2>&-
+    same "$words, no stream" 10 $?
+done
+"$program" job cells compare other 2> err >&-
+same 'differs, no output' 13 $? 'flmprog: differs at 00000002 wanted 33 found FF' "$(cat err)"
+"$program" job cells compare other > out 2>&-
+same 'differs, no error' 13 $? '' "$(cat out)"
+"$program" job cells compare other <&- >&- 2>&-
+same 'differs, no stream' 13 $?
+"$program" job cells compare same > /dev/full 2> err
+same 'a full output' 10 $? 'flmprog: output fault' "$(cat err)"
+
+# An input of more than one reading, from a pipe too.
+head -c 9000 /dev/zero | tr '\0' '\7' > many
+cp many many_cells
+run 0 same '' job many_cells compare many
+out=$(cat many | "$program" job many_cells compare /dev/stdin)
+same 'from a pipe' 0 $? same "$out"
+
+same 'the cells' 0 "$(cmp -s cells before; echo $?)" 0 "$(cmp -s many_cells many; echo $?)"
+same 'no job file is made' no "$([ -e job ] && echo yes || echo no)"
+echo "$right right, $wrong wrong"
+[ "$wrong" = 0 ]
