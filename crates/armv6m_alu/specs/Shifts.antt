@@ -4,10 +4,7 @@
 use Rattle.std.specs.Prelude.{ℕ, ◌-◌, ◌*◌, ◌/◌, ◌%◌, ◌^◌, Bool, false, nat_eq, nat_lt, if◌then◌else◌}
 use Rattle.std.specs.Int.{w32, cast_signed, cast_unsigned, int_shr, rotate_right}
 use Rattle.armv6m_alu.specs.declared.Shifted.{Shifted}
-
--- bit k of n is 1
-abbrev pub is_bit_set : ℕ → ℕ → Bool
-is_bit_set n k = nat_eq (n / 2 ^ k % 2) 1
+use Rattle.armv6m_alu.specs.Bits.{is_bit_set}
 
 abbrev pub shifted : ℕ → Bool → Shifted
 shifted value carry = record { value = value; carry = carry }

@@ -1,8 +1,9 @@
-//! The sum with carry, the shifts and the rotation of 32-bit numbers, as Armv6-M instructions use them: Armv6-M
-//! Architecture Reference Manual, A2.2.1 "Integer arithmetic". Every function is total and takes no memory.
+//! The sum with carry, the shifts, the rotation and the sign extension of 32-bit numbers, as Armv6-M instructions use them:
+//! Armv6-M Architecture Reference Manual, A2.2.1 "Integer arithmetic". Every function is total and takes no memory.
 #![tactic(auto)]
 
-ghost use Rattle.std.specs.Prelude.{◌≡◌};
+ghost use Rattle.std.specs.Prelude.{◌≡◌, ◌<◌, ◌^◌};
+ghost use Rattle.armv6m_alu.specs.Bits.{sign_extended};
 ghost use Rattle.armv6m_alu.specs.Sums.{sum_with_carry, is_sign_lost};
 ghost use Rattle.armv6m_alu.specs.Shifts.{shifted_left, shifted_right, shifted_right_signed, rotated_right};
 
@@ -44,7 +45,7 @@ pub fn add_with_carry(x: u32, y: u32, carry: bool) -> Sum
     }
 }
 
-// Two terms of one sign have a sum of the other sign.
+/// Two terms of one sign have a sum of the other sign.
 fn overflows(x_sign: bool, y_sign: bool, sum_sign: bool) -> bool
     ensures { result ≡ is_sign_lost x_sign y_sign sum_sign }
 {
@@ -140,5 +141,22 @@ pub fn rotate_right(value: u32, amount: u32, carry: bool) -> Shifted
             value: rotated,
             carry: (rotated >> 31) % 2 == 1,
         }
+    }
+}
+
+/// A number of so many bits, the highest of which is its sign, extended to 32 bits: the manual's `SignExtend()`.
+#[inline(always)]
+#[tactic(auto, using(crate::proofs::PowerLemmas::powers, std::proofs::lemmas::Bool::Decides::nat_tests))]
+pub fn sign_extend(value: u32, bits: u32) -> u32
+    requires some { 0 < bits }
+    requires fewer { bits < 32 }
+    requires fits { value < 2 ^ bits }
+    ensures { result ≡ sign_extended bits value }
+{
+    let sign = 1 << (bits - 1);
+    if value < sign {
+        value
+    } else {
+        value + (u32::MAX - (2 * sign - 1))
     }
 }

@@ -7,7 +7,7 @@ use Rattle.armv6m_forms.specs.declared.form.Aim.TheVariants as aims
 use Rattle.armv6m_asm.specs.declared.statement.Operation.{Operation}
 use Rattle.armv6m_asm.specs.declared.statement.Operation.TheVariants as operations
 use Rattle.armv6m_asm.specs.declared.statement.Statement.{Statement}
-use Rattle.armv6m_asm.specs.Assembly.{is_wide, aim_width, nop, size_of, end_of, AlignPads}
+use Rattle.armv6m_asm.specs.Assembly.{is_wide, aim_width, nop, size_of, place_after, AlignPads}
 
 sum_even : (a b : ℕ) → a % 2 ≡ 0 → b % 2 ≡ 0 → (a + b) % 2 ≡ 0
 sum_even a b even also = omega arith
@@ -34,7 +34,7 @@ size_even operations.Align at = padding_even (at % 4 == 0)
 size_even (operations.Plain i) at = either_even (is_wide i)
 size_even (operations.Aimed aim t) at = aim_even aim
 
-end_even : (from : ℕ) (statements : List Statement) → from % 2 ≡ 0 → end_of from statements % 2 ≡ 0
+end_even : (from : ℕ) (statements : List Statement) → from % 2 ≡ 0 → place_after from statements % 2 ≡ 0
 end_even from [] even = even
 end_even from (s ∷ statements) even = end_even (from + size_of s.operation from) statements (sum_even from (size_of s.operation from) even (size_even s.operation from))
 
@@ -43,4 +43,4 @@ pads at true even is = let zero : at % 4 ≡ 0 = grind (arith, nat_tests) in ome
 pads at false even is = let other : at % 4 ≡ 0 → ⊥ = grind (arith, nat_tests) in omega arith
 
 pub align_pads : AlignPads
-align_pads statements = let at = end_of 0 statements in pads at (at % 4 == 0) (end_even 0 statements refl) refl
+align_pads statements = let at = place_after 0 statements in pads at (at % 4 == 0) (end_even 0 statements refl) refl

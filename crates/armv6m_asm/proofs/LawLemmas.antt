@@ -3,6 +3,10 @@ use Rattle.std.proofs.Common.{◌≡◌, ◌<◌, ◌≤◌, ◌+◌, ◌==◌, 
 use Rattle.std.specs.Borrow.{Bor}
 use Rattle.std.specs.Str.Parse.{digits_value}
 use Rattle.armv6m_decode.specs.declared.instr.Instr.{Instr}
+use Rattle.armv6m_decode.specs.declared.condition.Condition.{Condition}
+use Rattle.armv6m_decode.specs.declared.condition.Condition.TheVariants as conditions
+use Rattle.armv6m_decode.specs.Conditions.{condition_code}
+use Rattle.armv6m_decode.proofs.ConditionLemmas.{one_condition}
 use Rattle.armv6m_forms.specs.declared.mnemonic.Mnemonic.{Mnemonic}
 use Rattle.armv6m_forms.specs.declared.mnemonic.Mnemonic.TheVariants as mnemonics
 use Rattle.armv6m_forms.specs.declared.form.Operands.{Operands}
@@ -22,7 +26,7 @@ use Rattle.armv6m_asm.specs.Token.{Token, word, mark, tokens_of}
 use Rattle.armv6m_asm.specs.Statement.{is_name, IsAddress, Are, number, low_register, comma, target, Spell, ArePlain, AreAimed, AreOperation, AreStatement}
 use Rattle.armv6m_asm.specs.Alike.{AreAlikeTargets, AreAlikeOperations, AreAlikeLabels, OneStatementForEachLine}
 use Rattle.armv6m_asm.specs.Reading.{is_text}
-use Rattle.armv6m_asm.proofs.WordLemmas.{each_in, number_of-number}
+use Rattle.armv6m_asm.proofs.WordLemmas.{number_in-number}
 use Rattle.armv6m_asm.proofs.OperandLemmas.{one_spelling}
 use Rattle.armv6m_asm.proofs.StatementLemmas.{one_register, no_colon}
 
@@ -50,22 +54,33 @@ key_of bytes =
 
 key : Aim → ℕ
 key aims.Branch = 1
-key (aims.BranchIf condition) = 5 + condition
+key (aims.BranchIf condition) = 5 + condition_code condition
 key aims.BranchLink = 2
 key (aims.Load t) = 3
 key (aims.Address d) = 4
 
-condition_key : (condition : ℕ) → condition < 14 → key_of (codes "B" ++ condition_text condition) ≡ 5 + condition
+condition_key : (condition : Condition) → key_of (codes "B" ++ condition_text condition) ≡ 5 + condition_code condition
 unfolding key_of condition_text
-condition_key condition below =
-    each_in (λ c. key_of (codes "B" ++ condition_text c) ≡ 5 + c) 14 0 condition
-    (refl, (refl, (refl, (refl, (refl, (refl, (refl, (refl, (refl, (refl, (refl, (refl, (refl, (refl, tt)))))))))))))) (omega arith) (omega arith)
+condition_key conditions.Equal = refl
+condition_key conditions.NotEqual = refl
+condition_key conditions.CarrySet = refl
+condition_key conditions.CarryClear = refl
+condition_key conditions.Minus = refl
+condition_key conditions.Plus = refl
+condition_key conditions.Overflow = refl
+condition_key conditions.NoOverflow = refl
+condition_key conditions.Higher = refl
+condition_key conditions.LowerOrSame = refl
+condition_key conditions.GreaterOrEqual = refl
+condition_key conditions.LessThan = refl
+condition_key conditions.GreaterThan = refl
+condition_key conditions.LessOrEqual = refl
 
 aimed_key : (aim : Aim) (to : Target) (bytes : List ℕ) (rest : List Token) → AreAimed aim to (word bytes ∷ rest) → key_of bytes ≡ key aim
 unfolding key key_of aim_text
 aimed_key aims.Branch to bytes rest is = let same : bytes ≡ codes "B" = let e = is.0 in cc in ap key_of same
 aimed_key (aims.BranchIf condition) to bytes rest is =
-    let same : bytes ≡ codes "B" ++ condition_text condition = let e = is.1.0 in cc in ap key_of same ∙ condition_key condition is.0
+    let same : bytes ≡ codes "B" ++ condition_text condition = let e = is.0 in cc in ap key_of same ∙ condition_key condition
 aimed_key aims.BranchLink to bytes rest is = let same : bytes ≡ codes "BL" = let e = is.0 in cc in ap key_of same
 aimed_key (aims.Load t) to bytes rest is = let same : bytes ≡ codes "LDR" = let e = is.0 in cc in ap key_of same
 aimed_key (aims.Address d) to bytes rest is = let same : bytes ≡ codes "ADR" = let e = is.0 in cc in ap key_of same
@@ -219,8 +234,8 @@ aim_sort : (aim : Aim) (to : Target) (tokens : List Token) → AreAimed aim to t
 unfolding sort directive aim_text
 aim_sort aims.Branch to [] is = absurd is
 aim_sort aims.Branch to (token ∷ rest) is = let e = is.0 in rw e refl
-aim_sort (aims.BranchIf condition) to [] is = absurd is.1
-aim_sort (aims.BranchIf condition) to (token ∷ rest) is = let e = is.1.0 in rw e refl
+aim_sort (aims.BranchIf condition) to [] is = absurd is
+aim_sort (aims.BranchIf condition) to (token ∷ rest) is = let e = is.0 in rw e refl
 aim_sort aims.BranchLink to [] is = absurd is
 aim_sort aims.BranchLink to (token ∷ rest) is = let e = is.0 in rw e refl
 aim_sort (aims.Load t) to [] is = absurd is
@@ -305,7 +320,7 @@ one_aimed aims.Branch aims.BranchLink to too bytes rest same x y = absurd (omega
 one_aimed aims.Branch (aims.Load d) to too bytes rest same x y = absurd (omega (arith, same))
 one_aimed aims.Branch (aims.Address d) to too bytes rest same x y = absurd (omega (arith, same))
 one_aimed (aims.BranchIf c) aims.Branch to too bytes rest same x y = absurd (omega (arith, same))
-one_aimed (aims.BranchIf c) (aims.BranchIf d) to too bytes rest same x y = (ap aims.BranchIf (omega (arith, same)), one_last_target to too rest x.1.1 y.1.1)
+one_aimed (aims.BranchIf c) (aims.BranchIf d) to too bytes rest same x y = (ap aims.BranchIf (one_condition c d (omega (arith, same))), one_last_target to too rest x.1 y.1)
 one_aimed (aims.BranchIf c) aims.BranchLink to too bytes rest same x y = absurd (omega (arith, same))
 one_aimed (aims.BranchIf c) (aims.Load d) to too bytes rest same x y = absurd (omega (arith, same))
 one_aimed (aims.BranchIf c) (aims.Address d) to too bytes rest same x y = absurd (omega (arith, same))
@@ -395,7 +410,7 @@ one_plain one other bytes rest x y =
 
 one_value : (a b : ℕ) (tokens : List Token) → Are (number a ∷ []) tokens → Are (number b ∷ []) tokens → a ≡ b
 one_value a b [] x y = absurd x
-one_value a b (word bytes ∷ rest) x y = let p = number_of-number bytes a x.0 in let q = number_of-number bytes b y.0 in cc
+one_value a b (word bytes ∷ rest) x y = let p = number_in-number bytes a x.0 in let q = number_in-number bytes b y.0 in cc
 one_value a b (mark byte ∷ rest) x y = absurd x.0
 
 -- operations of one sort, of tokens that begin with a word

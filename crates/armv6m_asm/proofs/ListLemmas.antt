@@ -4,13 +4,13 @@ use Rattle.std.specs.List.{AllByRecursion, IsDistinct, flat_map}
 use Rattle.std.specs.Int.{bit_at}
 use Rattle.std.proofs.lemmas.Nat.{or_disjoint}
 use Rattle.std.proofs.lemmas.Nat.Bits.{bit_at-lt, bit_at_or, and_pow, bit_at-pow_same, bit_at-pow_other, bit_at-zero}
-use Rattle.armv6m_decode.specs.Rows.{bit}
+use Rattle.armv6m_alu.specs.Bits.{is_bit_set}
 use Rattle.armv6m_forms.specs.Text.{register_text}
 use Rattle.armv6m_asm.specs.declared.symbol.Symbol.{Symbol}
 use Rattle.armv6m_asm.specs.declared.symbol.Symbol.TheVariants.{Register, Special, Number, Interrupts, Comma, Hash, Exclamation, OpenBracket, CloseBracket, OpenBrace, CloseBrace, Other}
 use Rattle.armv6m_asm.specs.Token.{Token, word, mark}
 use Rattle.armv6m_asm.specs.Statement.{register, list_tokens, AreList}
-use Rattle.armv6m_asm.specs.Reading.{register_in, with_register, is_comma, ends_list, list_of, symbol_of}
+use Rattle.armv6m_asm.specs.Reading.{register_in, with_one_more, is_comma, ends_list, list_of, symbol_of}
 use Rattle.armv6m_asm.proofs.SymbolLemmas.{Stands-register, Stands-comma, Stands-close_brace}
 use Rattle.armv6m_asm.proofs.WordLemmas.{each_register}
 
@@ -25,37 +25,37 @@ fits_more list = each_register (Fits_more list)
 
 -- a register and a comma
 pub list_of-more : (list more : ℕ) (symbols : List Symbol) (register next : Symbol) (behind rest : List Symbol) → symbols ≡ register ∷ behind → behind ≡ next ∷ rest
-    → next ≡ Comma → with_register list (register_in register) ≡ Some more → list_of list symbols ≡ list_of more rest
+    → next ≡ Comma → with_one_more list (register_in register) ≡ Some more → list_of list symbols ≡ list_of more rest
 unfolding list_of
 list_of-more list more symbols register next behind rest first second comma is = rw (first, second, comma, is) refl
 
 -- ---- bits
 
 -- a bit that isn't set, as a number
-pub clear : (list r : ℕ) → bit r list ≡ false → bit_at list r ≡ 0
+pub clear : (list r : ℕ) → is_bit_set list r ≡ false → bit_at list r ≡ 0
 clear list r h =
     let small = bit_at-lt list r in
     let other : bit_at list r ≢ 1 = λ one. let e = eq-eqb (bit_at list r) 1 one in cc in
     omega arith
 
-clear_too : (list r : ℕ) → bit_at list r ≡ 0 → bit r list ≡ false
+clear_too : (list r : ℕ) → bit_at list r ≡ 0 → is_bit_set list r ≡ false
 clear_too list r h = ne_eqb (bit_at list r) 1 (λ one. absurd (omega arith))
 
 -- a number with a power of two that it doesn't have yet
-more_is_or : (list r : ℕ) → bit r list ≡ false → bit_or list (2 ^ r) ≡ list + 2 ^ r
+more_is_or : (list r : ℕ) → is_bit_set list r ≡ false → bit_or list (2 ^ r) ≡ list + 2 ^ r
 more_is_or list r h = or_disjoint list (2 ^ r) (and_pow list r ∙ ap (λ b. b * 2 ^ r) (clear list r h) ∙ zero-mul (2 ^ r))
 
-bit_of_more : (list r k : ℕ) → bit r list ≡ false → bit_at (list + 2 ^ r) k ≡ max (bit_at list k) (bit_at (2 ^ r) k)
+bit_of_more : (list r k : ℕ) → is_bit_set list r ≡ false → bit_at (list + 2 ^ r) k ≡ max (bit_at list k) (bit_at (2 ^ r) k)
 bit_of_more list r k h = ap (λ n. bit_at n k) (sym (more_is_or list r h)) ∙ bit_at_or list (2 ^ r) k
 
-clear_more : (list r k : ℕ) → bit r list ≡ false → bit k list ≡ false → k ≢ r → bit k (list + 2 ^ r) ≡ false
+clear_more : (list r k : ℕ) → is_bit_set list r ≡ false → is_bit_set list k ≡ false → k ≢ r → is_bit_set (list + 2 ^ r) k ≡ false
 clear_more list r k h here other =
     clear_too (list + 2 ^ r) k (omega (arith, bit_of_more list r k h, clear list k here, bit_at-pow_other r k other))
 
-clear_before : (list r k : ℕ) → bit r list ≡ false → bit k (list + 2 ^ r) ≡ false → bit k list ≡ false
+clear_before : (list r k : ℕ) → is_bit_set list r ≡ false → is_bit_set (list + 2 ^ r) k ≡ false → is_bit_set list k ≡ false
 clear_before list r k h after = clear_too list k (omega (arith, bit_of_more list r k h, clear (list + 2 ^ r) k after))
 
-others_clear : (list r k : ℕ) → bit r list ≡ false → bit k (list + 2 ^ r) ≡ false → (r == k) ≡ false
+others_clear : (list r k : ℕ) → is_bit_set list r ≡ false → is_bit_set (list + 2 ^ r) k ≡ false → (r == k) ≡ false
 others_clear list r k h after = ne_eqb r k (λ same.
     absurd (omega (arith, bit_of_more list r k h, clear (list + 2 ^ r) k after, bit_at-pow_same r, ap (λ n. bit_at (2 ^ r) n) same)))
 
@@ -65,7 +65,7 @@ abbrev Below : List ℕ → Type 0
 Below registers = AllByRecursion (λ r. r < 16) registers
 
 abbrev Clear : ℕ → List ℕ → Type 0
-Clear list registers = AllByRecursion (λ r. bit r list ≡ false) registers
+Clear list registers = AllByRecursion (λ r. is_bit_set list r ≡ false) registers
 
 abbrev with_all : ℕ → List ℕ → ℕ
 with_all list registers = fold (λ sum r. sum + 2 ^ r) list registers
@@ -84,28 +84,28 @@ below_all (r ∷ registers) below zero d less = below.0
 below_all (r ∷ registers) below (suc k) d less = below_all registers below.1 k d (omega arith)
 
 -- registers that aren't in a list aren't in it with another register
-clear_all : (list r : ℕ) (registers : List ℕ) → bit r list ≡ false → Clear list registers → AllByRecursion (λ k. (r == k) ≡ false) registers
+clear_all : (list r : ℕ) (registers : List ℕ) → is_bit_set list r ≡ false → Clear list registers → AllByRecursion (λ k. (r == k) ≡ false) registers
     → Clear (list + 2 ^ r) registers
 clear_all list r [] h all others = tt
 clear_all list r (k ∷ registers) h all others =
     (clear_more list r k h all.0 (λ same. let e = eq-eqb r k (sym same) in let f = others.0 in cc), clear_all list r registers h all.1 others.1)
 
-clear_all_before : (list r : ℕ) (registers : List ℕ) → bit r list ≡ false → Clear (list + 2 ^ r) registers → Clear list registers
+clear_all_before : (list r : ℕ) (registers : List ℕ) → is_bit_set list r ≡ false → Clear (list + 2 ^ r) registers → Clear list registers
 clear_all_before list r [] h all = tt
 clear_all_before list r (k ∷ registers) h all = (clear_before list r k h all.0, clear_all_before list r registers h all.1)
 
-others_all : (list r : ℕ) (registers : List ℕ) → bit r list ≡ false → Clear (list + 2 ^ r) registers → AllByRecursion (λ k. (r == k) ≡ false) registers
+others_all : (list r : ℕ) (registers : List ℕ) → is_bit_set list r ≡ false → Clear (list + 2 ^ r) registers → AllByRecursion (λ k. (r == k) ≡ false) registers
 others_all list r [] h all = tt
 others_all list r (k ∷ registers) h all = (others_clear list r k h all.0, others_all list r registers h all.1)
 
 -- ---- from the definition to the function
 
 -- a register that isn't there yet
-with_new : (list r : ℕ) (token : Token) → register r token → bit r list ≡ false
-    → with_register list (register_in (symbol_of token)) ≡ Some (list + 2 ^ r)
+with_new : (list r : ℕ) (token : Token) → register r token → is_bit_set list r ≡ false
+    → with_one_more list (register_in (symbol_of token)) ≡ Some (list + 2 ^ r)
 with_new list r token is new = rw ((Stands-register r).is token is, new) refl
 
-last_register : (list r : ℕ) (token : Token) (close : Token) → register r token → bit r list ≡ false → close ≡ mark 125
+last_register : (list r : ℕ) (token : Token) (close : Token) → register r token → is_bit_set list r ≡ false → close ≡ mark 125
     → list_of list (symbol_of token ∷ symbol_of close ∷ []) ≡ Some (list + 2 ^ r)
 unfolding list_of
 last_register list r token close is new end = rw (Stands-close_brace.is close end, with_new list r token is new) refl
@@ -194,17 +194,17 @@ pub record HasRegisters (before list : ℕ) (tokens : List Token) : Type 0 where
 pub record IsNew (before more : ℕ) (token : Token) : Type 0 where
   pub number : ℕ
   pub is : register number token
-  pub new : bit number before ≡ false
+  pub new : is_bit_set before number ≡ false
   pub more_is : more ≡ before + 2 ^ number
 
 with_bit : (v : Bool) (sum more : ℕ) → (if v then None else Some sum) ≡ Some more → (v ≡ false) × (more ≡ sum)
 with_bit true sum more is = absurd (cc)
 with_bit false sum more is = (refl, (let same : more ≡ sum = cc in same))
 
-new_from : (before more : ℕ) (token : Token) (found : Option ℕ) → register_in (symbol_of token) ≡ found → with_register before found ≡ Some more → IsNew before more token
+new_from : (before more : ℕ) (token : Token) (found : Option ℕ) → register_in (symbol_of token) ≡ found → with_one_more before found ≡ Some more → IsNew before more token
 new_from before more token None there is = absurd (cc)
 new_from before more token (Some r) there is =
-    let it = with_bit (bit r before) (before + 2 ^ r) more is in
+    let it = with_bit (is_bit_set before r) (before + 2 ^ r) more is in
     record { number = r; is = (Stands-register r).only token (register_in_is (symbol_of token) r there); new = it.0; more_is = it.1 }
 
 one_more : (before more list : ℕ) (token comma : Token) (rest : List Token) → IsNew before more token → comma ≡ mark 44
@@ -242,11 +242,11 @@ no_tokens (token ∷ rest) is = absurd (cc)
 -- by what stands behind the first register
 split : (comma close : Bool) (before list : ℕ) (token next : Token) (rest : List Token) → is_comma (symbol_of next) ≡ comma → ends_list (symbol_of next ∷ map symbol_of rest) ≡ close
     → ((more : ℕ) → list_of more (map symbol_of rest) ≡ Some list → HasRegisters more list rest)
-    → (if comma then option_and_then (λ more. list_of more (map symbol_of rest)) (with_register before (register_in (symbol_of token)))
-    else if close then with_register before (register_in (symbol_of token)) else None) ≡ Some list
+    → (if comma then option_and_then (λ more. list_of more (map symbol_of rest)) (with_one_more before (register_in (symbol_of token)))
+    else if close then with_one_more before (register_in (symbol_of token)) else None) ≡ Some list
     → HasRegisters before list (token ∷ next ∷ rest)
-split true close before list token next rest is_c is_e later is = at (with_register before (register_in (symbol_of token))) refl is where
-  at : (made : Option ℕ) → with_register before (register_in (symbol_of token)) ≡ made → option_and_then (λ more. list_of more (map symbol_of rest)) made ≡ Some list
+split true close before list token next rest is_c is_e later is = at (with_one_more before (register_in (symbol_of token))) refl is where
+  at : (made : Option ℕ) → with_one_more before (register_in (symbol_of token)) ≡ made → option_and_then (λ more. list_of more (map symbol_of rest)) made ≡ Some list
       → HasRegisters before list (token ∷ next ∷ rest)
   at None made is = absurd (cc)
   at (Some more) made is =

@@ -112,7 +112,7 @@ no_branch bytes n first other aim is same = other (sym first ∙ ap (λ (b : Lis
 pub branch_aimed : (aim : Aim) (to : Target) (bytes : List ℕ) (tokens : List Token) → IsBranch aim → aim_text aim ≡ bytes → Are (target to ∷ []) tokens
     → AreAimed aim to (word bytes ∷ tokens)
 branch_aimed aims.Branch to bytes tokens branch is aimed = (ap word (sym is), aimed)
-branch_aimed (aims.BranchIf condition) to bytes tokens branch is aimed = (branch, (ap word (sym is), aimed))
+branch_aimed (aims.BranchIf condition) to bytes tokens branch is aimed = (ap word (sym is), aimed)
 branch_aimed aims.BranchLink to bytes tokens branch is aimed = (ap word (sym is), aimed)
 branch_aimed (aims.Load t) to bytes tokens branch is aimed = absurd branch
 branch_aimed (aims.Address d) to bytes tokens branch is aimed = absurd branch
@@ -128,7 +128,7 @@ pub no_aimed : (bytes : List ℕ) (tokens : List Token)
     → (aim : Aim) (to : Target) → AreAimed aim to (word bytes ∷ tokens) → ⊥
 no_aimed bytes tokens load address branch aims.Branch to is = branch aims.Branch tt (sym (same_word bytes (aim_text aims.Branch) is.0)) to is.1
 no_aimed bytes tokens load address branch (aims.BranchIf condition) to is =
-    branch (aims.BranchIf condition) is.0 (sym (same_word bytes (aim_text (aims.BranchIf condition)) is.1.0)) to is.1.1
+    branch (aims.BranchIf condition) tt (sym (same_word bytes (aim_text (aims.BranchIf condition)) is.0)) to is.1
 no_aimed bytes tokens load address branch aims.BranchLink to is = branch aims.BranchLink tt (sym (same_word bytes (aim_text aims.BranchLink) is.0)) to is.1
 no_aimed bytes tokens load address branch (aims.Load t) to is = load (same_word bytes (aim_text (aims.Load t)) is.0 ∙ load_text t) t to is.1
 no_aimed bytes tokens load address branch (aims.Address d) to is = address (same_word bytes (aim_text (aims.Address d)) is.0 ∙ address_text d) d to is.1
@@ -181,7 +181,7 @@ no_colon bytes rest (operations.Plain instr) is =
     let none = colon_is_no_operand rest in
     cc
 no_colon bytes rest (operations.Aimed aims.Branch to) is = no_colon_target to is.1.0
-no_colon bytes rest (operations.Aimed (aims.BranchIf condition) to) is = no_colon_target to is.1.1.0
+no_colon bytes rest (operations.Aimed (aims.BranchIf condition) to) is = no_colon_target to is.1.0
 no_colon bytes rest (operations.Aimed aims.BranchLink to) is = no_colon_target to is.1.0
 no_colon bytes rest (operations.Aimed (aims.Load t) to) is = let e = is.1.0.0 in cc
 no_colon bytes rest (operations.Aimed (aims.Address d) to) is = let e = is.1.0.0 in cc

@@ -19,10 +19,10 @@ use Rattle.armv6m_asm.specs.declared.fault.AsmFault.{AsmFault}
 use Rattle.armv6m_asm.specs.declared.fault.AsmFault.TheVariants.{BadWord, TwiceLabel, NoLabel, OutOfReach, OutOfMemory}
 use Rattle.armv6m_asm.specs.Usable.{IsUsable}
 use Rattle.armv6m_asm.specs.Label.{names_of}
-use Rattle.armv6m_asm.specs.Assembly.{size_of, end_of, label_at, labels_of, AreOnce, named_by, targets_of, LeadsTo, code_of, AreBytes, GoesBeyond, IsRight, IsBad, AreRead, IsFirstBad, IsReadAs, HasLabelsOnce, HasTargets, IsAssembled, IsRefused}
+use Rattle.armv6m_asm.specs.Assembly.{size_of, place_after, label_at, labels_of, AreOnce, named_by, targets_of, LeadsTo, code_of, AreBytes, GoesBeyond, IsRight, IsBad, AreRead, IsFirstBad, AreOfText, HasLabelsOnce, HasTargets, IsAssembled, IsRefused}
 use Rattle.armv6m_asm.specs.Passes.{ReadsAll, IsReadFault, FindsLabels, AddsLabels, IsAddFault, IsLabelFault, IsMissingFault, IsTargetFault, AddsCode, AddsBytes, IsBeyondFault, IsCodeFault}
 use Rattle.armv6m_asm.proofs.Widths.{length-code_of, aimed_width}
-use Rattle.armv6m_asm.proofs.Places.{end_of-append, labels_of-append, targets_of-append, read_append, read_long, bytes_append, split_at, end_more, end_of-take}
+use Rattle.armv6m_asm.proofs.Places.{place_after-append, labels_of-append, targets_of-append, read_append, read_long, bytes_append, split_at, end_more, place_after-take}
 use Rattle.armv6m_asm.proofs.Names.{no_name_twice, once_more}
 
 -- the statement of an empty line
@@ -37,7 +37,7 @@ pub record HasRead (text : List ℕ) (from place : ℕ) (statements : List State
   pub lines_are : lines_of text ≡ before ++ lines_of (drop from text)
   pub read : AreRead 0 before statements
   pub usable : All IsUsable statements
-  pub place_is : place ≡ end_of 0 statements
+  pub place_is : place ≡ place_after 0 statements
   pub fits : place < 2 ^ 32
 
 pub read_nothing : (text : List ℕ) → HasRead text 0 0 []
@@ -54,7 +54,7 @@ read_more text from place next statements line s behind h lines right usable is 
       lines_are = h.lines_are ∙ ap (λ (ls : List (List ℕ)). h.before ++ ls) lines ∙ lines_more h.before (lines_of (drop next text)) line;
       read = read_append 0 h.before statements line s h.read (subst (λ (n : ℕ). IsRight line n s) h.place_is right);
       usable = All-push IsUsable statements s h.usable usable;
-      place_is = is ∙ ap (λ (n : ℕ). n + size_of s.operation n) h.place_is ∙ sym (end_of-append 0 statements (s ∷ []));
+      place_is = is ∙ ap (λ (n : ℕ). n + size_of s.operation n) h.place_is ∙ sym (place_after-append 0 statements (s ∷ []));
       fits = fits;
     }
 
@@ -87,7 +87,7 @@ read_whole text from place statements h past =
 -- ---- labels
 
 pub record HasFound (statements : List Statement) (k place : ℕ) (labels : List Label) : Type 0 where
-  pub place_is : place ≡ end_of 0 (take k statements)
+  pub place_is : place ≡ place_after 0 (take k statements)
   pub labels_are : labels ≡ labels_of 0 (take k statements)
   pub once : AreOnce (names_of labels)
 
@@ -98,16 +98,16 @@ nothing_more : (labels : List Label) → labels ++ [] ≡ labels
 nothing_more [] = refl
 nothing_more (l ∷ labels) = ap (λ (ls : List Label). l ∷ ls) (nothing_more labels)
 
-labels_of-more : (statements : List Statement) (k : ℕ) (d : Statement) → k < length statements → labels_of 0 (take (k + 1) statements) ≡ labels_of 0 (take k statements) ++ label_at (get_or statements k d).label (end_of 0 (take k statements))
+labels_of-more : (statements : List Statement) (k : ℕ) (d : Statement) → k < length statements → labels_of 0 (take (k + 1) statements) ≡ labels_of 0 (take k statements) ++ label_at (get_or statements k d).label (place_after 0 (take k statements))
 labels_of-more statements k d lt =
     ap (labels_of 0) (take_more statements k d lt) ∙ labels_of-append 0 (take k statements) (get_or statements k d ∷ [])
-    ∙ ap (λ (ls : List Label). labels_of 0 (take k statements) ++ ls) (nothing_more (label_at (get_or statements k d).label (end_of 0 (take k statements))))
+    ∙ ap (λ (ls : List Label). labels_of 0 (take k statements) ++ ls) (nothing_more (label_at (get_or statements k d).label (place_after 0 (take k statements))))
 
-pub place_more : (statements : List Statement) (k place : ℕ) (d : Statement) → k < length statements → place ≡ end_of 0 (take k statements) → place + size_of (get_or statements k d).operation place ≡ end_of 0 (take (k + 1) statements)
+pub place_more : (statements : List Statement) (k place : ℕ) (d : Statement) → k < length statements → place ≡ place_after 0 (take k statements) → place + size_of (get_or statements k d).operation place ≡ place_after 0 (take (k + 1) statements)
 place_more statements k place d lt is = ap (λ (n : ℕ). n + size_of (get_or statements k d).operation n) is ∙ sym (end_more statements k d lt)
 
-pub place_fits : (statements : List Statement) (k place : ℕ) (d : Statement) → k < length statements → place ≡ end_of 0 (take k statements) → end_of 0 statements < 2 ^ 32 → place + size_of (get_or statements k d).operation place < 2 ^ 32
-place_fits statements k place d lt is fits = omega (arith, place_more statements k place d lt is, end_of-take statements (k + 1))
+pub place_fits : (statements : List Statement) (k place : ℕ) (d : Statement) → k < length statements → place ≡ place_after 0 (take k statements) → place_after 0 statements < 2 ^ 32 → place + size_of (get_or statements k d).operation place < 2 ^ 32
+place_fits statements k place d lt is fits = omega (arith, place_more statements k place d lt is, place_after-take statements (k + 1))
 
 pub found_more : (statements : List Statement) (k place : ℕ) (d : Statement) (labels new : List Label) → k < length statements → HasFound statements k place labels → AddsLabels labels new (label_at (get_or statements k d).label place)
     → HasFound statements (k + 1) (place + size_of (get_or statements k d).operation place) new
@@ -117,7 +117,7 @@ found_more statements k place d labels new lt h adds =
       labels_are =
           adds.added
           ∙ ap (λ (n : ℕ). labels ++ label_at (get_or statements k d).label n) h.place_is
-          ∙ ap (λ (ls : List Label). ls ++ label_at (get_or statements k d).label (end_of 0 (take k statements))) h.labels_are
+          ∙ ap (λ (ls : List Label). ls ++ label_at (get_or statements k d).label (place_after 0 (take k statements))) h.labels_are
           ∙ sym (labels_of-more statements k d lt);
       once = adds.once h.once;
     }
@@ -126,7 +126,7 @@ pub found_all : (statements : List Statement) (k place : ℕ) (labels : List Lab
 found_all statements k place labels h past = record { labels_are = h.labels_are ∙ ap (labels_of 0) (take_all k statements past); once = h.once }
 
 labels_split : (statements : List Statement) (k : ℕ) (d : Statement) → k < length statements
-    → labels_of 0 statements ≡ labels_of 0 (take k statements) ++ (label_at (get_or statements k d).label (end_of 0 (take k statements)) ++ labels_of (end_of 0 (take k statements) + size_of (get_or statements k d).operation (end_of 0 (take k statements))) (drop (k + 1) statements))
+    → labels_of 0 statements ≡ labels_of 0 (take k statements) ++ (label_at (get_or statements k d).label (place_after 0 (take k statements)) ++ labels_of (place_after 0 (take k statements) + size_of (get_or statements k d).operation (place_after 0 (take k statements))) (drop (k + 1) statements))
 labels_split statements k d lt = ap (labels_of 0) (split_at statements k d lt) ∙ labels_of-append 0 (take k statements) (get_or statements k d ∷ drop (k + 1) statements)
 
 pub found_fault : (statements : List Statement) (k place : ℕ) (d : Statement) (labels : List Label) (fault : AsmFault) → k < length statements → HasFound statements k place labels → IsAddFault labels (label_at (get_or statements k d).label place) fault → IsLabelFault statements fault
@@ -135,8 +135,8 @@ found_fault statements k place d labels (NoLabel name) lt h is = is
 found_fault statements k place d labels (OutOfReach line) lt h is = is
 found_fault statements k place d labels OutOfMemory lt h is = tt
 found_fault statements k place d labels (TwiceLabel name) lt h is =
-    let here = label_at (get_or statements k d).label (end_of 0 (take k statements)) in
-    let after = labels_of (end_of 0 (take k statements) + size_of (get_or statements k d).operation (end_of 0 (take k statements))) (drop (k + 1) statements) in
+    let here = label_at (get_or statements k d).label (place_after 0 (take k statements)) in
+    let after = labels_of (place_after 0 (take k statements) + size_of (get_or statements k d).operation (place_after 0 (take k statements))) (drop (k + 1) statements) in
     let named : names_of here ≡ name ∷ [] = ap (λ (n : ℕ). names_of (label_at (get_or statements k d).label n)) (sym h.place_is) ∙ is.named in
     record {
       earlier = names_of labels;
@@ -202,7 +202,7 @@ aimed_added labels aim t at address old new i leads stands adds =
     }
 
 pub record HasWritten (labels : List Label) (statements : List Statement) (k place line : ℕ) (bytes : List ℕ) : Type 0 where
-  pub place_is : place ≡ end_of 0 (take k statements)
+  pub place_is : place ≡ place_after 0 (take k statements)
   pub line_is : line ≡ k + 1
   pub bytes_are : AreBytes labels 0 (take k statements) bytes
 
@@ -213,7 +213,7 @@ pub written_more : (labels : List Label) (statements : List Statement) (k place 
     → HasWritten labels statements (k + 1) (place + size_of (get_or statements k d).operation place) (line + 1) new
 written_more labels statements k place line d bytes new lt h adds =
     let here = get_or statements k d in
-    let at : AddsBytes labels here.operation (end_of 0 (take k statements)) bytes new = subst (λ (n : ℕ). AddsBytes labels here.operation n bytes new) h.place_is adds in
+    let at : AddsBytes labels here.operation (place_after 0 (take k statements)) bytes new = subst (λ (n : ℕ). AddsBytes labels here.operation n bytes new) h.place_is adds in
     let longer : AreBytes labels 0 (take k statements ++ here ∷ []) (bytes ++ at.own) = bytes_append labels 0 (take k statements) bytes here at.own h.bytes_are at.long at.bytes in
     record {
       place_is = place_more statements k place d lt h.place_is;
@@ -262,7 +262,7 @@ text_read_fault text (NoLabel name) is = absurd is
 text_read_fault text (OutOfReach line) is = absurd is
 text_read_fault text OutOfMemory is = tt
 
-is_read : (text : List ℕ) (statements : List Statement) → ReadsAll (lines_of text) statements → IsReadAs text statements (labels_of 0 statements)
+is_read : (text : List ℕ) (statements : List Statement) → ReadsAll (lines_of text) statements → AreOfText text statements (labels_of 0 statements)
 is_read text statements read = record { read = read.read; labels_are = refl }
 
 pub text_label_fault : (text : List ℕ) (statements : List Statement) (fault : AsmFault) → ReadsAll (lines_of text) statements → IsLabelFault statements fault → IsRefused text fault

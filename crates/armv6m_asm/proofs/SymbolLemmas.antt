@@ -3,10 +3,10 @@ use Rattle.std.proofs.Common.{◌≡◌, ◌≢◌, ◌<◌, ◌∙◌, sym, ap,
 use Rattle.armv6m_forms.specs.Text.{register_text, special_text, IsSpecial}
 use Rattle.armv6m_asm.specs.Token.{Token, word, mark}
 use Rattle.armv6m_asm.specs.Statement.{register, special_register, number, comma, hash, exclamation, open_bracket, close_bracket, exactly}
-use Rattle.armv6m_asm.specs.Reading.{is_text, number_of, register_of, special_of, word_symbol, mark_symbol, symbol_of}
+use Rattle.armv6m_asm.specs.Reading.{is_text, number_in, register_of, special_of, word_symbol, mark_symbol, symbol_of}
 use Rattle.armv6m_asm.specs.declared.symbol.Symbol.{Symbol}
 use Rattle.armv6m_asm.specs.declared.symbol.Symbol.TheVariants.{Register, Special, Number, Interrupts, Comma, Hash, Exclamation, OpenBracket, CloseBracket, OpenBrace, CloseBrace, Other}
-use Rattle.armv6m_asm.proofs.WordLemmas.{same_text, register_of-is, register_of-text, number_of-register, special_of-is, special_of-text, number_of-special, register_of-special, number_of-i, register_of-i, special_of-i, number_of-number, number_of-is}
+use Rattle.armv6m_asm.proofs.WordLemmas.{same_text, register_of-is, register_of-text, number_in-register, special_of-is, special_of-text, number_in-special, register_of-special, number_in-i, register_of-i, special_of-i, number_in-number, number_in-is}
 
 -- ---- words
 
@@ -107,13 +107,13 @@ pub record Stands (Kind : Token → Type 0) (symbol : Symbol) : Type 0 where
 register_only : (r : ℕ) (token : Token) → symbol_of token ≡ Register r → register r token
 unfolding symbol_of
 register_only r (word bytes) is =
-    let it = register_of-is bytes r (register_symbol (number_of bytes) (register_of bytes) (special_of bytes) (is_text (codes "i") bytes) r is) in
+    let it = register_of-is bytes r (register_symbol (number_in bytes) (register_of bytes) (special_of bytes) (is_text (codes "i") bytes) r is) in
     (ap word (sym it.0), it.1)
 register_only r (mark byte) is = absurd (mark_is_no_register byte r is)
 
 register_is : (r : ℕ) (token : Token) → register r token → symbol_of token ≡ Register r
 unfolding symbol_of
-register_is r token is = rw (is.0, number_of-register r is.1, register_of-text r is.1) refl
+register_is r token is = rw (is.0, number_in-register r is.1, register_of-text r is.1) refl
 
 pub Stands-register : (r : ℕ) → Stands (register r) (Register r)
 Stands-register r = record { is = register_is r; only = register_only r }
@@ -121,25 +121,25 @@ Stands-register r = record { is = register_is r; only = register_only r }
 special_only : (s : ℕ) (token : Token) → symbol_of token ≡ Special s → special_register s token
 unfolding symbol_of
 special_only s (word bytes) is =
-    let it = special_of-is bytes s (special_symbol (number_of bytes) (register_of bytes) (special_of bytes) (is_text (codes "i") bytes) s is) in
+    let it = special_of-is bytes s (special_symbol (number_in bytes) (register_of bytes) (special_of bytes) (is_text (codes "i") bytes) s is) in
     (ap word (sym it.0), it.1)
 special_only s (mark byte) is = absurd (mark_is_no_special byte s is)
 
 special_is : (s : ℕ) (token : Token) → special_register s token → symbol_of token ≡ Special s
 unfolding symbol_of
-special_is s token is = rw (is.0, number_of-special s is.1, register_of-special s is.1, special_of-text s is.1) refl
+special_is s token is = rw (is.0, number_in-special s is.1, register_of-special s is.1, special_of-text s is.1) refl
 
 pub Stands-special : (s : ℕ) → Stands (special_register s) (Special s)
 Stands-special s = record { is = special_is s; only = special_only s }
 
 number_only : (v : ℕ) (token : Token) → symbol_of token ≡ Number v → number v token
 unfolding symbol_of
-number_only v (word bytes) is = number_of-is bytes v (number_symbol (number_of bytes) (register_of bytes) (special_of bytes) (is_text (codes "i") bytes) v is)
+number_only v (word bytes) is = number_in-is bytes v (number_symbol (number_in bytes) (register_of bytes) (special_of bytes) (is_text (codes "i") bytes) v is)
 number_only v (mark byte) is = absurd (mark_is_no_number byte v is)
 
 number_is : (v : ℕ) (token : Token) → number v token → symbol_of token ≡ Number v
 unfolding symbol_of
-number_is v (word bytes) is = rw (number_of-number bytes v is) refl
+number_is v (word bytes) is = rw (number_in-number bytes v is) refl
 number_is v (mark byte) is = absurd is
 
 pub Stands-number : (v : ℕ) → Stands (number v) (Number v)
@@ -148,12 +148,12 @@ Stands-number v = record { is = number_is v; only = number_only v }
 interrupts_only : (token : Token) → symbol_of token ≡ Interrupts → exactly (codes "i") token
 unfolding symbol_of
 interrupts_only (word bytes) is =
-    ap word (sym (same_text (codes "i") bytes (interrupts_symbol (number_of bytes) (register_of bytes) (special_of bytes) (is_text (codes "i") bytes) is)))
+    ap word (sym (same_text (codes "i") bytes (interrupts_symbol (number_in bytes) (register_of bytes) (special_of bytes) (is_text (codes "i") bytes) is)))
 interrupts_only (mark byte) is = absurd (mark_is_no_interrupts byte is)
 
 interrupts_is : (token : Token) → exactly (codes "i") token → symbol_of token ≡ Interrupts
 unfolding symbol_of
-interrupts_is token is = rw (is, number_of-i, register_of-i, special_of-i) refl
+interrupts_is token is = rw (is, number_in-i, register_of-i, special_of-i) refl
 
 pub Stands-interrupts : Stands (exactly (codes "i")) Interrupts
 Stands-interrupts = record { is = interrupts_is; only = interrupts_only }
@@ -161,7 +161,7 @@ Stands-interrupts = record { is = interrupts_is; only = interrupts_only }
 mark_only : (symbol : Symbol) (byte : ℕ) → byte_of symbol ≡ Some byte → (token : Token) → symbol_of token ≡ symbol → token ≡ mark byte
 unfolding symbol_of
 mark_only symbol byte has (word bytes) is =
-    let none = word_is_no_mark (number_of bytes) (register_of bytes) (special_of bytes) (is_text (codes "i") bytes) in
+    let none = word_is_no_mark (number_in bytes) (register_of bytes) (special_of bytes) (is_text (codes "i") bytes) in
     let same = ap byte_of is in
     absurd (cc)
 mark_only symbol byte has (mark other) is = ap mark (mark_is other byte (ap byte_of is ∙ has))
@@ -199,7 +199,7 @@ Stands-close_brace = mark_stands CloseBrace 125 refl refl
 
 -- ---- words by what their readers say
 
-pub symbol_of_number : (bytes : List ℕ) (value : ℕ) → number_of bytes ≡ Some value → symbol_of (word bytes) ≡ Number value
+pub symbol_of_number : (bytes : List ℕ) (value : ℕ) → number_in bytes ≡ Some value → symbol_of (word bytes) ≡ Number value
 unfolding symbol_of
 symbol_of_number bytes value n = rw n refl
 
@@ -209,7 +209,7 @@ symbol_of_register bytes r is below = register_is r (word bytes) (ap word (sym i
 pub symbol_of_special : (bytes : List ℕ) (s : ℕ) → special_text s ≡ bytes → IsSpecial s → symbol_of (word bytes) ≡ Special s
 symbol_of_special bytes s is known = special_is s (word bytes) (ap word (sym is), known)
 
-pub symbol_of_other : (bytes : List ℕ) → number_of bytes ≡ None → register_of bytes ≡ None → special_of bytes ≡ None → bytes ≢ codes "i"
+pub symbol_of_other : (bytes : List ℕ) → number_in bytes ≡ None → register_of bytes ≡ None → special_of bytes ≡ None → bytes ≢ codes "i"
     → symbol_of (word bytes) ≡ Other
 unfolding symbol_of
 symbol_of_other bytes n r s other = rw (n, r, s, differs (is_text (codes "i") bytes) bytes refl other) refl where

@@ -58,7 +58,7 @@ load_name text r label (t ∷ u ∷ v ∷ w ∷ tokens) are = name_ascii label.n
 
 aimed_name : (aim : Aim) (label : Bor (List ℕ)) (tokens : List Token) → AreAimed aim (targets.Label label) tokens → IsAscii label.now
 aimed_name aims.Branch label tokens are = branch_name _ label tokens are
-aimed_name (aims.BranchIf condition) label tokens are = branch_name _ label tokens are.1
+aimed_name (aims.BranchIf condition) label tokens are = branch_name _ label tokens are
 aimed_name aims.BranchLink label tokens are = branch_name _ label tokens are
 aimed_name (aims.Load t) label tokens are = load_name _ t label tokens are
 aimed_name (aims.Address d) label tokens are = load_name _ d label tokens are

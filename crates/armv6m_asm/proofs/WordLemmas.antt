@@ -7,7 +7,7 @@ use Rattle.std.specs.Char.{digit_value}
 use Rattle.std.specs.Str.Parse.{AllDigits, IsNumeral, digits_value}
 use Rattle.armv6m_forms.specs.Text.{register_text, special_text, IsSpecial}
 use Rattle.armv6m_asm.specs.Statement.{IsHexadecimal, IsDecimal, IsNumber}
-use Rattle.armv6m_asm.specs.Reading.{is_text, value_of, number_of, register_of, special_of}
+use Rattle.armv6m_asm.specs.Reading.{is_text, value_of, number_in, register_of, special_of}
 
 -- ---- texts
 
@@ -75,9 +75,9 @@ unfolding register_of register_text digits
 register_of-text = each_register (λ r. register_of (register_text r) ≡ Some r)
     (refl, (refl, (refl, (refl, (refl, (refl, (refl, (refl, (refl, (refl, (refl, (refl, (refl, (refl, (refl, (refl, tt))))))))))))))))
 
-pub number_of-register : (r : ℕ) → r < 16 → number_of (register_text r) ≡ None
-unfolding number_of value_of register_text digits
-number_of-register = each_register (λ r. number_of (register_text r) ≡ None)
+pub number_in-register : (r : ℕ) → r < 16 → number_in (register_text r) ≡ None
+unfolding number_in value_of register_text digits
+number_in-register = each_register (λ r. number_in (register_text r) ≡ None)
     (refl, (refl, (refl, (refl, (refl, (refl, (refl, (refl, (refl, (refl, (refl, (refl, (refl, (refl, (refl, (refl, tt))))))))))))))))
 
 -- ---- special registers
@@ -99,9 +99,9 @@ pub special_of-text : (s : ℕ) → IsSpecial s → special_of (special_text s) 
 unfolding special_of special_text digits
 special_of-text = each_special (λ s. special_of (special_text s) ≡ Some s) refl refl refl
 
-pub number_of-special : (s : ℕ) → IsSpecial s → number_of (special_text s) ≡ None
-unfolding number_of value_of special_text digits
-number_of-special = each_special (λ s. number_of (special_text s) ≡ None) refl refl refl
+pub number_in-special : (s : ℕ) → IsSpecial s → number_in (special_text s) ≡ None
+unfolding number_in value_of special_text digits
+number_in-special = each_special (λ s. number_in (special_text s) ≡ None) refl refl refl
 
 pub register_of-special : (s : ℕ) → IsSpecial s → register_of (special_text s) ≡ None
 unfolding register_of register_text special_text digits
@@ -109,9 +109,9 @@ register_of-special = each_special (λ s. register_of (special_text s) ≡ None)
 
 -- ---- `i`
 
-pub number_of-i : number_of (codes "i") ≡ None
-unfolding number_of value_of
-number_of-i = refl
+pub number_in-i : number_in (codes "i") ≡ None
+unfolding number_in value_of
+number_in-i = refl
 
 pub register_of-i : register_of (codes "i") ≡ None
 unfolding register_of register_text digits
@@ -169,9 +169,9 @@ not_hexadecimal (a ∷ b ∷ rest) all =
     let other : (120 == b) ≡ false = ne_eqb 120 b (λ same. absurd (omega (arith, subst (λ n. digit_value n < 10) (sym same) all.1.0))) in
     rw other (and_false (48 == a))
 
-pub number_of-number : (bytes : List ℕ) (value : ℕ) → IsNumber bytes value → number_of bytes ≡ Some value
-unfolding number_of
-number_of-number bytes value is = ⊎_elim
+pub number_in-number : (bytes : List ℕ) (value : ℕ) → IsNumber bytes value → number_in bytes ≡ Some value
+unfolding number_in
+number_in-number bytes value is = ⊎_elim
     (λ (decimal : IsDecimal bytes value). rw (not_hexadecimal bytes decimal.numeral.1)
     (value_of-numeral 10 bytes decimal.numeral (omega (arith, decimal.value_is, is.1)) ∙ ap Some (sym decimal.value_is)))
     (λ (hexadecimal : IsHexadecimal bytes value). rw hexadecimal.bytes_are
@@ -192,9 +192,9 @@ number_at false bytes value v is =
     let it = value_of-is 10 bytes value is in
     (inl (record { numeral = it.0; value_is = it.1 }), it.2)
 
-pub number_of-is : (bytes : List ℕ) (value : ℕ) → number_of bytes ≡ Some value → IsNumber bytes value
-unfolding number_of
-number_of-is bytes value is = number_at (is_text (codes "0x") (take 2 bytes)) bytes value refl is
+pub number_in-is : (bytes : List ℕ) (value : ℕ) → number_in bytes ≡ Some value → IsNumber bytes value
+unfolding number_in
+number_in-is bytes value is = number_at (is_text (codes "0x") (take 2 bytes)) bytes value refl is
 
 -- ---- what a reader's answer says
 
@@ -203,9 +203,9 @@ none_found : (found : Option ℕ) → ((n : ℕ) → found ≡ Some n → ⊥) �
 none_found None never = refl
 none_found (Some n) never = absurd (never n refl)
 
-pub number_of-answer : (bytes : List ℕ) (r : Option ℕ) → MatchOption r ((value : ℕ) → IsNumber bytes value → ⊥) (λ value. IsNumber bytes value) → number_of bytes ≡ r
-number_of-answer bytes None none = none_found (number_of bytes) (λ n is. none n (number_of-is bytes n is))
-number_of-answer bytes (Some value) is = number_of-number bytes value is
+pub number_in-answer : (bytes : List ℕ) (r : Option ℕ) → MatchOption r ((value : ℕ) → IsNumber bytes value → ⊥) (λ value. IsNumber bytes value) → number_in bytes ≡ r
+number_in-answer bytes None none = none_found (number_in bytes) (λ n is. none n (number_in-is bytes n is))
+number_in-answer bytes (Some value) is = number_in-number bytes value is
 
 pub register_of-none : (bytes : List ℕ) → ((r : ℕ) → r < 16 → register_text r ≢ bytes) → register_of bytes ≡ None
 register_of-none bytes none = none_found (register_of bytes) (λ r is. let it = register_of-is bytes r is in none r it.1 it.0)

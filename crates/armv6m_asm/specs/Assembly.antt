@@ -64,13 +64,13 @@ size_of (Plain i) at = width i
 size_of (Aimed aim t) at = aim_width aim
 
 -- the place behind some statements that begin at a place
-abbrev pub end_of : ℕ → List Statement → ℕ
-end_of from [] = from
-end_of from (s ∷ statements) = end_of (from + size_of s.operation from) statements
+abbrev pub place_after : ℕ → List Statement → ℕ
+place_after from [] = from
+place_after from (s ∷ statements) = place_after (from + size_of s.operation from) statements
 
 -- wherever `.align` stands, a multiple of 4 comes behind it
 abbrev pub AlignPads : Type 0
-AlignPads = (statements : List Statement) → (end_of 0 statements + size_of Align (end_of 0 statements)) % 4 ≡ 0
+AlignPads = (statements : List Statement) → (place_after 0 statements + size_of Align (place_after 0 statements)) % 4 ≡ 0
 
 -- ---- labels
 
@@ -182,7 +182,7 @@ pub record IsFirstBeyond (labels : List Label) (statements : List Statement) (li
   pub statements_are : statements ≡ before ++ here ∷ after
   pub bytes : List ℕ
   pub reached : AreBytes labels 0 before bytes
-  pub beyond : GoesBeyond labels here.operation (end_of 0 before)
+  pub beyond : GoesBeyond labels here.operation (place_after 0 before)
   pub line_is : line ≡ length before + 1
 
 -- ---- lines
@@ -224,19 +224,19 @@ pub record IsFirstBad (lines : List (List ℕ)) (line : ℕ) : Type 0 where
   pub lines_are : lines ≡ before ++ here ∷ after
   pub statements : List Statement
   pub read : AreRead 0 before statements
-  pub bad : IsBad here (end_of 0 statements)
+  pub bad : IsBad here (place_after 0 statements)
   pub line_is : line ≡ length before + 1
 
 -- ---- the text
 
 -- all lines are read
-pub record IsReadAs (text : List ℕ) (statements : List Statement) (labels : List Label) : Type 0 where
+pub record AreOfText (text : List ℕ) (statements : List Statement) (labels : List Label) : Type 0 where
   pub read : AreRead 0 (lines_of text) statements
   pub labels_are : labels ≡ labels_of 0 statements
 
 -- and no label stands twice
 pub record HasLabelsOnce (text : List ℕ) (statements : List Statement) (labels : List Label) : Type 0 where
-  pub read : IsReadAs text statements labels
+  pub read : AreOfText text statements labels
   pub once : AreOnce (names_of labels)
 
 -- and each target that is a name is a label
@@ -253,7 +253,7 @@ pub record IsAssembled (text : List ℕ) (code : Code) : Type 0 where
 pub record HasTwiceLabel (text name : List ℕ) : Type 0 where
   pub statements : List Statement
   pub labels : List Label
-  pub read : IsReadAs text statements labels
+  pub read : AreOfText text statements labels
   pub twice : IsFirstTwice (names_of labels) name
 
 pub record HasNoLabel (text name : List ℕ) : Type 0 where

@@ -8,7 +8,7 @@ use Rattle.armv6m_asm.specs.declared.fault.AsmFault.{AsmFault}
 use Rattle.armv6m_asm.specs.declared.fault.AsmFault.TheVariants.{BadWord, TwiceLabel, NoLabel, OutOfReach, OutOfMemory}
 use Rattle.armv6m_asm.specs.Usable.{IsUsable}
 use Rattle.armv6m_asm.specs.Label.{names_of}
-use Rattle.armv6m_asm.specs.Assembly.{width, size_of, end_of, labels_of, AreOnce, IsFirstTwice, named_by, IsFirstMissing, IsCodeOf, AreBytesOf, GoesBeyond, IsFirstBeyond, AreRead, IsFirstBad}
+use Rattle.armv6m_asm.specs.Assembly.{width, size_of, place_after, labels_of, AreOnce, IsFirstTwice, named_by, IsFirstMissing, IsCodeOf, AreBytesOf, GoesBeyond, IsFirstBeyond, AreRead, IsFirstBad}
 
 -- ---- lines
 
@@ -16,7 +16,7 @@ use Rattle.armv6m_asm.specs.Assembly.{width, size_of, end_of, labels_of, AreOnce
 pub record ReadsAll (lines : List (List ℕ)) (statements : List Statement) : Type 0 where
   pub read : AreRead 0 lines statements
   pub usable : All IsUsable statements
-  pub fits : end_of 0 statements < 2 ^ 32
+  pub fits : place_after 0 statements < 2 ^ 32
 
 abbrev pub IsReadFault : List (List ℕ) → AsmFault → Type 0
 IsReadFault lines (BadWord line) = IsFirstBad lines line

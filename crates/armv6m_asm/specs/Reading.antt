@@ -4,7 +4,7 @@ use Rattle.std.specs.Prelude.{◌<◌, ◌+◌, ◌^◌, ◌==◌, ◌&&◌, ℕ
 use Rattle.std.specs.List.{list_all, find, range_with_len}
 use Rattle.std.specs.Char.{digit_value}
 use Rattle.std.specs.Str.Parse.{digits_value}
-use Rattle.armv6m_decode.specs.Rows.{bit}
+use Rattle.armv6m_alu.specs.Bits.{is_bit_set}
 use Rattle.armv6m_forms.specs.declared.form.Operands.{Operands}
 use Rattle.armv6m_forms.specs.declared.form.Operands.TheVariants as operands
 use Rattle.armv6m_forms.specs.Text.{register_text, special_text}
@@ -25,8 +25,8 @@ value_of radix digits =
     if (nat_lt 0 (length digits)) && (list_all (λ byte. nat_lt (digit_value byte) radix) digits && nat_lt (digits_value radix digits) (2 ^ 32))
     then Some (digits_value radix digits) else None
 
-unfoldable pub number_of : List ℕ → Option ℕ
-number_of bytes = if is_text (codes "0x") (take 2 bytes) then value_of 16 (drop 2 bytes) else value_of 10 bytes
+unfoldable pub number_in : List ℕ → Option ℕ
+number_in bytes = if is_text (codes "0x") (take 2 bytes) then value_of 16 (drop 2 bytes) else value_of 10 bytes
 
 unfoldable pub register_of : List ℕ → Option ℕ
 register_of bytes = find (λ r. is_text (register_text r) bytes) (range_with_len 0 16)
@@ -49,7 +49,7 @@ mark_symbol byte =
     else if byte == 93 then CloseBracket else if byte == 123 then OpenBrace else if byte == 125 then CloseBrace else Other
 
 unfoldable pub symbol_of : Token → Symbol
-symbol_of (word bytes) = word_symbol (number_of bytes) (register_of bytes) (special_of bytes) (is_text (codes "i") bytes)
+symbol_of (word bytes) = word_symbol (number_in bytes) (register_of bytes) (special_of bytes) (is_text (codes "i") bytes)
 symbol_of (mark byte) = mark_symbol byte
 
 unfoldable pub symbols_of : List ℕ → List Symbol
@@ -75,17 +75,17 @@ ends_list (CloseBrace ∷ []) = true
 ends_list symbols = false
 
 -- what the list is with a register more: none where it is there already
-abbrev pub with_register : ℕ → Option ℕ → Option ℕ
-with_register list None = None
-with_register list (Some register) = if bit register list then None else Some (list + 2 ^ register)
+abbrev pub with_one_more : ℕ → Option ℕ → Option ℕ
+with_one_more list None = None
+with_one_more list (Some register) = if is_bit_set list register then None else Some (list + 2 ^ register)
 
 -- the list with the registers up to the close brace, where some are in it already
 unfoldable pub list_of : ℕ → List Symbol → Option ℕ
 list_of list [] = None
 list_of list (symbol ∷ []) = None
 list_of list (symbol ∷ next ∷ rest) =
-    if is_comma next then option_and_then (λ more. list_of more rest) (with_register list (register_in symbol))
-    else if ends_list (next ∷ rest) then with_register list (register_in symbol) else None
+    if is_comma next then option_and_then (λ more. list_of more rest) (with_one_more list (register_in symbol))
+    else if ends_list (next ∷ rest) then with_one_more list (register_in symbol) else None
 
 -- ---- operands
 

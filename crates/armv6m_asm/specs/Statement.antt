@@ -150,7 +150,7 @@ pub record ArePlain (instr : Instr) (tokens : List Token) : Type 0 where
 -- an instruction with a target
 abbrev pub AreAimed : Aim → Target → List Token → Type 0
 AreAimed aims.Branch to tokens = Are (exactly (aim_text aims.Branch) ∷ target to ∷ []) tokens
-AreAimed (aims.BranchIf condition) to tokens = (condition < 14) × Are (exactly (aim_text (aims.BranchIf condition)) ∷ target to ∷ []) tokens
+AreAimed (aims.BranchIf condition) to tokens = Are (exactly (aim_text (aims.BranchIf condition)) ∷ target to ∷ []) tokens
 AreAimed aims.BranchLink to tokens = Are (exactly (aim_text aims.BranchLink) ∷ target to ∷ []) tokens
 AreAimed (aims.Load t) to tokens = Are (exactly (aim_text (aims.Load t)) ∷ low_register t ∷ comma ∷ target to ∷ []) tokens
 AreAimed (aims.Address d) to tokens = Are (exactly (aim_text (aims.Address d)) ∷ low_register d ∷ comma ∷ target to ∷ []) tokens

@@ -4,7 +4,7 @@ ghost use Rattle.std.specs.Prelude.{◌≡◌, ◌<◌, ◌^◌, ◌++◌, All, 
 ghost use Rattle.armv6m_encode.specs.Encoding.{fields_fit};
 ghost use Rattle.armv6m_asm.specs.Usable.{IsUsable, IsUsableOperation};
 ghost use Rattle.armv6m_asm.specs.Label.{names_of};
-ghost use Rattle.armv6m_asm.specs.Assembly.{end_of, name_in, named_by, targets_of, padding, LeadsTo, code_of, AreBytes};
+ghost use Rattle.armv6m_asm.specs.Assembly.{place_after, name_in, named_by, targets_of, padding, LeadsTo, code_of, AreBytes};
 ghost use Rattle.armv6m_asm.specs.Passes.{AddsCode, AddsBytes, IsBeyondFault, IsCodeFault};
 
 use crate::fault::AsmFault;
@@ -31,7 +31,7 @@ pub(crate) fn write_code(
     labels: &Labels,
 ) -> Result<Bytes, AsmFault>
     requires usable { All IsUsable statements.now }
-    requires fits { end_of 0 statements.now < 2 ^ 32 }
+    requires fits { place_after 0 statements.now < 2 ^ 32 }
     requires there { All (Contains (names_of labels.now)) (targets_of statements.now) }
     ensures ok { IfOk result (AreBytes labels.now 0 statements.now) }
     ensures err { IfErr result (IsCodeFault labels.now statements.now) }
@@ -47,7 +47,7 @@ pub(crate) fn write_code(
     Ok(Bytes::from_vec(bytes))
 }
 
-// Adds the bytes of a line's statement at a place.
+/// Adds the bytes of a line's statement at a place.
 fn add_operation(
     bytes: &mut Vec<u8>,
     operation: &Operation,
@@ -69,7 +69,7 @@ fn add_operation(
     }
 }
 
-// Adds what pads a place to a multiple of 4: `NOP`, BF00.
+/// Adds what pads a place to a multiple of 4: `NOP`, BF00.
 fn add_padding(bytes: &mut Vec<u8>, place: u32) -> Result<(), AllocError>
     ensures { OnOk result (bytes.new.items ≡ bytes.old.items ++ padding place) }
 {
@@ -79,7 +79,7 @@ fn add_padding(bytes: &mut Vec<u8>, place: u32) -> Result<(), AllocError>
     add(bytes, &[0x00, 0xBF])
 }
 
-// Adds an instruction's code: its halfwords, each with the low byte first.
+/// Adds an instruction's code: its halfwords, each with the low byte first.
 fn add_instr(bytes: &mut Vec<u8>, instr: &Instr) -> Result<(), AllocError>
     requires { IsTrue (fields_fit instr.now) }
     ensures { OnOk result (AddsCode bytes.old.items bytes.new.items instr.now) }
@@ -90,7 +90,7 @@ fn add_instr(bytes: &mut Vec<u8>, instr: &Instr) -> Result<(), AllocError>
     }
 }
 
-// Adds two halfwords.
+/// Adds two halfwords.
 fn add_pair(bytes: &mut Vec<u8>, first: u16, second: u16) -> Result<(), AllocError>
     ensures { OnOk result (bytes.new.items ≡ bytes.old.items ++ code_of (Encoding.Pair first second)) }
 {
@@ -98,14 +98,14 @@ fn add_pair(bytes: &mut Vec<u8>, first: u16, second: u16) -> Result<(), AllocErr
     add(bytes, &second.to_le_bytes())
 }
 
-// Adds bytes.
+/// Adds bytes.
 fn add(bytes: &mut Vec<u8>, own: &[u8]) -> Result<(), AllocError>
     ensures { OnOk result (bytes.new.items ≡ bytes.old.items ++ own.now) }
 {
     bytes.extend_from_slice(own)
 }
 
-// Adds the code of an instruction with a target.
+/// Adds the code of an instruction with a target.
 fn add_aimed(
     bytes: &mut Vec<u8>,
     aim: Aim,
@@ -124,7 +124,7 @@ fn add_aimed(
     }
 }
 
-// The address that a target stands for.
+/// The address that a target stands for.
 fn address_of(target: Target, labels: &Labels) -> u32
     requires { All (Contains (names_of labels.now)) (name_in target) }
     ensures { LeadsTo labels.now target.entry result }

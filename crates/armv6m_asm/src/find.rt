@@ -4,7 +4,7 @@ ghost use Rattle.std.specs.Prelude.{◌≡◌, ◌<◌, ◌^◌, All, Contains, 
 ghost use Rattle.std.specs.Str.{IsAscii};
 ghost use Rattle.armv6m_asm.specs.Usable.{IsUsable, IsUsableOperation};
 ghost use Rattle.armv6m_asm.specs.Label.{names_of};
-ghost use Rattle.armv6m_asm.specs.Assembly.{end_of, label_at, named_by, targets_of};
+ghost use Rattle.armv6m_asm.specs.Assembly.{place_after, label_at, named_by, targets_of};
 ghost use Rattle.armv6m_asm.specs.Passes.{FindsLabels, AddsLabels, IsAddFault, IsLabelFault, IsMissingFault, IsTargetFault};
 
 use crate::fault::AsmFault;
@@ -18,7 +18,7 @@ use std::alloc::Global;
 /// The labels of the statements, each with its place; the first that stands twice is at fault.
 pub(crate) fn find_labels(alloc: Global, statements: &[Statement]) -> Result<Labels, AsmFault>
     requires usable { All IsUsable statements.now }
-    requires fits { end_of 0 statements.now < 2 ^ 32 }
+    requires fits { place_after 0 statements.now < 2 ^ 32 }
     ensures ok { IfOk result (FindsLabels statements.now) }
     ensures err { IfErr result (IsLabelFault statements.now) }
 {
@@ -31,7 +31,7 @@ pub(crate) fn find_labels(alloc: Global, statements: &[Statement]) -> Result<Lab
     Ok(labels)
 }
 
-// Adds a statement's label, where it has one.
+/// Adds a statement's label, where it has one.
 fn add_label(
     alloc: Global,
     labels: &mut Labels,
@@ -69,7 +69,7 @@ pub(crate) fn check_targets(
     Ok(())
 }
 
-// Whether a statement's target is a label, where it is a name.
+/// Whether a statement's target is a label, where it is a name.
 fn check_target(alloc: Global, operation: &Operation, labels: &Labels) -> Result<(), AsmFault>
     requires { IsUsableOperation operation.now }
     ensures ok { OnOk result (All (Contains (names_of labels.now)) (named_by operation.now)) }
@@ -90,7 +90,7 @@ fn check_target(alloc: Global, operation: &Operation, labels: &Labels) -> Result
     Ok(())
 }
 
-// A copy of a name.
+/// A copy of a name.
 fn copy_name(alloc: Global, name: &[u8]) -> Result<Word, OutOfMemory>
     requires { IsAscii name.now }
     ensures { IfOk result (λ word. word ≡ name.now) }
@@ -98,7 +98,7 @@ fn copy_name(alloc: Global, name: &[u8]) -> Result<Word, OutOfMemory>
     Word::copy(alloc, text_of_name(name))
 }
 
-// A name as text.
+/// A name as text.
 fn text_of_name(name: &[u8]) -> &str
     requires { IsAscii name.now }
     ensures { result.now ≡ name.now }

@@ -27,6 +27,4 @@ pub use law::one_statement_for_each_line;
 pub use statement::{Operation, Statement, Target};
 
 #[cfg(test)]
-mod statement_tests;
-#[cfg(test)]
 mod tests;

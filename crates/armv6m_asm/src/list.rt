@@ -1,7 +1,7 @@
 //! Lists of registers.
 ghost use Rattle.std.specs.Prelude.{◌≡◌, ◌<◌, ◌+◌, ◌^◌, false};
-ghost use Rattle.armv6m_decode.specs.Rows.{bit};
-ghost use Rattle.armv6m_asm.specs.Reading.{IsLow, symbols_of, register_in, with_register, list_of};
+ghost use Rattle.armv6m_alu.specs.Bits.{is_bit_set};
+ghost use Rattle.armv6m_asm.specs.Reading.{IsLow, symbols_of, register_in, with_one_more, list_of};
 
 use crate::symbol::{Symbol, split_symbol};
 
@@ -15,7 +15,7 @@ pub(crate) fn last_list(line: &[u8]) -> Option<u16>
     'registers: loop {
         let (register, behind) = split_symbol(rest)?;
         let (next, behind) = split_symbol(behind)?;
-        list = with_register(list, register)?;
+        list = with_one_more(list, register)?;
         match next {
             Symbol::Comma => rest = behind,
             Symbol::CloseBrace if split_symbol(behind).is_none() => return Some(list),
@@ -25,9 +25,9 @@ pub(crate) fn last_list(line: &[u8]) -> Option<u16>
 }
 
 /// A list with a register more, and none where it is there already or the symbol is no register.
-fn with_register(list: u16, symbol: Symbol) -> Option<u16>
+fn with_one_more(list: u16, symbol: Symbol) -> Option<u16>
     requires { IsLow symbol }
-    ensures { result ≡ with_register list (register_in symbol) }
+    ensures { result ≡ with_one_more list (register_in symbol) }
 {
     match symbol {
         Symbol::Register { number } if !has(list, number) => Some(more(list, number)),
@@ -38,7 +38,7 @@ fn with_register(list: u16, symbol: Symbol) -> Option<u16>
 /// Whether a register is in a list.
 fn has(list: u16, number: u8) -> bool
     requires { number < 16 }
-    ensures { result ≡ bit number list }
+    ensures { result ≡ is_bit_set list number }
 {
     (list >> number) % 2 == 1
 }
@@ -46,7 +46,7 @@ fn has(list: u16, number: u8) -> bool
 /// A list with a register that isn't in it.
 fn more(list: u16, number: u8) -> u16
     requires low { number < 16 }
-    requires new { bit number list ≡ false }
+    requires new { is_bit_set list number ≡ false }
     ensures { result ≡ list + 2 ^ number }
 {
     list + (1 << number)

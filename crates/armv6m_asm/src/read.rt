@@ -34,7 +34,7 @@ pub(crate) fn read_all(alloc: Global, text: &[u8]) -> Result<Vec<Statement<'_>>,
     Ok(statements)
 }
 
-// The fault of the line behind so many.
+/// The fault of the line behind so many.
 fn bad_line(before: usize) -> AsmFault
     requires { before < 2 ^ 63 }
     ensures { result ≡ AsmFault.BadWord (before + 1) }
@@ -57,7 +57,7 @@ fn read_line(line: &[u8], place: u32) -> Option<Statement<'_>>
     }
 }
 
-// Whether it is a `.word` that doesn't stand at a multiple of 4.
+/// Whether it is a `.word` that doesn't stand at a multiple of 4.
 fn is_askew(operation: &Operation, place: u32) -> bool
     ensures askew { IsTrue result ↔ (IsAligned operation.now place → ⊥) }
     ensures aligned { (result ≡ false) → IsAligned operation.now place }

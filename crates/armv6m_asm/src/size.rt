@@ -33,14 +33,14 @@ pub(crate) fn size(operation: &Operation, place: u32) -> u32
     }
 }
 
-// How many bytes pad a place to a multiple of 4.
+/// How many bytes pad a place to a multiple of 4.
 fn padding_len(place: u32) -> u32
     ensures { result ≡ size_of Operation.Align place }
 {
     if place % 4 == 0 { 0 } else { 2 }
 }
 
-// How many bytes an instruction has.
+/// How many bytes an instruction has.
 fn instr_width(instr: Instr) -> u32
     ensures { result ≡ width instr }
 {
@@ -57,7 +57,7 @@ fn instr_width(instr: Instr) -> u32
     }
 }
 
-// How many bytes an instruction with a target has.
+/// How many bytes an instruction with a target has.
 fn width_of_aim(aim: Aim) -> u32
     ensures { result ≡ aim_width aim }
 {

@@ -1,4 +1,5 @@
 pub mod RowsLemmas
 pub mod Masks
+pub mod ConditionLemmas
 pub mod TableLemmas
 pub mod Near

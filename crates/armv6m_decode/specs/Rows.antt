@@ -18,9 +18,6 @@ fits r half = nat_eq (bit_and half r.mask) r.value
 abbrev pub bits : ℕ → ℕ → ℕ → ℕ
 bits high low half = half / 2 ^ low % 2 ^ (high - low + 1)
 
-abbrev pub bit : ℕ → ℕ → Bool
-bit k half = nat_eq (half / 2 ^ k % 2) 1
-
 -- the instruction of the first row that fits
 abbrev pub first_fit : List Row → ℕ → Option Instr
 first_fit [] half = None

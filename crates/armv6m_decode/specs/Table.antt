@@ -10,7 +10,9 @@ use Rattle.armv6m_decode.specs.declared.instr.Branch.TheVariants.{Bx, Blx, Bcc, 
 use Rattle.armv6m_decode.specs.declared.instr.Other.TheVariants.{Adr, AddFromSp, AddToSp, SubFromSp, Sxth, Sxtb, Uxth, Uxtb, Cpsie, Cpsid, Rev, Rev16, Revsh, Bkpt, Nop, Yield, Wfe, Wfi, Sev, Udf, Svc, Mrs, Msr, Dsb, Dmb, Isb}
 use Rattle.armv6m_decode.specs.declared.instr.Decoded.{Decoded}
 use Rattle.armv6m_decode.specs.declared.instr.Decoded.TheVariants.{Op, NeedsSecond, Undefined}
-use Rattle.armv6m_decode.specs.Rows.{Row, row, PairRow, pair_row, bits, bit, first_fit, first_fit_pair, AtMostOneFits, AtMostOneFitsPair}
+use Rattle.armv6m_alu.specs.Bits.{is_bit_set}
+use Rattle.armv6m_decode.specs.Conditions.{condition_of}
+use Rattle.armv6m_decode.specs.Rows.{Row, row, PairRow, pair_row, bits, first_fit, first_fit_pair, AtMostOneFits, AtMostOneFitsPair}
 
 -- a register of four bits whose highest is bit 7: the manual's DN:Rdn
 abbrev pub high_register : ℕ → ℕ
@@ -96,13 +98,13 @@ rows =
     row 0xB240 0xFFC0 (λ h. instr.Other (Sxtb (bits 2 0 h) (bits 5 3 h))) ∷  -- SXTB T1
     row 0xB280 0xFFC0 (λ h. instr.Other (Uxth (bits 2 0 h) (bits 5 3 h))) ∷  -- UXTH T1
     row 0xB2C0 0xFFC0 (λ h. instr.Other (Uxtb (bits 2 0 h) (bits 5 3 h))) ∷  -- UXTB T1
-    row 0xB400 0xFE00 (λ h. instr.Many (Push (bit 8 h) (bits 7 0 h))) ∷  -- PUSH T1
+    row 0xB400 0xFE00 (λ h. instr.Many (Push (is_bit_set h 8) (bits 7 0 h))) ∷  -- PUSH T1
     row 0xB662 0xFFFF (λ h. instr.Other Cpsie) ∷  -- CPS T1, with im 0
     row 0xB672 0xFFFF (λ h. instr.Other Cpsid) ∷  -- CPS T1, with im 1
     row 0xBA00 0xFFC0 (λ h. instr.Other (Rev (bits 2 0 h) (bits 5 3 h))) ∷  -- REV T1
     row 0xBA40 0xFFC0 (λ h. instr.Other (Rev16 (bits 2 0 h) (bits 5 3 h))) ∷  -- REV16 T1
     row 0xBAC0 0xFFC0 (λ h. instr.Other (Revsh (bits 2 0 h) (bits 5 3 h))) ∷  -- REVSH T1
-    row 0xBC00 0xFE00 (λ h. instr.Many (Pop (bit 8 h) (bits 7 0 h))) ∷  -- POP T1
+    row 0xBC00 0xFE00 (λ h. instr.Many (Pop (is_bit_set h 8) (bits 7 0 h))) ∷  -- POP T1
     row 0xBE00 0xFF00 (λ h. instr.Other (Bkpt (bits 7 0 h))) ∷  -- BKPT T1
     row 0xBF00 0xFFFF (λ h. instr.Other Nop) ∷  -- NOP T1
     row 0xBF10 0xFFFF (λ h. instr.Other Yield) ∷  -- YIELD T1
@@ -113,9 +115,9 @@ rows =
     row 0xC000 0xF800 (λ h. instr.Many (Stm (bits 10 8 h) (bits 7 0 h))) ∷  -- STM T1
     row 0xC800 0xF800 (λ h. instr.Many (Ldm (bits 10 8 h) (bits 7 0 h))) ∷  -- LDM T1
     -- A5.2.6 Conditional branch, and Supervisor Call
-    row 0xD000 0xF800 (λ h. instr.Branch (Bcc (bits 11 8 h) (bits 7 0 h))) ∷  -- B T1, conditions 0 to 7
-    row 0xD800 0xFC00 (λ h. instr.Branch (Bcc (bits 11 8 h) (bits 7 0 h))) ∷  -- B T1, conditions 8 to 11
-    row 0xDC00 0xFE00 (λ h. instr.Branch (Bcc (bits 11 8 h) (bits 7 0 h))) ∷  -- B T1, conditions 12 and 13
+    row 0xD000 0xF800 (λ h. instr.Branch (Bcc (condition_of (bits 11 8 h)) (bits 7 0 h))) ∷  -- B T1, conditions 0 to 7
+    row 0xD800 0xFC00 (λ h. instr.Branch (Bcc (condition_of (bits 11 8 h)) (bits 7 0 h))) ∷  -- B T1, conditions 8 to 11
+    row 0xDC00 0xFE00 (λ h. instr.Branch (Bcc (condition_of (bits 11 8 h)) (bits 7 0 h))) ∷  -- B T1, conditions 12 and 13
     row 0xDE00 0xFF00 (λ h. instr.Other (Udf (bits 7 0 h))) ∷  -- UDF T1
     row 0xDF00 0xFF00 (λ h. instr.Other (Svc (bits 7 0 h))) ∷  -- SVC T1
     -- A5.2 Unconditional branch

@@ -3,9 +3,10 @@
 ghost use Rattle.std.specs.Prelude.{◌≡◌, ◌/◌, ◌%◌, ◌^◌};
 ghost use Rattle.armv6m_decode.specs.Table.{decoded};
 
+use crate::Condition;
 use crate::instr::{Branch, Decoded, Instr, Many, Other};
 
-// C000 to CFFF: STM and LDM.
+/// C000 to CFFF: STM and LDM.
 #[tactic(auto, using(crate::proofs::Near::lists, crate::proofs::Masks::masks), unfolding(crate::specs::Table::rows))]
 pub(crate) fn lists(half: u16) -> Decoded
     requires { half / 4096 ≡ 12 }
@@ -19,7 +20,7 @@ pub(crate) fn lists(half: u16) -> Decoded
     }
 }
 
-// D000 to DFFF: conditional branches, UDF and SVC.
+/// D000 to DFFF: conditional branches, UDF and SVC.
 #[tactic(auto, using(crate::proofs::Near::conditional, crate::proofs::Masks::masks), unfolding(crate::specs::Table::rows))]
 pub(crate) fn conditional(half: u16) -> Decoded
     requires { half / 4096 ≡ 13 }
@@ -29,14 +30,14 @@ pub(crate) fn conditional(half: u16) -> Decoded
     match (half >> 8) % 16 {
         14 => Decoded::Op(Instr::Other(Other::Udf { immediate })),
         15 => Decoded::Op(Instr::Other(Other::Svc { immediate })),
-        condition => Decoded::Op(Instr::Branch(Branch::Bcc {
-            condition: condition as u8,
+        code => Decoded::Op(Instr::Branch(Branch::Bcc {
+            condition: Condition::with_code(code as u8),
             immediate,
         })),
     }
 }
 
-// E000 to EFFF: the unconditional branch, and halfwords that begin a pair.
+/// E000 to EFFF: the unconditional branch, and halfwords that begin a pair.
 #[tactic(auto, using(crate::proofs::Near::branch, crate::proofs::TableLemmas::begins_pair, crate::proofs::Masks::masks), unfolding(crate::specs::Table::rows))]
 pub(crate) fn last(half: u16) -> Decoded
     requires { half / 4096 ≡ 14 }

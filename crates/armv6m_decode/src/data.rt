@@ -6,7 +6,7 @@ ghost use Rattle.armv6m_decode.specs.Table.{decoded};
 
 use crate::instr::{Alu, Branch, Decoded, Instr};
 
-// 0000 to 0FFF: LSL and LSR (immediate).
+/// 0000 to 0FFF: LSL and LSR (immediate).
 #[tactic(auto, using(crate::proofs::Near::shifts, crate::proofs::Masks::masks), unfolding(crate::specs::Table::rows))]
 pub(crate) fn shifts(half: u16) -> Decoded
     requires { half / 4096 ≡ 0 }
@@ -21,7 +21,7 @@ pub(crate) fn shifts(half: u16) -> Decoded
     }
 }
 
-// 1000 to 1FFF: ASR (immediate), ADD and SUB of three registers or a small immediate.
+/// 1000 to 1FFF: ASR (immediate), ADD and SUB of three registers or a small immediate.
 #[tactic(auto, using(crate::proofs::Near::shift_or_add, crate::proofs::Masks::masks), unfolding(crate::specs::Table::rows))]
 pub(crate) fn shift_or_add(half: u16) -> Decoded
     requires { half / 4096 ≡ 1 }
@@ -43,7 +43,7 @@ pub(crate) fn shift_or_add(half: u16) -> Decoded
     }
 }
 
-// 2000 to 2FFF: MOV and CMP (immediate).
+/// 2000 to 2FFF: MOV and CMP (immediate).
 #[tactic(auto, using(crate::proofs::Near::move_or_compare, crate::proofs::Masks::masks), unfolding(crate::specs::Table::rows))]
 pub(crate) fn move_or_compare(half: u16) -> Decoded
     requires { half / 4096 ≡ 2 }
@@ -57,7 +57,7 @@ pub(crate) fn move_or_compare(half: u16) -> Decoded
     }
 }
 
-// 3000 to 3FFF: ADD and SUB of an immediate of eight bits.
+/// 3000 to 3FFF: ADD and SUB of an immediate of eight bits.
 #[tactic(auto, using(crate::proofs::Near::add_or_subtract, crate::proofs::Masks::masks), unfolding(crate::specs::Table::rows))]
 pub(crate) fn add_or_subtract(half: u16) -> Decoded
     requires { half / 4096 ≡ 3 }
@@ -71,7 +71,7 @@ pub(crate) fn add_or_subtract(half: u16) -> Decoded
     }
 }
 
-// 4000 to 43FF: data processing on two low registers.
+/// 4000 to 43FF: data processing on two low registers.
 #[tactic(auto, using(crate::proofs::Near::data_processing, crate::proofs::Masks::masks), unfolding(crate::specs::Table::rows))]
 pub(crate) fn data_processing(half: u16) -> Decoded
     requires { half / 1024 ≡ 16 }
@@ -99,7 +99,7 @@ pub(crate) fn data_processing(half: u16) -> Decoded
     }
 }
 
-// 4400 to 47FF: ADD, CMP and MOV of all registers, and branch and exchange.
+/// 4400 to 47FF: ADD, CMP and MOV of all registers, and branch and exchange.
 #[tactic(auto, using(crate::proofs::Near::high_registers, crate::proofs::Masks::masks), unfolding(crate::specs::Table::rows))]
 pub(crate) fn high_registers(half: u16) -> Decoded
     requires { half / 1024 ≡ 17 }
@@ -115,7 +115,7 @@ pub(crate) fn high_registers(half: u16) -> Decoded
     }
 }
 
-// 4700 to 47FF: BX and BLX.
+/// 4700 to 47FF: BX and BLX.
 #[tactic(auto, using(crate::proofs::Near::exchange, crate::proofs::Masks::masks), unfolding(crate::specs::Table::rows))]
 fn exchange(half: u16) -> Decoded
     requires { half / 256 ≡ 71 }

@@ -48,7 +48,7 @@ pub fn decode16(half: u16) -> Decoded
     }
 }
 
-// 4000 to 4FFF.
+/// 4000 to 4FFF.
 fn registers_or_literal(half: u16) -> Decoded
     requires { half / 4096 ≡ 4 }
     ensures { result ≡ decoded half }

@@ -4,6 +4,8 @@
 //! second operand, and the register that is loaded or stored. An `immediate` is the unsigned number as it stands in the
 //! halfword, neither scaled nor extended. Bit r of a `list` stands for the register r.
 
+use crate::Condition;
+
 /// Data processing: the rows 0000 to 4600.
 #[derive(Clone, Copy, PartialEq, Eq, Debug)]
 pub enum Alu {
@@ -128,8 +130,8 @@ pub enum Branch {
     Bx { m: u8 },
     /// `BLX m`
     Blx { m: u8 },
-    /// `B` with a condition from 0, EQ, to 13, LE, in the manual's order; eight bits
-    Bcc { condition: u8, immediate: u8 },
+    /// `B` with a condition, eight bits
+    Bcc { condition: Condition, immediate: u8 },
     /// `B label`, eleven bits
     B { immediate: u16 },
     /// `BL label`, the 24 bits S:I1:I2:imm10:imm11

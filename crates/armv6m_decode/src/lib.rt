@@ -1,17 +1,21 @@
-//! The Armv6-M instructions: the table of their encodings, in `specs/Table.antt`, and the decoder that is proved to be that
-//! table. Neither call takes memory.
+//! The Armv6-M instructions: the table of their encodings, in `specs/Table.antt`, the decoder that is proved to be that table,
+//! and the addresses that instructions name by their distance from the PC. No call takes memory.
 #![tactic(auto)]
 
 mod branches;
+mod condition;
 mod data;
 mod decode;
 pub mod instr;
 mod memory;
 mod miscellaneous;
 mod pairs;
+pub mod registers;
+pub mod targets;
 #[cfg(test)]
 mod tests;
 
+pub use condition::Condition;
 pub use decode::{decode16, one_pair_row, one_row};
 pub use instr::{Alu, Branch, Decoded, Instr, Many, Memory, Other};
 pub use pairs::decode32;

@@ -5,7 +5,7 @@ ghost use Rattle.armv6m_decode.specs.Table.{decoded};
 
 use crate::instr::{Decoded, Instr, Memory};
 
-// 4800 to 4FFF: LDR (literal).
+/// 4800 to 4FFF: LDR (literal).
 #[tactic(auto, using(crate::proofs::Near::literal, crate::proofs::Masks::masks), unfolding(crate::specs::Table::rows))]
 pub(crate) fn literal(half: u16) -> Decoded
     requires { half / 2048 ≡ 9 }
@@ -17,7 +17,7 @@ pub(crate) fn literal(half: u16) -> Decoded
     }))
 }
 
-// 5000 to 5FFF: loads and stores at the sum of two registers.
+/// 5000 to 5FFF: loads and stores at the sum of two registers.
 #[tactic(auto, using(crate::proofs::Near::by_register, crate::proofs::Masks::masks), unfolding(crate::specs::Table::rows))]
 pub(crate) fn by_register(half: u16) -> Decoded
     requires { half / 4096 ≡ 5 }
@@ -38,7 +38,7 @@ pub(crate) fn by_register(half: u16) -> Decoded
     }
 }
 
-// 6000 to 6FFF: words at a register and an immediate.
+/// 6000 to 6FFF: words at a register and an immediate.
 #[tactic(auto, using(crate::proofs::Near::words, crate::proofs::Masks::masks), unfolding(crate::specs::Table::rows))]
 pub(crate) fn words(half: u16) -> Decoded
     requires { half / 4096 ≡ 6 }
@@ -53,7 +53,7 @@ pub(crate) fn words(half: u16) -> Decoded
     }
 }
 
-// 7000 to 7FFF: bytes at a register and an immediate.
+/// 7000 to 7FFF: bytes at a register and an immediate.
 #[tactic(auto, using(crate::proofs::Near::bytes, crate::proofs::Masks::masks), unfolding(crate::specs::Table::rows))]
 pub(crate) fn bytes(half: u16) -> Decoded
     requires { half / 4096 ≡ 7 }
@@ -68,7 +68,7 @@ pub(crate) fn bytes(half: u16) -> Decoded
     }
 }
 
-// 8000 to 8FFF: halfwords at a register and an immediate.
+/// 8000 to 8FFF: halfwords at a register and an immediate.
 #[tactic(auto, using(crate::proofs::Near::halfwords, crate::proofs::Masks::masks), unfolding(crate::specs::Table::rows))]
 pub(crate) fn halfwords(half: u16) -> Decoded
     requires { half / 4096 ≡ 8 }
@@ -83,7 +83,7 @@ pub(crate) fn halfwords(half: u16) -> Decoded
     }
 }
 
-// 9000 to 9FFF: words at SP and an immediate.
+/// 9000 to 9FFF: words at SP and an immediate.
 #[tactic(auto, using(crate::proofs::Near::on_stack, crate::proofs::Masks::masks), unfolding(crate::specs::Table::rows))]
 pub(crate) fn on_stack(half: u16) -> Decoded
     requires { half / 4096 ≡ 9 }

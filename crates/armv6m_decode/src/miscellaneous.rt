@@ -5,7 +5,7 @@ ghost use Rattle.armv6m_decode.specs.Table.{decoded};
 
 use crate::instr::{Decoded, Instr, Many, Other};
 
-// A000 to AFFF: ADR, and ADD of SP and an immediate.
+/// A000 to AFFF: ADR, and ADD of SP and an immediate.
 #[tactic(auto, using(crate::proofs::Near::addresses, crate::proofs::Masks::masks), unfolding(crate::specs::Table::rows))]
 pub(crate) fn addresses(half: u16) -> Decoded
     requires { half / 4096 ≡ 10 }
@@ -19,7 +19,7 @@ pub(crate) fn addresses(half: u16) -> Decoded
     }
 }
 
-// B000 to BFFF. No instruction begins with B8 or B9.
+/// B000 to BFFF. No instruction begins with B8 or B9.
 #[tactic(auto, using(crate::proofs::Near::reserved, crate::proofs::Masks::masks), unfolding(crate::specs::Table::rows))]
 pub(crate) fn miscellaneous(half: u16) -> Decoded
     requires { half / 4096 ≡ 11 }
@@ -37,7 +37,7 @@ pub(crate) fn miscellaneous(half: u16) -> Decoded
     }
 }
 
-// B000 to B1FF: SP plus or minus an immediate.
+/// B000 to B1FF: SP plus or minus an immediate.
 #[tactic(auto, using(crate::proofs::Near::stack_pointer, crate::proofs::Masks::masks), unfolding(crate::specs::Table::rows))]
 fn stack_pointer(half: u16) -> Decoded
     requires { half / 512 ≡ 88 }
@@ -51,7 +51,7 @@ fn stack_pointer(half: u16) -> Decoded
     }
 }
 
-// B200 to B3FF: sign and zero extensions.
+/// B200 to B3FF: sign and zero extensions.
 #[tactic(auto, using(crate::proofs::Near::extends, crate::proofs::Masks::masks), unfolding(crate::specs::Table::rows))]
 fn extends(half: u16) -> Decoded
     requires { half / 512 ≡ 89 }
@@ -68,7 +68,7 @@ fn extends(half: u16) -> Decoded
     }
 }
 
-// B400 to B5FF: PUSH.
+/// B400 to B5FF: PUSH.
 #[tactic(auto, using(crate::proofs::Near::push, crate::proofs::Masks::masks), unfolding(crate::specs::Table::rows))]
 fn push(half: u16) -> Decoded
     requires { half / 512 ≡ 90 }
@@ -80,7 +80,7 @@ fn push(half: u16) -> Decoded
     }))
 }
 
-// B600 to B7FF: CPS.
+/// B600 to B7FF: CPS.
 #[tactic(auto, using(crate::proofs::Near::masking, crate::proofs::Masks::masks), unfolding(crate::specs::Table::rows))]
 fn masking(half: u16) -> Decoded
     requires { half / 512 ≡ 91 }
@@ -93,7 +93,7 @@ fn masking(half: u16) -> Decoded
     }
 }
 
-// BA00 to BBFF: byte orders.
+/// BA00 to BBFF: byte orders.
 #[tactic(auto, using(crate::proofs::Near::reverses, crate::proofs::Masks::masks), unfolding(crate::specs::Table::rows))]
 fn reverses(half: u16) -> Decoded
     requires { half / 512 ≡ 93 }
@@ -109,7 +109,7 @@ fn reverses(half: u16) -> Decoded
     }
 }
 
-// BC00 to BDFF: POP.
+/// BC00 to BDFF: POP.
 #[tactic(auto, using(crate::proofs::Near::pop, crate::proofs::Masks::masks), unfolding(crate::specs::Table::rows))]
 fn pop(half: u16) -> Decoded
     requires { half / 512 ≡ 94 }
@@ -121,7 +121,7 @@ fn pop(half: u16) -> Decoded
     }))
 }
 
-// BE00 to BFFF: BKPT and the hints.
+/// BE00 to BFFF: BKPT and the hints.
 #[tactic(auto, using(crate::proofs::Near::hints, crate::proofs::Masks::masks), unfolding(crate::specs::Table::rows))]
 fn hints(half: u16) -> Decoded
     requires { half / 512 ≡ 95 }

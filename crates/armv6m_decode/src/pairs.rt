@@ -36,7 +36,7 @@ pub fn decode32(first: u16, second: u16) -> Option<Instr>
     }
 }
 
-// The bits S:I1:I2:imm10:imm11 of BL. I1 and I2 are 1 where J1 and J2 equal S.
+/// The bits S:I1:I2:imm10:imm11 of BL. I1 and I2 are 1 where J1 and J2 equal S.
 fn offset_bits(first: u16, second: u16) -> u32
     ensures { result ≡ branch_offset first second }
 {

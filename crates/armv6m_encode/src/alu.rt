@@ -84,7 +84,7 @@ pub(crate) fn encode(op: Alu) -> u16
     }
 }
 
-// LSL (immediate) T1; with immediate 0 it is MOV (register) T2.
+/// LSL (immediate) T1; with immediate 0 it is MOV (register) T2.
 #[tactic(auto, using(armv6m_decode::proofs::Near::shifts, armv6m_decode::proofs::Masks::masks), unfolding(armv6m_decode::specs::Table::rows))]
 fn lsls_immediate(d: u8, m: u8, immediate: u8) -> u16
     requires d_fits { d < 8 }
@@ -95,7 +95,7 @@ fn lsls_immediate(d: u8, m: u8, immediate: u8) -> u16
     0x0000 + u16::from(immediate) * 0x40 + u16::from(m) * 0x8 + u16::from(d)
 }
 
-// LSR (immediate) T1.
+/// LSR (immediate) T1.
 #[tactic(auto, using(armv6m_decode::proofs::Near::shifts, armv6m_decode::proofs::Masks::masks), unfolding(armv6m_decode::specs::Table::rows))]
 fn lsrs_immediate(d: u8, m: u8, immediate: u8) -> u16
     requires d_fits { d < 8 }
@@ -106,7 +106,7 @@ fn lsrs_immediate(d: u8, m: u8, immediate: u8) -> u16
     0x0800 + u16::from(immediate) * 0x40 + u16::from(m) * 0x8 + u16::from(d)
 }
 
-// ASR (immediate) T1.
+/// ASR (immediate) T1.
 #[tactic(auto, using(armv6m_decode::proofs::Near::shift_or_add, armv6m_decode::proofs::Masks::masks), unfolding(armv6m_decode::specs::Table::rows))]
 fn asrs_immediate(d: u8, m: u8, immediate: u8) -> u16
     requires d_fits { d < 8 }
@@ -117,7 +117,7 @@ fn asrs_immediate(d: u8, m: u8, immediate: u8) -> u16
     0x1000 + u16::from(immediate) * 0x40 + u16::from(m) * 0x8 + u16::from(d)
 }
 
-// ADD (register) T1.
+/// ADD (register) T1.
 #[tactic(auto, using(armv6m_decode::proofs::Near::shift_or_add, armv6m_decode::proofs::Masks::masks), unfolding(armv6m_decode::specs::Table::rows))]
 fn adds_register(d: u8, n: u8, m: u8) -> u16
     requires d_fits { d < 8 }
@@ -128,7 +128,7 @@ fn adds_register(d: u8, n: u8, m: u8) -> u16
     0x1800 + u16::from(m) * 0x40 + u16::from(n) * 0x8 + u16::from(d)
 }
 
-// SUB (register) T1.
+/// SUB (register) T1.
 #[tactic(auto, using(armv6m_decode::proofs::Near::shift_or_add, armv6m_decode::proofs::Masks::masks), unfolding(armv6m_decode::specs::Table::rows))]
 fn subs_register(d: u8, n: u8, m: u8) -> u16
     requires d_fits { d < 8 }
@@ -139,7 +139,7 @@ fn subs_register(d: u8, n: u8, m: u8) -> u16
     0x1A00 + u16::from(m) * 0x40 + u16::from(n) * 0x8 + u16::from(d)
 }
 
-// ADD (immediate) T1.
+/// ADD (immediate) T1.
 #[tactic(auto, using(armv6m_decode::proofs::Near::shift_or_add, armv6m_decode::proofs::Masks::masks), unfolding(armv6m_decode::specs::Table::rows))]
 fn adds_immediate_3(d: u8, n: u8, immediate: u8) -> u16
     requires d_fits { d < 8 }
@@ -150,7 +150,7 @@ fn adds_immediate_3(d: u8, n: u8, immediate: u8) -> u16
     0x1C00 + u16::from(immediate) * 0x40 + u16::from(n) * 0x8 + u16::from(d)
 }
 
-// SUB (immediate) T1.
+/// SUB (immediate) T1.
 #[tactic(auto, using(armv6m_decode::proofs::Near::shift_or_add, armv6m_decode::proofs::Masks::masks), unfolding(armv6m_decode::specs::Table::rows))]
 fn subs_immediate_3(d: u8, n: u8, immediate: u8) -> u16
     requires d_fits { d < 8 }
@@ -161,7 +161,7 @@ fn subs_immediate_3(d: u8, n: u8, immediate: u8) -> u16
     0x1E00 + u16::from(immediate) * 0x40 + u16::from(n) * 0x8 + u16::from(d)
 }
 
-// MOV (immediate) T1.
+/// MOV (immediate) T1.
 #[tactic(auto, using(armv6m_decode::proofs::Near::move_or_compare, armv6m_decode::proofs::Masks::masks), unfolding(armv6m_decode::specs::Table::rows))]
 fn movs_immediate(d: u8, immediate: u8) -> u16
     requires { d < 8 }
@@ -170,7 +170,7 @@ fn movs_immediate(d: u8, immediate: u8) -> u16
     0x2000 + u16::from(d) * 0x100 + u16::from(immediate)
 }
 
-// CMP (immediate) T1.
+/// CMP (immediate) T1.
 #[tactic(auto, using(armv6m_decode::proofs::Near::move_or_compare, armv6m_decode::proofs::Masks::masks), unfolding(armv6m_decode::specs::Table::rows))]
 fn cmp_immediate(n: u8, immediate: u8) -> u16
     requires { n < 8 }
@@ -179,7 +179,7 @@ fn cmp_immediate(n: u8, immediate: u8) -> u16
     0x2800 + u16::from(n) * 0x100 + u16::from(immediate)
 }
 
-// ADD (immediate) T2.
+/// ADD (immediate) T2.
 #[tactic(auto, using(armv6m_decode::proofs::Near::add_or_subtract, armv6m_decode::proofs::Masks::masks), unfolding(armv6m_decode::specs::Table::rows))]
 fn adds_immediate_8(d: u8, immediate: u8) -> u16
     requires { d < 8 }
@@ -188,7 +188,7 @@ fn adds_immediate_8(d: u8, immediate: u8) -> u16
     0x3000 + u16::from(d) * 0x100 + u16::from(immediate)
 }
 
-// SUB (immediate) T2.
+/// SUB (immediate) T2.
 #[tactic(auto, using(armv6m_decode::proofs::Near::add_or_subtract, armv6m_decode::proofs::Masks::masks), unfolding(armv6m_decode::specs::Table::rows))]
 fn subs_immediate_8(d: u8, immediate: u8) -> u16
     requires { d < 8 }
@@ -197,7 +197,7 @@ fn subs_immediate_8(d: u8, immediate: u8) -> u16
     0x3800 + u16::from(d) * 0x100 + u16::from(immediate)
 }
 
-// AND (register) T1.
+/// AND (register) T1.
 #[tactic(auto, using(armv6m_decode::proofs::Near::data_processing, armv6m_decode::proofs::Masks::masks), unfolding(armv6m_decode::specs::Table::rows))]
 fn ands(d: u8, m: u8) -> u16
     requires d_fits { d < 8 }
@@ -207,7 +207,7 @@ fn ands(d: u8, m: u8) -> u16
     0x4000 + u16::from(m) * 0x8 + u16::from(d)
 }
 
-// EOR (register) T1.
+/// EOR (register) T1.
 #[tactic(auto, using(armv6m_decode::proofs::Near::data_processing, armv6m_decode::proofs::Masks::masks), unfolding(armv6m_decode::specs::Table::rows))]
 fn eors(d: u8, m: u8) -> u16
     requires d_fits { d < 8 }
@@ -217,7 +217,7 @@ fn eors(d: u8, m: u8) -> u16
     0x4040 + u16::from(m) * 0x8 + u16::from(d)
 }
 
-// LSL (register) T1.
+/// LSL (register) T1.
 #[tactic(auto, using(armv6m_decode::proofs::Near::data_processing, armv6m_decode::proofs::Masks::masks), unfolding(armv6m_decode::specs::Table::rows))]
 fn lsls_register(d: u8, m: u8) -> u16
     requires d_fits { d < 8 }
@@ -227,7 +227,7 @@ fn lsls_register(d: u8, m: u8) -> u16
     0x4080 + u16::from(m) * 0x8 + u16::from(d)
 }
 
-// LSR (register) T1.
+/// LSR (register) T1.
 #[tactic(auto, using(armv6m_decode::proofs::Near::data_processing, armv6m_decode::proofs::Masks::masks), unfolding(armv6m_decode::specs::Table::rows))]
 fn lsrs_register(d: u8, m: u8) -> u16
     requires d_fits { d < 8 }
@@ -237,7 +237,7 @@ fn lsrs_register(d: u8, m: u8) -> u16
     0x40C0 + u16::from(m) * 0x8 + u16::from(d)
 }
 
-// ASR (register) T1.
+/// ASR (register) T1.
 #[tactic(auto, using(armv6m_decode::proofs::Near::data_processing, armv6m_decode::proofs::Masks::masks), unfolding(armv6m_decode::specs::Table::rows))]
 fn asrs_register(d: u8, m: u8) -> u16
     requires d_fits { d < 8 }
@@ -247,7 +247,7 @@ fn asrs_register(d: u8, m: u8) -> u16
     0x4100 + u16::from(m) * 0x8 + u16::from(d)
 }
 
-// ADC (register) T1.
+/// ADC (register) T1.
 #[tactic(auto, using(armv6m_decode::proofs::Near::data_processing, armv6m_decode::proofs::Masks::masks), unfolding(armv6m_decode::specs::Table::rows))]
 fn adcs(d: u8, m: u8) -> u16
     requires d_fits { d < 8 }
@@ -257,7 +257,7 @@ fn adcs(d: u8, m: u8) -> u16
     0x4140 + u16::from(m) * 0x8 + u16::from(d)
 }
 
-// SBC (register) T1.
+/// SBC (register) T1.
 #[tactic(auto, using(armv6m_decode::proofs::Near::data_processing, armv6m_decode::proofs::Masks::masks), unfolding(armv6m_decode::specs::Table::rows))]
 fn sbcs(d: u8, m: u8) -> u16
     requires d_fits { d < 8 }
@@ -267,7 +267,7 @@ fn sbcs(d: u8, m: u8) -> u16
     0x4180 + u16::from(m) * 0x8 + u16::from(d)
 }
 
-// ROR (register) T1.
+/// ROR (register) T1.
 #[tactic(auto, using(armv6m_decode::proofs::Near::data_processing, armv6m_decode::proofs::Masks::masks), unfolding(armv6m_decode::specs::Table::rows))]
 fn rors(d: u8, m: u8) -> u16
     requires d_fits { d < 8 }
@@ -277,7 +277,7 @@ fn rors(d: u8, m: u8) -> u16
     0x41C0 + u16::from(m) * 0x8 + u16::from(d)
 }
 
-// TST (register) T1.
+/// TST (register) T1.
 #[tactic(auto, using(armv6m_decode::proofs::Near::data_processing, armv6m_decode::proofs::Masks::masks), unfolding(armv6m_decode::specs::Table::rows))]
 fn tst(d: u8, m: u8) -> u16
     requires d_fits { d < 8 }
@@ -287,7 +287,7 @@ fn tst(d: u8, m: u8) -> u16
     0x4200 + u16::from(m) * 0x8 + u16::from(d)
 }
 
-// RSB (immediate) T1.
+/// RSB (immediate) T1.
 #[tactic(auto, using(armv6m_decode::proofs::Near::data_processing, armv6m_decode::proofs::Masks::masks), unfolding(armv6m_decode::specs::Table::rows))]
 fn rsbs(d: u8, n: u8) -> u16
     requires d_fits { d < 8 }
@@ -297,7 +297,7 @@ fn rsbs(d: u8, n: u8) -> u16
     0x4240 + u16::from(n) * 0x8 + u16::from(d)
 }
 
-// CMP (register) T1.
+/// CMP (register) T1.
 #[tactic(auto, using(armv6m_decode::proofs::Near::data_processing, armv6m_decode::proofs::Masks::masks), unfolding(armv6m_decode::specs::Table::rows))]
 fn cmp_register(d: u8, m: u8) -> u16
     requires d_fits { d < 8 }
@@ -307,7 +307,7 @@ fn cmp_register(d: u8, m: u8) -> u16
     0x4280 + u16::from(m) * 0x8 + u16::from(d)
 }
 
-// CMN (register) T1.
+/// CMN (register) T1.
 #[tactic(auto, using(armv6m_decode::proofs::Near::data_processing, armv6m_decode::proofs::Masks::masks), unfolding(armv6m_decode::specs::Table::rows))]
 fn cmn(d: u8, m: u8) -> u16
     requires d_fits { d < 8 }
@@ -317,7 +317,7 @@ fn cmn(d: u8, m: u8) -> u16
     0x42C0 + u16::from(m) * 0x8 + u16::from(d)
 }
 
-// ORR (register) T1.
+/// ORR (register) T1.
 #[tactic(auto, using(armv6m_decode::proofs::Near::data_processing, armv6m_decode::proofs::Masks::masks), unfolding(armv6m_decode::specs::Table::rows))]
 fn orrs(d: u8, m: u8) -> u16
     requires d_fits { d < 8 }
@@ -327,7 +327,7 @@ fn orrs(d: u8, m: u8) -> u16
     0x4300 + u16::from(m) * 0x8 + u16::from(d)
 }
 
-// MUL T1.
+/// MUL T1.
 #[tactic(auto, using(armv6m_decode::proofs::Near::data_processing, armv6m_decode::proofs::Masks::masks), unfolding(armv6m_decode::specs::Table::rows))]
 fn muls(d: u8, m: u8) -> u16
     requires d_fits { d < 8 }
@@ -337,7 +337,7 @@ fn muls(d: u8, m: u8) -> u16
     0x4340 + u16::from(m) * 0x8 + u16::from(d)
 }
 
-// BIC (register) T1.
+/// BIC (register) T1.
 #[tactic(auto, using(armv6m_decode::proofs::Near::data_processing, armv6m_decode::proofs::Masks::masks), unfolding(armv6m_decode::specs::Table::rows))]
 fn bics(d: u8, m: u8) -> u16
     requires d_fits { d < 8 }
@@ -347,7 +347,7 @@ fn bics(d: u8, m: u8) -> u16
     0x4380 + u16::from(m) * 0x8 + u16::from(d)
 }
 
-// MVN (register) T1.
+/// MVN (register) T1.
 #[tactic(auto, using(armv6m_decode::proofs::Near::data_processing, armv6m_decode::proofs::Masks::masks), unfolding(armv6m_decode::specs::Table::rows))]
 fn mvns(d: u8, m: u8) -> u16
     requires d_fits { d < 8 }
@@ -357,7 +357,7 @@ fn mvns(d: u8, m: u8) -> u16
     0x43C0 + u16::from(m) * 0x8 + u16::from(d)
 }
 
-// ADD (register) T2, and ADD (SP plus register) T1 and T2.
+/// ADD (register) T2, and ADD (SP plus register) T1 and T2.
 #[tactic(auto, using(armv6m_decode::proofs::Near::high_registers, armv6m_decode::proofs::Masks::masks), unfolding(armv6m_decode::specs::Table::rows))]
 fn add_high(d: u8, m: u8) -> u16
     requires d_fits { d < 16 }
@@ -367,7 +367,7 @@ fn add_high(d: u8, m: u8) -> u16
     0x4400 + u16::from(m) * 0x8 + u16::from(d / 8) * 0x80 + u16::from(d % 8)
 }
 
-// CMP (register) T2.
+/// CMP (register) T2.
 #[tactic(auto, using(armv6m_decode::proofs::Near::high_registers, armv6m_decode::proofs::Masks::masks), unfolding(armv6m_decode::specs::Table::rows))]
 fn cmp_high(n: u8, m: u8) -> u16
     requires n_fits { n < 16 }
@@ -377,7 +377,7 @@ fn cmp_high(n: u8, m: u8) -> u16
     0x4500 + u16::from(m) * 0x8 + u16::from(n / 8) * 0x80 + u16::from(n % 8)
 }
 
-// MOV (register) T1.
+/// MOV (register) T1.
 #[tactic(auto, using(armv6m_decode::proofs::Near::high_registers, armv6m_decode::proofs::Masks::masks), unfolding(armv6m_decode::specs::Table::rows))]
 fn mov_high(d: u8, m: u8) -> u16
     requires d_fits { d < 16 }

@@ -32,7 +32,7 @@ pub(crate) fn encode(op: Many) -> u16
     }
 }
 
-// PUSH T1.
+/// PUSH T1.
 #[tactic(auto, using(armv6m_decode::proofs::Near::push, armv6m_decode::proofs::Masks::masks), unfolding(armv6m_decode::specs::Table::rows))]
 fn push(lr: bool, list: u8) -> u16
     ensures { decoded result ≡ Decoded.Op (Instr.Many (Many.Push lr list)) }
@@ -40,7 +40,7 @@ fn push(lr: bool, list: u8) -> u16
     0xB400 + if lr { 0x100 } else { 0 } + u16::from(list)
 }
 
-// POP T1.
+/// POP T1.
 #[tactic(auto, using(armv6m_decode::proofs::Near::pop, armv6m_decode::proofs::Masks::masks), unfolding(armv6m_decode::specs::Table::rows))]
 fn pop(pc: bool, list: u8) -> u16
     ensures { decoded result ≡ Decoded.Op (Instr.Many (Many.Pop pc list)) }
@@ -48,7 +48,7 @@ fn pop(pc: bool, list: u8) -> u16
     0xBC00 + if pc { 0x100 } else { 0 } + u16::from(list)
 }
 
-// STM T1.
+/// STM T1.
 #[tactic(auto, using(armv6m_decode::proofs::Near::lists, armv6m_decode::proofs::Masks::masks), unfolding(armv6m_decode::specs::Table::rows))]
 fn stm(n: u8, list: u8) -> u16
     requires { n < 8 }
@@ -57,7 +57,7 @@ fn stm(n: u8, list: u8) -> u16
     0xC000 + u16::from(n) * 0x100 + u16::from(list)
 }
 
-// LDM T1.
+/// LDM T1.
 #[tactic(auto, using(armv6m_decode::proofs::Near::lists, armv6m_decode::proofs::Masks::masks), unfolding(armv6m_decode::specs::Table::rows))]
 fn ldm(n: u8, list: u8) -> u16
     requires { n < 8 }

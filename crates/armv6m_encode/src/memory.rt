@@ -58,7 +58,7 @@ pub(crate) fn encode(op: Memory) -> u16
     }
 }
 
-// LDR (literal) T1.
+/// LDR (literal) T1.
 #[tactic(auto, using(armv6m_decode::proofs::Near::literal, armv6m_decode::proofs::Masks::masks), unfolding(armv6m_decode::specs::Table::rows))]
 fn ldr_literal(t: u8, immediate: u8) -> u16
     requires { t < 8 }
@@ -67,7 +67,7 @@ fn ldr_literal(t: u8, immediate: u8) -> u16
     0x4800 + u16::from(t) * 0x100 + u16::from(immediate)
 }
 
-// STR (register) T1.
+/// STR (register) T1.
 #[tactic(auto, using(armv6m_decode::proofs::Near::by_register, armv6m_decode::proofs::Masks::masks), unfolding(armv6m_decode::specs::Table::rows))]
 fn str_register(t: u8, n: u8, m: u8) -> u16
     requires t_fits { t < 8 }
@@ -78,7 +78,7 @@ fn str_register(t: u8, n: u8, m: u8) -> u16
     0x5000 + u16::from(m) * 0x40 + u16::from(n) * 0x8 + u16::from(t)
 }
 
-// STRH (register) T1.
+/// STRH (register) T1.
 #[tactic(auto, using(armv6m_decode::proofs::Near::by_register, armv6m_decode::proofs::Masks::masks), unfolding(armv6m_decode::specs::Table::rows))]
 fn strh_register(t: u8, n: u8, m: u8) -> u16
     requires t_fits { t < 8 }
@@ -89,7 +89,7 @@ fn strh_register(t: u8, n: u8, m: u8) -> u16
     0x5200 + u16::from(m) * 0x40 + u16::from(n) * 0x8 + u16::from(t)
 }
 
-// STRB (register) T1.
+/// STRB (register) T1.
 #[tactic(auto, using(armv6m_decode::proofs::Near::by_register, armv6m_decode::proofs::Masks::masks), unfolding(armv6m_decode::specs::Table::rows))]
 fn strb_register(t: u8, n: u8, m: u8) -> u16
     requires t_fits { t < 8 }
@@ -100,7 +100,7 @@ fn strb_register(t: u8, n: u8, m: u8) -> u16
     0x5400 + u16::from(m) * 0x40 + u16::from(n) * 0x8 + u16::from(t)
 }
 
-// LDRSB (register) T1.
+/// LDRSB (register) T1.
 #[tactic(auto, using(armv6m_decode::proofs::Near::by_register, armv6m_decode::proofs::Masks::masks), unfolding(armv6m_decode::specs::Table::rows))]
 fn ldrsb_register(t: u8, n: u8, m: u8) -> u16
     requires t_fits { t < 8 }
@@ -111,7 +111,7 @@ fn ldrsb_register(t: u8, n: u8, m: u8) -> u16
     0x5600 + u16::from(m) * 0x40 + u16::from(n) * 0x8 + u16::from(t)
 }
 
-// LDR (register) T1.
+/// LDR (register) T1.
 #[tactic(auto, using(armv6m_decode::proofs::Near::by_register, armv6m_decode::proofs::Masks::masks), unfolding(armv6m_decode::specs::Table::rows))]
 fn ldr_register(t: u8, n: u8, m: u8) -> u16
     requires t_fits { t < 8 }
@@ -122,7 +122,7 @@ fn ldr_register(t: u8, n: u8, m: u8) -> u16
     0x5800 + u16::from(m) * 0x40 + u16::from(n) * 0x8 + u16::from(t)
 }
 
-// LDRH (register) T1.
+/// LDRH (register) T1.
 #[tactic(auto, using(armv6m_decode::proofs::Near::by_register, armv6m_decode::proofs::Masks::masks), unfolding(armv6m_decode::specs::Table::rows))]
 fn ldrh_register(t: u8, n: u8, m: u8) -> u16
     requires t_fits { t < 8 }
@@ -133,7 +133,7 @@ fn ldrh_register(t: u8, n: u8, m: u8) -> u16
     0x5A00 + u16::from(m) * 0x40 + u16::from(n) * 0x8 + u16::from(t)
 }
 
-// LDRB (register) T1.
+/// LDRB (register) T1.
 #[tactic(auto, using(armv6m_decode::proofs::Near::by_register, armv6m_decode::proofs::Masks::masks), unfolding(armv6m_decode::specs::Table::rows))]
 fn ldrb_register(t: u8, n: u8, m: u8) -> u16
     requires t_fits { t < 8 }
@@ -144,7 +144,7 @@ fn ldrb_register(t: u8, n: u8, m: u8) -> u16
     0x5C00 + u16::from(m) * 0x40 + u16::from(n) * 0x8 + u16::from(t)
 }
 
-// LDRSH (register) T1.
+/// LDRSH (register) T1.
 #[tactic(auto, using(armv6m_decode::proofs::Near::by_register, armv6m_decode::proofs::Masks::masks), unfolding(armv6m_decode::specs::Table::rows))]
 fn ldrsh_register(t: u8, n: u8, m: u8) -> u16
     requires t_fits { t < 8 }
@@ -155,7 +155,7 @@ fn ldrsh_register(t: u8, n: u8, m: u8) -> u16
     0x5E00 + u16::from(m) * 0x40 + u16::from(n) * 0x8 + u16::from(t)
 }
 
-// STR (immediate) T1.
+/// STR (immediate) T1.
 #[tactic(auto, using(armv6m_decode::proofs::Near::words, armv6m_decode::proofs::Masks::masks), unfolding(armv6m_decode::specs::Table::rows))]
 fn str_immediate(t: u8, n: u8, immediate: u8) -> u16
     requires t_fits { t < 8 }
@@ -166,7 +166,7 @@ fn str_immediate(t: u8, n: u8, immediate: u8) -> u16
     0x6000 + u16::from(immediate) * 0x40 + u16::from(n) * 0x8 + u16::from(t)
 }
 
-// LDR (immediate) T1.
+/// LDR (immediate) T1.
 #[tactic(auto, using(armv6m_decode::proofs::Near::words, armv6m_decode::proofs::Masks::masks), unfolding(armv6m_decode::specs::Table::rows))]
 fn ldr_immediate(t: u8, n: u8, immediate: u8) -> u16
     requires t_fits { t < 8 }
@@ -177,7 +177,7 @@ fn ldr_immediate(t: u8, n: u8, immediate: u8) -> u16
     0x6800 + u16::from(immediate) * 0x40 + u16::from(n) * 0x8 + u16::from(t)
 }
 
-// STRB (immediate) T1.
+/// STRB (immediate) T1.
 #[tactic(auto, using(armv6m_decode::proofs::Near::bytes, armv6m_decode::proofs::Masks::masks), unfolding(armv6m_decode::specs::Table::rows))]
 fn strb_immediate(t: u8, n: u8, immediate: u8) -> u16
     requires t_fits { t < 8 }
@@ -188,7 +188,7 @@ fn strb_immediate(t: u8, n: u8, immediate: u8) -> u16
     0x7000 + u16::from(immediate) * 0x40 + u16::from(n) * 0x8 + u16::from(t)
 }
 
-// LDRB (immediate) T1.
+/// LDRB (immediate) T1.
 #[tactic(auto, using(armv6m_decode::proofs::Near::bytes, armv6m_decode::proofs::Masks::masks), unfolding(armv6m_decode::specs::Table::rows))]
 fn ldrb_immediate(t: u8, n: u8, immediate: u8) -> u16
     requires t_fits { t < 8 }
@@ -199,7 +199,7 @@ fn ldrb_immediate(t: u8, n: u8, immediate: u8) -> u16
     0x7800 + u16::from(immediate) * 0x40 + u16::from(n) * 0x8 + u16::from(t)
 }
 
-// STRH (immediate) T1.
+/// STRH (immediate) T1.
 #[tactic(auto, using(armv6m_decode::proofs::Near::halfwords, armv6m_decode::proofs::Masks::masks), unfolding(armv6m_decode::specs::Table::rows))]
 fn strh_immediate(t: u8, n: u8, immediate: u8) -> u16
     requires t_fits { t < 8 }
@@ -210,7 +210,7 @@ fn strh_immediate(t: u8, n: u8, immediate: u8) -> u16
     0x8000 + u16::from(immediate) * 0x40 + u16::from(n) * 0x8 + u16::from(t)
 }
 
-// LDRH (immediate) T1.
+/// LDRH (immediate) T1.
 #[tactic(auto, using(armv6m_decode::proofs::Near::halfwords, armv6m_decode::proofs::Masks::masks), unfolding(armv6m_decode::specs::Table::rows))]
 fn ldrh_immediate(t: u8, n: u8, immediate: u8) -> u16
     requires t_fits { t < 8 }
@@ -221,7 +221,7 @@ fn ldrh_immediate(t: u8, n: u8, immediate: u8) -> u16
     0x8800 + u16::from(immediate) * 0x40 + u16::from(n) * 0x8 + u16::from(t)
 }
 
-// STR (immediate) T2.
+/// STR (immediate) T2.
 #[tactic(auto, using(armv6m_decode::proofs::Near::on_stack, armv6m_decode::proofs::Masks::masks), unfolding(armv6m_decode::specs::Table::rows))]
 fn str_sp(t: u8, immediate: u8) -> u16
     requires { t < 8 }
@@ -230,7 +230,7 @@ fn str_sp(t: u8, immediate: u8) -> u16
     0x9000 + u16::from(t) * 0x100 + u16::from(immediate)
 }
 
-// LDR (immediate) T2.
+/// LDR (immediate) T2.
 #[tactic(auto, using(armv6m_decode::proofs::Near::on_stack, armv6m_decode::proofs::Masks::masks), unfolding(armv6m_decode::specs::Table::rows))]
 fn ldr_sp(t: u8, immediate: u8) -> u16
     requires { t < 8 }

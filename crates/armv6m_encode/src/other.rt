@@ -78,7 +78,7 @@ pub(crate) fn encode(op: Other) -> Encoding
     }
 }
 
-// ADR T1.
+/// ADR T1.
 #[tactic(auto, using(armv6m_decode::proofs::Near::addresses, armv6m_decode::proofs::Masks::masks), unfolding(armv6m_decode::specs::Table::rows))]
 fn adr(d: u8, immediate: u8) -> u16
     requires { d < 8 }
@@ -87,7 +87,7 @@ fn adr(d: u8, immediate: u8) -> u16
     0xA000 + u16::from(d) * 0x100 + u16::from(immediate)
 }
 
-// ADD (SP plus immediate) T1.
+/// ADD (SP plus immediate) T1.
 #[tactic(auto, using(armv6m_decode::proofs::Near::addresses, armv6m_decode::proofs::Masks::masks), unfolding(armv6m_decode::specs::Table::rows))]
 fn add_from_sp(d: u8, immediate: u8) -> u16
     requires { d < 8 }
@@ -96,7 +96,7 @@ fn add_from_sp(d: u8, immediate: u8) -> u16
     0xA800 + u16::from(d) * 0x100 + u16::from(immediate)
 }
 
-// ADD (SP plus immediate) T2.
+/// ADD (SP plus immediate) T2.
 #[tactic(auto, using(armv6m_decode::proofs::Near::stack_pointer, armv6m_decode::proofs::Masks::masks), unfolding(armv6m_decode::specs::Table::rows))]
 fn add_to_sp(immediate: u8) -> u16
     requires { immediate < 128 }
@@ -105,7 +105,7 @@ fn add_to_sp(immediate: u8) -> u16
     0xB000 + u16::from(immediate)
 }
 
-// SUB (SP minus immediate) T1.
+/// SUB (SP minus immediate) T1.
 #[tactic(auto, using(armv6m_decode::proofs::Near::stack_pointer, armv6m_decode::proofs::Masks::masks), unfolding(armv6m_decode::specs::Table::rows))]
 fn sub_from_sp(immediate: u8) -> u16
     requires { immediate < 128 }
@@ -114,7 +114,7 @@ fn sub_from_sp(immediate: u8) -> u16
     0xB080 + u16::from(immediate)
 }
 
-// SXTH T1.
+/// SXTH T1.
 #[tactic(auto, using(armv6m_decode::proofs::Near::extends, armv6m_decode::proofs::Masks::masks), unfolding(armv6m_decode::specs::Table::rows))]
 fn sxth(d: u8, m: u8) -> u16
     requires d_fits { d < 8 }
@@ -124,7 +124,7 @@ fn sxth(d: u8, m: u8) -> u16
     0xB200 + u16::from(m) * 0x8 + u16::from(d)
 }
 
-// SXTB T1.
+/// SXTB T1.
 #[tactic(auto, using(armv6m_decode::proofs::Near::extends, armv6m_decode::proofs::Masks::masks), unfolding(armv6m_decode::specs::Table::rows))]
 fn sxtb(d: u8, m: u8) -> u16
     requires d_fits { d < 8 }
@@ -134,7 +134,7 @@ fn sxtb(d: u8, m: u8) -> u16
     0xB240 + u16::from(m) * 0x8 + u16::from(d)
 }
 
-// UXTH T1.
+/// UXTH T1.
 #[tactic(auto, using(armv6m_decode::proofs::Near::extends, armv6m_decode::proofs::Masks::masks), unfolding(armv6m_decode::specs::Table::rows))]
 fn uxth(d: u8, m: u8) -> u16
     requires d_fits { d < 8 }
@@ -144,7 +144,7 @@ fn uxth(d: u8, m: u8) -> u16
     0xB280 + u16::from(m) * 0x8 + u16::from(d)
 }
 
-// UXTB T1.
+/// UXTB T1.
 #[tactic(auto, using(armv6m_decode::proofs::Near::extends, armv6m_decode::proofs::Masks::masks), unfolding(armv6m_decode::specs::Table::rows))]
 fn uxtb(d: u8, m: u8) -> u16
     requires d_fits { d < 8 }
@@ -154,7 +154,7 @@ fn uxtb(d: u8, m: u8) -> u16
     0xB2C0 + u16::from(m) * 0x8 + u16::from(d)
 }
 
-// CPS T1, with im 0.
+/// CPS T1, with im 0.
 #[tactic(auto, using(armv6m_decode::proofs::Near::masking, armv6m_decode::proofs::Masks::masks), unfolding(armv6m_decode::specs::Table::rows))]
 fn cpsie() -> u16
     ensures { decoded result ≡ Decoded.Op (Instr.Other Other.Cpsie) }
@@ -162,7 +162,7 @@ fn cpsie() -> u16
     0xB662
 }
 
-// CPS T1, with im 1.
+/// CPS T1, with im 1.
 #[tactic(auto, using(armv6m_decode::proofs::Near::masking, armv6m_decode::proofs::Masks::masks), unfolding(armv6m_decode::specs::Table::rows))]
 fn cpsid() -> u16
     ensures { decoded result ≡ Decoded.Op (Instr.Other Other.Cpsid) }
@@ -170,7 +170,7 @@ fn cpsid() -> u16
     0xB672
 }
 
-// REV T1.
+/// REV T1.
 #[tactic(auto, using(armv6m_decode::proofs::Near::reverses, armv6m_decode::proofs::Masks::masks), unfolding(armv6m_decode::specs::Table::rows))]
 fn rev(d: u8, m: u8) -> u16
     requires d_fits { d < 8 }
@@ -180,7 +180,7 @@ fn rev(d: u8, m: u8) -> u16
     0xBA00 + u16::from(m) * 0x8 + u16::from(d)
 }
 
-// REV16 T1.
+/// REV16 T1.
 #[tactic(auto, using(armv6m_decode::proofs::Near::reverses, armv6m_decode::proofs::Masks::masks), unfolding(armv6m_decode::specs::Table::rows))]
 fn rev_16(d: u8, m: u8) -> u16
     requires d_fits { d < 8 }
@@ -190,7 +190,7 @@ fn rev_16(d: u8, m: u8) -> u16
     0xBA40 + u16::from(m) * 0x8 + u16::from(d)
 }
 
-// REVSH T1.
+/// REVSH T1.
 #[tactic(auto, using(armv6m_decode::proofs::Near::reverses, armv6m_decode::proofs::Masks::masks), unfolding(armv6m_decode::specs::Table::rows))]
 fn revsh(d: u8, m: u8) -> u16
     requires d_fits { d < 8 }
@@ -200,7 +200,7 @@ fn revsh(d: u8, m: u8) -> u16
     0xBAC0 + u16::from(m) * 0x8 + u16::from(d)
 }
 
-// BKPT T1.
+/// BKPT T1.
 #[tactic(auto, using(armv6m_decode::proofs::Near::hints, armv6m_decode::proofs::Masks::masks), unfolding(armv6m_decode::specs::Table::rows))]
 fn bkpt(immediate: u8) -> u16
     ensures { decoded result ≡ Decoded.Op (Instr.Other (Other.Bkpt immediate)) }
@@ -208,7 +208,7 @@ fn bkpt(immediate: u8) -> u16
     0xBE00 + u16::from(immediate)
 }
 
-// NOP T1.
+/// NOP T1.
 #[tactic(auto, using(armv6m_decode::proofs::Near::hints, armv6m_decode::proofs::Masks::masks), unfolding(armv6m_decode::specs::Table::rows))]
 fn nop() -> u16
     ensures { decoded result ≡ Decoded.Op (Instr.Other Other.Nop) }
@@ -216,7 +216,7 @@ fn nop() -> u16
     0xBF00
 }
 
-// YIELD T1.
+/// YIELD T1.
 #[tactic(auto, using(armv6m_decode::proofs::Near::hints, armv6m_decode::proofs::Masks::masks), unfolding(armv6m_decode::specs::Table::rows))]
 fn yield_hint() -> u16
     ensures { decoded result ≡ Decoded.Op (Instr.Other Other.Yield) }
@@ -224,7 +224,7 @@ fn yield_hint() -> u16
     0xBF10
 }
 
-// WFE T1.
+/// WFE T1.
 #[tactic(auto, using(armv6m_decode::proofs::Near::hints, armv6m_decode::proofs::Masks::masks), unfolding(armv6m_decode::specs::Table::rows))]
 fn wfe() -> u16
     ensures { decoded result ≡ Decoded.Op (Instr.Other Other.Wfe) }
@@ -232,7 +232,7 @@ fn wfe() -> u16
     0xBF20
 }
 
-// WFI T1.
+/// WFI T1.
 #[tactic(auto, using(armv6m_decode::proofs::Near::hints, armv6m_decode::proofs::Masks::masks), unfolding(armv6m_decode::specs::Table::rows))]
 fn wfi() -> u16
     ensures { decoded result ≡ Decoded.Op (Instr.Other Other.Wfi) }
@@ -240,7 +240,7 @@ fn wfi() -> u16
     0xBF30
 }
 
-// SEV T1.
+/// SEV T1.
 #[tactic(auto, using(armv6m_decode::proofs::Near::hints, armv6m_decode::proofs::Masks::masks), unfolding(armv6m_decode::specs::Table::rows))]
 fn sev() -> u16
     ensures { decoded result ≡ Decoded.Op (Instr.Other Other.Sev) }
@@ -248,7 +248,7 @@ fn sev() -> u16
     0xBF40
 }
 
-// UDF T1.
+/// UDF T1.
 #[tactic(auto, using(armv6m_decode::proofs::Near::conditional, armv6m_decode::proofs::Masks::masks), unfolding(armv6m_decode::specs::Table::rows))]
 fn udf(immediate: u8) -> u16
     ensures { decoded result ≡ Decoded.Op (Instr.Other (Other.Udf immediate)) }
@@ -256,7 +256,7 @@ fn udf(immediate: u8) -> u16
     0xDE00 + u16::from(immediate)
 }
 
-// SVC T1.
+/// SVC T1.
 #[tactic(auto, using(armv6m_decode::proofs::Near::conditional, armv6m_decode::proofs::Masks::masks), unfolding(armv6m_decode::specs::Table::rows))]
 fn svc(immediate: u8) -> u16
     ensures { decoded result ≡ Decoded.Op (Instr.Other (Other.Svc immediate)) }

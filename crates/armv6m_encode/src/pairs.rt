@@ -6,7 +6,7 @@ ghost use Rattle.armv6m_encode.specs.Encoding.{IsEncodedAs};
 use crate::code::Encoding;
 use armv6m_decode::{Branch, Instr, Other};
 
-// BL T1. J1 and J2 are 1 where I1 and I2 equal S.
+/// BL T1. J1 and J2 are 1 where I1 and I2 equal S.
 #[tactic(auto, using(armv6m_decode::proofs::Masks::pair_masks, armv6m_decode::proofs::TableLemmas::begins_pair), unfolding(armv6m_decode::specs::Table::pair_rows, armv6m_decode::specs::Table::decoded_pair))]
 pub(crate) fn bl(immediate: u32) -> Encoding
     requires { immediate < 2 ^ 24 }
@@ -23,7 +23,7 @@ pub(crate) fn bl(immediate: u32) -> Encoding
     }
 }
 
-// MRS T1.
+/// MRS T1.
 #[tactic(auto, using(armv6m_decode::proofs::Masks::pair_masks, armv6m_decode::proofs::TableLemmas::begins_pair), unfolding(armv6m_decode::specs::Table::pair_rows, armv6m_decode::specs::Table::decoded_pair))]
 pub(crate) fn mrs(d: u8, special: u8) -> Encoding
     requires { d < 16 }
@@ -35,7 +35,7 @@ pub(crate) fn mrs(d: u8, special: u8) -> Encoding
     }
 }
 
-// MSR (register) T1.
+/// MSR (register) T1.
 #[tactic(auto, using(armv6m_decode::proofs::Masks::pair_masks, armv6m_decode::proofs::TableLemmas::begins_pair), unfolding(armv6m_decode::specs::Table::pair_rows, armv6m_decode::specs::Table::decoded_pair))]
 pub(crate) fn msr(n: u8, special: u8) -> Encoding
     requires { n < 16 }
@@ -47,7 +47,7 @@ pub(crate) fn msr(n: u8, special: u8) -> Encoding
     }
 }
 
-// DSB T1, of the full system.
+/// DSB T1, of the full system.
 #[tactic(auto, using(armv6m_decode::proofs::Masks::pair_masks, armv6m_decode::proofs::TableLemmas::begins_pair), unfolding(armv6m_decode::specs::Table::pair_rows, armv6m_decode::specs::Table::decoded_pair))]
 pub(crate) fn dsb() -> Encoding
     ensures { IsEncodedAs (Instr.Other Other.Dsb) result }
@@ -58,7 +58,7 @@ pub(crate) fn dsb() -> Encoding
     }
 }
 
-// DMB T1, of the full system.
+/// DMB T1, of the full system.
 #[tactic(auto, using(armv6m_decode::proofs::Masks::pair_masks, armv6m_decode::proofs::TableLemmas::begins_pair), unfolding(armv6m_decode::specs::Table::pair_rows, armv6m_decode::specs::Table::decoded_pair))]
 pub(crate) fn dmb() -> Encoding
     ensures { IsEncodedAs (Instr.Other Other.Dmb) result }
@@ -69,7 +69,7 @@ pub(crate) fn dmb() -> Encoding
     }
 }
 
-// ISB T1, of the full system.
+/// ISB T1, of the full system.
 #[tactic(auto, using(armv6m_decode::proofs::Masks::pair_masks, armv6m_decode::proofs::TableLemmas::begins_pair), unfolding(armv6m_decode::specs::Table::pair_rows, armv6m_decode::specs::Table::decoded_pair))]
 pub(crate) fn isb() -> Encoding
     ensures { IsEncodedAs (Instr.Other Other.Isb) result }

@@ -1,6 +1,7 @@
 //! The encoder turns the decoder round.
 
 use crate::*;
+use armv6m_decode::registers::{APSR, MSP, PRIMASK};
 use armv6m_decode::{Branch, Decoded, Instr, Other, decode16, decode32};
 
 #[test]
@@ -31,12 +32,26 @@ fn each_long_branch_comes_back(rt: HostRuntime) {
     }
 }
 
-// By GNU as 2.40, arm-none-eabi-as -mcpu=cortex-m0: mrs r11, primask; msr msp, r12; dsb; dmb; isb.
+/// By GNU as 2.40, arm-none-eabi-as -mcpu=cortex-m0: mrs r11, primask; msr msp, r12; dsb; dmb; isb.
 #[test]
 fn pairs_of_binutils(rt: HostRuntime) {
     for (instr, first, second) in [
-        (Other::Mrs { d: 11, special: 16 }, 0xF3EF, 0x8B10),
-        (Other::Msr { n: 12, special: 8 }, 0xF38C, 0x8808),
+        (
+            Other::Mrs {
+                d: 11,
+                special: PRIMASK,
+            },
+            0xF3EF,
+            0x8B10,
+        ),
+        (
+            Other::Msr {
+                n: 12,
+                special: MSP,
+            },
+            0xF38C,
+            0x8808,
+        ),
         (Other::Dsb, 0xF3BF, 0x8F4F),
         (Other::Dmb, 0xF3BF, 0x8F5F),
         (Other::Isb, 0xF3BF, 0x8F6F),
@@ -50,10 +65,9 @@ fn pairs_of_binutils(rt: HostRuntime) {
 #[test]
 fn fields_that_do_not_fit(rt: HostRuntime) {
     for instr in [
-        Instr::Other(Other::Mrs { d: 16, special: 0 }),
-        Instr::Branch(Branch::Bcc {
-            condition: 14,
-            immediate: 0,
+        Instr::Other(Other::Mrs {
+            d: 16,
+            special: APSR,
         }),
         Instr::Branch(Branch::B { immediate: 0x800 }),
         Instr::Branch(Branch::Bl {

@@ -12,7 +12,9 @@ use Rattle.armv6m_forms.specs.declared.form.Aim.{Aim}
 use Rattle.armv6m_forms.specs.declared.form.Aim.TheVariants.{Branch, BranchIf, BranchLink, Load, Address}
 use Rattle.armv6m_forms.specs.declared.form.Form.{Form}
 use Rattle.armv6m_forms.specs.declared.form.Form.TheVariants.{Aimed}
-use Rattle.armv6m_forms.specs.Form.{pc, literal_target, signed_offset, branch_target, form_of, StandsFor}
+use Rattle.armv6m_decode.specs.Targets.{pc_read, literal_target, signed_offset, branch_target}
+use Rattle.armv6m_decode.specs.declared.condition.Condition.{Condition}
+use Rattle.armv6m_forms.specs.Form.{form_of, StandsFor}
 use Rattle.armv6m_forms.specs.Row.{IsReadAt, counted, halved}
 use Rattle.armv6m_forms.proofs.RowLemmas.{with_field, distance, row_of}
 use Rattle.armv6m_forms.proofs.ReadLemmas.{no_row, not_fit}
@@ -38,29 +40,29 @@ whole_4 d a h = grind (arith, nat_tests)
 short_offset : (d a : ℕ) → d < 2 ^ 32 → Some a ≡ halved 256 d → signed_offset 8 (a % 2 ^ 8) ≡ d
 short_offset d a within h = grind (arith, nat_tests)
 
-short_target : (at target d a : ℕ) → target < 2 ^ 32 → d ≡ distance (pc at) target → Some a ≡ halved 256 d → branch_target 8 at a ≡ target
+short_target : (at target d a : ℕ) → target < 2 ^ 32 → d ≡ distance (pc_read at) target → Some a ≡ halved 256 d → branch_target 8 at a ≡ target
 short_target at target d a within is h =
-    ap (λ (x : ℕ). (pc at + x) % 2 ^ 32) (short_offset d a (omega arith) h) ∙ back (pc at) target d (omega arith) within is
+    ap (λ (x : ℕ). (pc_read at + x) % 2 ^ 32) (short_offset d a (omega arith) h) ∙ back (pc_read at) target d (omega arith) within is
 
 near_offset : (d a : ℕ) → d < 2 ^ 32 → Some a ≡ halved 2048 d → signed_offset 11 (a % 2 ^ 11) ≡ d
 near_offset d a within h = grind (arith, nat_tests)
 
-near_target : (at target d a : ℕ) → target < 2 ^ 32 → d ≡ distance (pc at) target → Some a ≡ halved 2048 d → branch_target 11 at a ≡ target
+near_target : (at target d a : ℕ) → target < 2 ^ 32 → d ≡ distance (pc_read at) target → Some a ≡ halved 2048 d → branch_target 11 at a ≡ target
 near_target at target d a within is h =
-    ap (λ (x : ℕ). (pc at + x) % 2 ^ 32) (near_offset d a (omega arith) h) ∙ back (pc at) target d (omega arith) within is
+    ap (λ (x : ℕ). (pc_read at + x) % 2 ^ 32) (near_offset d a (omega arith) h) ∙ back (pc_read at) target d (omega arith) within is
 
 far_offset : (d a : ℕ) → d < 2 ^ 32 → Some a ≡ halved 16777216 d → signed_offset 24 (a % 2 ^ 24) ≡ d
 far_offset d a within h = grind (arith, nat_tests)
 
-far_target : (at target d a : ℕ) → target < 2 ^ 32 → d ≡ distance (pc at) target → Some a ≡ halved 16777216 d → branch_target 24 at a ≡ target
+far_target : (at target d a : ℕ) → target < 2 ^ 32 → d ≡ distance (pc_read at) target → Some a ≡ halved 16777216 d → branch_target 24 at a ≡ target
 far_target at target d a within is h =
-    ap (λ (x : ℕ). (pc at + x) % 2 ^ 32) (far_offset d a (omega arith) h) ∙ back (pc at) target d (omega arith) within is
+    ap (λ (x : ℕ). (pc_read at + x) % 2 ^ 32) (far_offset d a (omega arith) h) ∙ back (pc_read at) target d (omega arith) within is
 
-word_target : (at target d a : ℕ) → target < 2 ^ 32 → d ≡ distance (pc at / 4 * 4) target → Some a ≡ counted 4 d → literal_target at a ≡ target
+word_target : (at target d a : ℕ) → target < 2 ^ 32 → d ≡ distance (pc_read at / 4 * 4) target → Some a ≡ counted 4 d → literal_target at a ≡ target
 word_target at target d a within is h =
-    ap (λ (x : ℕ). (pc at / 4 * 4 + x) % 2 ^ 32) (whole_4 d a h) ∙ back (pc at / 4 * 4) target d (omega arith) within is
+    ap (λ (x : ℕ). (pc_read at / 4 * 4 + x) % 2 ^ 32) (whole_4 d a h) ∙ back (pc_read at / 4 * 4) target d (omega arith) within is
 
-pub read_near : (at target by a : ℕ) (result : Option Instr) → target < 2 ^ 32 → by ≡ distance (pc at) target → Some a ≡ halved 2048 by
+pub read_near : (at target by a : ℕ) (result : Option Instr) → target < 2 ^ 32 → by ≡ distance (pc_read at) target → Some a ≡ halved 2048 by
     → result ≡ (if fields_fit (instr.Branch (B a)) then Some (instr.Branch (B a)) else None) → IsReadAt at (Aimed Branch target) result
 unfolding form_of
 read_near at target by a result within is h fits =
@@ -69,12 +71,12 @@ read_near at target by a result within is h fits =
     (ap (with_field (λ i. Some (instr.Branch (B i)))) (h ∙ ap (λ (x : ℕ). halved 2048 x) is)) fits
     (λ fields. record { fields = fields; made = refl; written = inl (ap (λ (x : ℕ). Aimed Branch x) there) })
 
-pub unread_near : (at target by : ℕ) (result : Option Instr) → by ≡ distance (pc at) target → None ≡ halved 2048 by → result ≡ None
+pub unread_near : (at target by : ℕ) (result : Option Instr) → by ≡ distance (pc_read at) target → None ≡ halved 2048 by → result ≡ None
     → IsReadAt at (Aimed Branch target) result
 unread_near at target by result is h none =
     no_reading at (Aimed Branch target) result (ap (with_field (λ i. Some (instr.Branch (B i)))) (h ∙ ap (λ (x : ℕ). halved 2048 x) is)) none
 
-pub read_short : (condition at target by a : ℕ) (result : Option Instr) → target < 2 ^ 32 → by ≡ distance (pc at) target → Some a ≡ halved 256 by
+pub read_short : (condition : Condition) (at target by a : ℕ) (result : Option Instr) → target < 2 ^ 32 → by ≡ distance (pc_read at) target → Some a ≡ halved 256 by
     → result ≡ (if fields_fit (instr.Branch (Bcc condition a)) then Some (instr.Branch (Bcc condition a)) else None) → IsReadAt at (Aimed (BranchIf condition) target) result
 unfolding form_of
 read_short condition at target by a result within is h fits =
@@ -83,12 +85,12 @@ read_short condition at target by a result within is h fits =
     (ap (with_field (λ i. Some (instr.Branch (Bcc condition i)))) (h ∙ ap (λ (x : ℕ). halved 256 x) is)) fits
     (λ fields. record { fields = fields; made = refl; written = inl (ap (λ (x : ℕ). Aimed (BranchIf condition) x) there) })
 
-pub unread_short : (condition at target by : ℕ) (result : Option Instr) → by ≡ distance (pc at) target → None ≡ halved 256 by → result ≡ None
+pub unread_short : (condition : Condition) (at target by : ℕ) (result : Option Instr) → by ≡ distance (pc_read at) target → None ≡ halved 256 by → result ≡ None
     → IsReadAt at (Aimed (BranchIf condition) target) result
 unread_short condition at target by result is h none =
     no_reading at (Aimed (BranchIf condition) target) result (ap (with_field (λ i. Some (instr.Branch (Bcc condition i)))) (h ∙ ap (λ (x : ℕ). halved 256 x) is)) none
 
-pub read_far : (at target by a : ℕ) (result : Option Instr) → target < 2 ^ 32 → by ≡ distance (pc at) target → Some a ≡ halved 16777216 by
+pub read_far : (at target by a : ℕ) (result : Option Instr) → target < 2 ^ 32 → by ≡ distance (pc_read at) target → Some a ≡ halved 16777216 by
     → result ≡ (if fields_fit (instr.Branch (Bl a)) then Some (instr.Branch (Bl a)) else None) → IsReadAt at (Aimed BranchLink target) result
 unfolding form_of
 read_far at target by a result within is h fits =
@@ -97,12 +99,12 @@ read_far at target by a result within is h fits =
     (ap (with_field (λ i. Some (instr.Branch (Bl i)))) (h ∙ ap (λ (x : ℕ). halved 16777216 x) is)) fits
     (λ fields. record { fields = fields; made = refl; written = inl (ap (λ (x : ℕ). Aimed BranchLink x) there) })
 
-pub unread_far : (at target by : ℕ) (result : Option Instr) → by ≡ distance (pc at) target → None ≡ halved 16777216 by → result ≡ None
+pub unread_far : (at target by : ℕ) (result : Option Instr) → by ≡ distance (pc_read at) target → None ≡ halved 16777216 by → result ≡ None
     → IsReadAt at (Aimed BranchLink target) result
 unread_far at target by result is h none =
     no_reading at (Aimed BranchLink target) result (ap (with_field (λ i. Some (instr.Branch (Bl i)))) (h ∙ ap (λ (x : ℕ). halved 16777216 x) is)) none
 
-pub read_load : (t at target by a : ℕ) (result : Option Instr) → target < 2 ^ 32 → by ≡ distance (pc at / 4 * 4) target → Some a ≡ counted 4 by
+pub read_load : (t at target by a : ℕ) (result : Option Instr) → target < 2 ^ 32 → by ≡ distance (pc_read at / 4 * 4) target → Some a ≡ counted 4 by
     → result ≡ (if fields_fit (instr.Memory (LdrLiteral t a)) then Some (instr.Memory (LdrLiteral t a)) else None) → IsReadAt at (Aimed (Load t) target) result
 unfolding form_of
 read_load t at target by a result within is h fits =
@@ -111,12 +113,12 @@ read_load t at target by a result within is h fits =
     (ap (with_field (λ i. Some (instr.Memory (LdrLiteral t i)))) (h ∙ ap (λ (x : ℕ). counted 4 x) is)) fits
     (λ fields. record { fields = fields; made = refl; written = inl (ap (λ (x : ℕ). Aimed (Load t) x) there) })
 
-pub unread_load : (t at target by : ℕ) (result : Option Instr) → by ≡ distance (pc at / 4 * 4) target → None ≡ counted 4 by → result ≡ None
+pub unread_load : (t at target by : ℕ) (result : Option Instr) → by ≡ distance (pc_read at / 4 * 4) target → None ≡ counted 4 by → result ≡ None
     → IsReadAt at (Aimed (Load t) target) result
 unread_load t at target by result is h none =
     no_reading at (Aimed (Load t) target) result (ap (with_field (λ i. Some (instr.Memory (LdrLiteral t i)))) (h ∙ ap (λ (x : ℕ). counted 4 x) is)) none
 
-pub read_address : (d at target by a : ℕ) (result : Option Instr) → target < 2 ^ 32 → by ≡ distance (pc at / 4 * 4) target → Some a ≡ counted 4 by
+pub read_address : (d at target by a : ℕ) (result : Option Instr) → target < 2 ^ 32 → by ≡ distance (pc_read at / 4 * 4) target → Some a ≡ counted 4 by
     → result ≡ (if fields_fit (instr.Other (Adr d a)) then Some (instr.Other (Adr d a)) else None) → IsReadAt at (Aimed (Address d) target) result
 unfolding form_of
 read_address d at target by a result within is h fits =
@@ -125,7 +127,7 @@ read_address d at target by a result within is h fits =
     (ap (with_field (λ i. Some (instr.Other (Adr d i)))) (h ∙ ap (λ (x : ℕ). counted 4 x) is)) fits
     (λ fields. record { fields = fields; made = refl; written = inl (ap (λ (x : ℕ). Aimed (Address d) x) there) })
 
-pub unread_address : (d at target by : ℕ) (result : Option Instr) → by ≡ distance (pc at / 4 * 4) target → None ≡ counted 4 by → result ≡ None
+pub unread_address : (d at target by : ℕ) (result : Option Instr) → by ≡ distance (pc_read at / 4 * 4) target → None ≡ counted 4 by → result ≡ None
     → IsReadAt at (Aimed (Address d) target) result
 unread_address d at target by result is h none =
     no_reading at (Aimed (Address d) target) result (ap (with_field (λ i. Some (instr.Other (Adr d i)))) (h ∙ ap (λ (x : ℕ). counted 4 x) is)) none

@@ -6,6 +6,7 @@ use Rattle.armv6m_decode.specs.declared.instr.Instr.{Instr}
 use Rattle.armv6m_decode.specs.declared.instr.Instr.TheVariants as instr
 use Rattle.armv6m_decode.specs.declared.instr.Alu.TheVariants.{LslsImmediate, CmpRegister, CmpHigh}
 use Rattle.armv6m_encode.specs.Encoding.{fields_fit}
+use Rattle.armv6m_decode.specs.declared.registers.TheConstants.{SP, LR, PC}
 use Rattle.armv6m_forms.specs.declared.mnemonic.Mnemonic.{Mnemonic}
 use Rattle.armv6m_forms.specs.declared.mnemonic.Mnemonic.TheVariants as mnemonic
 use Rattle.armv6m_forms.specs.declared.form.Operands.{Operands}
@@ -49,17 +50,17 @@ unread form result row is = subst (λ (r : Option Instr). IsReadAs form r) (sym 
 is_zero : (a : ℕ) → nat_eq a 0 ≡ true → a ≡ 0
 is_zero a h = grind (arith, nat_tests)
 
-is_sp : (a : ℕ) → nat_eq a 13 ≡ true → a ≡ 13
+is_sp : (a : ℕ) → nat_eq a SP ≡ true → a ≡ SP
 is_sp a h = grind (arith, nat_tests)
 
 low_list : (list : ℕ) → nat_eq (list / 256) 0 ≡ true → list % 256 ≡ list
 low_list list h = grind (arith, nat_tests)
 
-with_14 : (list : ℕ) → nat_eq (list / 256) 64 ≡ true → list % 256 + 2 ^ 14 ≡ list
-with_14 list h = grind (arith, nat_tests)
+with_lr_bit : (list : ℕ) → nat_eq (list / 256) 64 ≡ true → list % 256 + 2 ^ LR ≡ list
+with_lr_bit list h = grind (arith, nat_tests)
 
-with_15 : (list : ℕ) → nat_eq (list / 256) 128 ≡ true → list % 256 + 2 ^ 15 ≡ list
-with_15 list h = grind (arith, nat_tests)
+with_pc_bit : (list : ℕ) → nat_eq (list / 256) 128 ≡ true → list % 256 + 2 ^ PC ≡ list
+with_pc_bit list h = grind (arith, nat_tests)
 
 not_true : (b : Bool) → b ≡ false → IsTrue (not b)
 not_true b h = ap not h
@@ -221,8 +222,8 @@ stands_one_immediate mnemonic.Movs d immediate field e = λ fields at. let same 
 stands_one_immediate mnemonic.Cmp d immediate field e = λ fields at. let same : immediate ≡ field = whole_field e in record { fields = fields; made = refl; written = inl (cc) }
 stands_one_immediate mnemonic.Adds d immediate field e = λ fields at. let same : immediate ≡ field = whole_field e in record { fields = fields; made = refl; written = inl (cc) }
 stands_one_immediate mnemonic.Subs d immediate field e = λ fields at. let same : immediate ≡ field = whole_field e in record { fields = fields; made = refl; written = inl (cc) }
-stands_one_immediate mnemonic.Add d immediate field e = if_true (nat_eq d 13) _ (λ i. Stands i (Plain mnemonic.Add (operands.OneImmediate d immediate))) (λ is fields at. let sp : d ≡ 13 = is_sp d is in record { fields = fields; made = refl; written = inl (cc) })
-stands_one_immediate mnemonic.Sub d immediate field e = if_true (nat_eq d 13) _ (λ i. Stands i (Plain mnemonic.Sub (operands.OneImmediate d immediate))) (λ is fields at. let sp : d ≡ 13 = is_sp d is in record { fields = fields; made = refl; written = inl (cc) })
+stands_one_immediate mnemonic.Add d immediate field e = if_true (nat_eq d SP) _ (λ i. Stands i (Plain mnemonic.Add (operands.OneImmediate d immediate))) (λ is fields at. let sp : d ≡ SP = is_sp d is in record { fields = fields; made = refl; written = inl (cc) })
+stands_one_immediate mnemonic.Sub d immediate field e = if_true (nat_eq d SP) _ (λ i. Stands i (Plain mnemonic.Sub (operands.OneImmediate d immediate))) (λ is fields at. let sp : d ≡ SP = is_sp d is in record { fields = fields; made = refl; written = inl (cc) })
 stands_one_immediate _ d immediate field e = tt
 
 pub read_one_immediate : (mnemonic : Mnemonic) (d immediate : ℕ) (i : Instr) (result : Option Instr) → Some i ≡ with_field (row_one_immediate mnemonic d) (counted (scale_of mnemonic) immediate) → result ≡ (if fields_fit i then Some i else None) → IsReadAs (Plain mnemonic (operands.OneImmediate d immediate)) result
@@ -239,7 +240,7 @@ stands_two_immediate mnemonic.Asrs d n immediate field e = if_false (nat_eq fiel
 stands_two_immediate mnemonic.Adds d n immediate field e = λ fields at. let same : immediate ≡ field = whole_field e in record { fields = fields; made = refl; written = inl (cc) }
 stands_two_immediate mnemonic.Subs d n immediate field e = λ fields at. let same : immediate ≡ field = whole_field e in record { fields = fields; made = refl; written = inl (cc) }
 stands_two_immediate mnemonic.Rsbs d n immediate field e = if_true (nat_eq field 0) _ (λ i. Stands i (Plain mnemonic.Rsbs (operands.TwoImmediate d n immediate))) (λ is fields at. let none : field ≡ 0 = is_zero field is in let same : immediate ≡ field = whole_field e in record { fields = fields; made = refl; written = inl (cc) })
-stands_two_immediate mnemonic.Add d n immediate field e = if_true (nat_eq n 13) _ (λ i. Stands i (Plain mnemonic.Add (operands.TwoImmediate d n immediate))) (λ is fields at. let sp : n ≡ 13 = is_sp n is in record { fields = fields; made = refl; written = inl (cc) })
+stands_two_immediate mnemonic.Add d n immediate field e = if_true (nat_eq n SP) _ (λ i. Stands i (Plain mnemonic.Add (operands.TwoImmediate d n immediate))) (λ is fields at. let sp : n ≡ SP = is_sp n is in record { fields = fields; made = refl; written = inl (cc) })
 stands_two_immediate _ d n immediate field e = tt
 
 pub read_two_immediate : (mnemonic : Mnemonic) (d n immediate : ℕ) (i : Instr) (result : Option Instr) → Some i ≡ with_field (row_two_immediate mnemonic d n) (counted (scale_of mnemonic) immediate) → result ≡ (if fields_fit i then Some i else None) → IsReadAs (Plain mnemonic (operands.TwoImmediate d n immediate)) result
@@ -268,8 +269,8 @@ unread_by_register mnemonic t n m result row is = unread (Plain mnemonic (operan
 
 stands_by_offset : (mnemonic : Mnemonic) (t n offset field : ℕ) → offset ≡ scale_of mnemonic * field → IfSome (row_by_offset mnemonic t n field) (λ i. Stands i (Plain mnemonic (operands.ByOffset t n offset)))
 unfolding form_of
-stands_by_offset mnemonic.Str t n offset field e = if_either (nat_eq n 13) _ _ (λ i. Stands i (Plain mnemonic.Str (operands.ByOffset t n offset))) (λ is fields at. let sp : n ≡ 13 = is_sp n is in record { fields = fields; made = refl; written = inl (cc) }) (λ is fields at. record { fields = fields; made = refl; written = inl (cc) })
-stands_by_offset mnemonic.Ldr t n offset field e = if_either (nat_eq n 13) _ _ (λ i. Stands i (Plain mnemonic.Ldr (operands.ByOffset t n offset))) (λ is fields at. let sp : n ≡ 13 = is_sp n is in record { fields = fields; made = refl; written = inl (cc) }) (λ is fields at. record { fields = fields; made = refl; written = inl (cc) })
+stands_by_offset mnemonic.Str t n offset field e = if_either (nat_eq n SP) _ _ (λ i. Stands i (Plain mnemonic.Str (operands.ByOffset t n offset))) (λ is fields at. let sp : n ≡ SP = is_sp n is in record { fields = fields; made = refl; written = inl (cc) }) (λ is fields at. record { fields = fields; made = refl; written = inl (cc) })
+stands_by_offset mnemonic.Ldr t n offset field e = if_either (nat_eq n SP) _ _ (λ i. Stands i (Plain mnemonic.Ldr (operands.ByOffset t n offset))) (λ is fields at. let sp : n ≡ SP = is_sp n is in record { fields = fields; made = refl; written = inl (cc) }) (λ is fields at. record { fields = fields; made = refl; written = inl (cc) })
 stands_by_offset mnemonic.Strh t n offset field e = λ fields at. record { fields = fields; made = refl; written = inl (cc) }
 stands_by_offset mnemonic.Ldrh t n offset field e = λ fields at. record { fields = fields; made = refl; written = inl (cc) }
 stands_by_offset mnemonic.Strb t n offset field e = λ fields at. let same : offset ≡ field = whole_field e in record { fields = fields; made = refl; written = inl (cc) }
@@ -284,8 +285,8 @@ unread_by_offset mnemonic t n offset result row is = unread (Plain mnemonic (ope
 
 stands_list : (mnemonic : Mnemonic) (list : ℕ) → IfSome (row_list mnemonic list) (λ i. Stands i (Plain mnemonic (operands.List list)))
 unfolding form_of
-stands_list mnemonic.Push list = if_either (nat_eq (list / 256) 0) _ _ (λ i. Stands i (Plain mnemonic.Push (operands.List list))) (λ is fields at. let same : list % 256 ≡ list = low_list list is in record { fields = fields; made = refl; written = inl (cc) }) (λ no. if_true (nat_eq (list / 256) 64) _ (λ i. Stands i (Plain mnemonic.Push (operands.List list))) (λ is fields at. let same : list % 256 + 2 ^ 14 ≡ list = with_14 list is in record { fields = fields; made = refl; written = inl (cc) }))
-stands_list mnemonic.Pop list = if_either (nat_eq (list / 256) 0) _ _ (λ i. Stands i (Plain mnemonic.Pop (operands.List list))) (λ is fields at. let same : list % 256 ≡ list = low_list list is in record { fields = fields; made = refl; written = inl (cc) }) (λ no. if_true (nat_eq (list / 256) 128) _ (λ i. Stands i (Plain mnemonic.Pop (operands.List list))) (λ is fields at. let same : list % 256 + 2 ^ 15 ≡ list = with_15 list is in record { fields = fields; made = refl; written = inl (cc) }))
+stands_list mnemonic.Push list = if_either (nat_eq (list / 256) 0) _ _ (λ i. Stands i (Plain mnemonic.Push (operands.List list))) (λ is fields at. let same : list % 256 ≡ list = low_list list is in record { fields = fields; made = refl; written = inl (cc) }) (λ no. if_true (nat_eq (list / 256) 64) _ (λ i. Stands i (Plain mnemonic.Push (operands.List list))) (λ is fields at. let same : list % 256 + 2 ^ LR ≡ list = with_lr_bit list is in record { fields = fields; made = refl; written = inl (cc) }))
+stands_list mnemonic.Pop list = if_either (nat_eq (list / 256) 0) _ _ (λ i. Stands i (Plain mnemonic.Pop (operands.List list))) (λ is fields at. let same : list % 256 ≡ list = low_list list is in record { fields = fields; made = refl; written = inl (cc) }) (λ no. if_true (nat_eq (list / 256) 128) _ (λ i. Stands i (Plain mnemonic.Pop (operands.List list))) (λ is fields at. let same : list % 256 + 2 ^ PC ≡ list = with_pc_bit list is in record { fields = fields; made = refl; written = inl (cc) }))
 stands_list _ list = tt
 
 pub read_list : (mnemonic : Mnemonic) (list : ℕ) (i : Instr) (result : Option Instr) → Some i ≡ row_list mnemonic list → result ≡ (if fields_fit i then Some i else None) → IsReadAs (Plain mnemonic (operands.List list)) result

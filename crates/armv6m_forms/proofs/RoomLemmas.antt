@@ -13,12 +13,13 @@ use Rattle.armv6m_decode.specs.declared.instr.Memory.TheVariants.{LdrLiteral, St
 use Rattle.armv6m_decode.specs.declared.instr.Many.TheVariants.{Push, Pop, Stm, Ldm}
 use Rattle.armv6m_decode.specs.declared.instr.Branch.TheVariants.{Bx, Blx, Bcc, B, Bl}
 use Rattle.armv6m_decode.specs.declared.instr.Other.TheVariants.{Adr, AddFromSp, AddToSp, SubFromSp, Sxth, Sxtb, Uxth, Uxtb, Cpsie, Cpsid, Rev, Rev16, Revsh, Bkpt, Nop, Yield, Wfe, Wfi, Sev, Udf, Svc, Mrs, Msr, Dsb, Dmb, Isb}
+use Rattle.armv6m_decode.specs.declared.registers.TheConstants.{LR, PC}
 use Rattle.armv6m_forms.specs.declared.mnemonic.Mnemonic.TheVariants as mnemonic
 use Rattle.armv6m_forms.specs.declared.form.Operands.TheVariants.{Two, TwoImmediate}
 use Rattle.armv6m_forms.specs.declared.form.Form.TheVariants.{Plain}
 use Rattle.armv6m_forms.specs.Form.{form_of, with_register}
 use Rattle.armv6m_forms.specs.Room.{IsShort, HasRoom, low_list}
-use Rattle.armv6m_forms.specs.Text.{register_text, list_text, listed}
+use Rattle.armv6m_forms.specs.Text.{register_text, list_text, listed_below}
 
 -- ---- lists of low registers, alone and with LR or PC
 
@@ -26,15 +27,15 @@ has_room : ℕ → ℕ → Bool
 has_room more list = nat_le (length (list_text (list + more))) 40
 
 all_alone : list_all (has_room 0) (range_with_len 0 256) ≡ true
-unfolding has_room list_text listed register_text digits
+unfolding has_room list_text listed_below register_text digits
 all_alone = refl
 
-all_with_lr : list_all (has_room (2 ^ 14)) (range_with_len 0 256) ≡ true
-unfolding has_room list_text listed register_text digits
+all_with_lr : list_all (has_room (2 ^ LR)) (range_with_len 0 256) ≡ true
+unfolding has_room list_text listed_below register_text digits
 all_with_lr = refl
 
-all_with_pc : list_all (has_room (2 ^ 15)) (range_with_len 0 256) ≡ true
-unfolding has_room list_text listed register_text digits
+all_with_pc : list_all (has_room (2 ^ PC)) (range_with_len 0 256) ≡ true
+unfolding has_room list_text listed_below register_text digits
 all_with_pc = refl
 
 short_list : (more list : ℕ) → list_all (has_room more) (range_with_len 0 256) ≡ true → list < 256 → IsShort (list + more)
@@ -48,12 +49,12 @@ short_list more list all low =
 short_alone : (list : ℕ) → list < 256 → IsShort list
 short_alone list low = rw add-zero at (short_list 0 list all_alone low)
 
-short_with_lr : (lr : Bool) (list : ℕ) → list < 256 → IsShort (with_register lr 14 list)
-short_with_lr true list low = short_list (2 ^ 14) list all_with_lr low
+short_with_lr : (lr : Bool) (list : ℕ) → list < 256 → IsShort (with_register lr LR list)
+short_with_lr true list low = short_list (2 ^ LR) list all_with_lr low
 short_with_lr false list low = short_alone list low
 
-short_with_pc : (to_pc : Bool) (list : ℕ) → list < 256 → IsShort (with_register to_pc 15 list)
-short_with_pc true list low = short_list (2 ^ 15) list all_with_pc low
+short_with_pc : (to_pc : Bool) (list : ℕ) → list < 256 → IsShort (with_register to_pc PC list)
+short_with_pc true list low = short_list (2 ^ PC) list all_with_pc low
 short_with_pc false list low = short_alone list low
 
 -- ---- instructions

@@ -10,6 +10,7 @@ use Rattle.armv6m_decode.specs.declared.instr.Many.TheVariants.{Push, Pop, Stm, 
 use Rattle.armv6m_decode.specs.declared.instr.Branch.TheVariants.{Bx, Blx, Bcc, B, Bl}
 use Rattle.armv6m_decode.specs.declared.instr.Other.TheVariants.{Adr, AddFromSp, AddToSp, SubFromSp, Sxth, Sxtb, Uxth, Uxtb, Cpsie, Cpsid, Rev, Rev16, Revsh, Bkpt, Nop, Yield, Wfe, Wfi, Sev, Udf, Svc, Mrs, Msr, Dsb, Dmb, Isb}
 use Rattle.armv6m_encode.specs.Encoding.{fields_fit}
+use Rattle.armv6m_decode.specs.declared.registers.TheConstants.{SP, LR, PC}
 use Rattle.armv6m_forms.specs.declared.mnemonic.Mnemonic.{Mnemonic}
 use Rattle.armv6m_forms.specs.declared.mnemonic.Mnemonic.TheVariants as mnemonic
 use Rattle.armv6m_forms.specs.declared.form.Operands.TheVariants as operands
@@ -17,7 +18,9 @@ use Rattle.armv6m_forms.specs.declared.form.Aim.{Aim}
 use Rattle.armv6m_forms.specs.declared.form.Aim.TheVariants.{Branch, BranchIf, BranchLink, Load, Address}
 use Rattle.armv6m_forms.specs.declared.form.Form.{Form}
 use Rattle.armv6m_forms.specs.declared.form.Form.TheVariants.{Plain, Aimed}
-use Rattle.armv6m_forms.specs.Form.{pc, literal_target, signed_offset, branch_target, form_of, right_shift, with_register, is_made, IsReadToo, StandsFor, OneInstructionForEach}
+use Rattle.armv6m_decode.specs.Targets.{pc_read, literal_target, signed_offset, branch_target}
+use Rattle.armv6m_decode.specs.declared.condition.Condition.{Condition}
+use Rattle.armv6m_forms.specs.Form.{form_of, right_shift, with_register, is_made, IsReadToo, StandsFor, OneInstructionForEach}
 use Rattle.armv6m_forms.specs.Row.{scale_of, counted, halved}
 
 -- what comes of a field, if there is one
@@ -91,8 +94,8 @@ row_one_immediate mnemonic.Movs d field = Some (instr.Alu (MovsImmediate d field
 row_one_immediate mnemonic.Cmp d field = Some (instr.Alu (CmpImmediate d field))
 row_one_immediate mnemonic.Adds d field = Some (instr.Alu (AddsImmediate8 d field))
 row_one_immediate mnemonic.Subs d field = Some (instr.Alu (SubsImmediate8 d field))
-row_one_immediate mnemonic.Add d field = if nat_eq d 13 then Some (instr.Other (AddToSp field)) else None
-row_one_immediate mnemonic.Sub d field = if nat_eq d 13 then Some (instr.Other (SubFromSp field)) else None
+row_one_immediate mnemonic.Add d field = if nat_eq d SP then Some (instr.Other (AddToSp field)) else None
+row_one_immediate mnemonic.Sub d field = if nat_eq d SP then Some (instr.Other (SubFromSp field)) else None
 row_one_immediate _ d field = None
 
 abbrev pub row_two_immediate : Mnemonic → ℕ → ℕ → ℕ → Option Instr
@@ -102,7 +105,7 @@ row_two_immediate mnemonic.Asrs d n field = if nat_eq field 0 then None else Som
 row_two_immediate mnemonic.Adds d n field = Some (instr.Alu (AddsImmediate3 d n field))
 row_two_immediate mnemonic.Subs d n field = Some (instr.Alu (SubsImmediate3 d n field))
 row_two_immediate mnemonic.Rsbs d n field = if nat_eq field 0 then Some (instr.Alu (Rsbs d n)) else None
-row_two_immediate mnemonic.Add d n field = if nat_eq n 13 then Some (instr.Other (AddFromSp d field)) else None
+row_two_immediate mnemonic.Add d n field = if nat_eq n SP then Some (instr.Other (AddFromSp d field)) else None
 row_two_immediate _ d n field = None
 
 abbrev pub row_by_register : Mnemonic → ℕ → ℕ → ℕ → Option Instr
@@ -117,8 +120,8 @@ row_by_register mnemonic.Ldrsh t n m = Some (instr.Memory (LdrshRegister t n m))
 row_by_register _ t n m = None
 
 abbrev pub row_by_offset : Mnemonic → ℕ → ℕ → ℕ → Option Instr
-row_by_offset mnemonic.Str t n field = if nat_eq n 13 then Some (instr.Memory (StrSp t field)) else Some (instr.Memory (StrImmediate t n field))
-row_by_offset mnemonic.Ldr t n field = if nat_eq n 13 then Some (instr.Memory (LdrSp t field)) else Some (instr.Memory (LdrImmediate t n field))
+row_by_offset mnemonic.Str t n field = if nat_eq n SP then Some (instr.Memory (StrSp t field)) else Some (instr.Memory (StrImmediate t n field))
+row_by_offset mnemonic.Ldr t n field = if nat_eq n SP then Some (instr.Memory (LdrSp t field)) else Some (instr.Memory (LdrImmediate t n field))
 row_by_offset mnemonic.Strh t n field = Some (instr.Memory (StrhImmediate t n field))
 row_by_offset mnemonic.Ldrh t n field = Some (instr.Memory (LdrhImmediate t n field))
 row_by_offset mnemonic.Strb t n field = Some (instr.Memory (StrbImmediate t n field))
@@ -158,11 +161,11 @@ abbrev pub distance : ℕ → ℕ → ℕ
 distance from target = (target + (2 ^ 32 - from)) % 2 ^ 32
 
 abbrev pub row_aimed : Aim → ℕ → ℕ → Option Instr
-row_aimed Branch at target = with_field (λ i. Some (instr.Branch (B i))) (halved 2048 (distance (pc at) target))
-row_aimed (BranchIf condition) at target = with_field (λ i. Some (instr.Branch (Bcc condition i))) (halved 256 (distance (pc at) target))
-row_aimed BranchLink at target = with_field (λ i. Some (instr.Branch (Bl i))) (halved 16777216 (distance (pc at) target))
-row_aimed (Load t) at target = with_field (λ i. Some (instr.Memory (LdrLiteral t i))) (counted 4 (distance (pc at / 4 * 4) target))
-row_aimed (Address d) at target = with_field (λ i. Some (instr.Other (Adr d i))) (counted 4 (distance (pc at / 4 * 4) target))
+row_aimed Branch at target = with_field (λ i. Some (instr.Branch (B i))) (halved 2048 (distance (pc_read at) target))
+row_aimed (BranchIf condition) at target = with_field (λ i. Some (instr.Branch (Bcc condition i))) (halved 256 (distance (pc_read at) target))
+row_aimed BranchLink at target = with_field (λ i. Some (instr.Branch (Bl i))) (halved 16777216 (distance (pc_read at) target))
+row_aimed (Load t) at target = with_field (λ i. Some (instr.Memory (LdrLiteral t i))) (counted 4 (distance (pc_read at / 4 * 4) target))
+row_aimed (Address d) at target = with_field (λ i. Some (instr.Other (Adr d i))) (counted 4 (distance (pc_read at / 4 * 4) target))
 
 -- ---- of any form
 
@@ -246,11 +249,11 @@ loaded_low : (t n a : ℕ) → IsTrue (nat_lt t 8 && nat_lt n 8 && nat_lt a 32)
     → with_field (row_by_offset mnemonic.Ldr t n) (counted 4 (4 * a)) ≡ Some (instr.Memory (LdrImmediate t n a))
 loaded_low t n a h = grind (arith, nat_tests)
 
-pushed : (lr : Bool) (list : ℕ) → IsTrue (nat_lt list 256) → row_list mnemonic.Push (with_register lr 14 list) ≡ Some (instr.Many (Push lr list))
+pushed : (lr : Bool) (list : ℕ) → IsTrue (nat_lt list 256) → row_list mnemonic.Push (with_register lr LR list) ≡ Some (instr.Many (Push lr list))
 pushed true list h = grind (arith, nat_tests)
 pushed false list h = grind (arith, nat_tests)
 
-popped : (to_pc : Bool) (list : ℕ) → IsTrue (nat_lt list 256) → row_list mnemonic.Pop (with_register to_pc 15 list) ≡ Some (instr.Many (Pop to_pc list))
+popped : (to_pc : Bool) (list : ℕ) → IsTrue (nat_lt list 256) → row_list mnemonic.Pop (with_register to_pc PC list) ≡ Some (instr.Many (Pop to_pc list))
 popped true list h = grind (arith, nat_tests)
 popped false list h = grind (arith, nat_tests)
 
@@ -258,32 +261,32 @@ of_zero : (make : ℕ → Instr) (a : ℕ) → IsTrue (nat_eq a 0) → Some (mak
 of_zero make a h = let none : 0 ≡ a = grind (arith, nat_tests) in ap (λ (x : ℕ). Some (make x)) none
 
 aimed_literal : (make : ℕ → Instr) (at a : ℕ) → a < 256
-    → with_field (λ i. Some (make i)) (counted 4 (distance (pc at / 4 * 4) (literal_target at a))) ≡ Some (make a)
+    → with_field (λ i. Some (make i)) (counted 4 (distance (pc_read at / 4 * 4) (literal_target at a))) ≡ Some (make a)
 aimed_literal make at a h =
-    let there : distance (pc at / 4 * 4) (literal_target at a) ≡ 4 * a = there_and_back (pc at / 4 * 4) (4 * a) (omega arith) (omega arith) in
+    let there : distance (pc_read at / 4 * 4) (literal_target at a) ≡ 4 * a = there_and_back (pc_read at / 4 * 4) (4 * a) (omega arith) (omega arith) in
     ap (λ (x : ℕ). with_field (λ i. Some (make i)) (counted 4 x)) there ∙ ap (with_field (λ i. Some (make i))) (counted_4 a h)
 
-aimed_short : (condition at a : ℕ) → a < 256 → row_aimed (BranchIf condition) at (branch_target 8 at a) ≡ Some (instr.Branch (Bcc condition a))
+aimed_short : (condition : Condition) (at a : ℕ) → a < 256 → row_aimed (BranchIf condition) at (branch_target 8 at a) ≡ Some (instr.Branch (Bcc condition a))
 aimed_short condition at a h =
     let small : a % 2 ^ 8 ≡ a = omega arith in
-    let there : distance (pc at) (branch_target 8 at a) ≡ signed_offset 8 (a % 2 ^ 8) =
-    there_and_back (pc at) (signed_offset 8 (a % 2 ^ 8)) (omega arith) (grind (arith, nat_tests)) in
+    let there : distance (pc_read at) (branch_target 8 at a) ≡ signed_offset 8 (a % 2 ^ 8) =
+    there_and_back (pc_read at) (signed_offset 8 (a % 2 ^ 8)) (omega arith) (grind (arith, nat_tests)) in
     ap (λ (x : ℕ). with_field (λ i. Some (instr.Branch (Bcc condition i))) (halved 256 x)) (there ∙ ap (signed_offset 8) small)
     ∙ ap (with_field (λ i. Some (instr.Branch (Bcc condition i)))) (halved_short a h)
 
 aimed_near : (at a : ℕ) → a < 2048 → row_aimed Branch at (branch_target 11 at a) ≡ Some (instr.Branch (B a))
 aimed_near at a h =
     let small : a % 2 ^ 11 ≡ a = omega arith in
-    let there : distance (pc at) (branch_target 11 at a) ≡ signed_offset 11 (a % 2 ^ 11) =
-    there_and_back (pc at) (signed_offset 11 (a % 2 ^ 11)) (omega arith) (grind (arith, nat_tests)) in
+    let there : distance (pc_read at) (branch_target 11 at a) ≡ signed_offset 11 (a % 2 ^ 11) =
+    there_and_back (pc_read at) (signed_offset 11 (a % 2 ^ 11)) (omega arith) (grind (arith, nat_tests)) in
     ap (λ (x : ℕ). with_field (λ i. Some (instr.Branch (B i))) (halved 2048 x)) (there ∙ ap (signed_offset 11) small)
     ∙ ap (with_field (λ i. Some (instr.Branch (B i)))) (halved_near a h)
 
 aimed_far : (at a : ℕ) → a < 16777216 → row_aimed BranchLink at (branch_target 24 at a) ≡ Some (instr.Branch (Bl a))
 aimed_far at a h =
     let small : a % 2 ^ 24 ≡ a = omega arith in
-    let there : distance (pc at) (branch_target 24 at a) ≡ signed_offset 24 (a % 2 ^ 24) =
-    there_and_back (pc at) (signed_offset 24 (a % 2 ^ 24)) (omega arith) (grind (arith, nat_tests)) in
+    let there : distance (pc_read at) (branch_target 24 at a) ≡ signed_offset 24 (a % 2 ^ 24) =
+    there_and_back (pc_read at) (signed_offset 24 (a % 2 ^ 24)) (omega arith) (grind (arith, nat_tests)) in
     ap (λ (x : ℕ). with_field (λ i. Some (instr.Branch (Bl i))) (halved 16777216 x)) (there ∙ ap (signed_offset 24) small)
     ∙ ap (with_field (λ i. Some (instr.Branch (Bl i)))) (halved_far a h)
 
@@ -361,7 +364,7 @@ found (instr.Other Wfi) at fields made = refl
 found (instr.Other Sev) at fields made = refl
 found (instr.Many (Stm n list)) at fields made = ap (with_field (λ i. Some (instr.Many (Stm n i)))) (counted_1 list (second_of_two n list 8 256 fields))
 found (instr.Many (Ldm n list)) at fields made = ap (with_field (λ i. Some (instr.Many (Ldm n i)))) (counted_1 list (second_of_two n list 8 256 fields))
-found (instr.Branch (Bcc condition immediate)) at fields made = aimed_short condition at immediate (second_of_two condition immediate 14 256 fields)
+found (instr.Branch (Bcc condition immediate)) at fields made = aimed_short condition at immediate (one_below immediate 256 fields)
 found (instr.Other (Udf immediate)) at fields made = of_zero (λ i. instr.Other (Udf i)) immediate made
 found (instr.Other (Svc immediate)) at fields made = of_zero (λ i. instr.Other (Svc i)) immediate made
 found (instr.Branch (B immediate)) at fields made = aimed_near at immediate (one_below immediate 2048 fields)

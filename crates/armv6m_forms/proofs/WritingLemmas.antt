@@ -3,9 +3,9 @@ use Rattle.std.proofs.Common.{◌≡◌, ◌≢◌, ◌≤◌, ◌+◌, ◌-◌,
 use Rattle.std.proofs.lemmas.Grind.{common_steps}
 use Rattle.std.proofs.lemmas.List.Elements.{filter-append}
 use Rattle.std.specs.List.{filter, range_with_len, join_by}
-use Rattle.armv6m_decode.specs.Rows.{bit}
+use Rattle.armv6m_alu.specs.Bits.{is_bit_set}
 use Rattle.armv6m_forms.specs.Room.{IsShort}
-use Rattle.armv6m_forms.specs.Text.{text_of, register_text, comma, listed, list_text, operands_text, form_text}
+use Rattle.armv6m_forms.specs.Text.{text_of, register_text, comma_text, listed_below, list_text, operands_text, form_text}
 use Rattle.armv6m_forms.specs.declared.mnemonic.Mnemonic.{Mnemonic}
 use Rattle.armv6m_forms.specs.declared.form.Operands.{Operands}
 use Rattle.armv6m_forms.specs.declared.form.Operands.TheVariants.{None, One, Two, Three, Immediate, OneImmediate, TwoImmediate, ByRegister, ByOffset, List as RegisterList, BaseList, UpdatedList, Interrupts, FromSpecial, ToSpecial}
@@ -24,25 +24,25 @@ is_none (register ∷ rest) = false
 
 -- their names
 abbrev pub names_below : ℕ → ℕ → List ℕ
-names_below end list = join_by register_text comma (listed end list)
+names_below end list = join_by register_text comma_text (listed_below end list)
 
 range_more : (a n : ℕ) → range_with_len a (suc n) ≡ range_with_len a n ++ (a + n) ∷ []
 range_more a zero = rw add-zero refl
 range_more a (suc n) = let same : a + 1 + n ≡ a + suc n = omega arith in rw (← same) (ap (λ xs. a ∷ xs) (range_more (a + 1) n))
 
-one_or_none : (there : Bool) (register list : ℕ) → bit register list ≡ there
-    → filter (λ register. bit register list) (register ∷ []) ≡ (if there then register ∷ [] else [])
+one_or_none : (there : Bool) (register list : ℕ) → is_bit_set list register ≡ there
+    → filter (λ register. is_bit_set list register) (register ∷ []) ≡ (if there then register ∷ [] else [])
 one_or_none true register list h = rw h refl
 one_or_none false register list h = rw h refl
 
 -- one register more
-pub listed-more : (there : Bool) (register list : ℕ) → bit register list ≡ there
-    → listed (register + 1) list ≡ listed register list ++ (if there then register ∷ [] else [])
-unfolding listed
+pub listed-more : (there : Bool) (register list : ℕ) → is_bit_set list register ≡ there
+    → listed_below (register + 1) list ≡ listed_below register list ++ (if there then register ∷ [] else [])
+unfolding listed_below
 listed-more there register list h =
     let more : range_with_len 0 (register + 1) ≡ range_with_len 0 register ++ register ∷ [] = grind (arith, range_more 0 register) in
-    rw more (filter-append (λ register. bit register list) (range_with_len 0 register) (register ∷ [])
-    ∙ ap (λ xs. listed register list ++ xs) (one_or_none there register list h))
+    rw more (filter-append (λ register. is_bit_set list register) (range_with_len 0 register) (register ∷ [])
+    ∙ ap (λ xs. listed_below register list ++ xs) (one_or_none there register list h))
 
 is_none-more : (xs : List ℕ) (x : ℕ) → is_none (xs ++ x ∷ []) ≡ false
 is_none-more [] x = refl
@@ -50,28 +50,28 @@ is_none-more (y ∷ ys) x = refl
 
 -- the names of some registers and one more
 join-more : (xs : List ℕ) (x : ℕ)
-    → join_by register_text comma (xs ++ x ∷ []) ≡ join_by register_text comma xs ++ (if is_none xs then [] else comma) ++ register_text x
+    → join_by register_text comma_text (xs ++ x ∷ []) ≡ join_by register_text comma_text xs ++ (if is_none xs then [] else comma_text) ++ register_text x
 join-more [] x = append-nil (register_text x)
 join-more (y ∷ ys) x = grind (arith, common_steps)
 
--- a register that is listed
-pub names_below-listed : (register list : ℕ) → bit register list ≡ true
-    → names_below (register + 1) list ≡ names_below register list ++ (if is_none (listed register list) then [] else comma) ++ register_text register
-names_below-listed register list h = rw (listed-more true register list h) (join-more (listed register list) register)
+-- a register that is listed_below
+pub names_below-listed : (register list : ℕ) → is_bit_set list register ≡ true
+    → names_below (register + 1) list ≡ names_below register list ++ (if is_none (listed_below register list) then [] else comma_text) ++ register_text register
+names_below-listed register list h = rw (listed-more true register list h) (join-more (listed_below register list) register)
 
 -- no register is below the first
-pub listed-first : (list : ℕ) → listed 0 list ≡ []
-unfolding listed
+pub listed-first : (list : ℕ) → listed_below 0 list ≡ []
+unfolding listed_below
 listed-first list = refl
 
-pub is_none-listed : (register list : ℕ) → bit register list ≡ true → is_none (listed (register + 1) list) ≡ false
-is_none-listed register list h = rw (listed-more true register list h) (is_none-more (listed register list) register)
+pub is_none-listed : (register list : ℕ) → is_bit_set list register ≡ true → is_none (listed_below (register + 1) list) ≡ false
+is_none-listed register list h = rw (listed-more true register list h) (is_none-more (listed_below register list) register)
 
 -- a register that isn't
-pub listed-absent : (register list : ℕ) → bit register list ≡ false → listed (register + 1) list ≡ listed register list
-listed-absent register list h = listed-more false register list h ∙ append-nil (listed register list)
+pub listed-absent : (register list : ℕ) → is_bit_set list register ≡ false → listed_below (register + 1) list ≡ listed_below register list
+listed-absent register list h = listed-more false register list h ∙ append-nil (listed_below register list)
 
-names_grow : (there : Bool) (register list : ℕ) → bit register list ≡ there
+names_grow : (there : Bool) (register list : ℕ) → is_bit_set list register ≡ there
     → length (names_below register list) ≤ length (names_below (register + 1) list)
 names_grow true register list h = rw (names_below-listed register list h) (grind (arith, length-append))
 names_grow false register list h = rw (listed-absent register list h) (omega arith)
@@ -80,7 +80,7 @@ names_grow_by : (more register list : ℕ) → length (names_below register list
 names_grow_by zero register list = rw add-zero (omega arith)
 names_grow_by (suc more) register list =
     let next : register + suc more ≡ register + more + 1 = omega arith in
-    rw next (omega (arith, names_grow_by more register list, names_grow (bit (register + more) list) (register + more) list refl))
+    rw next (omega (arith, names_grow_by more register list, names_grow (is_bit_set list (register + more)) (register + more) list refl))
 
 in_braces : (names : List ℕ) → length (codes "{" ++ names ++ codes "}") ≡ length names + 2
 in_braces names = grind (arith, length-append)
@@ -95,9 +95,9 @@ names_have_room register list within short =
     omega (arith, whole, short, in_braces (names_below 16 list))
 
 -- a text that the names stand at the end of, and one register more
-pub text_more : (front line after : List ℕ) (first : Bool) (register list : ℕ) → bit register list ≡ true
-    → line ≡ front ++ names_below register list → first ≡ is_none (listed register list)
-    → after ≡ line ++ (if first then [] else comma) ++ register_text register
+pub text_more : (front line after : List ℕ) (first : Bool) (register list : ℕ) → is_bit_set list register ≡ true
+    → line ≡ front ++ names_below register list → first ≡ is_none (listed_below register list)
+    → after ≡ line ++ (if first then [] else comma_text) ++ register_text register
     → after ≡ front ++ names_below (register + 1) list
 text_more front line after first register list h before none more =
     rw (more, before, none, names_below-listed register list h)

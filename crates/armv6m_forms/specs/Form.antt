@@ -7,30 +7,14 @@ use Rattle.armv6m_decode.specs.declared.instr.Memory.TheVariants.{LdrLiteral, St
 use Rattle.armv6m_decode.specs.declared.instr.Many.TheVariants.{Push, Pop, Stm, Ldm}
 use Rattle.armv6m_decode.specs.declared.instr.Branch.TheVariants.{Bx, Blx, Bcc, B, Bl}
 use Rattle.armv6m_decode.specs.declared.instr.Other.TheVariants.{Adr, AddFromSp, AddToSp, SubFromSp, Sxth, Sxtb, Uxth, Uxtb, Cpsie, Cpsid, Rev, Rev16, Revsh, Bkpt, Nop, Yield, Wfe, Wfi, Sev, Udf, Svc, Mrs, Msr, Dsb, Dmb, Isb}
+use Rattle.armv6m_decode.specs.declared.registers.TheConstants.{SP, LR, PC}
+use Rattle.armv6m_decode.specs.Targets.{literal_target, branch_target}
 use Rattle.armv6m_encode.specs.Encoding.{fields_fit}
 use Rattle.armv6m_forms.specs.declared.mnemonic.Mnemonic.TheVariants as mnemonic
 use Rattle.armv6m_forms.specs.declared.form.Operands.TheVariants.{None, One, Two, Three, Immediate, OneImmediate, TwoImmediate, ByRegister, ByOffset, List, BaseList, UpdatedList, Interrupts, FromSpecial, ToSpecial}
 use Rattle.armv6m_forms.specs.declared.form.Aim.TheVariants.{Branch, BranchIf, BranchLink, Load, Address}
 use Rattle.armv6m_forms.specs.declared.form.Form.{Form}
 use Rattle.armv6m_forms.specs.declared.form.Form.TheVariants.{Plain, Aimed}
-
--- ---- targets
-
--- the PC as the instruction at an address reads it
-abbrev pub pc : ℕ → ℕ
-pc at = (at + 4) % 2 ^ 32
-
--- a literal's or an address's target: the manual's Align(PC, 4) + ZeroExtend(imm8:'00', 32)
-abbrev pub literal_target : ℕ → ℕ → ℕ
-literal_target at immediate = (pc at / 4 * 4 + 4 * immediate) % 2 ^ 32
-
--- twice an immediate of so many bits, which is read as signed, in 32 bits: the manual's SignExtend(imm:'0', 32)
-abbrev pub signed_offset : ℕ → ℕ → ℕ
-signed_offset bits immediate = if nat_lt immediate (2 ^ (bits - 1)) then 2 * immediate else 2 * immediate + (2 ^ 32 - 2 ^ (bits + 1))
-
--- a branch's target
-abbrev pub branch_target : ℕ → ℕ → ℕ → ℕ
-branch_target bits at immediate = (pc at + signed_offset bits (immediate % 2 ^ bits)) % 2 ^ 32
 
 -- ---- operands
 
@@ -94,18 +78,18 @@ form_of (instr.Memory (StrbImmediate t n immediate)) at = Plain mnemonic.Strb (B
 form_of (instr.Memory (LdrbImmediate t n immediate)) at = Plain mnemonic.Ldrb (ByOffset t n immediate)
 form_of (instr.Memory (StrhImmediate t n immediate)) at = Plain mnemonic.Strh (ByOffset t n (2 * immediate))
 form_of (instr.Memory (LdrhImmediate t n immediate)) at = Plain mnemonic.Ldrh (ByOffset t n (2 * immediate))
-form_of (instr.Memory (StrSp t immediate)) at = Plain mnemonic.Str (ByOffset t 13 (4 * immediate))
-form_of (instr.Memory (LdrSp t immediate)) at = Plain mnemonic.Ldr (ByOffset t 13 (4 * immediate))
+form_of (instr.Memory (StrSp t immediate)) at = Plain mnemonic.Str (ByOffset t SP (4 * immediate))
+form_of (instr.Memory (LdrSp t immediate)) at = Plain mnemonic.Ldr (ByOffset t SP (4 * immediate))
 form_of (instr.Other (Adr d immediate)) at = Aimed (Address d) (literal_target at immediate)
-form_of (instr.Other (AddFromSp d immediate)) at = Plain mnemonic.Add (TwoImmediate d 13 (4 * immediate))
-form_of (instr.Other (AddToSp immediate)) at = Plain mnemonic.Add (OneImmediate 13 (4 * immediate))
-form_of (instr.Other (SubFromSp immediate)) at = Plain mnemonic.Sub (OneImmediate 13 (4 * immediate))
+form_of (instr.Other (AddFromSp d immediate)) at = Plain mnemonic.Add (TwoImmediate d SP (4 * immediate))
+form_of (instr.Other (AddToSp immediate)) at = Plain mnemonic.Add (OneImmediate SP (4 * immediate))
+form_of (instr.Other (SubFromSp immediate)) at = Plain mnemonic.Sub (OneImmediate SP (4 * immediate))
 form_of (instr.Other (Sxth d m)) at = Plain mnemonic.Sxth (Two d m)
 form_of (instr.Other (Sxtb d m)) at = Plain mnemonic.Sxtb (Two d m)
 form_of (instr.Other (Uxth d m)) at = Plain mnemonic.Uxth (Two d m)
 form_of (instr.Other (Uxtb d m)) at = Plain mnemonic.Uxtb (Two d m)
-form_of (instr.Many (Push lr list)) at = Plain mnemonic.Push (List (with_register lr 14 list))
-form_of (instr.Many (Pop to_pc list)) at = Plain mnemonic.Pop (List (with_register to_pc 15 list))
+form_of (instr.Many (Push lr list)) at = Plain mnemonic.Push (List (with_register lr LR list))
+form_of (instr.Many (Pop to_pc list)) at = Plain mnemonic.Pop (List (with_register to_pc PC list))
 form_of (instr.Other Cpsie) at = Plain mnemonic.Cpsie Interrupts
 form_of (instr.Other Cpsid) at = Plain mnemonic.Cpsid Interrupts
 form_of (instr.Other (Rev d m)) at = Plain mnemonic.Rev (Two d m)

@@ -1,8 +1,11 @@
 -- The text of a form, as the manual's assembler syntax has it (A6.7), with a blank behind the mnemonic and behind each comma.
-use Rattle.std.specs.Prelude.{◌≡◌, ◌⊎◌, ◌<◌, ◌/◌, ◌%◌, ◌^◌, ℕ, zero, suc, List, [], ◌∷◌, ◌++◌, codes, decimal, nat_eq, slice_index_or, if◌then◌else◌}
+use Rattle.std.specs.Prelude.{◌≡◌, ◌⊎◌, ℕ, List, [], ◌∷◌, ◌++◌, codes, decimal, nat_eq, if◌then◌else◌}
 use Rattle.std.specs.List.{filter, range_with_len, join_by}
-use Rattle.octets.specs.Digit.{upper_digit}
-use Rattle.armv6m_decode.specs.Rows.{bit}
+use Rattle.octets.specs.Digit.{hex_text}
+use Rattle.armv6m_alu.specs.Bits.{is_bit_set}
+use Rattle.armv6m_decode.specs.declared.condition.Condition.{Condition}
+use Rattle.armv6m_decode.specs.declared.condition.Condition.TheVariants.{Equal, NotEqual, CarrySet, CarryClear, Minus, Plus, Overflow, NoOverflow, Higher, LowerOrSame, GreaterOrEqual, LessThan, GreaterThan, LessOrEqual}
+use Rattle.armv6m_decode.specs.declared.registers.TheConstants.{SP, LR, PC, APSR, MSP, PRIMASK}
 use Rattle.armv6m_forms.specs.declared.mnemonic.Mnemonic.{Mnemonic}
 use Rattle.armv6m_forms.specs.declared.mnemonic.Mnemonic.TheVariants as mnemonic
 use Rattle.armv6m_forms.specs.declared.form.Operands.{Operands}
@@ -74,15 +77,22 @@ text_of mnemonic.Dsb = codes "DSB"
 text_of mnemonic.Dmb = codes "DMB"
 text_of mnemonic.Isb = codes "ISB"
 
--- the suffixes of the conditions from 0 to 13 (A6.3)
-abbrev pub condition_texts : List (List ℕ)
-condition_texts =
-    codes "EQ" ∷ codes "NE" ∷ codes "CS" ∷ codes "CC" ∷ codes "MI" ∷ codes "PL" ∷ codes "VS" ∷ codes "VC" ∷ codes "HI" ∷ codes "LS" ∷ codes "GE"
-    ∷ codes "LT" ∷ codes "GT" ∷ codes "LE" ∷ []
-
--- any other number, which no instruction has, is written as "always"
-unfoldable pub condition_text : ℕ → List ℕ
-condition_text condition = slice_index_or condition_texts condition (codes "AL")
+-- the suffix of a condition (A6.3)
+unfoldable pub condition_text : Condition → List ℕ
+condition_text Equal = codes "EQ"
+condition_text NotEqual = codes "NE"
+condition_text CarrySet = codes "CS"
+condition_text CarryClear = codes "CC"
+condition_text Minus = codes "MI"
+condition_text Plus = codes "PL"
+condition_text Overflow = codes "VS"
+condition_text NoOverflow = codes "VC"
+condition_text Higher = codes "HI"
+condition_text LowerOrSame = codes "LS"
+condition_text GreaterOrEqual = codes "GE"
+condition_text LessThan = codes "LT"
+condition_text GreaterThan = codes "GT"
+condition_text LessOrEqual = codes "LE"
 
 -- the mnemonic of an instruction with a target
 unfoldable pub aim_text : Aim → List ℕ
@@ -95,12 +105,12 @@ aim_text (Address d) = codes "ADR"
 -- a register (A5.1.2); numbers from 16 on, which no instruction has, are written likewise
 unfoldable pub register_text : ℕ → List ℕ
 register_text register =
-    if nat_eq register 13 then codes "SP" else if nat_eq register 14 then codes "LR" else if nat_eq register 15 then codes "PC" else codes "R" ++ decimal register
+    if nat_eq register SP then codes "SP" else if nat_eq register LR then codes "LR" else if nat_eq register PC then codes "PC" else codes "R" ++ decimal register
 
 -- ---- operands
 
-abbrev pub comma : List ℕ
-comma = codes ", "
+abbrev pub comma_text : List ℕ
+comma_text = codes ", "
 
 -- an immediate, in decimal
 unfoldable pub immediate_text : ℕ → List ℕ
@@ -109,19 +119,14 @@ immediate_text immediate = codes "#" ++ decimal immediate
 -- the special registers that this profile has, by their numbers (B5.1.1); any other is written by its number
 unfoldable pub special_text : ℕ → List ℕ
 special_text special =
-    if nat_eq special 0 then codes "APSR" else if nat_eq special 8 then codes "MSP" else if nat_eq special 16 then codes "PRIMASK" else immediate_text special
+    if nat_eq special APSR then codes "APSR" else if nat_eq special MSP then codes "MSP" else if nat_eq special PRIMASK then codes "PRIMASK" else immediate_text special
 
 -- the registers below an end whose bits are set, in rising order
-unfoldable pub listed : ℕ → ℕ → List ℕ
-listed end list = filter (λ register. bit register list) (range_with_len 0 end)
+unfoldable pub listed_below : ℕ → ℕ → List ℕ
+listed_below end list = filter (λ register. is_bit_set list register) (range_with_len 0 end)
 
 unfoldable pub list_text : ℕ → List ℕ
-list_text list = codes "{" ++ join_by register_text comma (listed 16 list) ++ codes "}"
-
--- the last so many hexadecimal digits of a number, the highest first
-abbrev pub hex_text : ℕ → ℕ → List ℕ
-hex_text zero number = []
-hex_text (suc digits) number = upper_digit (number / 16 ^ digits % 16) ∷ hex_text digits number
+list_text list = codes "{" ++ join_by register_text comma_text (listed_below 16 list) ++ codes "}"
 
 -- the address of a target
 unfoldable pub target_text : ℕ → List ℕ
@@ -130,24 +135,24 @@ target_text target = codes "0x" ++ hex_text 8 target
 unfoldable pub operands_text : Operands → List ℕ
 operands_text None = []
 operands_text (One m) = register_text m
-operands_text (Two d m) = register_text d ++ comma ++ register_text m
-operands_text (Three d n m) = register_text d ++ comma ++ register_text n ++ comma ++ register_text m
+operands_text (Two d m) = register_text d ++ comma_text ++ register_text m
+operands_text (Three d n m) = register_text d ++ comma_text ++ register_text n ++ comma_text ++ register_text m
 operands_text (Immediate immediate) = immediate_text immediate
-operands_text (OneImmediate d immediate) = register_text d ++ comma ++ immediate_text immediate
-operands_text (TwoImmediate d n immediate) = register_text d ++ comma ++ register_text n ++ comma ++ immediate_text immediate
-operands_text (ByRegister t n m) = register_text t ++ codes ", [" ++ register_text n ++ comma ++ register_text m ++ codes "]"
-operands_text (ByOffset t n offset) = register_text t ++ codes ", [" ++ register_text n ++ comma ++ immediate_text offset ++ codes "]"
+operands_text (OneImmediate d immediate) = register_text d ++ comma_text ++ immediate_text immediate
+operands_text (TwoImmediate d n immediate) = register_text d ++ comma_text ++ register_text n ++ comma_text ++ immediate_text immediate
+operands_text (ByRegister t n m) = register_text t ++ codes ", [" ++ register_text n ++ comma_text ++ register_text m ++ codes "]"
+operands_text (ByOffset t n offset) = register_text t ++ codes ", [" ++ register_text n ++ comma_text ++ immediate_text offset ++ codes "]"
 operands_text (RegisterList list) = list_text list
-operands_text (BaseList n list) = register_text n ++ comma ++ list_text list
+operands_text (BaseList n list) = register_text n ++ comma_text ++ list_text list
 operands_text (UpdatedList n list) = register_text n ++ codes "!, " ++ list_text list
 operands_text Interrupts = codes "i"
-operands_text (FromSpecial d special) = register_text d ++ comma ++ special_text special
-operands_text (ToSpecial special n) = special_text special ++ comma ++ register_text n
+operands_text (FromSpecial d special) = register_text d ++ comma_text ++ special_text special
+operands_text (ToSpecial special n) = special_text special ++ comma_text ++ register_text n
 
 -- the register that stands before a target, with its comma
 unfoldable pub aim_register : Aim → List ℕ
-aim_register (Load t) = register_text t ++ comma
-aim_register (Address d) = register_text d ++ comma
+aim_register (Load t) = register_text t ++ comma_text
+aim_register (Address d) = register_text d ++ comma_text
 aim_register _ = []
 
 -- ---- forms
@@ -162,11 +167,10 @@ form_text (Aimed aim target) = aim_text aim ++ codes " " ++ aim_register aim ++ 
 
 -- a mnemonic that stands alone before its target
 abbrev pub IsBranch : Aim → Type 0
-IsBranch (BranchIf condition) = condition < 14
 IsBranch (Load t) = ⊥
 IsBranch (Address d) = ⊥
 IsBranch _ = Unit {0}
 
 -- a special register that this profile has
 abbrev pub IsSpecial : ℕ → Type 0
-IsSpecial special = (special ≡ 0) ⊎ ((special ≡ 8) ⊎ (special ≡ 16))
+IsSpecial special = (special ≡ APSR) ⊎ ((special ≡ MSP) ⊎ (special ≡ PRIMASK))

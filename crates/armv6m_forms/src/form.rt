@@ -1,9 +1,10 @@
 //! The form of an instruction: what its statement says.
 //!
-//! A register is its number, 0 to 15; SP, LR and PC are 13, 14 and 15. Immediates stand as the text has them: offsets in
+//! A register is its number, 0 to 15. Immediates stand as the text has them: offsets in
 //! bytes, and a shift to the right by 1 to 32. Bit r of a `list` stands for the register r.
 
 use crate::mnemonic::Mnemonic;
+use armv6m_decode::Condition;
 
 /// The operands of an instruction without a target, in the order of the text.
 #[derive(Clone, Copy, PartialEq, Eq, Debug)]
@@ -45,8 +46,8 @@ pub enum Operands {
 pub enum Aim {
     /// `B target`
     Branch,
-    /// `B` with a condition from 0, EQ, to 13, LE, in the manual's order (A6.3)
-    BranchIf { condition: u8 },
+    /// `B` with a condition (A6.3)
+    BranchIf { condition: Condition },
     /// `BL target`
     BranchLink,
     /// `LDR t, target`

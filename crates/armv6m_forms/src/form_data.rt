@@ -47,7 +47,7 @@ pub(crate) fn form(op: Alu, at: u32) -> Form
     }
 }
 
-// LSLS by 0 is MOV (register) T2.
+/// LSLS by 0 is MOV (register) T2.
 #[tactic(auto, unfolding(crate::specs::Form::form_of))]
 fn lsls_immediate(d: u8, m: u8, immediate: u8, at: u32) -> Form
     ensures { result ≡ form_of (Instr.Alu (Alu.LslsImmediate d m immediate)) at }
@@ -59,7 +59,7 @@ fn lsls_immediate(d: u8, m: u8, immediate: u8, at: u32) -> Form
     }
 }
 
-// The immediate 0 stands for a shift to the right by 32.
+/// The immediate 0 stands for a shift to the right by 32.
 fn shift_right(mnemonic: Mnemonic, d: u8, m: u8, immediate: u8) -> Form
     ensures { result ≡ Form.Plain mnemonic (Operands.TwoImmediate d m (right_shift immediate)) }
 {
@@ -72,7 +72,7 @@ fn shift_right(mnemonic: Mnemonic, d: u8, m: u8, immediate: u8) -> Form
     )
 }
 
-// The immediate of three bits stands as it is.
+/// The immediate of three bits stands as it is.
 fn immediate_3(mnemonic: Mnemonic, d: u8, n: u8, immediate: u8) -> Form
     ensures { result ≡ Form.Plain mnemonic (Operands.TwoImmediate d n immediate) }
 {

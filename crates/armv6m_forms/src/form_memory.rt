@@ -6,7 +6,8 @@ ghost use Rattle.armv6m_forms.specs.Form.{form_of};
 use crate::form::{Aim, Form};
 use crate::mnemonic::Mnemonic;
 use crate::plain::{aimed, by_offset, by_register};
-use crate::targets::literal;
+use armv6m_decode::registers::SP;
+use armv6m_decode::targets::literal;
 use armv6m_decode::{Instr, Memory};
 
 #[tactic(auto, unfolding(crate::specs::Form::form_of))]
@@ -29,7 +30,7 @@ pub(crate) fn form(op: Memory, at: u32) -> Form
         Memory::LdrbImmediate { t, n, immediate } => by_offset(Mnemonic::Ldrb, t, n, 1, immediate),
         Memory::StrhImmediate { t, n, immediate } => by_offset(Mnemonic::Strh, t, n, 2, immediate),
         Memory::LdrhImmediate { t, n, immediate } => by_offset(Mnemonic::Ldrh, t, n, 2, immediate),
-        Memory::StrSp { t, immediate } => by_offset(Mnemonic::Str, t, 13, 4, immediate),
-        Memory::LdrSp { t, immediate } => by_offset(Mnemonic::Ldr, t, 13, 4, immediate),
+        Memory::StrSp { t, immediate } => by_offset(Mnemonic::Str, t, SP, 4, immediate),
+        Memory::LdrSp { t, immediate } => by_offset(Mnemonic::Ldr, t, SP, 4, immediate),
     }
 }

@@ -6,8 +6,9 @@ ghost use Rattle.armv6m_forms.specs.Form.{form_of, with_register};
 use crate::form::{Aim, Form, Operands};
 use crate::mnemonic::Mnemonic;
 use crate::plain::{aimed, interrupts, none, one, one_immediate, two, two_immediate, with_bit};
-use crate::targets::{far, literal, near, short};
 use crate::{form_data, form_memory, plain};
+use armv6m_decode::registers::SP;
+use armv6m_decode::targets::{far, literal, near, short};
 use armv6m_decode::{Branch, Instr, Many, Other};
 
 /// The form of the instruction at an address: its mnemonic and its operands (A6.7). A target is counted from the address plus
@@ -71,9 +72,9 @@ fn other(op: Other, at: u32) -> Form
 {
     match op {
         Other::Adr { d, immediate } => aimed(Aim::Address { d }, literal(at, immediate)),
-        Other::AddFromSp { d, immediate } => two_immediate(Mnemonic::Add, d, 13, 4, immediate),
-        Other::AddToSp { immediate } => one_immediate(Mnemonic::Add, 13, 4, immediate),
-        Other::SubFromSp { immediate } => one_immediate(Mnemonic::Sub, 13, 4, immediate),
+        Other::AddFromSp { d, immediate } => two_immediate(Mnemonic::Add, d, SP, 4, immediate),
+        Other::AddToSp { immediate } => one_immediate(Mnemonic::Add, SP, 4, immediate),
+        Other::SubFromSp { immediate } => one_immediate(Mnemonic::Sub, SP, 4, immediate),
         Other::Sxth { d, m } => two(Mnemonic::Sxth, d, m),
         Other::Sxtb { d, m } => two(Mnemonic::Sxtb, d, m),
         Other::Uxth { d, m } => two(Mnemonic::Uxth, d, m),

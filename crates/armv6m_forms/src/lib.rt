@@ -10,7 +10,6 @@ mod mnemonic;
 mod plain;
 mod reading;
 mod rows;
-mod targets;
 mod text;
 mod word;
 
@@ -24,5 +23,3 @@ pub use word::{read_branch, read_mnemonic, read_register, read_special};
 
 #[cfg(test)]
 mod tests;
-#[cfg(test)]
-mod text_tests;

@@ -84,7 +84,7 @@ pub(crate) fn aimed(aim: Aim, target: u32) -> Form
     Form::Aimed { aim, target }
 }
 
-// The list with one more register's bit, where that is in it.
+/// The list with one more register's bit, where that is in it.
 pub(crate) fn with_bit(there: bool, bit: u16, list: u8) -> u16
     requires { bit ≤ 0x8000 }
     ensures { result ≡ (if there then list + bit else list) }

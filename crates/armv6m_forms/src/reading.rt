@@ -1,16 +1,17 @@
 //! From a form to its instruction.
 
 ghost use Rattle.std.specs.Prelude.{◌≡◌, ℕ, ◌+◌, ◌-◌, ◌*◌, ◌/◌, ◌%◌, ◌^◌, ◌<◌, ◌≤◌, MatchOption};
+ghost use Rattle.armv6m_decode.specs.Targets.{pc_read};
 ghost use Rattle.armv6m_forms.specs.declared.form.Form.{Form};
-ghost use Rattle.armv6m_forms.specs.Form.{pc, StandsFor, HasNoInstruction, OneInstructionForEach};
+ghost use Rattle.armv6m_forms.specs.Form.{StandsFor, HasNoInstruction, OneInstructionForEach};
 ghost use Rattle.armv6m_forms.specs.Row.{IsReadAt, halved, counted};
 
 use crate::form::{Aim, Operands};
 use crate::mnemonic::Mnemonic;
 use crate::rows;
 use crate::rows::{fitting, in_units};
-use crate::targets::pc_at;
-use armv6m_decode::{Branch, Instr, Memory, Other};
+use armv6m_decode::targets::pc_at;
+use armv6m_decode::{Branch, Condition, Instr, Memory, Other};
 
 /// A form has one instruction at most.
 pub fn one_instruction()
@@ -58,8 +59,8 @@ pub fn reach(aim: Aim, at: u32, target: u32) -> Option<Instr>
     }
 }
 
-// The field that, read as signed, counts the halfwords of a distance modulo 2^32. It is less than a span of bytes in either
-// direction.
+/// The field that, read as signed, counts the halfwords of a distance modulo 2^32. It is less than a span of bytes in either
+/// direction.
 fn halves(span: u32, distance: u32) -> Option<u32>
     requires positive { 0 < span }
     requires even { span % 2 ≡ 0 }
@@ -87,7 +88,7 @@ fn near(at: u32, target: u32) -> Option<Instr>
     }))
 }
 
-fn short(condition: u8, at: u32, target: u32) -> Option<Instr>
+fn short(condition: Condition, at: u32, target: u32) -> Option<Instr>
     ensures { IsReadAt at (Form.Aimed (Aim.BranchIf condition) target) result }
 {
     let immediate = halves(0x100, target.wrapping_sub(pc_at(at)))?;
@@ -104,9 +105,9 @@ fn far(at: u32, target: u32) -> Option<Instr>
     fitting(Instr::Branch(Branch::Bl { immediate }))
 }
 
-// The field of a literal's or an address's target, from the aligned PC.
+/// The field of a literal's or an address's target, from the aligned PC.
 fn words_ahead(at: u32, target: u32) -> Option<u8>
-    ensures { result ≡ counted 4 ((target + (2 ^ 32 - pc at / 4 * 4)) % 2 ^ 32) }
+    ensures { result ≡ counted 4 ((target + (2 ^ 32 - pc_read at / 4 * 4)) % 2 ^ 32) }
 {
     in_units(4, target.wrapping_sub(pc_at(at) / 4 * 4))
 }

@@ -6,10 +6,11 @@ ghost use Rattle.armv6m_forms.specs.Row.{IsReadAs, scale_of, counted};
 
 use crate::form::{Form, Operands};
 use crate::mnemonic::Mnemonic;
+use armv6m_decode::registers::SP;
 use armv6m_decode::{Alu, Branch, Instr, Many, Memory, Other};
 use armv6m_encode::has_encoding;
 
-// The instruction, where each field fits its row.
+/// The instruction, where each field fits its row.
 pub(crate) fn fitting(instr: Instr) -> Option<Instr>
     ensures { result ≡ (if fields_fit instr then Some instr else None) }
 {
@@ -20,7 +21,7 @@ pub(crate) fn fitting(instr: Instr) -> Option<Instr>
     }
 }
 
-// The field of eight bits that counts a number in units.
+/// The field of eight bits that counts a number in units.
 pub(crate) fn in_units(unit: u32, number: u32) -> Option<u8>
     requires { 0 < unit }
     ensures { result ≡ counted unit number }
@@ -42,7 +43,7 @@ fn scale(mnemonic: Mnemonic) -> u32
     }
 }
 
-// CMP of two low registers is encoding T1 (A6.7.28).
+/// CMP of two low registers is encoding T1 (A6.7.28).
 fn comparison(d: u8, m: u8) -> Instr
     ensures { result ≡ (if nat_lt d 8 && nat_lt m 8 then Instr.Alu (Alu.CmpRegister d m) else Instr.Alu (Alu.CmpHigh d m)) }
 {
@@ -148,8 +149,8 @@ pub(crate) fn one_immediate(mnemonic: Mnemonic, d: u8, immediate: u32) -> Option
         Mnemonic::Cmp => Instr::Alu(Alu::CmpImmediate { n: d, immediate }),
         Mnemonic::Adds => Instr::Alu(Alu::AddsImmediate8 { d, immediate }),
         Mnemonic::Subs => Instr::Alu(Alu::SubsImmediate8 { d, immediate }),
-        Mnemonic::Add if d == 13 => Instr::Other(Other::AddToSp { immediate }),
-        Mnemonic::Sub if d == 13 => Instr::Other(Other::SubFromSp { immediate }),
+        Mnemonic::Add if d == SP => Instr::Other(Other::AddToSp { immediate }),
+        Mnemonic::Sub if d == SP => Instr::Other(Other::SubFromSp { immediate }),
         _ => return None,
     };
     fitting(instr)
@@ -175,7 +176,7 @@ pub(crate) fn two_immediate(mnemonic: Mnemonic, d: u8, n: u8, immediate: u32) ->
         Mnemonic::Adds => Instr::Alu(Alu::AddsImmediate3 { d, n, immediate }),
         Mnemonic::Subs => Instr::Alu(Alu::SubsImmediate3 { d, n, immediate }),
         Mnemonic::Rsbs if immediate == 0 => Instr::Alu(Alu::Rsbs { d, n }),
-        Mnemonic::Add if n == 13 => Instr::Other(Other::AddFromSp { d, immediate }),
+        Mnemonic::Add if n == SP => Instr::Other(Other::AddFromSp { d, immediate }),
         _ => return None,
     };
     fitting(instr)
@@ -203,8 +204,8 @@ pub(crate) fn by_offset(mnemonic: Mnemonic, t: u8, n: u8, offset: u32) -> Option
 {
     let immediate = in_units(scale(mnemonic), offset)?;
     let instr = match mnemonic {
-        Mnemonic::Str if n == 13 => Instr::Memory(Memory::StrSp { t, immediate }),
-        Mnemonic::Ldr if n == 13 => Instr::Memory(Memory::LdrSp { t, immediate }),
+        Mnemonic::Str if n == SP => Instr::Memory(Memory::StrSp { t, immediate }),
+        Mnemonic::Ldr if n == SP => Instr::Memory(Memory::LdrSp { t, immediate }),
         Mnemonic::Str => Instr::Memory(Memory::StrImmediate { t, n, immediate }),
         Mnemonic::Ldr => Instr::Memory(Memory::LdrImmediate { t, n, immediate }),
         Mnemonic::Strh => Instr::Memory(Memory::StrhImmediate { t, n, immediate }),

@@ -1,9 +1,11 @@
-//! Forms there and back, and rows in plain sight.
+//! Forms there and back, and a case of each rule. Statements that other tools write are compared by `armv6m_vectors`.
 
 use crate::*;
-use armv6m_decode::{Alu, Branch, Decoded, Instr, Many, Memory, Other, decode16};
+use armv6m_decode::registers::{LR, SP};
+use armv6m_decode::{Alu, Branch, Condition, Decoded, Instr, Many, Memory, Other, decode16};
+use std::process::Abort;
 
-// The instruction that is made where several have one form.
+/// The instruction that is made where several have one form.
 fn made(instr: Instr) -> Instr {
     match instr {
         Instr::Alu(Alu::CmpHigh { n, m }) if n < 8 && m < 8 => {
@@ -25,17 +27,14 @@ fn read(form: Form, at: u32) -> Option<Instr> {
 #[test]
 fn each_halfword_comes_back(rt: HostRuntime) {
     for half in 0..=u16::MAX {
-        match decode16(half) {
-            Decoded::Op(instr) => {
-                for at in [0, 0x1000, 0x1002, 0xFFFF_FFFE] {
-                    assert_eq!(rt;
-                        read(form_at(&instr, at), at),
-                        Some(made(instr)),
-                        "{half:04X}"
-                    );
-                }
+        if let Decoded::Op(instr) = decode16(half) {
+            for at in [0, 0x1000, 0x1002, 0xFFFF_FFFE] {
+                assert_eq!(rt;
+                    read(form_at(&instr, at), at),
+                    Some(made(instr)),
+                    "{half:04X}"
+                );
             }
-            Decoded::NeedsSecond | Decoded::Undefined => {}
         }
     }
 }
@@ -52,150 +51,57 @@ fn each_long_branch_comes_back(rt: HostRuntime) {
     }
 }
 
-// The ends of BL: 2 to the 24 bytes back, and 2 less than that ahead, from the address plus 4.
+/// The ends of B with a condition: 254 bytes ahead of the address plus 4, and 256 bytes back.
 #[test]
-fn ends_of_the_long_branch(rt: HostRuntime) {
-    for (target, immediate) in [
-        (0x0210_0002, 0x7F_FFFF),
-        (0x0110_0004, 0),
-        (0x0110_0002, 0xFF_FFFF),
-        (0x0010_0004, 0x80_0000),
-    ] {
-        let instr = Instr::Branch(Branch::Bl { immediate });
-        let form = Form::Aimed {
-            aim: Aim::BranchLink,
-            target,
-        };
-        assert_eq!(rt; form_at(&instr, 0x0110_0000), form);
-        assert_eq!(rt; reach(Aim::BranchLink, 0x0110_0000, target), Some(instr));
-    }
-    for target in [0x0210_0004, 0x0010_0002, 0x0110_0005, 0x8110_0004] {
-        assert_eq!(rt; reach(Aim::BranchLink, 0x0110_0000, target), None);
-    }
-}
-
-#[test]
-fn short_branches(rt: HostRuntime) {
-    let near = |immediate| Some(Instr::Branch(Branch::B { immediate }));
-    assert_eq!(rt; reach(Aim::Branch, 0x1000, 0x1000), near(0x7FE));
-    assert_eq!(rt; reach(Aim::Branch, 0x1000, 0x1802), near(0x3FF));
-    assert_eq!(rt; reach(Aim::Branch, 0x1000, 0x1804), None);
-    assert_eq!(rt; reach(Aim::Branch, 0x1000, 0x0804), near(0x400));
-    assert_eq!(rt; reach(Aim::Branch, 0x1000, 0x0802), None);
-    let to_equal = |immediate| {
-        Some(Instr::Branch(Branch::Bcc {
-            condition: 0,
-            immediate,
-        }))
+fn ends_of_a_branch(rt: HostRuntime) {
+    let aim = Aim::BranchIf {
+        condition: Condition::Equal,
     };
-    let equal = Aim::BranchIf { condition: 0 };
-    assert_eq!(rt; reach(equal, 0x1000, 0x1102), to_equal(0x7F));
-    assert_eq!(rt; reach(equal, 0x1000, 0x1104), None);
-    assert_eq!(rt; reach(equal, 0x1000, 0x0F04), to_equal(0x80));
-    assert_eq!(rt; reach(equal, 0x1000, 0x0F02), None);
-    assert_eq!(rt;
-        reach(Aim::BranchIf { condition: 14 }, 0x1000, 0x1000),
-        None
-    );
+    for (target, immediate) in [(0x1102, 0x7F), (0x0F04, 0x80)] {
+        let branch = Branch::Bcc {
+            condition: Condition::Equal,
+            immediate,
+        };
+        assert_eq!(rt; reach(aim, 0x1000, target), Some(Instr::Branch(branch)));
+    }
+    for target in [0x1104, 0x0F02, 0x1101] {
+        assert_eq!(rt; reach(aim, 0x1000, target), None);
+    }
 }
 
-// A literal's address is counted from the PC without its two low bits.
+/// A literal's address is counted from the PC without its two low bits.
 #[test]
 fn literals(rt: HostRuntime) {
     let load = |immediate| Some(Instr::Memory(Memory::LdrLiteral { t: 1, immediate }));
     let aim = Aim::Load { t: 1 };
-    assert_eq!(rt; reach(aim, 0x1000, 0x1008), load(1));
     assert_eq!(rt; reach(aim, 0x1002, 0x1008), load(1));
-    assert_eq!(rt; reach(aim, 0x1002, 0x1004), load(0));
     assert_eq!(rt; reach(aim, 0x1000, 0x1400), load(255));
-    assert_eq!(rt; reach(aim, 0x1000, 0x1404), None);
-    assert_eq!(rt; reach(aim, 0x1000, 0x1006), None);
-    assert_eq!(rt; reach(aim, 0x1000, 0x1000), None);
-    assert_eq!(rt; reach(Aim::Load { t: 8 }, 0x1000, 0x1008), None);
-    let address = Instr::Other(Other::Adr { d: 7, immediate: 2 });
-    assert_eq!(rt; reach(Aim::Address { d: 7 }, 0x1006, 0x1010), Some(address));
-}
-
-fn by_two(mnemonic: Mnemonic, d: u8, m: u8) -> Option<Instr> {
-    instruction(mnemonic, Operands::Two { d, m })
-}
-
-fn by_immediate(mnemonic: Mnemonic, d: u8, n: u8, immediate: u32) -> Option<Instr> {
-    instruction(mnemonic, Operands::TwoImmediate { d, n, immediate })
-}
-
-#[test]
-fn shifts(rt: HostRuntime) {
-    for (text, field) in [(1, 1), (31, 31), (32, 0)] {
-        let right = Instr::Alu(Alu::LsrsImmediate {
-            d: 0,
-            m: 1,
-            immediate: field,
-        });
-        assert_eq!(rt; by_immediate(Mnemonic::Lsrs, 0, 1, text), Some(right));
+    for target in [0x1404, 0x1006, 0x1000] {
+        assert_eq!(rt; reach(aim, 0x1000, target), None);
     }
-    assert_eq!(rt; by_immediate(Mnemonic::Lsrs, 0, 1, 0), None);
-    assert_eq!(rt; by_immediate(Mnemonic::Lsrs, 0, 1, 33), None);
-    assert_eq!(rt; by_immediate(Mnemonic::Lsls, 0, 1, 32), None);
-    let moved = Instr::Alu(Alu::LslsImmediate {
+}
+
+/// LSRS by 32 is the field 0, and by 0 is none; an offset counts words; LR goes with PUSH alone.
+#[test]
+fn fields(rt: HostRuntime) {
+    let right = |immediate| {
+        let operands = Operands::TwoImmediate {
+            d: 0,
+            n: 1,
+            immediate,
+        };
+        instruction(Mnemonic::Lsrs, operands)
+    };
+    let by_32 = Instr::Alu(Alu::LsrsImmediate {
         d: 0,
         m: 1,
         immediate: 0,
     });
-    assert_eq!(rt; by_two(Mnemonic::Movs, 0, 1), Some(moved));
-    assert_eq!(rt; by_immediate(Mnemonic::Lsls, 0, 1, 0), Some(moved));
-    let two = Form::Plain {
-        mnemonic: Mnemonic::Movs,
-        operands: Operands::Two { d: 0, m: 1 },
-    };
-    assert_eq!(rt; form_at(&moved, 0), two);
-}
-
-#[test]
-fn registers(rt: HostRuntime) {
-    let low = Instr::Alu(Alu::CmpRegister { d: 0, m: 1 });
-    assert_eq!(rt; by_two(Mnemonic::Cmp, 0, 1), Some(low));
-    let high = Instr::Alu(Alu::CmpHigh { n: 8, m: 0 });
-    assert_eq!(rt; by_two(Mnemonic::Cmp, 8, 0), Some(high));
-    assert_eq!(rt; by_two(Mnemonic::Ands, 8, 0), None);
-    assert_eq!(rt; by_two(Mnemonic::Add, 16, 0), None);
-    assert_eq!(rt; by_two(Mnemonic::Push, 0, 1), None);
-    let sum = Instr::Alu(Alu::AddsRegister { d: 0, n: 1, m: 2 });
-    let operands = Operands::Three { d: 0, n: 1, m: 2 };
-    assert_eq!(rt; instruction(Mnemonic::Adds, operands), Some(sum));
-    let link = Instr::Branch(Branch::Blx { m: 3 });
-    assert_eq!(rt;
-        instruction(Mnemonic::Blx, Operands::One { m: 3 }),
-        Some(link)
-    );
-}
-
-#[test]
-fn scaled_immediates(rt: HostRuntime) {
-    let add = |d, immediate| instruction(Mnemonic::Add, Operands::OneImmediate { d, immediate });
-    let whole = Instr::Other(Other::AddToSp { immediate: 127 });
-    assert_eq!(rt; add(13, 508), Some(whole));
-    assert_eq!(rt; add(13, 512), None);
-    assert_eq!(rt; add(13, 510), None);
-    assert_eq!(rt; add(0, 4), None);
-    let from = Instr::Other(Other::AddFromSp {
-        d: 2,
-        immediate: 255,
-    });
-    assert_eq!(rt; by_immediate(Mnemonic::Add, 2, 13, 1020), Some(from));
-    let load = |n, offset| instruction(Mnemonic::Ldr, Operands::ByOffset { t: 0, n, offset });
-    let last = Instr::Memory(Memory::LdrImmediate {
-        t: 0,
-        n: 1,
-        immediate: 31,
-    });
-    assert_eq!(rt; load(1, 124), Some(last));
-    assert_eq!(rt; load(1, 128), None);
-    assert_eq!(rt; load(1, 2), None);
-    assert_eq!(rt; load(8, 4), None);
+    assert_eq!(rt; right(32), Some(by_32));
+    assert_eq!(rt; right(0), None);
     let store = Operands::ByOffset {
         t: 0,
-        n: 13,
+        n: SP,
         offset: 1020,
     };
     let on_stack = Instr::Memory(Memory::StrSp {
@@ -204,55 +110,57 @@ fn scaled_immediates(rt: HostRuntime) {
     });
     assert_eq!(rt; instruction(Mnemonic::Str, store), Some(on_stack));
     assert_eq!(rt; instruction(Mnemonic::Strh, store), None);
-}
-
-#[test]
-fn lists_and_specials(rt: HostRuntime) {
-    let push = |list| instruction(Mnemonic::Push, Operands::List { list });
-    let with_lr = Many::Push {
+    let list = Operands::List { list: 0x4011 };
+    let push = Instr::Many(Many::Push {
         lr: true,
         list: 0x11,
-    };
-    assert_eq!(rt; push(0x4011), Some(Instr::Many(with_lr)));
-    assert_eq!(rt; push(0x8011), None);
-    assert_eq!(rt; push(0x0100), None);
-    let with_pc = Many::Pop { pc: true, list: 0 };
-    let operands = Operands::List { list: 0x8000 };
-    assert_eq!(rt;
-        instruction(Mnemonic::Pop, operands),
-        Some(Instr::Many(with_pc))
-    );
-    let operands = Operands::UpdatedList { n: 2, list: 0xFF };
-    let store = Many::Stm { n: 2, list: 0xFF };
-    assert_eq!(rt;
-        instruction(Mnemonic::Stm, operands),
-        Some(Instr::Many(store))
-    );
-    assert_eq!(rt; instruction(Mnemonic::Ldm, operands), None);
-    let from = Operands::FromSpecial { d: 3, special: 16 };
-    let read_mask = Instr::Other(Other::Mrs { d: 3, special: 16 });
-    assert_eq!(rt; instruction(Mnemonic::Mrs, from), Some(read_mask));
-    let to = Operands::ToSpecial { special: 8, n: 4 };
-    let write_stack = Instr::Other(Other::Msr { n: 4, special: 8 });
-    assert_eq!(rt; instruction(Mnemonic::Msr, to), Some(write_stack));
-    for instr in [read_mask, write_stack] {
-        assert_eq!(rt; read(form_at(&instr, 0), 0), Some(instr));
-    }
+    });
+    assert_eq!(rt; instruction(Mnemonic::Push, list), Some(push));
+    assert_eq!(rt; instruction(Mnemonic::Pop, list), None);
+}
+
+/// The line of an instruction at an address.
+fn assert_line(rt: &impl Abort, instr: Instr, at: u32, due: &[u8]) {
+    let mut line = Line::new();
+    disassemble(&instr, at, &mut line);
+    assert_eq!(rt; line.bytes(), due);
+}
+
+/// A field that no encoding has is written as it stands.
+#[test]
+fn lines(rt: HostRuntime) {
+    let link = Instr::Branch(Branch::Bx { m: LR });
+    assert_line(&rt, link, 0, b"BX LR");
+    let back = Instr::Branch(Branch::Bl {
+        immediate: 0xFF_FFFE,
+    });
+    assert_line(&rt, back, 0xABCD_EF00, b"BL 0xABCDEF00");
+    let both = Instr::Alu(Alu::Ands { d: 16, m: 255 });
+    assert_line(&rt, both, 0, b"ANDS R16, R255");
+    let many = Instr::Many(Many::Stm { n: 255, list: 255 });
+    assert_line(&rt, many, 0, b"STM R255!, {R0, R1, R2, R3, R4, R5, R6, R7}");
 }
 
 #[test]
-fn without_operands(rt: HostRuntime) {
-    let undefined = Instr::Other(Other::Udf { immediate: 0 });
-    assert_eq!(rt; instruction(Mnemonic::Udf, Operands::None), Some(undefined));
-    let disable = Instr::Other(Other::Cpsid);
-    assert_eq!(rt;
-        instruction(Mnemonic::Cpsid, Operands::Interrupts),
-        Some(disable)
-    );
-    assert_eq!(rt; instruction(Mnemonic::Cpsid, Operands::None), None);
-    let stop = Instr::Other(Other::Bkpt { immediate: 255 });
-    let operands = Operands::Immediate { immediate: 255 };
-    assert_eq!(rt; instruction(Mnemonic::Bkpt, operands), Some(stop));
-    let operands = Operands::Immediate { immediate: 256 };
-    assert_eq!(rt; instruction(Mnemonic::Bkpt, operands), None);
+fn a_line_holds_what_was_written_last(rt: HostRuntime) {
+    let mut line = Line::new();
+    assert!(rt; line.bytes().is_empty());
+    disassemble(&Instr::Other(Other::Cpsie), 0, &mut line);
+    disassemble(&Instr::Other(Other::Wfi), 0, &mut line);
+    assert_eq!(rt; line.bytes(), b"WFI".as_slice());
+}
+
+#[test]
+fn words(rt: HostRuntime) {
+    assert_eq!(rt; read_mnemonic(b"REV16"), Some(Mnemonic::Rev16));
+    assert_eq!(rt; read_mnemonic(b"lsls"), None);
+    let lower = Aim::BranchIf {
+        condition: Condition::LowerOrSame,
+    };
+    assert_eq!(rt; read_branch(b"BLS"), Some(lower));
+    assert_eq!(rt; read_branch(b"BAL"), None);
+    assert_eq!(rt; read_register(b"SP"), Some(SP));
+    assert_eq!(rt; read_register(b"R13"), None);
+    assert_eq!(rt; read_special(b"PRIMASK"), Some(16));
+    assert_eq!(rt; read_special(b"PSP"), None);
 }

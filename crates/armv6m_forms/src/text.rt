@@ -1,8 +1,7 @@
 //! The text of a form.
 ghost use Rattle.std.specs.Prelude.{◌≡◌, ◌+◌, ◌≤◌, ◌<◌, ◌++◌, [], ℕ, length, codes, if◌then◌else◌};
-ghost use Rattle.octets.specs.Digit.{upper_digit};
 ghost use Rattle.armv6m_forms.specs.Room.{IsShort, HasShortList, HasRoom, low_list};
-ghost use Rattle.armv6m_forms.specs.Text.{register_text, immediate_text, special_text, target_text, hex_text, comma, list_text, operands_text, aim_text, aim_register, form_text};
+ghost use Rattle.armv6m_forms.specs.Text.{register_text, immediate_text, special_text, target_text, comma_text, list_text, operands_text, aim_text, aim_register, form_text};
 ghost use Rattle.armv6m_forms.specs.declared.form.Operands.TheVariants.{Two, Three, OneImmediate, TwoImmediate, ByRegister, ByOffset, BaseList, UpdatedList, FromSpecial, ToSpecial};
 ghost use Rattle.armv6m_forms.specs.declared.form.Form.TheVariants.{Plain};
 ghost use Rattle.armv6m_forms.specs.Form.{form_of};
@@ -12,9 +11,10 @@ use crate::form_of::form_at;
 use crate::line::Line;
 use crate::mnemonic::Mnemonic;
 use crate::word::{condition_text, register_name};
+use armv6m_decode::registers::{APSR, MSP, PRIMASK};
 use armv6m_decode::{Instr, Many};
 use itoa::Buffer;
-use octets::hex_upper;
+use octets::hex_digits;
 
 /// Puts the name of a register.
 fn write_register(line: &mut Line, register: u8)
@@ -33,7 +33,7 @@ fn write_register(line: &mut Line, register: u8)
 /// Puts a comma and the name of a register.
 fn write_next(line: &mut Line, register: u8)
     requires { length line.old ≤ 58 }
-    ensures text { line.new ≡ line.old ++ comma ++ register_text register }
+    ensures text { line.new ≡ line.old ++ comma_text ++ register_text register }
     ensures short { length line.new ≤ length line.old + 6 }
 {
     line.put(b", ");
@@ -54,7 +54,7 @@ fn write_immediate(line: &mut Line, immediate: u32)
 /// Puts a comma and an immediate.
 fn write_next_immediate(line: &mut Line, immediate: u32)
     requires { length line.old ≤ 51 }
-    ensures text { line.new ≡ line.old ++ comma ++ immediate_text immediate }
+    ensures text { line.new ≡ line.old ++ comma_text ++ immediate_text immediate }
     ensures short { length line.new ≤ length line.old + 13 }
 {
     line.put(b", ");
@@ -69,35 +69,11 @@ fn write_special(line: &mut Line, special: u8)
     ensures short { length line.new ≤ length line.old + 11 }
 {
     match special {
-        0 => line.put(b"APSR"),
-        8 => line.put(b"MSP"),
-        16 => line.put(b"PRIMASK"),
+        APSR => line.put(b"APSR"),
+        MSP => line.put(b"MSP"),
+        PRIMASK => line.put(b"PRIMASK"),
         _ => write_immediate(line, u32::from(special)),
     }
-}
-
-/// The hexadecimal digit of a value below 16.
-fn digit(value: u32) -> u8
-    requires { value < 16 }
-    ensures { result ≡ upper_digit value }
-{
-    hex_upper(value as u8)
-}
-
-/// The eight hexadecimal digits of an address.
-fn hex_word(address: u32) -> [u8; 8]
-    ensures { result ≡ hex_text 8 address }
-{
-    [
-        digit(address / 0x1000_0000 % 16),
-        digit(address / 0x100_0000 % 16),
-        digit(address / 0x10_0000 % 16),
-        digit(address / 0x1_0000 % 16),
-        digit(address / 0x1000 % 16),
-        digit(address / 0x100 % 16),
-        digit(address / 0x10 % 16),
-        digit(address % 16),
-    ]
 }
 
 /// Puts the address of a target.
@@ -107,7 +83,7 @@ fn write_target(line: &mut Line, target: u32)
     ensures { line.new ≡ line.old ++ target_text target }
 {
     line.put(b"0x");
-    line.put(&hex_word(target));
+    line.put(&hex_digits::<8>(target));
 }
 
 /// Puts `d, m`.
@@ -220,7 +196,7 @@ fn write_list(line: &mut Line, list: u16)
 /// Puts a register of a list, with a comma before each but the first.
 fn write_item(line: &mut Line, register: u8, first: bool)
     requires { length line.old ≤ 58 }
-    ensures text { line.new ≡ line.old ++ (if first then [] else comma) ++ register_text register }
+    ensures text { line.new ≡ line.old ++ (if first then [] else comma_text) ++ register_text register }
 {
     if first {
         write_register(line, register);

@@ -1,11 +1,14 @@
 //! The words of statements: mnemonics, registers and special registers, written and read.
 ghost use Rattle.std.specs.Prelude.{◌≡◌, ◌≢◌, ◌<◌, ◌≤◌, ◌++◌, ℕ, length, codes, IfSome, IfNone};
 ghost use Rattle.armv6m_forms.specs.Text.{text_of, condition_text, aim_text, register_text, special_text, IsBranch, IsSpecial};
+ghost use Rattle.armv6m_decode.specs.declared.condition.Condition.{Condition};
 ghost use Rattle.armv6m_forms.specs.declared.mnemonic.Mnemonic.{Mnemonic};
 ghost use Rattle.armv6m_forms.specs.declared.form.Aim.{Aim};
 
 use crate::form::Aim;
 use crate::mnemonic::Mnemonic;
+use armv6m_decode::Condition;
+use armv6m_decode::registers::{APSR, LR, MSP, PRIMASK, SP};
 
 /// The texts of the mnemonics, in the order of their variants.
 const TEXTS: [&[u8]; 58] = [
@@ -121,10 +124,9 @@ pub fn read_branch(word: &[u8]) -> Option<Aim>
 }
 
 /// The condition of a conditional branch's mnemonic.
-fn read_conditional(word: &[u8]) -> Option<u8>
+fn read_conditional(word: &[u8]) -> Option<Condition>
     ensures some { IfSome result (λ condition. codes "B" ++ condition_text condition ≡ word.now) }
-    ensures below { IfSome result (λ condition. condition < 14) }
-    ensures none { IfNone result ((condition : ℕ) → condition < 14 → codes "B" ++ condition_text condition ≢ word.now) }
+    ensures none { IfNone result ((condition : Condition) → codes "B" ++ condition_text condition ≢ word.now) }
 {
     match word {
         [b'B', suffix @ ..] => read_condition(suffix),
@@ -132,38 +134,36 @@ fn read_conditional(word: &[u8]) -> Option<u8>
     }
 }
 
-/// The suffix of a condition, and `AL` for a number that is none.
+/// The suffix of a condition.
 #[tactic(auto, unfolding(crate::specs::Text::condition_text))]
-pub(crate) fn condition_text(condition: u8) -> &'static [u8]
+pub(crate) fn condition_text(condition: Condition) -> &'static [u8]
     ensures text { result.now ≡ condition_text condition }
     ensures short { length result.now ≡ 2 }
 {
     match condition {
-        0 => b"EQ",
-        1 => b"NE",
-        2 => b"CS",
-        3 => b"CC",
-        4 => b"MI",
-        5 => b"PL",
-        6 => b"VS",
-        7 => b"VC",
-        8 => b"HI",
-        9 => b"LS",
-        10 => b"GE",
-        11 => b"LT",
-        12 => b"GT",
-        13 => b"LE",
-        _ => b"AL",
+        Condition::Equal => b"EQ",
+        Condition::NotEqual => b"NE",
+        Condition::CarrySet => b"CS",
+        Condition::CarryClear => b"CC",
+        Condition::Minus => b"MI",
+        Condition::Plus => b"PL",
+        Condition::Overflow => b"VS",
+        Condition::NoOverflow => b"VC",
+        Condition::Higher => b"HI",
+        Condition::LowerOrSame => b"LS",
+        Condition::GreaterOrEqual => b"GE",
+        Condition::LessThan => b"LT",
+        Condition::GreaterThan => b"GT",
+        Condition::LessOrEqual => b"LE",
     }
 }
 
 /// The condition whose suffix a word is.
-fn read_condition(word: &[u8]) -> Option<u8>
+fn read_condition(word: &[u8]) -> Option<Condition>
     ensures some { IfSome result (λ condition. condition_text condition ≡ word.now) }
-    ensures below { IfSome result (λ condition. condition < 14) }
-    ensures none { IfNone result ((condition : ℕ) → condition < 14 → condition_text condition ≢ word.now) }
+    ensures none { IfNone result ((condition : Condition) → condition_text condition ≢ word.now) }
 {
-    for condition in 0..14 {
+    for condition in Condition::ALL {
         if condition_text(condition) == word {
             return Some(condition);
         }
@@ -192,8 +192,8 @@ pub(crate) fn register_name(register: u8) -> &'static [u8]
         10 => b"R10",
         11 => b"R11",
         12 => b"R12",
-        13 => b"SP",
-        14 => b"LR",
+        SP => b"SP",
+        LR => b"LR",
         _ => b"PC",
     }
 }
@@ -220,9 +220,9 @@ pub fn read_special(word: &[u8]) -> Option<u8>
     ensures none { IfNone result ((special : ℕ) → IsSpecial special → special_text special ≢ word.now) }
 {
     match word {
-        b"APSR" => Some(0),
-        b"MSP" => Some(8),
-        b"PRIMASK" => Some(16),
+        b"APSR" => Some(APSR),
+        b"MSP" => Some(MSP),
+        b"PRIMASK" => Some(PRIMASK),
         _ => None,
     }
 }

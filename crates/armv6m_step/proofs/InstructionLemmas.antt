@@ -2,15 +2,16 @@
 use Rattle.std.proofs.Common.{◌≡◌, ℕ, Bool, true, false, Ok, Err, Result, MatchResult, inl, inr, ◌⊎◌, subst, sym, ap, ◌∙◌, refl, arith}
 use Rattle.bench_model.specs.declared.bench_fault.BusEnd.{BusEnd}
 use Rattle.bench_model.specs.declared.bench_fault.BusEnd.TheVariants as bus_end
+use Rattle.bench_model.specs.Device.{is_device, HasDeviceCause}
 use Rattle.armv6m_step.specs.declared.core_state.Core.{Core}
 use Rattle.armv6m_step.specs.declared.ends.StepEnd.{StepEnd}
 use Rattle.armv6m_step.specs.declared.ends.StepEnd.TheVariants as end
-use Rattle.armv6m_step.specs.Access.{Access, is_device, HasDeviceCause}
+use Rattle.armv6m_step.specs.Access.{Access}
 use Rattle.armv6m_step.specs.Ends.{OwnEnd, Break, Undefined, Unaligned, BadState, Outcome, own_end, access_end, is_device_end}
 use Rattle.armv6m_step.specs.Meaning.{Meaning, Gives, Asks, Leaves, Runs}
 
 -- no instruction ends in a device fault by itself
-own_is_no_device : (own : OwnEnd) → is_device_end (own_end own) ≡ false
+pub own_is_no_device : (own : OwnEnd) → is_device_end (own_end own) ≡ false
 own_is_no_device (Break pc) = refl
 own_is_no_device (Undefined pc) = refl
 own_is_no_device (Unaligned at) = refl
@@ -39,11 +40,11 @@ runs_carry {B} acts R here failed more (Asks access then') core core' b b' e run
 not_both : (b : Bool) → b ≡ false → b ≡ true → ⊥
 not_both b as_false as_true = cc
 
-access_device : (access : Access) (x : BusEnd) → is_device_end (access_end access x) ≡ is_device (Err x)
+pub access_device : (access : Access) (x : BusEnd) → is_device_end (access_end access x) ≡ is_device {A = ℕ} (Err x)
 access_device access bus_end.Fault = refl
 access_device access bus_end.Device = refl
 
-counted_then : (a b c : ℕ) (at_fault : Bool) → HasDeviceCause a b false → HasDeviceCause b c at_fault → HasDeviceCause a c at_fault
+pub counted_then : (a b c : ℕ) (at_fault : Bool) → HasDeviceCause a b false → HasDeviceCause b c at_fault → HasDeviceCause a c at_fault
 counted_then a b c at_fault one rest =
     let same : b ≡ a = one.on_other refl in
     subst (λ n. HasDeviceCause n c at_fault) same rest

@@ -1,5 +1,6 @@
 -- A loop over the registers 0 to 7 goes through the accesses of a list.
 use Rattle.std.proofs.Common.{◌≡◌, ℕ, suc, ◌+◌, ◌-◌, ◌<◌, ◌≤◌, true, false, [], ◌∷◌, length, refl, arith, Ok, Err, Result}
+use Rattle.armv6m_alu.specs.Bits.{is_bit_set}
 use Rattle.bench_model.specs.declared.bench_fault.BusEnd.{BusEnd}
 use Rattle.armv6m_step.specs.declared.core_state.Core.{Core}
 use Rattle.armv6m_step.specs.declared.ends.Stop.{Stop}
@@ -9,17 +10,17 @@ use Rattle.armv6m_step.specs.Ends.{stop_end}
 use Rattle.armv6m_step.specs.Registers.{reg, written}
 use Rattle.armv6m_step.specs.Numbers.{sum}
 use Rattle.armv6m_step.specs.Meaning.{Meaning, Acts, Runs, LoadGives, StoreGives}
-use Rattle.armv6m_step.specs.ListRows.{is_listed, listed, low_registers, store_each, load_each, StoresEach, LoadsEach}
+use Rattle.armv6m_step.specs.ListRows.{listed, low_registers, store_each, load_each, StoresEach, LoadsEach}
 use Rattle.armv6m_step.proofs.RunLemmas.{load_ok, load_err, store_ok, store_err}
 
 -- the first register of what is left, where it is listed and where it isn't
-pub listed_here : (r list : ℕ) → r < 8 → is_listed r list ≡ true → listed (8 - r) r list ≡ r ∷ listed (8 - (r + 1)) (r + 1) list
+pub listed_here : (r list : ℕ) → r < 8 → is_bit_set list r ≡ true → listed (8 - r) r list ≡ r ∷ listed (8 - (r + 1)) (r + 1) list
 unfolding listed
 listed_here r list h e =
     let n : 8 - r ≡ suc (8 - (r + 1)) = omega arith in
     rw (n, e) refl
 
-pub listed_not : (r list : ℕ) → r < 8 → is_listed r list ≡ false → listed (8 - r) r list ≡ listed (8 - (r + 1)) (r + 1) list
+pub listed_not : (r list : ℕ) → r < 8 → is_bit_set list r ≡ false → listed (8 - r) r list ≡ listed (8 - (r + 1)) (r + 1) list
 unfolding listed
 listed_not r list h e =
     let n : 8 - r ≡ suc (8 - (r + 1)) = omega arith in
@@ -31,10 +32,10 @@ listed_none r list h =
     let n : 8 - r ≡ 0 = omega arith in
     rw n refl
 
-pub lengths_here : (r list : ℕ) → r < 8 → is_listed r list ≡ true → length (listed (8 - r) r list) ≡ 1 + length (listed (8 - (r + 1)) (r + 1) list)
+pub lengths_here : (r list : ℕ) → r < 8 → is_bit_set list r ≡ true → length (listed (8 - r) r list) ≡ 1 + length (listed (8 - (r + 1)) (r + 1) list)
 lengths_here r list h e = rw (listed_here r list h e) (omega arith)
 
-pub lengths_not : (r list : ℕ) → r < 8 → is_listed r list ≡ false → length (listed (8 - r) r list) ≡ length (listed (8 - (r + 1)) (r + 1) list)
+pub lengths_not : (r list : ℕ) → r < 8 → is_bit_set list r ≡ false → length (listed (8 - r) r list) ≡ length (listed (8 - (r + 1)) (r + 1) list)
 lengths_not r list h e = rw (listed_not r list h e) refl
 
 pub lengths_none : (r list : ℕ) → 8 ≤ r → length (listed (8 - r) r list) ≡ 0
@@ -56,16 +57,16 @@ module _ {B : Type 0} (acts : B → Access → Result ℕ BusEnd → B → Type 
   unfolding StoredTo
   stored_start then' e core' after runs = runs
 
-  pub stored_one : (to r : ℕ) (b mid : B) (x : Unit {0}) → r < 8 → is_listed r list ≡ true → StoreGives acts 4 to (reg core r) b (Ok x) mid → StoredTo acts core at list b0 to r b → StoredTo acts core at list b0 (sum to 4) (r + 1) mid
+  pub stored_one : (to r : ℕ) (b mid : B) (x : Unit {0}) → r < 8 → is_bit_set list r ≡ true → StoreGives acts 4 to (reg core r) b (Ok x) mid → StoredTo acts core at list b0 to r b → StoredTo acts core at list b0 (sum to 4) (r + 1) mid
   unfolding StoredTo store_each
   stored_one to r b mid x low is one so_far then' e core' after runs =
       so_far then' e core' after (rw (listed_here r list low is) (store_ok acts core 4 to (reg core r) _ b mid after x e core' one runs))
 
-  pub stored_not : (to r : ℕ) (b : B) → r < 8 → is_listed r list ≡ false → StoredTo acts core at list b0 to r b → StoredTo acts core at list b0 to (r + 1) b
+  pub stored_not : (to r : ℕ) (b : B) → r < 8 → is_bit_set list r ≡ false → StoredTo acts core at list b0 to r b → StoredTo acts core at list b0 to (r + 1) b
   unfolding StoredTo
   stored_not to r b low is so_far then' e core' after runs = so_far then' e core' after (rw (listed_not r list low is) runs)
 
-  pub stored_end : (to r : ℕ) (b mid : B) (s : Stop) → r < 8 → is_listed r list ≡ true → StoreGives acts 4 to (reg core r) b (Err s) mid → StoredTo acts core at list b0 to r b → StoresEach acts core at (low_registers list) b0 (Err s) mid
+  pub stored_end : (to r : ℕ) (b mid : B) (s : Stop) → r < 8 → is_bit_set list r ≡ true → StoreGives acts 4 to (reg core r) b (Err s) mid → StoredTo acts core at list b0 to r b → StoresEach acts core at (low_registers list) b0 (Err s) mid
   unfolding StoredTo StoresEach store_each
   stored_end to r b mid s low is one so_far then' =
       so_far then' (stop_end s) core mid (rw (listed_here r list low is) (store_err acts core 4 to (reg core r) _ b mid s one))
@@ -78,16 +79,16 @@ module _ {B : Type 0} (acts : B → Access → Result ℕ BusEnd → B → Type 
   unfolding LoadedTo
   loaded_start then' e core' after runs = runs
 
-  pub loaded_one : (now : Core) (from r : ℕ) (b mid : B) (v : ℕ) → r < 8 → is_listed r list ≡ true → LoadGives acts 4 from b (Ok v) mid → LoadedTo acts core at list b0 now from r b → LoadedTo acts core at list b0 (written now r v) (sum from 4) (r + 1) mid
+  pub loaded_one : (now : Core) (from r : ℕ) (b mid : B) (v : ℕ) → r < 8 → is_bit_set list r ≡ true → LoadGives acts 4 from b (Ok v) mid → LoadedTo acts core at list b0 now from r b → LoadedTo acts core at list b0 (written now r v) (sum from 4) (r + 1) mid
   unfolding LoadedTo load_each
   loaded_one now from r b mid v low is one so_far then' e core' after runs =
       so_far then' e core' after (rw (listed_here r list low is) (load_ok acts core 4 from _ b mid after v e core' one runs))
 
-  pub loaded_not : (now : Core) (from r : ℕ) (b : B) → r < 8 → is_listed r list ≡ false → LoadedTo acts core at list b0 now from r b → LoadedTo acts core at list b0 now from (r + 1) b
+  pub loaded_not : (now : Core) (from r : ℕ) (b : B) → r < 8 → is_bit_set list r ≡ false → LoadedTo acts core at list b0 now from r b → LoadedTo acts core at list b0 now from (r + 1) b
   unfolding LoadedTo
   loaded_not now from r b low is so_far then' e core' after runs = so_far then' e core' after (rw (listed_not r list low is) runs)
 
-  pub loaded_end : (now : Core) (from r : ℕ) (b mid : B) (s : Stop) → r < 8 → is_listed r list ≡ true → LoadGives acts 4 from b (Err s) mid → LoadedTo acts core at list b0 now from r b → LoadsEach acts core at (low_registers list) b0 (Err s) mid
+  pub loaded_end : (now : Core) (from r : ℕ) (b mid : B) (s : Stop) → r < 8 → is_bit_set list r ≡ true → LoadGives acts 4 from b (Err s) mid → LoadedTo acts core at list b0 now from r b → LoadsEach acts core at (low_registers list) b0 (Err s) mid
   unfolding LoadedTo LoadsEach load_each
   loaded_end now from r b mid s low is one so_far then' =
       so_far then' (stop_end s) core mid (rw (listed_here r list low is) (load_err acts core 4 from _ b mid s one))
@@ -113,7 +114,7 @@ module _ {B : Type 0} (acts : B → Access → Result ℕ BusEnd → B → Type 
   unfolding LoadsEach
   loads_end then' after s each = each then'
 
-pub ruleset stored = (stored_start, stored_one, stored_not, stored_end, stored_all)
+pub ruleset stored_so_far = (stored_start, stored_one, stored_not, stored_end, stored_all)
 
 pub ruleset loaded_so_far = (loaded_start, loaded_one, loaded_not, loaded_end, loaded_all)
 

@@ -8,6 +8,7 @@ use Rattle.armv6m_alu.specs.Sums.{sum_with_carry}
 use Rattle.armv6m_alu.specs.Shifts.{shifted_left, shifted_right, shifted_right_signed, rotated_right}
 use Rattle.armv6m_decode.specs.declared.instr.Alu.{Alu}
 use Rattle.armv6m_decode.specs.declared.instr.Alu.TheVariants.{LslsImmediate, LsrsImmediate, AsrsImmediate, AddsRegister, SubsRegister, AddsImmediate3, SubsImmediate3, MovsImmediate, CmpImmediate, AddsImmediate8, SubsImmediate8, Ands, Eors, LslsRegister, LsrsRegister, AsrsRegister, Adcs, Sbcs, Rors, Tst, Rsbs, CmpRegister, Cmn, Orrs, Muls, Bics, Mvns, AddHigh, CmpHigh, MovHigh}
+use Rattle.armv6m_decode.specs.declared.registers.TheConstants.{PC}
 use Rattle.armv6m_step.specs.declared.core_state.Core.{Core}
 use Rattle.armv6m_step.specs.Ends.{Undefined, Outcome}
 use Rattle.armv6m_step.specs.Registers.{reg, written, moved, with_nz, with_carry, with_nzcv, pc_of}
@@ -35,7 +36,7 @@ tested core next value = Ok (moved (with_nz core value) next)
 
 -- a value into d, with no flags; into the PC it is a branch, with bit 0 cleared (ALUWritePC)
 abbrev pub plain_into : Core → ℕ → ℕ → ℕ → Outcome
-plain_into core next d value = if nat_eq d 15 then Ok (moved core (value / 2 * 2)) else Ok (moved (written core d value) next)
+plain_into core next d value = if nat_eq d PC then Ok (moved core (value / 2 * 2)) else Ok (moved (written core d value) next)
 
 abbrev pub undefined_at : Core → Outcome
 undefined_at core = Err (Undefined (pc_of core))
@@ -80,9 +81,9 @@ alu core next (Muls d m) = value_into core next d (reg core d * reg core m % 2 ^
 alu core next (Bics d m) = value_into core next d (bit_and (reg core d) (bit_not w32 (reg core m)))  -- R[d] = R[d] AND NOT R[m]
 alu core next (Mvns d m) = value_into core next d (bit_not w32 (reg core m))  -- R[d] = NOT R[m]
 -- R[d] = R[d] + R[m]. Both PC is undefined here; the manual leaves it unpredictable.
-alu core next (AddHigh d m) = if nat_eq d 15 && nat_eq m 15 then undefined_at core else plain_into core next d (sum (reg core d) (reg core m))
+alu core next (AddHigh d m) = if nat_eq d PC && nat_eq m PC then undefined_at core else plain_into core next d (sum (reg core d) (reg core m))
 -- awc(R[n], NOT R[m], 1). Two low registers, or the PC, are undefined here; the manual leaves them unpredictable.
 alu core next (CmpHigh n m) =
-    if (nat_lt n 8 && nat_lt m 8) || (nat_eq n 15 || nat_eq m 15) then undefined_at core
+    if (nat_lt n 8 && nat_lt m 8) || (nat_eq n PC || nat_eq m PC) then undefined_at core
     else compared core next (subtraction (reg core n) (reg core m))
 alu core next (MovHigh d m) = plain_into core next d (reg core m)  -- R[d] = R[m]

@@ -10,5 +10,5 @@ pub mod BranchRows
 pub mod OtherRows
 pub mod Step
 pub mod Functional
-pub mod ByteMap
+pub mod Ram
 pub mod MemoryActs

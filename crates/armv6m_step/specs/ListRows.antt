@@ -1,7 +1,9 @@
 -- Loads and stores of a list of registers, in rising order of register and address: the meaning of PUSH, POP, STM and LDM.
-use Rattle.std.specs.Prelude.{ℕ, zero, suc, ◌+◌, ◌-◌, ◌*◌, ◌/◌, ◌%◌, ◌^◌, Bool, nat_eq, if◌then◌else◌, Result, Ok, Err, List, [], ◌∷◌, length}
+use Rattle.std.specs.Prelude.{ℕ, zero, suc, ◌+◌, ◌-◌, ◌*◌, ◌%◌, Bool, nat_eq, if◌then◌else◌, Result, Ok, Err, List, [], ◌∷◌, length}
+use Rattle.armv6m_alu.specs.Bits.{is_bit_set}
 use Rattle.armv6m_decode.specs.declared.instr.Many.{Many}
 use Rattle.armv6m_decode.specs.declared.instr.Many.TheVariants.{Push, Pop, Stm, Ldm}
+use Rattle.armv6m_decode.specs.declared.registers.TheConstants.{SP, LR}
 use Rattle.armv6m_step.specs.declared.core_state.Core.{Core}
 use Rattle.armv6m_step.specs.declared.ends.Stop.{Stop}
 use Rattle.armv6m_step.specs.declared.ends.StepEnd.{StepEnd}
@@ -11,13 +13,10 @@ use Rattle.armv6m_step.specs.Numbers.{sum, difference}
 use Rattle.armv6m_step.specs.MemoryRows.{went}
 use Rattle.armv6m_step.specs.Meaning.{Meaning, Gives, Acts, Runs, load, store, stops}
 
-abbrev pub is_listed : ℕ → ℕ → Bool
-is_listed r list = nat_eq (list / 2 ^ r % 2) 1
-
 -- of count registers from the first on, those whose bit is set, in rising order
 unfoldable pub listed : ℕ → ℕ → ℕ → List ℕ
 listed zero first list = []
-listed (suc count) first list = if is_listed first list then first ∷ listed count (first + 1) list else listed count (first + 1) list
+listed (suc count) first list = if is_bit_set list first then first ∷ listed count (first + 1) list else listed count (first + 1) list
 
 -- the low registers of a list
 abbrev pub low_registers : ℕ → List ℕ
@@ -44,20 +43,20 @@ branch_exchange pc core target = if nat_eq (target % 2) 1 then Ok (moved core (t
 abbrev pub push : Core → ℕ → Bool → ℕ → Meaning
 push core next lr list =
     let by = list_bytes list + (if lr then 4 else 0) in
-    let start = difference (reg core 13) by in
+    let start = difference (reg core SP) by in
     if nat_eq by 0 then stops (Undefined (pc_of core)) else
     store_each core start (low_registers list)
-    (if lr then store 4 (sum start (list_bytes list)) (reg core 14) (went (written core 13 start) next) else went (written core 13 start) next)
+    (if lr then store 4 (sum start (list_bytes list)) (reg core LR) (went (written core SP start) next) else went (written core SP start) next)
 
 -- the loads go from SP on, PC last
 abbrev pub pop : Core → ℕ → Bool → ℕ → Meaning
 pop core next pc list =
     let by = list_bytes list + (if pc then 4 else 0) in
-    let start = reg core 13 in
+    let start = reg core SP in
     if nat_eq by 0 then stops (Undefined (pc_of core)) else
     load_each core start (low_registers list) (λ filled.
-    if pc then load 4 (sum start (list_bytes list)) (λ v. Gives (branch_exchange (pc_of core) (written filled 13 (sum start by)) v))
-    else went (written filled 13 (sum start by)) next)
+    if pc then load 4 (sum start (list_bytes list)) (λ v. Gives (branch_exchange (pc_of core) (written filled SP (sum start by)) v))
+    else went (written filled SP (sum start by)) next)
 
 abbrev pub many : Core → ℕ → Many → Meaning
 many core next (Push lr list) = push core next lr list
@@ -69,7 +68,7 @@ many core next (Stm n list) =
 many core next (Ldm n list) =
     if nat_eq (list_bytes list) 0 then stops (Undefined (pc_of core)) else
     load_each core (reg core n) (low_registers list) (λ filled.
-    went (if is_listed (n % 16) list then filled else written filled n (sum (reg core n) (list_bytes list))) next)
+    went (if is_bit_set list (n % 16) then filled else written filled n (sum (reg core n) (list_bytes list))) next)
 
 -- ---- what the parts of a list give: how a run goes on from the last access, or that it ends there
 

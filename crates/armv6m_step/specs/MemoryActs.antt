@@ -1,29 +1,30 @@
--- The test of the bus over bytes in memory: that of a byte map. No device is behind it, so none fails.
+-- The test of a bus of bytes in memory. No device is behind it, so none fails.
 use Rattle.std.specs.Prelude.{◌≡◌, ℕ, false, Option, Some, None, Result, List}
 use Rattle.std.proofs.Common.{arith, refl, ap, ◌∙◌}
 use Rattle.bench_model.specs.declared.bench_fault.BusEnd.{BusEnd}
-use Rattle.armv6m_step.specs.declared.memory_bus.MemoryBus.{MemoryBus}
-use Rattle.armv6m_step.specs.Access.{Access, Load, Store, is_device, HasDeviceCause}
-use Rattle.armv6m_step.specs.ByteMap.{ByteMap, at_place, map_answer}
+use Rattle.bench_model.specs.Device.{is_device, HasDeviceCause}
+use Rattle.armv6m_step.specs.Access.{Access, Load, Store}
+use Rattle.armv6m_step.specs.Ram.{Ram, load_answer, store_answer, loaded_from, stored_in, ram_answer}
 
-abbrev pub map_of : MemoryBus → ByteMap
-map_of bus = record { base = bus.base; bytes = bus.bytes.items }
+pub record memory_acts (before : Ram) (access : Access) (answer : Result ℕ BusEnd) (after : Ram) : Type 0 where
+  pub answered : answer ≡ (ram_answer before access).0
+  pub left : after ≡ (ram_answer before access).1
 
-pub record map_acts (before : MemoryBus) (access : Access) (answer : Result ℕ BusEnd) (after : MemoryBus) : Type 0 where
-  pub answered : answer ≡ (map_answer (map_of before) access).0
-  pub left : map_of after ≡ (map_answer (map_of before) access).1
+load_fails_none : (r : Ram) (value : Option ℕ) → is_device (load_answer r value).0 ≡ false
+load_fails_none r None = refl
+load_fails_none r (Some v) = refl
 
-none_fails : (place : Option ℕ) (map : ByteMap) (value : ℕ → ℕ) (bytes : ℕ → List ℕ) → is_device (at_place place map value bytes).0 ≡ false
-none_fails None map value bytes = refl
-none_fails (Some i) map value bytes = refl
+store_fails_none : (r : Ram) (bytes : Option (List ℕ)) → is_device (store_answer r bytes).0 ≡ false
+store_fails_none r None = refl
+store_fails_none r (Some b) = refl
 
-map_fails : (map : ByteMap) (access : Access) → is_device (map_answer map access).0 ≡ false
-unfolding map_answer
-map_fails map (Load width at) = none_fails _ map _ _
-map_fails map (Store width at v) = none_fails _ map _ _
+none_fails : (r : Ram) (access : Access) → is_device (ram_answer r access).0 ≡ false
+unfolding ram_answer
+none_fails r (Load width at) = load_fails_none r (loaded_from r width at)
+none_fails r (Store width at v) = store_fails_none r (stored_in r width at v)
 
 -- the bus counts no faults
-pub map_counted : (before : MemoryBus) (access : Access) (answer : Result ℕ BusEnd) (after : MemoryBus) → map_acts before access answer after → HasDeviceCause 0 0 (is_device answer)
-map_counted before access answer after acts =
-    let none : is_device answer ≡ false = ap is_device acts.answered ∙ map_fails (map_of before) access in
+pub memory_counted : (before : Ram) (access : Access) (answer : Result ℕ BusEnd) (after : Ram) → memory_acts before access answer after → HasDeviceCause 0 0 (is_device answer)
+memory_counted before access answer after acts =
+    let none : is_device answer ≡ false = ap is_device acts.answered ∙ none_fails before access in
     record { later = omega arith; on_device = λ at_fault. cc; on_other = λ other. refl }

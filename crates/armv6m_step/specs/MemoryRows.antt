@@ -1,10 +1,13 @@
 -- Loads and stores of one register: the meaning of the rows 4800 to 9800.
 use Rattle.std.specs.Prelude.{ℕ, ◌*◌, ◌%◌, ◌^◌, Ok}
+use Rattle.armv6m_alu.specs.Bits.{sign_extended}
+use Rattle.armv6m_decode.specs.Targets.{literal_target}
 use Rattle.armv6m_decode.specs.declared.instr.Memory.{Memory}
 use Rattle.armv6m_decode.specs.declared.instr.Memory.TheVariants.{LdrLiteral, StrRegister, StrhRegister, StrbRegister, LdrsbRegister, LdrRegister, LdrhRegister, LdrbRegister, LdrshRegister, StrImmediate, LdrImmediate, StrbImmediate, LdrbImmediate, StrhImmediate, LdrhImmediate, StrSp, LdrSp}
+use Rattle.armv6m_decode.specs.declared.registers.TheConstants.{SP}
 use Rattle.armv6m_step.specs.declared.core_state.Core.{Core}
-use Rattle.armv6m_step.specs.Registers.{reg, written, moved}
-use Rattle.armv6m_step.specs.Numbers.{sum, sign_extended, aligned_pc}
+use Rattle.armv6m_step.specs.Registers.{reg, written, moved, pc_of}
+use Rattle.armv6m_step.specs.Numbers.{sum}
 use Rattle.armv6m_step.specs.Meaning.{Meaning, Gives, load, store}
 
 -- the instruction is done, and the next one follows
@@ -42,7 +45,7 @@ unfoldable pub store_byte : Core → ℕ → ℕ → ℕ → Meaning
 store_byte core next t at = store 1 at (reg core t % 2 ^ 8) (went core next)
 
 abbrev pub memory : Core → ℕ → Memory → Meaning
-memory core next (LdrLiteral t i) = load_word core next t (sum (aligned_pc core) (4 * i))
+memory core next (LdrLiteral t i) = load_word core next t (literal_target (pc_of core) i)
 memory core next (StrRegister t n m) = store_word core next t (sum (reg core n) (reg core m))
 memory core next (StrhRegister t n m) = store_half core next t (sum (reg core n) (reg core m))
 memory core next (StrbRegister t n m) = store_byte core next t (sum (reg core n) (reg core m))
@@ -57,5 +60,5 @@ memory core next (StrbImmediate t n i) = store_byte core next t (sum (reg core n
 memory core next (LdrbImmediate t n i) = load_byte core next t (sum (reg core n) i)
 memory core next (StrhImmediate t n i) = store_half core next t (sum (reg core n) (2 * i))
 memory core next (LdrhImmediate t n i) = load_half core next t (sum (reg core n) (2 * i))
-memory core next (StrSp t i) = store_word core next t (sum (reg core 13) (4 * i))
-memory core next (LdrSp t i) = load_word core next t (sum (reg core 13) (4 * i))
+memory core next (StrSp t i) = store_word core next t (sum (reg core SP) (4 * i))
+memory core next (LdrSp t i) = load_word core next t (sum (reg core SP) (4 * i))

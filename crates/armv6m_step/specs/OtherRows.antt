@@ -1,14 +1,16 @@
 -- Addresses, extensions, byte orders, hints, barriers and the special registers: the meaning of all other rows.
 use Rattle.std.specs.Prelude.{ℕ, ◌+◌, ◌*◌, ◌/◌, ◌%◌, ◌^◌, Bool, true, false, ◌||◌, nat_eq, if◌then◌else◌, Ok, Err}
 use Rattle.std.specs.Int.{w32, swap_bytes}
-use Rattle.armv6m_alu.specs.Shifts.{is_bit_set}
+use Rattle.armv6m_alu.specs.Bits.{is_bit_set, sign_extended}
 use Rattle.armv6m_alu.specs.Sums.{number_of}
+use Rattle.armv6m_decode.specs.Targets.{literal_target}
 use Rattle.armv6m_decode.specs.declared.instr.Other.{Other}
 use Rattle.armv6m_decode.specs.declared.instr.Other.TheVariants.{Adr, AddFromSp, AddToSp, SubFromSp, Sxth, Sxtb, Uxth, Uxtb, Cpsie, Cpsid, Rev, Rev16, Revsh, Bkpt, Nop, Yield, Wfe, Wfi, Sev, Udf, Svc, Mrs, Msr, Dsb, Dmb, Isb}
+use Rattle.armv6m_decode.specs.declared.registers.TheConstants.{SP, PC, APSR, MSP, PRIMASK}
 use Rattle.armv6m_step.specs.declared.core_state.Core.{Core}
 use Rattle.armv6m_step.specs.Ends.{Break, Outcome}
 use Rattle.armv6m_step.specs.Registers.{reg, written, moved, pc_of}
-use Rattle.armv6m_step.specs.Numbers.{sum, difference, aligned_pc, sign_extended}
+use Rattle.armv6m_step.specs.Numbers.{sum, difference}
 use Rattle.armv6m_step.specs.DataRows.{undefined_at}
 
 -- a value into d, with no flags
@@ -35,30 +37,30 @@ with_primask core on = record core { primask = on }
 
 -- SP and PC, which MRS and MSR may not name
 abbrev pub is_sp_or_pc : ℕ → Bool
-is_sp_or_pc r = nat_eq r 13 || nat_eq r 15
+is_sp_or_pc r = nat_eq r SP || nat_eq r PC
 
--- by the special register's number: 0 APSR, 8 MSP, 16 PRIMASK
+-- by the special register's number
 abbrev pub read_special : Core → ℕ → ℕ → ℕ → Outcome
 read_special core next d special =
     if is_sp_or_pc d then undefined_at core else
-    if nat_eq special 0 then put core next d (flags_number core) else
-    if nat_eq special 8 then put core next d (reg core 13) else
-    if nat_eq special 16 then put core next d (number_of core.primask) else
+    if nat_eq special APSR then put core next d (flags_number core) else
+    if nat_eq special MSP then put core next d (reg core SP) else
+    if nat_eq special PRIMASK then put core next d (number_of core.primask) else
     undefined_at core
 
 abbrev pub write_special : Core → ℕ → ℕ → ℕ → Outcome
 write_special core next n special =
     if is_sp_or_pc n then undefined_at core else
-    if nat_eq special 0 then Ok (moved (with_flags_of core (reg core n)) next) else
-    if nat_eq special 8 then put core next 13 (reg core n) else
-    if nat_eq special 16 then Ok (moved (with_primask core (is_bit_set (reg core n) 0)) next) else
+    if nat_eq special APSR then Ok (moved (with_flags_of core (reg core n)) next) else
+    if nat_eq special MSP then put core next SP (reg core n) else
+    if nat_eq special PRIMASK then Ok (moved (with_primask core (is_bit_set (reg core n) 0)) next) else
     undefined_at core
 
 abbrev pub other : Core → ℕ → Other → Outcome
-other core next (Adr d i) = put core next d (sum (aligned_pc core) (4 * i))
-other core next (AddFromSp d i) = put core next d (sum (reg core 13) (4 * i))
-other core next (AddToSp i) = put core next 13 (sum (reg core 13) (4 * i))
-other core next (SubFromSp i) = put core next 13 (difference (reg core 13) (4 * i))
+other core next (Adr d i) = put core next d (literal_target (pc_of core) i)
+other core next (AddFromSp d i) = put core next d (sum (reg core SP) (4 * i))
+other core next (AddToSp i) = put core next SP (sum (reg core SP) (4 * i))
+other core next (SubFromSp i) = put core next SP (difference (reg core SP) (4 * i))
 other core next (Sxth d m) = put core next d (sign_extended 16 (reg core m % 2 ^ 16))
 other core next (Sxtb d m) = put core next d (sign_extended 8 (reg core m % 2 ^ 8))
 other core next (Uxth d m) = put core next d (reg core m % 2 ^ 16)

@@ -1,24 +1,26 @@
 -- The registers and flags as an instruction reads and writes them: Armv6-M Architecture Reference Manual, B1.4 "Registers",
--- and the operations R[n] of its pseudocode. The register 15 of a core holds the address of the instruction to come.
+-- and the operations R[n] of its pseudocode. The register PC of a core holds the address of the instruction to come.
 use Rattle.std.specs.Prelude.{ℕ, Bool, ◌+◌, ◌*◌, ◌/◌, ◌%◌, ◌^◌, nat_eq, nat_le, if◌then◌else◌, slice_index, slice_set}
 use Rattle.armv6m_alu.specs.declared.Sum.{Sum}
+use Rattle.armv6m_decode.specs.Targets.{pc_read}
+use Rattle.armv6m_decode.specs.declared.registers.TheConstants.{SP, PC}
 use Rattle.armv6m_step.specs.declared.core_state.Core.{Core}
 
 -- the address of the instruction
 abbrev pub pc_of : Core → ℕ
-pc_of core = slice_index core.regs 15
+pc_of core = slice_index core.regs PC
 
 -- a register as an operand; the PC reads as the address of the instruction plus 4
 unfoldable pub reg : Core → ℕ → ℕ
-reg core n = if nat_eq (n % 16) 15 then (slice_index core.regs (n % 16) + 4) % 2 ^ 32 else slice_index core.regs (n % 16)
+reg core n = if nat_eq (n % 16) PC then pc_read (slice_index core.regs (n % 16)) else slice_index core.regs (n % 16)
 
 -- a write to SP clears its two low bits
 unfoldable pub written : Core → ℕ → ℕ → Core
-written core n value = record core { regs = slice_set core.regs (n % 16) (if nat_eq (n % 16) 13 then value / 4 * 4 else value) }
+written core n value = record core { regs = slice_set core.regs (n % 16) (if nat_eq (n % 16) SP then value / 4 * 4 else value) }
 
 -- the core at another instruction
 unfoldable pub moved : Core → ℕ → Core
-moved core pc = record core { regs = slice_set core.regs 15 pc }
+moved core pc = record core { regs = slice_set core.regs PC pc }
 
 -- N and Z of a result
 unfoldable pub with_nz : Core → ℕ → Core

@@ -1,4 +1,4 @@
-// Loads and stores at any address: at one that is not a multiple of the width the instruction ends, and the bus isn't asked.
+//! Loads and stores at any address: at one that is not a multiple of the width the instruction ends, and the bus isn't asked.
 #![tactic(auto, using(std::proofs::lemmas::Bool::Decides::nat_tests), unfolding(crate::specs::Meaning::LoadGives, crate::specs::Meaning::StoreGives))]
 
 ghost use Rattle.std.specs.Prelude.{◌≡◌, ◌<◌, ◌%◌, ◌^◌, IfOk};

@@ -1,79 +1,47 @@
-// Branches.
+//! Branches.
 #![tactic(auto, using(std::proofs::lemmas::Bool::Decides::nat_tests))]
 
 ghost use Rattle.std.specs.Prelude.{◌≡◌};
 ghost use Rattle.armv6m_step.specs.Ends.{end_of};
 ghost use Rattle.armv6m_step.specs.Meaning.{Leaves};
-ghost use Rattle.armv6m_step.specs.BranchRows.{branch, holds, target, linked, same};
+ghost use Rattle.armv6m_step.specs.BranchRows.{branch, holds, linked, same};
 
 use crate::{Core, Stop};
-use armv6m_decode::Branch;
+use armv6m_decode::registers::LR;
+use armv6m_decode::{Branch, Condition, targets};
 
-fn condition_holds(core: &Core, condition: u8) -> bool
+fn condition_holds(core: &Core, condition: Condition) -> bool
     ensures { result ≡ holds core.now condition }
 {
     match condition {
-        0 => core.z,
-        1 => !core.z,
-        2 => core.c,
-        3 => !core.c,
-        4 => core.n,
-        5 => !core.n,
-        6 => core.v,
-        7 => !core.v,
-        8 => core.c && !core.z,
-        9 => !core.c || core.z,
-        10 => is_same(core),
-        11 => !is_same(core),
-        12 => !core.z && is_same(core),
-        _ => core.z || !is_same(core),
+        Condition::Equal => core.z,
+        Condition::NotEqual => !core.z,
+        Condition::CarrySet => core.c,
+        Condition::CarryClear => !core.c,
+        Condition::Minus => core.n,
+        Condition::Plus => !core.n,
+        Condition::Overflow => core.v,
+        Condition::NoOverflow => !core.v,
+        Condition::Higher => core.c && !core.z,
+        Condition::LowerOrSame => !core.c || core.z,
+        Condition::GreaterOrEqual => is_same(core),
+        Condition::LessThan => !is_same(core),
+        Condition::GreaterThan => !core.z && is_same(core),
+        Condition::LessOrEqual => core.z || !is_same(core),
     }
 }
 
-// N = V.
+/// N = V.
 fn is_same(core: &Core) -> bool
     ensures { result ≡ same core.now.n core.now.v }
 {
     if core.n { core.v } else { !core.v }
 }
 
-fn short_target(core: &Core, immediate: u8) -> u32
-    ensures { result ≡ target core.now 8 immediate }
-{
-    let twice = 2 * u32::from(immediate);
-    core.read(15).wrapping_add(if twice >= 0x100 {
-        twice + 0xFFFF_FE00
-    } else {
-        twice
-    })
-}
-
-fn near_target(core: &Core, immediate: u16) -> u32
-    ensures { result ≡ target core.now 11 immediate }
-{
-    let twice = 2 * u32::from(immediate % 0x800);
-    core.read(15).wrapping_add(if twice >= 0x800 {
-        twice + 0xFFFF_F000
-    } else {
-        twice
-    })
-}
-
-fn far_target(core: &Core, immediate: u32) -> u32
-    ensures { result ≡ target core.now 24 immediate }
-{
-    let twice = 2 * (immediate % 0x100_0000);
-    core.read(15).wrapping_add(if twice >= 0x100_0000 {
-        twice + 0xFE00_0000
-    } else {
-        twice
-    })
-}
-
 fn link(core: &mut Core, next: u32)
     ensures { core.new ≡ linked core.old next }
 {
-    core.write(14, next.wrapping_add(1));
+    core.write(LR, next.wrapping_add(1));
 }
 
 fn exchange(core: &mut Core, m: u8) -> Result<(), Stop>
@@ -111,14 +79,14 @@ pub(crate) fn run(core: &mut Core, next: u32, op: Branch) -> Result<(), Stop>
             immediate,
         } => {
             if condition_holds(core, condition) {
-                core.go_to(short_target(core, immediate));
+                core.go_to(targets::short(core.pc(), immediate));
             } else {
                 core.go_to(next);
             }
         }
-        Branch::B { immediate } => core.go_to(near_target(core, immediate)),
+        Branch::B { immediate } => core.go_to(targets::near(core.pc(), immediate)),
         Branch::Bl { immediate } => {
-            let to = far_target(core, immediate);
+            let to = targets::far(core.pc(), immediate);
             link(core, next);
             core.go_to(to);
         }

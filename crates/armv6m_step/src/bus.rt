@@ -1,7 +1,8 @@
-// The bus as the core sees it.
+//! The bus as the core sees it.
 ghost use Rattle.std.specs.Prelude.{◌≡◌, ◌<◌, ◌^◌, ◌%◌, ℕ, Result, IfOk};
 ghost use Rattle.bench_model.specs.declared.bench_fault.BusEnd.{BusEnd};
-ghost use Rattle.armv6m_step.specs.Access.{Access, Load, Store, stored, is_device, HasDeviceCause};
+ghost use Rattle.bench_model.specs.Device.{is_device, HasDeviceCause};
+ghost use Rattle.armv6m_step.specs.Access.{Access, Load, Store, stored};
 
 use bench_model::BusEnd;
 

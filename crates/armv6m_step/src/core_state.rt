@@ -1,10 +1,12 @@
-// The registers and flags, and how instructions read and write them.
+//! The registers and flags, and how instructions read and write them.
 ghost use Rattle.std.specs.Prelude.{◌≡◌, ◌%◌, ◌^◌};
 ghost use Rattle.armv6m_step.specs.Registers.{pc_of, reg, written, moved, with_nz, with_carry, with_nzcv};
 
 use armv6m_alu::Sum;
+use armv6m_decode::registers::{PC, SP};
+use armv6m_decode::targets::pc_at;
 
-/// The registers and flags of the core. Register 15 is the address of the instruction to come, 14 is LR and 13 is SP.
+/// The registers and flags of the core. Register `PC` is the address of the instruction to come.
 #[derive(Clone, Copy, PartialEq, Eq, Debug)]
 pub struct Core {
     pub regs: [u32; 16],
@@ -21,34 +23,30 @@ pub struct Core {
 }
 
 impl Core {
-    // The address of the instruction.
+    /// The address of the instruction.
     pub(crate) fn pc(&self) -> u32
         ensures { result ≡ pc_of self.now }
     {
-        self.regs[15]
+        self.regs[PC as usize]
     }
 
-    // A register as an operand.
+    /// A register as an operand.
     #[tactic(auto, unfolding(crate::specs::Registers::reg))]
     pub(crate) fn read(&self, n: u8) -> u32
         ensures { result ≡ reg self.now n }
     {
         let value = self.regs[(n % 16) as usize];
-        if n % 16 == 15 {
-            value.wrapping_add(4)
-        } else {
-            value
-        }
+        if n % 16 == PC { pc_at(value) } else { value }
     }
 
-    // Bits 7 to 0 of a register.
+    /// Bits 7 to 0 of a register.
     pub(crate) fn low_byte(&self, n: u8) -> u32
         ensures { result ≡ reg self.now n % 2 ^ 8 }
     {
         self.read(n) % 0x100
     }
 
-    // Bits 15 to 0 of a register.
+    /// Bits 15 to 0 of a register.
     pub(crate) fn low_half(&self, n: u8) -> u32
         ensures { result ≡ reg self.now n % 2 ^ 16 }
     {
@@ -59,17 +57,17 @@ impl Core {
     pub(crate) fn write(&mut self, n: u8, value: u32)
         ensures { self.new ≡ written self.old n value }
     {
-        self.regs[(n % 16) as usize] = if n % 16 == 13 { value / 4 * 4 } else { value };
+        self.regs[(n % 16) as usize] = if n % 16 == SP { value / 4 * 4 } else { value };
     }
 
     #[tactic(auto, unfolding(crate::specs::Registers::moved))]
     pub(crate) fn go_to(&mut self, pc: u32)
         ensures { self.new ≡ moved self.old pc }
     {
-        self.regs[15] = pc;
+        self.regs[PC as usize] = pc;
     }
 
-    // Sets N and Z by a result.
+    /// Sets N and Z by a result.
     #[tactic(auto, unfolding(crate::specs::Registers::with_nz))]
     pub(crate) fn set_nz(&mut self, value: u32)
         ensures { self.new ≡ with_nz self.old value }
@@ -85,7 +83,7 @@ impl Core {
         self.c = carry;
     }
 
-    // Sets N, Z, C and V by a sum.
+    /// Sets N, Z, C and V by a sum.
     #[tactic(auto, unfolding(crate::specs::Registers::with_nzcv))]
     pub(crate) fn set_nzcv(&mut self, sum: Sum)
         ensures { self.new ≡ with_nzcv self.old sum }

@@ -1,4 +1,4 @@
-// Data processing.
+//! Data processing.
 #![tactic(auto, using(std::proofs::lemmas::Bool::Decides::nat_tests))]
 
 ghost use Rattle.std.specs.Prelude.{◌≡◌, false, Result, Ok};
@@ -14,6 +14,7 @@ use armv6m_alu::{
     Shifted, Sum, add_with_carry, rotate_right, shift_left, shift_right, shift_right_signed,
 };
 use armv6m_decode::Alu;
+use armv6m_decode::registers::PC;
 
 fn put_value(core: &mut Core, next: u32, d: u8, value: u32)
     ensures { value_into core.old next d value ≡ Ok core.new }
@@ -57,7 +58,7 @@ fn test(core: &mut Core, next: u32, value: u32)
 fn put_plain(core: &mut Core, next: u32, d: u8, value: u32)
     ensures { plain_into core.old next d value ≡ Ok core.new }
 {
-    if d == 15 {
+    if d == PC {
         core.go_to(value / 2 * 2);
     } else {
         core.write(d, value);
@@ -81,63 +82,63 @@ fn amount(immediate: u8) -> u32
     }
 }
 
-// LSLS: R[d] = R[m] shifted left.
+/// LSLS: R[d] = R[m] shifted left.
 fn lsls(core: &mut Core, next: u32, d: u8, m: u8, by: u32)
     ensures { shift_into core.old next d (shifted_left (reg core.old m) by core.old.c) ≡ Ok core.new }
 {
     put_shift(core, next, d, shift_left(core.read(m), by, core.c));
 }
 
-// LSRS: R[d] = R[m] shifted right.
+/// LSRS: R[d] = R[m] shifted right.
 fn lsrs(core: &mut Core, next: u32, d: u8, m: u8, by: u32)
     ensures { shift_into core.old next d (shifted_right (reg core.old m) by core.old.c) ≡ Ok core.new }
 {
     put_shift(core, next, d, shift_right(core.read(m), by, core.c));
 }
 
-// ASRS: R[d] = R[m] shifted right with its sign.
+/// ASRS: R[d] = R[m] shifted right with its sign.
 fn asrs(core: &mut Core, next: u32, d: u8, m: u8, by: u32)
     ensures { shift_into core.old next d (shifted_right_signed (reg core.old m) by core.old.c) ≡ Ok core.new }
 {
     put_shift(core, next, d, shift_right_signed(core.read(m), by, core.c));
 }
 
-// ADDS: R[d] = R[n] + y.
+/// ADDS: R[d] = R[n] + y.
 fn adds(core: &mut Core, next: u32, d: u8, n: u8, y: u32)
     ensures { sum_into core.old next d (sum_with_carry (reg core.old n) y false) ≡ Ok core.new }
 {
     put_sum(core, next, d, add_with_carry(core.read(n), y, false));
 }
 
-// SUBS: R[d] = R[n] - y.
+/// SUBS: R[d] = R[n] - y.
 fn subs(core: &mut Core, next: u32, d: u8, n: u8, y: u32)
     ensures { sum_into core.old next d (subtraction (reg core.old n) y) ≡ Ok core.new }
 {
     put_sum(core, next, d, subtract(core.read(n), y));
 }
 
-// CMP: the flags of R[n] - y.
+/// CMP: the flags of R[n] - y.
 fn cmp(core: &mut Core, next: u32, n: u8, y: u32)
     ensures { compared core.old next (subtraction (reg core.old n) y) ≡ Ok core.new }
 {
     put_flags(core, next, subtract(core.read(n), y));
 }
 
-// ADCS: R[d] = R[d] + y + C. SBCS adds NOT R[m].
+/// ADCS: R[d] = R[d] + y + C. SBCS adds NOT R[m].
 fn adcs(core: &mut Core, next: u32, d: u8, y: u32)
     ensures { sum_into core.old next d (sum_with_carry (reg core.old d) y core.old.c) ≡ Ok core.new }
 {
     put_sum(core, next, d, add_with_carry(core.read(d), y, core.c));
 }
 
-// RORS: R[d] = R[d] rotated right.
+/// RORS: R[d] = R[d] rotated right.
 fn rors(core: &mut Core, next: u32, d: u8, by: u32)
     ensures { shift_into core.old next d (rotated_right (reg core.old d) by core.old.c) ≡ Ok core.new }
 {
     put_shift(core, next, d, rotate_right(core.read(d), by, core.c));
 }
 
-// CMN: the flags of R[n] + y.
+/// CMN: the flags of R[n] + y.
 fn cmn(core: &mut Core, next: u32, n: u8, y: u32)
     ensures { compared core.old next (sum_with_carry (reg core.old n) y false) ≡ Ok core.new }
 {
@@ -153,7 +154,7 @@ pub(crate) fn undefined(core: &Core) -> Result<(), Stop>
 fn add_high(core: &mut Core, next: u32, d: u8, m: u8) -> Result<(), Stop>
     ensures { Leaves (alu core.old next (Alu.AddHigh d m)) core.old (end_of result) core.new }
 {
-    if d == 15 && m == 15 {
+    if d == PC && m == PC {
         return undefined(core);
     }
     put_plain(core, next, d, core.read(d).wrapping_add(core.read(m)));
@@ -163,7 +164,7 @@ fn add_high(core: &mut Core, next: u32, d: u8, m: u8) -> Result<(), Stop>
 fn compare_high(core: &mut Core, next: u32, n: u8, m: u8) -> Result<(), Stop>
     ensures { Leaves (alu core.old next (Alu.CmpHigh n m)) core.old (end_of result) core.new }
 {
-    if (n < 8 && m < 8) || n == 15 || m == 15 {
+    if (n < 8 && m < 8) || n == PC || m == PC {
         return undefined(core);
     }
     cmp(core, next, n, core.read(m));

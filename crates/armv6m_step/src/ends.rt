@@ -1,4 +1,4 @@
-// How an instruction ends.
+//! How an instruction ends.
 ghost use Rattle.std.specs.Prelude.{◌≡◌};
 ghost use Rattle.armv6m_step.specs.Ends.{end_of};
 
@@ -32,7 +32,7 @@ pub enum Stop {
     Device,
 }
 
-// The end of a step whose instruction went so.
+/// The end of a step whose instruction went so.
 pub(crate) fn step_end(made: Result<(), Stop>) -> StepEnd
     ensures { result ≡ end_of made }
 {

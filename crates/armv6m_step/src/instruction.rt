@@ -1,6 +1,6 @@
-// One instruction.
+//! One instruction.
 ghost use Rattle.std.specs.Prelude.{◌≡◌, ◌⊎◌};
-ghost use Rattle.armv6m_step.specs.Access.{HasDeviceCause};
+ghost use Rattle.bench_model.specs.Device.{HasDeviceCause};
 ghost use Rattle.armv6m_step.specs.Ends.{end_of, is_device_end};
 ghost use Rattle.armv6m_step.specs.Meaning.{Runs};
 ghost use Rattle.armv6m_step.specs.Step.{meaning, instruction};
@@ -11,6 +11,8 @@ use crate::ends::step_end;
 use crate::{Bus, Core, StepEnd, Stop, branch, data, many, memory, other};
 use armv6m_decode::{Decoded, Instr, decode16, decode32};
 
+/// It is put in line: called, it costs a step a third of its speed.
+#[inline(always)]
 #[tactic(auto, using(crate::proofs::RunLemmas::asks))]
 fn execute<B: Bus>(core: &mut Core, bus: &mut B, next: u32, instr: Instr) -> Result<(), Stop>
     ensures { Runs B.acts (meaning core.old next instr) core.old bus.old (end_of result) core.new bus.new }
@@ -24,7 +26,7 @@ fn execute<B: Bus>(core: &mut Core, bus: &mut B, next: u32, instr: Instr) -> Res
     }
 }
 
-// Fetches the instruction at the PC and does it.
+/// Fetches the instruction at the PC and does it.
 #[tactic(auto, using(crate::proofs::RunLemmas::asks), unfolding(crate::specs::Step::instruction))]
 fn fetch_and_execute<B: Bus>(core: &mut Core, bus: &mut B) -> Result<(), Stop>
     ensures { Runs B.acts (instruction core.old) core.old bus.old (end_of result) core.new bus.new }

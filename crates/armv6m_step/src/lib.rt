@@ -15,6 +15,7 @@ mod many;
 mod memory;
 mod memory_bus;
 mod other;
+pub mod ram;
 #[cfg(test)]
 mod tests;
 

@@ -1,4 +1,4 @@
-// Loads and stores of a list of registers.
+//! Loads and stores of a list of registers.
 
 ghost use Rattle.std.specs.Prelude.{◌≡◌, ◌≤◌};
 ghost use Rattle.armv6m_step.specs.Ends.{end_of};
@@ -9,6 +9,7 @@ use crate::access::{load32, store32};
 use crate::data::undefined;
 use crate::{Bus, Core, Stop};
 use armv6m_decode::Many;
+use armv6m_decode::registers::{LR, SP};
 
 /// How many bytes the registers of the list take.
 #[tactic(auto, using(crate::proofs::ListLemmas::lengths, std::proofs::lemmas::Bool::Decides::nat_tests))]
@@ -26,7 +27,7 @@ fn bytes_of(list: u8) -> u32
     bytes
 }
 
-#[tactic(auto, using(crate::proofs::ListLemmas::stored, std::proofs::lemmas::Bool::Decides::nat_tests))]
+#[tactic(auto, using(crate::proofs::ListLemmas::stored_so_far, std::proofs::lemmas::Bool::Decides::nat_tests))]
 fn store_list<B: Bus>(core: &Core, bus: &mut B, at: u32, list: u8) -> Result<(), Stop>
     ensures { StoresEach B.acts core.now at (low_registers list) bus.old result bus.new }
 {
@@ -41,7 +42,7 @@ fn store_list<B: Bus>(core: &Core, bus: &mut B, at: u32, list: u8) -> Result<(),
     Ok(())
 }
 
-// The core with the registers loaded. The core itself stays, since a later load may fault.
+/// The core with the registers loaded. The core itself stays, since a later load may fault.
 #[tactic(auto, using(crate::proofs::ListLemmas::loaded_so_far, std::proofs::lemmas::Bool::Decides::nat_tests))]
 fn load_list<B: Bus>(core: &Core, bus: &mut B, at: u32, list: u8) -> Result<Core, Stop>
     ensures { LoadsEach B.acts core.now at (low_registers list) bus.old result bus.new }
@@ -115,12 +116,12 @@ fn push<B: Bus>(core: &mut Core, bus: &mut B, next: u32, lr: bool, list: u8) -> 
     if by == 0 {
         return undefined(core);
     }
-    let start = core.read(13).wrapping_sub(by);
+    let start = core.read(SP).wrapping_sub(by);
     store_list(core, bus, start, list)?;
     if lr {
-        store32(bus, start.wrapping_add(low), core.read(14))?;
+        store32(bus, start.wrapping_add(low), core.read(LR))?;
     }
-    core.write(13, start);
+    core.write(SP, start);
     core.go_to(next);
     Ok(())
 }
@@ -134,7 +135,7 @@ fn pop<B: Bus>(core: &mut Core, bus: &mut B, next: u32, pc: bool, list: u8) -> R
     if by == 0 {
         return undefined(core);
     }
-    let start = core.read(13);
+    let start = core.read(SP);
     let mut filled = load_list(core, bus, start, list)?;
     let mut to = next;
     if pc {
@@ -144,7 +145,7 @@ fn pop<B: Bus>(core: &mut Core, bus: &mut B, next: u32, pc: bool, list: u8) -> R
         }
         to = target - 1;
     }
-    filled.write(13, start.wrapping_add(by));
+    filled.write(SP, start.wrapping_add(by));
     filled.go_to(to);
     *core = filled;
     Ok(())

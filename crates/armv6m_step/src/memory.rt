@@ -1,8 +1,8 @@
-// Loads and stores of one register.
+//! Loads and stores of one register.
 #![tactic(auto, using(crate::proofs::RunLemmas::asks))]
 
-ghost use Rattle.std.specs.Prelude.{◌≡◌, ◌*◌, ◌^◌, ◌<◌};
-ghost use Rattle.armv6m_step.specs.Numbers.{sum, sign_extended, aligned_pc};
+ghost use Rattle.std.specs.Prelude.{◌≡◌, ◌*◌};
+ghost use Rattle.armv6m_step.specs.Numbers.{sum};
 ghost use Rattle.armv6m_step.specs.Ends.{end_of};
 ghost use Rattle.armv6m_step.specs.Registers.{reg};
 ghost use Rattle.armv6m_step.specs.Meaning.{Runs};
@@ -10,31 +10,12 @@ ghost use Rattle.armv6m_step.specs.MemoryRows.{load_word, load_half, load_byte, 
 
 use crate::access::{load8, load16, load32, store8, store16, store32};
 use crate::{Bus, Core, Stop};
+use armv6m_alu::sign_extend;
 use armv6m_decode::Memory;
+use armv6m_decode::registers::SP;
+use armv6m_decode::targets::literal;
 
-pub(crate) fn extend8(value: u32) -> u32
-    requires { value < 2 ^ 8 }
-    ensures { result ≡ sign_extended 8 value }
-{
-    if value >= 0x80 {
-        value + 0xFFFF_FF00
-    } else {
-        value
-    }
-}
-
-pub(crate) fn extend16(value: u32) -> u32
-    requires { value < 2 ^ 16 }
-    ensures { result ≡ sign_extended 16 value }
-{
-    if value >= 0x8000 {
-        value + 0xFFFF_0000
-    } else {
-        value
-    }
-}
-
-// An offset in bytes, from an immediate that counts words, halfwords or bytes.
+/// An offset in bytes, from an immediate that counts words, halfwords or bytes.
 pub(crate) fn words(count: u8) -> u32
     ensures { result ≡ 4 * count }
 {
@@ -53,32 +34,25 @@ fn bytes(count: u8) -> u32
     u32::from(count)
 }
 
-// The address of a register and an offset in bytes.
+/// The address of a register and an offset in bytes.
 fn at_offset(core: &Core, n: u8, offset: u32) -> u32
     ensures { result ≡ sum (reg core.now n) offset }
 {
     core.read(n).wrapping_add(offset)
 }
 
-// The address of a literal.
-pub(crate) fn at_literal(core: &Core, immediate: u8) -> u32
-    ensures { result ≡ sum (aligned_pc core.now) (4 * immediate) }
-{
-    (core.read(15) / 4 * 4).wrapping_add(words(immediate))
-}
-
-// LDR of a literal.
+/// LDR of a literal.
 #[tactic(auto, using(crate::proofs::RunLemmas::asks), unfolding(crate::specs::MemoryRows::load_word))]
 fn literal_into<B: Bus>(core: &mut Core, bus: &mut B, next: u32, t: u8, i: u8) -> Result<(), Stop>
     ensures { Runs B.acts (memory core.old next (Memory.LdrLiteral t i)) core.old bus.old (end_of result) core.new bus.new }
 {
-    let value = load32(bus, at_literal(core, i))?;
+    let value = load32(bus, literal(core.pc(), i))?;
     core.write(t, value);
     core.go_to(next);
     Ok(())
 }
 
-// LDR: the word at R[n] + offset, into R[t].
+/// LDR: the word at R[n] + offset, into R[t].
 #[tactic(auto, using(crate::proofs::RunLemmas::asks), unfolding(crate::specs::MemoryRows::load_word))]
 fn word_into<B: Bus>(
     core: &mut Core,
@@ -96,7 +70,7 @@ fn word_into<B: Bus>(
     Ok(())
 }
 
-// LDRH: the halfword, with zeros above it.
+/// LDRH: the halfword, with zeros above it.
 #[tactic(auto, using(crate::proofs::RunLemmas::asks), unfolding(crate::specs::MemoryRows::load_half))]
 fn half_into<B: Bus>(
     core: &mut Core,
@@ -114,7 +88,7 @@ fn half_into<B: Bus>(
     Ok(())
 }
 
-// LDRB: the byte, with zeros above it.
+/// LDRB: the byte, with zeros above it.
 #[tactic(auto, using(crate::proofs::RunLemmas::asks), unfolding(crate::specs::MemoryRows::load_byte))]
 fn byte_into<B: Bus>(
     core: &mut Core,
@@ -132,7 +106,7 @@ fn byte_into<B: Bus>(
     Ok(())
 }
 
-// LDRSH: the halfword, with its sign above it.
+/// LDRSH: the halfword, with its sign above it.
 #[tactic(auto, using(crate::proofs::RunLemmas::asks), unfolding(crate::specs::MemoryRows::load_signed_half))]
 fn signed_half_into<B: Bus>(
     core: &mut Core,
@@ -145,12 +119,12 @@ fn signed_half_into<B: Bus>(
     ensures { Runs B.acts (load_signed_half core.old next t (sum (reg core.old n) offset)) core.old bus.old (end_of result) core.new bus.new }
 {
     let value = load16(bus, at_offset(core, n, offset))?;
-    core.write(t, extend16(value));
+    core.write(t, sign_extend(value, 16));
     core.go_to(next);
     Ok(())
 }
 
-// LDRSB: the byte, with its sign above it.
+/// LDRSB: the byte, with its sign above it.
 #[tactic(auto, using(crate::proofs::RunLemmas::asks), unfolding(crate::specs::MemoryRows::load_signed_byte))]
 fn signed_byte_into<B: Bus>(
     core: &mut Core,
@@ -163,12 +137,12 @@ fn signed_byte_into<B: Bus>(
     ensures { Runs B.acts (load_signed_byte core.old next t (sum (reg core.old n) offset)) core.old bus.old (end_of result) core.new bus.new }
 {
     let value = load8(bus, at_offset(core, n, offset))?;
-    core.write(t, extend8(value));
+    core.write(t, sign_extend(value, 8));
     core.go_to(next);
     Ok(())
 }
 
-// STR: R[t], to the word at R[n] + offset.
+/// STR: R[t], to the word at R[n] + offset.
 #[tactic(auto, using(crate::proofs::RunLemmas::asks), unfolding(crate::specs::MemoryRows::store_word))]
 fn word_from<B: Bus>(
     core: &mut Core,
@@ -185,7 +159,7 @@ fn word_from<B: Bus>(
     Ok(())
 }
 
-// STRH: the low halfword of R[t].
+/// STRH: the low halfword of R[t].
 #[tactic(auto, using(crate::proofs::RunLemmas::asks), unfolding(crate::specs::MemoryRows::store_half))]
 fn half_from<B: Bus>(
     core: &mut Core,
@@ -202,7 +176,7 @@ fn half_from<B: Bus>(
     Ok(())
 }
 
-// STRB: the low byte of R[t].
+/// STRB: the low byte of R[t].
 #[tactic(auto, using(crate::proofs::RunLemmas::asks), unfolding(crate::specs::MemoryRows::store_byte))]
 fn byte_from<B: Bus>(
     core: &mut Core,
@@ -239,7 +213,7 @@ pub(crate) fn run<B: Bus>(core: &mut Core, bus: &mut B, next: u32, op: Memory) -
         Memory::LdrbImmediate { t, n, immediate: i } => byte_into(core, bus, next, t, n, bytes(i)),
         Memory::StrhImmediate { t, n, immediate: i } => half_from(core, bus, next, t, n, halves(i)),
         Memory::LdrhImmediate { t, n, immediate: i } => half_into(core, bus, next, t, n, halves(i)),
-        Memory::StrSp { t, immediate: i } => word_from(core, bus, next, t, 13, words(i)),
-        Memory::LdrSp { t, immediate: i } => word_into(core, bus, next, t, 13, words(i)),
+        Memory::StrSp { t, immediate: i } => word_from(core, bus, next, t, SP, words(i)),
+        Memory::LdrSp { t, immediate: i } => word_into(core, bus, next, t, SP, words(i)),
     }
 }

@@ -1,4 +1,4 @@
-// Addresses, extensions, byte orders, hints, barriers and the special registers.
+//! Addresses, extensions, byte orders, hints, barriers and the special registers.
 #![tactic(auto, using(std::proofs::lemmas::Bool::Decides::nat_tests))]
 
 ghost use Rattle.std.specs.Prelude.{◌≡◌, ◌<◌, ◌*◌, ◌^◌, Result, Ok};
@@ -10,9 +10,12 @@ ghost use Rattle.armv6m_step.specs.Registers.{reg, moved};
 ghost use Rattle.armv6m_step.specs.OtherRows.{other, put, swapped_half, swapped_halves, flags_number, with_flags_of, with_primask, read_special, write_special};
 
 use crate::data::undefined;
-use crate::memory::{at_literal, extend8, extend16, words};
+use crate::memory::words;
 use crate::{Core, Stop};
+use armv6m_alu::sign_extend;
 use armv6m_decode::Other;
+use armv6m_decode::registers::{APSR, MSP, PC, PRIMASK, SP};
+use armv6m_decode::targets::literal;
 
 fn put_into(core: &mut Core, next: u32, d: u8, value: u32)
     ensures { put core.old next d value ≡ Ok core.new }
@@ -21,17 +24,17 @@ fn put_into(core: &mut Core, next: u32, d: u8, value: u32)
     core.go_to(next);
 }
 
-// SP plus and minus so many words.
+/// SP plus and minus so many words.
 fn above_sp(core: &Core, count: u8) -> u32
-    ensures { result ≡ sum (reg core.now 13) (4 * count) }
+    ensures { result ≡ sum (reg core.now SP) (4 * count) }
 {
-    core.read(13).wrapping_add(words(count))
+    core.read(SP).wrapping_add(words(count))
 }
 
 fn below_sp(core: &Core, count: u8) -> u32
-    ensures { result ≡ difference (reg core.now 13) (4 * count) }
+    ensures { result ≡ difference (reg core.now SP) (4 * count) }
 {
-    core.read(13).wrapping_sub(words(count))
+    core.read(SP).wrapping_sub(words(count))
 }
 
 fn swap_half(half: u32) -> u32
@@ -84,13 +87,13 @@ fn set_primask(core: &mut Core, on: bool)
 fn read_from(core: &mut Core, next: u32, d: u8, special: u8) -> Result<(), Stop>
     ensures { Leaves (read_special core.old next d special) core.old (end_of result) core.new }
 {
-    if d == 13 || d == 15 {
+    if d == SP || d == PC {
         return undefined(core);
     }
     match special {
-        0 => put_into(core, next, d, flags(core)),
-        8 => put_into(core, next, d, core.read(13)),
-        16 => put_into(core, next, d, number(core.primask)),
+        APSR => put_into(core, next, d, flags(core)),
+        MSP => put_into(core, next, d, core.read(SP)),
+        PRIMASK => put_into(core, next, d, number(core.primask)),
         _ => return undefined(core),
     }
     Ok(())
@@ -99,14 +102,14 @@ fn read_from(core: &mut Core, next: u32, d: u8, special: u8) -> Result<(), Stop>
 fn write_to(core: &mut Core, next: u32, n: u8, special: u8) -> Result<(), Stop>
     ensures { Leaves (write_special core.old next n special) core.old (end_of result) core.new }
 {
-    if n == 13 || n == 15 {
+    if n == SP || n == PC {
         return undefined(core);
     }
     let value = core.read(n);
     match special {
-        0 => set_flags(core, value),
-        8 => core.write(13, value),
-        16 => set_primask(core, value % 2 == 1),
+        APSR => set_flags(core, value),
+        MSP => core.write(SP, value),
+        PRIMASK => set_primask(core, value % 2 == 1),
         _ => return undefined(core),
     }
     core.go_to(next);
@@ -118,19 +121,24 @@ pub(crate) fn run(core: &mut Core, next: u32, op: Other) -> Result<(), Stop>
     ensures { Leaves (other core.old next op) core.old (end_of result) core.new }
 {
     match op {
-        Other::Adr { d, immediate: i } => put_into(core, next, d, at_literal(core, i)),
+        Other::Adr { d, immediate: i } => put_into(core, next, d, literal(core.pc(), i)),
         Other::AddFromSp { d, immediate: i } => put_into(core, next, d, above_sp(core, i)),
-        Other::AddToSp { immediate: i } => put_into(core, next, 13, above_sp(core, i)),
-        Other::SubFromSp { immediate: i } => put_into(core, next, 13, below_sp(core, i)),
-        Other::Sxth { d, m } => put_into(core, next, d, extend16(core.low_half(m))),
-        Other::Sxtb { d, m } => put_into(core, next, d, extend8(core.low_byte(m))),
+        Other::AddToSp { immediate: i } => put_into(core, next, SP, above_sp(core, i)),
+        Other::SubFromSp { immediate: i } => put_into(core, next, SP, below_sp(core, i)),
+        Other::Sxth { d, m } => put_into(core, next, d, sign_extend(core.low_half(m), 16)),
+        Other::Sxtb { d, m } => put_into(core, next, d, sign_extend(core.low_byte(m), 8)),
         Other::Uxth { d, m } => put_into(core, next, d, core.low_half(m)),
         Other::Uxtb { d, m } => put_into(core, next, d, core.low_byte(m)),
         Other::Cpsie => mask(core, next, false),
         Other::Cpsid => mask(core, next, true),
         Other::Rev { d, m } => put_into(core, next, d, core.read(m).swap_bytes()),
         Other::Rev16 { d, m } => put_into(core, next, d, swap_halves(core.read(m))),
-        Other::Revsh { d, m } => put_into(core, next, d, extend16(swap_half(core.low_half(m)))),
+        Other::Revsh { d, m } => put_into(
+            core,
+            next,
+            d,
+            sign_extend(swap_half(core.low_half(m)), 16),
+        ),
         Other::Nop | Other::Yield | Other::Wfe | Other::Wfi | Other::Sev => core.go_to(next),
         Other::Dsb | Other::Dmb | Other::Isb => core.go_to(next),
         Other::Bkpt { immediate: _ } => return Err(Stop::Break { pc: core.pc() }),

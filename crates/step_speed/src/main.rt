@@ -4,16 +4,17 @@
 #![tactic(auto)]
 
 use anyhow::Context;
+use armv6m_decode::registers::{PC, SP};
 use armv6m_step::{Core, MemoryBus, StepEnd, step};
 use std::env;
 
-// arm-none-eabi-as -mcpu=cortex-m0, at 0x20000000; R0 counts the rounds down and R1 is the address of eight bytes:
-//
-// start:  ldr r2, [r1, #0];  adds r2, r2, r0;  lsrs r3, r2, #3;  eors r2, r3;  str r2, [r1, #0]
-//         ldrb r3, [r1, #1];  strb r3, [r1, #4];  ldrh r4, [r1, #2];  muls r4, r2
-//         cmp r4, r3;  bcc skip;  adds r5, #1
-// skip:   bl rotate;  subs r0, #1;  bne start;  bkpt #0
-// rotate: push {r6, lr};  movs r6, #5;  rors r2, r6;  adcs r5, r2;  pop {r6, pc}
+/// arm-none-eabi-as -mcpu=cortex-m0, at 0x20000000; R0 counts the rounds down and R1 is the address of eight bytes:
+///
+/// start:  ldr r2, [r1, #0];  adds r2, r2, r0;  lsrs r3, r2, #3;  eors r2, r3;  str r2, [r1, #0]
+///         ldrb r3, [r1, #1];  strb r3, [r1, #4];  ldrh r4, [r1, #2];  muls r4, r2
+///         cmp r4, r3;  bcc skip;  adds r5, #1
+/// skip:   bl rotate;  subs r0, #1;  bne start;  bkpt #0
+/// rotate: push {r6, lr};  movs r6, #5;  rors r2, r6;  adcs r5, r2;  pop {r6, pc}
 const CODE: [u8; 44] = [
     0x0A, 0x68, 0x12, 0x18, 0xD3, 0x08, 0x5A, 0x40, 0x0A, 0x60, 0x4B, 0x78, 0x0B, 0x71, 0x4C, 0x88,
     0x54, 0x43, 0x9C, 0x42, 0x00, 0xD3, 0x01, 0x35, 0x00, 0xF0, 0x03, 0xF8, 0x01, 0x38, 0xEF, 0xD1,
@@ -22,7 +23,7 @@ const CODE: [u8; 44] = [
 
 const BASE: u32 = 0x2000_0000;
 
-// The last end, and the number of steps that went.
+/// The last end, and the number of steps that went.
 fn run(core: &mut Core, bus: &mut MemoryBus) -> (StepEnd, u64) {
     for made in 0..u64::MAX {
         let end = step(core, bus);
@@ -52,8 +53,8 @@ fn main(rt: HostRuntime) -> anyhow::Result<()> {
     };
     core.regs[0] = rounds;
     core.regs[1] = BASE + 512;
-    core.regs[13] = BASE + 1024;
-    core.regs[15] = BASE;
+    core.regs[SP as usize] = BASE + 1024;
+    core.regs[PC as usize] = BASE;
     let (end, steps) = run(&mut core, &mut bus);
     println!(rt; "{end:?}")?;
     println!(rt; "steps {steps}")?;

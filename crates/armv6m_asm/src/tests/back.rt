@@ -1,14 +1,15 @@
 //! What the disassembler writes of an instruction is assembled to its code again.
 
 use crate::*;
+use armv6m_decode::registers::{APSR, MSP, PC, PRIMASK, SP};
 use armv6m_decode::{Alu, Branch, Decoded, Instr, Many, Other, decode16, decode32};
 use armv6m_encode::{Encoding, encode, has_encoding};
 use std::alloc::Global;
 use std::process::Abort;
 use std::test::Fail;
 
-// Another instruction is made of the instruction's text, or none: `CMP` of two low registers in its second encoding, an
-// empty list, and an operand of `UDF` and `SVC`, which isn't written. The manual leaves open what they do.
+/// Another instruction is made of the instruction's text, or none: `CMP` of two low registers in its second encoding, an
+/// empty list, and an operand of `UDF` and `SVC`, which isn't written. The manual leaves open what they do.
 fn is_open(instr: &Instr) -> bool {
     match *instr {
         Instr::Alu(Alu::CmpHigh { n, m }) => n < 8 && m < 8,
@@ -20,7 +21,7 @@ fn is_open(instr: &Instr) -> bool {
     }
 }
 
-// The text of an instruction at address 0 assembles to these bytes.
+/// The text of an instruction at address 0 assembles to these bytes.
 fn assert_back(rt: &impl Abort, alloc: Global, instr: &Instr, due: &[u8]) -> Result<(), Fail> {
     let mut line = Line::new();
     disassemble(instr, 0, &mut line);
@@ -45,7 +46,7 @@ fn each_halfword_comes_back(rt: HostRuntime) -> Result<(), Fail> {
     Ok(())
 }
 
-// The text of a pair's instruction assembles to the pair.
+/// The text of a pair's instruction assembles to the pair.
 fn assert_pair_back(rt: &impl Abort, alloc: Global, instr: &Instr) -> Result<(), Fail> {
     assert!(rt; has_encoding(instr));
     if let Encoding::Pair { first, second } = encode(instr) {
@@ -57,7 +58,7 @@ fn assert_pair_back(rt: &impl Abort, alloc: Global, instr: &Instr) -> Result<(),
     Ok(())
 }
 
-// The ends of BL's range, and every 2,053th distance between.
+/// The ends of BL's range, and every 2,053th distance between.
 #[test]
 fn long_branches_come_back(rt: HostRuntime) -> Result<(), Fail> {
     for immediate in [0, 1, 0x7F_FFFF, 0x80_0000, 0xFF_FFFE, 0xFF_FFFF] {
@@ -73,8 +74,8 @@ fn long_branches_come_back(rt: HostRuntime) -> Result<(), Fail> {
 #[test]
 fn special_registers_come_back(rt: HostRuntime) -> Result<(), Fail> {
     for register in 0..16u8 {
-        if register != 13 && register != 15 {
-            for special in [0, 8, 16] {
+        if register != SP && register != PC {
+            for special in [APSR, MSP, PRIMASK] {
                 let read = Instr::Other(Other::Mrs {
                     d: register,
                     special,

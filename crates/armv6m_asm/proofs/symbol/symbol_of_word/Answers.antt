@@ -1,10 +1,10 @@
 use Rattle.std.proofs.Common.{sym, None}
-use Rattle.armv6m_asm.proofs.WordLemmas.{number_of-answer, register_of-none, special_of-none}
+use Rattle.armv6m_asm.proofs.WordLemmas.{number_in-answer, register_of-none, special_of-none}
 use Rattle.armv6m_asm.proofs.SymbolLemmas.{symbol_of_number, symbol_of_register, symbol_of_special, symbol_of_interrupts, symbol_of_other}
 use Rattle.armv6m_asm.proofs.symbol.symbol_of_word.Goals as goal
 
 pub returns-in-Some-clause-symbol : goal.returns-in-Some-clause-symbol
-returns-in-Some-clause-symbol c = sym (symbol_of_number _ _ (number_of-answer c.args.bytes.now _ c.in-Some.ensures))
+returns-in-Some-clause-symbol c = sym (symbol_of_number _ _ (number_in-answer c.args.bytes.now _ c.in-Some.ensures))
 
 pub returns-in-Some-read_register-clause-symbol : goal.returns-in-Some-read_register-clause-symbol
 returns-in-Some-read_register-clause-symbol c =
@@ -18,5 +18,5 @@ returns-then-is_interrupts-clause-symbol c = sym (symbol_of_interrupts _ (c.is_i
 
 pub returns-else-is_interrupts-clause-symbol : goal.returns-else-is_interrupts-clause-symbol
 returns-else-is_interrupts-clause-symbol c =
-    sym (symbol_of_other _ (number_of-answer _ None c.in_default.ensures) (register_of-none _ c.in_default-read_register.ensures.none)
+    sym (symbol_of_other _ (number_in-answer _ None c.in_default.ensures) (register_of-none _ c.in_default-read_register.ensures.none)
     (special_of-none _ c.in_default-read_special.ensures.none) (λ same. let h = c.is_interrupts.ensures.1 same in let f = c.if-is_interrupts.false in cc))

@@ -1,6 +1,8 @@
-use Rattle.std.proofs.Common.{◌≢◌, ◌<◌, ℕ}
+use Rattle.std.proofs.Common.{◌≢◌, ◌<◌, ℕ, get_or}
+use Rattle.armv6m_decode.specs.declared.condition.Condition.TheVariants.{Equal}
+use Rattle.armv6m_decode.specs.declared.condition.TheConstants.Condition.{ALL}
 use Rattle.armv6m_forms.specs.Text.{condition_text}
 use Rattle.armv6m_forms.proofs.word.read_condition.Given as goal
 
 abbrev pub invariant-loop-condition : goal.invariant-loop-condition
-invariant-loop-condition l = (k : ℕ) → k < l.condition → condition_text k ≢ l.word
+invariant-loop-condition l = (k : ℕ) → k < l.condition-index → condition_text (get_or ALL k Equal) ≢ l.word

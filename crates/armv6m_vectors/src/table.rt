@@ -1,0 +1,69 @@
+//! The decoder against the values and masks of the table.
+
+use crate::hex::{half, words};
+use anyhow::{Result, bail};
+use armv6m_decode::{Decoded, decode16};
+use std::alloc::Global;
+
+#[derive(Drop)]
+struct Row {
+    value: u16,
+    mask: u16,
+    count: usize,
+}
+
+fn row_of(words: &[&str]) -> Result<Row> {
+    let [value, mask, count] = words else {
+        bail!("not three words");
+    };
+    Ok(Row {
+        value: half(value)?,
+        mask: half(mask)?,
+        count: count.parse::<usize>()?,
+    })
+}
+
+/// How many halfwords fit a row: each is an instruction.
+fn fitting(row: &Row) -> usize {
+    (0..=u16::MAX)
+        .filter(|half| *half & row.mask == row.value)
+        .filter(|half| matches!(decode16(*half), Decoded::Op(_)))
+        .count()
+}
+
+/// A halfword fits one row where it is an instruction, and else none.
+fn check_half(half: u16, rows: &[Row]) -> Result<()> {
+    let fit = rows
+        .iter()
+        .filter(|row| half & row.mask == row.value)
+        .count();
+    let due = match decode16(half) {
+        Decoded::Op(_) => 1,
+        Decoded::NeedsSecond | Decoded::Undefined => 0,
+    };
+    if fit != due {
+        bail!("{half:04X}: fits {fit} rows");
+    }
+    Ok(())
+}
+
+/// Compares each halfword and each row, and gives the number of rows.
+pub fn check(text: &str, alloc: Global) -> Result<usize> {
+    let mut rows = Vec::new(alloc);
+    for line in text.lines() {
+        let words = words(line, alloc)?;
+        if !words.is_empty() {
+            rows.push(row_of(&words)?)?;
+        }
+    }
+    for row in &rows {
+        let found = fitting(row);
+        if found != row.count {
+            bail!("{:04X}: {found} halfwords", row.value);
+        }
+    }
+    for half in 0..=u16::MAX {
+        check_half(half, &rows)?;
+    }
+    Ok(rows.len())
+}
