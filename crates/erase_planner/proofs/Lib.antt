@@ -1,0 +1,9 @@
+pub mod NeedLemmas
+pub mod SetLemmas
+pub mod LeastLemmas
+pub mod ReachLemmas
+pub mod CostLemmas
+pub mod FeedLemmas
+pub mod FillLemmas
+pub mod FinishLemmas
+pub mod LawLemmas

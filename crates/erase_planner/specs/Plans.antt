@@ -1,0 +1,142 @@
+-- Plans: lists of actions, what they cost, the plan that is chosen, and that none costs less.
+use Rattle.std.specs.Prelude.{◌≡◌, ℕ, ◌+◌, ◌*◌, ◌≤◌, if◌then◌else◌, Bool, true, false, ◌&&◌, nat_le, nat_lt, length, List, [], ◌∷◌, ◌++◌, map, get_or, slice_index}
+use Rattle.std.specs.List.{range_with_len}
+use Rattle.flm_descriptor.specs.Shape.{Range, range_at}
+use Rattle.board_file.specs.declared.board.Weights.{Weights}
+use Rattle.page_geometry.specs.Layout.{Layout}
+use Rattle.page_geometry.specs.Cells.{some_below, count_below, is_used, differs}
+use Rattle.page_geometry.specs.Ideal.{Action, EraseSector, EraseChip, ProgramPage, Acts, erasures, writes}
+
+-- ---- plans
+
+-- the actions, in turn, lead the ideal device from the one contents to the other
+unfoldable pub Leads : Layout → ℕ → List ℕ → List Action → List ℕ → Type 0
+Leads l empty cells [] want = cells ≡ want
+Leads l empty cells (a ∷ rest) want = (mid : List ℕ) × Acts l empty cells a mid × Leads l empty mid rest want
+
+unfoldable pub erases_chip : List Action → Bool
+erases_chip [] = false
+erases_chip (EraseSector s ∷ rest) = erases_chip rest
+erases_chip (EraseChip ∷ rest) = true
+erases_chip (ProgramPage p bytes ∷ rest) = erases_chip rest
+
+-- a plan from the one contents to the other; the chip is erased only where the algorithm can
+pub record IsPlan (l : Layout) (empty : ℕ) (has_chip : Bool) (cells : List ℕ) (actions : List Action) (want : List ℕ) : Type 0 where
+  pub leads : Leads l empty cells actions want
+  pub lawful : erases_chip actions ≡ true → has_chip ≡ true
+
+-- one weight for each action, by its kind
+unfoldable pub price : Weights → Action → ℕ
+price w (EraseSector s) = w.sector
+price w EraseChip = w.chip
+price w (ProgramPage p bytes) = w.page
+
+unfoldable pub cost : Weights → List Action → ℕ
+cost w [] = 0
+cost w (a ∷ rest) = price w a + cost w rest
+
+-- ---- the chosen plan
+
+-- the page lies in the sector
+abbrev pub has_page : Range → Range → Bool
+has_page sector page = nat_le sector.start page.start && nat_le page.stop sector.stop
+
+-- the sectors to erase: a page of the sector must change and isn't empty
+unfoldable pub must_erase : Layout → ℕ → List ℕ → List ℕ → ℕ → Bool
+must_erase l empty old want s =
+    some_below (length l.pages) (λ p. has_page (range_at l.sectors s) (range_at l.pages p)
+    && (differs (range_at l.pages p) old want && is_used empty (range_at l.pages p) old))
+
+-- the place is in a sector that must be erased
+unfoldable pub is_erased : Layout → ℕ → List ℕ → List ℕ → ℕ → Bool
+is_erased l empty old want i =
+    some_below (length l.sectors) (λ s. must_erase l empty old want s
+    && (nat_le (range_at l.sectors s).start i && nat_lt i (range_at l.sectors s).stop))
+
+-- the contents once these sectors are empty
+unfoldable pub once_erased : Layout → ℕ → List ℕ → List ℕ → List ℕ
+once_erased l empty old want =
+    map (λ i. if is_erased l empty old want i then empty else slice_index old i) (range_with_len 0 (length old))
+
+-- the pages to program: the page differs from what is wanted once these sectors are empty
+unfoldable pub must_program : Layout → ℕ → List ℕ → List ℕ → ℕ → Bool
+must_program l empty old want p = differs (range_at l.pages p) (once_erased l empty old want) want
+
+-- the pages to program after the chip is erased: the page is wanted to be other than empty
+unfoldable pub is_wanted : Layout → ℕ → List ℕ → ℕ → Bool
+is_wanted l empty want p = is_used empty (range_at l.pages p) want
+
+unfoldable pub sectors_cost : Layout → Weights → ℕ → List ℕ → List ℕ → ℕ
+sectors_cost l w empty old want =
+    w.sector * count_below (length l.sectors) (must_erase l empty old want)
+    + w.page * count_below (length l.pages) (must_program l empty old want)
+
+unfoldable pub chip_cost : Layout → Weights → ℕ → List ℕ → ℕ
+chip_cost l w empty want = w.chip + w.page * count_below (length l.pages) (is_wanted l empty want)
+
+-- the chip is erased exactly where that can be and costs strictly less
+unfoldable pub takes_chip : Layout → Weights → Bool → ℕ → List ℕ → List ℕ → Bool
+takes_chip l w has_chip empty old want = has_chip && nat_lt (chip_cost l w empty want) (sectors_cost l w empty old want)
+
+-- a plan: whether the chip is erased, the set of sectors to erase, the set of pages to program, and what it costs; element `k`
+-- of a set says whether sector or page `k` is in it
+pub record Chosen : Type 0 where
+  pub chip : Bool
+  pub sectors : List Bool
+  pub pages : List Bool
+  pub cost : ℕ
+
+abbrev pub made_of : Bool → List Bool → List Bool → ℕ → Chosen
+made_of chip sectors pages cost = record { chip = chip; sectors = sectors; pages = pages; cost = cost }
+
+-- no plan yet
+abbrev pub nothing : Chosen
+nothing = made_of false [] [] 0
+
+-- the set of the numbers below `n` that pass the test
+abbrev pub tests : ℕ → (ℕ → Bool) → List Bool
+tests n test = map test (range_with_len 0 n)
+
+unfoldable pub by_sectors : Layout → Weights → ℕ → List ℕ → List ℕ → Chosen
+by_sectors l w empty old want = record {
+  chip = false;
+  sectors = tests (length l.sectors) (must_erase l empty old want);
+  pages = tests (length l.pages) (must_program l empty old want);
+  cost = sectors_cost l w empty old want;
+}
+
+unfoldable pub by_chip : Layout → Weights → ℕ → List ℕ → List ℕ → Chosen
+by_chip l w empty old want = record {
+  chip = true;
+  sectors = tests (length l.sectors) (λ s. false);
+  pages = tests (length l.pages) (is_wanted l empty want);
+  cost = chip_cost l w empty want;
+}
+
+unfoldable pub chosen : Layout → Weights → Bool → ℕ → List ℕ → List ℕ → Chosen
+chosen l w has_chip empty old want =
+    if takes_chip l w has_chip empty old want then by_chip l w empty old want else by_sectors l w empty old want
+
+-- ---- what is said of it
+
+-- a plan as a list: erasures, then page writes, in rising order
+unfoldable pub actions_of : Layout → List ℕ → Chosen → List Action
+actions_of l want plan =
+    (if plan.chip then EraseChip ∷ [] else erasures 0 plan.sectors) ++ writes l want 0 plan.pages
+
+-- no plan from the one contents to the other costs less than this number
+abbrev pub IsLeast : Layout → Weights → ℕ → Bool → List ℕ → List ℕ → ℕ → Type 0
+IsLeast l w empty has_chip cells want least =
+    (actions : List Action) → IsPlan l empty has_chip cells actions want → least ≤ cost w actions
+
+-- the plan asks for nothing
+abbrev pub IsEmptyPlan : Chosen → Type 0
+IsEmptyPlan plan = (plan.chip ≡ false) × ((s : ℕ) → get_or plan.sectors s false ≡ false) × ((p : ℕ) → get_or plan.pages p false ≡ false)
+
+-- the plan is the chosen one, with its cost; as a list it leads from the old contents to the wanted ones and costs that much;
+-- and no plan costs less
+pub record IsLeastPlan (l : Layout) (w : Weights) (has_chip : Bool) (empty : ℕ) (old want : List ℕ) (plan : Chosen) : Type 0 where
+  pub chosen : plan ≡ chosen l w has_chip empty old want
+  pub leads : IsPlan l empty has_chip old (actions_of l want plan) want
+  pub priced : cost w (actions_of l want plan) ≡ plan.cost
+  pub least : IsLeast l w empty has_chip old want plan.cost

@@ -1,0 +1,126 @@
+//! The lines of a file of plans, one command each:
+//!
+//! - `device SIZE PAGE ITEM..`, with each item as SIZE@OFFSET: a blank device
+//! - `weights SECTOR PAGE CHIP`; `entry yes` or `entry no`: whether the algorithm can erase the chip
+//! - `old AT LEN VALUE`: so many bytes of old and wanted contents from a place on, where the value `count` is the place modulo 256
+//! - `want AT LEN VALUE`: the same of the wanted contents alone
+//! - `plan NAME`: prints the plan
+//! - `lists VALUES`: tries every list of up to four actions between contents of so many values
+
+use crate::device::{Item, geometry_of};
+use crate::lists::try_lists;
+use crate::trial::{EMPTY, Trial, show_plan};
+use anyhow::{Result, bail};
+use board_file::Weights;
+use std::alloc::Global;
+
+/// Does what each line says.
+pub fn run_lines(rt: &HostRuntime, flm: &[u8], text: &[u8]) -> Result<()> {
+    let Ok(text) = str::from_utf8(text) else {
+        bail!("the file of plans is no text");
+    };
+    let weights = Weights {
+        sector: 100,
+        page: 10,
+        chip: 2000,
+    };
+    let mut trial = device(rt.alloc(), flm, weights, "1 1 1@0")?;
+    for line in text.lines() {
+        run_line(rt, flm, line, &mut trial)?;
+    }
+    Ok(())
+}
+
+/// Does what a line says.
+fn run_line(rt: &HostRuntime, flm: &[u8], line: &str, trial: &mut Trial) -> Result<()> {
+    let Some((command, rest)) = line.split_once(' ') else {
+        bail!("no command: {line}");
+    };
+    match command {
+        "device" => {
+            let has_chip = trial.has_chip;
+            *trial = device(rt.alloc(), flm, trial.weights, rest)?;
+            trial.has_chip = has_chip;
+        }
+        "weights" => trial.weights = weights(rest)?,
+        "entry" => trial.has_chip = rest == "yes",
+        "old" => {
+            fill(&mut trial.old, rest)?;
+            fill(&mut trial.want, rest)?;
+        }
+        "want" => fill(&mut trial.want, rest)?,
+        "plan" => show_plan(rt, rest, trial)?,
+        "lists" => try_lists(rt, trial, number(Some(rest))? as usize)?,
+        _ => bail!("no command: {line}"),
+    }
+    Ok(())
+}
+
+/// A blank device: its size, its page and its items.
+fn device(alloc: Global, flm: &[u8], weights: Weights, text: &str) -> Result<Trial> {
+    let mut words = text.split_whitespace();
+    let size = number(words.next())?;
+    let page = number(words.next())?;
+    let mut items = Vec::new(alloc);
+    for word in words {
+        let Some((size, offset)) = word.split_once('@') else {
+            bail!("no item: {word}");
+        };
+        items.push(Item {
+            size: number(Some(size))?,
+            offset: number(Some(offset))?,
+        })?;
+    }
+    Ok(Trial {
+        geometry: geometry_of(alloc, flm, size, page, &items)?,
+        weights,
+        has_chip: false,
+        old: blank(alloc, size)?,
+        want: blank(alloc, size)?,
+    })
+}
+
+/// Contents of empty bytes.
+fn blank(alloc: Global, size: u32) -> Result<Vec<u8>> {
+    let mut cells = Vec::new(alloc);
+    for _place in 0..size {
+        cells.push(EMPTY)?;
+    }
+    Ok(cells)
+}
+
+/// The weights of a sector, a page and the chip.
+fn weights(text: &str) -> Result<Weights> {
+    let mut words = text.split_whitespace();
+    Ok(Weights {
+        sector: number(words.next())?,
+        page: number(words.next())?,
+        chip: number(words.next())?,
+    })
+}
+
+/// Sets some bytes of contents: from a place on, so many, to a value.
+fn fill(cells: &mut [u8], text: &str) -> Result<()> {
+    let mut words = text.split_whitespace();
+    let at = number(words.next())? as usize;
+    let len = number(words.next())? as usize;
+    let value = match words.next() {
+        Some("count") => None,
+        word => Some((number(word)? % 256) as u8),
+    };
+    for (place, cell) in cells.iter_mut().enumerate().skip(at).take(len) {
+        *cell = value.unwrap_or((place % 256) as u8);
+    }
+    Ok(())
+}
+
+/// A decimal number.
+fn number(word: Option<&str>) -> Result<u32> {
+    let Some(word) = word else {
+        bail!("a number is wanted");
+    };
+    match word.parse::<u32>() {
+        Ok(number) => Ok(number),
+        Err(_) => bail!("no number: {word}"),
+    }
+}

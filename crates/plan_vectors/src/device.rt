@@ -1,0 +1,54 @@
+//! The geometry of a device of any shape, by way of an FLM file.
+
+use anyhow::Result;
+use flm_descriptor::read_flm;
+use page_geometry::Geometry;
+use std::alloc::Global;
+
+/// Where szDev stands in the file.
+const SIZE_AT: usize = 212;
+
+/// Where szPage stands in the file.
+const PAGE_AT: usize = 216;
+
+/// Where the first sector item stands in the file; there is room for 512.
+const ITEMS_AT: usize = 236;
+
+/// A sector item: sectors of `size` bytes from `offset` on.
+#[derive(Clone, Copy)]
+pub struct Item {
+    pub size: u32,
+    pub offset: u32,
+}
+
+/// Writes a number of four bytes, little-endian, as far as the file goes.
+fn put(file: &mut [u8], at: usize, number: u32) {
+    for (index, byte) in number.to_le_bytes().into_iter().enumerate() {
+        if let Some(cell) = file.get_mut(at.saturating_add(index)) {
+            *cell = byte;
+        }
+    }
+}
+
+/// The geometry of a device of `size` bytes with pages of `page` bytes and these items.
+pub fn geometry_of(
+    alloc: Global,
+    flm: &[u8],
+    size: u32,
+    page: u32,
+    items: &[Item],
+) -> Result<Geometry> {
+    let mut file = flm.to_vec(alloc)?;
+    put(&mut file, SIZE_AT, size);
+    put(&mut file, PAGE_AT, page);
+    let mut at = ITEMS_AT;
+    for item in items {
+        put(&mut file, at, item.size);
+        put(&mut file, at.saturating_add(4), item.offset);
+        at = at.saturating_add(8);
+    }
+    put(&mut file, at, u32::MAX);
+    put(&mut file, at.saturating_add(4), u32::MAX);
+    let algorithm = read_flm(alloc, &file)?;
+    Ok(Geometry::of(alloc, &algorithm)?)
+}
