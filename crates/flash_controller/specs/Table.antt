@@ -1,0 +1,218 @@
+-- The table of the controller FC1: for a state and an access, what the access answers and the state after it; a tick; and
+-- the state after a reset. No access changes a cell: it opens an operation, which a tick settles.
+use Rattle.std.specs.Prelude.{ℕ, zero, suc, Bool, true, false, not, ◌&&◌, nat_eq, ◌==◌, nat_le, if◌then◌else◌, ◌+◌, ◌*◌, ◌/◌, ◌%◌, List, [], ◌∷◌, take, drop, replicate, Option, Some, None, is_some, Result, Ok, Err}
+use Rattle.std.specs.List.{list_all}
+use Rattle.bench_model.specs.declared.bench_fault.BusEnd.{BusEnd}
+use Rattle.bench_model.specs.declared.bench_fault.BusEnd.TheVariants as bus
+use Rattle.bench_model.specs.Calls.{written}
+use Rattle.flash_layout.specs.declared.area.Area.{Area}
+use Rattle.flash_layout.specs.declared.area.Found.{Found}
+use Rattle.flash_layout.specs.declared.area.SectorCells.{SectorCells}
+use Rattle.flash_layout.specs.Areas.{sector_of}
+use Rattle.flash_layout.specs.Maps.{Map}
+use Rattle.flash_controller.specs.declared.place.Place.{Place}
+use Rattle.flash_controller.specs.declared.place.Place.TheVariants as place
+use Rattle.flash_controller.specs.declared.state.Lock.{Lock}
+use Rattle.flash_controller.specs.declared.state.Lock.TheVariants as lock
+use Rattle.flash_controller.specs.declared.state.State.{State}
+use Rattle.flash_controller.specs.declared.work.Work.{Work}
+use Rattle.flash_controller.specs.declared.work.Work.TheVariants as work
+use Rattle.flash_controller.specs.declared.work.Operation.{Operation}
+use Rattle.flash_controller.specs.Places.{place_of}
+
+-- After a reset: locked, no flag, no operation.
+abbrev pub after_reset : State
+after_reset = record {
+  lock = lock.Locked;
+  done = false;
+  sequence = false;
+  range = false;
+  not_empty = false;
+  command = 0;
+  address = 0;
+  operation = None;
+}
+
+-- The registers.
+
+abbrev pub is_unlocked : Lock → Bool
+is_unlocked lock.Unlocked = true
+is_unlocked _ = false
+
+abbrev pub is_running : State → Bool
+is_running s = is_some s.operation
+
+abbrev pub is_ready : State → Bool
+is_ready s = is_unlocked s.lock && not (is_running s)
+
+abbrev pub flag_value : Bool → ℕ → ℕ
+flag_value set bit = if set then bit else 0
+
+-- STATUS: bit 0 an operation runs, 1 DONE, 2 SEQ, 3 RANGE, 4 NOTEMPTY, 5 not unlocked
+abbrev pub status : State → ℕ
+status s = flag_value (is_running s) 1 + flag_value s.done 2 + flag_value s.sequence 4 + flag_value s.range 8
+    + flag_value s.not_empty 16 + flag_value (not (is_unlocked s.lock)) 32
+
+-- the two keys unlock, one after the other; any other value bars
+abbrev pub next_lock : Lock → ℕ → Lock
+next_lock lock.Locked value = if nat_eq value 0x45670123 then lock.FirstKey else lock.Barred
+next_lock lock.FirstKey value = if nat_eq value 0xCDEF89AB then lock.Unlocked else lock.Barred
+next_lock _ value = lock.Barred
+
+abbrev pub key_stored : State → ℕ → State
+key_stored s value = record s { lock = next_lock s.lock value }
+
+-- a flag stays unless its bit is set in the stored value
+abbrev pub kept : Bool → ℕ → ℕ → Bool
+kept flag bit value = flag && nat_eq (value / bit % 2) 0
+
+abbrev pub status_stored : State → ℕ → State
+status_stored s value = record s {
+  done = kept s.done 2 value;
+  sequence = kept s.sequence 4 value;
+  range = kept s.range 8 value;
+  not_empty = kept s.not_empty 16 value;
+}
+
+abbrev pub with_sequence : State → State
+with_sequence s = record s { sequence = true }
+
+abbrev pub command_stored : State → ℕ → State
+command_stored s value = if is_ready s && nat_le value 3 then record s { command = value } else with_sequence s
+
+abbrev pub address_stored : State → ℕ → State
+address_stored s value = if is_ready s then record s { address = value } else with_sequence s
+
+-- The operations.
+
+-- how many cells an operation covers, and what it leaves there
+abbrev pub work_len : Work → ℕ
+work_len (work.Half value) = 2
+work_len (work.Word value) = 4
+work_len (work.Fill len value) = len
+
+abbrev pub work_bytes : Work → List ℕ
+work_bytes (work.Half value) = value % 0x100 ∷ value / 0x100 % 0x100 ∷ []
+work_bytes (work.Word value) = value % 0x100 ∷ value / 0x100 % 0x100 ∷ value / 0x10000 % 0x100 ∷ value / 0x1000000 % 0x100 ∷ []
+work_bytes (work.Fill len value) = replicate len value
+
+-- the range of cells of the operation that runs
+abbrev pub range_of : Option Operation → Option (ℕ × ℕ)
+range_of None = None
+range_of (Some o) = Some (o.place, work_len o.work)
+
+abbrev pub runs : State → Work → ℕ → ℕ → State
+runs s w at ticks = record s { operation = Some (record { work = w; place = at; ticks = ticks }) }
+
+-- the sector of ADDR, or RANGE where ADDR lies outside the flash
+abbrev pub erases_sector : Map → State → Option SectorCells → State
+erases_sector map s None = record s { range = true }
+erases_sector map s (Some sector) = runs s (work.Fill sector.len sector.empty) sector.place map.erase_ticks
+
+-- all cells of the first area
+abbrev pub erases_chip : Map → State → List Area → State
+erases_chip map s [] = with_sequence s
+erases_chip map s (a ∷ rest) = runs s (work.Fill a.size a.empty) 0 map.chip_ticks
+
+-- after a store to START: CMD 2 erases a sector, CMD 3 the chip
+unfoldable pub started : Map → State → ℕ → State
+started map s value =
+    if is_ready s && nat_eq value 1 && nat_eq s.command 2 then erases_sector map s (sector_of map.areas map.runs s.address)
+    else if is_ready s && nat_eq value 1 && nat_eq s.command 3 then erases_chip map s map.areas
+    else with_sequence s
+
+-- The flash.
+
+-- the number whose bytes these are, the lowest first
+abbrev pub value_of : List ℕ → ℕ
+value_of [] = 0
+value_of (b ∷ rest) = b + 0x100 * value_of rest
+
+abbrev pub cells_at : List ℕ → ℕ → ℕ → List ℕ
+cells_at cells at width = take width (drop at cells)
+
+abbrev pub all_are : ℕ → List ℕ → Bool
+all_are empty bytes = list_all (λ b. b == empty) bytes
+
+abbrev pub unit_work : ℕ → ℕ → Work
+unit_work width value = if nat_eq width 2 then work.Half value else work.Word value
+
+abbrev pub may_program : State → Area → ℕ → Bool
+may_program s a width = is_unlocked s.lock && nat_eq s.command 1 && nat_eq width a.unit
+
+-- After a store to the flash while no operation runs: CMD 1 programs an empty unit; a unit that isn't empty sets NOTEMPTY,
+-- and all else SEQ.
+unfoldable pub programmed : Map → State → List ℕ → Found → ℕ → ℕ → State
+programmed map s cells found width value =
+    if may_program s found.area width then
+    (if all_are found.area.empty (cells_at cells found.place width) then runs s (unit_work width value) found.place map.program_ticks
+    else record s { not_empty = true })
+    else with_sequence s
+
+-- The rows.
+
+-- what a load answers; it leaves the state as it was
+abbrev pub load_at : State → List ℕ → ℕ → Place → Result ℕ BusEnd
+load_at s cells width place.Key = Ok 0
+load_at s cells width place.Status = Ok (status s)
+load_at s cells width place.Command = Ok s.command
+load_at s cells width place.Address = Ok s.address
+load_at s cells width place.Start = Ok 0
+load_at s cells width (place.Flash found) = if is_running s then Err bus.Fault else Ok (value_of (cells_at cells found.place width))
+load_at s cells width place.Nowhere = Err bus.Fault
+
+-- what a store answers, and the state after it
+abbrev pub Stored : Type 0
+Stored = Result (Unit {0}) BusEnd × State
+
+abbrev pub store_at : Map → State → List ℕ → ℕ → ℕ → Place → Stored
+store_at map s cells width value place.Key = (Ok tt, key_stored s value)
+store_at map s cells width value place.Status = (Ok tt, status_stored s value)
+store_at map s cells width value place.Command = (Ok tt, command_stored s value)
+store_at map s cells width value place.Address = (Ok tt, address_stored s value)
+store_at map s cells width value place.Start = (Ok tt, started map s value)
+store_at map s cells width value (place.Flash found) =
+    if is_running s then (Err bus.Fault, s) else (Ok tt, programmed map s cells found width value)
+store_at map s cells width value place.Nowhere = (Err bus.Fault, s)
+
+unfoldable pub load_row : Map → State → List ℕ → ℕ → ℕ → Result ℕ BusEnd
+load_row map s cells at width = load_at s cells width (place_of map at width)
+
+unfoldable pub store_row : Map → State → List ℕ → ℕ → ℕ → ℕ → Stored
+store_row map s cells at width value = store_at map s cells width value (place_of map at width)
+
+-- a load or a store there looks at cells
+abbrev pub reads : State → Place → Bool
+reads s (place.Flash found) = not (is_running s)
+reads s _ = false
+
+-- a store there asks the device: for the cells of a unit that it may program, or to open an operation
+abbrev pub asks : Map → State → ℕ → ℕ → Place → Bool
+asks map s width value (place.Flash found) = not (is_running s) && may_program s found.area width
+asks map s width value place.Start = not (is_running s) && is_running (started map s value)
+asks map s width value _ = false
+
+-- The tick.
+
+-- this tick settles the operation
+abbrev pub settles : Option Operation → Bool
+settles None = false
+settles (Some o) = nat_le o.ticks 1
+
+-- the operation ends with its bytes in its cells
+abbrev pub settled : State → List ℕ → Operation → State × List ℕ
+settled s cells o = (record s { operation = None; done = true }, written o.place (work_bytes o.work) cells)
+
+-- with its last tick the operation settles, and else a tick less is left
+abbrev pub tick_at : State → List ℕ → Operation → ℕ → State × List ℕ
+tick_at s cells o zero = settled s cells o
+tick_at s cells o (suc zero) = settled s cells o
+tick_at s cells o (suc (suc left)) = (record s { operation = Some (record o { ticks = suc left }) }, cells)
+
+abbrev pub tick_on : State → List ℕ → Option Operation → State × List ℕ
+tick_on s cells None = (s, cells)
+tick_on s cells (Some o) = tick_at s cells o o.ticks
+
+-- the state and the cells after a tick
+unfoldable pub tick_row : State → List ℕ → State × List ℕ
+tick_row s cells = tick_on s cells s.operation

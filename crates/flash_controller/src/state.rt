@@ -1,0 +1,177 @@
+//! The registers, and the operation that runs.
+ghost use Rattle.std.specs.Prelude.{◌≡◌};
+ghost use Rattle.flash_controller.specs.Table.{is_ready, is_running, status, key_stored, status_stored, command_stored, address_stored, with_sequence, after_reset, flag_value, is_unlocked, may_program};
+
+use crate::work::Operation;
+use flash_layout::Area;
+
+/// How far the two keys have unlocked the controller.
+#[derive(Clone, Copy, Debug, PartialEq, Eq)]
+pub enum Lock {
+    /// No key was seen.
+    Locked,
+    /// The first key was seen.
+    FirstKey,
+    /// Both keys were seen, one after the other.
+    Unlocked,
+    /// A wrong key was seen: only a reset helps.
+    Barred,
+}
+
+/// What the controller holds.
+#[derive(Clone, Copy, Debug, PartialEq, Eq)]
+pub struct State {
+    /// How far it is unlocked.
+    pub lock: Lock,
+    /// DONE: an operation has ended.
+    pub done: bool,
+    /// SEQ: an access came at the wrong time.
+    pub sequence: bool,
+    /// RANGE: an erasure was asked for outside the flash.
+    pub range: bool,
+    /// NOTEMPTY: a unit was to be programmed that isn't erased.
+    pub not_empty: bool,
+    /// CMD.
+    pub command: u32,
+    /// ADDR.
+    pub address: u32,
+    /// The operation that runs.
+    pub operation: Option<Operation>,
+}
+
+/// CMD that programs units.
+const PROGRAM: u32 = 1;
+
+/// The last command.
+const LAST_COMMAND: u32 = 3;
+
+/// The keys, in their order.
+const KEYS: (u32, u32) = (0x4567_0123, 0xCDEF_89AB);
+
+/// The value of a flag's bit where the flag is set.
+fn flag_value(set: bool, bit: u32) -> u32
+    ensures { result ≡ flag_value set bit }
+{
+    if set { bit } else { 0 }
+}
+
+impl State {
+    /// As after a reset.
+    pub fn reset() -> State
+        ensures { result ≡ after_reset }
+    {
+        State {
+            lock: Lock::Locked,
+            done: false,
+            sequence: false,
+            range: false,
+            not_empty: false,
+            command: 0,
+            address: 0,
+            operation: None,
+        }
+    }
+
+    /// Whether both keys were seen.
+    pub fn is_unlocked(&self) -> bool
+        ensures { result ≡ is_unlocked self.now.lock }
+    {
+        matches!(self.lock, Lock::Unlocked)
+    }
+
+    /// Whether an operation runs.
+    pub fn is_running(&self) -> bool
+        ensures { result ≡ is_running self.now }
+    {
+        self.operation.is_some()
+    }
+
+    /// Whether it is unlocked and no operation runs.
+    pub fn is_ready(&self) -> bool
+        ensures { result ≡ is_ready self.now }
+    {
+        self.is_unlocked() && !self.is_running()
+    }
+
+    /// STATUS.
+    pub fn status(&self) -> u32
+        ensures { result ≡ status self.now }
+    {
+        flag_value(self.is_running(), 1)
+            + flag_value(self.done, 2)
+            + flag_value(self.sequence, 4)
+            + flag_value(self.range, 8)
+            + flag_value(self.not_empty, 16)
+            + flag_value(!self.is_unlocked(), 32)
+    }
+
+    /// Whether a store of so many bytes programs a unit of the area, where no operation runs.
+    pub fn may_program(&self, area: &Area, width: u32) -> bool
+        ensures { result ≡ may_program self.now area.now width }
+    {
+        self.is_unlocked() && self.command == PROGRAM && width == area.unit
+    }
+
+    /// After a store to KEY.
+    pub fn key_stored(self, value: u32) -> State
+        ensures { result ≡ key_stored self value }
+    {
+        let lock = match self.lock {
+            Lock::Locked if value == KEYS.0 => Lock::FirstKey,
+            Lock::FirstKey if value == KEYS.1 => Lock::Unlocked,
+            _ => Lock::Barred,
+        };
+        State { lock, ..self }
+    }
+
+    /// After a store to STATUS: the flags whose bits are set in the value are cleared.
+    pub fn status_stored(self, value: u32) -> State
+        ensures { result ≡ status_stored self value }
+    {
+        State {
+            done: self.done && (value / 2) % 2 == 0,
+            sequence: self.sequence && (value / 4) % 2 == 0,
+            range: self.range && (value / 8) % 2 == 0,
+            not_empty: self.not_empty && (value / 16) % 2 == 0,
+            ..self
+        }
+    }
+
+    /// With SEQ set.
+    pub fn with_sequence(self) -> State
+        ensures { result ≡ with_sequence self }
+    {
+        State {
+            sequence: true,
+            ..self
+        }
+    }
+
+    /// After a store to CMD.
+    pub fn command_stored(self, value: u32) -> State
+        ensures { result ≡ command_stored self value }
+    {
+        if self.is_ready() && value <= LAST_COMMAND {
+            State {
+                command: value,
+                ..self
+            }
+        } else {
+            self.with_sequence()
+        }
+    }
+
+    /// After a store to ADDR.
+    pub fn address_stored(self, value: u32) -> State
+        ensures { result ≡ address_stored self value }
+    {
+        if self.is_ready() {
+            State {
+                address: value,
+                ..self
+            }
+        } else {
+            self.with_sequence()
+        }
+    }
+}

@@ -1,0 +1,5 @@
+use Rattle.flash_layout.proofs.FindLemmas.{Counted}
+use Rattle.flash_layout.proofs.layout.Layout.cells.Given as goal
+
+abbrev pub invariant-loop-area : goal.invariant-loop-area
+invariant-loop-area l = Counted l.area-items l.area-index l.cells

@@ -1,0 +1,59 @@
+//! An area of flash, and what a look-up finds in one.
+ghost use Rattle.std.specs.Prelude.{◌≡◌};
+ghost use Rattle.flash_layout.specs.Areas.{holds, area_of};
+
+use board_file::Region;
+
+/// A region of flash without its sectors: `size` bytes from the address `base` on.
+#[derive(Clone, Copy, Debug, PartialEq, Eq)]
+pub struct Area {
+    /// The address of the first byte.
+    pub base: u32,
+    /// How many bytes it has.
+    pub size: u32,
+    /// What an erased byte holds.
+    pub empty: u8,
+    /// The bytes that one store programs, 2 or 4.
+    pub unit: u32,
+}
+
+/// The area that holds an address, and the cell of that address.
+#[derive(Clone, Copy, Debug, PartialEq, Eq)]
+pub struct Found {
+    /// The area.
+    pub area: Area,
+    /// The cell's place: its number from 0, through all areas.
+    pub place: u32,
+}
+
+/// The cells of a sector.
+#[derive(Clone, Copy, Debug, PartialEq, Eq)]
+pub struct SectorCells {
+    /// The place of the first cell.
+    pub place: u32,
+    /// How many cells there are.
+    pub len: u32,
+    /// What an erased cell holds.
+    pub empty: u8,
+}
+
+impl Area {
+    /// The area of a region.
+    pub fn of(region: &Region) -> Area
+        ensures { result ≡ area_of region.now }
+    {
+        Area {
+            base: region.base,
+            size: region.size,
+            empty: region.empty,
+            unit: region.unit,
+        }
+    }
+
+    /// Whether the address lies in it.
+    pub fn holds(&self, at: u32) -> bool
+        ensures { result ≡ holds self.now at }
+    {
+        at >= self.base && at - self.base < self.size
+    }
+}

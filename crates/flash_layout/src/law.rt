@@ -1,0 +1,13 @@
+//! The law on addresses in the flash.
+ghost use Rattle.std.specs.Prelude.{◌≡◌, Some};
+ghost use Rattle.flash_layout.specs.declared.area.Found.{Found};
+ghost use Rattle.flash_layout.specs.Areas.{find, HasSectorCells};
+
+use crate::Layout;
+
+/// An address in the flash has a sector of the board, which holds its cell and lies in the cells.
+pub fn address_has_sector(layout: &Layout, at: u32)
+    ensures { (found : Found) → find layout.now.areas.items 0 at ≡ Some found → HasSectorCells layout.now.areas.items layout.now.runs.items at found }
+{
+    let _layout = layout.find(at);
+}

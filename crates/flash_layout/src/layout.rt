@@ -1,0 +1,98 @@
+//! Where the cells of a board lie.
+ghost use Rattle.std.specs.Prelude.{◌≡◌, ◌<◌, ◌^◌, IfSome, IsTrue, length};
+ghost use Rattle.std.specs.List.{list_all};
+ghost use Rattle.board_file.specs.Limits.{run_fits};
+ghost use Rattle.flash_layout.specs.Areas.{all_fit, cells_in, find, sector_of, sector_cells, AreInside, FoundInside, IsFirst};
+ghost use Rattle.board_file.specs.Limits.{cells_of};
+ghost use Rattle.board_file.specs.Laws.{sector_at};
+
+use crate::{Area, Found, SectorCells};
+use board_file::SectorRun;
+
+/// The areas of a board in order, the sectors of all of them in order, the controller's registers and its ticks.
+#[derive(Debug, Drop)]
+pub struct Layout {
+    /// The areas, at least one.
+    pub areas: Vec<Area>,
+    /// The sectors of all areas.
+    pub runs: Vec<SectorRun>,
+    /// The address of the controller's registers.
+    pub base: u32,
+    /// Ticks that programming a unit takes.
+    pub program_ticks: u32,
+    /// Ticks that erasing a sector takes.
+    pub erase_ticks: u32,
+    /// Ticks that erasing an area takes.
+    pub chip_ticks: u32,
+
+    pub ghost some_area: { 0 < length areas.items },
+    pub ghost areas_fit: { IsTrue (all_fit areas.items) },
+    pub ghost runs_fit: { IsTrue (list_all run_fits runs.items) },
+    pub ghost whole: { cells_of runs.items ≡ cells_in areas.items },
+    pub ghost few: { cells_in areas.items < 2 ^ 32 },
+}
+
+impl Layout {
+    /// The first area.
+    pub fn first(&self) -> Area
+        ensures { IsFirst self.now.areas.items result }
+    {
+        self.areas[0]
+    }
+
+    /// How many cells the areas have together.
+    pub fn cells(&self) -> u32
+        ensures { result ≡ cells_in self.now.areas.items }
+    {
+        let mut cells = 0;
+        for area in &self.areas {
+            cells += area.size;
+        }
+        cells
+    }
+
+    /// The area that holds an address, and the cell there; none for an address outside the flash.
+    pub fn find(&self, at: u32) -> Option<Found>
+        ensures value { result ≡ find self.now.areas.items 0 at }
+        ensures inside { IfSome result (λ found. FoundInside self.now.areas.items at found) }
+    {
+        let mut from = 0;
+        for area in &self.areas {
+            if area.holds(at) {
+                let place = from + (at - area.base);
+                return Some(Found { area: *area, place });
+            }
+            from += area.size;
+        }
+        None
+    }
+
+    /// The cells of the sector that holds a cell; `empty` is what they hold once it is erased.
+    fn sector_in(&self, place: u32, empty: u8) -> Option<SectorCells>
+        ensures { result ≡ sector_cells empty (sector_at self.now.runs.items place) }
+    {
+        let mut from = 0;
+        for run in &self.runs {
+            let len = run.count * run.size;
+            if place < from + len {
+                let before = (place - from) / run.size * run.size;
+                return Some(SectorCells {
+                    place: from + before,
+                    len: run.size,
+                    empty,
+                });
+            }
+            from += len;
+        }
+        None
+    }
+
+    /// The cells of the sector that holds an address; none for an address outside the flash.
+    pub fn sector_of(&self, at: u32) -> Option<SectorCells>
+        ensures value { result ≡ sector_of self.now.areas.items self.now.runs.items at }
+        ensures inside { IfSome result (λ sector. AreInside (cells_in self.now.areas.items) sector) }
+    {
+        let found = self.find(at)?;
+        self.sector_in(found.place, found.area.empty)
+    }
+}

@@ -1,0 +1,15 @@
+//! Where the flash of a board lies for the controller that changes it: the areas in order, whose cells are numbered through,
+//! the sectors of all of them, and the controller's registers.
+//!
+//! It is what every kind of flash controller shares: which cell an address names, which sector holds it, and in which way a
+//! load, a store, a tick or a reset may touch the bench.
+#![tactic(auto)]
+
+mod area;
+mod law;
+mod layout;
+mod of_board;
+
+pub use area::{Area, Found, SectorCells};
+pub use law::address_has_sector;
+pub use layout::Layout;
