@@ -1,0 +1,109 @@
+-- Runs and slices as wholes: one start has one end, and a run that is cut into slices ends as the run that it is.
+use Rattle.std.proofs.Common.{◌≡◌, ◌≤◌, ◌+◌, ◌-◌, ◌*◌, ◌/◌, ◌%◌, ℕ, false, List, refl, sym, ap, subst, arith, ◌∙◌}
+use Rattle.bench_model.specs.History.{Leaves}
+use Rattle.bench_model.specs.State.{BenchState, cells_half}
+use Rattle.bench_model.proofs.Moments.{leaves_as, leaves_then}
+use Rattle.target_core.specs.declared.run.RunEnd.{RunEnd}
+use Rattle.target_core.specs.declared.run.RunEnd.TheVariants as run
+use Rattle.target_core.specs.declared.run.SliceEnd.TheVariants as slice
+use Rattle.target_core.specs.declared.target.Target.{Target}
+use Rattle.target_core.specs.Units.{state_op}
+use Rattle.target_core.specs.Path.{Point, whole, point, is_device_end, GoesTo, IsLeftOnPath, LeftAt}
+use Rattle.target_core.specs.Runs.{steps_made, run_end_of, run_last, run_path, last_point, StandsOn, RunEndsAs, RunGives, HasOneEnd, GoesOnAs}
+use Rattle.target_core.specs.Targets.{point_in, SliceGives}
+use Rattle.target_core.proofs.PathLemmas.{point_even, longer}
+use Rattle.target_core.proofs.RunLemmas.{steps_made_is, steps_made_within, run_end_is, run_last_is, run_last_from}
+use Rattle.target_core.proofs.FineLemmas.{run_is_fine}
+use Rattle.target_core.proofs.SliceLemmas.{run_goes, run_has_end, whole_add, run_end_add, run_last_add}
+
+pub has_one_end : (return_at fuel : ℕ) (p : Point) → HasOneEnd return_at fuel p
+has_one_end return_at fuel p = record {
+  within = steps_made_within return_at fuel p;
+  goes = run_goes return_at fuel p;
+  ends = run_has_end return_at fuel p;
+  fine = run_is_fine return_at fuel p;
+  last = run_last_is return_at fuel p (steps_made return_at fuel p) (run_end_of return_at fuel p) (steps_made_within return_at fuel p) (run_goes return_at fuel p) (run_has_end return_at fuel p);
+  alone = λ made e within goes ends. (sym (steps_made_is return_at fuel p made e within goes ends), sym (run_end_is return_at fuel p made e within goes ends));
+}
+
+-- the points of a run, numbered from one of its whole steps on
+point_add : (p : Point) (m n : ℕ) → point p (2 * m + n) ≡ point (whole p m) n
+unfolding point
+point_add p m n =
+    let same : (2 * m + n) % 2 ≡ n % 2 = omega arith in
+    let half : (2 * m + n) / 2 ≡ m + n / 2 = omega arith in
+    rw (same, half, whole_add p m (n / 2)) refl
+
+pub goes_on_as : (return_at fuel : ℕ) (p : Point) (m : ℕ) → m ≤ fuel → GoesTo return_at fuel p m → GoesOnAs return_at fuel p m
+goes_on_as return_at fuel p m le goes = record {
+  end = run_end_add return_at fuel p m le goes;
+  last = run_last_add return_at fuel p m le goes;
+  points = point_add p m;
+}
+
+-- what a whole run gives where no device fault came
+ended_as : (return_at fuel : ℕ) (first : Point) (e : RunEnd) (last : Point) (end : BenchState) → RunEndsAs return_at fuel first e last end → is_device_end e ≡ false → (e ≡ run_end_of return_at fuel first) × (last ≡ last_point (run_path return_at fuel first))
+ended_as return_at fuel first (run.Returned r0) last end ends fine = ends
+ended_as return_at fuel first (run.NoFuel pc) last end ends fine = ends
+ended_as return_at fuel first (run.StrayBreak pc) last end ends fine = ends
+ended_as return_at fuel first (run.Faulted kind pc) last end ends fine = ends
+ended_as return_at fuel first run.DeviceFault last end ends fine = cc
+
+pub one_end : (return_at fuel : ℕ) (first : Point) (start s : BenchState) (e f : RunEnd) (last other : Point) (end t : BenchState)
+    → RunGives return_at fuel first start e last end → RunGives return_at fuel first s f other t → is_device_end e ≡ false → is_device_end f ≡ false → (e ≡ f) × (last ≡ other)
+one_end return_at fuel first start s e f last other end t one two fine good =
+    let a : (e ≡ run_end_of return_at fuel first) × (last ≡ last_point (run_path return_at fuel first)) = ended_as return_at fuel first e last end one.ends fine in
+    let b : (f ≡ run_end_of return_at fuel first) × (other ≡ last_point (run_path return_at fuel first)) = ended_as return_at fuel first f other t two.ends good in
+    (a.0 ∙ sym b.0, a.1 ∙ sym b.1)
+
+-- The rest of a run, from one of its whole steps on, in terms of the whole run.
+module _ (return_at fuel : ℕ) (first : Point) (made : ℕ) (le : made ≤ fuel) (goes : GoesTo return_at fuel first made) (here : Point) (is : here ≡ whole first made) (rest : ℕ) (left : rest ≡ fuel - made) where
+  far : run_last return_at fuel first ≡ 2 * made + run_last return_at rest here
+  far = rw (is, left) (run_last_add return_at fuel first made le goes)
+
+  there : (n : ℕ) → point here n ≡ point first (2 * made + n)
+  there n = ap (λ (p : Point). point p n) is ∙ sym (point_add first made n)
+
+  left_there : (c : List ℕ) → IsLeftOnPath here (run_last return_at rest here) c → IsLeftOnPath first (run_last return_at fuel first) c
+  left_there c at = record {
+    number = 2 * made + at.number;
+    within = omega (arith, far, at.within);
+    left = subst (λ (p : Point). LeftAt p c) (there at.number) at.left;
+  }
+
+  stands_there : (end : BenchState) → StandsOn (run_path return_at rest here) end → StandsOn (run_path return_at fuel first) end
+  stands_there end stands = record {
+    number = 2 * made + stands.number;
+    within = omega (arith, far, stands.within);
+    cells = stands.cells ∙ ap (λ (p : Point). p.world.cells) (there stands.number);
+    operation = stands.operation ∙ ap (λ (p : Point). state_op p.world.state) (there stands.number);
+  }
+
+  same_end : run_end_of return_at rest here ≡ run_end_of return_at fuel first
+  same_end = rw (is, left) (sym (run_end_add return_at fuel first made le goes))
+
+  same_last : last_point (run_path return_at rest here) ≡ last_point (run_path return_at fuel first)
+  same_last = there (run_last return_at rest here) ∙ ap (point first) (sym far)
+
+  ends_there : (e : RunEnd) (last : Point) (end : BenchState) → RunEndsAs return_at rest here e last end → RunEndsAs return_at fuel first e last end
+  ends_there (run.Returned r0) last end ends = (ends.0 ∙ same_end, ends.1 ∙ same_last)
+  ends_there (run.NoFuel pc) last end ends = (ends.0 ∙ same_end, ends.1 ∙ same_last)
+  ends_there (run.StrayBreak pc) last end ends = (ends.0 ∙ same_end, ends.1 ∙ same_last)
+  ends_there (run.Faulted kind pc) last end ends = (ends.0 ∙ same_end, ends.1 ∙ same_last)
+  ends_there run.DeviceFault last end ends = stands_there end ends
+
+  pub rest_gives : (start mid end : BenchState) (e : RunEnd) (last : Point) → Leaves (cells_half start) (cells_half mid) (IsLeftOnPath first (2 * made)) → RunGives return_at rest here mid e last end → RunGives return_at fuel first start e last end
+  rest_gives start mid end e last before gives = record {
+    moments = leaves_then (IsLeftOnPath first (run_last return_at fuel first))
+        (leaves_as (IsLeftOnPath first (2 * made)) (IsLeftOnPath first (run_last return_at fuel first)) (longer first (2 * made) (run_last return_at fuel first) (run_last_from return_at fuel first made le goes)) before)
+        (leaves_as (IsLeftOnPath here (run_last return_at rest here)) (IsLeftOnPath first (run_last return_at fuel first)) left_there gives.moments);
+    ends = ends_there e last end gives.ends;
+  }
+
+-- a slice that ended with more to do, and a run with the fuel that was left
+pub slice_then_run : (from mid to : Target) (start m end : BenchState) (fuel left steps : ℕ) (e : RunEnd) → left ≤ fuel → SliceGives from start fuel left steps slice.More mid m
+    → RunGives from.return_at left (point_in mid m.cells) m e (point_in to end.cells) end → RunGives from.return_at fuel (point_in from start.cells) start e (point_in to end.cells) end
+slice_then_run from mid to start m end fuel left steps e le is gives =
+    let made : ℕ = fuel - left in
+    let here : point_in mid m.cells ≡ whole (point_in from start.cells) made = is.ends.1.leaves ∙ point_even (point_in from start.cells) made in
+    rest_gives from.return_at fuel (point_in from start.cells) made is.runs.within is.runs.goes (point_in mid m.cells) here left (omega (arith, le)) start m end e (point_in to end.cells) is.runs.moments gives

@@ -1,0 +1,34 @@
+//! The laws on runs: each has one end, and slices of it, however cut, end as it does.
+ghost use Rattle.std.specs.Prelude.{◌≡◌, ◌≤◌, ◌+◌, ◌*◌, ℕ, false};
+ghost use Rattle.target_core.specs.declared.run.RunEnd.{RunEnd};
+ghost use Rattle.target_core.specs.declared.run.SliceEnd.TheVariants.{More, Ended};
+ghost use Rattle.target_core.specs.declared.target.Target.{Target};
+ghost use Rattle.target_core.specs.Path.{Point, GoesTo, is_device_end};
+ghost use Rattle.target_core.specs.Runs.{HasOneEnd, GoesOnAs, RunGives, run_last};
+ghost use Rattle.target_core.specs.Targets.{point_in, SliceGives};
+
+use bench_model::Bench;
+
+/// A run has one end, after at most as many steps as there is fuel for. Its end and its last point are computed from its first
+/// point, its return point and its fuel: two runs that have these in common end alike, unless a device failed.
+pub fn runs_have_one_end<B: Bench>()
+    ensures one { (return_at fuel : ℕ) (first : Point) → HasOneEnd return_at fuel first }
+    ensures within { (return_at fuel : ℕ) (first : Point) → run_last return_at fuel first ≤ 2 * fuel + 1 }
+    ensures alike { (return_at fuel : ℕ) (first : Point) (start s end t : B) (e f : RunEnd) (last other : Point)
+        → RunGives return_at fuel first (B.state start) e last (B.state end) → RunGives return_at fuel first (B.state s) f other (B.state t)
+        → is_device_end e ≡ false → is_device_end f ≡ false → (e ≡ f) × (last ≡ other) }
+{}
+
+/// A run goes on from each of its whole steps as itself. So do slices of it: the slice that ends is the run with the fuel that was
+/// left to it, and a slice before a run is one run. By these two, slices end as the run, at its last point, and a stop of the power
+/// within them leaves what one at a point of its path leaves.
+pub fn slices_are_one_run<B: Bench>()
+    ensures on { (return_at fuel : ℕ) (first : Point) (made : ℕ) → made ≤ fuel → GoesTo return_at fuel first made → GoesOnAs return_at fuel first made }
+    ensures last { (from to : Target) (start end : B) (fuel left steps : ℕ) (e : RunEnd)
+        → SliceGives from (B.state start) fuel left steps (Ended e) to (B.state end)
+        → RunGives from.return_at fuel (point_in from (B.state start).cells) (B.state start) e (point_in to (B.state end).cells) (B.state end) }
+    ensures first { (from between to : Target) (start turn end : B) (fuel left steps : ℕ) (e : RunEnd) → left ≤ fuel
+        → SliceGives from (B.state start) fuel left steps More between (B.state turn)
+        → RunGives from.return_at left (point_in between (B.state turn).cells) (B.state turn) e (point_in to (B.state end).cells) (B.state end)
+        → RunGives from.return_at fuel (point_in from (B.state start).cells) (B.state start) e (point_in to (B.state end).cells) (B.state end) }
+{}
