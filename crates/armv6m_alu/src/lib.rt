@@ -7,9 +7,6 @@ ghost use Rattle.armv6m_alu.specs.Bits.{sign_extended};
 ghost use Rattle.armv6m_alu.specs.Sums.{sum_with_carry, is_sign_lost};
 ghost use Rattle.armv6m_alu.specs.Shifts.{shifted_left, shifted_right, shifted_right_signed, rotated_right};
 
-#[cfg(test)]
-mod tests;
-
 /// A sum's value, with the carry and the overflow that it leaves.
 #[derive(Clone, Copy, PartialEq, Eq, Debug)]
 pub struct Sum {

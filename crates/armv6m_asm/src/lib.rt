@@ -25,6 +25,3 @@ pub use fault::AsmFault;
 pub use labels::{Label, Labels};
 pub use law::one_statement_for_each_line;
 pub use statement::{Operation, Statement, Target};
-
-#[cfg(test)]
-mod tests;

@@ -12,8 +12,6 @@ mod miscellaneous;
 mod pairs;
 pub mod registers;
 pub mod targets;
-#[cfg(test)]
-mod tests;
 
 pub use condition::Condition;
 pub use decode::{decode16, one_pair_row, one_row};

@@ -8,7 +8,5 @@ mod many;
 mod memory;
 mod other;
 mod pairs;
-#[cfg(test)]
-mod tests;
 
 pub use code::{Encoding, encode, has_encoding};

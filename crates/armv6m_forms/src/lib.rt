@@ -20,6 +20,3 @@ pub use mnemonic::Mnemonic;
 pub use reading::{instruction, one_instruction, reach};
 pub use text::disassemble;
 pub use word::{read_branch, read_mnemonic, read_register, read_special};
-
-#[cfg(test)]
-mod tests;

@@ -16,8 +16,6 @@ mod memory;
 mod memory_bus;
 mod other;
 pub mod ram;
-#[cfg(test)]
-mod tests;
 
 pub use bus::Bus;
 pub use core_state::Core;

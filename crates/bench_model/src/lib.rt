@@ -17,6 +17,3 @@ pub use memory::MemoryBench;
 pub use pick::Pick;
 pub use stop::StopBench;
 pub use synced::{cut_synced, write_synced};
-
-#[cfg(test)]
-mod tests;

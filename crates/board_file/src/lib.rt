@@ -16,8 +16,6 @@ mod region;
 mod rows;
 mod sectors;
 mod sum;
-#[cfg(test)]
-mod tests;
 mod written;
 
 pub use board::{Board, Weights};

@@ -10,8 +10,6 @@ mod overlay;
 mod run_buffer;
 mod run_list;
 mod search;
-#[cfg(test)]
-mod tests;
 mod tree;
 
 pub use fault::LayFault;

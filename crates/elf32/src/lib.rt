@@ -18,6 +18,3 @@ pub use elf::Elf;
 pub use entries::{Section, Segment, Symbol};
 pub use fault::{ElfFault, Field};
 pub use law::first_is_least;
-
-#[cfg(test)]
-mod tests;

@@ -19,6 +19,3 @@ pub use geometry::Run;
 pub use items::{Items, SectorItem};
 pub use law::{pages_stand_by_division, pieces_stand_in_order};
 pub use read::read_flm;
-
-#[cfg(test)]
-mod tests;

@@ -7,8 +7,6 @@ mod format;
 mod law;
 mod reader;
 mod record;
-#[cfg(test)]
-mod tests;
 
 pub use fault::{HexFault, HexKind};
 pub use law::hex_has_one_reading;

@@ -7,8 +7,6 @@ mod law;
 mod ranges;
 mod read;
 mod segments;
-#[cfg(test)]
-mod tests;
 mod union;
 
 pub use fault::ImageFault;

@@ -6,8 +6,6 @@ mod format;
 mod law;
 mod reader;
 mod record;
-#[cfg(test)]
-mod tests;
 
 pub use fault::{SrecFault, SrecKind};
 pub use law::srec_has_one_reading;

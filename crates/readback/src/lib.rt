@@ -3,8 +3,6 @@
 
 mod cells;
 mod compare;
-#[cfg(test)]
-mod tests;
 
 pub use cells::read_cells;
 pub use compare::{Difference, first_difference};

@@ -8,8 +8,6 @@ mod law;
 mod laying;
 mod payload;
 mod reader;
-#[cfg(test)]
-mod tests;
 
 pub use digits::{all_digits, byte_sum, decode};
 pub use fault::{ClashFault, LineFault, TextFault};

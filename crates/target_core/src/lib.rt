@@ -10,10 +10,6 @@ mod line;
 mod run;
 mod step;
 mod target;
-#[cfg(test)]
-mod tests;
-#[cfg(test)]
-mod trial;
 mod unit;
 
 pub use law::{runs_have_one_end, slices_are_one_run};

@@ -1,0 +1,96 @@
+//! What the disassembler writes of an instruction is assembled to its code again.
+
+use armv6m_asm::{Line, assemble, disassemble};
+use armv6m_decode::registers::{APSR, MSP, PC, PRIMASK, SP};
+use armv6m_decode::{Alu, Branch, Decoded, Instr, Many, Other, decode16, decode32};
+use armv6m_encode::{Encoding, encode, has_encoding};
+use std::alloc::Global;
+use std::process::Abort;
+use std::test::Fail;
+
+/// Another instruction is made of the instruction's text, or none: `CMP` of two low registers in its second encoding, an
+/// empty list, and an operand of `UDF` and `SVC`, which isn't written. The manual leaves open what they do.
+fn is_open(instr: &Instr) -> bool {
+    match *instr {
+        Instr::Alu(Alu::CmpHigh { n, m }) => n < 8 && m < 8,
+        Instr::Many(Many::Push { lr, list }) => !lr && list == 0,
+        Instr::Many(Many::Pop { pc, list }) => !pc && list == 0,
+        Instr::Many(Many::Stm { n: _, list } | Many::Ldm { n: _, list }) => list == 0,
+        Instr::Other(Other::Udf { immediate } | Other::Svc { immediate }) => immediate != 0,
+        _ => false,
+    }
+}
+
+/// The text of an instruction at address 0 assembles to these bytes.
+fn assert_back(rt: &impl Abort, alloc: Global, instr: &Instr, due: &[u8]) -> Result<(), Fail> {
+    let mut line = Line::new();
+    disassemble(instr, 0, &mut line);
+    let code = assemble(alloc, line.bytes())?;
+    assert_eq!(rt; code.bytes.bytes(), due);
+    Ok(())
+}
+
+#[test]
+fn each_halfword_comes_back(rt: HostRuntime) -> Result<(), Fail> {
+    let mut open = 0u32;
+    for half in 0..=u16::MAX {
+        if let Decoded::Op(instr) = decode16(half) {
+            if is_open(&instr) {
+                open = open.wrapping_add(1);
+            } else {
+                assert_back(&rt, rt.alloc(), &instr, &half.to_le_bytes())?;
+            }
+        }
+    }
+    assert_eq!(rt; open, 592);
+    Ok(())
+}
+
+/// The text of a pair's instruction assembles to the pair.
+fn assert_pair_back(rt: &impl Abort, alloc: Global, instr: &Instr) -> Result<(), Fail> {
+    assert!(rt; has_encoding(instr));
+    if let Encoding::Pair { first, second } = encode(instr) {
+        let [a, b] = first.to_le_bytes();
+        let [c, d] = second.to_le_bytes();
+        assert_eq!(rt; decode32(first, second), Some(*instr));
+        assert_back(rt, alloc, instr, &[a, b, c, d])?;
+    }
+    Ok(())
+}
+
+/// The ends of BL's range, and every 2,053th distance between.
+#[test]
+fn long_branches_come_back(rt: HostRuntime) -> Result<(), Fail> {
+    for immediate in [0, 1, 0x7F_FFFF, 0x80_0000, 0xFF_FFFE, 0xFF_FFFF] {
+        assert_pair_back(&rt, rt.alloc(), &Instr::Branch(Branch::Bl { immediate }))?;
+    }
+    for k in 0..8172u32 {
+        let immediate = k * 2053;
+        assert_pair_back(&rt, rt.alloc(), &Instr::Branch(Branch::Bl { immediate }))?;
+    }
+    Ok(())
+}
+
+#[test]
+fn special_registers_come_back(rt: HostRuntime) -> Result<(), Fail> {
+    for register in 0..16u8 {
+        if register != SP && register != PC {
+            for special in [APSR, MSP, PRIMASK] {
+                let read = Instr::Other(Other::Mrs {
+                    d: register,
+                    special,
+                });
+                assert_pair_back(&rt, rt.alloc(), &read)?;
+                let write = Instr::Other(Other::Msr {
+                    n: register,
+                    special,
+                });
+                assert_pair_back(&rt, rt.alloc(), &write)?;
+            }
+        }
+    }
+    for barrier in [Other::Dsb, Other::Dmb, Other::Isb] {
+        assert_pair_back(&rt, rt.alloc(), &Instr::Other(barrier))?;
+    }
+    Ok(())
+}

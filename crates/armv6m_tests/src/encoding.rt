@@ -1,0 +1,79 @@
+//! The encoder turns the decoder round.
+
+use armv6m_decode::registers::{APSR, MSP, PRIMASK};
+use armv6m_decode::{Branch, Decoded, Instr, Other, decode16, decode32};
+use armv6m_encode::{Encoding, encode, has_encoding};
+
+#[test]
+fn each_halfword_comes_back(rt: HostRuntime) {
+    for half in 0..=u16::MAX {
+        match decode16(half) {
+            Decoded::Op(instr) => {
+                assert!(rt; has_encoding(&instr), "{half:04X}");
+                assert_eq!(rt; encode(&instr), Encoding::Half { half });
+            }
+            Decoded::NeedsSecond | Decoded::Undefined => {}
+        }
+    }
+}
+
+#[test]
+fn each_long_branch_comes_back(rt: HostRuntime) {
+    for immediate in 0..0x100_0000 {
+        let instr = Instr::Branch(Branch::Bl { immediate });
+        assert!(rt; has_encoding(&instr), "{immediate}");
+        match encode(&instr) {
+            Encoding::Pair { first, second } => {
+                assert_eq!(rt; decode16(first), Decoded::NeedsSecond);
+                assert_eq!(rt; decode32(first, second), Some(instr));
+            }
+            Encoding::Half { half } => assert_eq!(rt; half, 0, "{immediate}"),
+        }
+    }
+}
+
+/// By GNU as 2.40, arm-none-eabi-as -mcpu=cortex-m0: mrs r11, primask; msr msp, r12; dsb; dmb; isb.
+#[test]
+fn pairs_of_binutils(rt: HostRuntime) {
+    for (instr, first, second) in [
+        (
+            Other::Mrs {
+                d: 11,
+                special: PRIMASK,
+            },
+            0xF3EF,
+            0x8B10,
+        ),
+        (
+            Other::Msr {
+                n: 12,
+                special: MSP,
+            },
+            0xF38C,
+            0x8808,
+        ),
+        (Other::Dsb, 0xF3BF, 0x8F4F),
+        (Other::Dmb, 0xF3BF, 0x8F5F),
+        (Other::Isb, 0xF3BF, 0x8F6F),
+    ] {
+        let instr = Instr::Other(instr);
+        assert!(rt; has_encoding(&instr));
+        assert_eq!(rt; encode(&instr), Encoding::Pair { first, second });
+    }
+}
+
+#[test]
+fn fields_that_do_not_fit(rt: HostRuntime) {
+    for instr in [
+        Instr::Other(Other::Mrs {
+            d: 16,
+            special: APSR,
+        }),
+        Instr::Branch(Branch::B { immediate: 0x800 }),
+        Instr::Branch(Branch::Bl {
+            immediate: 0x100_0000,
+        }),
+    ] {
+        assert!(rt; !has_encoding(&instr));
+    }
+}

@@ -1,0 +1,72 @@
+//! Texts by hand, by the rules of the format.
+
+use image_hex::{HexFault, HexKind, read_hex};
+use std::test::Fail;
+
+/// Addresses behind a segment wrap within its 64 KiB.
+#[test]
+fn a_segment_wraps(rt: HostRuntime) -> Result<(), Fail> {
+    let map = read_hex(
+        rt.alloc(),
+        b":020000021000EC\n:04FFFE0001020304F5\n:00000001FF\n",
+    )?;
+    assert_eq!(rt; map.runs(), 2);
+    for (at, byte) in [(0x1FFFE, 1), (0x1FFFF, 2), (0x10000, 3), (0x10001, 4)] {
+        assert!(rt; map.get(at) == Some(byte), "at {at:X}");
+    }
+    Ok(())
+}
+
+/// Bases replace one another, addresses go on modulo 2^32, lines may be blank or end in blanks and CR LF, digits have either
+/// case, equal bytes may be said twice, start addresses are ignored, and what follows the end record is left unread.
+#[test]
+fn bases_blanks_and_what_is_ignored(rt: HostRuntime) -> Result<(), Fail> {
+    let text =
+        b"\r\n:0100000055AA \t\r\n:020000040800F2\r\n:0100000055aa\n\n:04000003000000c039\n:04000005080000C12E\n:020000021000EC\n:01FFFF00669B\n:02000004FFFFFC\n:02FFFF00775534\n:00000001FF\nhello";
+    let map = read_hex(rt.alloc(), text)?;
+    assert_eq!(rt; map.runs(), 4);
+    for (at, byte) in [
+        (0, 0x55),
+        (0x0800_0000, 0x55),
+        (0x1FFFF, 0x66),
+        (0xFFFF_FFFF, 0x77),
+    ] {
+        assert!(rt; map.get(at) == Some(byte), "at {at:X}");
+    }
+    Ok(())
+}
+
+/// Each refusal, at its line.
+#[test]
+fn each_fault_at_its_line(rt: HostRuntime) {
+    let cases: [(&[u8], u32, HexKind); 7] = [
+        (b"\n hello", 2, HexKind::NotRecord),
+        (b":0G", 1, HexKind::BadDigit),
+        (b":0100000055", 1, HexKind::BadLength),
+        (
+            b":0100000055AB",
+            1,
+            HexKind::BadSum {
+                said: 0xAB,
+                due: 0xAA,
+            },
+        ),
+        (b":00000006FA", 1, HexKind::BadType { value: 6 }),
+        (
+            b":0100000055AA\n:010000006699\n",
+            2,
+            HexKind::Conflict {
+                at: 0,
+                old: 0x55,
+                new: 0x66,
+            },
+        ),
+        (b":0100000055AA\n\n", 2, HexKind::NoEnd),
+    ];
+    for (text, line, kind) in cases {
+        assert!(rt;
+            read_hex(rt.alloc(), text).err() == Some(HexFault { line, kind }),
+            "line {line}"
+        );
+    }
+}

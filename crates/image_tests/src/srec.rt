@@ -1,0 +1,62 @@
+//! Texts by hand, by the rules of the format.
+
+use image_srec::{SrecFault, SrecKind, read_srec};
+use std::test::Fail;
+
+/// Each width of address, digits of either case, blank lines, counts, a header, and what follows the end record.
+#[test]
+fn three_widths_of_addresses(rt: HostRuntime) -> Result<(), Fail> {
+    let text =
+        b"S0030000FC\r\nS107000001020304EE\n\nS5030001FB \t\nS20501000055a4\nS306FFFFFFFF6697\r\nS604000003F8\nS107000001020304EE\nS9030000FC\nhello";
+    let map = read_srec(rt.alloc(), text)?;
+    assert_eq!(rt; map.runs(), 3);
+    for (at, byte) in [(0, 1), (3, 4), (0x01_0000, 0x55), (0xFFFF_FFFF, 0x66)] {
+        assert!(rt; map.get(at) == Some(byte), "at {at:X}");
+    }
+    Ok(())
+}
+
+/// Each refusal, at its line.
+#[test]
+fn each_fault_at_its_line(rt: HostRuntime) {
+    let cases: [(&[u8], u32, SrecKind); 9] = [
+        (b"\nS", 2, SrecKind::NotRecord),
+        (b"S10G", 1, SrecKind::BadDigit),
+        (b"S4030000FC", 1, SrecKind::BadType { value: 4 }),
+        (b"S1030000FC0", 1, SrecKind::BadLength),
+        (
+            b"S1030000FB",
+            1,
+            SrecKind::BadSum {
+                said: 0xFB,
+                due: 0xFC,
+            },
+        ),
+        (
+            b"S308FFFFFFFE010203F6",
+            1,
+            SrecKind::PastEnd { at: 0xFFFF_FFFE },
+        ),
+        (
+            b"S107000001020304EE\nS5030002FA\nS9030000FC",
+            2,
+            SrecKind::CountDiffers { said: 2, seen: 1 },
+        ),
+        (
+            b"S107000001020304EE\nS1040001FFFB",
+            2,
+            SrecKind::Conflict {
+                at: 1,
+                old: 2,
+                new: 0xFF,
+            },
+        ),
+        (b"S107000001020304EE\n\n", 2, SrecKind::NoEnd),
+    ];
+    for (text, line, kind) in cases {
+        assert!(rt;
+            read_srec(rt.alloc(), text).err() == Some(SrecFault { line, kind }),
+            "line {line}"
+        );
+    }
+}

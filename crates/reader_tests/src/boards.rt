@@ -1,0 +1,61 @@
+//! A small board, and a case for each refusal. The values at each key's ends and outside them, and the forms that people
+//! write, are in the data of the crate `file_vectors`.
+
+use board_file::{BoardFault, Key, Part, read_board};
+use std::alloc::{AllocError, Global};
+use std::test::Fail;
+
+/// A small board with this region, and with this line last.
+fn board(alloc: Global, region: &str, last: &str) -> Result<String, AllocError> {
+    let mut text = String::new(alloc);
+    text.push_str("ram = { base = 0, size = 256 }\nregion = [")?;
+    text.push_str(region)?;
+    text.push_str("]\ncontroller.base = 512\n")?;
+    text.push_str(last)?;
+    Ok(text)
+}
+
+/// The refusal of such a board.
+fn fault_of(alloc: Global, region: &str, last: &str) -> Result<Option<BoardFault>, AllocError> {
+    Ok(read_board(alloc, board(alloc, region, last)?.as_bytes()).err())
+}
+
+#[test]
+fn reads_a_small_board(rt: HostRuntime) -> Result<(), Fail> {
+    let text = board(rt.alloc(), "{ base = 256, sectors = [[2, 64]] }", "")?;
+    let board = read_board(rt.alloc(), text.as_bytes())?;
+    assert_eq!(rt; board.ram_size, 256);
+    let regions = board.regions.as_slice();
+    assert!(rt; regions.len() == 1);
+    assert_eq!(rt; regions[0].size, 128);
+    Ok(())
+}
+
+#[test]
+fn names_the_key_that_is_wrong(rt: HostRuntime) -> Result<(), Fail> {
+    let fault = fault_of(rt.alloc(), "{ base = 256 }", "clock.hz = 0")?;
+    let key = Key::RegionSectors;
+    assert_eq!(rt; fault, Some(BoardFault::Missing { key }));
+    let region = "{ base = 256, sectors = [[2, 64]] }";
+    let fault = fault_of(rt.alloc(), region, "clock.hz = 0")?;
+    let key = Key::ClockHz;
+    assert_eq!(rt; fault, Some(BoardFault::BadValue { key }));
+    Ok(())
+}
+
+#[test]
+fn names_the_limit_that_is_broken(rt: HostRuntime) -> Result<(), Fail> {
+    let fault = fault_of(rt.alloc(), "{ base = 256, sectors = [[65_537, 4]] }", "")?;
+    let key = Key::RegionSectors;
+    assert_eq!(rt; fault, Some(BoardFault::TooBig { key }));
+    let fault = fault_of(rt.alloc(), "{ base = 0, sectors = [[1, 4]] }", "")?;
+    let (a, b) = (Part::Ram, Part::Region);
+    assert_eq!(rt; fault, Some(BoardFault::Overlap { a, b }));
+    Ok(())
+}
+
+#[test]
+fn refuses_what_is_no_toml(rt: HostRuntime) {
+    let fault = read_board(rt.alloc(), b"ram").err();
+    assert_eq!(rt; fault, Some(BoardFault::NotToml));
+}

@@ -1,0 +1,7 @@
+//! Tests of the emulated target.
+#![tactic(auto)]
+
+#[cfg(test)]
+mod runs;
+#[cfg(test)]
+mod trial;
