@@ -1,7 +1,6 @@
 //! Each adapter over real files, in the system's folder for temporary files.
 
 mod bench;
-mod firmware;
 mod inputs;
 mod job;
 
@@ -19,13 +18,20 @@ fn temporary(rt: &HostRuntime, name: &str) -> Result<Word, Fail> {
     Ok(Word::copy(rt.alloc(), path.as_str())?)
 }
 
-/// Bytes that differ from their neighbours, and from those a window further on.
-fn pattern<const N: usize>() -> [u8; N] {
-    let mut bytes = [0; N];
-    for (place, byte) in bytes.iter_mut().enumerate() {
-        *byte = (place % 251) as u8;
+/// So many bytes that differ from their neighbours, and from those a window further on.
+fn pattern(rt: &HostRuntime, count: u32) -> Result<Vec<u8>, Fail> {
+    let mut bytes = Vec::new(rt.alloc());
+    for place in 0..count {
+        bytes.push((place % 251) as u8)?;
     }
-    bytes
+    Ok(bytes)
+}
+
+/// So many bytes of this value.
+fn filled(rt: &HostRuntime, count: usize, value: u8) -> Result<Vec<u8>, Fail> {
+    let mut bytes = Vec::new(rt.alloc());
+    bytes.resize(count, value)?;
+    Ok(bytes)
 }
 
 #[test]

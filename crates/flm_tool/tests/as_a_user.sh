@@ -4,6 +4,7 @@
 # It works in a folder of its own, and ends with status 0 where all is as wanted.
 set -u
 program=$(realpath "${1:-out/flm_tool}") || exit 1
+fixtures=$(realpath "$(dirname "$0")/firmware") || exit 1
 folder=$(mktemp -d) || exit 1
 trap 'rm -rf "$folder"' EXIT
 cd "$folder" || exit 1
@@ -71,6 +72,22 @@ run 4 '' 'flmprog: image: 2 bytes for 0 cells' job missing compare same
 run 13 '' 'flmprog: differs at 00000002 wanted 33 found FF' job cells compare other
 run 13 '' 'flmprog: differs at 08000001 wanted 03 found 02' job cells verify board.toml wrong.hex
 run 14 '' 'flmprog: not built' job cells status
+
+# One firmware in each form, against a device that holds it, one that differs in its last byte, and a blank one. GCC 12.2 for Arm
+# compiled it for a Cortex-M0 with -Os -nostdlib -Wl,-n, linked at 0x08000000; arm-none-eabi-objcopy --strip-all made the ELF file,
+# and -O ihex, -O srec and -O binary the others of it.
+blank() { head -c "$1" /dev/zero | tr '\0' '\377'; }
+(cat "$fixtures/firmware.bin"; blank 28) > holds
+(head -c 35 "$fixtures/firmware.bin"; printf I; blank 28) > differs
+blank 64 > blank
+for image in "$fixtures/firmware.elf" "$fixtures/firmware.hex" "$fixtures/firmware.s19" "--raw-at=0x08000000 $fixtures/firmware.bin"; do
+    words="$fixtures/board.toml $image"
+    [ "${image#--}" = "$image" ] || words="${image%% *} $fixtures/board.toml ${image#* }"
+    run 0 same '' job holds verify $words
+    run 13 '' 'flmprog: differs at 08000023 wanted 48 found 49' job differs verify $words
+    run 13 '' 'flmprog: differs at 08000000 wanted 00 found FF' job blank verify $words
+done
+run 4 '' "flmprog: image $fixtures/firmware.bin: NoForm" job holds verify "$fixtures/board.toml" "$fixtures/firmware.bin"
 
 # Words that aren't UTF-8: the command keeps its own answer.
 run 2 '' "$usage" job cells compare $'\377'
