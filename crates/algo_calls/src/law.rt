@@ -1,0 +1,48 @@
+//! The laws on calls and resets.
+ghost use Rattle.std.specs.Prelude.{◌≡◌, ◌≤◌, ◌+◌, ◌*◌, ℕ, false, List, Option, None};
+ghost use Rattle.bench_model.specs.Calls.{SameOutside};
+ghost use Rattle.bench_model.specs.History.{Leaves};
+ghost use Rattle.bench_model.specs.State.{cells_half};
+ghost use Rattle.target_core.specs.Runs.{IsLeftOn, Piece, StandsOn};
+ghost use Rattle.target_core.specs.Units.{state_op};
+ghost use Rattle.target_core.specs.World.{World};
+ghost use Rattle.algo_calls.specs.declared.call.CallEnd.{CallEnd};
+ghost use Rattle.algo_calls.specs.Calls.{after_reset, broken_off, CallGives};
+ghost use Rattle.algo_calls.specs.Ends.{is_device_call, IsFromCode};
+ghost use Rattle.algo_calls.specs.Frames.{after, end_of, fuel_of, most_fuel, path_of, Request};
+ghost use Rattle.algo_calls.specs.Laws.{InTurn};
+ghost use Rattle.algo_calls.specs.Setups.{Setup};
+
+use bench_model::Bench;
+
+/// A call has one end, and its path is no longer than its fuel lets it be. The end is computed, and so is what the target holds then: two
+/// calls from one target with one request end alike, unless a device failed. It comes from the code or the fuel, and never names a return
+/// or a fault of the device as the way in which a run ended otherwise.
+pub fn calls_have_one_end<B: Bench>()
+    ensures from_code { (s : Setup) (w : World) (r : Request) → IsFromCode (end_of s w r) }
+    ensures within { (s : Setup) (w : World) (r : Request) → (path_of s w r).last ≤ 2 * fuel_of s r.call + 1 }
+    ensures limit { (s : Setup) (r : Request) → fuel_of s r.call ≤ most_fuel }
+    ensures alike { (s : Setup) (w w' other : World) (r : Request) (start t end u : B) (e f : CallEnd)
+        → CallGives s w r (B.state start) e w' (B.state end) → CallGives s w r (B.state t) f other (B.state u)
+        → is_device_call e ≡ false → is_device_call f ≡ false → (e ≡ f) × (w' ≡ other) }
+{}
+
+/// Two calls in turn are one piece of work: the first leaves the target from which the second is computed, and a stop of the power at any
+/// moment of both leaves what one at a point of either path leaves.
+pub fn calls_in_turn_compose<B: Bench>()
+    ensures { (s : Setup) (w between w' : World) (p q : Request) (start turn end : B) (e f : CallEnd) → is_device_call e ≡ false
+        → CallGives s w p (B.state start) e between (B.state turn) → CallGives s between q (B.state turn) f w' (B.state end)
+        → InTurn s w p q (B.state start) f w' (B.state end) }
+{}
+
+/// What a reset leaves in the range of an operation that it breaks off is any bytes, and the cells outside it stay: the contents that
+/// `broken_off` makes are exactly those. No operation runs after a reset. A stop of the power at any moment of a reset leaves what one at
+/// the point of a path leaves at which the bench stood before it.
+pub fn resets_break_off<B: Bench>()
+    ensures stays { (operation : Option (ℕ × ℕ)) (torn cells : List ℕ) → SameOutside operation cells (broken_off operation torn cells) }
+    ensures all { (operation : Option (ℕ × ℕ)) (cells left : List ℕ) → SameOutside operation cells left → left ≡ broken_off operation left cells }
+    ensures idle { (s : Setup) (w : World) (operation : Option (ℕ × ℕ)) (torn : List ℕ) → state_op (after_reset s w operation torn).state ≡ None }
+    ensures moments { (path : Piece) (start end : B) → StandsOn path (B.state start)
+        → Leaves (cells_half (B.state start)) (cells_half (B.state end)) (SameOutside (B.state start).operation (B.state start).cells)
+        → Leaves (cells_half (B.state start)) (cells_half (B.state end)) (IsLeftOn path) }
+{}
