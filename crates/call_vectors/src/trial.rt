@@ -1,0 +1,77 @@
+//! The calls of an algorithm, over a bench in memory.
+ghost use Rattle.std.specs.Prelude.{true};
+ghost use Rattle.bench_model.specs.Shown.{bench_of};
+ghost use Rattle.algo_calls.specs.Shows.{Agrees};
+
+use algo_calls::{Call, CallEnd, Calls};
+use algo_loader::place;
+use anyhow::{Result, bail};
+use bench_model::{DeviceFault, MemoryBench};
+use board_file::Board;
+use flm_descriptor::Algorithm;
+use std::alloc::Global;
+use std::result;
+use target_core::Target;
+
+/// A target with an algorithm, and the bench, whose open operation is the controller's.
+#[derive(Drop)]
+pub struct Trial {
+    calls: Calls,
+    bench: MemoryBench,
+
+    ghost agrees: { Agrees true calls (bench_of bench) },
+}
+
+impl Trial {
+    /// An algorithm on a board with these cells. The cell call of this number fails, and an operation that is broken off leaves 5A.
+    pub fn new(
+        alloc: Global,
+        board: &Board,
+        algorithm: Algorithm,
+        cells: &[u8],
+        fail: u64,
+    ) -> Result<Trial> {
+        let target = Target::new(alloc, board)?;
+        if target.unit.cells() as usize != cells.len() {
+            bail!("another number of cells");
+        }
+        let layout = place(&algorithm, board)?;
+        let bench = MemoryBench::new(alloc, cells, &[], 0, 0x10000, &[], &[fail], &[0x5A])?;
+        let calls = Calls::new(target, layout, algorithm, board);
+        Ok(Trial { calls, bench })
+    }
+
+    /// Puts the algorithm into the RAM.
+    pub fn load(&mut self) {
+        self.calls.load();
+    }
+
+    /// Resets the target.
+    pub fn reset(&mut self) -> result::Result<(), DeviceFault> {
+        self.calls.reset(&mut self.bench)
+    }
+
+    /// Calls a function of the algorithm.
+    pub fn call(&mut self, call: Call, bytes: &[u8]) -> Result<CallEnd> {
+        let algorithm = self.calls.algorithm();
+        let entries = algorithm.entries;
+        if bytes.len() > algorithm.device.page as usize {
+            bail!("more bytes than a page has");
+        }
+        let bench = &mut self.bench;
+        Ok(match call {
+            Call::Init { kind } => self.calls.init(bench, kind),
+            Call::UnInit { kind } => self.calls.uninit(bench, kind),
+            Call::EraseSector { at } => self.calls.erase_sector(bench, at),
+            Call::EraseChip if entries.erase_chip.is_some() => self.calls.erase_chip(bench),
+            Call::ProgramPage { at } => self.calls.program_page(bench, at, bytes),
+            Call::Verify { at } if entries.verify.is_some() => self.calls.verify(bench, at, bytes),
+            _ => bail!("the algorithm has no such function"),
+        })
+    }
+
+    /// What the device holds.
+    pub fn cells(&self) -> &[u8] {
+        self.bench.cells()
+    }
+}
