@@ -1,6 +1,6 @@
 //! The laws on calls and resets.
-ghost use Rattle.std.specs.Prelude.{◌≡◌, ◌≤◌, ◌+◌, ◌*◌, ℕ, false, List, Option, None};
-ghost use Rattle.bench_model.specs.Calls.{SameOutside};
+ghost use Rattle.std.specs.Prelude.{◌≡◌, ◌≤◌, ◌+◌, ◌-◌, ◌*◌, ℕ, false, length, List, Option, None};
+ghost use Rattle.bench_model.specs.Calls.{SameOutside, written};
 ghost use Rattle.bench_model.specs.History.{Leaves};
 ghost use Rattle.bench_model.specs.State.{cells_half};
 ghost use Rattle.target_core.specs.Runs.{IsLeftOn, Piece, StandsOn};
@@ -8,17 +8,19 @@ ghost use Rattle.target_core.specs.Units.{state_op};
 ghost use Rattle.target_core.specs.World.{World};
 ghost use Rattle.algo_calls.specs.declared.call.CallEnd.{CallEnd};
 ghost use Rattle.algo_calls.specs.Calls.{after_reset, broken_off, CallGives};
-ghost use Rattle.algo_calls.specs.Ends.{is_device_call, IsFromCode};
-ghost use Rattle.algo_calls.specs.Frames.{after, end_of, fuel_of, most_fuel, path_of, Request};
-ghost use Rattle.algo_calls.specs.Laws.{InTurn};
+ghost use Rattle.algo_calls.specs.Ends.{is_device_call, success_of, IsFromCode};
+ghost use Rattle.algo_calls.specs.Frames.{after, end_of, fuel_of, most_fuel, path_of, run_end_in, Request};
+ghost use Rattle.algo_calls.specs.Laws.{EndsExactly, InTurn};
 ghost use Rattle.algo_calls.specs.Setups.{Setup};
 
 use bench_model::Bench;
 
-/// A call has one end, and its path is no longer than its fuel lets it be. The end is computed, and so is what the target holds then: two
-/// calls from one target with one request end alike, unless a device failed. It comes from the code or the fuel, and never names a return
-/// or a fault of the device as the way in which a run ended otherwise.
+/// A call has one end, and its path is no longer than its fuel lets it be. It begins with the controller and the cells as they are. Its
+/// end is told by that of its run, and never names a return or a fault of the device as the way in which a run ended otherwise. Two calls
+/// from one target with one request end alike, unless a device failed.
 pub fn calls_have_one_end<B: Bench>()
+    ensures begins { (s : Setup) (w : World) (r : Request) → (path_of s w r).first.world ≡ record w { ram = written (s.layout.buffer_at - s.layout.return_at) r.bytes w.ram } }
+    ensures ends { (s : Setup) (w : World) (r : Request) → EndsExactly (success_of r.call (length r.bytes)) (run_end_in s w r) (end_of s w r) }
     ensures from_code { (s : Setup) (w : World) (r : Request) → IsFromCode (end_of s w r) }
     ensures within { (s : Setup) (w : World) (r : Request) → (path_of s w r).last ≤ 2 * fuel_of s r.call + 1 }
     ensures limit { (s : Setup) (r : Request) → fuel_of s r.call ≤ most_fuel }
