@@ -1,12 +1,20 @@
--- What a side of a tree of runs is seen as, what putting in and taking out make of it, and how a run stands beside it.
-use Rattle.std.specs.Prelude.{◌+◌, ◌≤◌, ◌<◌, ◌^◌, ℕ, suc, List, [], ◌++◌, length, Option, Some, None, take, drop}
+-- What a side of a tree of runs is seen as, and what putting in and taking out make of it.
+use Rattle.std.specs.Prelude.{◌≤◌, ◌<◌, ℕ, suc, List, [], ◌++◌, length, Option, Some, None, take, drop}
 use Rattle.std.specs.Global.{Box}
-use Rattle.byte_map.specs.Image.{Run, run_at, end_of}
+use Rattle.byte_map.specs.Image.{Run, run_at}
 
--- the runs in order
-abbrev pub runs_of : Option (Box (List Run)) → List Run
+-- the runs of a tree in order, and how many nodes it has
+pub record Tree : Type 0 where
+  pub runs : List Run
+  pub nodes : ℕ
+
+abbrev pub runs_of : Option (Box Tree) → List Run
 runs_of None = []
-runs_of (Some node) = node.value
+runs_of (Some node) = node.value.runs
+
+abbrev pub nodes_in : Option (Box Tree) → ℕ
+nodes_in None = 0
+nodes_in (Some node) = node.value.nodes
 
 -- runs put in at a place
 abbrev pub put_in : List Run → ℕ → List Run → List Run
@@ -21,12 +29,3 @@ pub record IsCut (measure : Run → ℕ) (runs : List Run) (limit count : ℕ) :
   pub within : count ≤ length runs
   pub below : (k : ℕ) → k < count → measure (run_at runs k) < limit
   pub others : (k : ℕ) → count ≤ k → k < length runs → limit ≤ measure (run_at runs k)
-
--- at most one run stands beside a tree, at a place: the runs before it end at `floor` or below it, and the others begin
--- at `ceiling` or above it
-pub record IsBeside (runs lone : List Run) (place floor ceiling : ℕ) : Type 0 where
-  pub within : place ≤ length runs
-  pub one : length lone ≤ 1
-  pub few : length runs + length lone < 2 ^ 64
-  pub below : (k : ℕ) → k < place → end_of (run_at runs k) ≤ floor
-  pub above : (k : ℕ) → place ≤ k → k < length runs → ceiling ≤ (run_at runs k).at

@@ -1,6 +1,7 @@
 //! Images as finite maps from address to byte, kept as sorted runs that are each as long as possible, in a balanced tree.
 #![tactic(auto)]
 
+mod chunk;
 mod conflict;
 mod fault;
 mod joining;

@@ -47,7 +47,7 @@ impl ByteMap {
 
     /// Adds the bytes from the address `at` on. A byte that the map has already is accepted. A record costs
     /// time logarithmic in the number of runs, in whatever order records come, and amortised constant time a
-    /// byte. What touches only the run laid last, or lies beside it, is found without a search.
+    /// byte. What lies at the last few runs or behind them is found without a walk down the tree.
     pub fn lay(&mut self, at: u32, bytes: &[u8]) -> Result<(), LayFault>
         ensures ok { OnOk result (Lays (record { at = at; bytes = bytes.now }) self.old self.new) }
         ensures refused { IfErr result (IsLayFault (record { at = at; bytes = bytes.now }) self.old) }
@@ -56,15 +56,8 @@ impl ByteMap {
         if u64::from(at) + bytes.len() as u64 > ADDRESSES {
             return Err(LayFault::PastEnd { at });
         }
-        if let Some((first, last)) = self.runs.touched_near(at, bytes) {
-            return self.add(first, last, at, bytes);
-        }
         let (first, last) = find_touched(&self.runs, at, bytes);
-        self.add(first, last, at, bytes)?;
-        if first < last && first < self.runs.len() {
-            self.runs.single_out(first);
-        }
-        Ok(())
+        self.add(first, last, at, bytes)
     }
 
     /// Adds a piece, `bytes` from `at` on, that touches the runs from `first` on and before `last`.

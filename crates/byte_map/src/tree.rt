@@ -1,55 +1,87 @@
-//! A balanced tree of runs in order: each is read, put in and taken out in logarithmic time.
-ghost use Rattle.std.specs.Prelude.{◌≡◌, ◌+◌, ◌-◌, ◌<◌, ◌≤◌, ◌^◌, ℕ, [], ◌∷◌, ◌++◌, length, IfOk, OnOk, OnErr};
+//! A balanced tree of runs in order: each is read, put in and taken out in logarithmic time. A node has several runs, so
+//! that few nodes lie on the way to one.
+ghost use Rattle.std.specs.Prelude.{◌≡◌, ◌+◌, ◌-◌, ◌<◌, ◌≤◌, ◌^◌, [], ◌∷◌, ◌++◌, length, IfOk, OnOk, OnErr};
 ghost use Rattle.std.proofs.Math.ListN.{set};
 ghost use Rattle.byte_map.specs.Image.{run_at, end_of, AreMaximal};
 ghost use Rattle.byte_map.specs.Tree.{runs_of, put_in, taken_out, IsCut};
 
+use crate::chunk::{beginning_in, ending_in};
 use crate::run_buffer::RunBuffer;
-use std::alloc::{AllocError, Global};
+use std::alloc::AllocError;
 use std::marker::Model;
+use std::mem;
 
-/// What is before a run, or behind it.
+/// How many runs a node is to have less than. Where no memory is left to split it, it has more.
+pub const LIMIT: usize = 32;
+
+/// What is before the runs of a node, or behind them.
 pub type Side = Option<Box<Node>>;
 
-/// A run, those before it, those behind it, and how many there are. Neither side has more than three
-/// times as many as the other, where the two have more than one.
+/// Runs, those before them, those behind them, and how many runs and nodes there are. Neither side has more than three
+/// times as many nodes as the other, where the two have more than one.
 #[derive(Drop)]
 pub struct Node {
     left: Side,
-    run: RunBuffer,
+    chunk: Vec<RunBuffer>,
     count: usize,
+    nodes: usize,
     right: Side,
 }
 
 impl Model for Node {
-    ghost use Rattle.std.specs.Prelude.{◌≡◌, ◌+◌, List, ◌∷◌, ◌++◌, length};
-    ghost use Rattle.byte_map.specs.Image.{Run};
-    ghost use Rattle.byte_map.specs.Tree.{runs_of};
+    ghost use Rattle.std.specs.Prelude.{◌≡◌, ◌+◌, ◌++◌, length};
+    ghost use Rattle.byte_map.specs.Tree.{Tree, runs_of, nodes_in};
 
-    ghost Value = { List Run };
+    ghost Value = { Tree };
 
-    ghost view = { λ n. runs_of n.left ++ n.run ∷ runs_of n.right };
+    ghost view = { λ n. record { runs = runs_of n.left ++ (n.chunk.items ++ runs_of n.right); nodes = nodes_in n.left + (nodes_in n.right + 1) } };
 
-    ghost invariant = { λ n. n.count ≡ length (runs_of n.left) + (length (runs_of n.right) + 1) };
+    ghost invariant = { λ n. n.count ≡ length (runs_of n.left) + (length n.chunk.items + length (runs_of n.right)) };
 
-    ghost size = { length };
+    ghost size = { λ t. t.nodes };
 
-    ghost use Rattle.std.proofs.Common.{arith, length-append};
+    ghost use Rattle.std.proofs.Common.{arith};
 
-    ghost size_decreases = { λ n h. Prim.grind (arith, length-append) };
+    ghost size_decreases = { λ n h. Prim.grind (arith) };
 }
 
-/// A run by itself.
-pub fn leaf(alloc: Global, run: RunBuffer) -> Result<Box<Node>, AllocError>
-    ensures { IfOk result (λ node. node.value ≡ run ∷ []) }
+/// A node with nothing at its sides.
+fn leaf(chunk: Vec<RunBuffer>) -> Node
+    ensures { result.runs ≡ chunk.items }
 {
-    let node = Node {
+    let count = chunk.len();
+    Node {
         left: None,
-        run,
-        count: 1,
+        chunk,
+        count,
+        nodes: 1,
         right: None,
-    };
-    Ok(Box::new(alloc, node)?)
+    }
+}
+
+/// Cuts off the runs from a place on: a node with them.
+fn split_back(chunk: &mut Vec<RunBuffer>, at: usize) -> Result<Box<Node>, AllocError>
+    requires { at ≤ length chunk.old.items }
+    ensures ok { IfOk result (λ node. chunk.old.items ≡ chunk.new.items ++ node.value.runs) }
+    ensures err { OnErr result (chunk.new.items ≡ chunk.old.items) }
+{
+    let alloc = *chunk.allocator();
+    let mut node = Box::new(alloc, leaf(Vec::new(alloc)))?;
+    *node = leaf(chunk.split_off(at)?);
+    Ok(node)
+}
+
+/// Cuts off the runs before a place: a node with them.
+pub fn split_front(chunk: &mut Vec<RunBuffer>, at: usize) -> Result<Box<Node>, AllocError>
+    requires { at ≤ length chunk.old.items }
+    ensures ok { IfOk result (λ node. chunk.old.items ≡ node.value.runs ++ chunk.new.items) }
+    ensures err { OnErr result (chunk.new.items ≡ chunk.old.items) }
+{
+    let alloc = *chunk.allocator();
+    let mut node = Box::new(alloc, leaf(Vec::new(alloc)))?;
+    let back = chunk.split_off(at)?;
+    *node = leaf(mem::replace(chunk, back));
+    Ok(node)
 }
 
 /// How many runs a side has.
@@ -60,6 +92,21 @@ pub fn count_of(side: &Side) -> usize
         None => 0,
         Some(node) => node.count,
     }
+}
+
+/// How many nodes a side has.
+fn nodes_of(side: &Side) -> usize {
+    match side {
+        None => 0,
+        Some(node) => node.nodes,
+    }
+}
+
+/// How many nodes a node with two sides is.
+fn nodes_between(left: &Side, right: &Side) -> usize {
+    nodes_of(left)
+        .saturating_add(nodes_of(right))
+        .saturating_add(1)
 }
 
 /// A run of a side.
@@ -73,17 +120,17 @@ pub fn get(side: &Side, index: usize) -> &RunBuffer
         Some(node) => {
             let Node {
                 left,
-                run,
+                chunk,
                 right,
                 ..
             } = &**node;
             let before = count_of(left);
             if index < before {
                 get(left, index)
-            } else if index == before {
-                run
+            } else if index - before < chunk.len() {
+                &chunk[index - before]
             } else {
-                get(right, index - before - 1)
+                get(right, index - before - chunk.len())
             }
         }
     }
@@ -100,14 +147,21 @@ pub fn ending_below(side: &Side, address: u64) -> usize
         Some(node) => {
             let Node {
                 left,
-                run,
+                chunk,
                 count,
                 right,
+                ..
             } = &**node;
-            if run.end() < address {
-                *count - count_of(right) + ending_below(right, address)
-            } else {
+            let count = *count;
+            if chunk.is_empty() {
+                return ending_below(left, address) + ending_below(right, address);
+            }
+            if chunk[chunk.len() - 1].end() < address {
+                count - count_of(right) + ending_below(right, address)
+            } else if address <= chunk[0].end() {
                 ending_below(left, address)
+            } else {
+                count - count_of(right) - chunk.len() + ending_in(chunk, address)
             }
         }
     }
@@ -124,14 +178,21 @@ pub fn beginning_below(side: &Side, address: u64) -> usize
         Some(node) => {
             let Node {
                 left,
-                run,
+                chunk,
                 count,
                 right,
+                ..
             } = &**node;
-            if u64::from(run.at()) < address {
-                *count - count_of(right) + beginning_below(right, address)
-            } else {
+            let count = *count;
+            if chunk.is_empty() {
+                return beginning_below(left, address) + beginning_below(right, address);
+            }
+            if u64::from(chunk[chunk.len() - 1].at()) < address {
+                count - count_of(right) + beginning_below(right, address)
+            } else if address <= u64::from(chunk[0].at()) {
                 beginning_below(left, address)
+            } else {
+                count - count_of(right) - chunk.len() + beginning_in(chunk, address)
             }
         }
     }
@@ -140,7 +201,7 @@ pub fn beginning_below(side: &Side, address: u64) -> usize
 /// Makes the node before the top one the top one.
 #[tactic(auto, using(crate::proofs::Sides::sides))]
 fn raise_left(mut top: Box<Node>) -> Box<Node>
-    ensures { result.value ≡ top.value }
+    ensures { result.value.runs ≡ top.value.runs }
 {
     let lowered = &mut *top;
     let Some(mut raised) = lowered.left.take() else {
@@ -148,9 +209,12 @@ fn raise_left(mut top: Box<Node>) -> Box<Node>
     };
     let node = &mut *raised;
     let count = lowered.count;
+    let nodes = lowered.nodes;
     lowered.left = node.right.take();
-    lowered.count = count_of(&lowered.left) + (count_of(&lowered.right) + 1);
+    lowered.count = count_of(&lowered.left) + (lowered.chunk.len() + count_of(&lowered.right));
+    lowered.nodes = nodes_between(&lowered.left, &lowered.right);
     node.count = count;
+    node.nodes = nodes;
     node.right = Some(top);
     raised
 }
@@ -158,7 +222,7 @@ fn raise_left(mut top: Box<Node>) -> Box<Node>
 /// Makes the node behind the top one the top one.
 #[tactic(auto, using(crate::proofs::Sides::sides))]
 fn raise_right(mut top: Box<Node>) -> Box<Node>
-    ensures { result.value ≡ top.value }
+    ensures { result.value.runs ≡ top.value.runs }
 {
     let lowered = &mut *top;
     let Some(mut raised) = lowered.right.take() else {
@@ -166,44 +230,48 @@ fn raise_right(mut top: Box<Node>) -> Box<Node>
     };
     let node = &mut *raised;
     let count = lowered.count;
+    let nodes = lowered.nodes;
     lowered.right = node.left.take();
-    lowered.count = count_of(&lowered.left) + (count_of(&lowered.right) + 1);
+    lowered.count = count_of(&lowered.left) + (lowered.chunk.len() + count_of(&lowered.right));
+    lowered.nodes = nodes_between(&lowered.left, &lowered.right);
     node.count = count;
+    node.nodes = nodes;
     node.left = Some(top);
     raised
 }
 
-/// Makes the left side of a node the heavier one, where the right one has twice as many runs.
+/// Makes the left side of a node the heavier one, where the right one has twice as many nodes.
 fn lean_left(top: Box<Node>) -> Box<Node>
-    ensures { result.value ≡ top.value }
+    ensures { result.value.runs ≡ top.value.runs }
 {
-    if count_of(&top.right) / 2 >= count_of(&top.left) {
+    if nodes_of(&top.right) / 2 >= nodes_of(&top.left) {
         raise_right(top)
     } else {
         top
     }
 }
 
-/// Makes the right side of a node the heavier one, where the left one has twice as many runs.
+/// Makes the right side of a node the heavier one, where the left one has twice as many nodes.
 fn lean_right(top: Box<Node>) -> Box<Node>
-    ensures { result.value ≡ top.value }
+    ensures { result.value.runs ≡ top.value.runs }
 {
-    if count_of(&top.left) / 2 >= count_of(&top.right) {
+    if nodes_of(&top.left) / 2 >= nodes_of(&top.right) {
         raise_left(top)
     } else {
         top
     }
 }
 
-/// Balances a node after a run was put in at one of its sides, or taken out there.
+/// Balances a node after a node was put in at one of its sides, or taken out there.
 #[tactic(auto, using(crate::proofs::Sides::sides))]
 fn balance(mut top: Box<Node>) -> Box<Node>
-    ensures { result.value ≡ top.value }
+    ensures { result.value.runs ≡ top.value.runs }
 {
     let node = &mut *top;
-    let left = count_of(&node.left);
-    let right = count_of(&node.right);
-    if node.count <= 2 {
+    let left = nodes_of(&node.left);
+    let right = nodes_of(&node.right);
+    node.nodes = nodes_between(&node.left, &node.right);
+    if node.nodes <= 2 {
         return top;
     }
     if left > right.saturating_mul(3) {
@@ -221,93 +289,175 @@ fn balance(mut top: Box<Node>) -> Box<Node>
     top
 }
 
-/// Puts a node's runs in at a place of a side.
+/// Balances a side where a node was put in.
+fn settle(side: &mut Side, added: bool)
+    ensures { runs_of side.new ≡ runs_of side.old }
+{
+    if !added {
+        return;
+    }
+    if let Some(top) = side.take() {
+        *side = Some(balance(top));
+    }
+}
+
+/// Puts a node in before the runs of a side.
 #[tactic(auto, using(crate::proofs::Sides::sides))]
-pub fn put(side: Side, index: usize, leaf: Box<Node>) -> Box<Node>
-    requires within { index ≤ length (runs_of side) }
-    requires few { length (runs_of side) + length leaf.value < 2 ^ 64 }
-    ensures { result.value ≡ put_in (runs_of side) index leaf.value }
+fn put_first(side: Side, leaf: Box<Node>) -> Box<Node>
+    requires { length leaf.value.runs + length (runs_of side) < 2 ^ 64 }
+    ensures { result.value.runs ≡ leaf.value.runs ++ runs_of side }
 {
     let Some(mut top) = side else {
         return leaf;
     };
     let node = &mut *top;
-    let before = count_of(&node.left);
     node.count += leaf.count;
-    if index <= before {
-        node.left = Some(put(node.left.take(), index, leaf));
-        balance(top)
-    } else {
-        node.right = Some(put(node.right.take(), index - before - 1, leaf));
-        balance(top)
+    node.left = Some(put_first(node.left.take(), leaf));
+    balance(top)
+}
+
+/// Puts a node in behind the runs of a side.
+#[tactic(auto, using(crate::proofs::Sides::sides))]
+pub fn put_last(side: Side, leaf: Box<Node>) -> Box<Node>
+    requires { length (runs_of side) + length leaf.value.runs < 2 ^ 64 }
+    ensures { result.value.runs ≡ runs_of side ++ leaf.value.runs }
+{
+    let Some(mut top) = side else {
+        return leaf;
+    };
+    let node = &mut *top;
+    node.count += leaf.count;
+    node.right = Some(put_last(node.right.take(), leaf));
+    balance(top)
+}
+
+/// Puts a run in among those of a node. What is too much for it comes back as a node, the next one.
+#[tactic(auto, using(crate::proofs::Sides::sides))]
+fn put_in_chunk(
+    chunk: &mut Vec<RunBuffer>,
+    place: usize,
+    run: RunBuffer,
+) -> Result<Side, AllocError>
+    requires { place ≤ length chunk.old.items }
+    ensures ok { IfOk result (λ rest. put_in chunk.old.items place (run ∷ []) ≡ chunk.new.items ++ runs_of rest) }
+    ensures count { IfOk result (λ rest. length chunk.old.items + 1 ≡ length chunk.new.items + length (runs_of rest)) }
+    ensures err { OnErr result (chunk.new.items ≡ chunk.old.items) }
+{
+    chunk.insert(place, run)?;
+    if chunk.len() < LIMIT {
+        return Ok(None);
+    }
+    match split_back(chunk, chunk.len() / 2) {
+        Ok(rest) => Ok(Some(rest)),
+        Err(_) => Ok(None),
     }
 }
 
-/// Takes the first run out: a node with it alone, and the others.
+/// One side before another.
+fn put_before(rest: Side, side: Side) -> Side
+    requires { length (runs_of rest) + length (runs_of side) < 2 ^ 64 }
+    ensures { runs_of result ≡ runs_of rest ++ runs_of side }
+{
+    match rest {
+        None => side,
+        Some(leaf) => Some(put_first(side, leaf)),
+    }
+}
+
+/// Puts a run in before one of a side. It answers whether that made a node.
 #[tactic(auto, using(crate::proofs::Sides::sides))]
-fn take_first(mut top: Box<Node>) -> (Box<Node>, Side)
-    ensures out { result.0.value ≡ run_at top.value 0 ∷ [] }
-    ensures all { top.value ≡ result.0.value ++ runs_of result.1 }
+pub fn insert(side: &mut Side, index: usize, run: RunBuffer) -> Result<bool, AllocError>
+    requires within { index < length (runs_of side.old) }
+    requires few { length (runs_of side.old) + 1 < 2 ^ 64 }
+    ensures ok { OnOk result (runs_of side.new ≡ put_in (runs_of side.old) index (run ∷ [])) }
+    ensures err { OnErr result (runs_of side.new ≡ runs_of side.old) }
+{
+    let Some(top) = side else { unreachable!() };
+    let node = &mut **top;
+    let before = count_of(&node.left);
+    if index < before {
+        let added = insert(&mut node.left, index, run)?;
+        node.count += 1;
+        settle(side, added);
+        return Ok(added);
+    }
+    let place = index - before;
+    let len = node.chunk.len();
+    if len <= place {
+        let added = insert(&mut node.right, place - len, run)?;
+        node.count += 1;
+        settle(side, added);
+        return Ok(added);
+    }
+    let rest = put_in_chunk(&mut node.chunk, place, run)?;
+    let added = rest.is_some();
+    node.right = put_before(rest, node.right.take());
+    node.count += 1;
+    settle(side, added);
+    Ok(added)
+}
+
+/// Takes the first node out: its runs, and the others.
+#[tactic(auto, using(crate::proofs::Sides::sides))]
+fn take_first(mut top: Box<Node>) -> (Vec<RunBuffer>, Side)
+    ensures { top.value.runs ≡ result.0.items ++ runs_of result.1 }
 {
     let node = &mut *top;
     let Some(side) = node.left.take() else {
-        let others = node.right.take();
-        node.count = 1;
-        return (top, others);
+        let alloc = *node.chunk.allocator();
+        let chunk = mem::replace(&mut node.chunk, Vec::new(alloc));
+        node.count = 0;
+        return (chunk, node.right.take());
     };
     let (first, others) = take_first(side);
     node.left = others;
-    node.count -= 1;
+    node.count -= first.len();
     (first, Some(balance(top)))
 }
 
-/// One side, and behind it another.
+/// Gives a node with no runs of its own those of the next one.
 #[tactic(auto, using(crate::proofs::Sides::sides))]
-fn join_sides(left: Side, right: Side) -> Side
-    requires { length (runs_of left) + length (runs_of right) < 2 ^ 64 }
-    ensures { runs_of result ≡ runs_of left ++ runs_of right }
+fn refill(mut top: Box<Node>) -> Side
+    ensures { runs_of result ≡ top.value.runs }
 {
-    let Some(side) = right else {
-        return left;
+    let node = &mut *top;
+    if !node.chunk.is_empty() {
+        return Some(top);
+    }
+    let Some(side) = node.right.take() else {
+        node.count = 0;
+        return node.left.take();
     };
-    let (mut first, others) = take_first(side);
-    let node = &mut *first;
-    node.count = count_of(&left) + (count_of(&others) + 1);
-    node.left = left;
+    let (chunk, others) = take_first(side);
+    node.chunk = chunk;
     node.right = others;
-    Some(balance(first))
+    Some(balance(top))
 }
 
-/// Takes the run at a place out: a node with it alone, and the others.
+/// Takes a run out of a side.
 #[tactic(auto, using(crate::proofs::Sides::sides))]
-pub fn take_out(mut top: Box<Node>, index: usize) -> (Box<Node>, Side)
-    requires { index < length top.value }
-    ensures out { result.0.value ≡ run_at top.value index ∷ [] }
-    ensures others { runs_of result.1 ≡ taken_out top.value index }
+pub fn remove(side: Side, index: usize) -> Side
+    requires { index < length (runs_of side) }
+    ensures { runs_of result ≡ taken_out (runs_of side) index }
 {
+    let Some(mut top) = side else { unreachable!() };
     let node = &mut *top;
     let before = count_of(&node.left);
     if index < before {
-        let Some(side) = node.left.take() else {
-            unreachable!()
-        };
-        let (out, others) = take_out(side, index);
-        node.left = others;
+        node.left = remove(node.left.take(), index);
         node.count -= 1;
-        return (out, Some(balance(top)));
+        return Some(balance(top));
     }
-    if index > before {
-        let Some(side) = node.right.take() else {
-            unreachable!()
-        };
-        let (out, others) = take_out(side, index - before - 1);
-        node.right = others;
+    let place = index - before;
+    let len = node.chunk.len();
+    if len <= place {
+        node.right = remove(node.right.take(), place - len);
         node.count -= 1;
-        return (out, Some(balance(top)));
+        return Some(balance(top));
     }
-    node.count = 1;
-    let others = join_sides(node.left.take(), node.right.take());
-    (top, others)
+    let _run = node.chunk.remove(place);
+    node.count -= 1;
+    refill(top)
 }
 
 /// Adds `middle` and then `end` behind a run of a side.
@@ -324,10 +474,12 @@ pub fn append(side: &mut Side, index: usize, middle: &[u8], end: &[u8]) -> Resul
     if index < before {
         return append(&mut node.left, index, middle, end);
     }
-    if index > before {
-        return append(&mut node.right, index - before - 1, middle, end);
+    let place = index - before;
+    let len = node.chunk.len();
+    if len <= place {
+        return append(&mut node.right, place - len, middle, end);
     }
-    node.run.append(middle, end)
+    node.chunk[place].append(middle, end)
 }
 
 /// Adds `front` and then `middle` before a run of a side.
@@ -344,10 +496,12 @@ pub fn prepend(side: &mut Side, index: usize, front: &[u8], middle: &[u8]) -> Re
     if index < before {
         return prepend(&mut node.left, index, front, middle);
     }
-    if index > before {
-        return prepend(&mut node.right, index - before - 1, front, middle);
+    let place = index - before;
+    let len = node.chunk.len();
+    if len <= place {
+        return prepend(&mut node.right, place - len, front, middle);
     }
-    node.run.prepend(front, middle)
+    node.chunk[place].prepend(front, middle)
 }
 
 /// Puts another run in the place of one of a side.
@@ -362,8 +516,10 @@ pub fn replace(side: &mut Side, index: usize, run: RunBuffer)
     if index < before {
         return replace(&mut node.left, index, run);
     }
-    if index > before {
-        return replace(&mut node.right, index - before - 1, run);
+    let place = index - before;
+    let len = node.chunk.len();
+    if len <= place {
+        return replace(&mut node.right, place - len, run);
     }
-    node.run = run;
+    node.chunk[place] = run;
 }

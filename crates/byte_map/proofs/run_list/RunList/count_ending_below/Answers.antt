@@ -1,41 +1,35 @@
-use Rattle.std.proofs.Common.{◌+◌, ◌^◌, ℕ, length, arith, refl, subst, sym}
-use Rattle.byte_map.specs.Image.{Run, end_of, AreMaximal}
-use Rattle.byte_map.specs.Tree.{runs_of, put_in}
-use Rattle.byte_map.proofs.Runs.{end_rises}
-use Rattle.byte_map.proofs.Cuts.{recut}
-use Rattle.byte_map.proofs.Beside.{maximal_tree, maximal_lone, cut_near, cut_before, cut_behind}
+use Rattle.std.proofs.Common.{◌≡◌, ◌≤◌, ◌^◌, ◌∙◌, [], ◌++◌, length, arith, rules, refl, subst, sym, ap}
+use Rattle.std.proofs.lemmas.List.{get_or_default}
+use Rattle.byte_map.specs.Image.{Run, run_at, end_of, AreMaximal}
+use Rattle.byte_map.specs.Tree.{runs_of}
+use Rattle.byte_map.proofs.Runs.{at_rises}
+use Rattle.byte_map.proofs.Cuts.{maximal_right, ends_before, cut_left, cut_right, cut_of, recut}
 use Rattle.byte_map.proofs.run_list.RunList.count_ending_below.Goals as goal
 
-pub ending_below-count-requires : goal.ending_below-count-requires
-ending_below-count-requires c =
+pub returns-then-is_empty : goal.returns-then-is_empty
+returns-then-is_empty c =
     let s = c.self.inside in
-    maximal_tree 0 (2 ^ 32) (runs_of s.tree) s.place (runs_of s.lone) (subst (AreMaximal 0 (2 ^ 32)) (sym c.self.view_is) c.requires)
+    let none : length s.tail.items ≡ 0 = search rules in
+    recut (λ (r : Run). end_of r) (runs_of s.tree ++ s.tail.items) c.args.self.now c.args.address _ _ (sym c.self.view_is) refl
+    (cut_left (λ (r : Run). end_of r) (runs_of s.tree) s.tail.items c.args.address c.ending_below.result (λ k lt. absurd (omega (arith, none))) c.ending_below.ensures)
 
-pub ending_below-requires : goal.ending_below-requires
-ending_below-requires c =
+pub returns-then-address-from : goal.returns-then-address-from
+returns-then-address-from c =
     let s = c.self.inside in
-    maximal_lone 0 (2 ^ 32) (runs_of s.tree) s.place (runs_of s.lone) (subst (AreMaximal 0 (2 ^ 32)) (sym c.self.view_is) c.requires)
+    let some : 1 ≤ length s.tail.items = search rules in
+    let first : c.index.result.now ≡ run_at s.tail.items 0 = c.index.ensures ∙ get_or_default s.tail.items 0 _ (record { at = 0; bytes = [] }) (omega (arith, some)) in
+    let maximal = subst (AreMaximal 0 (2 ^ 32)) (sym c.self.view_is) c.requires in
+    recut (λ (r : Run). end_of r) (runs_of s.tree ++ s.tail.items) c.args.self.now c.args.address _ _ (sym c.self.view_is) refl
+    (cut_left (λ (r : Run). end_of r) (runs_of s.tree) s.tail.items c.args.address c.ending_below-then-address-from.result
+    (λ k lt. let up = at_rises (2 ^ 32) s.tail.items 0 k (maximal_right 0 (2 ^ 32) (runs_of s.tree) s.tail.items maximal) (omega arith) lt in omega (arith, up, c.from.ensures, c.at.ensures, ap (λ (r : Run). r.at) first))
+    c.ending_below-then-address-from.ensures)
 
-pub returns-then-count-self : goal.returns-then-count-self
-returns-then-count-self c =
+pub returns-else-address-from : goal.returns-else-address-from
+returns-else-address-from c =
     let s = c.self.inside in
-    let runs = put_in (runs_of s.tree) s.place (runs_of s.lone) in
-    let rises = λ (i j : ℕ). end_rises (2 ^ 32) runs i j (subst (AreMaximal 0 (2 ^ 32)) (sym c.self.view_is) c.requires) in
-    recut (λ (r : Run). end_of r) runs c.args.self.now c.args.address _ _ (sym c.self.view_is) refl
-    (cut_before (λ (r : Run). end_of r) (runs_of s.tree) s.place (runs_of s.lone) c.args.address c.ending_below-count.result c.self.invariant.within rises (omega arith) c.ending_below-count.ensures)
-
-pub returns-then-count-self-2 : goal.returns-then-count-self-2
-returns-then-count-self-2 c =
-    let s = c.self.inside in
-    let runs = put_in (runs_of s.tree) s.place (runs_of s.lone) in
-    let rises = λ (i j : ℕ). end_rises (2 ^ 32) runs i j (subst (AreMaximal 0 (2 ^ 32)) (sym c.self.view_is) c.requires) in
-    recut (λ (r : Run). end_of r) runs c.args.self.now c.args.address (c.ending_below-count.result + length (runs_of s.lone)) _ (sym c.self.view_is) (omega (arith, c.count_of.ensures))
-    (cut_behind (λ (r : Run). end_of r) (runs_of s.tree) s.place (runs_of s.lone) c.args.address c.ending_below-count.result c.self.invariant.within rises (omega arith) c.ending_below-count.ensures)
-
-pub returns-else-count-self-2 : goal.returns-else-count-self-2
-returns-else-count-self-2 c =
-    let s = c.self.inside in
-    let cut = c.ending_below-count.ensures in
-    recut (λ (r : Run). end_of r) (put_in (runs_of s.tree) s.place (runs_of s.lone)) c.args.self.now c.args.address (s.place + c.ending_below.result) _ (sym c.self.view_is) (omega arith)
-    (cut_near (λ (r : Run). end_of r) (runs_of s.tree) s.place (runs_of s.lone) c.args.address c.ending_below.result c.self.invariant.within
-    (λ k lt. cut.below k (omega arith)) (λ k le lt. cut.others k (omega arith) lt) c.ending_below.ensures)
+    let some : 1 ≤ length s.tail.items = search rules in
+    let first : c.index.result.now ≡ run_at s.tail.items 0 = c.index.ensures ∙ get_or_default s.tail.items 0 _ (record { at = 0; bytes = [] }) (omega (arith, some)) in
+    let maximal = subst (AreMaximal 0 (2 ^ 32)) (sym c.self.view_is) c.requires in
+    let cut = cut_of (λ (r : Run). end_of r) s.tail.items c.deref.result.now c.args.address c.ending_in.result c.deref.ensures.value c.ending_in.ensures.within c.ending_in.ensures.below c.ending_in.ensures.others in
+    recut (λ (r : Run). end_of r) (runs_of s.tree ++ s.tail.items) c.args.self.now c.args.address _ _ (sym c.self.view_is) (omega (arith, c.count_of.ensures))
+    (cut_right (λ (r : Run). end_of r) (runs_of s.tree) s.tail.items c.args.address c.ending_in.result (λ k lt. let up = ends_before (2 ^ 32) (runs_of s.tree) s.tail.items k maximal some lt in omega (arith, up, c.from.ensures, c.at.ensures, ap (λ (r : Run). r.at) first)) cut)

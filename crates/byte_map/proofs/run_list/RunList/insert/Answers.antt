@@ -1,0 +1,17 @@
+use Rattle.std.proofs.Common.{◌≡◌, ◌-◌, ◌∙◌, ℕ, List, [], ◌∷◌, ◌++◌, length, arith, rules, sym, ap}
+use Rattle.byte_map.specs.Image.{Run}
+use Rattle.byte_map.specs.Tree.{runs_of, put_in}
+use Rattle.byte_map.proofs.Sides.{put_right}
+use Rattle.byte_map.proofs.run_list.RunList.insert.Goals as goal
+
+pub returns-clause-ok : goal.returns-clause-ok
+returns-clause-ok c =
+    let s = c.self.inside in
+    let new = c.args.run ∷ [] in
+    let count : c.count_of-count.result ≡ length (runs_of s.tree) = c.count_of-count.ensures in
+    let items : c.insert-2.new.self.items ≡ put_in s.tail.items (c.args.index - c.count_of-count.result) new = search rules in
+    c.shorten_tail.ensures
+    ∙ ap (λ (rs : List Run). runs_of s.tree ++ rs) items
+    ∙ ap (λ (k : ℕ). runs_of s.tree ++ put_in s.tail.items (c.args.index - k) new) count
+    ∙ sym (put_right (runs_of s.tree) s.tail.items new c.args.index (omega (arith, count)))
+    ∙ ap (λ (rs : List Run). put_in rs c.args.index new) c.self.view_is
