@@ -6,3 +6,4 @@ pub mod RunLemmas
 pub mod SliceLemmas
 pub mod FineLemmas
 pub mod LawLemmas
+pub mod StayLemmas

@@ -5,3 +5,4 @@ pub mod Path
 pub mod Points
 pub mod Runs
 pub mod Targets
+pub mod Local

@@ -1,9 +1,11 @@
 //! The laws on runs: each has one end, and slices of it, however cut, end as it does.
-ghost use Rattle.std.specs.Prelude.{◌≡◌, ◌≤◌, ◌+◌, ◌*◌, ℕ, false};
+ghost use Rattle.std.specs.Prelude.{◌≡◌, ◌≤◌, ◌+◌, ◌*◌, ℕ, false, length, List, Some};
+ghost use Rattle.bench_model.specs.Calls.{SameOutside};
 ghost use Rattle.target_core.specs.declared.run.RunEnd.{RunEnd};
 ghost use Rattle.target_core.specs.declared.run.SliceEnd.TheVariants.{More, Ended};
 ghost use Rattle.target_core.specs.declared.target.Target.{Target};
-ghost use Rattle.target_core.specs.Path.{Point, GoesTo, is_device_end};
+ghost use Rattle.target_core.specs.Local.{LieIn};
+ghost use Rattle.target_core.specs.Path.{Point, GoesTo, IsLeftOnPath, is_device_end};
 ghost use Rattle.target_core.specs.Runs.{HasOneEnd, GoesOnAs, RunGives, run_last};
 ghost use Rattle.target_core.specs.Targets.{point_in, SliceGives};
 
@@ -31,4 +33,11 @@ pub fn slices_are_one_run<B: Bench>()
         → SliceGives from (B.state start) fuel left steps More between (B.state turn)
         → RunGives from.return_at left (point_in between (B.state turn).cells) (B.state turn) e (point_in to (B.state end).cells) (B.state end)
         → RunGives from.return_at fuel (point_in from (B.state start).cells) (B.state start) e (point_in to (B.state end).cells) (B.state end) }
+{}
+
+/// While the operations of a path lie in a range of the cells, all other cells stay: a stop of the power at any of its points leaves them
+/// as they were at the first.
+pub fn paths_stay_in_a_range()
+    ensures { (first : Point) (last : ℕ) (range : ℕ × ℕ) → range.0 + range.1 ≤ length first.world.cells → LieIn range first last
+        → (c : List ℕ) → IsLeftOnPath first last c → SameOutside (Some range) first.world.cells c }
 {}

@@ -12,7 +12,7 @@ mod step;
 mod target;
 mod unit;
 
-pub use law::{runs_have_one_end, slices_are_one_run};
+pub use law::{paths_stay_in_a_range, runs_have_one_end, slices_are_one_run};
 pub use run::{FaultKind, RunEnd, SliceEnd};
 pub use target::{Frame, Target};
 pub use unit::Unit;
