@@ -1,0 +1,10 @@
+mod Steps
+mod FlmLemmas
+pub mod RunLemmas
+pub mod TakeLemmas
+pub mod RunTextLemmas
+pub mod LoopLemmas
+pub mod BodyLemmas
+pub mod ClassLemmas
+pub mod PartLemmas
+mod RegionLemmas

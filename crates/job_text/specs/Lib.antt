@@ -1,0 +1,9 @@
+pub mod Files
+pub mod Fits
+pub mod Body
+pub mod Reading
+pub mod Shown
+pub mod Heads
+pub mod Runs
+pub mod Stands
+pub mod Parts

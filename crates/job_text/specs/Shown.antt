@@ -1,0 +1,28 @@
+-- What the code's readers answer, against the definitions.
+use Rattle.std.specs.Prelude.{◌≡◌, ℕ, Result, Ok, Err}
+use Rattle.board_file.specs.Shown as board
+use Rattle.flm_descriptor.specs.Shown as flm
+use Rattle.job_text.specs.declared.fault.JobFault.{JobFault}
+use Rattle.job_text.specs.declared.fault.JobFault.TheVariants.{OutOfMemory, NotAJob}
+use Rattle.job_text.specs.declared.job.Class.TheVariants as code
+use Rattle.job_text.specs.declared.job.Job.{Job}
+use Rattle.job_text.specs.declared.job.Class.{Class}
+use Rattle.job_text.specs.Reading as reading
+
+abbrev pub seen_job : Job → reading.Seen
+seen_job j = record { board = board.shown j.board; algorithm = flm.shown j.algorithm; image = j.image; snapshot = j.snapshot }
+
+-- what a function returned, seen by `view`, is what is read, unless memory ran out
+abbrev pub Fails : {Y : Type 0} → JobFault → Result Y ℕ → Type 0
+Fails OutOfMemory read = Unit {0}
+Fails (NotAJob at) read = read ≡ Err at
+
+abbrev pub Gives : {X Y : Type 0} → (X → Y) → Result X JobFault → Result Y ℕ → Type 0
+Gives view (Ok x) read = read ≡ Ok (view x)
+Gives view (Err e) read = Fails e read
+
+-- the code's class is this one
+abbrev pub IsClass : Class → reading.Class → Type 0
+IsClass code.Free c = c ≡ reading.free
+IsClass (code.Stands job) c = (found : reading.Found) × (c ≡ reading.stands found) × (reading.seen found ≡ seen_job job)
+IsClass (code.NotAJob at) c = c ≡ reading.not_a_job at

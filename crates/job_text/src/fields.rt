@@ -1,0 +1,57 @@
+//! The steps from left to right through a file, of which each takes something from the front, and their opposites.
+ghost use Rattle.std.specs.Prelude.{◌≡◌, ◌≤◌, ◌++◌, length, IfOk, OnOk};
+ghost use Rattle.job_text.specs.Body.{field};
+ghost use Rattle.job_text.specs.Reading.{number_at, text_at, mark_at};
+ghost use Rattle.job_text.specs.Shown.{Gives};
+
+use crate::fault::JobFault;
+use byteorder::{ByteOrder, LittleEndian};
+use octets::le32;
+use std::alloc::AllocError;
+
+/// What a body begins with: `FLMJOB1`.
+pub const MARK: [u8; 7] = [70, 76, 77, 74, 79, 66, 49];
+
+/// Takes a field. `whole` is the file's length, which is answered where the bytes end too early.
+pub fn take_number(whole: u64, bytes: &[u8]) -> Result<(u32, &[u8]), JobFault>
+    ensures gives { Gives (λ x. (x.0, x.1.now)) result (number_at whole bytes.now) }
+    ensures shorter { IfOk result (λ x. length x.1.now ≤ length bytes.now) }
+{
+    if bytes.len() < 4 {
+        return Err(JobFault::NotAJob { at: whole });
+    }
+    Ok((le32(bytes, 0), &bytes[4..]))
+}
+
+/// Takes so many bytes.
+pub fn take_text(whole: u64, len: u32, bytes: &[u8]) -> Result<(&[u8], &[u8]), JobFault>
+    ensures gives { Gives (λ x. (x.0.now, x.1.now)) result (text_at whole len bytes.now) }
+    ensures shorter { IfOk result (λ x. length x.1.now ≤ length bytes.now) }
+{
+    let len = len as usize;
+    if bytes.len() < len {
+        return Err(JobFault::NotAJob { at: whole });
+    }
+    Ok(bytes.split_at(len))
+}
+
+/// Takes the mark.
+pub fn take_mark(bytes: &[u8]) -> Result<&[u8], JobFault>
+    requires { 7 ≤ length bytes.now }
+    ensures { Gives (λ x. x.now) result (mark_at bytes.now) }
+{
+    if bytes.starts_with(&MARK) {
+        Ok(&bytes[7..])
+    } else {
+        Err(JobFault::NotAJob { at: 1 })
+    }
+}
+
+/// Appends a field.
+pub fn put_number(out: &mut Vec<u8>, number: u32) -> Result<(), AllocError>
+    ensures { OnOk result (out.new.items ≡ out.old.items ++ field number) }
+{
+    let mut bytes = [0; 4];
+    LittleEndian::write_u32(&mut bytes, number);
+    out.extend_from_slice(&bytes)
+}

@@ -1,0 +1,26 @@
+//! The laws on jobs.
+ghost use Rattle.std.specs.Prelude.{◌≡◌, ℕ, List, length, IsTrue};
+ghost use Rattle.board_file.specs.Shown as board;
+ghost use Rattle.flm_descriptor.specs.Shown as flm;
+ghost use Rattle.flm_descriptor.specs.declared.device.Device.{Device};
+ghost use Rattle.job_text.specs.Body.{Job, IsJob, body_of};
+ghost use Rattle.job_text.specs.declared.parts.JobParts.{JobParts};
+ghost use Rattle.job_text.specs.Parts.{job_of, AreParts};
+ghost use Rattle.job_text.specs.Fits.{is_only_region, HasRegion};
+
+/// One body has one job. That one job has one body is plain: a body is a function of its job.
+pub fn bodies_have_one_job()
+    ensures { (j k : Job) (b c : board.Shown) (a e : flm.Shown) → IsJob j b a → IsJob k c e
+        → body_of j ≡ body_of k → j ≡ k }
+{}
+
+/// With any snapshot of the size, parts make a job.
+pub fn parts_make_a_job()
+    ensures { (parts : JobParts) (are : AreParts parts) (snapshot : List ℕ) → length snapshot ≡ parts.size
+        → IsJob (job_of parts snapshot) are.board are.algorithm }
+{}
+
+/// The board of a job has one region, and the algorithm's device is that region.
+pub fn jobs_have_one_region()
+    ensures { (b : board.Shown) (device : Device) → IsTrue (is_only_region b.regions device) → HasRegion b device }
+{}
