@@ -1,0 +1,43 @@
+-- What each refusal says.
+use Rattle.std.specs.Prelude.{◌≡◌, ◌≢◌, ℕ, List}
+use Rattle.job_text.specs.Files.{IsFree}
+use Rattle.job_text.specs.Stands.{IsSomeJob, IsNotAJob}
+use Rattle.job_file.specs.declared.fault.LookFault.{LookFault}
+use Rattle.job_file.specs.declared.fault.LookFault.TheVariants as look
+use Rattle.job_file.specs.declared.fault.OpenFault.{OpenFault}
+use Rattle.job_file.specs.declared.fault.OpenFault.TheVariants as opening
+use Rattle.job_file.specs.declared.fault.BeginFault.{BeginFault}
+use Rattle.job_file.specs.declared.fault.BeginFault.TheVariants as beginning
+
+-- a file that was not read
+abbrev pub open_of : LookFault → OpenFault
+open_of look.OutOfMemory = opening.OutOfMemory
+open_of look.StoreFault = opening.StoreFault
+
+abbrev pub begin_of : LookFault → BeginFault
+begin_of look.OutOfMemory = beginning.OutOfMemory
+begin_of look.StoreFault = beginning.StoreFault
+
+-- the job of a file is for so many cells, and there are as many others
+pub record IsOtherSize (file : List ℕ) (count said found : ℕ) : Type 0 where
+  pub some : IsSomeJob file
+  pub said_is : said ≡ some.algorithm.device.size
+  pub found_is : found ≡ count
+  pub differ : said ≢ found
+
+-- what the refusals of `open` say of the file as read and of the number of cells
+abbrev pub IsOpenFault : List ℕ → ℕ → OpenFault → Type 0
+IsOpenFault file count opening.OutOfMemory = Unit {0}
+IsOpenFault file count opening.NoJob = IsFree file
+IsOpenFault file count (opening.NotAJob at) = IsNotAJob at file
+IsOpenFault file count opening.StoreFault = Unit {0}
+IsOpenFault file count (opening.CellsDiffer said found) = IsOtherSize file count said found
+
+-- and those of `begin`, for so many cells
+abbrev pub IsBeginFault : List ℕ → ℕ → ℕ → BeginFault → Type 0
+IsBeginFault file size count beginning.OutOfMemory = Unit {0}
+IsBeginFault file size count beginning.JobOpen = IsSomeJob file
+IsBeginFault file size count beginning.StoreFault = Unit {0}
+IsBeginFault file size count beginning.DeviceFault = Unit {0}
+IsBeginFault file size count (beginning.CellsDiffer said found) = IsFree file × (said ≡ size) × (found ≡ count) × (said ≢ found)
+IsBeginFault file size count (beginning.NotAJob at) = IsNotAJob at file

@@ -1,0 +1,131 @@
+//! The call that begins a job.
+ghost use Rattle.std.specs.Prelude.{◌≡◌, ◌+◌, ◌++◌, ◌∷◌, length, replicate, take, false, IsTrue, IsOk, IsErrOf, OnOk, IfOk, IfErr, None};
+ghost use Rattle.faults.specs.Counts.{HasCause};
+ghost use Rattle.bench_model.specs.History.{LeftOnly, Leaves, AddsNothing};
+ghost use Rattle.bench_model.specs.State.{file_half, cells_half};
+ghost use Rattle.bench_model.specs.Calls.{FileStays, SameOutside, OnlyReads};
+ghost use Rattle.job_text.specs.Body.{body_of};
+ghost use Rattle.job_text.specs.Files.{IsFree, open_gate};
+ghost use Rattle.job_text.specs.Parts.{job_of, AreParts, front_of};
+ghost use Rattle.job_file.specs.Counted.{IsCounted, is_store_fault, is_device_fault, IsFault, ReadsUnlessFault};
+ghost use Rattle.job_file.specs.Faults.{IsBeginFault};
+ghost use Rattle.job_file.specs.Stops.{IsFreeOrWhole, IsOfBegin};
+
+use crate::fault::BeginFault;
+use crate::gate::put_job;
+use crate::reading::look;
+use bench_model::{Bench, DeviceFault};
+use job_text::{Class, JobParts, blank_body, class_of_file};
+use std::alloc::Global;
+
+/// Whether a job for so many cells may be begun over this file.
+fn admit(alloc: Global, file: &[u8], said: u32, found: u32) -> Result<(), BeginFault>
+    ensures ok { OnOk result (IsFree file.now × (said ≡ found)) }
+    ensures refused { IfErr result (IsBeginFault file.now said found) }
+    ensures no_store { is_store_fault result ≡ false }
+    ensures no_device { is_device_fault result ≡ false }
+{
+    match class_of_file(alloc, file)? {
+        Class::Stands(_) => Err(BeginFault::JobOpen),
+        Class::NotAJob { at } => Err(BeginFault::NotAJob { at }),
+        Class::Free if said != found => Err(BeginFault::CellsDiffer { said, found }),
+        Class::Free => Ok(()),
+    }
+}
+
+/// Breaks an operation off, and reads all cells.
+fn photograph<B: Bench>(bench: &mut B, out: &mut [u8]) -> Result<(), DeviceFault>
+    requires { length out.old ≡ (B.state bench.old).cell_count }
+    ensures ok { IsTrue B.tells → OnOk result ((out.new ≡ (B.state bench.new).cells) × ((B.state bench.new).operation ≡ None)) }
+    ensures same { IsTrue B.tells → SameOutside (B.state bench.old).operation (B.state bench.old).cells (B.state bench.new).cells }
+    ensures count { (B.state bench.new).cell_count ≡ (B.state bench.old).cell_count }
+    ensures moments { AddsNothing (cells_half (B.state bench.old)) (cells_half (B.state bench.new)) }
+    ensures file { FileStays (B.state bench.old) (B.state bench.new) }
+    ensures cause { HasCause (B.state bench.old).device_faults (B.state bench.new).device_faults result }
+{
+    bench.cells_drop()?;
+    bench.cells_read(0, out)
+}
+
+/// All that `begin` does before it touches the device: the body to be written, but for its snapshot.
+fn prepare<B: Bench>(alloc: Global, bench: &mut B, parts: &JobParts) -> Result<Vec<u8>, BeginFault>
+    requires { AreParts parts.now }
+    ensures ok { IfOk result (λ v. v.items ≡ front_of parts.now ++ replicate parts.now.size 0) }
+    ensures sized { IsOk result → parts.now.size ≡ (B.state bench.old).cell_count }
+    ensures free { IsTrue B.tells → OnOk result (IsFree (B.state bench.old).file
+        × LeftOnly (B.state bench.old).file (file_half (B.state bench.new))) }
+    ensures refused { IsTrue B.tells → IfErr result (IsBeginFault (B.state bench.old).file parts.now.size (B.state bench.old).cell_count) }
+    ensures reads { OnlyReads B.tells (B.state bench.old) (B.state bench.new) }
+    ensures counted { IsCounted (B.state bench.old).store_faults (B.state bench.new).store_faults (is_store_fault result) }
+    ensures no_device { is_device_fault result ≡ false }
+{
+    let bytes = look(alloc, bench)?;
+    let found = bench.cells_len();
+    admit(alloc, &bytes, parts.size, found)?;
+    Ok(blank_body(alloc, parts)?)
+}
+
+/// Takes the snapshot into the end of the body, and puts the job.
+fn take_and_put<B: Bench>(bench: &mut B, body: &mut [u8], front: usize) -> Result<(), BeginFault>
+    requires size { front + (B.state bench.old).cell_count ≡ length body.old }
+    requires free { IsTrue B.tells → IsFree (B.state bench.old).file }
+    requires only { IsTrue B.tells → LeftOnly (B.state bench.old).file (file_half (B.state bench.old)) }
+    ensures same { IsTrue B.tells → SameOutside (B.state bench.old).operation (B.state bench.old).cells (B.state bench.new).cells }
+    ensures ok { IsTrue B.tells → OnOk result (((B.state bench.new).file ≡ open_gate ∷ take front body.old ++ (B.state bench.new).cells)
+        × LeftOnly (open_gate ∷ take front body.old ++ (B.state bench.new).cells) (file_half (B.state bench.new))
+        × ((B.state bench.new).operation ≡ None)) }
+    ensures stops { IsTrue B.tells → Leaves (file_half (B.state bench.old)) (file_half (B.state bench.new))
+        (IsOfBegin (file_half (B.state bench.old)) (take front body.old ++ (B.state bench.new).cells)) }
+    ensures cells { AddsNothing (cells_half (B.state bench.old)) (cells_half (B.state bench.new)) }
+    ensures count { (B.state bench.new).cell_count ≡ (B.state bench.old).cell_count }
+    ensures fault { IfErr result IsFault }
+    ensures store { IsCounted (B.state bench.old).store_faults (B.state bench.new).store_faults (is_store_fault result) }
+    ensures device { IsCounted (B.state bench.old).device_faults (B.state bench.new).device_faults (is_device_fault result) }
+{
+    photograph(bench, &mut body[front..])?;
+    put_job(bench, body)?;
+    Ok(())
+}
+
+/// Begins a job over a free file: the snapshot is read once nothing is open on the device, and the gate is opened last. All
+/// its memory is taken before it breaks off an operation.
+///
+/// # Errors
+///
+/// `JobOpen` and `NotAJob` exactly by what the file is; `CellsDiffer` exactly where the file is free and the numbers differ;
+/// `StoreFault` and `DeviceFault` only where they were counted. But for these two, file and cells are only read.
+pub fn begin<B: Bench>(alloc: Global, bench: &mut B, parts: &JobParts) -> Result<(), BeginFault>
+    requires { AreParts parts.now }
+
+    // The cells at the end are the snapshot, whatever it answers: those of the entry outside the operation open then.
+    ensures same { IsTrue B.tells → SameOutside (B.state bench.old).operation (B.state bench.old).cells (B.state bench.new).cells }
+    ensures ok { IsTrue B.tells → OnOk result (((B.state bench.new).file ≡ open_gate ∷ body_of (job_of parts.now (B.state bench.new).cells))
+        × LeftOnly (open_gate ∷ body_of (job_of parts.now (B.state bench.new).cells)) (file_half (B.state bench.new))
+        × ((B.state bench.new).operation ≡ None)) }
+    ensures free { IsTrue B.tells → OnOk result (IsFree (B.state bench.old).file) }
+    ensures sized { IsOk result → parts.now.size ≡ (B.state bench.old).cell_count }
+    ensures count { (B.state bench.new).cell_count ≡ (B.state bench.old).cell_count }
+
+    // A stop leaves a file that one at the entry may leave, a free file, or the whole job; and the cells as one at the entry.
+    ensures stops { IsTrue B.tells → Leaves (file_half (B.state bench.old)) (file_half (B.state bench.new))
+        (IsOfBegin (file_half (B.state bench.old)) (body_of (job_of parts.now (B.state bench.new).cells))) }
+    ensures cells { AddsNothing (cells_half (B.state bench.old)) (cells_half (B.state bench.new)) }
+
+    // Whatever it answers, a file that was free is free or stands for this job.
+    ensures after { IsTrue B.tells → IsFree (B.state bench.old).file
+        → IsFreeOrWhole (body_of (job_of parts.now (B.state bench.new).cells)) (B.state bench.new).file }
+
+    // Where the file isn't free or the numbers of cells differ, it is only looked at, whatever it answers.
+    ensures looked { IsTrue B.tells → (IsFree (B.state bench.old).file × (parts.now.size ≡ (B.state bench.old).cell_count) → ⊥)
+        → OnlyReads B.tells (B.state bench.old) (B.state bench.new) }
+
+    // With `ok`, `free` and `sized`, each refusal comes exactly where it says.
+    ensures refused { IsTrue B.tells → IfErr result (IsBeginFault (B.state bench.old).file parts.now.size (B.state bench.old).cell_count) }
+    ensures reads { ReadsUnlessFault B.tells (B.state bench.old) (B.state bench.new) result }
+    ensures store { IsCounted (B.state bench.old).store_faults (B.state bench.new).store_faults (is_store_fault result) }
+    ensures device { IsCounted (B.state bench.old).device_faults (B.state bench.new).device_faults (is_device_fault result) }
+{
+    let mut body = prepare(alloc, bench, parts)?;
+    let front = body.len() - parts.size as usize;
+    take_and_put(bench, &mut body, front)
+}

@@ -1,0 +1,56 @@
+//! The call that opens a job.
+ghost use Rattle.std.specs.Prelude.{◌≡◌, IsTrue, IsErrOf, OnOk, IfOk, IfErr};
+ghost use Rattle.bench_model.specs.History.{LeftOnly};
+ghost use Rattle.bench_model.specs.State.{file_half};
+ghost use Rattle.bench_model.specs.Calls.{OnlyReads};
+ghost use Rattle.job_text.specs.Stands.{StandsFor};
+ghost use Rattle.job_file.specs.Counted.{IsCounted, is_open_fault};
+ghost use Rattle.job_file.specs.Faults.{IsOpenFault};
+
+use crate::fault::OpenFault;
+use crate::reading::look;
+use bench_model::Bench;
+use job_text::{Class, Job, class_of_file};
+use std::alloc::Global;
+
+/// The job of a file, for so many cells.
+fn judge(alloc: Global, file: &[u8], found: u32) -> Result<Job, OpenFault>
+    ensures ok { IfOk result (λ job. StandsFor job file.now) }
+    ensures sized { IfOk result (λ job. job.algorithm.device.size ≡ found) }
+    ensures refused { IfErr result (IsOpenFault file.now found) }
+    ensures no_fault { IsErrOf result OpenFault.StoreFault → ⊥ }
+{
+    match class_of_file(alloc, file)? {
+        Class::Free => Err(OpenFault::NoJob),
+        Class::NotAJob { at } => Err(OpenFault::NotAJob { at }),
+        Class::Stands(job) => {
+            let said = job.algorithm.device.size;
+            if said != found {
+                return Err(OpenFault::CellsDiffer { said, found });
+            }
+            Ok(job)
+        }
+    }
+}
+
+/// Opens the job for which the file stands. It changes nothing; once it answered Ok, a stop leaves this file alone.
+///
+/// # Errors
+///
+/// `NoJob` and `NotAJob` exactly by what the file is; `CellsDiffer` exactly where it stands for a job for another number of
+/// cells; `StoreFault` only where it was counted.
+pub fn open<B: Bench>(alloc: Global, bench: &mut B) -> Result<Job, OpenFault>
+    ensures ok { IsTrue B.tells → IfOk result (λ job. StandsFor job (B.state bench.old).file) }
+    ensures sized { IfOk result (λ job. job.algorithm.device.size ≡ (B.state bench.old).cell_count) }
+    ensures only { IsTrue B.tells → OnOk result (LeftOnly (B.state bench.old).file (file_half (B.state bench.new))) }
+
+    // With `ok` and `sized`, each refusal comes exactly where it says.
+    ensures refused { IsTrue B.tells → IfErr result (IsOpenFault (B.state bench.old).file (B.state bench.old).cell_count) }
+
+    ensures reads { OnlyReads B.tells (B.state bench.old) (B.state bench.new) }
+    ensures counted { IsCounted (B.state bench.old).store_faults (B.state bench.new).store_faults (is_open_fault result) }
+{
+    let bytes = look(alloc, bench)?;
+    let found = bench.cells_len();
+    judge(alloc, &bytes, found)
+}
