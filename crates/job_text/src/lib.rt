@@ -13,8 +13,6 @@ mod job;
 mod law;
 mod parts;
 mod runs;
-#[cfg(test)]
-mod tests;
 mod texts;
 
 pub use class::class_of_file;

@@ -1,5 +1,5 @@
 //! Files that are no jobs. Those that are, and those nearly so, are read by a program of its own.
-use super::*;
+use job_text::{Class, class_of_file};
 use std::test::Fail;
 
 #[test]
