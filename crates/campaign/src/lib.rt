@@ -1,0 +1,16 @@
+//! The law over whole campaigns: a call of `program`, and then calls of `resume` and `revert` that go on with its job, of
+//! which each may be stopped at any moment. It knows the body of a job as a list of bytes, and no instruction, plan or format.
+#![tactic(auto)]
+
+ghost use Rattle.campaign.specs.Campaign.{Campaign, IsCampaign, IsSafeCampaign};
+
+/// A campaign. It is a trait since a clause can't speak of each bench's history, and a ghost member can.
+pub trait History {
+    ghost campaign: { Campaign };
+}
+
+/// In every campaign each pair of a file and cells that a stop leaves is untouched, whole or finished, with the one job of
+/// the first call; and each later call that answers 0 leaves its goal.
+pub fn campaigns_are_safe<H: History>()
+    ensures { IsCampaign H.campaign → IsSafeCampaign H.campaign }
+{}
