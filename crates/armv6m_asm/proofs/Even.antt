@@ -1,13 +1,18 @@
--- Each place is even.
-use Rattle.std.proofs.Common.{◌≡◌, ◌+◌, ◌%◌, ℕ, Bool, true, false, cond, List, [], ◌∷◌, length, refl, arith}
-use Rattle.std.specs.Prelude.{◌==◌}
+-- Each place is even, and each label stands at a place in the code or at its end.
+use Rattle.std.proofs.Common.{◌≡◌, ◌+◌, ◌%◌, ◌≤◌, ◌∙◌, ℕ, Bool, true, false, cond, List, [], ◌∷◌, ◌++◌, length, Option, Some, None, refl, ap, arith}
+use Rattle.std.specs.Prelude.{◌==◌, All}
+use Rattle.std.specs.Borrow.{Bor}
 use Rattle.std.proofs.lemmas.Bool.Decides.{nat_tests}
+use Rattle.std.proofs.lemmas.List.{length-append}
+use Rattle.std.proofs.lemmas.List.Elements.{All-cons, All-nil}
 use Rattle.armv6m_forms.specs.declared.form.Aim.{Aim}
 use Rattle.armv6m_forms.specs.declared.form.Aim.TheVariants as aims
 use Rattle.armv6m_asm.specs.declared.statement.Operation.{Operation}
 use Rattle.armv6m_asm.specs.declared.statement.Operation.TheVariants as operations
 use Rattle.armv6m_asm.specs.declared.statement.Statement.{Statement}
-use Rattle.armv6m_asm.specs.Assembly.{is_wide, aim_width, nop, size_of, place_after, AlignPads}
+use Rattle.armv6m_asm.specs.declared.labels.Label.{Label}
+use Rattle.armv6m_asm.specs.declared.code.Code.{Code}
+use Rattle.armv6m_asm.specs.Assembly.{is_wide, aim_width, nop, size_of, place_after, label_at, labels_of, AlignPads, AreBytes, IsAssembled}
 
 sum_even : (a b : ℕ) → a % 2 ≡ 0 → b % 2 ≡ 0 → (a + b) % 2 ≡ 0
 sum_even a b even also = omega arith
@@ -44,3 +49,46 @@ pads at false even is = let other : at % 4 ≡ 0 → ⊥ = grind (arith, nat_tes
 
 pub align_pads : AlignPads
 align_pads statements = let at = place_after 0 statements in pads at (at % 4 == 0) (end_even 0 statements refl) refl
+
+-- one label more, or none
+labels_more : (P : Label → Type 0) (label : Option (Bor (List ℕ))) (at : ℕ) (labels : List Label) → ((name : List ℕ) → P (record { name = name; place = at }))
+    → All P labels → All P (label_at label at ++ labels)
+labels_more P None at labels here all = all
+labels_more P (Some name) at labels here all = All-cons P (record { name = name.now; place = at }) labels (here name.now) all
+
+labels_even : (from : ℕ) (statements : List Statement) → from % 2 ≡ 0 → All (λ (label : Label). label.place % 2 ≡ 0) (labels_of from statements)
+labels_even from [] even = All-nil (λ (label : Label). label.place % 2 ≡ 0)
+labels_even from (s ∷ statements) even =
+    labels_more (λ (label : Label). label.place % 2 ≡ 0) s.label from (labels_of (from + size_of s.operation from) statements) (λ name. even)
+    (labels_even (from + size_of s.operation from) statements (sum_even from (size_of s.operation from) even (size_even s.operation from)))
+
+end_behind : (from : ℕ) (statements : List Statement) → from ≤ place_after from statements
+end_behind from [] = omega arith
+end_behind from (s ∷ statements) = omega (arith, end_behind (from + size_of s.operation from) statements)
+
+labels_within : (from stop : ℕ) (statements : List Statement) → place_after from statements ≤ stop → All (λ (label : Label). label.place ≤ stop) (labels_of from statements)
+labels_within from stop [] within = All-nil (λ (label : Label). label.place ≤ stop)
+labels_within from stop (s ∷ statements) within =
+    labels_more (λ (label : Label). label.place ≤ stop) s.label from (labels_of (from + size_of s.operation from) statements)
+    (λ name. omega (arith, end_behind from (s ∷ statements), within))
+    (labels_within (from + size_of s.operation from) stop statements within)
+
+-- the bytes end at the place behind the statements
+bytes_end : (labels : List Label) (from : ℕ) (statements : List Statement) (bytes : List ℕ) → AreBytes labels from statements bytes
+    → from + length bytes ≡ place_after from statements
+bytes_end labels from [] bytes none = let e : length bytes ≡ 0 = ap length none in omega arith
+bytes_end labels from (s ∷ statements) bytes (own, rest, are, long, of_own, of_rest) =
+    let e : length bytes ≡ length own + length rest = ap length are ∙ length-append own rest in
+    omega (arith, long, bytes_end labels (from + size_of s.operation from) statements rest of_rest)
+
+-- the places of a text's labels are even
+pub label_even : (text : List ℕ) (code : Code) → IsAssembled text code → All (λ (label : Label). label.place % 2 ≡ 0) code.labels
+label_even text code assembled =
+    rw assembled.read.read.read.labels_are (labels_even 0 assembled.statements refl)
+
+-- and at most the length of its code
+pub label_within : (text : List ℕ) (code : Code) → IsAssembled text code → All (λ (label : Label). label.place ≤ length code.bytes) code.labels
+label_within text code assembled =
+    let stop : place_after 0 assembled.statements ≤ length code.bytes =
+    omega (arith, bytes_end code.labels 0 assembled.statements code.bytes assembled.bytes) in
+    rw assembled.read.read.read.labels_are (labels_within 0 (length code.bytes) assembled.statements stop)

@@ -1,4 +1,4 @@
-mod Even
+pub mod Even
 mod LawLemmas
 mod ListLemmas
 mod Names
