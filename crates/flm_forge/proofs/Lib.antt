@@ -1,0 +1,15 @@
+mod WriteLemmas
+mod TextLemmas
+mod PlaceLemmas
+mod SearchLemmas
+mod StringLemmas
+mod HeaderLemmas
+mod LayoutLemmas
+mod SectionLemmas
+mod SymbolLemmas
+mod LookupLemmas
+mod PartLemmas
+mod DescriptionLemmas
+mod EntryLemmas
+mod ReadLemmas
+mod ForgeLemmas

@@ -1,0 +1,11 @@
+pub mod Fields
+pub mod Entries
+pub mod Places
+pub mod Sections
+pub mod Symbols
+pub mod Device
+pub mod File
+pub mod Read
+pub mod Results
+pub mod Texts
+pub mod Listed

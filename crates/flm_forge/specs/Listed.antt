@@ -1,0 +1,39 @@
+-- The listings of the algorithms A1 to A7 for a region of a board.
+use Rattle.std.specs.Prelude.{ℕ, ◌+◌, ◌*◌, List, [], ◌∷◌, codes}
+use Rattle.board_file.specs.declared.region.Region.{Region}
+use Rattle.board_file.specs.declared.sectors.SectorRun.{SectorRun}
+use Rattle.flm_descriptor.specs.declared.fault.Name.{Name}
+use Rattle.flm_descriptor.specs.declared.fault.Name.TheVariants.{Verify}
+use Rattle.flm_descriptor.specs.declared.items.SectorItem.{SectorItem}
+use Rattle.flm_forge.specs.declared.kind.Kind.{Kind}
+use Rattle.flm_forge.specs.declared.kind.Kind.TheVariants.{A2, A4}
+use Rattle.flm_forge.specs.declared.source.Listing.{Listing}
+use Rattle.flm_forge.specs.Texts.{lines, text_of}
+
+-- A2 and A4 have no symbol of Verify
+abbrev pub hidden_names : Kind → List Name
+hidden_names A2 = Verify ∷ []
+hidden_names A4 = Verify ∷ []
+hidden_names _ = []
+
+-- one item for each run of sectors, from an offset on
+unfoldable pub items_from : ℕ → List SectorRun → List SectorItem
+items_from offset [] = []
+items_from offset (run ∷ runs) = record { size = run.size; offset = offset } ∷ items_from (offset + run.count * run.size) runs
+
+-- the listing of a kind for a controller whose registers begin at `base`, a region, and pages of so many bytes
+abbrev pub listing_of : Kind → ℕ → Region → ℕ → Listing
+listing_of kind base region page = record {
+  text = text_of (lines kind base);
+  init_data = [];
+  zero_len = 0;
+  name = codes "FC1";
+  base = region.base;
+  size = region.size;
+  page = page;
+  empty = region.empty;
+  to_prog = 100;
+  to_erase = 500;
+  items = items_from 0 region.sectors;
+  hidden = hidden_names kind;
+}

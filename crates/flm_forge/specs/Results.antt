@@ -1,0 +1,13 @@
+-- Faults of the assembler as this crate keeps them.
+use Rattle.armv6m_asm.specs.declared.fault.AsmFault.{AsmFault}
+use Rattle.armv6m_asm.specs.declared.fault.AsmFault.TheVariants as asm
+use Rattle.flm_forge.specs.declared.fault.ForgeFault.{ForgeFault}
+use Rattle.flm_forge.specs.declared.fault.ForgeFault.TheVariants as fault
+
+-- want of memory is the outer type's own variant
+abbrev pub outer : AsmFault → ForgeFault
+outer asm.OutOfMemory = fault.OutOfMemory
+outer (asm.BadWord line) = fault.Asm (asm.BadWord line)
+outer (asm.TwiceLabel name) = fault.Asm (asm.TwiceLabel name)
+outer (asm.NoLabel name) = fault.Asm (asm.NoLabel name)
+outer (asm.OutOfReach line) = fault.Asm (asm.OutOfReach line)

@@ -1,0 +1,88 @@
+-- The texts of the algorithms A1 to A7, which program flash by the controller FC1: lists of lines, with the address of the
+-- controller's registers as a constant. A1 does as it should. Each other kind differs from it in what is said beside it.
+use Rattle.std.specs.Prelude.{ℕ, List, [], ◌∷◌, ◌++◌, codes}
+use Rattle.std.specs.List.{flat_map}
+use Rattle.octets.specs.Digit.{hex_text}
+use Rattle.flm_forge.specs.declared.kind.Kind.{Kind}
+use Rattle.flm_forge.specs.declared.kind.Kind.TheVariants.{A2, A3, A4, A5, A6, A7}
+
+-- the text of some lines: a line feed ends each
+abbrev pub text_of : List (List ℕ) → List ℕ
+text_of lines = flat_map (λ line. line ++ 10 ∷ []) lines
+
+-- Init: opens the registers with both keys
+abbrev pub init_lines : List (List ℕ)
+init_lines =
+    codes "Init: LDR R3, base" ∷ codes "LDR R1, key1" ∷ codes "STR R1, [R3, #0]" ∷ codes "LDR R1, key2"
+    ∷ codes "STR R1, [R3, #0]" ∷ codes "MOVS R0, #0" ∷ codes "BX LR" ∷ []
+
+-- UnInit: locks the registers; the first instruction of A4 leads to what stands in `lie_lines`
+abbrev pub un_init_first : Kind → List ℕ
+un_init_first A4 = codes "UnInit: B lie"
+un_init_first _ = codes "UnInit: LDR R3, base"
+
+abbrev pub un_init_lines : List (List ℕ)
+un_init_lines = codes "MOVS R0, #0" ∷ codes "STR R0, [R3, #0]" ∷ codes "BX LR" ∷ []
+
+-- EraseChip: operation 3; A2 only answers 0
+abbrev pub erase_chip_lines : Kind → List (List ℕ)
+erase_chip_lines A2 = codes "EraseChip: MOVS R0, #0" ∷ codes "BX LR" ∷ []
+erase_chip_lines _ = codes "EraseChip: MOVS R2, #3" ∷ codes "B erase" ∷ []
+
+-- EraseSector: operation 2; A2 only answers 0, A3 never ends, A5 erases at an address 256 off, A6 only answers 1, and A7
+-- leaves the code
+abbrev pub erase_sector_lines : Kind → List (List ℕ)
+erase_sector_lines A2 = codes "EraseSector: MOVS R0, #0" ∷ codes "erase: BX LR" ∷ []
+erase_sector_lines A3 = codes "EraseSector: B EraseSector" ∷ codes "erase: LDR R3, base" ∷ []
+erase_sector_lines A5 =
+    codes "EraseSector: MOVS R1, #1" ∷ codes "LSLS R1, R1, #8" ∷ codes "EORS R0, R1" ∷ codes "MOVS R2, #2"
+    ∷ codes "erase: LDR R3, base" ∷ []
+erase_sector_lines A6 = codes "EraseSector: MOVS R0, #1" ∷ codes "erase: BX LR" ∷ []
+erase_sector_lines A7 = codes "EraseSector: MOVS R2, #0" ∷ codes "erase: BX R2" ∷ []
+erase_sector_lines _ = codes "EraseSector: MOVS R2, #2" ∷ codes "erase: LDR R3, base" ∷ []
+
+-- both: starts the operation, waits for its end, takes the error bits, clears them, and answers 1 where one was set
+abbrev pub erase_lines : List (List ℕ)
+erase_lines =
+    codes "STR R2, [R3, #8]" ∷ codes "STR R0, [R3, #12]" ∷ codes "MOVS R1, #1" ∷ codes "STR R1, [R3, #16]"
+    ∷ codes "wait: LDR R2, [R3, #4]" ∷ codes "TST R2, R1" ∷ codes "BNE wait" ∷ codes "MOVS R0, #0x1C" ∷ codes "ANDS R0, R2"
+    ∷ codes "MOVS R2, #0x1E" ∷ codes "STR R2, [R3, #4]" ∷ codes "CMP R0, #0" ∷ codes "BEQ out" ∷ codes "MOVS R0, #1"
+    ∷ codes "out: BX LR" ∷ []
+
+-- ProgramPage: two bytes at a time; A2 only answers 0
+abbrev pub program_page_first : Kind → List (List ℕ)
+program_page_first A2 = codes "ProgramPage: MOVS R0, #0" ∷ codes "BX LR" ∷ []
+program_page_first _ = codes "ProgramPage: PUSH {R4, R5, LR}" ∷ codes "LDR R3, base" ∷ []
+
+abbrev pub program_page_lines : List (List ℕ)
+program_page_lines =
+    codes "MOVS R4, #1" ∷ codes "STR R4, [R3, #8]" ∷ codes "pnext: CMP R1, #0" ∷ codes "BEQ pdone" ∷ codes "LDRH R5, [R2, #0]"
+    ∷ codes "STRH R5, [R0, #0]" ∷ codes "pwait: LDR R5, [R3, #4]" ∷ codes "TST R5, R4" ∷ codes "BNE pwait"
+    ∷ codes "LSRS R5, R5, #2" ∷ codes "LSLS R5, R5, #29" ∷ codes "BNE pfail" ∷ codes "ADDS R0, #2" ∷ codes "ADDS R2, #2"
+    ∷ codes "SUBS R1, #2" ∷ codes "B pnext" ∷ codes "pdone: MOVS R0, #0" ∷ codes "B pout" ∷ codes "pfail: MOVS R0, #1"
+    ∷ codes "pout: MOVS R5, #0x1E" ∷ codes "STR R5, [R3, #4]" ∷ codes "POP {R4, R5, PC}" ∷ []
+
+-- Verify: compares byte by byte, and answers the address of the first that differs, or the end
+abbrev pub verify_lines : List (List ℕ)
+verify_lines =
+    codes "Verify: PUSH {R4, LR}" ∷ codes "vnext: CMP R1, #0" ∷ codes "BEQ vout" ∷ codes "LDRB R3, [R0, #0]"
+    ∷ codes "LDRB R4, [R2, #0]" ∷ codes "CMP R3, R4" ∷ codes "BNE vout" ∷ codes "ADDS R0, #1" ∷ codes "ADDS R2, #1"
+    ∷ codes "SUBS R1, #1" ∷ codes "B vnext" ∷ codes "vout: POP {R4, PC}" ∷ []
+
+-- A4's UnInit erases the chip where it is called behind programming, and answers 0
+abbrev pub lie_lines : Kind → List (List ℕ)
+lie_lines A4 =
+    codes "lie: LDR R3, base" ∷ codes "CMP R0, #2" ∷ codes "BNE lied" ∷ codes "MOVS R0, #3" ∷ codes "STR R0, [R3, #8]"
+    ∷ codes "MOVS R0, #1" ∷ codes "STR R0, [R3, #16]" ∷ codes "lied: MOVS R0, #0" ∷ codes "BX LR" ∷ []
+lie_lines _ = []
+
+-- the address of the registers, and the keys
+abbrev pub constant_lines : ℕ → List (List ℕ)
+constant_lines base =
+    codes ".align" ∷ (codes "base: .word 0x" ++ hex_text 8 base) ∷ codes "key1: .word 0x45670123" ∷ codes "key2: .word 0xCDEF89AB" ∷ []
+
+-- the lines of a kind, for a controller whose registers begin at an address
+abbrev pub lines : Kind → ℕ → List (List ℕ)
+lines kind base =
+    init_lines ++ (un_init_first kind ∷ (un_init_lines ++ (erase_chip_lines kind ++ (erase_sector_lines kind ++ (erase_lines
+    ++ (program_page_first kind ++ (program_page_lines ++ (verify_lines ++ (lie_lines kind ++ constant_lines base)))))))))

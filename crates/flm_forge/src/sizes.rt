@@ -1,0 +1,68 @@
+//! Where the parts of a file stand.
+ghost use Rattle.std.specs.Prelude.{◌≡◌, ◌<◌, ◌^◌};
+ghost use Rattle.flm_forge.specs.Places.{code_at, init_data_at, descriptor_at, headers_at, descriptor_addr, end_of};
+
+/// Where the names of symbols begin, in bytes from the file's start.
+pub const SYMBOL_NAMES_AT: u32 = 52;
+
+/// Where the names of sections begin.
+pub const SECTION_NAMES_AT: u32 = 120;
+
+/// Where the symbols begin.
+pub const SYMBOLS_AT: u32 = 172;
+
+/// The bytes of the section headers.
+pub const HEADERS_LEN: u32 = 320;
+
+/// How many bytes the parts of a file have.
+#[derive(Clone, Copy)]
+pub struct Sizes {
+    pub symbols: u32,
+    pub code: u32,
+    pub init_data: u32,
+    /// The zeroed data, of which no byte is in the file.
+    pub zero_len: u32,
+    pub descriptor: u32,
+}
+
+impl Sizes {
+    /// Where the code begins.
+    pub fn code_at(&self) -> u32
+        requires { end_of self.now < 2 ^ 32 }
+        ensures { result ≡ code_at self.now }
+    {
+        SYMBOLS_AT + self.symbols
+    }
+
+    /// Where the data begins.
+    pub fn init_data_at(&self) -> u32
+        requires { end_of self.now < 2 ^ 32 }
+        ensures { result ≡ init_data_at self.now }
+    {
+        self.code_at() + self.code
+    }
+
+    /// Where the description begins.
+    pub fn descriptor_at(&self) -> u32
+        requires { end_of self.now < 2 ^ 32 }
+        ensures { result ≡ descriptor_at self.now }
+    {
+        self.init_data_at() + self.init_data
+    }
+
+    /// Where the section headers begin.
+    pub fn headers_at(&self) -> u32
+        requires { end_of self.now < 2 ^ 32 }
+        ensures { result ≡ headers_at self.now }
+    {
+        self.descriptor_at() + self.descriptor
+    }
+
+    /// The address of the description.
+    pub fn descriptor_addr(&self) -> u32
+        requires { end_of self.now < 2 ^ 32 }
+        ensures { result ≡ descriptor_addr self.now }
+    {
+        (self.code + self.init_data).wrapping_add(self.zero_len)
+    }
+}

@@ -1,0 +1,82 @@
+//! Listings: what FLM files are made of.
+
+use flm_descriptor::{Items, Name};
+use octets::Bytes;
+use std::marker::Model;
+
+/// A flash algorithm as text and numbers. Sizes are in bytes, times in milliseconds.
+#[derive(Debug, Drop)]
+pub struct Listing {
+    /// The assembler's text. A label with an entry's name is that entry.
+    pub text: Bytes,
+    /// The data, which stands behind the code at once: `.align` as the text's last line puts it at a multiple of 4.
+    pub init_data: Bytes,
+    /// The bytes of zeroed data, behind the data at once.
+    pub zero_len: u32,
+    /// The device's name: at most 127 bytes, none of them zero.
+    pub name: Bytes,
+    /// The address of the device's first byte.
+    pub base: u32,
+    /// Bytes of the device.
+    pub size: u32,
+    /// Bytes of a page.
+    pub page: u32,
+    /// The value of erased memory.
+    pub empty: u8,
+    /// The most time that programming a page takes.
+    pub to_prog: u32,
+    /// The most time that erasing a sector takes.
+    pub to_erase: u32,
+    /// The sector items.
+    pub items: Items,
+    /// The entries that get no symbol.
+    pub hidden: Names,
+}
+
+/// Names in their order. A contract sees them as a list.
+#[derive(Debug, Drop)]
+pub struct Names {
+    names: Vec<Name>,
+}
+
+impl Model for Names {
+    ghost use Rattle.std.specs.Prelude.{List};
+    ghost use Rattle.flm_descriptor.specs.declared.fault.Name.{Name};
+
+    ghost Value = { List Name };
+
+    ghost view = { λ n. n.names.items };
+}
+
+impl Names {
+    ghost use Rattle.std.specs.Prelude.{◌≡◌};
+    ghost use Rattle.flm_forge.specs.Entries.{is_hidden};
+
+    /// The names of a vector, with no copy.
+    pub fn from_vec(names: Vec<Name>) -> Names
+        ensures { result ≡ names.items }
+    {
+        Names { names }
+    }
+
+    /// The vector of the names, with no copy.
+    pub fn into_vec(self) -> Vec<Name>
+        ensures { result.items ≡ self }
+    {
+        self.names
+    }
+
+    /// The names, lent.
+    pub fn as_slice(&self) -> &[Name]
+        ensures { result.now ≡ self.now }
+    {
+        self.names.as_slice()
+    }
+
+    /// Whether a name is among these.
+    pub(crate) fn contains(&self, name: Name) -> bool
+        ensures { result ≡ is_hidden self.now name }
+    {
+        self.names.iter().any(|other| other.text() == name.text())
+    }
+}
