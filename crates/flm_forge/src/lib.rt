@@ -18,6 +18,3 @@ pub use fault::ForgeFault;
 pub use file::forge;
 pub use kind::Kind;
 pub use source::{Listing, Names};
-
-#[cfg(test)]
-mod tests;

@@ -1,0 +1,5 @@
+//! Tests of FLM files that are made.
+#![tactic(auto)]
+
+#[cfg(test)]
+mod listings;
