@@ -1,0 +1,50 @@
+//! Makes FLM files and inspects them: A1 to A7 for the board of one file, A1 for that of another, and a listing with data and zeroed
+//! data. It prints what each file says, and its bytes.
+#![tactic(auto)]
+
+mod data;
+mod put;
+
+use anyhow::Result;
+use board_file::{Board, read_board};
+use data::with_data;
+use flm_forge::{Kind, listing};
+use put::put;
+use std::fs::File;
+use std::io::Read;
+
+/// The bytes of a file.
+fn read_file(rt: &HostRuntime, name: &str) -> Result<Vec<u8>> {
+    let mut file = File::open(rt, name)?;
+    let mut bytes = Vec::new(rt.alloc());
+    file.read_to_end(&mut bytes)?;
+    Ok(bytes)
+}
+
+/// The board of a file.
+fn board(rt: &HostRuntime, name: &str) -> Result<Board> {
+    let text = read_file(rt, name)?;
+    Ok(read_board(rt.alloc(), &text)?)
+}
+
+/// Puts an algorithm with pages of so many bytes.
+fn put_kind(rt: &HostRuntime, name: &str, kind: Kind, board: &Board, page: u32) -> Result<()> {
+    put(rt, name, &listing(rt.alloc(), kind, board, page)?)
+}
+
+/// Puts every algorithm for a board.
+fn put_kinds(rt: &HostRuntime, board: &Board, page: u32) -> Result<()> {
+    put_kind(rt, "A1", Kind::A1, board, page)?;
+    put_kind(rt, "A2", Kind::A2, board, page)?;
+    put_kind(rt, "A3", Kind::A3, board, page)?;
+    put_kind(rt, "A4", Kind::A4, board, page)?;
+    put_kind(rt, "A5", Kind::A5, board, page)?;
+    put_kind(rt, "A6", Kind::A6, board, page)?;
+    put_kind(rt, "A7", Kind::A7, board, page)
+}
+
+fn main(rt: HostRuntime) -> Result<()> {
+    put_kinds(&rt, &board(&rt, "board.toml")?, 64)?;
+    put_kind(&rt, "wide", Kind::A1, &board(&rt, "wide.toml")?, 1024)?;
+    put(&rt, "data", &with_data(&rt, read_file(&rt, "data.s")?)?)
+}
