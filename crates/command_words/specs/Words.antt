@@ -1,5 +1,5 @@
 -- What the words of a command line ask for.
-use Rattle.std.specs.Prelude.{◌≡◌, ◌≤◌, ◌<◌, ◌^◌, ◌⊎◌, ℕ, Bool, true, false, List, [], ◌∷◌, ◌++◌, length, All, slice_index, codes, Option, Some, None}
+use Rattle.std.specs.Prelude.{◌≡◌, ◌≤◌, ◌<◌, ◌^◌, ◌⊎◌, ℕ, Bool, true, false, List, [], ◌∷◌, ◌++◌, length, All, slice_index, codes, Option, Some, None, IsSome}
 use Rattle.std.specs.Str.Parse.{IsNumeral, digits_value}
 use Rattle.command_words.specs.Files.{FilesAsked, names_in}
 use Rattle.command_words.specs.declared.command.CommandName.{CommandName}
@@ -18,6 +18,7 @@ text_of Inspect = codes "inspect"
 text_of Demo = codes "demo"
 
 abbrev pub is_built : CommandName → Bool
+is_built Plan = true
 is_built Verify = true
 is_built Compare = true
 is_built Inspect = true
@@ -135,6 +136,22 @@ pub record IsVerify (words : List (List ℕ)) (files : FilesAsked) : Type 0 wher
   pub words_are : words ≡ text_of Verify ∷ others
   pub names : HasBoardAndImages others files
 
+-- the words after a command's name are a board, an FLM file and images, with as many images as there may be
+pub record HasTargetAndImages (words : List (List ℕ)) (files : FilesAsked) : Type 0 where
+  pub arguments : AreArguments words files.raw_at (names_in files)
+  pub has_flm : IsSome files.flm
+  pub few : AreFew files.raw_at (length files.images)
+
+-- the command with a board, an FLM file and images
+pub record IsOnTarget (command : CommandName) (words : List (List ℕ)) (files : FilesAsked) : Type 0 where
+  pub others : List (List ℕ)
+  pub words_are : words ≡ text_of command ∷ others
+  pub names : HasTargetAndImages others files
+
+-- `plan [--raw-at ADDR] BOARD FLM IMAGE...`
+abbrev pub IsPlan : List (List ℕ) → FilesAsked → Type 0
+IsPlan words files = IsOnTarget Plan words files
+
 -- the first word names a command that isn't built, whatever the other words are
 pub record IsNotBuilt (words : List (List ℕ)) : Type 0 where
   pub name : CommandName
@@ -145,12 +162,14 @@ pub record IsNotBuilt (words : List (List ℕ)) : Type 0 where
 -- What words ask for: a command, with the names of its files.
 
 pub data Command : Type 0 where
+  plan : (files : FilesAsked) → Command
   verify : (files : FilesAsked) → Command
   compare : (image : List ℕ) → Command
   inspect : (flm : List ℕ) → Command
   not_built : Command
 
 abbrev pub Asks : List (List ℕ) → Command → Type 0
+Asks words (plan files) = IsPlan words files
 Asks words (verify files) = IsVerify words files
 Asks words (compare image) = IsCompare words image
 Asks words (inspect flm) = IsInspect words flm
@@ -158,6 +177,7 @@ Asks words not_built = IsNotBuilt words
 
 -- the names of the files that a command may take, in the order of the words
 abbrev pub names_asked : Command → List (List ℕ)
+names_asked (plan files) = names_in files
 names_asked (verify files) = names_in files
 names_asked (compare image) = image ∷ []
 names_asked (inspect flm) = flm ∷ []

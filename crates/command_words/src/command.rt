@@ -1,6 +1,6 @@
 //! What the words of a command line ask for.
 ghost use Rattle.std.specs.Prelude.{◌≡◌, ◌≢◌, ◌↔◌, ℕ, List, [], ◌∷◌, IfSome, IfNone, IsTrue, option_map};
-ghost use Rattle.command_words.specs.Words.{text_of, AreFew, Positional, HasBoardAndImages, Asked};
+ghost use Rattle.command_words.specs.Words.{text_of, AreFew, Positional, HasBoardAndImages, HasTargetAndImages, Asked};
 ghost use Rattle.command_words.specs.Files.{FilesAsked};
 ghost use Rattle.command_words.specs.Requested.{files_of, command_of};
 ghost use Rattle.command_words.specs.declared.command.CommandName.{CommandName};
@@ -57,6 +57,9 @@ pub struct FileNames<'a> {
 /// A command with the names of its files.
 #[derive(Clone, Copy)]
 pub enum Request<'a> {
+    /// Prints what it would take to bring the union of images into the cells, on a board by an algorithm.
+    Plan(FileNames<'a>),
+
     /// Compares the cells with the union of images, on a board.
     Verify(FileNames<'a>),
 
@@ -78,6 +81,7 @@ pub fn read_request(words: &[Word]) -> Option<Request<'_>>
         [] => None,
         [first, others @ ..] => match CommandName::read(first) {
             None => None,
+            Some(CommandName::Plan) => Some(Request::Plan(target_and_images(others)?)),
             Some(CommandName::Verify) => Some(Request::Verify(board_and_images(others)?)),
             Some(CommandName::Compare) => Some(Request::Compare {
                 image: only_name(others)?,
@@ -105,6 +109,27 @@ fn board_and_images(words: &[Word]) -> Option<FileNames<'_>>
             raw_at,
             board,
             flm: None,
+            images,
+        })
+    } else {
+        None
+    }
+}
+
+/// The option and the files of a command on a target: a board, an FLM file and 1 to 16 images, and just one where an address
+/// is given.
+fn target_and_images(words: &[Word]) -> Option<FileNames<'_>>
+    ensures some { IfSome result (λ files. HasTargetAndImages words.now (files_of files)) }
+    ensures none { IfNone result ((files : FilesAsked) → HasTargetAndImages words.now files → ⊥) }
+{
+    let Arguments { raw_at, names } = read_arguments(words)?;
+    let (board, others) = names.split_first()?;
+    let (flm, images) = others.split_first()?;
+    if are_few(raw_at, images.len()) {
+        Some(FileNames {
+            raw_at,
+            board,
+            flm: Some(flm),
             images,
         })
     } else {
