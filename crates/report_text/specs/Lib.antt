@@ -4,3 +4,4 @@ pub mod Inspection
 pub mod Faults
 pub mod Refusal
 pub mod Shown
+pub mod Plan

@@ -20,6 +20,10 @@ pub data Refusal : Type 0 where
   image_misplaced : (fault : ImageFault) → Refusal
   -- an input file is no FLM file
   flm_refused : (fault : FlmFault) → Refusal
+  -- an FLM file is for a device with another base or size than the region's
+  other_device : (base size : ℕ) → Refusal
+  -- the algorithm needs more bytes than the RAM has
+  no_room : (need have : ℕ) → Refusal
   -- an input file describes no board
   board_refused : (fault : BoardFault) → Refusal
   -- there are other than the region's number of cells
@@ -38,6 +42,8 @@ status_of (image_too_long bytes cells) = 4
 status_of (image_refused name fault) = 4
 status_of (image_misplaced fault) = 4
 status_of (flm_refused fault) = 5
+status_of (other_device base size) = 5
+status_of (no_room need have) = 5
 status_of (board_refused fault) = 6
 status_of (cells_differ wanted found) = 7
 status_of device_fault = 9
@@ -54,6 +60,8 @@ reason_of (image_too_long bytes cells) = concat (codes "image: " ∷ decimal byt
 reason_of (image_refused name fault) = file_text name fault ++ image_text fault
 reason_of (image_misplaced fault) = codes "image: " ++ image_text fault
 reason_of (flm_refused fault) = codes "flm: " ++ flm_text fault
+reason_of (other_device base size) = concat (codes "flm: other device " ∷ hex_text 8 base ∷ codes " " ∷ decimal size ∷ [])
+reason_of (no_room need have) = concat (codes "flm: NoRoom " ∷ decimal need ∷ codes " " ∷ decimal have ∷ [])
 reason_of (board_refused fault) = codes "board: " ++ board_text fault
 reason_of (cells_differ wanted found) = concat (codes "job: " ∷ decimal wanted ∷ codes " cells wanted, " ∷ decimal found ∷ codes " found" ∷ [])
 reason_of device_fault = codes "device fault"

@@ -1,7 +1,7 @@
 -- The refusal that a value of the program is.
 use Rattle.report_text.specs.Refusal as refusal
 use Rattle.report_text.specs.declared.refusal.Refusal.{Refusal}
-use Rattle.report_text.specs.declared.refusal.Refusal.TheVariants.{OutOfMemory, Usage, InputFault, ImageTooLong, ImageRefused, ImageMisplaced, FlmRefused, BoardRefused, CellsDiffer, DeviceFault, OutputFault, Differs, NotBuilt}
+use Rattle.report_text.specs.declared.refusal.Refusal.TheVariants.{OutOfMemory, Usage, InputFault, ImageTooLong, ImageRefused, ImageMisplaced, FlmRefused, OtherDevice, NoRoom, BoardRefused, CellsDiffer, DeviceFault, OutputFault, Differs, NotBuilt}
 
 abbrev pub shown : Refusal → refusal.Refusal
 shown OutOfMemory = refusal.out_of_memory
@@ -11,6 +11,8 @@ shown (ImageTooLong bytes cells) = refusal.image_too_long bytes cells
 shown (ImageRefused name fault) = refusal.image_refused name.now fault
 shown (ImageMisplaced fault) = refusal.image_misplaced fault
 shown (FlmRefused fault) = refusal.flm_refused fault
+shown (OtherDevice base size) = refusal.other_device base size
+shown (NoRoom need have) = refusal.no_room need have
 shown (BoardRefused fault) = refusal.board_refused fault
 shown (CellsDiffer wanted found) = refusal.cells_differ wanted found
 shown DeviceFault = refusal.device_fault

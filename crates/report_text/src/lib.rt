@@ -1,4 +1,5 @@
-//! The texts that the flash programmer prints: an inspection, an end and a refusal, each put on a sink. No call takes memory.
+//! The texts that the flash programmer prints: a plan, an inspection, an end and a refusal, each put on a sink. No call takes
+//! memory.
 #![tactic(auto)]
 
 mod board_reason;
@@ -6,11 +7,13 @@ mod end;
 mod image_reason;
 mod inspection;
 mod pieces;
+mod plan;
 mod reason;
 mod refusal;
 
 pub use end::{End, put_end};
 pub use inspection::put_inspection;
+pub use plan::put_plan;
 pub use refusal::{Refusal, put_refusal};
 
 #[cfg(test)]

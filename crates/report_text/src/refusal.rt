@@ -1,7 +1,7 @@
 //! The refusals of the top call, and the line of each on standard error.
 ghost use Rattle.std.specs.Prelude.{◌≡◌};
 ghost use Rattle.report_text.specs.Puts.{Puts};
-ghost use Rattle.report_text.specs.Refusal.{status_of, reason_of, line_of, image_too_long, cells_differ, differs};
+ghost use Rattle.report_text.specs.Refusal.{status_of, reason_of, line_of, image_too_long, other_device, no_room, cells_differ, differs};
 ghost use Rattle.report_text.specs.Shown.{shown};
 
 use crate::board_reason::put_board_fault;
@@ -39,6 +39,13 @@ pub enum Refusal<'a> {
     /// An input file is no FLM file.
     FlmRefused { fault: FlmFault },
 
+    /// An FLM file is for a device with another base or size than the board's region. The base and the size, in bytes, are
+    /// the file's.
+    OtherDevice { base: u32, size: u32 },
+
+    /// The algorithm needs so many bytes of RAM, and the board has so many.
+    NoRoom { need: u64, have: u64 },
+
     /// An input file describes no board.
     BoardRefused { fault: BoardFault },
 
@@ -71,6 +78,8 @@ impl Refusal<'_> {
             Refusal::ImageRefused { .. } => 4,
             Refusal::ImageMisplaced { .. } => 4,
             Refusal::FlmRefused { .. } => 5,
+            Refusal::OtherDevice { .. } => 5,
+            Refusal::NoRoom { .. } => 5,
             Refusal::BoardRefused { .. } => 6,
             Refusal::CellsDiffer { .. } => 7,
             Refusal::DeviceFault => 9,
@@ -109,6 +118,8 @@ fn put_reason<E: Sink>(err: &mut E, refusal: &Refusal<'_>) -> Result<(), OutputF
             put_pieces(err, &[b"flm: "])?;
             put_flm_fault(err, *fault)
         }
+        Refusal::OtherDevice { base, size } => put_device(err, *base, *size),
+        Refusal::NoRoom { need, have } => put_room(err, *need, *have),
         Refusal::BoardRefused { fault } => {
             put_pieces(err, &[b"board: "])?;
             put_board_fault(err, *fault)
@@ -131,6 +142,29 @@ fn put_lengths<E: Sink>(err: &mut E, bytes: usize, cells: u32) -> Result<(), Out
     let bytes = of_bytes.format(bytes).as_bytes();
     let cells = of_cells.format(cells).as_bytes();
     put_pieces(err, &[b"image: ", bytes, b" bytes for ", cells, b" cells"])
+}
+
+/// Puts the base and the size of an algorithm's device.
+#[tactic(auto, unfolding(crate::specs::Refusal::reason_of))]
+fn put_device<E: Sink>(err: &mut E, base: u32, size: u32) -> Result<(), OutputFault>
+    ensures { Puts E.tells (E.state err.old) (E.state err.new) (reason_of (other_device base size)) result }
+{
+    let mut of_size = Buffer::new();
+    let base = hex_digits::<8>(base);
+    let size = of_size.format(size).as_bytes();
+    put_pieces(err, &[b"flm: other device ", &base, b" ", size])
+}
+
+/// Puts how many bytes of RAM an algorithm needs, and how many there are.
+#[tactic(auto, unfolding(crate::specs::Refusal::reason_of))]
+fn put_room<E: Sink>(err: &mut E, need: u64, have: u64) -> Result<(), OutputFault>
+    ensures { Puts E.tells (E.state err.old) (E.state err.new) (reason_of (no_room need have)) result }
+{
+    let mut of_need = Buffer::new();
+    let mut of_have = Buffer::new();
+    let need = of_need.format(need).as_bytes();
+    let have = of_have.format(have).as_bytes();
+    put_pieces(err, &[b"flm: NoRoom ", need, b" ", have])
 }
 
 /// Puts how many cells are wanted, and how many there are.

@@ -1,0 +1,6 @@
+use Rattle.report_text.specs.Refusal.{reason_of}
+use Rattle.report_text.proofs.refusal.put_device.Goals as goal
+
+pub returns : goal.returns
+unfolding reason_of
+returns g c = rw (c.hex_digits-base.ensures, c.as_bytes-size.ensures.value, c.format.ensures.text) at c.put_pieces.ensures
