@@ -1,8 +1,7 @@
 -- The files of `verify` have one image or one refusal.
 use Rattle.std.proofs.Common.{◌≡◌, ◌≢◌, ◌<◌, ◌≤◌, ◌^◌, ◌∙◌, sym, ap, subst, refl, arith, ⊎_elim, ◌⊎◌, ℕ, zero, suc, IsSome, List, [], length, Option, Some}
 use Rattle.std.proofs.lemmas.Bool.{cases_lt}
-use Rattle.byte_map.specs.Image.{Run, run_at, byte_at, AreMaximal}
-use Rattle.byte_map.proofs.Runs.{each_run, held_to, holder}
+use Rattle.byte_map.specs.Image.{Run, byte_at, AreMaximal}
 use Rattle.byte_map.proofs.OneList.{one_list}
 use Rattle.image_set.specs.declared.fault.ImageFault.{ImageFault}
 use Rattle.image_set.specs.declared.fault.ImageFault.TheVariants.{NoForm, Hex, Srec, Elf, Conflict, PastEnd, OutsideDevice, EmptyImage, OutOfMemory}

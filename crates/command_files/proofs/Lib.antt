@@ -3,3 +3,4 @@ pub mod ImageLemmas
 pub mod RegionLemmas
 pub mod TakeLemmas
 pub mod WantedLemmas
+pub mod TaskLemmas

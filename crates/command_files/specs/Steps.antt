@@ -1,5 +1,5 @@
 -- What the steps answer that take and read a command's files.
-use Rattle.std.specs.Prelude.{◌≡◌, ◌≤◌, ◌+◌, ◌^◌, ◌⊎◌, ℕ, List, length, slice_get, Option, Some, Result, Ok, Err, option_map}
+use Rattle.std.specs.Prelude.{◌≡◌, ◌≤◌, ◌+◌, ◌^◌, ◌⊎◌, ℕ, List, length, slice_get, Option, Some, None, Result, Ok, Err, option_map}
 use Rattle.faults.specs.Counts.{Rose}
 use Rattle.byte_map.specs.Image.{Run}
 use Rattle.board_file.specs.declared.region.Region.{Region}
@@ -14,11 +14,12 @@ use Rattle.image_set.specs.Union.{IsUnion}
 use Rattle.report_text.specs.Refusal as refusal
 use Rattle.report_text.specs.Shown.{shown}
 use Rattle.report_text.specs.declared.refusal.Refusal.{Refusal}
-use Rattle.command_words.specs.Files.{FilesAsked}
-use Rattle.command_files.specs.Inputs.{InputsCall, FilesGiven, AreEach, AreFiles, IsUntaken}
+use Rattle.command_words.specs.Files.{FilesAsked, names_in}
+use Rattle.command_files.specs.Inputs.{InputsCall, FilesGiven, AreEach, AreFiles, Given, IsUntaken}
 use Rattle.image_set.specs.Files.{IsUnionBefore}
-use Rattle.command_files.specs.Files.{algorithm_of, Clashes, IsImageRefused, Aim, IsAim, IsRefused}
+use Rattle.command_files.specs.Files.{algorithm_of, IsForBoard, IsUnfit, Clashes, IsImageRefused, Aim, IsAim, IsRefused}
 use Rattle.command_files.specs.declared.take.Files.{Files}
+use Rattle.command_files.specs.declared.task.Task.{Task}
 use Rattle.command_files.specs.declared.wanted.Device.{Device}
 use Rattle.command_files.specs.declared.wanted.Wanted.{Wanted}
 
@@ -71,6 +72,13 @@ abbrev pub ReadsAlgorithm : Option (List ℕ) → Result (Option Algorithm) Refu
 ReadsAlgorithm file (Ok algorithm) = algorithm_of file ≡ Ok (option_map flm.shown algorithm)
 ReadsAlgorithm file (Err e) = IsFlmRefusal file (shown e)
 
+-- whether an algorithm, where there is one, is for a region of the board with this base and size
+abbrev pub ChecksAlgorithm : board.Shown → ℕ → ℕ → Option flm.Shown → Result (Unit {0}) Refusal → Type 0
+ChecksAlgorithm b base size None (Ok _) = Unit {0}
+ChecksAlgorithm b base size None (Err e) = ⊥
+ChecksAlgorithm b base size (Some algorithm) (Ok _) = IsForBoard b base size algorithm
+ChecksAlgorithm b base size (Some algorithm) (Err e) = IsUnfit b base size algorithm (shown e)
+
 -- a file's image was added to those before it
 pub record Adds (raw_at : Option ℕ) (file : List ℕ) (before after : List Run) : Type 0 where
   pub image : List Run
@@ -113,3 +121,35 @@ IsFilesRefusal asked files r = IsRefused asked files r
 abbrev pub ReadsFiles : FilesAsked → FilesGiven → Result Wanted Refusal → Type 0
 ReadsFiles asked files (Ok wanted) = IsWanted asked.raw_at files wanted
 ReadsFiles asked files (Err e) = IsFilesRefusal asked files (shown e)
+
+-- Taking and reading the files of a command on a target.
+
+-- what the task wants, with the region of its board
+abbrev pub task_aim : Task → Region → Aim
+task_aim task region = record {
+  board = board.shown task.board;
+  region = region;
+  algorithm = Some (flm.shown task.algorithm);
+  image = task.image;
+}
+
+-- the task is what the files say, and has the bytes of the board's text and of the FLM file
+pub record IsTask (raw_at : Option ℕ) (files : FilesGiven) (task : Task) : Type 0 where
+  pub region : Region
+  pub is_aim : IsAim raw_at files (task_aim task region)
+  pub base_is : task.device.base ≡ region.base
+  pub size_is : task.device.size ≡ region.size
+  pub ends : task.device.base + task.device.size ≤ 2 ^ 32
+  pub board_text : files.board ≡ task.board_text
+  pub flm : files.flm ≡ Some task.flm
+
+-- The files were taken, and no fault was counted.
+pub record TookFiles (inputs : InputsCall) (asked : FilesAsked) (Holds : FilesGiven → Type 0) : Type 0 where
+  pub given : Given inputs asked Holds
+  pub faults : inputs.after.faults ≡ inputs.before.faults
+
+-- a file can't be taken, or else the files are refused
+abbrev pub ReadsTask : InputsCall → FilesAsked → Result Task Refusal → Type 0
+ReadsTask inputs asked (Ok task) = TookFiles inputs asked (λ files. IsTask asked.raw_at files task)
+ReadsTask inputs asked (Err e) =
+    IsTakeFault inputs (names_in asked) (shown e) ⊎ TookFiles inputs asked (λ files. IsFilesRefusal asked files (shown e))

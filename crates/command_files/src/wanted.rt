@@ -1,10 +1,13 @@
 //! What the files of a command want of the cells.
-ghost use Rattle.std.specs.Prelude.{◌≡◌, ◌≤◌, ◌<◌, ◌+◌, ◌^◌, length, OnOk, IfErr};
+ghost use Rattle.std.specs.Prelude.{◌≡◌, ◌≤◌, ◌<◌, ◌+◌, ◌^◌, length, option_map, OnOk, IfErr};
+ghost use Rattle.board_file.specs.Shown as board_shown;
+ghost use Rattle.flm_descriptor.specs.Shown as flm_shown;
 ghost use Rattle.command_words.specs.Names.{names_of};
 ghost use Rattle.command_words.specs.Requested.{files_of};
-ghost use Rattle.command_files.specs.Steps.{bytes_of, ReadsBoard, ReadsAlgorithm, Adds, IsAddFault, ReadsImages, ReadsFiles, IsFirstRegion};
+ghost use Rattle.command_files.specs.Steps.{bytes_of, ReadsBoard, ReadsAlgorithm, ChecksAlgorithm, Adds, IsAddFault, ReadsImages, ReadsFiles, IsFirstRegion};
 
 use crate::take::Files;
+use algo_loader::{NoRoom, place};
 use board_file::{Board, BoardFault, read_board};
 use byte_map::ByteMap;
 use command_words::{FileNames, Names};
@@ -21,8 +24,8 @@ pub struct Device {
     pub size: u32,
 }
 
-/// An image for the cells of a device, which is the region of a board, and the algorithm of the FLM file where the command has
-/// one.
+/// An image for the cells of a device, which is the region of a board, and an algorithm for it where the command has an FLM
+/// file.
 #[derive(Drop)]
 pub struct Wanted {
     pub board: Board,
@@ -31,8 +34,8 @@ pub struct Wanted {
     pub image: ByteMap,
 }
 
-/// Reads the board, the FLM file where there is one, and then each image in turn, and checks that their union lies in the
-/// board's region. The files are those of the names.
+/// Reads the board, the FLM file where there is one, which has to be for the board, and then each image in turn, and checks that
+/// their union lies in the board's region. The files are those of the names.
 pub fn read_files<'a>(
     alloc: Global,
     names: &FileNames<'a>,
@@ -44,6 +47,7 @@ pub fn read_files<'a>(
     let board = read_text(alloc, files.board.bytes())?;
     let device = device_of(&board);
     let algorithm = read_algorithm(alloc, &files.flm)?;
+    check_algorithm(&board, device, &algorithm)?;
     let image = read_images(alloc, names.raw_at, &names.images, &files.images)?;
     match check(&image, device.base, device.size) {
         Ok(()) => Ok(Wanted {
@@ -89,6 +93,35 @@ fn read_algorithm<'a>(alloc: Global, file: &Option<Bytes>) -> Result<Option<Algo
             Err(FlmFault::OutOfMemory) => Err(Refusal::OutOfMemory),
             Err(fault) => Err(Refusal::FlmRefused { fault }),
         },
+    }
+}
+
+/// Checks that an algorithm, where there is one, is for the device, and that the board's RAM has room for it.
+fn check_algorithm<'a>(
+    board: &Board,
+    device: Device,
+    algorithm: &Option<Algorithm>,
+) -> Result<(), Refusal<'a>>
+    ensures { ChecksAlgorithm (board_shown.shown board.now) device.base device.size (option_map flm_shown.shown algorithm.now) result }
+{
+    match algorithm {
+        None => Ok(()),
+        Some(algorithm) => check_one(board, device, algorithm),
+    }
+}
+
+/// The same of an algorithm.
+fn check_one<'a>(board: &Board, device: Device, algorithm: &Algorithm) -> Result<(), Refusal<'a>>
+    ensures { ChecksAlgorithm (board_shown.shown board.now) device.base device.size (Some (flm_shown.shown algorithm.now)) result }
+{
+    let base = algorithm.device.base;
+    let size = algorithm.device.size;
+    if base != device.base || size != device.size {
+        return Err(Refusal::OtherDevice { base, size });
+    }
+    match place(algorithm, board) {
+        Ok(_) => Ok(()),
+        Err(NoRoom { need, have }) => Err(Refusal::NoRoom { need, have }),
     }
 }
 

@@ -1,0 +1,52 @@
+//! What a command on a target is to do.
+ghost use Rattle.std.specs.Prelude.{All, IsSome};
+ghost use Rattle.command_words.specs.Files.{names_in};
+ghost use Rattle.command_words.specs.Requested.{files_of};
+ghost use Rattle.command_files.specs.Inputs.{inputs_call};
+ghost use Rattle.command_files.specs.Steps.{ReadsTask};
+
+use crate::take::take_files;
+use crate::wanted::{Device, read_files};
+use board_file::Board;
+use byte_map::ByteMap;
+use command_words::FileNames;
+use flm_descriptor::Algorithm;
+use octets::Bytes;
+use outside_io::Inputs;
+use report_text::Refusal;
+use std::alloc::Global;
+
+/// An image for the cells of a device, which is the region of a board, and an algorithm for it; with the bytes of the board's
+/// text and of the FLM file.
+#[derive(Drop)]
+pub struct Task {
+    pub board_text: Bytes,
+    pub flm: Bytes,
+    pub board: Board,
+    pub device: Device,
+    pub algorithm: Algorithm,
+    pub image: ByteMap,
+}
+
+/// Takes the files of a command on a target in the order of its words, and then reads them: the board, the FLM file, and each
+/// image in turn. The first that can't be taken is told, and then the first refusal.
+pub fn read_task<'a, I: Inputs>(
+    alloc: Global,
+    names: &FileNames<'a>,
+    inputs: &mut I,
+) -> Result<Task, Refusal<'a>>
+    requires has_flm { IsSome (files_of names.now).flm }
+    requires may_take { All (I.may_take inputs.old) (names_in (files_of names.now)) }
+    ensures { ReadsTask (inputs_call I.tells (I.state inputs.old) (I.state inputs.new)) (files_of names.now) result }
+{
+    let files = take_files(alloc, names, inputs)?;
+    let wanted = read_files(alloc, names, &files)?;
+    Ok(Task {
+        board_text: files.board,
+        flm: files.flm.unwrap(),
+        board: wanted.board,
+        device: wanted.device,
+        algorithm: wanted.algorithm.unwrap(),
+        image: wanted.image,
+    })
+}
