@@ -3,7 +3,7 @@ use Rattle.std.proofs.Common.{◌≡◌, ◌∙◌, sym, ap, subst, refl, arith,
 use Rattle.bench_model.specs.State.{BenchState, cells_half}
 use Rattle.bench_model.proofs.Moments.{adds_nothing_here, file_stays_here, cells_stay_here}
 use Rattle.outside_io.specs.State.{SinkState}
-use Rattle.report_text.specs.Refusal.{Refusal, out_of_memory, usage, input_fault, image_too_long, flm_refused, board_refused, image_refused, image_misplaced, cells_differ, device_fault, output_fault, differs, not_built, status_of}
+use Rattle.report_text.specs.Refusal.{Refusal, out_of_memory, usage, input_fault, image_too_long, flm_refused, other_device, no_room, board_refused, image_refused, image_misplaced, cells_differ, device_fault, output_fault, differs, not_built, status_of}
 use Rattle.command_files.specs.Inputs.{InputsCall, IsFile, IsUntaken}
 use Rattle.command_files.specs.Steps.{IsTakeFault}
 use Rattle.flm_cli.specs.Call.{BenchCall, SinkCall, Answer, done, refused, bench_call, sink_call, IsUntouched, Says}
@@ -19,6 +19,8 @@ not_0 usage zero = omega (arith, zero)
 not_0 (input_fault name) zero = omega (arith, zero)
 not_0 (image_too_long bytes cells) zero = omega (arith, zero)
 not_0 (flm_refused fault) zero = omega (arith, zero)
+not_0 (other_device base size) zero = omega (arith, zero)
+not_0 (no_room need have) zero = omega (arith, zero)
 not_0 (board_refused fault) zero = omega (arith, zero)
 not_0 (image_refused name fault) zero = omega (arith, zero)
 not_0 (image_misplaced fault) zero = omega (arith, zero)
@@ -47,7 +49,7 @@ no_fault : (answer : Answer) (fault : Fault) → fault_in answer ≡ None → fa
 no_fault answer fault none is = cc
 
 -- no command of today has a fault of the store
-never_store : (answer : Answer) → fault_in answer ≡ Some store → ⊥
+pub never_store : (answer : Answer) → fault_in answer ≡ Some store → ⊥
 never_store done is = cc
 never_store (refused (input_fault name)) is = let same : input ≡ store = cc in cc
 never_store (refused device_fault) is = let same : device ≡ store = cc in cc
@@ -69,6 +71,8 @@ stands_early bench out (image_too_long bytes cells) did = did
 stands_early bench out (image_refused name fault) did = did
 stands_early bench out (image_misplaced fault) did = did
 stands_early bench out (flm_refused fault) did = did
+stands_early bench out (other_device base size) did = did
+stands_early bench out (no_room need have) did = did
 stands_early bench out (board_refused fault) did = did
 stands_early bench out (cells_differ wanted found) did = did
 stands_early bench out not_built did = did

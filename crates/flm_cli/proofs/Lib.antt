@@ -3,5 +3,7 @@ pub mod CompareLemmas
 pub mod ComparisonLemmas
 pub mod InspectLemmas
 pub mod LooksLemmas
+pub mod PlanLemmas
+pub mod ReadingLemmas
 pub mod UnlikeLemmas
 pub mod VerifyLemmas

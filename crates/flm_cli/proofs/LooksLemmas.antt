@@ -1,9 +1,10 @@
 -- An operation is broken off, and then the cells are read.
-use Rattle.std.proofs.Common.{◌≡◌, ◌+◌, ◌∙◌, sym, ap, subst, refl, arith, inl, inr, ℕ, Bool, IfOk, List, length, take, drop, slice_index, Option, Some, None, Result, Ok, Err}
+use Rattle.std.proofs.Common.{◌≡◌, ◌+◌, ◌∙◌, sym, ap, subst, refl, arith, inl, inr, ℕ, Bool, IsTrue, IfOk, OnOk, List, length, take, drop, slice_index, Option, Some, None, Result, Ok, Err}
+use Rattle.std.proofs.lemmas.List.{take_all}
 use Rattle.faults.specs.Counts.{Rose, HasCause}
 use Rattle.bench_model.specs.State.{BenchState}
 use Rattle.bench_model.specs.Calls.{SameOutside}
-use Rattle.bench_model.specs.Does.{DropsCells}
+use Rattle.bench_model.specs.Does.{DropsCells, ReadsCells}
 use Rattle.bench_model.specs.declared.bench_fault.DeviceFault.{DeviceFault}
 use Rattle.bench_model.proofs.Moments.{adds_nothing_then, file_stays_then}
 use Rattle.byte_map.specs.Image.{Run}
@@ -99,3 +100,16 @@ module _ (tells : Bool) (a b c : BenchState) (reads : OnlyReadsCells tells b c) 
       → IfOk result (FoundBy base (AgreesWith (bench_call tells a c) base image) (DiffersAt (bench_call tells a c) base image))
   found_in_image base image (Ok found) finds = in_image base image found finds
   found_in_image base image (Err e) finds = tt
+
+-- all cells that were read are the cells
+
+pub only_reads : {T : Type 0} {tells : Bool} {a b : BenchState} {at : ℕ} {before after : List ℕ} {result : Result T DeviceFault}
+    → ReadsCells {T = T} tells a b at before after result → OnlyReadsCells tells a b
+only_reads reads = record { cells = reads.cells; operation = reads.operation; count = reads.count; moments = reads.moments; file = reads.file }
+
+pub all_read : {T : Type 0} {tells : Bool} {a b : BenchState} (before after : List ℕ) (result : Result T DeviceFault)
+    → ReadsCells {T = T} tells a b 0 before after result → (IsTrue tells → length a.cells ≡ length before) → IsTrue tells → OnOk result (b.cells ≡ after)
+all_read {a = a} {b = b} before after (Ok u) reads all told =
+    let same : take (length before) (drop 0 a.cells) ≡ a.cells = take_all (length before) a.cells (omega (arith, all told)) in
+    reads.cells told ∙ sym same ∙ sym (reads.ok told)
+all_read before after (Err e) reads all told = tt

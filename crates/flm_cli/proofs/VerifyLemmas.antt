@@ -1,20 +1,20 @@
 -- From the steps of `verify` to its end.
-use Rattle.std.proofs.Common.{◌≡◌, ◌≢◌, ◌<◌, ◌≤◌, ◌+◌, ◌-◌, ◌^◌, ◌∙◌, ⊎_elim, sym, ap, subst, refl, arith, inl, inr, ℕ, Bool, true, IsTrue, IsSome, List, [], ◌∷◌, length, slice_index, option_to_list, Option, Some, None, Err}
+use Rattle.std.proofs.Common.{◌≡◌, ◌≢◌, ◌<◌, ◌≤◌, ◌+◌, ◌-◌, ◌^◌, ◌∙◌, ⊎_elim, sym, ap, subst, refl, arith, inl, inr, ℕ, Bool, true, IsTrue, IsSome, List, [], ◌∷◌, length, slice_index, option_to_list, Option, Some, None, Ok, Err}
 use Rattle.std.proofs.lemmas.Bool.{cases_lt}
 use Rattle.std.proofs.lemmas.Bool.Decides.{nat_tests}
 use Rattle.bench_model.specs.State.{BenchState}
 use Rattle.outside_io.specs.State.{SinkState}
 use Rattle.byte_map.specs.Image.{Run, run_at, end_of, byte_of, byte_at, AreMaximal}
 use Rattle.byte_map.proofs.Runs.{each_run, found_in, holds_between}
+use Rattle.flm_descriptor.specs.Shown as flm
 use Rattle.flm_descriptor.specs.declared.fault.FlmFault.{FlmFault}
 use Rattle.image_set.specs.Ranges.{is_inside}
-use Rattle.report_text.specs.Refusal.{Refusal, out_of_memory, input_fault, flm_refused, board_refused, image_refused, image_misplaced, cells_differ, device_fault, output_fault, differs}
+use Rattle.report_text.specs.Refusal.{Refusal, out_of_memory, input_fault, flm_refused, other_device, no_room, board_refused, image_refused, image_misplaced, cells_differ, device_fault, output_fault, differs}
 use Rattle.command_words.specs.Files.{FilesAsked, names_in}
 use Rattle.command_files.specs.Inputs.{InputsCall, FilesGiven, AreFiles}
 use Rattle.command_files.specs.Files.{algorithm_of, Aim, IsAim, IsRefused}
 use Rattle.command_files.specs.Steps.{IsTakeFault, IsWanted, IsFilesRefusal, aim_of}
 use Rattle.command_files.specs.declared.wanted.Wanted.{Wanted}
-use Rattle.command_files.proofs.FilesLemmas.{one_given, one_aim, one_refusal, aim_or_refused}
 use Rattle.image_set.proofs.UnionLemmas.{below_end}
 use Rattle.command_files.proofs.ImageLemmas.{maximal_union}
 use Rattle.flm_cli.specs.Call.{BenchCall, SinkCall, Answer, done, refused, bench_call, sink_call}
@@ -24,6 +24,7 @@ use Rattle.flm_cli.specs.Comparison.{Compares}
 use Rattle.flm_cli.specs.Reading.{ShowsFiles, AnswersFiles}
 use Rattle.flm_cli.specs.Steps.{FitsCells}
 use Rattle.flm_cli.specs.Verify.{wanted_at, CellsAgree, IsLeastDifference, DiffersAt, AgreesWith, IsComparedWithImage, Shows, IsDueForImage, VerifyEnds}
+use Rattle.flm_cli.proofs.ReadingLemmas.{answers_yielding, answers_refused, answers_worked}
 use Rattle.flm_cli.proofs.AnswerLemmas.{did_nothing, plain_lawful, untaken_lawful, leaves_early, found_cases, compared_lawful, is_due, due_yielding}
 
 -- The cells and an image.
@@ -108,21 +109,23 @@ address_fits raw_at files wanted bench at byte found is differ =
 
 -- The files.
 
--- without an FLM file none is refused
-no_flm_refused : (inputs : InputsCall) (asked : FilesAsked) (files : FilesGiven) (fault : FlmFault) → asked.flm ≡ None → AreFiles inputs asked files
-    → algorithm_of files.flm ≡ Err fault → ⊥
-no_flm_refused inputs asked files fault none are is = refused_none files.flm same is where
+-- no FLM file is asked for, so there is none
+no_flm : (inputs : InputsCall) (asked : FilesAsked) (files : FilesGiven) → asked.flm ≡ None → AreFiles inputs asked files → files.flm ≡ None
+no_flm inputs asked files none are = count_none asked.flm files.flm are.flm.count none where
   count_none : (a b : Option (List ℕ)) → length (option_to_list b) ≡ length (option_to_list a) → a ≡ None → b ≡ None
   count_none a None same is_none = refl
   count_none None (Some x) same is_none = absurd (omega (arith, same))
   count_none (Some y) b same is_none = absurd (cc)
 
-  same : files.flm ≡ None
-  same = count_none asked.flm files.flm are.flm.count none
+-- so none is refused
+no_flm_refused : (file : Option (List ℕ)) (fault : FlmFault) → file ≡ None → algorithm_of file ≡ Err fault → ⊥
+no_flm_refused None fault same is = cc
+no_flm_refused (Some x) fault same is = cc
 
-  refused_none : (f : Option (List ℕ)) → f ≡ None → algorithm_of f ≡ Err fault → ⊥
-  refused_none None same is = cc
-  refused_none (Some x) same is = cc
+-- nor is an algorithm unfit
+no_flm_unfit : (file : Option (List ℕ)) (algorithm : flm.Shown) → file ≡ None → algorithm_of file ≡ Ok (Some algorithm) → ⊥
+no_flm_unfit None algorithm same is = cc
+no_flm_unfit (Some x) algorithm same is = cc
 
 module _ (bench : BenchCall) (inputs : InputsCall) (out : SinkCall) (asked : FilesAsked) where
   due_yielding_for : (answer : Answer) (aim : Aim) → yields answer ≡ true → DidNothing bench out → comparison.IsCompared answer → IsDueForImage bench out answer aim
@@ -131,41 +134,27 @@ module _ (bench : BenchCall) (inputs : InputsCall) (out : SinkCall) (asked : Fil
     compared = λ same. due_yielding bench (AgreesWith bench aim.region.base aim.image) (DiffersAt bench aim.region.base aim.image) answer yields complete;
   }
 
+  abbrev FilesAnswered : Answer → Type 0
+  FilesAnswered answer = AnswersFiles bench inputs out asked answer (λ files. Shows bench answer) (λ files. IsDueForImage bench out answer)
+
   -- an answer that yields before anything was done
-  files_yielding : (answer : Answer) → yields answer ≡ true → DidNothing bench out → comparison.IsCompared answer → ShowsFiles inputs asked (Shows bench answer) answer
-      → AnswersFiles bench inputs out asked answer (Shows bench answer) (IsDueForImage bench out answer)
-  files_yielding answer yields did complete shows = record {
-    shows = shows;
-    refuses = λ files refusal told are is. inr (yields, did);
-    goes = λ files aim told are is. due_yielding_for answer aim yields did complete;
-  }
+  files_yielding : (answer : Answer) → yields answer ≡ true → DidNothing bench out → comparison.IsCompared answer
+      → ShowsFiles inputs asked (λ files. Shows bench answer) answer → FilesAnswered answer
+  files_yielding answer yields did complete shows =
+      answers_yielding bench inputs out asked (λ files. Shows bench answer) (λ files. IsDueForImage bench out answer) answer yields did
+      (λ files aim. due_yielding_for answer aim yields did complete) shows
 
   -- a refusal of the files
-  files_refused : (r : Refusal) (files : FilesGiven) → AreFiles inputs asked files → IsRefused asked files r → ShowsFiles inputs asked (Shows bench (refused r)) (refused r)
-      → AnswersFiles bench inputs out asked (refused r) (Shows bench (refused r)) (IsDueForImage bench out (refused r))
-  files_refused r files are is shows = record {
-    shows = shows;
-    refuses = λ other refusal told its refused'.
-        let same = one_given inputs asked files other told are its in
-        inl (ap refused (one_refusal asked other r refusal (subst (λ (f : FilesGiven). IsRefused asked f r) same is) refused'));
-    goes = λ other aim told its is_aim.
-        let same = one_given inputs asked files other told are its in
-        absurd (aim_or_refused asked other aim r is_aim (subst (λ (f : FilesGiven). IsRefused asked f r) same is));
-  }
+  files_refused : (r : Refusal) (files : FilesGiven) → AreFiles inputs asked files → IsRefused asked files r
+      → ShowsFiles inputs asked (λ files. Shows bench (refused r)) (refused r) → FilesAnswered (refused r)
+  files_refused r files are is shows =
+      answers_refused bench inputs out asked (λ files. Shows bench (refused r)) (λ files. IsDueForImage bench out (refused r)) r files are is shows
 
   -- an answer of the work on an aim
   files_worked : (answer : Answer) (files : FilesGiven) (aim : Aim) → AreFiles inputs asked files → IsAim asked.raw_at files aim
-      → ShowsFiles inputs asked (Shows bench answer) answer → IsDueForImage bench out answer aim
-      → AnswersFiles bench inputs out asked answer (Shows bench answer) (IsDueForImage bench out answer)
-  files_worked answer files aim are is shows due = record {
-    shows = shows;
-    refuses = λ other refusal told its refused'.
-        let same = one_given inputs asked files other told are its in
-        absurd (aim_or_refused asked other aim refusal (subst (λ (f : FilesGiven). IsAim asked.raw_at f aim) same is) refused');
-    goes = λ other aim' told its is_aim.
-        let same = one_given inputs asked files other told are its in
-        subst (λ (a : Aim). IsDueForImage bench out answer a) (one_aim asked other aim aim' (subst (λ (f : FilesGiven). IsAim asked.raw_at f aim) same is) is_aim) due;
-  }
+      → ShowsFiles inputs asked (λ files. Shows bench answer) answer → IsDueForImage bench out answer aim → FilesAnswered answer
+  files_worked answer files aim are is shows due =
+      answers_worked bench inputs out asked (λ files. Shows bench answer) (λ files. IsDueForImage bench out answer) answer files aim are is shows due
 
 -- The exits.
 
@@ -194,7 +183,9 @@ module _ (tells told : Bool) (b : BenchState) (o : SinkState) (inputs : InputsCa
       leaves = leaves_early tells told b o inputs (board_refused fault) refl;
       files = files_refused _ inputs _ asked (board_refused fault) files are is (record { files = files; are_files = are; holds = is });
     }
-    ends_unread (flm_refused fault) is = absurd (no_flm_refused inputs asked files fault none are is.1)
+    ends_unread (flm_refused fault) is = absurd (no_flm_refused files.flm fault (no_flm inputs asked files none are) is.1)
+    ends_unread (other_device base size) is = absurd (no_flm_unfit files.flm is.algorithm (no_flm inputs asked files none are) is.is_algorithm)
+    ends_unread (no_room need have) is = absurd (no_flm_unfit files.flm is.algorithm (no_flm inputs asked files none are) is.is_algorithm)
     ends_unread (image_refused name fault) is = record {
       lawful = plain_lawful tells told b o inputs has_verify (names_in asked) (image_refused name fault) refl same refl;
       leaves = leaves_early tells told b o inputs (image_refused name fault) refl;
@@ -227,7 +218,7 @@ module _ (tells told : Bool) (b : BenchState) (o : SinkState) (inputs : InputsCa
         }
 
 worked_shows : (bench : BenchCall) (inputs : InputsCall) (asked : FilesAsked) (files : FilesGiven) (aim : Aim) → AreFiles inputs asked files
-    → IsAim asked.raw_at files aim → (answer : Answer) → IsComparedWithImage bench aim answer → ShowsFiles inputs asked (Shows bench answer) answer
+    → IsAim asked.raw_at files aim → (answer : Answer) → IsComparedWithImage bench aim answer → ShowsFiles inputs asked (λ files. Shows bench answer) answer
 worked_shows bench inputs asked files aim are is done compared = record { files = files; are_files = are; holds = record { aim = aim; is_aim = is; holds = compared } }
 worked_shows bench inputs asked files aim are is (refused device_fault) compared =
     record { files = files; are_files = are; holds = record { aim = aim; is_aim = is; holds = compared } }

@@ -1,7 +1,7 @@
 -- What each answer says, whatever the command.
 use Rattle.std.specs.Prelude.{◌≡◌, ◌≤◌, ◌<◌, ◌⊎◌, ℕ, Bool, true, false, List, Option, Some, None}
 use Rattle.faults.specs.Counts.{Rose}
-use Rattle.report_text.specs.Refusal.{Refusal, out_of_memory, usage, input_fault, image_too_long, flm_refused, board_refused, image_refused, image_misplaced, cells_differ, device_fault, output_fault, differs, not_built}
+use Rattle.report_text.specs.Refusal.{Refusal, out_of_memory, usage, input_fault, image_too_long, flm_refused, other_device, no_room, board_refused, image_refused, image_misplaced, cells_differ, device_fault, output_fault, differs, not_built}
 use Rattle.command_files.specs.Inputs.{InputsCall, IsUntaken}
 use Rattle.flm_cli.specs.Call.{BenchCall, SinkCall, Call, TookNothing, IsUntouched, Answer, done, refused, Says}
 
@@ -33,6 +33,20 @@ pub record AreCounted (bench : BenchCall) (inputs : InputsCall) (out : SinkCall)
   pub out_count : IsCounted out.before.faults out.after.faults output answer
 
 -- The refusals of each command.
+
+abbrev pub has_plan : Refusal → Bool
+has_plan out_of_memory = true
+has_plan (input_fault name) = true
+has_plan (board_refused fault) = true
+has_plan (flm_refused fault) = true
+has_plan (other_device base size) = true
+has_plan (no_room need have) = true
+has_plan (image_refused name fault) = true
+has_plan (image_misplaced fault) = true
+has_plan (cells_differ wanted found) = true
+has_plan device_fault = true
+has_plan output_fault = true
+has_plan _ = false
 
 abbrev pub has_verify : Refusal → Bool
 has_verify out_of_memory = true
@@ -94,6 +108,8 @@ StandsEarly bench out (refused (image_too_long bytes cells)) = DidNothing bench 
 StandsEarly bench out (refused (image_refused name fault)) = DidNothing bench out
 StandsEarly bench out (refused (image_misplaced fault)) = DidNothing bench out
 StandsEarly bench out (refused (flm_refused fault)) = DidNothing bench out
+StandsEarly bench out (refused (other_device base size)) = DidNothing bench out
+StandsEarly bench out (refused (no_room need have)) = DidNothing bench out
 StandsEarly bench out (refused (board_refused fault)) = DidNothing bench out
 StandsEarly bench out (refused (cells_differ wanted found)) = DidNothing bench out
 StandsEarly bench out (refused not_built) = DidNothing bench out

@@ -2,12 +2,13 @@
 use Rattle.std.specs.Prelude.{◌≡◌, Option, Some, None}
 use Rattle.report_text.specs.Refusal.{Refusal}
 use Rattle.report_text.specs.Refusal as refusal
-use Rattle.command_words.specs.Words.{Command, verify, compare, inspect, not_built}
+use Rattle.command_words.specs.Words.{Command, plan, verify, compare, inspect, not_built}
 use Rattle.command_files.specs.Inputs.{InputsCall, TakesNothing}
 use Rattle.flm_cli.specs.Call.{BenchCall, SinkCall, Call, Answer, refused}
 use Rattle.flm_cli.specs.Answered.{DidNothing, AnswersBy}
 use Rattle.flm_cli.specs.Compare.{CompareEnds}
 use Rattle.flm_cli.specs.Inspect.{InspectEnds}
+use Rattle.flm_cli.specs.Plan.{PlanEnds}
 use Rattle.flm_cli.specs.Verify.{VerifyEnds}
 
 -- The work of a call that runs no command: it ends with this refusal. The bench is as it was, no input was taken, and nothing
@@ -19,6 +20,7 @@ pub record EndsAtOnce (refusal : Refusal) (bench : BenchCall) (inputs : InputsCa
 
 -- the work of a command, or of words that fit none
 abbrev pub EndsOf : Option Command → BenchCall → InputsCall → SinkCall → Answer → Type 0
+EndsOf (Some (plan files)) = PlanEnds files
 EndsOf (Some (verify files)) = VerifyEnds files
 EndsOf (Some (compare image)) = CompareEnds image
 EndsOf (Some (inspect flm)) = InspectEnds flm

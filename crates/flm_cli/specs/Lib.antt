@@ -6,5 +6,6 @@ pub mod Compare
 pub mod Inspect
 pub mod Reading
 pub mod Verify
+pub mod Plan
 pub mod Answers
 pub mod Steps

@@ -1,4 +1,4 @@
--- What the steps of the comparisons answer.
+-- What the steps of the commands answer.
 use Rattle.std.specs.Prelude.{◌≡◌, ◌≤◌, ◌<◌, ◌+◌, ◌⊎◌, ℕ, Bool, IsTrue, List, length, Option, Some, None, Result, Ok, Err, OnOk, OnErr}
 use Rattle.faults.specs.Counts.{HasCause}
 use Rattle.bench_model.specs.State.{cells_half}
@@ -7,12 +7,17 @@ use Rattle.bench_model.specs.Calls.{FileStays}
 use Rattle.bench_model.specs.declared.bench_fault.DeviceFault.{DeviceFault}
 use Rattle.byte_map.specs.Image.{Run, run_at, end_of}
 use Rattle.readback.specs.declared.compare.Difference.{Difference}
-use Rattle.report_text.specs.Refusal.{device_fault, output_fault, differs}
+use Rattle.flm_descriptor.specs.Shown as flm
+use Rattle.erase_planner.specs.Marks.{Covers}
+use Rattle.report_text.specs.Refusal.{out_of_memory, device_fault, output_fault, differs}
 use Rattle.report_text.specs.End.{end_text}
 use Rattle.report_text.specs.declared.end.End.TheVariants.{Same}
 use Rattle.flm_cli.specs.Call.{BenchCall, SinkCall, Answer, done, refused, TookNothing, TookAll, TookPart}
+use Rattle.flm_cli.specs.Answered.{device, output, IsCounted}
 use Rattle.flm_cli.specs.Comparison.{IsBrokenOff, IsStillOpen}
+use Rattle.flm_cli.specs.Plan.{layout_of, PrintsText, PlanLeaves}
 use Rattle.flm_cli.specs.Verify.{CellsAgree, IsLeastDifference}
+use Rattle.flm_cli.specs.declared.plan.Room.{Room}
 
 -- there is a cell for each address of each run
 pub record FitsCells (image : List Run) (base cells : ℕ) : Type 0 where
@@ -55,3 +60,33 @@ abbrev pub TellsFound : ℕ → Result (Option Difference) DeviceFault → SinkC
 TellsFound base (Err fault) out answer = SaysNothing out (refused device_fault) answer
 TellsFound base (Ok None) out answer = SaysSame out answer
 TellsFound base (Ok (Some d)) out answer = SaysNothing out (refused (differs (base + d.at) d.want d.got)) answer
+
+-- The steps of `plan`.
+
+-- memory for the plan of an algorithm's device: as many old and wanted cells, and a plan with room for each sector and page
+pub record HasRoomFor (algorithm : flm.Shown) (room : Room) : Type 0 where
+  pub geometry : room.geometry ≡ layout_of algorithm
+  pub covers : Covers room.geometry room.plan
+  pub cells : length room.cells.items ≡ algorithm.device.size
+  pub goal : length room.goal.items ≡ algorithm.device.size
+
+-- the text for cells that were read
+pub record IsPrinted (bench : BenchCall) (out : SinkCall) (text : List ℕ → List ℕ) (answer : Answer) : Type 0 where
+  pub cells : List ℕ
+  pub all : length cells ≡ bench.before.cell_count
+  pub surveyed : IsTrue bench.tells → bench.after.cells ≡ cells
+  pub prints : PrintsText out (text cells) answer
+
+-- there is no memory, the device fails, or the text goes to `out`
+abbrev pub Printed : BenchCall → SinkCall → (List ℕ → List ℕ) → Answer → Type 0
+Printed bench out text (refused out_of_memory) = Unit {0}
+Printed bench out text (refused device_fault) = Unit {0}
+Printed bench out text (refused output_fault) = IsPrinted bench out text (refused output_fault)
+Printed bench out text done = IsPrinted bench out text done
+Printed bench out text (refused _) = ⊥
+
+pub record PlansCells (bench : BenchCall) (out : SinkCall) (text : List ℕ → List ℕ) (answer : Answer) : Type 0 where
+  pub leaves : PlanLeaves bench out answer
+  pub printed : Printed bench out text answer
+  pub device_count : IsCounted bench.before.device_faults bench.after.device_faults device answer
+  pub out_count : IsCounted out.before.faults out.after.faults output answer

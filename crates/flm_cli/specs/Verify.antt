@@ -67,4 +67,4 @@ pub record IsDueForImage (bench : BenchCall) (out : SinkCall) (answer : Answer) 
 pub record VerifyEnds (asked : FilesAsked) (bench : BenchCall) (inputs : InputsCall) (out : SinkCall) (answer : Answer) : Type 0 where
   pub lawful : EndsLawfully bench inputs out has_verify (names_in asked) answer
   pub leaves : ComparisonLeaves bench out answer
-  pub files : AnswersFiles bench inputs out asked answer (Shows bench answer) (IsDueForImage bench out answer)
+  pub files : AnswersFiles bench inputs out asked answer (λ files. Shows bench answer) (λ files. IsDueForImage bench out answer)

@@ -4,8 +4,7 @@
 mod compare;
 mod comparison;
 mod inspect;
-#[cfg(test)]
-mod tests;
+mod plan;
 mod top;
 mod unlike;
 mod verify;

@@ -8,6 +8,7 @@ ghost use Rattle.flm_cli.specs.Shown.{answer_of};
 
 use crate::compare::compare;
 use crate::inspect::inspect;
+use crate::plan::plan;
 use crate::verify::verify;
 use bench_model::Bench;
 use command_words::{Request, read_request};
@@ -50,6 +51,7 @@ fn run<'a, B: Bench, I: Inputs, O: Sink>(
     match read_request(words) {
         None => Err(Refusal::Usage),
         Some(Request::NotBuilt) => Err(Refusal::NotBuilt),
+        Some(Request::Plan(names)) => plan(alloc, &names, bench, inputs, out),
         Some(Request::Verify(names)) => verify(alloc, &names, bench, inputs, out),
         Some(Request::Compare { image }) => compare(alloc, image, bench, inputs, out),
         Some(Request::Inspect { flm }) => inspect(alloc, flm, bench, inputs, out),

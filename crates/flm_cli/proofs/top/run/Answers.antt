@@ -1,6 +1,6 @@
 use Rattle.std.proofs.Common.{refl, subst, Option, Some, None, []}
 use Rattle.std.proofs.lemmas.List.Elements.{All-head}
-use Rattle.command_words.specs.Words.{Command, verify, compare, inspect, not_built, Asked}
+use Rattle.command_words.specs.Words.{Command, plan, verify, compare, inspect, not_built, Asked}
 use Rattle.command_words.specs.Requested.{files_of}
 use Rattle.command_words.proofs.WordsLemmas.{one_asked}
 use Rattle.command_files.specs.Inputs.{inputs_call}
@@ -29,6 +29,24 @@ returns-in-Some-NotBuilt g c = λ asked given.
     subst (λ (a : Option Command). EndsOf a (bench_call g.B.Bench.tells b b) (inputs_call g.I.Inputs.tells i i) (sink_call g.O.Sink.tells o o) (refused refusal.not_built))
     (one_asked c.args.words.now (Some not_built) asked read given)
     (record { answer_is = refl; did = did_nothing g.B.Bench.tells g.O.Sink.tells b o; takes = record { stands = λ name. refl; faults = refl } })
+
+pub plan-requires-clause-has_flm : goal.plan-requires-clause-has_flm
+plan-requires-clause-has_flm g c =
+    let read : Asked c.args.words.now (Some (plan (files_of c.in-Some-Plan.names))) = rw c.in-Some-Plan.field-0-is at c.in-Some-Plan.ensures in
+    read.names.has_flm
+
+pub plan-requires-clause-may_take : goal.plan-requires-clause-may_take
+plan-requires-clause-may_take g c =
+    let read : Asked c.args.words.now (Some (plan (files_of c.in-Some-Plan.names))) = rw c.in-Some-Plan.field-0-is at c.in-Some-Plan.ensures in
+    c.requires (plan (files_of c.in-Some-Plan.names)) read
+
+pub returns-in-Some-Plan : goal.returns-in-Some-Plan
+returns-in-Some-Plan g c = λ asked given.
+    let read : Asked c.args.words.now (Some (plan (files_of c.in-Some-Plan.names))) = rw c.in-Some-Plan.field-0-is at c.in-Some-Plan.ensures in
+    subst (λ (a : Option Command). EndsOf a (bench_call g.B.Bench.tells (g.B.Bench.state c.args.bench.now) (g.B.Bench.state c.plan.new.bench))
+    (inputs_call g.I.Inputs.tells (g.I.Inputs.state c.args.inputs.now) (g.I.Inputs.state c.plan.new.inputs))
+    (sink_call g.O.Sink.tells (g.O.Sink.state c.args.out.now) (g.O.Sink.state c.plan.new.out)) (answer_of c.plan.result))
+    (one_asked c.args.words.now (Some (plan (files_of c.in-Some-Plan.names))) asked read given) c.plan.ensures
 
 pub verify-requires-clause-no_flm : goal.verify-requires-clause-no_flm
 verify-requires-clause-no_flm g c =
