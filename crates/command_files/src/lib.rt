@@ -5,8 +5,6 @@
 mod law;
 mod take;
 mod task;
-#[cfg(test)]
-mod tests;
 mod wanted;
 
 pub use law::files_say_one_thing;

@@ -6,8 +6,6 @@ mod arguments;
 mod command;
 mod law;
 mod names;
-#[cfg(test)]
-mod tests;
 
 pub use command::{FileNames, Request, read_request};
 pub use law::words_ask_for_one_command;

@@ -15,6 +15,3 @@ pub use end::{End, put_end};
 pub use inspection::put_inspection;
 pub use plan::put_plan;
 pub use refusal::{Refusal, put_refusal};
-
-#[cfg(test)]
-mod tests;

@@ -1,5 +1,5 @@
 //! What files say, from names to an image.
-use super::*;
+use command_files::{read_files, take_files};
 use command_words::{Request, read_request};
 use octets::Word;
 use outside_io::MemoryInputs;

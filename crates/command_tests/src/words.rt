@@ -1,5 +1,5 @@
 //! What words ask for.
-use super::*;
+use command_words::{Request, read_request};
 use octets::Word;
 use std::alloc::Global;
 use std::test::Fail;
