@@ -1,12 +1,10 @@
--- What the steps of `begin` and `close` leave.
-use Rattle.std.proofs.Common.{◌≡◌, ◌≢◌, inl, inr, ◌≤◌, ◌+◌, ℕ, List, [], ◌∷◌, ◌++◌, length, take, drop, refl, sym, ◌∙◌, ap, arith}
+-- What the steps of `put_job` leave.
+use Rattle.std.proofs.Common.{◌≡◌, ◌≢◌, inl, inr, ◌≤◌, ◌+◌, ℕ, List, [], ◌∷◌, ◌++◌, length, take, refl, sym, ◌∙◌, ap, arith}
 use Rattle.std.proofs.lemmas.List.{drop_all, append-nil}
 use Rattle.std.proofs.lemmas.Bool.{cases_eq}
-use Rattle.bench_model.specs.History.{Half, Leaves, LeftOnly}
-use Rattle.bench_model.specs.Calls.{written, Torn, Cut, Follows}
-use Rattle.bench_model.proofs.Moments.{leaves_step}
-use Rattle.job_text.specs.Files.{IsFree, IsWhole}
-use Rattle.job_file.specs.Stops.{IsFreeOrWhole, IsWholeOrClosed}
+use Rattle.bench_model.specs.Calls.{written, Torn}
+use Rattle.job_text.specs.Files.{IsFree}
+use Rattle.job_file.specs.Stops.{IsFreeOrWhole}
 
 pub free_short : (f : List ℕ) → length f ≤ 1 → IsFree f
 free_short [] le = tt
@@ -17,12 +15,6 @@ pub free_closed : (f rest : List ℕ) (gate : ℕ) → gate ≢ 165 → take 1 f
 free_closed [] rest gate shut is = tt
 free_closed (b ∷ []) rest gate shut is = tt
 free_closed (b ∷ next ∷ f) rest gate shut is = let e : b ≡ gate = cc in λ same. shut (sym e ∙ same)
-
--- a cut behind byte 0 leaves a free file free
-pub cut_free : (d f : List ℕ) → IsFree d → Cut 1 d f → IsFree f
-cut_free [] f free cut = free_short f (omega (arith, cut.no_longer))
-cut_free (gate ∷ []) f free cut = free_short f (omega (arith, cut.no_longer))
-cut_free (gate ∷ next ∷ rest) f free cut = free_closed f [] gate free cut.front
 
 -- byte 0 of a file of at most one byte is written
 pub closing_free : (d f : List ℕ) → length d ≤ 1 → Torn 0 1 d f → IsFree f
@@ -47,22 +39,3 @@ opening body (gate ∷ f) torn = elim (cases_eq gate 165) [
   | inl is ↦ inr ((λ i. is i ∷ f) ∙ ap (λ (l : List ℕ). 165 ∷ l) torn.after)
   | inr shut ↦ inl (free_closed (gate ∷ f) [] gate shut refl)
 ]
-
-pub opened : (body : List ℕ) → written 0 (165 ∷ []) (0 ∷ body) ≡ 165 ∷ body
-opened body = refl
-
--- the gate of a whole file is closed
-pub closing : (body f : List ℕ) → Torn 0 1 (165 ∷ body) f → IsWholeOrClosed body f
-closing body [] torn = absurd (omega (arith, torn.no_shorter))
-closing body (gate ∷ f) torn = elim (cases_eq gate 165) [
-  | inl is ↦ inl ((λ i. is i ∷ f) ∙ ap (λ (l : List ℕ). 165 ∷ l) torn.after)
-  | inr shut ↦ inr (record { free = free_closed (gate ∷ f) [] gate shut refl; behind = torn.after })
-]
-
--- a stop while it is closed
-pub closing_moments : (a b : Half) (file : List ℕ) → IsWhole (drop 1 file) file → LeftOnly file a → Leaves a b (Follows (Torn 0 1) a) → Leaves a b (IsWholeOrClosed (drop 1 file))
-closing_moments a b file whole only moments = leaves_step (Torn 0 1) (IsWholeOrClosed (drop 1 file)) file (165 ∷ drop 1 file) only whole (λ f torn. closing (drop 1 file) f torn) moments
-
--- the gate of a whole file is written
-pub shut : (file : List ℕ) → IsWhole (drop 1 file) file → written 0 (0 ∷ []) file ≡ 0 ∷ drop 1 file
-shut file whole = refl
