@@ -4,7 +4,7 @@
 # It works in a folder of its own, and ends with status 0 where all is as wanted.
 set -u
 program=$(realpath "${1:-out/flm_tool}") || exit 1
-fixtures=$(realpath "$(dirname "$0")/firmware") || exit 1
+data=$(realpath ../command_vectors/data) || exit 1
 folder=$(mktemp -d) || exit 1
 trap 'rm -rf "$folder"' EXIT
 cd "$folder" || exit 1
@@ -40,6 +40,7 @@ printf '\1\2' > same
 printf '\1\2\63' > other
 printf '12345' > long
 printf '' > empty
+printf '\377' > ff
 cat > board.toml <<'BOARD'
 [ram]
 base = 0x20000000
@@ -52,6 +53,8 @@ base = 0x40022000
 BOARD
 printf ':020000040800F2\n:020000000102FB\n:00000001FF\n' > right.hex
 printf ':020000040800F2\n:020000000103FA\n:00000001FF\n' > wrong.hex
+cp "$data/small.toml" "$data/small.flm" "$data/moved.flm" .
+head -c 1024 /dev/zero | tr '\0' '\377' > blank
 
 usage='flmprog: usage: flm_tool JOB CELLS COMMAND [WORDS]'
 
@@ -60,6 +63,8 @@ run 0 same '' job cells compare same
 run 0 same '' job cells compare empty
 run 0 same '' job cells verify board.toml right.hex
 run 0 same '' job cells verify --raw-at 0x08000000 board.toml same
+run 0 $'plan sectors\nprogram 08000000 64\ncost 1' '' job blank plan small.toml small.flm right.hex
+run 0 $'plan none\ncost 0' '' job blank plan small.toml small.flm --raw-at 0x080003FF -- ff
 run 2 '' "$usage"
 run 2 '' "$usage" job cells
 run 2 '' "$usage" job cells compare
@@ -69,6 +74,8 @@ run 3 '' 'flmprog: cannot read missing' job cells compare missing
 run 3 '' 'flmprog: cannot read .' job cells compare .
 run 4 '' 'flmprog: image: 5 bytes for 4 cells' job cells compare long
 run 4 '' 'flmprog: image: 2 bytes for 0 cells' job missing compare same
+run 5 '' 'flmprog: flm: other device 08000400 1024' job blank plan small.toml moved.flm right.hex
+run 7 '' 'flmprog: job: 1024 cells wanted, 4 found' job cells plan small.toml small.flm right.hex
 run 13 '' 'flmprog: differs at 00000002 wanted 33 found FF' job cells compare other
 run 13 '' 'flmprog: differs at 08000001 wanted 03 found 02' job cells verify board.toml wrong.hex
 run 14 '' 'flmprog: not built' job cells status
@@ -77,17 +84,17 @@ run 14 '' 'flmprog: not built' job cells status
 # compiled it for a Cortex-M0 with -Os -nostdlib -Wl,-n, linked at 0x08000000; arm-none-eabi-objcopy --strip-all made the ELF file,
 # and -O ihex, -O srec and -O binary the others of it.
 blank() { head -c "$1" /dev/zero | tr '\0' '\377'; }
-(cat "$fixtures/firmware.bin"; blank 28) > holds
-(head -c 35 "$fixtures/firmware.bin"; printf I; blank 28) > differs
-blank 64 > blank
-for image in "$fixtures/firmware.elf" "$fixtures/firmware.hex" "$fixtures/firmware.s19" "--raw-at=0x08000000 $fixtures/firmware.bin"; do
-    words="$fixtures/board.toml $image"
-    [ "${image#--}" = "$image" ] || words="${image%% *} $fixtures/board.toml ${image#* }"
+(cat "$data/firmware.bin"; blank 28) > holds
+(head -c 35 "$data/firmware.bin"; printf I; blank 28) > differs
+blank 64 > unused
+for image in "$data/firmware.elf" "$data/firmware.hex" "$data/firmware.s19" "--raw-at=0x08000000 $data/firmware.bin"; do
+    words="$data/one_sector.toml $image"
+    [ "${image#--}" = "$image" ] || words="${image%% *} $data/one_sector.toml ${image#* }"
     run 0 same '' job holds verify $words
     run 13 '' 'flmprog: differs at 08000023 wanted 48 found 49' job differs verify $words
-    run 13 '' 'flmprog: differs at 08000000 wanted 00 found FF' job blank verify $words
+    run 13 '' 'flmprog: differs at 08000000 wanted 00 found FF' job unused verify $words
 done
-run 4 '' "flmprog: image $fixtures/firmware.bin: NoForm" job holds verify "$fixtures/board.toml" "$fixtures/firmware.bin"
+run 4 '' "flmprog: image $data/firmware.bin: NoForm" job holds verify "$data/one_sector.toml" "$data/firmware.bin"
 
 # Words that aren't UTF-8: the command keeps its own answer.
 run 2 '' "$usage" job cells compare $'\377'
@@ -116,6 +123,8 @@ same 'differs, no error' 13 $? '' "$(cat out)"
 same 'differs, no stream' 13 $?
 "$program" job cells compare same > /dev/full 2> err
 same 'a full output' 10 $? 'flmprog: output fault' "$(cat err)"
+"$program" job blank plan small.toml small.flm right.hex > /dev/full 2> err
+same 'a full output of a plan' 10 $? 'flmprog: output fault' "$(cat err)"
 
 # An input of more than one reading, from a pipe too.
 head -c 9000 /dev/zero | tr '\0' '\7' > many
