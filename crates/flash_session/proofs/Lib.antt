@@ -1,0 +1,9 @@
+mod Runs
+mod Lists
+mod Playing
+mod PhaseLemmas
+mod ScriptLemmas
+mod OutcomeLemmas
+mod FuelLemmas
+mod JobLemmas
+mod GoLemmas

@@ -1,0 +1,156 @@
+-- How a script ends on a bench, and that it ends so once what broken-off operations leave is given.
+use Rattle.std.proofs.Common.{◌≡◌, ◌≢◌, ◌<◌, ◌≤◌, ◌∙◌, ⊎_elim, ℕ, Bool, IsTrue, List, length, take, get_or, Result, Ok, Err, Some, None, refl, sym, ap, subst, arith}
+use Rattle.std.proofs.lemmas.List.{get_or-take, take_all}
+use Rattle.std.proofs.lemmas.Bool.{cases_lt}
+use Rattle.bench_model.specs.State.{BenchState}
+use Rattle.bench_model.proofs.Moments.{leaves_then_nothing}
+use Rattle.readback.specs.Readback.{Finds, OnlyReadsCells}
+use Rattle.readback.specs.declared.compare.Difference.{Difference}
+use Rattle.algo_calls.specs.declared.call.Call.{Call}
+use Rattle.algo_calls.specs.declared.call.CallEnd.{CallEnd}
+use Rattle.algo_calls.specs.Shows.{world_in}
+use Rattle.flash_session.specs.declared.driver.Driver.{Driver}
+use Rattle.flash_session.specs.declared.ending.Reached.{Reached}
+use Rattle.flash_session.specs.declared.ending.SessionEnd.{SessionEnd}
+use Rattle.flash_session.specs.declared.ending.SessionEnd.TheVariants as end
+use Rattle.flash_session.specs.declared.stopped.Stopped.{Stopped}
+use Rattle.flash_session.specs.declared.stopped.Stopped.TheVariants as stopped
+use Rattle.flash_session.specs.Differs.{IsFirstDifference}
+use Rattle.flash_session.specs.Moves.{Move, Stand, Failure, failure, run, IsLeftOnWay}
+use Rattle.flash_session.specs.Drivers.{setup_for, stand_of}
+use Rattle.flash_session.specs.Plays.{IsAtBench, IsNotDone, IsStop}
+use Rattle.flash_session.specs.Script.{Errand, script}
+use Rattle.flash_session.specs.Outcome.{GoTo, FailAt, IsEnd, Follows}
+use Rattle.flash_session.proofs.Runs.{end_on}
+use Rattle.flash_session.proofs.ScriptLemmas.{SomeScript}
+
+-- ---- one outcome
+
+same_ok : (r : Result Stand Failure) (a b : Stand) → r ≡ Ok a → r ≡ Ok b → a ≡ b
+same_ok r a b one two = cc
+
+-- before the first difference of one kind there is none of another
+one_place : (goal cells : List ℕ) (d e : Difference) → IsFirstDifference goal cells d → IsFirstDifference goal cells e → e.at ≤ d.at
+one_place goal cells d e one two = ⊎_elim
+    (λ (less : d.at < e.at).
+    let same : get_or cells d.at 0 ≡ get_or goal d.at 0 = sym (get_or-take e.at cells d.at 0 less) ∙ ap (λ (l : List ℕ). get_or l d.at 0) two.before ∙ get_or-take e.at goal d.at 0 less in
+    absurd (one.differ (sym one.wanted ∙ sym same ∙ one.found)))
+    (λ (le : e.at ≤ d.at). le)
+    (cases_lt d.at e.at)
+
+same_difference : (d e : Difference) → d.at ≡ e.at → d.want ≡ e.want → d.got ≡ e.got → d ≡ e
+same_difference d e at wanted found = λ i. record { at = at i; want = wanted i; got = found i }
+
+one_difference : (goal cells : List ℕ) (d e : Difference) → IsFirstDifference goal cells d → IsFirstDifference goal cells e → d ≡ e
+one_difference goal cells d e one two =
+    let at : d.at ≡ e.at = omega (arith, one_place goal cells d e one two, one_place goal cells e d two one) in
+    same_difference d e at (sym one.wanted ∙ ap (λ (i : ℕ). get_or goal i 0) at ∙ two.wanted) (sym one.found ∙ ap (λ (i : ℕ). get_or cells i 0) at ∙ two.found)
+
+differs_somewhere : (goal cells : List ℕ) (d : Difference) → cells ≡ goal → IsFirstDifference goal cells d → ⊥
+differs_somewhere goal cells d same first = first.differ (sym first.wanted ∙ ap (λ (l : List ℕ). get_or l d.at 0) (sym same) ∙ first.found)
+
+one_cells : (a : Stand) (moves : List Move) (c d : List ℕ) → GoTo a moves c → GoTo a moves d → c ≡ d
+one_cells a moves c d one two = sym one.leaves ∙ ap (λ (x : Stand). x.world.cells) (same_ok (run a moves) one.last two.last one.ran two.ran) ∙ two.leaves
+
+not_both : (r : Result Stand Failure) (a : Stand) (f : Failure) → r ≡ Ok a → r ≡ Err f → ⊥
+not_both r a f one two = cc
+
+same_err : (r : Result Stand Failure) (f g : Failure) → r ≡ Err f → r ≡ Err g → f ≡ g
+same_err r f g one two = cc
+
+one_failure : (a : Stand) (moves : List Move) (n m : ℕ) (x y : Call) (e f : CallEnd) (c d : List ℕ) → FailAt a moves n x e c → FailAt a moves m y f d
+    → (end.CallFailed n x e ≡ end.CallFailed m y f) × (c ≡ d)
+one_failure a moves n m x y e f c d one two =
+    let same : failure n x e one.at ≡ failure m y f two.at = same_err (run a moves) _ _ one.ran two.ran in
+    (ap (λ (g : Failure). end.CallFailed g.number g.call g.end) same, sym one.leaves ∙ ap (λ (g : Failure). g.world.cells) same ∙ two.leaves)
+
+-- once it is given what broken-off operations leave, moves have one end and leave one contents
+pub one_outcome : (a : Stand) (moves : List Move) (goal : List ℕ) (e f : SessionEnd) (c d : List ℕ) → IsEnd a moves goal e c → IsEnd a moves goal f d → (e ≡ f) × (c ≡ d)
+one_outcome a moves goal (end.Reached r) (end.Reached s) c d one two = (refl, one_cells a moves c d one.0 two.0)
+one_outcome a moves goal (end.Reached r) (end.Mismatch y) c d one two = absurd (differs_somewhere goal d y (sym (one_cells a moves c d one.0 two.0) ∙ one.1) two.1)
+one_outcome a moves goal (end.Reached r) (end.CallFailed number call e) c d one two = absurd (not_both (run a moves) _ _ one.0.ran two.ran)
+one_outcome a moves goal (end.Reached r) end.DeviceFault c d one two = absurd two
+one_outcome a moves goal (end.Reached r) end.OutOfMemory c d one two = absurd two
+one_outcome a moves goal (end.Mismatch x) (end.Reached s) c d one two = absurd (differs_somewhere goal c x (one_cells a moves c d one.0 two.0 ∙ two.1) one.1)
+one_outcome a moves goal (end.Mismatch x) (end.Mismatch y) c d one two =
+    let same : c ≡ d = one_cells a moves c d one.0 two.0 in
+    (ap end.Mismatch (one_difference goal d x y (subst (λ (l : List ℕ). IsFirstDifference goal l x) same one.1) two.1), same)
+one_outcome a moves goal (end.Mismatch x) (end.CallFailed number call e) c d one two = absurd (not_both (run a moves) _ _ one.0.ran two.ran)
+one_outcome a moves goal (end.Mismatch x) end.DeviceFault c d one two = absurd two
+one_outcome a moves goal (end.Mismatch x) end.OutOfMemory c d one two = absurd two
+one_outcome a moves goal (end.CallFailed number call e) (end.Reached s) c d one two = absurd (not_both (run a moves) _ _ two.0.ran one.ran)
+one_outcome a moves goal (end.CallFailed number call e) (end.Mismatch y) c d one two = absurd (not_both (run a moves) _ _ two.0.ran one.ran)
+one_outcome a moves goal (end.CallFailed n x e) (end.CallFailed m y f) c d one two = one_failure a moves n m x y e f c d one two
+one_outcome a moves goal (end.CallFailed number call e) end.DeviceFault c d one two = absurd two
+one_outcome a moves goal (end.CallFailed number call e) end.OutOfMemory c d one two = absurd two
+one_outcome a moves goal end.DeviceFault f c d one two = absurd one
+one_outcome a moves goal end.OutOfMemory f c d one two = absurd one
+
+-- ---- the ends of a session
+
+pub sound_stop : (x : Stopped) (number : ℕ) (call : Call) (e : CallEnd) → x ≡ stopped.Call number call e → IsStop (Err x) → IsNotDone number e
+sound_stop x number call e is stop = subst (λ (y : Stopped). IsStop (Err y)) is stop
+
+pub sound_difference : (tells : Bool) (cells goal : List ℕ) (d : Difference) → Finds tells cells 0 goal (Some d) → (d.at < length goal) × (d.want ≢ d.got)
+sound_difference tells cells goal d finds = (omega (arith, finds.place, finds.first.within), finds.first.unequal)
+
+module _ (tells : Bool) (t : Errand) (before after : Driver) (s w : BenchState) (told : IsTrue tells) where
+  as_stop : (x y : Stopped) → x ≡ y → SomeScript tells t before (Err x) after s w → SomeScript tells t before (Err y) after s w
+  as_stop x y is some = subst (λ (z : Stopped). SomeScript tells t before (Err z) after s w) is some
+
+  -- a call failed
+  pub follows_call : (x : Stopped) (number : ℕ) (call : Call) (e : CallEnd) → x ≡ stopped.Call number call e → SomeScript tells t before (Err x) after s w
+      → Follows (setup_for before) t (stand_of before s.cells) (end.CallFailed number call e) s w
+  follows_call x number call e is found =
+      let some = as_stop x (stopped.Call number call e) is found in
+      let went = some.1.went told in
+      record { broken = some.0; ends = record { at = world_in after.calls w.cells; ran = went.ends; leaves = refl }; moments = went.moments }
+
+  -- a device fault broke a move off
+  pub follows_device : (x : Stopped) → x ≡ stopped.Device → SomeScript tells t before (Err x) after s w → Follows (setup_for before) t (stand_of before s.cells) end.DeviceFault s w
+  follows_device x is found = let some = as_stop x stopped.Device is found in let went = some.1.went told in record { broken = some.0; ends = went.ends; moments = went.moments }
+
+  module _ (u : Unit {0}) (some : SomeScript tells t before (Ok u) after s w) (x : BenchState) (reads : OnlyReadsCells tells w x) where
+    goes_to : GoTo (stand_of before s.cells) (script (setup_for before) t some.0) x.cells
+    goes_to = record { last = stand_of after w.cells; ran = (some.1.went told).ends; leaves = sym (reads.cells told) }
+
+    -- the cells are the goal
+    pub follows_reached : (r : Reached) → Finds tells w.cells 0 t.goal None → length w.cells ≡ length t.goal → Follows (setup_for before) t (stand_of before s.cells) (end.Reached r) s x
+    follows_reached r finds long = record {
+      broken = some.0;
+      ends = (goes_to, reads.cells told ∙ sym (take_all (length t.goal) w.cells (omega (arith, long))) ∙ finds told);
+      moments = leaves_then_nothing (IsLeftOnWay (stand_of before s.cells) (script (setup_for before) t some.0)) (some.1.went told).moments reads.moments;
+    }
+
+    -- a cell is not the goal
+    pub follows_mismatch : (d : Difference) → Finds tells w.cells 0 t.goal (Some d) → Follows (setup_for before) t (stand_of before s.cells) (end.Mismatch d) s x
+    follows_mismatch d finds =
+        let at : finds.offset ≡ d.at = omega (arith, finds.place) in
+        let here : IsFirstDifference t.goal w.cells d = record {
+          inside = omega (arith, at, finds.first.within);
+          wanted = ap (λ (i : ℕ). get_or t.goal i 0) (sym at) ∙ finds.first.is_wanted;
+          found = ap (λ (i : ℕ). get_or w.cells i 0) finds.place ∙ finds.first.is_found told;
+          differ = finds.first.unequal;
+          before = subst (λ (i : ℕ). take i w.cells ≡ take i t.goal) at (finds.first.least told);
+        } in
+        record {
+          broken = some.0;
+          ends = (goes_to, subst (λ (l : List ℕ). IsFirstDifference t.goal l d) (sym (reads.cells told)) here);
+          moments = leaves_then_nothing (IsLeftOnWay (stand_of before s.cells) (script (setup_for before) t some.0)) (some.1.went told).moments reads.moments;
+        }
+
+    -- they could not be read back
+    pub follows_unread : Follows (setup_for before) t (stand_of before s.cells) end.DeviceFault s x
+    follows_unread =
+        let a = stand_of before s.cells in
+        let moves = script (setup_for before) t some.0 in
+        let now : IsAtBench tells after w = some.1.agrees refl in
+        record {
+          broken = some.0;
+          ends = record {
+            at = world_in after.calls w.cells;
+            on = end_on a (stand_of after w.cells) moves (some.1.went told).ends;
+            shows = record { cells = reads.cells told; operation = reads.operation told ∙ now.operation told };
+          };
+          moments = leaves_then_nothing (IsLeftOnWay a moves) (some.1.went told).moments reads.moments;
+        }

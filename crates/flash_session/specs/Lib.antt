@@ -1,0 +1,12 @@
+pub mod Moves
+pub mod Script
+pub mod Drivers
+pub mod Plays
+pub mod Differs
+pub mod Outcome
+pub mod Fuel
+pub mod Starts
+pub mod Works
+pub mod Surveys
+pub mod Sessions
+pub mod Opened

@@ -1,0 +1,72 @@
+-- How a script ends.
+use Rattle.std.specs.Prelude.{◌≡◌, ◌≢◌, ◌<◌, ℕ, Bool, true, false, List, Ok, Err}
+use Rattle.bench_model.specs.History.{Leaves}
+use Rattle.bench_model.specs.State.{BenchState, cells_half}
+use Rattle.target_core.specs.World.{World}
+use Rattle.algo_calls.specs.declared.call.Call.{Call}
+use Rattle.algo_calls.specs.declared.call.CallEnd.{CallEnd}
+use Rattle.algo_calls.specs.Setups.{Setup}
+use Rattle.flash_session.specs.declared.ending.SessionEnd.{SessionEnd}
+use Rattle.flash_session.specs.declared.ending.SessionEnd.TheVariants as end
+use Rattle.flash_session.specs.Differs.{IsFirstDifference}
+use Rattle.flash_session.specs.Moves.{Move, Stand, failure, run, IsLeftOnWay}
+use Rattle.flash_session.specs.Plays.{BreaksOff, IsNotDone}
+use Rattle.flash_session.specs.Script.{Errand, Broken, script}
+
+-- the moves go to their end, and leave these cells
+pub record GoTo (a : Stand) (moves : List Move) (cells : List ℕ) : Type 0 where
+  pub last : Stand
+  pub ran : run a moves ≡ Ok last
+  pub leaves : last.world.cells ≡ cells
+
+-- this call is the first that isn't done, and leaves these cells
+pub record FailAt (a : Stand) (moves : List Move) (number : ℕ) (call : Call) (e : CallEnd) (cells : List ℕ) : Type 0 where
+  pub at : World
+  pub ran : run a moves ≡ Err (failure number call e at)
+  pub leaves : at.cells ≡ cells
+
+-- the end of moves and of the comparison after them, with the cells that are left
+abbrev pub IsEnd : Stand → List Move → List ℕ → SessionEnd → List ℕ → Type 0
+IsEnd a moves goal (end.Reached r) cells = GoTo a moves cells × (cells ≡ goal)
+IsEnd a moves goal (end.Mismatch d) cells = GoTo a moves cells × IsFirstDifference goal cells d
+IsEnd a moves goal (end.CallFailed number call e) cells = FailAt a moves number call e cells
+IsEnd a moves goal end.DeviceFault cells = ⊥
+IsEnd a moves goal end.OutOfMemory cells = ⊥
+
+-- and on a bench, where a device fault breaks the moves off at a point of their path
+abbrev pub EndsIn : Stand → List Move → List ℕ → SessionEnd → BenchState → Type 0
+EndsIn a moves goal (end.Reached r) now = IsEnd a moves goal (end.Reached r) now.cells
+EndsIn a moves goal (end.Mismatch d) now = IsEnd a moves goal (end.Mismatch d) now.cells
+EndsIn a moves goal (end.CallFailed number call e) now = IsEnd a moves goal (end.CallFailed number call e) now.cells
+EndsIn a moves goal end.DeviceFault now = BreaksOff a moves now
+EndsIn a moves goal end.OutOfMemory now = ⊥
+
+-- with one choice of what broken-off operations leave, the end, the cells and each moment are the script's
+pub record Follows (s : Setup) (t : Errand) (a : Stand) (e : SessionEnd) (start now : BenchState) : Type 0 where
+  pub broken : Broken
+  pub ends : EndsIn a (script s t broken) t.goal e now
+  pub moments : Leaves (cells_half start) (cells_half now) (IsLeftOnWay a (script s t broken))
+
+abbrev pub is_device_end : SessionEnd → Bool
+is_device_end (end.Reached r) = false
+is_device_end (end.Mismatch d) = false
+is_device_end (end.CallFailed number call e) = false
+is_device_end end.DeviceFault = true
+is_device_end end.OutOfMemory = false
+
+-- what an end says for itself, on every bench: a place lies in the device, where two unequal bytes are wanted and found; a call that failed
+-- has a number, and was neither done nor broken off by a device fault
+abbrev pub IsSound : ℕ → SessionEnd → Type 0
+IsSound size (end.Reached r) = Unit {0}
+IsSound size (end.Mismatch d) = (d.at < size) × (d.want ≢ d.got)
+IsSound size (end.CallFailed number call e) = IsNotDone number e
+IsSound size end.DeviceFault = Unit {0}
+IsSound size end.OutOfMemory = Unit {0}
+
+-- the script came to its comparison
+abbrev pub IsCompared : SessionEnd → Type 0
+IsCompared (end.Reached r) = Unit {0}
+IsCompared (end.Mismatch d) = Unit {0}
+IsCompared (end.CallFailed number call e) = ⊥
+IsCompared end.DeviceFault = ⊥
+IsCompared end.OutOfMemory = ⊥

@@ -1,0 +1,90 @@
+-- The script: the moves by which a target is to reach the goal.
+use Rattle.std.specs.Prelude.{◌≡◌, ◌≤◌, ◌+◌, ◌-◌, ◌^◌, ℕ, zero, suc, Bool, true, false, if◌then◌else◌, IsTrue, is_some, List, [], ◌∷◌, ◌++◌, length, take, drop, get_or}
+use Rattle.flm_descriptor.specs.Shape.{Range, range_at}
+use Rattle.page_geometry.specs.Layout.{Layout, PagesFit}
+use Rattle.erase_planner.specs.Plans.{Chosen}
+use Rattle.algo_calls.specs.declared.call.Call.{Call}
+use Rattle.algo_calls.specs.declared.call.Call.TheVariants.{Init, UnInit, EraseSector, EraseChip, ProgramPage, Verify}
+use Rattle.algo_calls.specs.Setups.{Setup}
+use Rattle.flash_session.specs.Moves.{Move, Reset, Load, Make}
+
+-- a plan on a device: its sectors and pages, the address of its first byte, and what to erase and to program
+pub record Planned : Type 0 where
+  pub layout : Layout
+  pub base : ℕ
+  pub plan : Chosen
+
+-- and the contents to reach
+pub record Errand : Type 0 where
+  pub planned : Planned
+  pub goal : List ℕ
+
+abbrev pub planned : Layout → ℕ → Chosen → Planned
+planned layout base plan = record { layout = layout; base = base; plan = plan }
+
+abbrev pub errand : Layout → ℕ → Chosen → List ℕ → Errand
+errand layout base plan goal = record { planned = planned layout base plan; goal = goal }
+
+-- the moves for each number below this, in rising order
+unfoldable pub each_below : ℕ → (ℕ → List Move) → List Move
+each_below zero moves = []
+each_below (suc n) moves = each_below n moves ++ moves n
+
+-- ---- the erasures: of the whole chip, or sector by sector
+
+abbrev pub sector_moves : Setup → Planned → ℕ → List Move
+sector_moves s p k =
+    if get_or p.plan.sectors k false then Make s (EraseSector (p.base + (range_at p.layout.sectors k).start)) [] ∷ [] else []
+
+unfoldable pub erase_moves : Setup → Planned → List Move
+erase_moves s p = if p.plan.chip then Make s EraseChip [] ∷ [] else each_below (length p.layout.sectors) (sector_moves s p)
+
+-- ---- the planned pages with their wanted bytes, to be programmed or to be verified
+
+abbrev pub page_call : Bool → ℕ → Call
+page_call verifies at = if verifies then Verify at else ProgramPage at
+
+-- the bytes of a range
+abbrev pub bytes_of : Range → List ℕ → List ℕ
+bytes_of r cells = take (r.stop - r.start) (drop r.start cells)
+
+abbrev pub page_at : Bool → Setup → Errand → ℕ → List Move
+page_at verifies s t k =
+    if get_or t.planned.plan.pages k false
+    then Make s (page_call verifies (t.planned.base + (range_at t.planned.layout.pages k).start)) (bytes_of (range_at t.planned.layout.pages k) t.goal) ∷ []
+    else []
+
+unfoldable pub page_moves : Bool → Setup → Errand → List Move
+page_moves verifies s t = each_below (length t.planned.layout.pages) (page_at verifies s t)
+
+abbrev pub has_verify : Setup → Bool
+has_verify s = is_some s.algorithm.entries.verify
+
+abbrev pub verify_moves : Setup → Errand → List Move
+verify_moves s t = if has_verify s then page_moves true s t else []
+
+-- ---- the whole
+
+-- reset, load, Init, the calls, UnInit; a phase without calls is left out
+unfoldable pub phase : Setup → ℕ → List ℕ → List Move → List Move
+phase s kind torn [] = []
+phase s kind torn (call ∷ calls) = Reset s torn ∷ Load s ∷ Make s (Init kind) [] ∷ ((call ∷ calls) ++ (Make s (UnInit kind) [] ∷ []))
+
+-- what each reset leaves of an operation that it breaks off, of which it is the range
+pub record Broken : Type 0 where
+  pub erase : List ℕ
+  pub program : List ℕ
+  pub verify : List ℕ
+  pub last : List ℕ
+
+unfoldable pub script : Setup → Errand → Broken → List Move
+script s t b =
+    phase s 1 b.erase (erase_moves s t.planned)
+    ++ (phase s 2 b.program (page_moves false s t) ++ (phase s 3 b.verify (verify_moves s t) ++ (Reset s b.last ∷ [])))
+
+-- the errand is one for this algorithm
+pub record IsErrand (s : Setup) (t : Errand) : Type 0 where
+  pub goal : length t.goal ≡ t.planned.layout.size
+  pub end : t.planned.base + t.planned.layout.size ≤ 2 ^ 32
+  pub pages : PagesFit s.algorithm.device.page t.planned.layout
+  pub chip : IsTrue t.planned.plan.chip → IsTrue (is_some s.algorithm.entries.erase_chip)
