@@ -1,6 +1,6 @@
 //! Inputs and sinks in memory, with room, failing numbers and missing names.
 use octets::Word;
-use outside_io::{Inputs, MemoryInputs, MemorySink, Sink, put_all};
+use outside_io::{Inputs, MemoryInputs, MemorySink, Sink};
 use std::alloc::Global;
 use std::test::Fail;
 
