@@ -1,0 +1,6 @@
+SECTIONS
+{
+  PrgCode 0 : { *(PrgCode) }
+  DevDscr : { *(DevDscr) }
+  /DISCARD/ : { *(.ARM.attributes) *(.text) *(.data) *(.bss) }
+}

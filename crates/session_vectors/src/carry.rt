@@ -1,0 +1,61 @@
+//! A whole session.
+ghost use Rattle.std.specs.Prelude.{◌≡◌, drop, IsTrue, IsSome, None};
+ghost use Rattle.bench_model.specs.History.{LeftOnly};
+ghost use Rattle.bench_model.specs.State.{file_half};
+ghost use Rattle.job_text.specs.Files.{IsWhole};
+ghost use Rattle.flash_session.specs.Sessions.{job_in, surveyed};
+
+use algo_calls::{Call, CallEnd};
+use bench_model::Bench;
+use flash_session::{Goal, Session, SessionEnd, SessionFault, SurveyFault};
+use readback::Difference;
+use std::alloc::Global;
+
+/// How a session ended.
+#[derive(Clone, Copy, PartialEq, Eq, Debug)]
+pub enum Carried {
+    Refused(SessionFault),
+    Unsurveyed(SurveyFault),
+    Closed,
+    Unclosed,
+    Mismatch(Difference),
+    CallFailed {
+        number: u32,
+        call: Call,
+        end: CallEnd,
+    },
+    DeviceFault,
+    OutOfMemory,
+}
+
+/// Goes to the goal of the session's last survey, and closes the job there.
+fn finish<B: Bench>(alloc: Global, session: &mut Session, bench: &mut B) -> Carried
+    requires surveyed { IsSome (surveyed session.old) }
+    requires count { (B.state bench.old).cell_count ≡ (job_in session.old).algorithm.device.size }
+    requires idle { IsTrue B.tells → (B.state bench.old).operation ≡ None }
+    requires whole { IsTrue B.tells → IsWhole (drop 1 (B.state bench.old).file) (B.state bench.old).file }
+    requires only { IsTrue B.tells → LeftOnly (B.state bench.old).file (file_half (B.state bench.old)) }
+{
+    match session.go(alloc, bench) {
+        SessionEnd::Reached(reached) => match reached.close(session, bench) {
+            Ok(()) => Carried::Closed,
+            Err(_) => Carried::Unclosed,
+        },
+        SessionEnd::Mismatch(difference) => Carried::Mismatch(difference),
+        SessionEnd::CallFailed { number, call, end } => Carried::CallFailed { number, call, end },
+        SessionEnd::DeviceFault => Carried::DeviceFault,
+        SessionEnd::OutOfMemory => Carried::OutOfMemory,
+    }
+}
+
+/// Opens the job of the file, brings the cells to a goal, and closes the job.
+pub fn carry<B: Bench>(alloc: Global, bench: &mut B, goal: Goal) -> Carried {
+    let mut session = match Session::open(alloc, bench) {
+        Ok(session) => session,
+        Err(fault) => return Carried::Refused(fault),
+    };
+    match session.survey(alloc, bench, goal) {
+        Ok(()) => finish(alloc, &mut session, bench),
+        Err(fault) => Carried::Unsurveyed(fault),
+    }
+}
