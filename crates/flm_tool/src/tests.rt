@@ -18,20 +18,13 @@ fn temporary(rt: &HostRuntime, name: &str) -> Result<Word, Fail> {
     Ok(Word::copy(rt.alloc(), path.as_str())?)
 }
 
-/// So many bytes that differ from their neighbours, and from those a window further on.
-fn pattern(rt: &HostRuntime, count: u32) -> Result<Vec<u8>, Fail> {
-    let mut bytes = Vec::new(rt.alloc());
-    for place in 0..count {
-        bytes.push((place % 251) as u8)?;
+/// Bytes that differ from their neighbours, and from those a window further on.
+fn pattern<const N: usize>() -> [u8; N] {
+    let mut bytes = [0; N];
+    for (place, byte) in bytes.iter_mut().enumerate() {
+        *byte = (place % 251) as u8;
     }
-    Ok(bytes)
-}
-
-/// So many bytes of this value.
-fn filled(rt: &HostRuntime, count: usize, value: u8) -> Result<Vec<u8>, Fail> {
-    let mut bytes = Vec::new(rt.alloc());
-    bytes.resize(count, value)?;
-    Ok(bytes)
+    bytes
 }
 
 #[test]

@@ -1,6 +1,6 @@
 //! The cells and the job file through one bench.
 
-use super::{filled, pattern, temporary};
+use super::{pattern, temporary};
 use crate::file_bench::FileBench;
 use bench_model::Bench;
 use octets::Word;
@@ -39,7 +39,7 @@ fn a_bench_holds_what_was_written(rt: HostRuntime) -> Result<(), Fail> {
 #[test]
 fn a_long_fill_reaches_each_cell(rt: HostRuntime) -> Result<(), Fail> {
     let cells = temporary(&rt, "filled")?;
-    fs::write(&rt, cells.text(), filled(&rt, 700, 1)?.as_slice())?;
+    fs::write(&rt, cells.text(), [1; 700].as_slice())?;
     let mut bench = FileBench::new(rt, Word::copy(rt.alloc(), "")?, cells.text());
     assert_eq!(rt; bench.cells_len(), 700);
     bench.cells_open(50, 620)?;
@@ -57,15 +57,15 @@ fn a_long_fill_reaches_each_cell(rt: HostRuntime) -> Result<(), Fail> {
 #[test]
 fn cells_keep_their_places(rt: HostRuntime) -> Result<(), Fail> {
     let cells = temporary(&rt, "placed")?;
-    let old = pattern(&rt, 700)?;
-    let new = pattern(&rt, 320)?;
+    let old = pattern::<700>();
+    let new = pattern::<320>();
     fs::write(&rt, cells.text(), old.as_slice())?;
     let mut bench = FileBench::new(rt, Word::copy(rt.alloc(), "")?, cells.text());
     assert_eq!(rt; bench.cells_len(), 700);
     bench.cells_open(300, 320)?;
-    bench.cells_settle(new.as_slice())?;
-    let mut read = filled(&rt, 400, 0)?;
-    bench.cells_read(290, read.as_mut_slice())?;
+    bench.cells_settle(&new)?;
+    let mut read = [0; 400];
+    bench.cells_read(290, &mut read)?;
     assert_eq!(rt; &read[..10], &old[290..300]);
     assert_eq!(rt; &read[10..330], new.as_slice());
     assert_eq!(rt; &read[330..], &old[620..690]);
