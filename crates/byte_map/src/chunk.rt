@@ -1,12 +1,12 @@
 //! Where an address falls among runs that lie side by side in memory.
-ghost use Rattle.std.specs.Prelude.{◌≡◌, ◌+◌, ◌≤◌, ◌<◌, ◌^◌, ℕ, length};
-ghost use Rattle.byte_map.specs.Image.{run_at, end_of, AreMaximal};
+ghost use Rattle.std.specs.Prelude.{◌≡◌, ◌+◌, ◌≤◌, ◌<◌, ℕ, length};
+ghost use Rattle.byte_map.specs.Image.{addresses, run_at, end_of, AreMaximal};
 
 use crate::run_buffer::RunBuffer;
 
 /// How many runs end below an address: a binary search.
 pub fn ending_in(runs: &[RunBuffer], address: u64) -> usize
-    requires { AreMaximal 0 (2 ^ 32) runs.now }
+    requires { AreMaximal 0 addresses runs.now }
     ensures within { result ≤ length runs.now }
     ensures below { (k : ℕ) → k < result → end_of (run_at runs.now k) < address }
     ensures others { (k : ℕ) → result ≤ k → k < length runs.now → address ≤ end_of (run_at runs.now k) }
@@ -16,7 +16,7 @@ pub fn ending_in(runs: &[RunBuffer], address: u64) -> usize
 
 /// How many runs begin below an address: a binary search.
 pub fn beginning_in(runs: &[RunBuffer], address: u64) -> usize
-    requires { AreMaximal 0 (2 ^ 32) runs.now }
+    requires { AreMaximal 0 addresses runs.now }
     ensures within { result ≤ length runs.now }
     ensures below { (k : ℕ) → k < result → (run_at runs.now k).at < address }
     ensures others { (k : ℕ) → result ≤ k → k < length runs.now → address ≤ (run_at runs.now k).at }

@@ -1,6 +1,6 @@
 //! The least address at which a piece and a map have unequal bytes.
-ghost use Rattle.std.specs.Prelude.{◌+◌, ◌≤◌, ◌^◌, length, MatchOption};
-ghost use Rattle.byte_map.specs.Image.{Run, AreMaximal};
+ghost use Rattle.std.specs.Prelude.{◌+◌, ◌≤◌, length, MatchOption};
+ghost use Rattle.byte_map.specs.Image.{addresses, Run, AreMaximal};
 ghost use Rattle.byte_map.specs.Joining.{Touches};
 ghost use Rattle.byte_map.specs.Laying.{AgreesBelow, AgreesWithRun, ClashesWithRun, IsFirstClash};
 
@@ -17,8 +17,8 @@ pub struct Clash {
 
 /// The first byte of a piece, `bytes` from `at` on, that differs from the run's.
 fn first_clash(run: &RunBuffer, at: u32, bytes: &[u8]) -> Option<Clash>
-    requires { at + length bytes.now ≤ 2 ^ 32 }
-    ensures { let piece : Run = record { at = at; bytes = bytes.now } in MatchOption result (AgreesWithRun piece run.now (2 ^ 32)) (λ c. ClashesWithRun piece run.now c.at c.old c.new) }
+    requires { at + length bytes.now ≤ addresses }
+    ensures { let piece : Run = record { at = at; bytes = bytes.now } in MatchOption result (AgreesWithRun piece run.now addresses) (λ c. ClashesWithRun piece run.now c.at c.old c.new) }
 {
     let start = run.at().max(at);
     let end = run.end().min(u64::from(at) + bytes.len() as u64);
@@ -39,10 +39,10 @@ fn first_clash(run: &RunBuffer, at: u32, bytes: &[u8]) -> Option<Clash>
 /// The first byte of a piece that differs from a map's. The piece touches the map's runs from `first` on
 /// and before `last`.
 pub fn find_clash(runs: &RunList, first: usize, last: usize, at: u32, bytes: &[u8]) -> Option<Clash>
-    requires fits { at + length bytes.now ≤ 2 ^ 32 }
-    requires maximal { AreMaximal 0 (2 ^ 32) runs.now }
+    requires fits { at + length bytes.now ≤ addresses }
+    requires maximal { AreMaximal 0 addresses runs.now }
     requires touches { Touches (record { at = at; bytes = bytes.now }) runs.now first last }
-    ensures { let piece : Run = record { at = at; bytes = bytes.now } in MatchOption result (AgreesBelow piece runs.now (2 ^ 32)) (λ c. IsFirstClash piece runs.now c.at c.old c.new) }
+    ensures { let piece : Run = record { at = at; bytes = bytes.now } in MatchOption result (AgreesBelow piece runs.now addresses) (λ c. IsFirstClash piece runs.now c.at c.old c.new) }
 {
     for index in first..last {
         if let Some(clash) = first_clash(runs.get(index), at, bytes) {

@@ -1,6 +1,6 @@
 //! A finite map from address to byte.
-ghost use Rattle.std.specs.Prelude.{◌≡◌, ◌+◌, ◌≤◌, ◌<◌, ◌^◌, [], length, slice_get, Some, OnOk, OnErr, IfErr};
-ghost use Rattle.byte_map.specs.Image.{byte_at, over, AreMaximal};
+ghost use Rattle.std.specs.Prelude.{◌≡◌, ◌+◌, ◌≤◌, ◌<◌, [], length, slice_get, Some, OnOk, OnErr, IfErr};
+ghost use Rattle.byte_map.specs.Image.{addresses, byte_at, over, AreMaximal};
 
 use crate::conflict::find_clash;
 use crate::fault::LayFault;
@@ -22,14 +22,14 @@ pub struct ByteMap {
 }
 
 impl Model for ByteMap {
-    ghost use Rattle.std.specs.Prelude.{List, ◌^◌};
-    ghost use Rattle.byte_map.specs.Image.{Run, AreMaximal};
+    ghost use Rattle.std.specs.Prelude.{List};
+    ghost use Rattle.byte_map.specs.Image.{addresses, Run, AreMaximal};
 
     ghost Value = { List Run };
 
     ghost view = { λ m. m.runs };
 
-    ghost invariant = { λ m. AreMaximal 0 (2 ^ 32) m.runs };
+    ghost invariant = { λ m. AreMaximal 0 addresses m.runs };
 }
 
 impl ByteMap {
@@ -62,7 +62,7 @@ impl ByteMap {
 
     /// Adds a piece, `bytes` from `at` on, that touches the runs from `first` on and before `last`.
     fn add(&mut self, first: usize, last: usize, at: u32, bytes: &[u8]) -> Result<(), LayFault>
-        requires fits { at + length bytes.now ≤ 2 ^ 32 }
+        requires fits { at + length bytes.now ≤ addresses }
         requires touches { Touches (record { at = at; bytes = bytes.now }) self.old first last }
         ensures ok { OnOk result (Lays (record { at = at; bytes = bytes.now }) self.old self.new) }
         ensures refused { IfErr result (IsLayFault (record { at = at; bytes = bytes.now }) self.old) }
@@ -100,7 +100,7 @@ impl ByteMap {
     /// How many runs the map has.
     pub fn runs(&self) -> usize
         ensures count { result ≡ length self.now }
-        ensures maximal { AreMaximal 0 (2 ^ 32) self.now }
+        ensures maximal { AreMaximal 0 addresses self.now }
     {
         self.runs.len()
     }
@@ -118,7 +118,7 @@ impl ByteMap {
     /// Lays the map over cells, the first of which has the address `base`: each becomes the map's byte
     /// at its address, and stays where the map has none.
     pub fn overlay_into(&self, base: u32, old: &mut [u8])
-        requires { base + length old.old ≤ 2 ^ 32 }
+        requires { base + length old.old ≤ addresses }
         ensures { old.new ≡ over self.now base old.old }
     {
         overlay(&self.runs, base, old);

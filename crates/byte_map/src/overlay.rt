@@ -1,14 +1,14 @@
 //! The bytes of a map laid over a list of cells.
-ghost use Rattle.std.specs.Prelude.{◌≡◌, ◌+◌, ◌≤◌, ◌^◌, [], ◌∷◌, length};
-ghost use Rattle.byte_map.specs.Image.{AreMaximal, over};
+ghost use Rattle.std.specs.Prelude.{◌≡◌, ◌+◌, ◌≤◌, [], ◌∷◌, length};
+ghost use Rattle.byte_map.specs.Image.{addresses, AreMaximal, over};
 
 use crate::run_buffer::RunBuffer;
 use crate::run_list::RunList;
 
 /// Lays a map, given by its runs, over cells whose first one has the address `base`.
 pub fn overlay(runs: &RunList, base: u32, cells: &mut [u8])
-    requires maximal { AreMaximal 0 (2 ^ 32) runs.now }
-    requires fits { base + length cells.old ≤ 2 ^ 32 }
+    requires maximal { AreMaximal 0 addresses runs.now }
+    requires fits { base + length cells.old ≤ addresses }
     ensures { cells.new ≡ over runs.now base cells.old }
 {
     let base = u64::from(base);
@@ -21,7 +21,7 @@ pub fn overlay(runs: &RunList, base: u32, cells: &mut [u8])
 
 /// Lays one run over cells.
 fn copy_run(run: &RunBuffer, base: u64, cells: &mut [u8])
-    requires { base + length cells.old ≤ 2 ^ 32 }
+    requires { base + length cells.old ≤ addresses }
     ensures { cells.new ≡ over (run.now ∷ []) base cells.old }
 {
     let at = u64::from(run.at());

@@ -2,7 +2,7 @@
 //! order go into the tail, and from there into the tree a node at a time, so that no walk down the tree is needed.
 ghost use Rattle.std.specs.Prelude.{◌≡◌, ◌+◌, ◌-◌, ◌<◌, ◌≤◌, ◌^◌, [], ◌∷◌, ◌++◌, length, take, drop, OnOk, OnErr};
 ghost use Rattle.std.proofs.Math.ListN.{set};
-ghost use Rattle.byte_map.specs.Image.{run_at, end_of, AreMaximal};
+ghost use Rattle.byte_map.specs.Image.{addresses, run_at, end_of, AreMaximal};
 ghost use Rattle.byte_map.specs.Tree.{put_in, taken_out, IsCut};
 
 use crate::chunk::{beginning_in, ending_in};
@@ -78,7 +78,7 @@ impl RunList {
     /// How many runs end below an address.
     #[tactic(auto, using(crate::proofs::Cuts::cuts))]
     pub fn count_ending_below(&self, address: u64) -> usize
-        requires { AreMaximal 0 (2 ^ 32) self.now }
+        requires { AreMaximal 0 addresses self.now }
         ensures { IsCut (λ r. end_of r) self.now address result }
     {
         if self.tail.is_empty() {
@@ -94,7 +94,7 @@ impl RunList {
     /// How many runs begin below an address.
     #[tactic(auto, using(crate::proofs::Cuts::cuts))]
     pub fn count_beginning_below(&self, address: u64) -> usize
-        requires { AreMaximal 0 (2 ^ 32) self.now }
+        requires { AreMaximal 0 addresses self.now }
         ensures { IsCut (λ r. r.at) self.now address result }
     {
         if self.tail.is_empty() {
@@ -158,7 +158,7 @@ impl RunList {
     #[tactic(auto, using(crate::proofs::Sides::resets))]
     pub fn append(&mut self, index: usize, middle: &[u8], end: &[u8]) -> Result<(), AllocError>
         requires within { index < length self.old }
-        requires fits { end_of (run_at self.old index) + (length middle.now + length end.now) ≤ 2 ^ 32 }
+        requires fits { end_of (run_at self.old index) + (length middle.now + length end.now) ≤ addresses }
         ensures ok { let run = run_at self.old index in OnOk result (self.new ≡ set self.old index (record { at = run.at; bytes = run.bytes ++ (middle.now ++ end.now) })) }
         ensures err { OnErr result (self.new ≡ self.old) }
     {

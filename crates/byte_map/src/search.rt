@@ -1,14 +1,14 @@
 //! Where an address falls among the runs of a map.
-ghost use Rattle.std.specs.Prelude.{◌+◌, ◌≤◌, ◌^◌, length};
-ghost use Rattle.byte_map.specs.Image.{AreMaximal};
+ghost use Rattle.std.specs.Prelude.{◌+◌, ◌≤◌, length};
+ghost use Rattle.byte_map.specs.Image.{addresses, AreMaximal};
 ghost use Rattle.byte_map.specs.Joining.{Touches};
 
 use crate::run_list::RunList;
 
 /// Which runs touch a piece, `bytes` from `at` on: those from the first place on and before the second.
 pub fn find_touched(runs: &RunList, at: u32, bytes: &[u8]) -> (usize, usize)
-    requires maximal { AreMaximal 0 (2 ^ 32) runs.now }
-    requires fits { at + length bytes.now ≤ 2 ^ 32 }
+    requires maximal { AreMaximal 0 addresses runs.now }
+    requires fits { at + length bytes.now ≤ addresses }
     ensures { Touches (record { at = at; bytes = bytes.now }) runs.now result.0 result.1 }
 {
     let at = u64::from(at);

@@ -2,7 +2,7 @@
 //! that few nodes lie on the way to one.
 ghost use Rattle.std.specs.Prelude.{◌≡◌, ◌+◌, ◌-◌, ◌<◌, ◌≤◌, ◌^◌, [], ◌∷◌, ◌++◌, length, IfOk, OnOk, OnErr};
 ghost use Rattle.std.proofs.Math.ListN.{set};
-ghost use Rattle.byte_map.specs.Image.{run_at, end_of, AreMaximal};
+ghost use Rattle.byte_map.specs.Image.{addresses, run_at, end_of, AreMaximal};
 ghost use Rattle.byte_map.specs.Tree.{runs_of, put_in, taken_out, IsCut};
 
 use crate::chunk::{beginning_in, ending_in};
@@ -139,7 +139,7 @@ pub fn get(side: &Side, index: usize) -> &RunBuffer
 /// How many runs of a side end below an address.
 #[tactic(auto, using(crate::proofs::Cuts::cuts))]
 pub fn ending_below(side: &Side, address: u64) -> usize
-    requires { AreMaximal 0 (2 ^ 32) (runs_of side.now) }
+    requires { AreMaximal 0 addresses (runs_of side.now) }
     ensures { IsCut (λ r. end_of r) (runs_of side.now) address result }
 {
     match side {
@@ -170,7 +170,7 @@ pub fn ending_below(side: &Side, address: u64) -> usize
 /// How many runs of a side begin below an address.
 #[tactic(auto, using(crate::proofs::Cuts::cuts))]
 pub fn beginning_below(side: &Side, address: u64) -> usize
-    requires { AreMaximal 0 (2 ^ 32) (runs_of side.now) }
+    requires { AreMaximal 0 addresses (runs_of side.now) }
     ensures { IsCut (λ r. r.at) (runs_of side.now) address result }
 {
     match side {
@@ -464,7 +464,7 @@ pub fn remove(side: Side, index: usize) -> Side
 #[tactic(auto, using(crate::proofs::Sides::resets))]
 pub fn append(side: &mut Side, index: usize, middle: &[u8], end: &[u8]) -> Result<(), AllocError>
     requires within { index < length (runs_of side.old) }
-    requires fits { end_of (run_at (runs_of side.old) index) + (length middle.now + length end.now) ≤ 2 ^ 32 }
+    requires fits { end_of (run_at (runs_of side.old) index) + (length middle.now + length end.now) ≤ addresses }
     ensures ok { let run = run_at (runs_of side.old) index in OnOk result (runs_of side.new ≡ set (runs_of side.old) index (record { at = run.at; bytes = run.bytes ++ (middle.now ++ end.now) })) }
     ensures err { OnErr result (runs_of side.new ≡ runs_of side.old) }
 {

@@ -1,6 +1,6 @@
 -- The union of two images.
-use Rattle.std.specs.Prelude.{◌≡◌, ◌≢◌, ◌≤◌, ◌<◌, ◌-◌, ◌^◌, ℕ, List, ◌++◌, length, take, Some}
-use Rattle.byte_map.specs.Image.{Run, byte_at, IsSameMap, AreMaximal}
+use Rattle.std.specs.Prelude.{◌≡◌, ◌≢◌, ◌≤◌, ◌<◌, ◌-◌, ℕ, List, ◌++◌, length, take, Some}
+use Rattle.byte_map.specs.Image.{addresses, Run, byte_at, IsSameMap, AreMaximal}
 use Rattle.byte_map.specs.declared.fault.LayFault.{LayFault}
 use Rattle.byte_map.specs.declared.fault.LayFault.TheVariants as lay
 use Rattle.image_set.specs.declared.fault.ImageFault.{ImageFault}
@@ -12,9 +12,9 @@ AgreeBelow image other limit = (a old new : ℕ) → a < limit → byte_at image
 
 -- the images agree, and the third is their union, in runs that are each as long as possible
 pub record IsUnion (image other union : List Run) : Type 0 where
-  pub agree : AgreeBelow image other (2 ^ 32)
+  pub agree : AgreeBelow image other addresses
   pub same : IsSameMap union (other ++ image)
-  pub maximal : AreMaximal 0 (2 ^ 32) union
+  pub maximal : AreMaximal 0 addresses union
 
 -- the least address at which both images have a byte, and the two are unequal
 pub record IsLeastClash (image other : List Run) (at old new : ℕ) : Type 0 where

@@ -1,5 +1,6 @@
 //! Whether an image lies in ranges of addresses.
-ghost use Rattle.std.specs.Prelude.{◌≡◌, ◌+◌, ◌≤◌, ◌<◌, ◌^◌, ◌∷◌, [], ℕ, IsTrue, false, OnOk, IfErr, MatchOption};
+ghost use Rattle.byte_map.specs.Image.{addresses};
+ghost use Rattle.std.specs.Prelude.{◌≡◌, ◌+◌, ◌≤◌, ◌<◌, ◌∷◌, [], ℕ, IsTrue, false, OnOk, IfErr, MatchOption};
 ghost use Rattle.image_set.specs.Ranges.{is_inside, LiesInside, IsPlaceFault, IsOutside};
 
 use crate::fault::ImageFault;
@@ -32,7 +33,7 @@ pub fn check_ranges(map: &ByteMap, ranges: &[(u32, u32)]) -> Result<(), ImageFau
 
 /// The least of `len` addresses from `at` on that is in no range.
 fn find_outside(at: u32, len: usize, ranges: &[(u32, u32)]) -> Option<u32>
-    requires { at + len ≤ 2 ^ 32 }
+    requires { at + len ≤ addresses }
     ensures { MatchOption result ((a : ℕ) → at ≤ a → a < at + len → IsTrue (is_inside ranges.now a)) (IsOutside at (at + len) ranges.now) }
 {
     let end = u64::from(at) + len as u64;

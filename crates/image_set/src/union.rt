@@ -1,6 +1,6 @@
 //! The union of two images.
-ghost use Rattle.std.specs.Prelude.{◌≡◌, ◌+◌, ◌≤◌, ◌<◌, ◌^◌, length, true, false, OnOk, OnErr, IfOk, IfErr};
-ghost use Rattle.byte_map.specs.Image.{run_at, AreMaximal};
+ghost use Rattle.std.specs.Prelude.{◌≡◌, ◌+◌, ◌≤◌, ◌<◌, length, true, false, OnOk, OnErr, IfOk, IfErr};
+ghost use Rattle.byte_map.specs.Image.{addresses, run_at, AreMaximal};
 ghost use Rattle.byte_map.specs.Laying.{Lays, IsLayFault};
 ghost use Rattle.image_set.specs.Fault.{fault_of};
 ghost use Rattle.image_set.specs.Union.{swapped, IsUnion, IsUnionFault, IsUnited};
@@ -43,7 +43,7 @@ fn lay_next(
     other: &ByteMap,
     index: usize,
 ) -> Result<usize, ImageFault>
-    requires maximal { AreMaximal 0 (2 ^ 32) image.now × AreMaximal 0 (2 ^ 32) other.now }
+    requires maximal { AreMaximal 0 addresses image.now × AreMaximal 0 addresses other.now }
     requires some { index < length image.now + length other.now }
     requires united { IsUnited image.now other.now index old union.old }
     ensures ok { IfOk result (λ next. IsUnited image.now other.now (index + 1) next union.new) }
