@@ -3,11 +3,13 @@ ghost use Rattle.std.specs.Prelude.{◌≡◌, ◌≤◌, ◌+◌, ◌-◌, ◌*
 ghost use Rattle.bench_model.specs.Calls.{SameOutside, written};
 ghost use Rattle.bench_model.specs.History.{Leaves};
 ghost use Rattle.bench_model.specs.State.{cells_half};
+ghost use Rattle.page_geometry.specs.Layout.{IsLayout, Layout};
 ghost use Rattle.target_core.specs.Runs.{IsLeftOn, Piece, StandsOn};
 ghost use Rattle.target_core.specs.Units.{state_op};
 ghost use Rattle.target_core.specs.World.{World};
 ghost use Rattle.algo_calls.specs.declared.call.CallEnd.{CallEnd};
 ghost use Rattle.algo_calls.specs.Calls.{after_reset, broken_off, CallGives};
+ghost use Rattle.algo_calls.specs.Duties.{place_of, request_of, Does, Duty, Keeps};
 ghost use Rattle.algo_calls.specs.Ends.{is_device_call, success_of, IsFromCode};
 ghost use Rattle.algo_calls.specs.Frames.{after, end_of, fuel_of, most_fuel, path_of, run_end_in, Request};
 ghost use Rattle.algo_calls.specs.Laws.{EndsExactly, InTurn};
@@ -47,4 +49,13 @@ pub fn resets_break_off<B: Bench>()
     ensures moments { (path : Piece) (start end : B) → StandsOn path (B.state start)
         → Leaves (cells_half (B.state start)) (cells_half (B.state end)) (SameOutside (B.state start).operation (B.state start).cells)
         → Leaves (cells_half (B.state start)) (cells_half (B.state end)) (IsLeftOn path) }
+{}
+
+/// A call that keeps its duty leaves each cell outside its sector or page as it was, wherever a stop of the power comes; one that is to
+/// change nothing leaves them all so. What a duty leaves of a contents is one contents. No call changes the board.
+pub fn kept_calls_stay_in_their_place()
+    ensures local { (s : Setup) (l : Layout) (w : World) (d : Duty) → IsLayout l → length w.cells ≡ l.size → Keeps s l w d
+        → (c : List ℕ) → IsLeftOn (path_of s w (request_of s l d)) c → SameOutside (place_of l d) w.cells c }
+    ensures exact { (s : Setup) (l : Layout) (d : Duty) (before x y : List ℕ) → Does s l before d x → Does s l before d y → x ≡ y }
+    ensures board { (s : Setup) (w : World) (r : Request) → ((after s w r).ram_base ≡ w.ram_base) × ((after s w r).map ≡ w.map) }
 {}
