@@ -1,4 +1,4 @@
-//! Calls the functions of flash algorithms case by case: `call_vectors CASES`, a file of steps and of what each has to answer. It prints the
+//! Calls the functions of flash algorithms case by case: `call_vectors CASES..`, files of steps and of what each has to answer. It prints the
 //! name of each case, and ends with an error at the first step that answers otherwise.
 //!
 //! A line is `case NAME`, or one of these, with numbers and bytes in hexadecimal digits. `BYTES*COUNT` stands for so many times these
@@ -19,12 +19,13 @@ mod hex;
 mod steps;
 mod trial;
 
-use anyhow::{Context, Result};
+use anyhow::Result;
 use std::{env, fs};
 
 fn main(rt: HostRuntime) -> Result<()> {
-    let names = env::args(&rt)?.skip(1).collect::<Vec<String>>(rt.alloc())?;
-    let name = names.get(0).context("a file is missing")?;
-    let text = fs::read_to_string(&rt, name.as_str())?;
-    steps::check(&rt, text.as_str())
+    for name in env::args(&rt)?.skip(1) {
+        let text = fs::read_to_string(&rt, name.as_str())?;
+        steps::check(&rt, text.as_str())?;
+    }
+    Ok(())
 }

@@ -5,7 +5,7 @@ use crate::hex::{all_bytes, bytes, number};
 use crate::trial::Trial;
 use algo_calls::Call;
 use algo_loader::{Layout, NoRoom, place};
-use anyhow::{Result, bail};
+use anyhow::{Context, Result, bail};
 use board_file::{Board, read_board};
 use flm_descriptor::{Algorithm, read_flm};
 use std::alloc::Global;
@@ -13,12 +13,14 @@ use std::fs;
 
 /// The board of a file.
 fn board(rt: &HostRuntime, name: &str) -> Result<Board> {
-    Ok(read_board(rt.alloc(), &fs::read(rt, name)?)?)
+    let text = fs::read(rt, name)?;
+    Ok(read_board(rt.alloc(), &text)?)
 }
 
 /// The algorithm of a file.
 fn algorithm(rt: &HostRuntime, name: &str) -> Result<Algorithm> {
-    Ok(read_flm(rt.alloc(), &fs::read(rt, name)?)?)
+    let file = fs::read(rt, name)?;
+    Ok(read_flm(rt.alloc(), &file)?)
 }
 
 /// The layout that some words name, or why there is none.
@@ -40,9 +42,62 @@ fn layout(words: &[&str]) -> Result<std::result::Result<Layout, NoRoom>> {
     }
 }
 
-/// Whether a call answers what is due.
-fn called(trial: &mut Trial, call: Call, bytes: &[u8], due: &[&str]) -> Result<bool> {
-    Ok(trial.call(call, bytes)? == end(due)?)
+/// Whether a call without bytes answers what is due.
+fn called(trial: &mut Trial, call: Call, due: &[&str]) -> Result<bool> {
+    Ok(trial.call(call, &[])? == end(due)?)
+}
+
+/// Whether a call with the bytes of a word answers what is due.
+fn called_with(
+    trial: &mut Trial,
+    call: Call,
+    page: &str,
+    due: &[&str],
+    alloc: Global,
+) -> Result<bool> {
+    let bytes = bytes(page, alloc)?;
+    Ok(trial.call(call, &bytes)? == end(due)?)
+}
+
+/// Whether a reset answers what is due.
+fn reset(trial: &mut Trial, due: &[&str]) -> Result<bool> {
+    let found = trial.reset();
+    match due {
+        ["ok"] => Ok(found.is_ok()),
+        ["device", "fault"] => Ok(found.is_err()),
+        _ => bail!("no end of a reset"),
+    }
+}
+
+/// Whether the cells are those of some words.
+fn holds_cells(trial: &Trial, words: &[&str], alloc: Global) -> Result<bool> {
+    let cells = all_bytes(words, alloc)?;
+    Ok(trial.cells() == cells.as_slice())
+}
+
+/// Whether a step of a trial that has a number in it answers what is due.
+fn numbered(
+    trial: &mut Trial,
+    name: &str,
+    word: &str,
+    rest: &[&str],
+    alloc: Global,
+) -> Result<bool> {
+    let number = number(word)?;
+    let call = match name {
+        "Init" => Call::Init { kind: number },
+        "UnInit" => Call::UnInit { kind: number },
+        "EraseSector" => Call::EraseSector { at: number },
+        "ProgramPage" => Call::ProgramPage { at: number },
+        "Verify" => Call::Verify { at: number },
+        _ => bail!("no step"),
+    };
+    match (call, rest) {
+        (Call::ProgramPage { .. } | Call::Verify { .. }, [page, due @ ..]) => {
+            called_with(trial, call, page, due, alloc)
+        }
+        _ => called(trial, call, rest),
+    }
 }
 
 /// Whether a step of a trial answers what is due.
@@ -52,79 +107,101 @@ fn holds(trial: &mut Trial, words: &[&str], alloc: Global) -> Result<bool> {
             trial.load();
             Ok(true)
         }
-        ["reset", "ok"] => Ok(trial.reset().is_ok()),
-        ["reset", "device", "fault"] => Ok(trial.reset().is_err()),
-        ["Init", kind, due @ ..] => {
-            let kind = number(kind)?;
-            called(trial, Call::Init { kind }, &[], due)
-        }
-        ["UnInit", kind, due @ ..] => {
-            let kind = number(kind)?;
-            called(trial, Call::UnInit { kind }, &[], due)
-        }
-        ["EraseSector", at, due @ ..] => {
-            let at = number(at)?;
-            called(trial, Call::EraseSector { at }, &[], due)
-        }
-        ["EraseChip", due @ ..] => called(trial, Call::EraseChip, &[], due),
-        ["ProgramPage", at, page, due @ ..] => {
-            let at = number(at)?;
-            called(trial, Call::ProgramPage { at }, &bytes(page, alloc)?, due)
-        }
-        ["Verify", at, page, due @ ..] => {
-            let at = number(at)?;
-            called(trial, Call::Verify { at }, &bytes(page, alloc)?, due)
-        }
-        ["cells", words @ ..] => Ok(trial.cells() == all_bytes(words, alloc)?.as_slice()),
+        ["reset", due @ ..] => reset(trial, due),
+        ["EraseChip", due @ ..] => called(trial, Call::EraseChip, due),
+        ["cells", words @ ..] => holds_cells(trial, words, alloc),
+        [name, word, rest @ ..] => numbered(trial, name, word, rest, alloc),
         _ => bail!("no step"),
     }
 }
 
 /// Whether an algorithm is laid out on a board as is due.
+fn placed_on(rt: &HostRuntime, board: &Board, flm: &str, due: &[&str]) -> Result<bool> {
+    let due = layout(due)?;
+    let algorithm = algorithm(rt, flm)?;
+    Ok(place(&algorithm, board) == due)
+}
+
+/// The same on the board of a file.
 fn placed(rt: &HostRuntime, board_name: &str, flm: &str, due: &[&str]) -> Result<bool> {
-    let found = place(&algorithm(rt, flm)?, &board(rt, board_name)?);
-    Ok(found == layout(due)?)
-}
-
-/// The trial of a line `new`.
-fn made(rt: &HostRuntime, words: &[&str]) -> Result<Option<Trial>> {
-    let ["new", board_name, flm, fail, cells @ ..] = words else {
-        return Ok(None);
-    };
     let board = board(rt, board_name)?;
-    let cells = all_bytes(cells, rt.alloc())?;
-    let fail = fail.parse::<u64>()?;
-    let trial = Trial::new(rt.alloc(), &board, algorithm(rt, flm)?, &cells, fail)?;
-    Ok(Some(trial))
+    placed_on(rt, &board, flm, due)
 }
 
-/// Does the step of a line.
-fn step(rt: &HostRuntime, trial: &mut Option<Trial>, words: &[&str]) -> Result<bool> {
-    if let ["place", board, flm, due @ ..] = words {
-        return placed(rt, board, flm, due);
+/// Whether the step of a line holds, if it has one. Without a trial that is a layout.
+fn step(rt: &HostRuntime, trial: Option<&mut Trial>, words: &[&str]) -> Result<bool> {
+    match (words, trial) {
+        ([], _) => Ok(true),
+        (["place", board, flm, due @ ..], _) => placed(rt, board, flm, due),
+        (words, Some(trial)) => holds(trial, words, rt.alloc()),
+        _ => Ok(false),
     }
-    if let Some(made) = made(rt, words)? {
-        *trial = Some(made);
-        return Ok(true);
+}
+
+/// Does a line: prints the name of a case, or sees that its step holds.
+fn line_holds(rt: &HostRuntime, trial: Option<&mut Trial>, line: &str) -> Result<()> {
+    if let Some(name) = line.strip_prefix("case ") {
+        println!(rt; "{name}")?;
+        return Ok(());
     }
-    match trial {
-        Some(trial) => holds(trial, words, rt.alloc()),
-        None => Ok(words.is_empty()),
+    let words = line.split_whitespace().collect::<Vec<&str>>(rt.alloc())?;
+    if !step(rt, trial, &words)? {
+        bail!("{line}");
     }
+    Ok(())
+}
+
+/// Goes through the lines of a trial.
+fn go_through(rt: &HostRuntime, trial: &mut Trial, text: &str) -> Result<()> {
+    for line in text.lines() {
+        line_holds(rt, Some(trial), line)?;
+    }
+    Ok(())
+}
+
+/// Makes a trial on a board, and goes through its lines.
+fn try_on(
+    rt: &HostRuntime,
+    board: &Board,
+    flm: &str,
+    cells: &[u8],
+    fail: u64,
+    text: &str,
+) -> Result<()> {
+    let algorithm = algorithm(rt, flm)?;
+    let mut trial = Trial::new(rt.alloc(), board, algorithm, cells, fail)?;
+    go_through(rt, &mut trial, text)
+}
+
+/// Makes the trial that a text names first, and goes through its other lines.
+fn try_one(rt: &HostRuntime, text: &str) -> Result<()> {
+    let (line, text) = text.split_once('\n').context("a trial has no lines")?;
+    let words = line.split_whitespace().collect::<Vec<&str>>(rt.alloc())?;
+    let [board_name, flm, fail, cells @ ..] = words.as_slice() else {
+        bail!("{line}: no trial");
+    };
+    let fail = fail.parse::<u64>()?;
+    let cells = all_bytes(cells, rt.alloc())?;
+    let board = board(rt, board_name)?;
+    try_on(rt, &board, flm, &cells, fail, text)
+}
+
+/// Does the lines before the first trial.
+fn before_trials(rt: &HostRuntime, text: &str) -> Result<()> {
+    for line in text.lines() {
+        line_holds(rt, None, line)?;
+    }
+    Ok(())
 }
 
 /// Goes through the lines, and prints the name of each case.
 pub fn check(rt: &HostRuntime, text: &str) -> Result<()> {
-    let mut trial = None;
-    for line in text.lines() {
-        if let Some(name) = line.strip_prefix("case ") {
-            println!(rt; "{name}")?;
-            continue;
-        }
-        let words = line.split_whitespace().collect::<Vec<&str>>(rt.alloc())?;
-        if !words.is_empty() && !step(rt, &mut trial, &words)? {
-            bail!("{line}");
-        }
+    let mut trials = text.split("\nnew ");
+    if let Some(text) = trials.next() {
+        before_trials(rt, text)?;
+    }
+    for text in trials {
+        try_one(rt, text)?;
     }
     Ok(())
 }

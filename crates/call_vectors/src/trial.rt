@@ -1,7 +1,11 @@
 //! The calls of an algorithm, over a bench in memory.
-ghost use Rattle.std.specs.Prelude.{true};
+ghost use Rattle.std.specs.Prelude.{◌≡◌, true, vec_len, IfOk};
 ghost use Rattle.bench_model.specs.Shown.{bench_of};
-ghost use Rattle.algo_calls.specs.Shows.{Agrees};
+ghost use Rattle.board_file.specs.Shown.{shown as board_of};
+ghost use Rattle.flash_controller.specs.Table.{after_reset};
+ghost use Rattle.flash_layout.specs.Maps.{board_map};
+ghost use Rattle.target_core.specs.Units.{OfFc1, unit_cells, unit_map, unit_state};
+ghost use Rattle.algo_calls.specs.Shows.{unit_in, Agrees};
 
 use algo_calls::{Call, CallEnd, Calls};
 use algo_loader::place;
@@ -22,6 +26,32 @@ pub struct Trial {
     ghost agrees: { Agrees true calls (bench_of bench) },
 }
 
+/// The target of a board, which has so many cells.
+fn target_of(alloc: Global, board: &Board, cells: usize) -> Result<Target>
+    ensures base { IfOk result (λ t. t.ram_base ≡ (board_of board.now).ram_base) }
+    ensures len { IfOk result (λ t. vec_len t.ram ≡ (board_of board.now).ram_size) }
+    ensures map { IfOk result (λ t. unit_map t.unit ≡ board_map (board_of board.now)) }
+    ensures cells { IfOk result (λ t. unit_cells t.unit ≡ cells) }
+    ensures fresh { IfOk result (λ t. unit_state t.unit ≡ OfFc1 after_reset) }
+{
+    let target = Target::new(alloc, board)?;
+    if target.unit.cells() as usize != cells {
+        bail!("another number of cells");
+    }
+    Ok(target)
+}
+
+/// The calls of an algorithm on this target, which was made for the board.
+fn calls_on(target: Target, algorithm: Algorithm, board: &Board) -> Result<Calls>
+    requires base { target.ram_base ≡ (board_of board.now).ram_base }
+    requires len { vec_len target.ram ≡ (board_of board.now).ram_size }
+    requires map { unit_map target.unit ≡ board_map (board_of board.now) }
+    ensures { IfOk result (λ calls. unit_in calls ≡ target.unit) }
+{
+    let layout = place(&algorithm, board)?;
+    Ok(Calls::new(target, layout, algorithm, board))
+}
+
 impl Trial {
     /// An algorithm on a board with these cells. The cell call of this number fails, and an operation that is broken off leaves 5A.
     pub fn new(
@@ -31,13 +61,9 @@ impl Trial {
         cells: &[u8],
         fail: u64,
     ) -> Result<Trial> {
-        let target = Target::new(alloc, board)?;
-        if target.unit.cells() as usize != cells.len() {
-            bail!("another number of cells");
-        }
-        let layout = place(&algorithm, board)?;
+        let target = target_of(alloc, board, cells.len())?;
+        let calls = calls_on(target, algorithm, board)?;
         let bench = MemoryBench::new(alloc, cells, &[], 0, 0x10000, &[], &[fail], &[0x5A])?;
-        let calls = Calls::new(target, layout, algorithm, board);
         Ok(Trial { calls, bench })
     }
 
