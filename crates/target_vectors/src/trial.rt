@@ -1,14 +1,14 @@
-//! A target over a bench in memory, for the tests.
-ghost use Rattle.std.specs.Prelude.{◌≡◌, true};
+//! A target over a bench in memory.
+ghost use Rattle.std.specs.Prelude.{true};
 ghost use Rattle.bench_model.specs.Shown.{bench_of};
 ghost use Rattle.target_core.specs.Units.{UnitAgrees};
 
+use anyhow::{Result, bail};
 use armv6m_decode::registers::{LR, PC};
 use bench_model::{BusEnd, MemoryBench};
-use board_file::read_board;
+use board_file::{Board, read_board};
 use std::alloc::Global;
-use std::process::Abort;
-use std::test::Fail;
+use std::result;
 use target_core::{Frame, RunEnd, SliceEnd, Target};
 
 /// 256 bytes of RAM, and two sectors of 4 cells.
@@ -16,38 +16,46 @@ const BOARD: &str = "ram = { base = 0x20000000, size = 256 }
 region = [{ base = 0x08000000, sectors = [[2, 4]] }]
 controller.base = 0x40022000";
 
-/// The address of the first byte of the RAM.
-pub const RAM: u32 = 0x2000_0000;
 /// Where runs return to.
-pub const BACK: u32 = RAM + 0x40;
-/// The address of the first cell.
-pub const FLASH: u32 = 0x0800_0000;
+const BACK: u32 = 0x2000_0040;
+
+/// The number of cells.
+const CELLS: usize = 8;
 
 /// A target and its bench, whose open operation is the controller's.
 #[derive(Drop)]
 pub struct Trial {
-    /// The target.
     target: Target,
-    /// The bench.
     bench: MemoryBench,
+    last: [u32; 16],
 
     ghost agrees: { UnitAgrees true target.unit (bench_of bench) },
 }
 
+/// The board.
+fn board(alloc: Global) -> Result<Board> {
+    Ok(read_board(alloc, BOARD.as_bytes())?)
+}
+
 impl Trial {
-    /// A target with this code at the beginning of its RAM, over blank cells. The cell calls of these numbers fail.
-    pub fn new(rt: &impl Abort, alloc: Global, code: &[u8], fails: &[u64]) -> Result<Trial, Fail> {
-        let mut target = Target::new(alloc, &read_board(alloc, BOARD.as_bytes())?)?;
-        assert!(rt; target.unit.cells() == 8);
-        assert!(rt; code.len() <= target.ram.len());
+    /// A target with this code at the beginning of its RAM, over blank cells. The cell call of this number fails.
+    pub fn new(alloc: Global, code: &[u8], fail: u64) -> Result<Trial> {
+        let mut target = Target::new(alloc, &board(alloc)?)?;
+        if target.unit.cells() as usize != CELLS || code.len() > target.ram.len() {
+            bail!("no room");
+        }
         let base = target.ram_base;
         target.write_ram(base, code);
-        let bench = MemoryBench::new(alloc, &[0xFF; 8], &[], 0, 0x100, &[], fails, &[])?;
-        Ok(Trial { target, bench })
+        let bench = MemoryBench::new(alloc, &[0xFF; CELLS], &[], 0, 0x100, &[], &[fail], &[])?;
+        Ok(Trial {
+            target,
+            bench,
+            last: [0; 16],
+        })
     }
 
     /// A word stored to a register of the controller, or a bus fault where the address isn't a multiple of 4.
-    pub fn word(&mut self, at: u32, value: u32) -> Result<(), BusEnd> {
+    pub fn word(&mut self, at: u32, value: u32) -> result::Result<(), BusEnd> {
         if at % 4 != 0 {
             return Err(BusEnd::Fault);
         }
@@ -56,7 +64,9 @@ impl Trial {
 
     /// Runs the code.
     pub fn run(&mut self, frame: &Frame, fuel: u64) -> RunEnd {
-        self.target.run(&mut self.bench, frame, fuel)
+        let end = self.target.run(&mut self.bench, frame, fuel);
+        self.last = self.target.core.regs;
+        end
     }
 
     /// Runs the code in slices of so many steps, and says what is left of the fuel.
@@ -72,9 +82,9 @@ impl Trial {
         (RunEnd::DeviceFault, left)
     }
 
-    /// The core's registers.
-    pub fn registers(&self) -> [u32; 16] {
-        self.target.core.regs
+    /// Whether the core's registers are those that the last run left.
+    pub fn as_last(&self) -> bool {
+        self.target.core.regs == self.last
     }
 
     /// The cells.
@@ -83,13 +93,13 @@ impl Trial {
     }
 }
 
-/// The code from the beginning of the RAM on, with these values in R0 and R1.
-pub fn frame(r0: u32, r1: u32) -> Frame {
+/// The code from this place on, with these values in R0 and R1.
+pub fn frame(pc: u32, r0: u32, r1: u32) -> Frame {
     let mut regs = [0; 16];
     regs[0] = r0;
     regs[1] = r1;
     regs[LR as usize] = BACK + 1;
-    regs[PC as usize] = RAM;
+    regs[PC as usize] = pc;
     Frame {
         regs,
         return_at: BACK,

@@ -1,0 +1,113 @@
+//! The steps of the cases.
+
+use crate::put::{put_cells, put_end};
+use crate::trial::{Trial, frame};
+use anyhow::{Context, Result, bail};
+use std::alloc::Global;
+use std::str;
+use target_core::Frame;
+
+/// The number of a word.
+fn number(word: &str) -> Result<u32> {
+    Ok(u32::from_str_radix(word, 16)?)
+}
+
+/// The bytes of pairs of digits.
+fn bytes(alloc: Global, digits: &str) -> Result<Vec<u8>> {
+    let mut bytes = Vec::new(alloc);
+    for pair in digits.as_bytes().chunks(2) {
+        bytes.push(u8::from_str_radix(str::from_utf8(pair)?, 16)?)?;
+    }
+    Ok(bytes)
+}
+
+/// The frame of some words.
+fn frame_of(pc: &str, r0: &str, r1: &str) -> Result<Frame> {
+    Ok(frame(number(pc)?, number(r0)?, number(r1)?))
+}
+
+/// Stores a word.
+fn store(trial: &mut Trial, at: &str, value: &str) -> Result<()> {
+    match trial.word(number(at)?, number(value)?) {
+        Ok(()) => Ok(()),
+        Err(_) => bail!("the word isn't stored"),
+    }
+}
+
+/// Runs the code.
+fn run(rt: &HostRuntime, trial: &mut Trial, frame: &Frame, fuel: &str) -> Result<()> {
+    let end = trial.run(frame, fuel.parse::<u64>()?);
+    put_end(rt, end)?;
+    println!(rt; "")?;
+    Ok(())
+}
+
+/// Runs the code in slices.
+fn slices(
+    rt: &HostRuntime,
+    trial: &mut Trial,
+    frame: &Frame,
+    fuel: &str,
+    steps: &str,
+) -> Result<()> {
+    let (end, left) = trial.slices(frame, fuel.parse::<u64>()?, steps.parse::<u64>()?);
+    put_end(rt, end)?;
+    let registers = if trial.as_last() {
+        "the same registers"
+    } else {
+        "other registers"
+    };
+    println!(rt; ", {left} left, {registers}")?;
+    Ok(())
+}
+
+/// Does a step on a target.
+fn go(rt: &HostRuntime, trial: &mut Trial, words: &[&str]) -> Result<()> {
+    match words {
+        ["word", at, value] => store(trial, at, value),
+        ["run", pc, r0, r1, fuel] => run(rt, trial, &frame_of(pc, r0, r1)?, fuel),
+        ["slices", pc, r0, r1, fuel, steps] => {
+            slices(rt, trial, &frame_of(pc, r0, r1)?, fuel, steps)
+        }
+        ["cells"] => put_cells(rt, trial.cells()),
+        _ => bail!("no step"),
+    }
+}
+
+/// Does the step of a line, if it has one, or prints the name of a case.
+fn step(rt: &HostRuntime, trial: &mut Trial, line: &str) -> Result<()> {
+    if let Some(name) = line.strip_prefix("case ") {
+        println!(rt; "{name}")?;
+        return Ok(());
+    }
+    let words = line.split_whitespace().collect::<Vec<&str>>(rt.alloc())?;
+    if words.is_empty() {
+        return Ok(());
+    }
+    go(rt, trial, &words)
+}
+
+/// Makes the target that a text names first, and goes through its other lines.
+fn go_through_one(rt: &HostRuntime, text: &str) -> Result<()> {
+    let (code, text) = text.split_once(' ').context("a target is CODE FAIL")?;
+    let (fail, text) = text.split_once('\n').context("a target is CODE FAIL")?;
+    let fail = fail.parse::<u64>()?;
+    let code = bytes(rt.alloc(), code)?;
+    let mut trial = Trial::new(rt.alloc(), &code, fail)?;
+    for line in text.lines() {
+        step(rt, &mut trial, line)?;
+    }
+    Ok(())
+}
+
+/// Goes through the lines. A case has a target or more, and begins with one.
+pub fn go_through(rt: &HostRuntime, text: &str) -> Result<()> {
+    let mut targets = text.split("\nnew ");
+    if let Some(name) = targets.next() {
+        println!(rt; "{}", name.trim_start_matches("case "))?;
+    }
+    for text in targets {
+        go_through_one(rt, text)?;
+    }
+    Ok(())
+}
