@@ -7,3 +7,9 @@ mod OutcomeLemmas
 mod FuelLemmas
 mod JobLemmas
 mod GoLemmas
+mod Members
+mod Leading
+mod Passing
+mod Serving
+mod ServedLemmas
+pub mod LocalLemmas

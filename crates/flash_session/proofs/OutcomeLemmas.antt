@@ -46,13 +46,13 @@ one_difference goal cells d e one two =
     let at : d.at ≡ e.at = omega (arith, one_place goal cells d e one two, one_place goal cells e d two one) in
     same_difference d e at (sym one.wanted ∙ ap (λ (i : ℕ). get_or goal i 0) at ∙ two.wanted) (sym one.found ∙ ap (λ (i : ℕ). get_or cells i 0) at ∙ two.found)
 
-differs_somewhere : (goal cells : List ℕ) (d : Difference) → cells ≡ goal → IsFirstDifference goal cells d → ⊥
+pub differs_somewhere : (goal cells : List ℕ) (d : Difference) → cells ≡ goal → IsFirstDifference goal cells d → ⊥
 differs_somewhere goal cells d same first = first.differ (sym first.wanted ∙ ap (λ (l : List ℕ). get_or l d.at 0) (sym same) ∙ first.found)
 
-one_cells : (a : Stand) (moves : List Move) (c d : List ℕ) → GoTo a moves c → GoTo a moves d → c ≡ d
+pub one_cells : (a : Stand) (moves : List Move) (c d : List ℕ) → GoTo a moves c → GoTo a moves d → c ≡ d
 one_cells a moves c d one two = sym one.leaves ∙ ap (λ (x : Stand). x.world.cells) (same_ok (run a moves) one.last two.last one.ran two.ran) ∙ two.leaves
 
-not_both : (r : Result Stand Failure) (a : Stand) (f : Failure) → r ≡ Ok a → r ≡ Err f → ⊥
+pub not_both : (r : Result Stand Failure) (a : Stand) (f : Failure) → r ≡ Ok a → r ≡ Err f → ⊥
 not_both r a f one two = cc
 
 same_err : (r : Result Stand Failure) (f g : Failure) → r ≡ Err f → r ≡ Err g → f ≡ g

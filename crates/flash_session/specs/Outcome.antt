@@ -70,3 +70,11 @@ IsCompared (end.Mismatch d) = Unit {0}
 IsCompared (end.CallFailed number call e) = ⊥
 IsCompared end.DeviceFault = ⊥
 IsCompared end.OutOfMemory = ⊥
+
+-- the goal was reached, or memory was refused before the first move
+abbrev pub IsReachedOrOutOfMemory : SessionEnd → Type 0
+IsReachedOrOutOfMemory (end.Reached r) = Unit {0}
+IsReachedOrOutOfMemory (end.Mismatch d) = ⊥
+IsReachedOrOutOfMemory (end.CallFailed number call e) = ⊥
+IsReachedOrOutOfMemory end.DeviceFault = ⊥
+IsReachedOrOutOfMemory end.OutOfMemory = Unit {0}
