@@ -2,6 +2,8 @@ pub mod Puts
 pub mod End
 pub mod Inspection
 pub mod Faults
+pub mod Calls
 pub mod Refusal
 pub mod Shown
 pub mod Plan
+pub mod Job

@@ -1,10 +1,13 @@
 -- The refusals of the top call: the status of each, and its line on standard error.
 use Rattle.std.specs.Prelude.{ℕ, List, [], ◌∷◌, ◌++◌, codes, decimal}
 use Rattle.std.specs.List.{concat}
+use Rattle.algo_calls.specs.declared.call.Call.{Call}
+use Rattle.algo_calls.specs.declared.call.CallEnd.{CallEnd}
 use Rattle.board_file.specs.declared.fault.BoardFault.{BoardFault}
 use Rattle.flm_descriptor.specs.declared.fault.FlmFault.{FlmFault}
 use Rattle.image_set.specs.declared.fault.ImageFault.{ImageFault}
 use Rattle.octets.specs.Digit.{hex_text}
+use Rattle.report_text.specs.Calls.{failed_text}
 use Rattle.report_text.specs.Faults.{board_text, flm_text, image_text, file_text}
 
 pub data Refusal : Type 0 where
@@ -26,10 +29,21 @@ pub data Refusal : Type 0 where
   no_room : (need have : ℕ) → Refusal
   -- an input file describes no board
   board_refused : (fault : BoardFault) → Refusal
+  -- the job file stands for a job already
+  job_open : Refusal
+  -- the job file is free
+  no_job : Refusal
+  -- the job file is neither free nor stands for a job
+  not_a_job : (at : ℕ) → Refusal
   -- there are other than the region's number of cells
   cells_differ : (wanted found : ℕ) → Refusal
+  store_fault : Refusal
   device_fault : Refusal
   output_fault : Refusal
+  -- a call of the algorithm ended otherwise than done
+  call_failed : (number : ℕ) (call : Call) (end : CallEnd) → Refusal
+  -- a cell isn't as it is wanted at this address, once all calls were done
+  mismatch : (at wanted found : ℕ) → Refusal
   -- a cell isn't the image's byte at this place
   differs : (place wanted found : ℕ) → Refusal
   not_built : Refusal
@@ -45,11 +59,21 @@ status_of (flm_refused fault) = 5
 status_of (other_device base size) = 5
 status_of (no_room need have) = 5
 status_of (board_refused fault) = 6
+status_of job_open = 7
+status_of no_job = 7
+status_of (not_a_job at) = 7
 status_of (cells_differ wanted found) = 7
+status_of store_fault = 8
 status_of device_fault = 9
 status_of output_fault = 10
+status_of (call_failed number call end) = 11
+status_of (mismatch at wanted found) = 12
 status_of (differs place wanted found) = 13
 status_of not_built = 14
+
+-- a place or an address, with the byte that is wanted there and the one that was found
+unfoldable pub difference_text : List ℕ → ℕ → ℕ → ℕ → List ℕ
+difference_text what at wanted found = concat (what ∷ codes " at " ∷ hex_text 8 at ∷ codes " wanted " ∷ hex_text 2 wanted ∷ codes " found " ∷ hex_text 2 found ∷ [])
 
 -- what it says
 unfoldable pub reason_of : Refusal → List ℕ
@@ -63,11 +87,16 @@ reason_of (flm_refused fault) = codes "flm: " ++ flm_text fault
 reason_of (other_device base size) = concat (codes "flm: other device " ∷ hex_text 8 base ∷ codes " " ∷ decimal size ∷ [])
 reason_of (no_room need have) = concat (codes "flm: NoRoom " ∷ decimal need ∷ codes " " ∷ decimal have ∷ [])
 reason_of (board_refused fault) = codes "board: " ++ board_text fault
+reason_of job_open = codes "job: open"
+reason_of no_job = codes "job: none"
+reason_of (not_a_job at) = concat (codes "job: not a job at " ∷ decimal at ∷ [])
 reason_of (cells_differ wanted found) = concat (codes "job: " ∷ decimal wanted ∷ codes " cells wanted, " ∷ decimal found ∷ codes " found" ∷ [])
+reason_of store_fault = codes "store fault"
 reason_of device_fault = codes "device fault"
 reason_of output_fault = codes "output fault"
-reason_of (differs place wanted found) =
-    concat (codes "differs at " ∷ hex_text 8 place ∷ codes " wanted " ∷ hex_text 2 wanted ∷ codes " found " ∷ hex_text 2 found ∷ [])
+reason_of (call_failed number call end) = failed_text number call end
+reason_of (mismatch at wanted found) = difference_text (codes "mismatch") at wanted found
+reason_of (differs place wanted found) = difference_text (codes "differs") place wanted found
 reason_of not_built = codes "not built"
 
 -- the whole line

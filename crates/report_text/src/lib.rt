@@ -1,11 +1,13 @@
-//! The texts that the flash programmer prints: a plan, an inspection, an end and a refusal, each put on a sink. No call takes
-//! memory.
+//! The texts that the flash programmer prints: a plan, a job, an inspection, an end and a refusal, each put on a sink. No call
+//! takes memory.
 #![tactic(auto)]
 
 mod board_reason;
+mod call_reason;
 mod end;
 mod image_reason;
 mod inspection;
+mod job;
 mod pieces;
 mod plan;
 mod reason;
@@ -13,5 +15,6 @@ mod refusal;
 
 pub use end::{End, put_end};
 pub use inspection::put_inspection;
+pub use job::put_job;
 pub use plan::put_plan;
 pub use refusal::{Refusal, put_refusal};

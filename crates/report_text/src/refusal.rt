@@ -1,13 +1,15 @@
 //! The refusals of the top call, and the line of each on standard error.
 ghost use Rattle.std.specs.Prelude.{◌≡◌};
 ghost use Rattle.report_text.specs.Puts.{Puts};
-ghost use Rattle.report_text.specs.Refusal.{status_of, reason_of, line_of, image_too_long, other_device, no_room, cells_differ, differs};
+ghost use Rattle.report_text.specs.Refusal.{status_of, reason_of, line_of, image_too_long, other_device, no_room, not_a_job, cells_differ, difference_text};
 ghost use Rattle.report_text.specs.Shown.{shown};
 
 use crate::board_reason::put_board_fault;
+use crate::call_reason::put_failed_call;
 use crate::image_reason::{put_image_fault, put_image_file};
 use crate::pieces::put_pieces;
 use crate::reason::put_flm_fault;
+use algo_calls::{Call, CallEnd};
 use board_file::BoardFault;
 use flm_descriptor::FlmFault;
 use image_set::ImageFault;
@@ -25,32 +27,69 @@ pub enum Refusal<'a> {
     Usage,
 
     /// The input file of this name could not be taken.
-    InputFault { name: &'a Word },
+    InputFault {
+        name: &'a Word,
+    },
 
     /// A raw image has more bytes than there are cells.
-    ImageTooLong { bytes: usize, cells: u32 },
+    ImageTooLong {
+        bytes: usize,
+        cells: u32,
+    },
 
     /// The image file of this name is refused.
-    ImageRefused { name: &'a Word, fault: ImageFault },
+    ImageRefused {
+        name: &'a Word,
+        fault: ImageFault,
+    },
 
     /// The image has no byte, or one outside the device.
-    ImageMisplaced { fault: ImageFault },
+    ImageMisplaced {
+        fault: ImageFault,
+    },
 
     /// An input file is no FLM file.
-    FlmRefused { fault: FlmFault },
+    FlmRefused {
+        fault: FlmFault,
+    },
 
     /// An FLM file is for a device with another base or size than the board's region. The base and the size, in bytes, are
     /// the file's.
-    OtherDevice { base: u32, size: u32 },
+    OtherDevice {
+        base: u32,
+        size: u32,
+    },
 
     /// The algorithm needs so many bytes of RAM, and the board has so many.
-    NoRoom { need: u64, have: u64 },
+    NoRoom {
+        need: u64,
+        have: u64,
+    },
 
     /// An input file describes no board.
-    BoardRefused { fault: BoardFault },
+    BoardRefused {
+        fault: BoardFault,
+    },
+
+    /// The job file stands for a job already.
+    JobOpen,
+
+    /// The job file is free.
+    NoJob,
+
+    /// The job file is neither free nor stands for a job. The offset, in bytes, shows the first check that fails.
+    NotAJob {
+        at: u64,
+    },
 
     /// There are other than the region's number of cells.
-    CellsDiffer { wanted: u32, found: u32 },
+    CellsDiffer {
+        wanted: u32,
+        found: u32,
+    },
+
+    /// The store of the job file failed.
+    StoreFault,
 
     /// The device failed.
     DeviceFault,
@@ -58,8 +97,26 @@ pub enum Refusal<'a> {
     /// The standard output failed.
     OutputFault,
 
+    /// A call of the algorithm, by its number in the session from 1 on, ended otherwise than done.
+    CallFailed {
+        number: u32,
+        call: Call,
+        end: CallEnd,
+    },
+
+    /// All calls were done, and the cell at an address isn't the byte that is wanted there.
+    Mismatch {
+        at: u32,
+        wanted: u8,
+        found: u8,
+    },
+
     /// The cell at a place isn't the byte that is wanted there.
-    Differs { at: u32, wanted: u8, found: u8 },
+    Differs {
+        at: u32,
+        wanted: u8,
+        found: u8,
+    },
 
     /// The command isn't built yet.
     NotBuilt,
@@ -81,9 +138,15 @@ impl Refusal<'_> {
             Refusal::OtherDevice { .. } => 5,
             Refusal::NoRoom { .. } => 5,
             Refusal::BoardRefused { .. } => 6,
+            Refusal::JobOpen => 7,
+            Refusal::NoJob => 7,
+            Refusal::NotAJob { .. } => 7,
             Refusal::CellsDiffer { .. } => 7,
+            Refusal::StoreFault => 8,
             Refusal::DeviceFault => 9,
             Refusal::OutputFault => 10,
+            Refusal::CallFailed { .. } => 11,
+            Refusal::Mismatch { .. } => 12,
             Refusal::Differs { .. } => 13,
             Refusal::NotBuilt => 14,
         }
@@ -124,10 +187,24 @@ fn put_reason<E: Sink>(err: &mut E, refusal: &Refusal<'_>) -> Result<(), OutputF
             put_pieces(err, &[b"board: "])?;
             put_board_fault(err, *fault)
         }
+        Refusal::JobOpen => put_pieces(err, &[b"job: open"]),
+        Refusal::NoJob => put_pieces(err, &[b"job: none"]),
+        Refusal::NotAJob { at } => put_offset(err, *at),
         Refusal::CellsDiffer { wanted, found } => put_cells(err, *wanted, *found),
+        Refusal::StoreFault => put_pieces(err, &[b"store fault"]),
         Refusal::DeviceFault => put_pieces(err, &[b"device fault"]),
         Refusal::OutputFault => put_pieces(err, &[b"output fault"]),
-        Refusal::Differs { at, wanted, found } => put_difference(err, *at, *wanted, *found),
+        Refusal::CallFailed { number, call, end } => put_failed_call(err, *number, *call, *end),
+        Refusal::Mismatch { at, wanted, found } => put_difference(
+            err,
+            b"mismatch",
+            *at,
+            *wanted,
+            *found,
+        ),
+        Refusal::Differs { at, wanted, found } => put_difference(
+            err, b"differs", *at, *wanted, *found,
+        ),
         Refusal::NotBuilt => put_pieces(err, &[b"not built"]),
     }
 }
@@ -167,6 +244,16 @@ fn put_room<E: Sink>(err: &mut E, need: u64, have: u64) -> Result<(), OutputFaul
     put_pieces(err, &[b"flm: NoRoom ", need, b" ", have])
 }
 
+/// Puts where the first check of a job file fails.
+#[tactic(auto, unfolding(crate::specs::Refusal::reason_of))]
+fn put_offset<E: Sink>(err: &mut E, at: u64) -> Result<(), OutputFault>
+    ensures { Puts E.tells (E.state err.old) (E.state err.new) (reason_of (not_a_job at)) result }
+{
+    let mut of_offset = Buffer::new();
+    let offset = of_offset.format(at).as_bytes();
+    put_pieces(err, &[b"job: not a job at ", offset])
+}
+
 /// Puts how many cells are wanted, and how many there are.
 #[tactic(auto, unfolding(crate::specs::Refusal::reason_of))]
 fn put_cells<E: Sink>(err: &mut E, wanted: u32, found: u32) -> Result<(), OutputFault>
@@ -182,23 +269,22 @@ fn put_cells<E: Sink>(err: &mut E, wanted: u32, found: u32) -> Result<(), Output
     )
 }
 
-/// Puts a place with the byte that is wanted there and the one that was found.
-#[tactic(auto, unfolding(crate::specs::Refusal::reason_of))]
-fn put_difference<E: Sink>(err: &mut E, at: u32, wanted: u8, found: u8) -> Result<(), OutputFault>
-    ensures { Puts E.tells (E.state err.old) (E.state err.new) (reason_of (differs at wanted found)) result }
+/// Puts a place or an address, with the byte that is wanted there and the one that was found.
+#[tactic(auto, unfolding(crate::specs::Refusal::difference_text))]
+fn put_difference<E: Sink>(
+    err: &mut E,
+    what: &[u8],
+    at: u32,
+    wanted: u8,
+    found: u8,
+) -> Result<(), OutputFault>
+    ensures { Puts E.tells (E.state err.old) (E.state err.new) (difference_text what.now at wanted found) result }
 {
     let at = hex_digits::<8>(at);
     let wanted = hex_digits::<2>(u32::from(wanted));
     let found = hex_digits::<2>(u32::from(found));
     put_pieces(
         err,
-        &[
-            b"differs at ",
-            &at,
-            b" wanted ",
-            &wanted,
-            b" found ",
-            &found,
-        ],
+        &[what, b" at ", &at, b" wanted ", &wanted, b" found ", &found],
     )
 }

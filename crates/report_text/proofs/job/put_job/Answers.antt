@@ -1,0 +1,4 @@
+use Rattle.report_text.proofs.job.put_job.Goals as goal
+
+pub returns-in-None : goal.returns-in-None
+returns-in-None g c = rw c.in-None.is c.put_pieces.ensures
