@@ -1,3 +1,6 @@
 pub mod AddressLemmas
 pub mod ArgumentLemmas
+pub mod FitLemmas
+pub mod LineLemmas
+pub mod ScanLemmas
 pub mod WordsLemmas

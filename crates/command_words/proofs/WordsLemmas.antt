@@ -1,39 +1,12 @@
 -- Words and what they ask for.
-use Rattle.std.proofs.Common.{◌≡◌, ◌≢◌, ◌<◌, ◌≤◌, ◌∙◌, sym, ap, subst, refl, arith, inr, ◌==◌, if◌then◌else◌, Bool, true, false, ℕ, List, [], ◌∷◌, ◌++◌, length, get_or, take, drop, ◌-◌, length-drop, Option, Some, None, IsSome, option_to_list}
+use Rattle.std.proofs.Common.{◌≡◌, ◌≢◌, ◌<◌, ◌≤◌, ◌∙◌, sym, ap, subst, refl, arith, inr, ◌==◌, if◌then◌else◌, Bool, true, false, ℕ, List, [], ◌∷◌, ◌++◌, length, get_or, take, drop, ◌-◌, Option, Some, None, IsSome, option_to_list}
 use Rattle.std.proofs.lemmas.List.{take_all}
-use Rattle.command_words.specs.Words.{text_of, is_built, dashes, Positional, AreArguments, AreFew, HasOneName, HasBoardAndImages, IsVerify, HasTargetAndImages, IsOnTarget, Command, plan, verify, compare, inspect, not_built, Asks, AsksNothing, Asked}
+use Rattle.command_words.specs.Words.{text_of, is_built, dashes, Begins, Positional, AreArguments, AreFew, HasOneName, IsDemo, HasBoardAndImages, IsVerify, HasTargetAndImages, IsOnTarget, Command, program, resume, revert, plan, verify, compare, status, inspect, demo, not_built, Asks, AsksNothing, Asked}
 use Rattle.command_words.specs.Files.{FilesAsked, names_in}
+use Rattle.command_words.specs.Fits.{Fits, Fitted}
 use Rattle.command_words.specs.declared.command.CommandName.{CommandName}
 use Rattle.command_words.specs.declared.command.CommandName.TheVariants.{Program, Resume, Revert, Plan, Verify, Compare, Status, Inspect, Demo}
-use Rattle.command_words.proofs.ArgumentLemmas.{one_positional, one_arguments}
-
--- `--` and one word
-pub after_dashes : (words : List (List ℕ)) (end name : List ℕ) → 2 ≤ length words → length words < 3
-    → end ≡ get_or words 0 end → name ≡ get_or words 1 name → end ≡ dashes → Positional words (name ∷ [])
-after_dashes [] end name least most end_is name_is is_dashes = absurd (omega arith)
-after_dashes (x ∷ []) end name least most end_is name_is is_dashes = absurd (omega arith)
-after_dashes (x ∷ y ∷ []) end name least most end_is name_is is_dashes = inr record {
-  before = [];
-  after = name ∷ [];
-  plain = λ k d less. absurd (omega arith);
-  words_are = cc;
-  others = refl;
-}
-after_dashes (x ∷ y ∷ z ∷ zs) end name least most end_is name_is is_dashes = absurd (omega arith)
-
--- a first word that names no command
-pub AsksNothing-unknown : (words : List (List ℕ)) (first : List ℕ) → first ≡ get_or words 0 first
-    → ((name : CommandName) → first ≢ text_of name) → AsksNothing words
-AsksNothing-unknown words first is none (plan files) asked =
-    none Plan (is ∙ ap (λ (w : List (List ℕ)). get_or w 0 first) asked.words_are)
-AsksNothing-unknown words first is none (verify files) asked =
-    none Verify (is ∙ ap (λ (w : List (List ℕ)). get_or w 0 first) asked.words_are)
-AsksNothing-unknown words first is none (compare image) asked =
-    none Compare (is ∙ ap (λ (w : List (List ℕ)). get_or w 0 first) asked.words_are)
-AsksNothing-unknown words first is none (inspect flm) asked =
-    none Inspect (is ∙ ap (λ (w : List (List ℕ)). get_or w 0 first) asked.words_are)
-AsksNothing-unknown words first is none not_built asked =
-    none asked.name (is ∙ ap (λ (w : List (List ℕ)). get_or w 0 first) asked.words_are)
+use Rattle.command_words.proofs.ScanLemmas.{one_arguments}
 
 -- A first word names one command.
 
@@ -63,10 +36,15 @@ named-text_of Demo = refl
 
 -- the command that a first word names is the one that the words ask for, where that is built
 abbrev IsCalled : Command → CommandName → Type 0
+IsCalled (program files) name = (name ≡ Program) × (is_built name ≡ true)
+IsCalled resume name = (name ≡ Resume) × (is_built name ≡ true)
+IsCalled revert name = (name ≡ Revert) × (is_built name ≡ true)
 IsCalled (plan files) name = (name ≡ Plan) × (is_built name ≡ true)
 IsCalled (verify files) name = (name ≡ Verify) × (is_built name ≡ true)
 IsCalled (compare image) name = (name ≡ Compare) × (is_built name ≡ true)
+IsCalled status name = (name ≡ Status) × (is_built name ≡ true)
 IsCalled (inspect flm) name = (name ≡ Inspect) × (is_built name ≡ true)
+IsCalled (demo seed) name = (name ≡ Demo) × (is_built name ≡ true)
 IsCalled not_built name = is_built name ≡ false
 
 -- `other` is what stands in place of a first word, where there is none
@@ -78,98 +56,99 @@ module _ (words : List (List ℕ)) (other : List ℕ) where
   first_is : (command : CommandName) (others : List (List ℕ)) → words ≡ text_of command ∷ others → first_name ≡ command
   first_is command others words_are = ap (λ (w : List (List ℕ)). named (get_or w 0 other)) words_are ∙ named-text_of command
 
+  begun : (command : CommandName) (others : List (List ℕ)) → Begins command words others → (first_name ≡ command) × (is_built first_name ≡ true)
+  begun command others begins =
+      let is = first_is command others begins.words_are in (is, ap is_built is ∙ begins.built)
+
   called : (command : Command) → Asks words command → IsCalled command first_name
-  called (plan files) asked = let is = first_is Plan asked.others asked.words_are in (is, ap is_built is)
-  called (verify files) asked = let is = first_is Verify asked.others asked.words_are in (is, ap is_built is)
-  called (compare image) asked = let is = first_is Compare asked.others asked.words_are in (is, ap is_built is)
-  called (inspect flm) asked = let is = first_is Inspect asked.others asked.words_are in (is, ap is_built is)
+  called (program files) asked = begun Program asked.others asked.begins
+  called resume asked = begun Resume asked.others asked.begins
+  called revert asked = begun Revert asked.others asked.begins
+  called (plan files) asked = begun Plan asked.others asked.begins
+  called (verify files) asked = begun Verify asked.others asked.begins
+  called (compare image) asked = begun Compare asked.others asked.begins
+  called status asked = begun Status asked.others asked.begins
+  called (inspect flm) asked = begun Inspect asked.others asked.begins
+  called (demo seed) asked = begun Demo asked.others asked.begins
   called not_built asked = ap is_built (first_is asked.name asked.others asked.words_are) ∙ asked.not_built
 
--- the words behind the first
-others_are : (words others : List (List ℕ)) (first : List ℕ) → words ≡ first ∷ others → others ≡ take (length words - 1) (drop 1 words)
-others_are words others first words_are =
-    ap (λ (w : List (List ℕ)). drop 1 w) (sym words_are) ∙ sym (take_all _ (drop 1 words) (omega (arith, length-drop 1 words)))
+-- a first word that names no command
+module _ (words others : List (List ℕ)) (first : List ℕ) (is : words ≡ first ∷ others) (none : (name : CommandName) → first ≢ text_of name) where
+  no_beginning : (name : CommandName) (rest : List (List ℕ)) → words ≡ text_of name ∷ rest → ⊥
+  no_beginning name rest words_are = none name (ap (λ (w : List (List ℕ)). get_or w 0 []) (sym is ∙ words_are))
 
--- the words behind the first, as the code has them
-abbrev pub behind_first : List (List ℕ) → List (List ℕ)
-behind_first words = take (length words - 1) (drop 1 words)
+  pub AsksNothing-unknown : AsksNothing words
+  AsksNothing-unknown (program files) asked = no_beginning Program asked.others asked.begins.words_are
+  AsksNothing-unknown resume asked = no_beginning Resume asked.others asked.begins.words_are
+  AsksNothing-unknown revert asked = no_beginning Revert asked.others asked.begins.words_are
+  AsksNothing-unknown (plan files) asked = no_beginning Plan asked.others asked.begins.words_are
+  AsksNothing-unknown (verify files) asked = no_beginning Verify asked.others asked.begins.words_are
+  AsksNothing-unknown (compare image) asked = no_beginning Compare asked.others asked.begins.words_are
+  AsksNothing-unknown status asked = no_beginning Status asked.others asked.begins.words_are
+  AsksNothing-unknown (inspect flm) asked = no_beginning Inspect asked.others asked.begins.words_are
+  AsksNothing-unknown (demo seed) asked = no_beginning Demo asked.others asked.begins.words_are
+  AsksNothing-unknown not_built asked = no_beginning asked.name asked.others asked.words_are
 
--- The name of a built command, with other words than it may have.
-module _ (words : List (List ℕ)) (first : List ℕ) (is : first ≡ get_or words 0 first) where
-  named_so : (command : CommandName) → first ≡ text_of command → first_name words first ≡ command
-  named_so command text = ap named (sym is ∙ text) ∙ named-text_of command
+-- Words that begin with the name of a built command ask for what the others make of it.
+module _ (name : CommandName) (words others : List (List ℕ)) (is : words ≡ text_of name ∷ others) (built : is_built name ≡ true) where
+  -- what holds of the name with which the words begin, and of the words behind it
+  same_beginning : (P : CommandName → List (List ℕ) → Type 0) (command : CommandName) (rest : List (List ℕ)) → words ≡ text_of command ∷ rest → P command rest → P name others
+  same_beginning P command rest words_are holds =
+      let name_is : command ≡ name = sym (first_is words [] command rest words_are) ∙ first_is words [] name others is in
+      let rest_is : rest ≡ others = ap (λ (w : List (List ℕ)). drop 1 w) (sym words_are ∙ is) in
+      subst (λ (n : CommandName). P n others) name_is (subst (λ (r : List (List ℕ)). P command r) rest_is holds)
 
-  no_name : (command : CommandName) (name : List ℕ) → ((name : List ℕ) → Positional (behind_first words) (name ∷ []) → ⊥) → HasOneName command words name → ⊥
-  no_name command name none asked =
-      none name (subst (λ (w : List (List ℕ)). Positional w (name ∷ [])) (others_are words asked.others (text_of command) asked.words_are) asked.one)
+  fits : (command : Command) → Asks words command → Fits name others command
+  fits (program files) asked = same_beginning (λ n o. Fits n o (program files)) Program asked.others asked.begins.words_are asked.names
+  fits resume asked = same_beginning (λ n o. Fits n o resume) Resume asked.others asked.begins.words_are asked.none
+  fits revert asked = same_beginning (λ n o. Fits n o revert) Revert asked.others asked.begins.words_are asked.none
+  fits (plan files) asked = same_beginning (λ n o. Fits n o (plan files)) Plan asked.others asked.begins.words_are asked.names
+  fits (verify files) asked = same_beginning (λ n o. Fits n o (verify files)) Verify asked.others asked.begins.words_are asked.names
+  fits (compare image) asked = same_beginning (λ n o. Fits n o (compare image)) Compare asked.others asked.begins.words_are asked.one
+  fits status asked = same_beginning (λ n o. Fits n o status) Status asked.others asked.begins.words_are asked.none
+  fits (inspect flm) asked = same_beginning (λ n o. Fits n o (inspect flm)) Inspect asked.others asked.begins.words_are asked.one
+  fits (demo seed) asked = same_beginning (λ n o. Fits n o (demo seed)) Demo asked.others asked.begins.words_are asked.number
+  fits not_built asked =
+      let unbuilt : is_built name ≡ false = same_beginning (λ n o. is_built n ≡ false) asked.name asked.others asked.words_are asked.not_built in
+      let wrong : false ≡ true = sym unbuilt ∙ built in
+      absurd (cc)
 
-  pub AsksNothing-compare : first ≡ text_of Compare → ((name : List ℕ) → Positional (behind_first words) (name ∷ []) → ⊥) → AsksNothing words
-  AsksNothing-compare text none (compare image) asked = no_name Compare image none asked
-  AsksNothing-compare text none other asked =
-      let so = named_so Compare text in let built = ap is_built so in let called_so = called words first other asked in let no : ⊥ = cc in no
-
-  pub AsksNothing-inspect : first ≡ text_of Inspect → ((name : List ℕ) → Positional (behind_first words) (name ∷ []) → ⊥) → AsksNothing words
-  AsksNothing-inspect text none (inspect flm) asked = no_name Inspect flm none asked
-  AsksNothing-inspect text none other asked =
-      let so = named_so Inspect text in let built = ap is_built so in let called_so = called words first other asked in let no : ⊥ = cc in no
-
--- A board and images.
-
--- words without a name
-pub no_board : (words : List (List ℕ)) (raw_at : Option ℕ) (names : List (List ℕ)) → AreArguments words raw_at names → names ≡ []
-    → (files : FilesAsked) → HasBoardAndImages words files → ⊥
-no_board words raw_at names are none files has =
-    let same = one_arguments words raw_at files.raw_at names (files.board ∷ files.images) are has.arguments in
-    let names_are = same.names in
-    cc
-
--- words with too few or too many images
-pub no_images : (words : List (List ℕ)) (raw_at : Option ℕ) (names : List (List ℕ)) (board : List ℕ) (images : List (List ℕ)) → AreArguments words raw_at names
-    → names ≡ board ∷ images → (AreFew raw_at (length images) → ⊥) → (files : FilesAsked) → HasBoardAndImages words files → ⊥
-no_images words raw_at names board images are is many files has =
-    let same = one_arguments words raw_at files.raw_at names (files.board ∷ files.images) are has.arguments in
-    let names_are : board ∷ images ≡ files.board ∷ files.images = sym is ∙ same.names in
-    let images_are : images ≡ files.images = cc in
-    many (subst (λ (r : Option ℕ). AreFew r (length images)) (sym same.raw_at)
-    (subst (λ (i : List (List ℕ)). AreFew files.raw_at (length i)) (sym images_are) has.few))
-
--- A board, an FLM file and images.
-
--- words without a name, or with one alone
-pub no_target : (words : List (List ℕ)) (raw_at : Option ℕ) (names : List (List ℕ)) → AreArguments words raw_at names → length names < 2
-    → (files : FilesAsked) → HasTargetAndImages words files → ⊥
-no_target words raw_at names are few files has =
-    let same = one_arguments words raw_at files.raw_at names (names_in files) are has.arguments in
-    let many = two_names files.flm files.board files.images has.has_flm in
-    omega (arith, few, many, ap length same.names) where
-      two_names : (flm : Option (List ℕ)) (board : List ℕ) (images : List (List ℕ)) → IsSome flm → 2 ≤ length (board ∷ (option_to_list flm ++ images))
-      two_names None board images some = absurd (cc)
-      two_names (Some x) board images some = omega arith
-
--- the names are a board, an FLM file and images
-target_names : (flm : Option (List ℕ)) (board other file : List ℕ) (images others : List (List ℕ)) → IsSome flm
-    → other ∷ (file ∷ others) ≡ board ∷ (option_to_list flm ++ images) → others ≡ images
-target_names None board other file images others some same = absurd (cc)
-target_names (Some x) board other file images others some same = cc
-
--- words with too few or too many images
-pub no_target_images : (words : List (List ℕ)) (raw_at : Option ℕ) (names : List (List ℕ)) (board flm : List ℕ) (images : List (List ℕ)) → AreArguments words raw_at names
-    → names ≡ board ∷ (flm ∷ images) → (AreFew raw_at (length images) → ⊥) → (files : FilesAsked) → HasTargetAndImages words files → ⊥
-no_target_images words raw_at names board flm images are is many files has =
-    let same = one_arguments words raw_at files.raw_at names (names_in files) are has.arguments in
-    let images_are : images ≡ files.images = target_names files.flm files.board board flm files.images images has.has_flm (sym is ∙ same.names) in
-    many (subst (λ (r : Option ℕ). AreFew r (length images)) (sym same.raw_at)
-    (subst (λ (i : List (List ℕ)). AreFew files.raw_at (length i)) (sym images_are) has.few))
+  pub Asked-fitted : (asked : Option Command) → Fitted name others asked → Asked words asked
+  Asked-fitted (Some command) fitted = asks name is built command fitted where
+    asks : (n : CommandName) → words ≡ text_of n ∷ others → is_built n ≡ true → (command : Command) → Fits n others command → Asks words command
+    asks Program is built (program files) fits = record { others = others; begins = record { words_are = is; built = built }; names = fits }
+    asks Resume is built resume fits = record { others = others; begins = record { words_are = is; built = built }; none = fits }
+    asks Revert is built revert fits = record { others = others; begins = record { words_are = is; built = built }; none = fits }
+    asks Plan is built (plan files) fits = record { others = others; begins = record { words_are = is; built = built }; names = fits }
+    asks Verify is built (verify files) fits = record { others = others; begins = record { words_are = is; built = built }; names = fits }
+    asks Compare is built (compare image) fits = record { others = others; begins = record { words_are = is; built = built }; one = fits }
+    asks Status is built status fits = record { others = others; begins = record { words_are = is; built = built }; none = fits }
+    asks Inspect is built (inspect flm) fits = record { others = others; begins = record { words_are = is; built = built }; one = fits }
+    asks Demo is built (demo seed) fits = record { others = others; begins = record { words_are = is; built = built }; number = fits }
+    asks n is built command fits = absurd fits
+  Asked-fitted None none = λ command asked. none command (fits command asked)
 
 -- A list of words has at most one command.
 
 one_name_alone : (words : List (List ℕ)) (a b : List ℕ) → Positional words (a ∷ []) → Positional words (b ∷ []) → a ≡ b
-one_name_alone words a b one two = let same = one_positional words (a ∷ []) (b ∷ []) one two in cc
+one_name_alone words a b one two =
+    let same = (one_arguments words None None (a ∷ []) (b ∷ []) one two).names in cc
+
+-- the words behind one name
+same_others : (command : CommandName) (words xs ys : List (List ℕ)) → Begins command words xs → Begins command words ys → xs ≡ ys
+same_others command words xs ys one two = ap (λ (w : List (List ℕ)). drop 1 w) (sym one.words_are ∙ two.words_are)
 
 same_name : (command : CommandName) (words : List (List ℕ)) (a b : List ℕ) → HasOneName command words a → HasOneName command words b → a ≡ b
 same_name command words a b one two =
-    let same : one.others ≡ two.others = ap (λ (w : List (List ℕ)). drop 1 w) (sym one.words_are ∙ two.words_are) in
+    let same = same_others command words one.others two.others one.begins two.begins in
     one_name_alone two.others a b (subst (λ (w : List (List ℕ)). Positional w (a ∷ [])) same one.one) two.one
+
+same_seed : (words : List (List ℕ)) (a b : ℕ) → IsDemo words a → IsDemo words b → a ≡ b
+same_seed words a b one two =
+    let same = same_others Demo words one.others two.others one.begins two.begins in
+    let word : one.number.word ≡ two.number.word = one_name_alone two.others one.number.word two.number.word
+    (subst (λ (w : List (List ℕ)). Positional w (one.number.word ∷ [])) same one.number.one) two.number.one in
+    let x = one.number.decimal.value in let y = two.number.decimal.value in cc
 
 same_record : (r r' : Option ℕ) (b b' : List ℕ) (f f' : Option (List ℕ)) (i i' : List (List ℕ)) → r ≡ r' → b ≡ b' → f ≡ f' → i ≡ i'
     → ◌≡◌ {A = FilesAsked} (record { raw_at = r; board = b; flm = f; images = i }) (record { raw_at = r'; board = b'; flm = f'; images = i' })
@@ -188,7 +167,7 @@ same_files words a b one two =
 
 same_verify : (words : List (List ℕ)) (a b : FilesAsked) → IsVerify words a → IsVerify words b → a ≡ b
 same_verify words a b one two =
-    let others : one.others ≡ two.others = ap (λ (w : List (List ℕ)). drop 1 w) (sym one.words_are ∙ two.words_are) in
+    let others = same_others Verify words one.others two.others one.begins two.begins in
     same_files two.others a b (subst (λ (w : List (List ℕ)). HasBoardAndImages w a) others one.names) two.names
 
 -- so are a board, an FLM file and images
@@ -212,14 +191,19 @@ same_target words a b one two =
 
 same_on_target : (command : CommandName) (words : List (List ℕ)) (a b : FilesAsked) → IsOnTarget command words a → IsOnTarget command words b → a ≡ b
 same_on_target command words a b one two =
-    let others : one.others ≡ two.others = ap (λ (w : List (List ℕ)). drop 1 w) (sym one.words_are ∙ two.words_are) in
+    let others = same_others command words one.others two.others one.begins two.begins in
     same_target two.others a b (subst (λ (w : List (List ℕ)). HasTargetAndImages w a) others one.names) two.names
 
 pub one_command : (words : List (List ℕ)) (a b : Command) → Asks words a → Asks words b → a ≡ b
+one_command words (program x) (program y) one two = ap program (same_on_target Program words x y one two)
+one_command words resume resume one two = refl
+one_command words revert revert one two = refl
 one_command words (plan x) (plan y) one two = ap plan (same_on_target Plan words x y one two)
 one_command words (verify x) (verify y) one two = ap verify (same_verify words x y one two)
 one_command words (compare a) (compare b) one two = ap compare (same_name Compare words a b one two)
+one_command words status status one two = refl
 one_command words (inspect a) (inspect b) one two = ap inspect (same_name Inspect words a b one two)
+one_command words (demo a) (demo b) one two = ap demo (same_seed words a b one two)
 one_command words not_built not_built one two = refl
 one_command words a b one two =
     absurd (let called_one = called words [] a one in let called_other = called words [] b two in let no : ⊥ = cc in no)

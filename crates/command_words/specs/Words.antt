@@ -18,9 +18,13 @@ text_of Inspect = codes "inspect"
 text_of Demo = codes "demo"
 
 abbrev pub is_built : CommandName → Bool
+is_built Program = true
+is_built Resume = true
+is_built Revert = true
 is_built Plan = true
 is_built Verify = true
 is_built Compare = true
+is_built Status = true
 is_built Inspect = true
 is_built _ = false
 
@@ -52,10 +56,21 @@ pub record EndedByDashes (words positional : List (List ℕ)) : Type 0 where
 abbrev pub Positional : List (List ℕ) → List (List ℕ) → Type 0
 Positional words positional = AllPositional words positional ⊎ EndedByDashes words positional
 
+-- the words are the command's name, and others; and the command is built
+pub record Begins (command : CommandName) (words others : List (List ℕ)) : Type 0 where
+  pub words_are : words ≡ text_of command ∷ others
+  pub built : is_built command ≡ true
+
+-- the command with no name
+pub record HasNoName (command : CommandName) (words : List (List ℕ)) : Type 0 where
+  pub others : List (List ℕ)
+  pub begins : Begins command words others
+  pub none : Positional others []
+
 -- the command with exactly one name
 pub record HasOneName (command : CommandName) (words : List (List ℕ)) (name : List ℕ) : Type 0 where
   pub others : List (List ℕ)
-  pub words_are : words ≡ text_of command ∷ others
+  pub begins : Begins command words others
   pub one : Positional others (name ∷ [])
 
 -- `compare IMAGE`
@@ -82,6 +97,18 @@ pub record IsDecimal (word : List ℕ) (at : ℕ) : Type 0 where
 
 abbrev pub IsAddress : List ℕ → ℕ → Type 0
 IsAddress word at = IsHexadecimal word at ⊎ IsDecimal word at
+
+-- the positional words are one number, in decimal digits without a sign
+pub record HasOneNumber (words : List (List ℕ)) (number : ℕ) : Type 0 where
+  pub word : List ℕ
+  pub one : Positional words (word ∷ [])
+  pub decimal : IsDecimal word number
+
+-- `demo N`
+pub record IsDemo (words : List (List ℕ)) (seed : ℕ) : Type 0 where
+  pub others : List (List ℕ)
+  pub begins : Begins Demo words others
+  pub number : HasOneNumber others seed
 
 -- The option `--raw-at ADDR`, two words, or `--raw-at=ADDR`, one word.
 
@@ -133,7 +160,7 @@ pub record HasBoardAndImages (words : List (List ℕ)) (files : FilesAsked) : Ty
 -- `verify [--raw-at ADDR] BOARD IMAGE...`
 pub record IsVerify (words : List (List ℕ)) (files : FilesAsked) : Type 0 where
   pub others : List (List ℕ)
-  pub words_are : words ≡ text_of Verify ∷ others
+  pub begins : Begins Verify words others
   pub names : HasBoardAndImages others files
 
 -- the words after a command's name are a board, an FLM file and images, with as many images as there may be
@@ -145,8 +172,12 @@ pub record HasTargetAndImages (words : List (List ℕ)) (files : FilesAsked) : T
 -- the command with a board, an FLM file and images
 pub record IsOnTarget (command : CommandName) (words : List (List ℕ)) (files : FilesAsked) : Type 0 where
   pub others : List (List ℕ)
-  pub words_are : words ≡ text_of command ∷ others
+  pub begins : Begins command words others
   pub names : HasTargetAndImages others files
+
+-- `program [--raw-at ADDR] BOARD FLM IMAGE...`
+abbrev pub IsProgram : List (List ℕ) → FilesAsked → Type 0
+IsProgram words files = IsOnTarget Program words files
 
 -- `plan [--raw-at ADDR] BOARD FLM IMAGE...`
 abbrev pub IsPlan : List (List ℕ) → FilesAsked → Type 0
@@ -159,29 +190,40 @@ pub record IsNotBuilt (words : List (List ℕ)) : Type 0 where
   pub words_are : words ≡ text_of name ∷ others
   pub not_built : is_built name ≡ false
 
--- What words ask for: a command, with the names of its files.
+-- What words ask for: a command, with the names of its files or its number.
 
 pub data Command : Type 0 where
+  program : (files : FilesAsked) → Command
+  resume : Command
+  revert : Command
   plan : (files : FilesAsked) → Command
   verify : (files : FilesAsked) → Command
   compare : (image : List ℕ) → Command
+  status : Command
   inspect : (flm : List ℕ) → Command
+  demo : (seed : ℕ) → Command
   not_built : Command
 
 abbrev pub Asks : List (List ℕ) → Command → Type 0
+Asks words (program files) = IsProgram words files
+Asks words resume = HasNoName Resume words
+Asks words revert = HasNoName Revert words
 Asks words (plan files) = IsPlan words files
 Asks words (verify files) = IsVerify words files
 Asks words (compare image) = IsCompare words image
+Asks words status = HasNoName Status words
 Asks words (inspect flm) = IsInspect words flm
+Asks words (demo seed) = IsDemo words seed
 Asks words not_built = IsNotBuilt words
 
 -- the names of the files that a command may take, in the order of the words
 abbrev pub names_asked : Command → List (List ℕ)
+names_asked (program files) = names_in files
 names_asked (plan files) = names_in files
 names_asked (verify files) = names_in files
 names_asked (compare image) = image ∷ []
 names_asked (inspect flm) = flm ∷ []
-names_asked not_built = []
+names_asked _ = []
 
 -- the words fit no command
 abbrev pub AsksNothing : List (List ℕ) → Type 0

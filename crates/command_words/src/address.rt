@@ -16,7 +16,7 @@ pub fn read_address(word: &str) -> Option<u32>
 }
 
 /// The number below 2^32 that digits of a radix write, at least one.
-fn read_number(digits: &str, radix: u32) -> Option<u32>
+pub fn read_number(digits: &str, radix: u32) -> Option<u32>
     requires low { 2 ≤ radix }
     requires high { radix ≤ 36 }
     ensures { MatchOption result (IsNumeral radix digits.now → digits_value radix digits.now < 2 ^ 32 → ⊥)

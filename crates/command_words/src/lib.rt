@@ -1,12 +1,14 @@
-//! What the words of a command line ask for: a command with the names of its files.
+//! What the words of a command line ask for: a command with the names of its files, or with its number.
 #![tactic(auto)]
 
 mod address;
-mod arguments;
 mod command;
+mod fit;
 mod law;
+mod line;
 mod names;
 
-pub use command::{FileNames, Request, read_request};
+pub use command::{FileNames, Request};
 pub use law::words_ask_for_one_command;
+pub use line::CommandLine;
 pub use names::Names;

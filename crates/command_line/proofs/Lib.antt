@@ -1,0 +1,6 @@
+pub mod Leaf
+pub mod LeafWalk
+pub mod Parsed
+pub mod Shorts
+pub mod Spelled
+pub mod Top

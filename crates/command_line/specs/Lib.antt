@@ -1,0 +1,5 @@
+pub mod Made
+pub mod Rows
+pub mod Scan
+pub mod Shown
+pub mod Texts

@@ -1,0 +1,9 @@
+//! The words of a command line, as `clap` reads them: a command, its addresses and its positional words. Which of these a
+//! command may have, and how many, is for the caller to say.
+#![tactic(auto)]
+
+mod line;
+mod parse;
+
+pub use line::{Line, read_line};
+pub use parse::LineFault;

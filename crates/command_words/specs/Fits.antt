@@ -1,0 +1,23 @@
+-- The words behind the name of a command.
+use Rattle.std.specs.Prelude.{ℕ, List, [], ◌∷◌, Option, Some, None}
+use Rattle.command_words.specs.Words.{Positional, HasOneNumber, HasBoardAndImages, HasTargetAndImages, Command, program, resume, revert, plan, verify, compare, status, inspect, demo}
+use Rattle.command_words.specs.declared.command.CommandName.{CommandName}
+use Rattle.command_words.specs.declared.command.CommandName.TheVariants.{Program, Resume, Revert, Plan, Verify, Compare, Status, Inspect, Demo}
+
+-- words that make this command with such a name before them
+abbrev pub Fits : CommandName → List (List ℕ) → Command → Type 0
+Fits Program others (program files) = HasTargetAndImages others files
+Fits Resume others resume = Positional others []
+Fits Revert others revert = Positional others []
+Fits Plan others (plan files) = HasTargetAndImages others files
+Fits Verify others (verify files) = HasBoardAndImages others files
+Fits Compare others (compare image) = Positional others (image ∷ [])
+Fits Status others status = Positional others []
+Fits Inspect others (inspect flm) = Positional others (flm ∷ [])
+Fits Demo others (demo seed) = HasOneNumber others seed
+Fits _ others _ = ⊥
+
+-- what they make: this command, or none
+abbrev pub Fitted : CommandName → List (List ℕ) → Option Command → Type 0
+Fitted name others (Some command) = Fits name others command
+Fitted name others None = (command : Command) → Fits name others command → ⊥

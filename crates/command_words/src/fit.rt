@@ -1,0 +1,142 @@
+//! Whether addresses and positional words are what a command may have.
+ghost use Rattle.std.specs.Prelude.{◌≡◌, ◌↔◌, ℕ, List, [], ◌∷◌, IfSome, IfNone, IsTrue, Option, None, length, option_map};
+ghost use Rattle.command_words.specs.Files.{FilesAsked};
+ghost use Rattle.command_words.specs.Fits.{Fitted};
+ghost use Rattle.command_words.specs.Lines.{Gives, Spells};
+ghost use Rattle.command_words.specs.Requested.{files_of, command_of};
+ghost use Rattle.command_words.specs.Words.{AreFew, Positional, HasOneNumber, HasBoardAndImages, HasTargetAndImages};
+
+use crate::address::{read_address, read_number};
+use crate::command::{CommandName, FileNames, Request};
+use crate::names::Names;
+use command_line::Line;
+use octets::Word;
+
+/// What a line makes of the command with this name, or none where it doesn't fit.
+pub fn read_command(name: CommandName, line: &Line) -> Option<Request<'_>>
+    ensures { (others : List (List ℕ)) → Spells others line.now → Fitted name others (option_map command_of result) }
+{
+    match name {
+        CommandName::Program => Some(Request::Program(target_and_images(line)?)),
+        CommandName::Resume => has_no_name(line).then_some(Request::Resume),
+        CommandName::Revert => has_no_name(line).then_some(Request::Revert),
+        CommandName::Plan => Some(Request::Plan(target_and_images(line)?)),
+        CommandName::Verify => Some(Request::Verify(board_and_images(line)?)),
+        CommandName::Compare => Some(Request::Compare {
+            image: only_name(line)?,
+        }),
+        CommandName::Status => has_no_name(line).then_some(Request::Status),
+        CommandName::Inspect => Some(Request::Inspect {
+            flm: only_name(line)?,
+        }),
+        CommandName::Demo => Some(Request::Demo {
+            seed: only_number(line)?,
+        }),
+    }
+}
+
+/// The most images of a command.
+const MOST_IMAGES: usize = 16;
+
+/// The address and the files of `verify`: a board and 1 to 16 images, and just one where an address is given.
+fn board_and_images(line: &Line) -> Option<FileNames<'_>>
+    ensures some { IfSome result (λ files. (others : List (List ℕ)) → Spells others line.now → HasBoardAndImages others (files_of files)) }
+    ensures none { IfNone result ((others : List (List ℕ)) → Spells others line.now → (files : FilesAsked) → HasBoardAndImages others files → ⊥) }
+{
+    let raw_at = raw_at(&line.addresses)?;
+    let [board, images @ ..] = line.names.as_slice() else {
+        return None;
+    };
+    if !are_few(raw_at, images.len()) {
+        return None;
+    }
+    Some(FileNames {
+        raw_at,
+        board,
+        flm: None,
+        images: Names { words: images },
+    })
+}
+
+/// The address and the files of a command on a target: a board, an FLM file and 1 to 16 images, and just one where an address
+/// is given.
+fn target_and_images(line: &Line) -> Option<FileNames<'_>>
+    ensures some { IfSome result (λ files. (others : List (List ℕ)) → Spells others line.now → HasTargetAndImages others (files_of files)) }
+    ensures none { IfNone result ((others : List (List ℕ)) → Spells others line.now → (files : FilesAsked) → HasTargetAndImages others files → ⊥) }
+{
+    let raw_at = raw_at(&line.addresses)?;
+    let [board, flm, images @ ..] = line.names.as_slice() else {
+        return None;
+    };
+    if !are_few(raw_at, images.len()) {
+        return None;
+    }
+    Some(FileNames {
+        raw_at,
+        board,
+        flm: Some(flm),
+        images: Names { words: images },
+    })
+}
+
+/// The address that options give, where there is at most one; or none where they don't fit.
+fn raw_at(addresses: &[Word]) -> Option<Option<u32>>
+    ensures some { IfSome result (Gives addresses.now) }
+    ensures none { IfNone result ((at : Option ℕ) → Gives addresses.now at → ⊥) }
+{
+    match addresses {
+        [] => Some(None),
+        [address] => Some(Some(read_address(address.text())?)),
+        _ => None,
+    }
+}
+
+/// Whether there may be so many images.
+fn are_few(raw_at: Option<u32>, images: usize) -> bool
+    ensures { IsTrue result ↔ AreFew raw_at images }
+{
+    match raw_at {
+        None => images > 0 && images <= MOST_IMAGES,
+        Some(_) => images == 1,
+    }
+}
+
+/// The one positional word, where there is exactly one and no address.
+fn only_name(line: &Line) -> Option<&Word>
+    ensures some { IfSome result (λ name. (others : List (List ℕ)) → Spells others line.now → Positional others (name.now ∷ [])) }
+    ensures none { IfNone result ((others : List (List ℕ)) → Spells others line.now → (name : List ℕ) → Positional others (name ∷ []) → ⊥) }
+{
+    if !has_no_address(line) {
+        return None;
+    }
+    let [name, others @ ..] = line.names.as_slice() else {
+        return None;
+    };
+    if !others.is_empty() {
+        return None;
+    }
+    Some(name)
+}
+
+/// The one positional word as a number in decimal digits, where there is exactly one and no address.
+fn only_number(line: &Line) -> Option<u32>
+    ensures some { IfSome result (λ number. (others : List (List ℕ)) → Spells others line.now → HasOneNumber others number) }
+    ensures none { IfNone result ((others : List (List ℕ)) → Spells others line.now → (number : ℕ) → HasOneNumber others number → ⊥) }
+{
+    let word = only_name(line)?;
+    read_number(word.text(), 10)
+}
+
+/// Whether there is no address.
+fn has_no_address(line: &Line) -> bool
+    ensures { IsTrue result ↔ (length line.now.addresses.items ≡ 0) }
+{
+    line.addresses.is_empty()
+}
+
+/// Whether there is no positional word and no address.
+fn has_no_name(line: &Line) -> bool
+    ensures { (others : List (List ℕ)) → Spells others line.now → (IsTrue result ↔ Positional others []) }
+{
+    line.addresses.is_empty() && line.names.is_empty()
+}

@@ -1,0 +1,70 @@
+//! What words ask for, in text.
+
+use anyhow::Result;
+use command_words::{CommandLine, FileNames, Names, Request};
+use octets::Word;
+use std::alloc::Global;
+
+/// Prints what the words of a line ask for.
+pub fn ask(rt: &HostRuntime, line: &str) -> Result<()> {
+    let words = words_of(rt.alloc(), line)?;
+    let line = CommandLine::read(rt.alloc(), &words)?;
+    match line.request() {
+        None => println!(rt; "  usage")?,
+        Some(request) => show(rt, &request)?,
+    }
+    Ok(())
+}
+
+/// The words of a line.
+fn words_of(alloc: Global, line: &str) -> Result<Vec<Word>> {
+    let mut words = Vec::new(alloc);
+    for text in line.split_whitespace() {
+        let text = match text {
+            "\"\"" => "",
+            _ => text,
+        };
+        words.push(Word::copy(alloc, text)?)?;
+    }
+    Ok(words)
+}
+
+/// Prints a request.
+fn show(rt: &HostRuntime, request: &Request<'_>) -> Result<()> {
+    match request {
+        Request::Program(files) => show_files(rt, "program", files)?,
+        Request::Resume => println!(rt; "  resume")?,
+        Request::Revert => println!(rt; "  revert")?,
+        Request::Plan(files) => show_files(rt, "plan", files)?,
+        Request::Verify(files) => show_files(rt, "verify", files)?,
+        Request::Compare { image } => println!(rt; "  compare [{}]", image.text())?,
+        Request::Status => println!(rt; "  status")?,
+        Request::Inspect { flm } => println!(rt; "  inspect [{}]", flm.text())?,
+        Request::Demo { seed } => println!(rt; "  demo {seed}")?,
+        Request::NotBuilt => println!(rt; "  not built")?,
+    }
+    Ok(())
+}
+
+/// Prints a command with its files.
+fn show_files(rt: &HostRuntime, command: &str, files: &FileNames<'_>) -> Result<()> {
+    print!(rt; "  {command}")?;
+    if let Some(at) = files.raw_at {
+        print!(rt; " raw at {at:08X}")?;
+    }
+    print!(rt; " board [{}]", files.board.text())?;
+    if let Some(flm) = files.flm {
+        print!(rt; " flm [{}]", flm.text())?;
+    }
+    show_images(rt, &files.images)
+}
+
+/// Prints the names of images.
+fn show_images(rt: &HostRuntime, images: &Names<'_>) -> Result<()> {
+    print!(rt; " images")?;
+    for index in 0..images.len() {
+        print!(rt; " [{}]", images.name(index).text())?;
+    }
+    println!(rt; "")?;
+    Ok(())
+}
