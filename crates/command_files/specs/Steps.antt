@@ -1,5 +1,6 @@
 -- What the steps answer that take and read a command's files.
 use Rattle.std.specs.Prelude.{◌≡◌, ◌≤◌, ◌+◌, ◌^◌, ◌⊎◌, ℕ, List, length, slice_get, Option, Some, None, Result, Ok, Err, option_map}
+use Rattle.std.specs.Option.{ForSome}
 use Rattle.faults.specs.Counts.{Rose}
 use Rattle.byte_map.specs.Image.{Run}
 use Rattle.board_file.specs.declared.region.Region.{Region}
@@ -39,6 +40,11 @@ TakesEach inputs names (Err e) = IsTakeFault inputs names (shown e)
 -- the bytes of files that were taken
 abbrev pub bytes_of : Files → FilesGiven
 bytes_of files = record { board = files.board; flm = files.flm; images = files.images.items }
+
+-- the board's text and the FLM file, where there is one, are no longer than a file may be
+pub record AreShort (files : Files) : Type 0 where
+  pub board : length files.board ≤ 67108864
+  pub flm : ForSome files.flm (λ bytes. length bytes ≤ 67108864)
 
 abbrev pub TakesFiles : InputsCall → FilesAsked → List (List ℕ) → Result Files Refusal → Type 0
 TakesFiles inputs asked names (Ok files) = AreFiles inputs asked (bytes_of files) × (inputs.after.faults ≡ inputs.before.faults)

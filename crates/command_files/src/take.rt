@@ -1,15 +1,16 @@
 //! Taking the files of a command.
-ghost use Rattle.std.specs.Prelude.{◌≡◌, ◌↔◌, ◌∷◌, [], ℕ, List, All, option_to_list, option_copied};
+ghost use Rattle.std.specs.Prelude.{◌≡◌, ◌≤◌, ◌↔◌, ◌∷◌, [], ℕ, List, All, length, IfOk, option_to_list, option_copied};
+ghost use Rattle.std.specs.Option.{ForSome};
 ghost use Rattle.std.specs.Result.{result_map_both};
 ghost use Rattle.command_words.specs.Files.{names_in};
 ghost use Rattle.command_words.specs.Names.{names_of};
 ghost use Rattle.command_words.specs.Requested.{files_of};
 ghost use Rattle.command_files.specs.Inputs.{inputs_call};
-ghost use Rattle.command_files.specs.Steps.{TakesEach, TakesFiles};
+ghost use Rattle.command_files.specs.Steps.{TakesEach, TakesFiles, AreShort};
 
 use command_words::{FileNames, Names};
 use octets::{Bytes, Word};
-use outside_io::{Inputs, TakeFault};
+use outside_io::{Inputs, LONGEST, TakeFault};
 use report_text::Refusal;
 use std::alloc::Global;
 
@@ -28,7 +29,8 @@ pub fn take_files<'a, I: Inputs>(
     inputs: &mut I,
 ) -> Result<Files, Refusal<'a>>
     requires { All (I.may_take inputs.old) (names_in (files_of names.now)) }
-    ensures { TakesFiles (inputs_call I.tells (I.state inputs.old) (I.state inputs.new)) (files_of names.now) (names_in (files_of names.now)) result }
+    ensures takes { TakesFiles (inputs_call I.tells (I.state inputs.old) (I.state inputs.new)) (files_of names.now) (names_in (files_of names.now)) result }
+    ensures short { IfOk result AreShort }
 {
     let board = take_one(alloc, names.board, inputs)?;
     let flm = take_optional(alloc, names.flm, inputs)?;
@@ -44,6 +46,7 @@ pub fn take_one<'a, I: Inputs>(
 ) -> Result<Bytes, Refusal<'a>>
     requires { I.may_take inputs.old name.now }
     ensures takes { TakesEach (inputs_call I.tells (I.state inputs.old) (I.state inputs.new)) (name.now ∷ []) (result_map_both (λ file. file ∷ []) (λ e. e) result) }
+    ensures short { IfOk result (λ file. length file ≤ LONGEST) }
     ensures stands { (other : List ℕ) → (I.state inputs.new).stands other ≡ (I.state inputs.old).stands other }
     ensures leave { (other : List ℕ) → I.may_take inputs.new other ↔ I.may_take inputs.old other }
 {
@@ -63,6 +66,7 @@ fn take_optional<'a, I: Inputs>(
     requires { All (I.may_take inputs.old) (option_to_list (option_copied name)) }
     ensures takes { TakesEach (inputs_call I.tells (I.state inputs.old) (I.state inputs.new)) (option_to_list (option_copied name.entry))
         (result_map_both option_to_list (λ e. e) result) }
+    ensures short { IfOk result (λ file. ForSome file (λ bytes. length bytes ≤ LONGEST)) }
     ensures stands { (other : List ℕ) → (I.state inputs.new).stands other ≡ (I.state inputs.old).stands other }
     ensures leave { (other : List ℕ) → I.may_take inputs.new other ↔ I.may_take inputs.old other }
 {

@@ -1,5 +1,5 @@
 //! What a command on a target is to do.
-ghost use Rattle.std.specs.Prelude.{All, IsSome};
+ghost use Rattle.std.specs.Prelude.{◌≤◌, All, IsSome, IfOk, length};
 ghost use Rattle.command_words.specs.Files.{names_in};
 ghost use Rattle.command_words.specs.Requested.{files_of};
 ghost use Rattle.command_files.specs.Inputs.{inputs_call};
@@ -12,7 +12,7 @@ use byte_map::ByteMap;
 use command_words::FileNames;
 use flm_descriptor::Algorithm;
 use octets::Bytes;
-use outside_io::Inputs;
+use outside_io::{Inputs, LONGEST};
 use report_text::Refusal;
 use std::alloc::Global;
 
@@ -37,7 +37,9 @@ pub fn read_task<'a, I: Inputs>(
 ) -> Result<Task, Refusal<'a>>
     requires has_flm { IsSome (files_of names.now).flm }
     requires may_take { All (I.may_take inputs.old) (names_in (files_of names.now)) }
-    ensures { ReadsTask (inputs_call I.tells (I.state inputs.old) (I.state inputs.new)) (files_of names.now) result }
+    ensures reads { ReadsTask (inputs_call I.tells (I.state inputs.old) (I.state inputs.new)) (files_of names.now) result }
+    ensures short_board { IfOk result (λ task. length task.board_text ≤ LONGEST) }
+    ensures short_flm { IfOk result (λ task. length task.flm ≤ LONGEST) }
 {
     let files = take_files(alloc, names, inputs)?;
     let wanted = read_files(alloc, names, &files)?;

@@ -25,16 +25,16 @@ take_each-requires g c =
     All-weaker may (g.I.Inputs.may_take c.take_optional.new.inputs) (λ name can. (c.in_ok-flm.ensures.leave name).1 ((c.in_ok-board.ensures.leave name).1 can)) asked.images
     (all_back may (option_to_list asked.flm) asked.images (All-tail may asked.board (option_to_list asked.flm ++ asked.images) c.requires))
 
-pub returns-in_err-board : goal.returns-in_err-board
-returns-in_err-board g c =
+pub returns-in_err-board-clause-takes : goal.returns-in_err-board-clause-takes
+returns-in_err-board-clause-takes g c =
     let asked = files_of c.args.names.now in
     let u = c.from_residual.ensures in
     let is : c.from_residual.result ≡ Err c.in_err-board.field-0.0 = search rules in
     rw is (fault_before (inputs_call g.I.Inputs.tells (g.I.Inputs.state c.args.inputs.now) (g.I.Inputs.state c.take_one.new.inputs)) (asked.board ∷ [])
     (option_to_list asked.flm ++ asked.images) (shown c.in_err-board.field-0.0) c.in_err-board.ensures.takes)
 
-pub returns-in_err-flm : goal.returns-in_err-flm
-returns-in_err-flm g c =
+pub returns-in_err-flm-clause-takes : goal.returns-in_err-flm-clause-takes
+returns-in_err-flm-clause-takes g c =
     let asked = files_of c.args.names.now in
     let r = shown c.in_err-flm.field-0.0 in
     let u = c.from_residual-in_err-flm.ensures in
@@ -44,8 +44,8 @@ returns-in_err-flm g c =
     (fault_before (inputs_call g.I.Inputs.tells (g.I.Inputs.state c.take_one.new.inputs) (g.I.Inputs.state c.take_optional.new.inputs)) (option_to_list asked.flm)
     asked.images r c.in_err-flm.ensures.takes))
 
-pub returns-in_err-images : goal.returns-in_err-images
-returns-in_err-images g c =
+pub returns-in_err-images-clause-takes : goal.returns-in_err-images-clause-takes
+returns-in_err-images-clause-takes g c =
     let asked = files_of c.args.names.now in
     let r = shown c.in_err-images.field-0.0 in
     let u = c.from_residual-in_err-images.ensures in
@@ -54,8 +54,8 @@ returns-in_err-images g c =
     c.in_ok-board.ensures.stands c.in_ok-board.ensures.takes.1
     (fault_behind (g.I.Inputs.state c.take_each.new.inputs) asked.images r c.in_ok-flm.ensures.takes.0 c.in_ok-flm.ensures.stands c.in_ok-flm.ensures.takes.1 c.in_err-images.ensures))
 
-pub returns : goal.returns
-returns g c = (
+pub returns-clause-takes : goal.returns-clause-takes
+returns-clause-takes g c = (
   record {
     board = λ told. c.in_ok-board.ensures.takes.0.each 0 (omega arith) told;
     flm = each_earlier c.in_ok-flm.ensures.takes.0 c.in_ok-board.ensures.stands;
