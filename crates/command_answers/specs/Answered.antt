@@ -1,0 +1,190 @@
+-- What each answer says, whatever the command.
+use Rattle.std.specs.Prelude.{◌≡◌, ◌≤◌, ◌<◌, ◌⊎◌, ℕ, Bool, true, false, IsTrue, List, Option, Some, None}
+use Rattle.faults.specs.Counts.{Rose}
+use Rattle.bench_model.specs.Calls.{OnlyReads}
+use Rattle.report_text.specs.Refusal.{Refusal, out_of_memory, usage, input_fault, image_too_long, flm_refused, other_device, no_room, board_refused, image_refused, image_misplaced, job_open, no_job, not_a_job, cells_differ, store_fault, device_fault, output_fault, call_failed, mismatch, differs, not_built}
+use Rattle.command_files.specs.Inputs.{InputsCall, IsUntaken}
+use Rattle.command_answers.specs.Call.{BenchCall, SinkCall, Call, TookNothing, IsUntouched, Answer, done, refused, Says}
+
+-- Faults.
+
+pub data Fault : Type 0 where
+  input : Fault
+  store : Fault
+  device : Fault
+  output : Fault
+
+-- the fault that an answer is
+abbrev pub fault_in : Answer → Option Fault
+fault_in (refused (input_fault name)) = Some input
+fault_in (refused store_fault) = Some store
+fault_in (refused device_fault) = Some device
+fault_in (refused output_fault) = Some output
+fault_in _ = None
+
+-- a fault is answered only where its count rose, and where its count became greater it is answered
+pub record IsCounted (before after : ℕ) (fault : Fault) (answer : Answer) : Type 0 where
+  pub later : before ≤ after
+  pub only : fault_in answer ≡ Some fault → Rose before after
+  pub answered : before < after → fault_in answer ≡ Some fault
+
+pub record AreCounted (bench : BenchCall) (inputs : InputsCall) (out : SinkCall) (answer : Answer) : Type 0 where
+  pub inputs_count : IsCounted inputs.before.faults inputs.after.faults input answer
+  pub store_count : IsCounted bench.before.store_faults bench.after.store_faults store answer
+  pub device_count : IsCounted bench.before.device_faults bench.after.device_faults device answer
+  pub out_count : IsCounted out.before.faults out.after.faults output answer
+
+-- The refusals of each command.
+
+abbrev pub has_program : Refusal → Bool
+has_program out_of_memory = true
+has_program (input_fault name) = true
+has_program (board_refused fault) = true
+has_program (flm_refused fault) = true
+has_program (other_device base size) = true
+has_program (no_room need have) = true
+has_program (image_refused name fault) = true
+has_program (image_misplaced fault) = true
+has_program job_open = true
+has_program (not_a_job at) = true
+has_program (cells_differ wanted found) = true
+has_program store_fault = true
+has_program device_fault = true
+has_program output_fault = true
+has_program (call_failed number call end) = true
+has_program (mismatch at wanted found) = true
+has_program _ = false
+
+-- `resume` and `revert`
+abbrev pub has_resume : Refusal → Bool
+has_resume out_of_memory = true
+has_resume no_job = true
+has_resume (not_a_job at) = true
+has_resume (cells_differ wanted found) = true
+has_resume store_fault = true
+has_resume device_fault = true
+has_resume output_fault = true
+has_resume (call_failed number call end) = true
+has_resume (mismatch at wanted found) = true
+has_resume _ = false
+
+abbrev pub has_plan : Refusal → Bool
+has_plan out_of_memory = true
+has_plan (input_fault name) = true
+has_plan (board_refused fault) = true
+has_plan (flm_refused fault) = true
+has_plan (other_device base size) = true
+has_plan (no_room need have) = true
+has_plan (image_refused name fault) = true
+has_plan (image_misplaced fault) = true
+has_plan (cells_differ wanted found) = true
+has_plan device_fault = true
+has_plan output_fault = true
+has_plan _ = false
+
+abbrev pub has_verify : Refusal → Bool
+has_verify out_of_memory = true
+has_verify (input_fault name) = true
+has_verify (board_refused fault) = true
+has_verify (image_refused name fault) = true
+has_verify (image_misplaced fault) = true
+has_verify (cells_differ wanted found) = true
+has_verify device_fault = true
+has_verify output_fault = true
+has_verify (differs at wanted found) = true
+has_verify _ = false
+
+abbrev pub has_compare : Refusal → Bool
+has_compare out_of_memory = true
+has_compare (input_fault name) = true
+has_compare (image_too_long bytes cells) = true
+has_compare device_fault = true
+has_compare output_fault = true
+has_compare (differs at wanted found) = true
+has_compare _ = false
+
+abbrev pub has_status : Refusal → Bool
+has_status out_of_memory = true
+has_status (not_a_job at) = true
+has_status (cells_differ wanted found) = true
+has_status store_fault = true
+has_status output_fault = true
+has_status _ = false
+
+abbrev pub has_inspect : Refusal → Bool
+has_inspect out_of_memory = true
+has_inspect (input_fault name) = true
+has_inspect (flm_refused fault) = true
+has_inspect output_fault = true
+has_inspect _ = false
+
+-- Yielding: want of memory may be answered in place of any answer, and so may a fault, by its count.
+
+abbrev pub yields : Answer → Bool
+yields (refused out_of_memory) = true
+yields (refused (input_fault name)) = true
+yields (refused store_fault) = true
+yields (refused device_fault) = true
+yields (refused output_fault) = true
+yields _ = false
+
+-- the answer is the one that is due, or yields
+abbrev pub IsUnless : Answer → Answer → Type 0
+IsUnless answer due = (answer ≡ due) ⊎ (yields answer ≡ true)
+
+-- the same, and where it yields no more was done than this
+abbrev pub Refuses : Type 0 → Answer → Refusal → Type 0
+Refuses Done answer refusal = (answer ≡ refused refusal) ⊎ ((yields answer ≡ true) × Done)
+
+-- What stands after the refusals that come before any work.
+
+-- the bench is as it was, and nothing went to `out`
+pub record DidNothing (bench : BenchCall) (out : SinkCall) : Type 0 where
+  pub untouched : IsUntouched bench
+  pub prints : TookNothing out
+
+-- the job file was only looked at: where the bench tells its contents, file and cells are as they were; and nothing went to `out`
+pub record OnlyLooked (bench : BenchCall) (out : SinkCall) : Type 0 where
+  pub reads : IsTrue bench.tells → OnlyReads bench.tells bench.before bench.after
+  pub prints : TookNothing out
+
+-- Statuses 2 to 6, and 14; and status 7, after which this stands: a command that doesn't look at the job file did nothing then, and the
+-- others only looked.
+abbrev pub StandsEarly : (BenchCall → SinkCall → Type 0) → BenchCall → SinkCall → Answer → Type 0
+StandsEarly AtSeven bench out (refused usage) = DidNothing bench out
+StandsEarly AtSeven bench out (refused (input_fault name)) = DidNothing bench out
+StandsEarly AtSeven bench out (refused (image_too_long bytes cells)) = DidNothing bench out
+StandsEarly AtSeven bench out (refused (image_refused name fault)) = DidNothing bench out
+StandsEarly AtSeven bench out (refused (image_misplaced fault)) = DidNothing bench out
+StandsEarly AtSeven bench out (refused (flm_refused fault)) = DidNothing bench out
+StandsEarly AtSeven bench out (refused (other_device base size)) = DidNothing bench out
+StandsEarly AtSeven bench out (refused (no_room need have)) = DidNothing bench out
+StandsEarly AtSeven bench out (refused (board_refused fault)) = DidNothing bench out
+StandsEarly AtSeven bench out (refused job_open) = AtSeven bench out
+StandsEarly AtSeven bench out (refused no_job) = AtSeven bench out
+StandsEarly AtSeven bench out (refused (not_a_job at)) = AtSeven bench out
+StandsEarly AtSeven bench out (refused (cells_differ wanted found)) = AtSeven bench out
+StandsEarly AtSeven bench out (refused not_built) = DidNothing bench out
+StandsEarly AtSeven bench out _ = Unit {0}
+
+-- the answer is done, or a refusal that passes the test
+abbrev pub IsOf : (Refusal → Bool) → Answer → Type 0
+IsOf has done = Unit {0}
+IsOf has (refused refusal) = has refusal ≡ true
+
+-- What holds of the work of each command that leaves this with status 7, has these refusals and may ask for these files, whatever
+-- the objects tell: which refusals it has, its counts of faults, what stands after an early refusal, and that it asks for no other
+-- file.
+pub record EndsLawfully (AtSeven : BenchCall → SinkCall → Type 0) (bench : BenchCall) (inputs : InputsCall) (out : SinkCall) (has : Refusal → Bool) (names : List (List ℕ)) (answer : Answer) : Type 0 where
+  pub kind : IsOf has answer
+  pub counts : AreCounted bench inputs out answer
+  pub stands : StandsEarly AtSeven bench out answer
+  pub untaken : (name : List ℕ) → answer ≡ refused (input_fault name) → IsUntaken inputs names name
+
+-- A call whose work ends so: its answer, its status and its line on `err`.
+pub record AnswersBy (call : Call) (Ends : BenchCall → InputsCall → SinkCall → Answer → Type 0) : Type 0 where
+  pub answer : Answer
+  pub says : Says call.status call.err answer
+  -- status 0 is nothing else than done
+  pub zero : call.status ≡ 0 → answer ≡ done
+  pub ends : Ends call.bench call.inputs call.out answer
