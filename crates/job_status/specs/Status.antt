@@ -1,0 +1,76 @@
+-- What `status` answers.
+use Rattle.std.specs.Prelude.{◌≡◌, ◌≢◌, ◌⊎◌, ℕ, IsTrue, List, [], true}
+use Rattle.bench_model.specs.Calls.{OnlyReads}
+use Rattle.byte_map.specs.Image.{Run}
+use Rattle.flm_descriptor.specs.declared.device.Device.{Device}
+use Rattle.job_text.specs.Files.{IsFree}
+use Rattle.job_text.specs.Stands.{IsSomeJob, IsNotAJob}
+use Rattle.job_file.specs.Faults.{IsOtherSize}
+use Rattle.report_text.specs.Job.{job_text, no_job_text}
+use Rattle.report_text.specs.Refusal.{out_of_memory, not_a_job, cells_differ, store_fault, output_fault}
+use Rattle.command_files.specs.Inputs.{InputsCall, TakesNothing}
+use Rattle.command_answers.specs.Call.{BenchCall, SinkCall, Answer, done, refused, TookNothing, TookAll, TookPart}
+use Rattle.command_answers.specs.Answered.{has_status, yields, Refuses, OnlyLooked, EndsLawfully}
+
+-- What goes to `out`.
+
+-- the whole text where done, and a beginning of it where `out` fails; there is no other answer
+abbrev pub SaysText : SinkCall → List ℕ → Answer → Type 0
+SaysText out text done = TookAll out text
+SaysText out text (refused output_fault) = TookPart out text
+SaysText out text (refused _) = ⊥
+
+-- the same, or nothing with an answer that yields
+abbrev pub IsSaid : SinkCall → List ℕ → Answer → Type 0
+IsSaid out text done = TookAll out text
+IsSaid out text (refused output_fault) = TookPart out text
+IsSaid out text (refused refusal) = (yields (refused refusal) ≡ true) × TookNothing out
+
+-- When each answer comes, and what goes to `out` with it. What is said of the file holds where the bench tells it.
+
+-- the file stands for no job, and that was said
+pub record SaysNone (bench : BenchCall) (out : SinkCall) (answer : Answer) : Type 0 where
+  pub free : IsTrue bench.tells → IsFree bench.before.file
+  pub says : SaysText out no_job_text answer
+
+-- the file stands for a job with this device and this image
+pub record IsJobWith (device : Device) (image : List Run) (file : List ℕ) : Type 0 where
+  pub some : IsSomeJob file
+  pub device_is : some.algorithm.device ≡ device
+  pub image_is : some.job.image ≡ image
+
+-- the file stands for a job for as many cells as there are, and the text of that job went to `out`
+pub record SaysJob (bench : BenchCall) (out : SinkCall) (answer : Answer) : Type 0 where
+  pub device : Device
+  pub image : List Run
+  pub size : device.size ≡ bench.before.cell_count
+  pub stands : IsTrue bench.tells → IsJobWith device image bench.before.file
+  pub says : SaysText out (job_text device image) answer
+
+abbrev pub ComesOfJobFile : BenchCall → SinkCall → Answer → Type 0
+ComesOfJobFile bench out (refused out_of_memory) = TookNothing out
+ComesOfJobFile bench out (refused store_fault) = TookNothing out
+ComesOfJobFile bench out (refused (not_a_job at)) = (IsTrue bench.tells → IsNotAJob at bench.before.file) × TookNothing out
+ComesOfJobFile bench out (refused (cells_differ wanted found)) =
+    (IsTrue bench.tells → IsOtherSize bench.before.file bench.before.cell_count wanted found) × TookNothing out
+ComesOfJobFile bench out (refused output_fault) = SaysNone bench out (refused output_fault) ⊎ SaysJob bench out (refused output_fault)
+ComesOfJobFile bench out (refused _) = ⊥
+ComesOfJobFile bench out done = SaysNone bench out done ⊎ SaysJob bench out done
+
+-- The other direction: each answer comes where it is due, by what the file is.
+pub record IsDueForJobFile (bench : BenchCall) (out : SinkCall) (answer : Answer) : Type 0 where
+  pub free : IsFree bench.before.file → IsSaid out no_job_text answer
+  pub not_job : (at : ℕ) → IsNotAJob at bench.before.file → Refuses (TookNothing out) answer (not_a_job at)
+  pub other_size : (some : IsSomeJob bench.before.file) → some.algorithm.device.size ≢ bench.before.cell_count
+      → Refuses (TookNothing out) answer (cells_differ some.algorithm.device.size bench.before.cell_count)
+  pub stands : (some : IsSomeJob bench.before.file) → some.algorithm.device.size ≡ bench.before.cell_count
+      → IsSaid out (job_text some.algorithm.device some.job.image) answer
+
+-- The work of `status`: all but the status and the line on `err`. No input is taken, and the job file is only read: file and cells are
+-- as they were, and a stop at any moment leaves nothing that one at entry might not have left.
+pub record StatusEnds (bench : BenchCall) (inputs : InputsCall) (out : SinkCall) (answer : Answer) : Type 0 where
+  pub lawful : EndsLawfully OnlyLooked bench inputs out has_status [] answer
+  pub takes : TakesNothing inputs
+  pub reads : OnlyReads bench.tells bench.before bench.after
+  pub comes : ComesOfJobFile bench out answer
+  pub due : IsTrue bench.tells → IsDueForJobFile bench out answer
