@@ -36,7 +36,7 @@ reads start aim last f c free good = ⊎_elim
     good
 
 -- one later call
-one : (start : BenchState) (aim : Aim) (last : Option (List ℕ)) (call : Call)
+pub one : (start : BenchState) (aim : Aim) (last : Option (List ℕ)) (call : Call)
     → ((f c : List ℕ) → left (file_half call.old) f → left (cells_half call.old) c → IsSafePair start aim last f c)
     → Keeps aim call → IsFree call.old.file ⊎ IsWhole aim.body call.old.file
     → IsSafe start aim last call.old call.new call.turn (goal_of aim call.goal) × (call.status ≡ 0 → IsDone aim.body (goal_of aim call.goal) call.new)
@@ -57,7 +57,7 @@ one start aim last call good keeps class = ⊎_elim
     class
 
 -- what the next call is entered with
-enters : (start : BenchState) (aim : Aim) (last : Option (List ℕ)) (old new : BenchState) (turn : ℕ) (goal : List ℕ) (end : ℕ) (next : BenchState)
+pub enters : (start : BenchState) (aim : Aim) (last : Option (List ℕ)) (old new : BenchState) (turn : ℕ) (goal : List ℕ) (end : ℕ) (next : BenchState)
     → old.moment ≤ end → end ≤ new.moment → IsSafe start aim last old new turn goal → IsEntered aim new end next
     → (f c : List ℕ) → left (file_half next) f → left (cells_half next) c → IsSafePair start aim (last_at last turn goal end) f c
 enters start aim last old new turn goal end next later in_time safe goes f c f_at c_at = ⊎_elim

@@ -1,0 +1,138 @@
+-- A job is carried: entered (a), opened (b), surveyed (m), finished (d).
+use Rattle.std.proofs.Common.{◌≡◌, ◌⊎◌, ⊎_elim, inl, inr, refl, ◌≤◌, ◌+◌, ◌++◌, ◌∙◌, ℕ, Bool, true, List, [], ◌∷◌, sym, ap, subst, arith, append_assoc}
+use Rattle.faults.specs.Counts.{Rose}
+use Rattle.outside_io.specs.State.{SinkState}
+use Rattle.outside_io.proofs.AppendsLemmas.{AppendsPart-second}
+use Rattle.bench_model.specs.History.{left, Leaves, AddsNothing, LeftOnly}
+use Rattle.bench_model.specs.State.{BenchState, file_half, cells_half, Left}
+use Rattle.bench_model.specs.Calls.{SameOutside}
+use Rattle.bench_model.specs.Pairs.{PairsLeave}
+use Rattle.bench_model.proofs.Moments.{leaves_as, pairs_as, pairs_then, never}
+use Rattle.job_text.specs.Files.{IsWhole, IsFree}
+use Rattle.campaign.specs.Stops.{IsAtClose}
+use Rattle.flash_session.specs.Script.{Broken}
+use Rattle.report_text.specs.Refusal.{Refusal, out_of_memory, store_fault, device_fault, output_fault, call_failed, mismatch}
+use Rattle.command_answers.specs.Call.{SinkCall, TookNothing, TookAll, TookPart, Answer, done, refused, bench_call, sink_call}
+use Rattle.command_answers.specs.Answered.{yields}
+use Rattle.job_commands.specs.Work.{Work, body, shown_plan, IsOnPath, IsOutsidePlanAsSurveyed}
+use Rattle.job_commands.specs.Carry.{EndsBeforePlan, Comes, Carries, done_text}
+use Rattle.job_commands.specs.Steps.{FinishComes, Finishes}
+use Rattle.job_commands.proofs.TurnLemmas.{turn_then, cells_never, cells_in_turn}
+use Rattle.job_commands.proofs.FinishLemmas.{nothing_broken}
+
+-- cells that only an operation open at entry may have changed
+abbrev pub AsEntered : BenchState → BenchState → Type 0
+AsEntered a x = Leaves (cells_half a) (cells_half x) (λ c. SameOutside a.operation a.cells c)
+
+pub entered : (a b : BenchState) → ((x : List ℕ) → left (cells_half a) x → SameOutside a.operation a.cells x) → AddsNothing (cells_half a) (cells_half b) → AsEntered a b
+entered a b exact adds = leaves_as (left (cells_half a)) (λ c. SameOutside a.operation a.cells c) exact adds
+
+-- An end before the script.
+pub ends_early : (tells : Bool) (a x : BenchState) (out : SinkCall) (First : List ℕ → List ℕ → Type 0) (w : Work) (answer : Answer)
+    → SameOutside a.operation a.cells w.surveyed → Comes (bench_call tells a x) out w nothing_broken answer → yields answer ≡ true
+    → PairsLeave a x (λ f c. First f c ⊎ IsWhole (body w) f) → AsEntered a x
+    → Carries (bench_call tells a x) out First w answer
+ends_early tells a x out First w answer surveyed comes yield pairs cells = record {
+  surveyed = surveyed;
+  broken = nothing_broken;
+  comes = comes;
+  stops = record {
+    turn = x.moment + 1;
+    pairs = never (λ f c. First f c ⊎ IsWhole (body w) f) (IsAtClose (body w) w.goal) pairs;
+    survey = x.moment + 1;
+    path = cells_never (λ c. SameOutside a.operation a.cells c) (IsOnPath w nothing_broken) cells;
+    local = λ keeps. cells_never (λ c. SameOutside a.operation a.cells c) (IsOutsidePlanAsSurveyed w) cells;
+  };
+  complete = λ keeps. inr yield;
+}
+
+-- An end before the plan, of a job that the file at entry stands for.
+module _ (tells sinks : Bool) (a x : BenchState) (p : SinkState) (w : Work) (whole : IsWhole (body w) a.file) (surveyed : SameOutside a.operation a.cells w.surveyed)
+    (same : x.file ≡ a.file) (outside : SameOutside a.operation a.cells x.cells) (pairs : PairsLeave a x (λ f c. Left a f c ⊎ IsWhole (body w) f))
+    (cells : AsEntered a x) where
+  nothing : TookNothing (sink_call sinks p p)
+  nothing = record { taken = refl; faults = refl }
+
+  before_plan : EndsBeforePlan (bench_call tells a x) (sink_call sinks p p) w
+  before_plan = record { file = inl (same ∙ whole); cells = outside; prints = nothing }
+
+  pub no_memory : Carries (bench_call tells a x) (sink_call sinks p p) (Left a) w (refused out_of_memory)
+  no_memory = ends_early tells a x (sink_call sinks p p) (Left a) w (refused out_of_memory) surveyed
+      (record { file = inl (same ∙ whole); cells = outside; prints = inl nothing }) refl pairs cells
+
+  pub no_store : Carries (bench_call tells a x) (sink_call sinks p p) (Left a) w (refused store_fault)
+  no_store = ends_early tells a x (sink_call sinks p p) (Left a) w (refused store_fault) surveyed (inl before_plan) refl pairs cells
+
+  pub no_device : Carries (bench_call tells a x) (sink_call sinks p p) (Left a) w (refused device_fault)
+  no_device = ends_early tells a x (sink_call sinks p p) (Left a) w (refused device_fault) surveyed (inl before_plan) refl pairs cells
+
+  -- in the plan's text
+  pub ends_in_plan : (q : SinkState) → x.cells ≡ w.surveyed → TookPart (sink_call sinks p q) (shown_plan w)
+      → Carries (bench_call tells a x) (sink_call sinks p q) (Left a) w (refused output_fault)
+  ends_in_plan q is part = ends_early tells a x (sink_call sinks p q) (Left a) w (refused output_fault) surveyed
+      (inl (record { job = same ∙ whole; cells = is; prints = part })) refl pairs cells
+
+-- the pairs up to the survey
+pub opened : {a b : BenchState} (body : List ℕ) → PairsLeave a b (Left a) → PairsLeave a b (λ f c. Left a f c ⊎ IsWhole body f)
+opened {a} {b} body one = pairs_as (Left a) (λ f c. Left a f c ⊎ IsWhole body f) (λ f c at. inl at) one
+
+pub looked : {a b m : BenchState} (body : List ℕ) → IsWhole body a.file → LeftOnly a.file (file_half b) → PairsLeave a b (Left a) → PairsLeave b m (Left b)
+    → PairsLeave a m (λ f c. Left a f c ⊎ IsWhole body f)
+looked {a} {b} {m} body whole only one two = pairs_then (λ f c. Left a f c ⊎ IsWhole body f) (opened body one)
+    (pairs_as (Left b) (λ f c. Left a f c ⊎ IsWhole body f) (λ f c at. inr (only f at.0 ∙ whole)) two)
+
+-- The plan is printed, and then the rest.
+
+module _ (sinks : Bool) (p q r : SinkState) (text : List ℕ) (one : TookAll (sink_call sinks p q) text) where
+  all_then : (rest : List ℕ) → TookAll (sink_call sinks q r) rest → TookAll (sink_call sinks p r) (text ++ rest)
+  all_then rest two = record {
+    taken = λ t. two.taken t ∙ ap (λ (l : List ℕ). l ++ rest) (one.taken t) ∙ append_assoc p.taken text rest;
+    faults = two.faults ∙ one.faults;
+  }
+
+  nothing_then : TookNothing (sink_call sinks q r) → TookAll (sink_call sinks p r) text
+  nothing_then two = record { taken = λ t. two.taken ∙ one.taken t; faults = two.faults ∙ one.faults }
+
+  part_then : (rest : List ℕ) → TookPart (sink_call sinks q r) rest → TookPart (sink_call sinks p r) (text ++ rest)
+  part_then rest two = record {
+    taken = λ t. AppendsPart-second p.taken q.taken r.taken text rest (one.taken t) (two.taken t);
+    later = subst (λ (n : ℕ). n ≤ r.faults) one.faults two.later;
+    rose = subst (λ (n : ℕ). Rose n r.faults) one.faults two.rose;
+  }
+
+module _ (tells sinks : Bool) (a m d : BenchState) (p q r : SinkState) (w : Work) (surveyed : SameOutside a.operation a.cells w.surveyed)
+    (plan : TookAll (sink_call sinks p q) (shown_plan w)) where
+  -- what each answer of the rest is to the whole
+  comes_then : (broken : Broken) (answer : Answer) → FinishComes (bench_call tells m d) (sink_call sinks q r) w broken answer
+      → Comes (bench_call tells a d) (sink_call sinks p r) w broken answer
+  comes_then b done rest = (rest.0, all_then sinks p q r (shown_plan w) plan done_text rest.1)
+  comes_then b (refused out_of_memory) rest = record {
+    file = inl rest.0;
+    cells = subst (λ (c : List ℕ). SameOutside a.operation a.cells c) (sym rest.1) surveyed;
+    prints = inr (nothing_then sinks p q r (shown_plan w) plan rest.2);
+  }
+  comes_then b (refused store_fault) rest = inr (record { file = rest.0; reached = rest.1; prints = nothing_then sinks p q r (shown_plan w) plan rest.2 })
+  comes_then b (refused device_fault) rest = inr (record { job = rest.0; prints = nothing_then sinks p q r (shown_plan w) plan rest.2; way = rest.1 })
+  comes_then b (refused output_fault) rest = inr (rest.0, part_then sinks p q r (shown_plan w) plan done_text rest.1)
+  comes_then b (refused (call_failed number call end)) rest =
+      record { job = rest.0; prints = nothing_then sinks p q r (shown_plan w) plan rest.2; way = rest.1 }
+  comes_then b (refused (mismatch at wanted found)) rest =
+      record { job = rest.0; prints = nothing_then sinks p q r (shown_plan w) plan rest.2; way = rest.1 }
+  comes_then b (refused other) rest = absurd rest
+
+  pub ends_finished : (First : List ℕ → List ℕ → Type 0) (answer : Answer) → PairsLeave a m (λ f c. First f c ⊎ IsWhole (body w) f) → AsEntered a m
+      → Finishes (bench_call tells m d) (sink_call sinks q r) w answer → Carries (bench_call tells a d) (sink_call sinks p r) First w answer
+  ends_finished First answer pairs cells rest = record {
+    surveyed = surveyed;
+    broken = rest.broken;
+    comes = comes_then rest.broken answer rest.comes;
+    stops = record {
+      turn = rest.turn;
+      pairs = turn_then (λ f c. First f c ⊎ IsWhole (body w) f) (λ f c. IsWhole (body w) f) (IsAtClose (body w) w.goal) (λ f c whole. inr whole)
+          pairs rest.pairs (λ k f le at. (rest.files_past k f le).0 at) (λ k x le at. (rest.path.goes_on.past k x le).0 at);
+      survey = m.moment;
+      path = cells_in_turn a m d (λ c. SameOutside a.operation a.cells c) (IsOnPath w rest.broken) cells rest.path;
+      local = λ keeps. cells_in_turn a m d (λ c. SameOutside a.operation a.cells c) (IsOutsidePlanAsSurveyed w) cells (rest.local keeps);
+    };
+    complete = rest.complete;
+  }

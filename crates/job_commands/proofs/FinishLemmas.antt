@@ -1,0 +1,248 @@
+-- A session from its script on: entered (s), gone through its script (m), closed (d).
+use Rattle.std.proofs.Common.{◌≡◌, ◌⊎◌, ⊎_elim, inl, inr, refl, ◌≤◌, ◌+◌, ◌∙◌, ℕ, Bool, true, false, IsTrue, List, [], ◌∷◌, drop, Option, Some, None, IfSome, IsSomeAnd, is_some, sym, ap, subst, arith}
+use Rattle.bench_model.specs.History.{left, GoesOn, Leaves, LeftOnly}
+use Rattle.bench_model.specs.State.{BenchState, file_half, cells_half}
+use Rattle.bench_model.specs.Calls.{FileStays, CellsStay, SameOutside}
+use Rattle.bench_model.specs.Pairs.{PairsLeave}
+use Rattle.bench_model.proofs.Moments.{goes_then, pairs_of, pairs_as, stays_leaves, leaves_then, leaves_left, in_turn, never}
+use Rattle.byte_map.specs.Image.{Run, over}
+use Rattle.board_file.specs.Shown as board
+use Rattle.flm_descriptor.specs.Shown as flm
+use Rattle.page_geometry.specs.Layout.{Layout}
+use Rattle.erase_planner.specs.Plans.{Chosen, chosen}
+use Rattle.outside_io.specs.State.{SinkState}
+use Rattle.readback.specs.declared.compare.Difference.{Difference}
+use Rattle.algo_calls.specs.declared.call.Call.{Call}
+use Rattle.algo_calls.specs.declared.call.CallEnd.{CallEnd}
+use Rattle.job_text.specs.Files.{IsWhole, IsFree, IsClosed}
+use Rattle.job_text.specs.Body.{Job, body_of}
+use Rattle.job_text.specs.Stands.{StandsFor}
+use Rattle.job_text.specs.declared.job.Job as code
+use Rattle.job_file.specs.Stops.{IsWholeOrClosed}
+use Rattle.campaign.specs.Stops.{IsAtClose}
+use Rattle.flash_session.specs.declared.ending.Reached.{Reached}
+use Rattle.flash_session.specs.declared.ending.SessionEnd.{SessionEnd}
+use Rattle.flash_session.specs.declared.ending.SessionEnd.TheVariants as end
+use Rattle.flash_session.specs.declared.goal.Goal.{Goal}
+use Rattle.flash_session.specs.declared.goal.Goal.TheVariants.{New, Old}
+use Rattle.flash_session.specs.Script.{Errand, errand, Broken}
+use Rattle.flash_session.specs.Outcome.{Follows}
+use Rattle.flash_session.specs.Starts.{job_setup, job_start}
+use Rattle.flash_session.specs.Surveys.{Surveyed, goal_in, HasSurveyed}
+use Rattle.flash_session.specs.Sessions as sessions
+use Rattle.flash_session.specs.Sessions.{Goes, JobServes, IsAsSurveyed}
+use Rattle.flash_session.specs.Local.{IsInPlan, SameBut}
+use Rattle.report_text.specs.Refusal.{out_of_memory, store_fault, device_fault, output_fault, call_failed, mismatch}
+use Rattle.command_answers.specs.Call.{SinkCall, TookNothing, TookAll, TookPart, Answer, done, refused, bench_call, sink_call}
+use Rattle.command_answers.specs.Answered.{IsUnless}
+use Rattle.job_commands.specs.Work.{Work, body, layout_of, plan_of, setup_for, errand_for, start_for, moves_of, Ends, IsOnPath, KeepsDuties, IsOutsidePlanAsSurveyed}
+use Rattle.job_commands.specs.Carry.{HasReached, HasClosed, done_text}
+use Rattle.job_commands.specs.GoOn.{goal_cells}
+use Rattle.job_commands.specs.Steps.{session_work, FinishComes, Finishes}
+
+-- what is found on one session's survey is found on an equal one
+pub close_as : {o q : Option Surveyed} (P : Surveyed → Type 0) → o ≡ q → IfSome o P → IfSome q P
+close_as P same close = subst (λ (x : Option Surveyed). IfSome x P) same close
+
+pub nothing_broken : Broken
+nothing_broken = record { erase = []; program = []; verify = []; last = [] }
+
+-- Of any work: each end, by what went before.
+
+module _ (tells : Bool) (w : Work) (s m : BenchState) (out : SinkCall) (answer : Answer) (whole : IsWhole (body w) s.file) (only : LeftOnly s.file (file_half s))
+    (stay : FileStays s m) where
+  early : GoesOn (cells_half s) (cells_half m) → PairsLeave s m (λ f c. IsWhole (body w) f)
+  early goes = pairs_of (λ f. IsWhole (body w) f) (λ c. Unit {0}) (λ f c. IsWhole (body w) f)
+      (stays_leaves (λ f. IsWhole (body w) f) (λ f at. only f at ∙ whole) stay.half)
+      (record { goes_on = goes; each = λ k c from to at. tt }) (λ f c is u. is)
+
+  ends_in_script : (broken : Broken) → FinishComes (bench_call tells s m) out w broken answer → Leaves (cells_half s) (cells_half m) (IsOnPath w broken)
+      → (KeepsDuties w → Leaves (cells_half s) (cells_half m) (IsOutsidePlanAsSurveyed w)) → (KeepsDuties w → IsUnless answer done)
+      → Finishes (bench_call tells s m) out w answer
+  ends_in_script broken comes path local complete = record {
+    broken = broken;
+    comes = comes;
+    turn = m.moment + 1;
+    pairs = never (λ f c. IsWhole (body w) f) (IsAtClose (body w) w.goal) (early path.goes_on);
+    files_past = stay.half.goes_on.past;
+    path = path;
+    local = local;
+    complete = complete;
+  }
+
+  -- through a close the cells are as they were
+  on_through : (d : BenchState) (P : List ℕ → Type 0) → CellsStay m d → Leaves (cells_half s) (cells_half m) P → Leaves (cells_half s) (cells_half d) P
+  on_through d P cells first = leaves_then P first (stays_leaves P (leaves_left P first) cells.half)
+
+  ends_in_close : (d : BenchState) (broken : Broken) → FinishComes (bench_call tells s d) out w broken answer → Leaves (cells_half s) (cells_half m) (IsOnPath w broken)
+      → (KeepsDuties w → Leaves (cells_half s) (cells_half m) (IsOutsidePlanAsSurveyed w)) → (KeepsDuties w → IsUnless answer done)
+      → CellsStay m d → PairsLeave m d (λ f c. IsWholeOrClosed (body w) f × (c ≡ w.goal)) → Finishes (bench_call tells s d) out w answer
+  ends_in_close d broken comes path local complete cells close = record {
+    broken = broken;
+    comes = comes;
+    turn = m.moment;
+    pairs = in_turn (λ f c. IsWhole (body w) f) (IsAtClose (body w) w.goal) (early path.goes_on)
+        (pairs_as (λ f c. IsWholeOrClosed (body w) f × (c ≡ w.goal)) (IsAtClose (body w) w.goal) (λ f c both. record { whole_or_closed = both.0; done = both.1 }) close);
+    files_past = (goes_then stay.half.goes_on close.files).past;
+    path = on_through d (IsOnPath w broken) cells path;
+    local = λ keeps. on_through d (IsOutsidePlanAsSurveyed w) cells (local keeps);
+    complete = complete;
+  }
+
+-- Of the work of a session.
+
+module _ (tells : Bool) (told : IsTrue tells) (j : code.Job) (goal : Goal) (text : Job) (image : text.image ≡ j.image) (snapshot : text.snapshot ≡ j.snapshot) (cells : List ℕ) where
+  abbrev its_work : Work
+  its_work = session_work goal j text cells
+
+  pub same_goal : (g : Goal) → goal_in j g ≡ goal_cells g text (flm.shown j.algorithm)
+  same_goal New = ap (λ (r : List Run). over r j.algorithm.device.base j.snapshot) (sym image) ∙ ap (λ (c : List ℕ). over text.image j.algorithm.device.base c) (sym snapshot)
+  same_goal Old = sym snapshot
+
+  module _ (v : Surveyed) (has : HasSurveyed tells j goal cells v) where
+    pub goal_is : v.goal ≡ its_work.goal
+    goal_is = has.goal ∙ same_goal goal
+
+    -- the plan that was made is the chosen one
+    pub plan_is : v.plan ≡ plan_of its_work
+    plan_is = (has.plan told).chosen
+        ∙ ap (λ (l : Layout). chosen l j.board.weights (is_some j.algorithm.entries.erase_chip) j.algorithm.device.empty cells v.goal) has.layout
+        ∙ ap (λ (g : List ℕ). chosen (layout_of (flm.shown j.algorithm)) j.board.weights (is_some j.algorithm.entries.erase_chip) j.algorithm.device.empty cells g) goal_is
+
+    errand_is : sessions.errand_for j v ≡ errand_for its_work
+    errand_is = ap (λ (l : Layout). errand l j.algorithm.device.base v.plan v.goal) has.layout
+        ∙ ap (λ (p : Chosen). errand (layout_of (flm.shown j.algorithm)) j.algorithm.device.base p v.goal) plan_is
+        ∙ ap (λ (g : List ℕ). errand (layout_of (flm.shown j.algorithm)) j.algorithm.device.base (plan_of its_work) g) goal_is
+
+    pub follows_plan : (e : SessionEnd) (s m : BenchState) → Follows (job_setup j) (sessions.errand_for j v) (job_start j cells) e s m
+        → Follows (setup_for its_work) (errand_for its_work) (start_for its_work) e s m
+    follows_plan e s m follows = subst (λ (t : Errand). Follows (job_setup j) t (job_start j cells) e s m) errand_is follows
+
+module _ (tells sinks : Bool) (told : IsTrue tells) (j : code.Job) (goal : Goal) (s m : BenchState) (p : SinkState) (stands : StandsFor j s.file)
+    (only : LeftOnly s.file (file_half s)) (stay : FileStays s m) where
+  abbrev w : Work
+  w = session_work goal j stands.text s.cells
+
+  abbrev Followed : SessionEnd → Type 0
+  Followed e = Follows (setup_for w) (errand_for w) (start_for w) e s m
+
+  followed : (o : Option Surveyed) (e : SessionEnd) → IsSomeAnd o (λ v. HasSurveyed tells j goal s.cells v)
+      → IfSome o (λ v. Follows (job_setup j) (sessions.errand_for j v) (job_start j s.cells) e s m) → Followed e
+  followed None e has goes = absurd has
+  followed (Some v) e has goes = follows_plan tells told j goal stands.text stands.image stands.snapshot s.cells v has e s m goes
+
+  nothing : TookNothing (sink_call sinks p p)
+  nothing = record { taken = refl; faults = refl }
+
+  job_stays : IsWhole (body w) m.file
+  job_stays = stay.file ∙ stands.whole
+
+  -- each stop of the script leaves what lies outside the chosen plan
+  local_from : (q : Option Surveyed) → IsSomeAnd q (λ v. HasSurveyed tells j goal s.cells v)
+      → IfSome q (λ v. IsAsSurveyed tells j s.cells v → Leaves (cells_half s) (cells_half m) (SameBut (IsInPlan v.layout v.plan) s.cells))
+      → Leaves (cells_half s) (cells_half m) (IsOutsidePlanAsSurveyed w)
+  local_from None some local = absurd some
+  local_from (Some v) some local =
+      subst (λ (c : Chosen). Leaves (cells_half s) (cells_half m) (SameBut (IsInPlan (layout_of (flm.shown j.algorithm)) c) s.cells))
+      (plan_is tells told j goal stands.text stands.image stands.snapshot s.cells v some)
+      (subst (λ (l : Layout). Leaves (cells_half s) (cells_half m) (SameBut (IsInPlan l v.plan) s.cells)) some.layout (local (record { goal = goal; found = some })))
+
+  -- an end that doesn't come
+  unfailing : (q : Option Surveyed) → IsSomeAnd q (λ v. HasSurveyed tells j goal s.cells v)
+      → IfSome q (λ v. IsAsSurveyed tells j s.cells v → false ≡ false → ⊥) → ⊥
+  unfailing None some fails = some
+  unfailing (Some v) some fails = fails (record { goal = goal; found = some }) refl
+
+  module _ (o : Option Surveyed) (has : IsSomeAnd o (λ v. HasSurveyed tells j goal s.cells v))
+      (keeps : JobServes j → IfSome o (λ v. IsAsSurveyed tells j s.cells v → Leaves (cells_half s) (cells_half m) (SameBut (IsInPlan v.layout v.plan) s.cells))) where
+    its_local : KeepsDuties w → Leaves (cells_half s) (cells_half m) (IsOutsidePlanAsSurveyed w)
+    its_local = λ serves. local_from o has (keeps serves)
+
+    pub ends_mismatch : (d : Difference) (at : ℕ) → at ≡ j.algorithm.device.base + d.at → IfSome o (λ v. Goes j v (end.Mismatch d) s m)
+        → (JobServes j → IfSome o (λ v. IsAsSurveyed tells j s.cells v → false ≡ false → ⊥))
+        → Finishes (bench_call tells s m) (sink_call sinks p p) w (refused (mismatch at d.want d.got))
+    ends_mismatch d at at_is goes fails =
+        let f = followed o (end.Mismatch d) has goes in
+        ends_in_script tells w s m (sink_call sinks p p) (refused (mismatch at d.want d.got)) stands.whole only stay f.broken
+        (job_stays, record { ends = f.ends.0; difference = d; first = f.ends.1; at_is = at_is; wanted_is = refl; found_is = refl }, nothing) f.moments its_local
+        (λ serves. absurd (unfailing o has (fails serves)))
+
+    pub ends_failed : (number : ℕ) (call : Call) (e : CallEnd) → IfSome o (λ v. Goes j v (end.CallFailed number call e) s m)
+        → (JobServes j → IfSome o (λ v. IsAsSurveyed tells j s.cells v → false ≡ false → ⊥))
+        → Finishes (bench_call tells s m) (sink_call sinks p p) w (refused (call_failed number call e))
+    ends_failed number call e goes fails =
+        let f = followed o (end.CallFailed number call e) has goes in
+        ends_in_script tells w s m (sink_call sinks p p) (refused (call_failed number call e)) stands.whole only stay f.broken (job_stays, f.ends, nothing) f.moments its_local
+        (λ serves. absurd (unfailing o has (fails serves)))
+
+    pub ends_at_fault : IfSome o (λ v. Goes j v end.DeviceFault s m) → Finishes (bench_call tells s m) (sink_call sinks p p) w (refused device_fault)
+    ends_at_fault goes =
+        let f = followed o end.DeviceFault has goes in
+        ends_in_script tells w s m (sink_call sinks p p) (refused device_fault) stands.whole only stay f.broken (job_stays, f.ends, nothing) f.moments its_local (λ serves. inr refl)
+
+    -- where nothing was done each moment is at the start of the path
+    stays_on_path : s.operation ≡ None → ((x : List ℕ) → left (cells_half s) x → SameOutside s.operation s.cells x) → CellsStay s m
+        → Leaves (cells_half s) (cells_half m) (IsOnPath w nothing_broken)
+    stays_on_path idle exact cells = stays_leaves (IsOnPath w nothing_broken)
+        (λ x at. record {
+          at = (start_for w).world;
+          on = inl refl;
+          left = subst (λ (q : Option (ℕ × ℕ)). SameOutside q s.cells x) idle (exact x at);
+        })
+        cells.half
+
+    unmoved : (q : Option Surveyed) → IsSomeAnd q (λ v. HasSurveyed tells j goal s.cells v) → IfSome q (λ v. Goes j v end.OutOfMemory s m) → CellsStay s m
+    unmoved None some goes = absurd some
+    unmoved (Some v) some goes = goes
+
+    pub ends_unmoved : IfSome o (λ v. Goes j v end.OutOfMemory s m) → s.operation ≡ None
+        → ((x : List ℕ) → left (cells_half s) x → SameOutside s.operation s.cells x)
+        → Finishes (bench_call tells s m) (sink_call sinks p p) w (refused out_of_memory)
+    ends_unmoved goes idle exact =
+        let cells = unmoved o has goes in
+        ends_in_script tells w s m (sink_call sinks p p) (refused out_of_memory) stands.whole only stay nothing_broken (job_stays, cells.cells, nothing)
+        (stays_on_path idle exact cells) its_local (λ serves. inr refl)
+
+    -- The goal is reached, and the job is closed or was to be.
+    module _ (d : BenchState) (r : Reached) (goes : IfSome o (λ v. Goes j v (end.Reached r) s m)) (idle : m.operation ≡ None) (cells : CellsStay m d)
+        (close : IfSome o (λ v. PairsLeave m d (λ f c. IsWholeOrClosed (drop 1 m.file) f × (c ≡ v.goal)))) where
+      abbrev f : Followed (end.Reached r)
+      f = followed o (end.Reached r) has goes
+
+      reached : HasReached d w f.broken
+      reached = record {
+        ends = subst (λ (c : List ℕ). Ends w f.broken c) (sym cells.cells) f.ends.0;
+        idle = cells.operation ∙ idle;
+        goal = cells.cells ∙ f.ends.1;
+      }
+
+      behind : drop 1 m.file ≡ body w
+      behind = ap (drop 1) job_stays
+
+      close_from : (q : Option Surveyed) → IsSomeAnd q (λ v. HasSurveyed tells j goal s.cells v)
+          → IfSome q (λ v. PairsLeave m d (λ f c. IsWholeOrClosed (drop 1 m.file) f × (c ≡ v.goal))) → PairsLeave m d (λ f c. IsWholeOrClosed (body w) f × (c ≡ w.goal))
+      close_from None some pairs = absurd some
+      close_from (Some v) some pairs =
+          subst (λ (g : List ℕ). PairsLeave m d (λ f c. IsWholeOrClosed (body w) f × (c ≡ g))) (goal_is tells told j goal stands.text stands.image stands.snapshot s.cells v some)
+          (subst (λ (b : List ℕ). PairsLeave m d (λ f c. IsWholeOrClosed b f × (c ≡ v.goal))) behind pairs)
+
+      closes : (out : SinkCall) (answer : Answer) → IsUnless answer done → FinishComes (bench_call tells s d) out w f.broken answer → Finishes (bench_call tells s d) out w answer
+      closes out answer due comes = ends_in_close tells w s m out answer stands.whole only stay d f.broken comes f.moments its_local (λ serves. due) cells (close_from o has close)
+
+      pub ends_done : (q : SinkState) → d.file ≡ 0 ∷ drop 1 m.file → TookAll (sink_call sinks p q) done_text → Finishes (bench_call tells s d) (sink_call sinks p q) w done
+      ends_done q file took = closes (sink_call sinks p q) done (inl refl) (record { file = file ∙ ap (λ (b : List ℕ). 0 ∷ b) behind; reached = reached }, took)
+
+      pub ends_cut : (q : SinkState) → d.file ≡ 0 ∷ drop 1 m.file → TookPart (sink_call sinks p q) done_text
+          → Finishes (bench_call tells s d) (sink_call sinks p q) w (refused output_fault)
+      ends_cut q file took = closes (sink_call sinks p q) (refused output_fault) (inr refl) (record { file = file ∙ ap (λ (b : List ℕ). 0 ∷ b) behind; reached = reached }, took)
+
+      -- after a close that failed
+      pub ends_unclosed : IsWholeOrClosed (drop 1 m.file) d.file → Finishes (bench_call tells s d) (sink_call sinks p p) w (refused store_fault)
+      ends_unclosed file = closes (sink_call sinks p p) (refused store_fault) (inr refl) (
+        ⊎_elim
+            (λ (is : IsWhole (drop 1 m.file) d.file). inl (is ∙ ap (λ (b : List ℕ). 165 ∷ b) behind))
+            (λ (closed : IsClosed (drop 1 m.file) d.file). inr closed.free)
+            file,
+        reached,
+        nothing,
+      )

@@ -1,0 +1,148 @@
+-- What a call answers is what a campaign asks of it.
+use Rattle.std.proofs.Common.{◌≡◌, ◌≢◌, ◌⊎◌, ⊎_elim, inl, inr, refl, ◌≤◌, ◌<◌, ◌+◌, ◌∙◌, ℕ, Bool, true, List, ◌∷◌, replicate, IsTrue, sym, ap, subst, arith}
+use Rattle.std.proofs.lemmas.Bool.{cases_eq}
+use Rattle.std.proofs.lemmas.List.{length-replicate}
+use Rattle.bench_model.specs.History.{left}
+use Rattle.bench_model.specs.State.{BenchState, cells_half, Left}
+use Rattle.bench_model.specs.Calls.{OnlyReads, SameOutside}
+use Rattle.board_file.specs.Shown as board
+use Rattle.flm_descriptor.specs.Shown as flm
+use Rattle.job_text.specs.Files.{IsFree, IsWhole}
+use Rattle.job_text.specs.Body.{Job, body_of, IsJob}
+use Rattle.job_text.specs.Stands.{IsSomeJob}
+use Rattle.campaign.specs.Stops as stops
+use Rattle.campaign.specs.Stops.{WorkStops}
+use Rattle.campaign.specs.Campaign.{goal_of}
+use Rattle.flash_session.specs.declared.goal.Goal.{Goal}
+use Rattle.flash_session.specs.declared.goal.Goal.TheVariants.{New, Old}
+use Rattle.report_text.specs.Refusal.{Refusal, no_job, cells_differ}
+use Rattle.command_words.specs.Files.{FilesAsked}
+use Rattle.command_answers.specs.Call.{BenchCall, SinkCall, Call, Answer, done, refused}
+use Rattle.command_answers.specs.Answered.{yields, Refuses, OnlyLooked, StandsEarly}
+use Rattle.job_commands.specs.Work.{Work, body}
+use Rattle.job_commands.specs.Carry.{Comes, Carries}
+use Rattle.job_commands.specs.GoOn.{goal_cells, work_to, GoOnAnswers}
+use Rattle.job_commands.specs.Program.{ProgramAnswers}
+use Rattle.job_commands.specs.Law.{aim_of, asked_by, KeepsFor, LaterKeeps, FirstKeeps}
+use Rattle.job_commands.proofs.OpenLemmas.{not_free}
+use Rattle.job_commands.proofs.RegionLemmas.{aim_job}
+
+-- A refusal of a job file only looks at it, whether it is answered or yields.
+looks : (bench : BenchCall) (out : SinkCall) (answer : Answer) (refusal : Refusal) → (StandsEarly OnlyLooked bench out (refused refusal) → OnlyLooked bench out)
+    → StandsEarly OnlyLooked bench out answer → Refuses (OnlyLooked bench out) answer refusal → OnlyLooked bench out
+looks bench out answer refusal early stands either = ⊎_elim
+    (λ (is : answer ≡ refused refusal). early (subst (λ (a : Answer). StandsEarly OnlyLooked bench out a) is stands))
+    (λ (yield : (yields answer ≡ true) × OnlyLooked bench out). yield.1)
+    either
+
+not_done : (Did : Type 0) (answer : Answer) (refusal : Refusal) → Refuses Did answer refusal → answer ≡ done → ⊥
+not_done Did answer refusal either is = ⊎_elim
+    (λ (other : answer ≡ refused refusal). let e : done ≡ refused refusal = sym is ∙ other in cc)
+    (λ (yield : (yields answer ≡ true) × Did). let e : yields done ≡ true = ap yields (sym is) ∙ yield.0 in cc)
+    either
+
+-- where the file was only read, a stop leaves nothing new
+only_left : (tells : Bool) (a b : BenchState) → OnlyReads tells a b → (k : ℕ) (f c : List ℕ) → a.moment ≤ k → k ≤ b.moment → b.files_at k f → b.cells_at k c → Left a f c
+only_left tells a b reads k f c from to f_at c_at = (reads.moments.each k f from to f_at, (reads.cells.half.same k c from to).0 c_at)
+
+-- a call that only looked, on a file that its campaign's job may have
+looked_keeps : (aim : stops.Aim) (goal : Goal) (call : Call) → IsTrue call.bench.tells → OnlyLooked call.bench call.out → (call.status ≡ 0 → ⊥) → KeepsFor aim goal call
+looked_keeps aim goal call told looked not_zero =
+    let reads = looked.reads told in
+    let on : call.bench.before.moment ≤ call.bench.after.moment = reads.moments.goes_on.later in
+    record {
+      turn = call.bench.after.moment + 1;
+      keeps = λ end from to. record {
+        later = from;
+        in_time = to;
+        stands = λ whole. record {
+          pairs = record {
+            started = omega (arith, on);
+            later = on;
+            before = λ k f c at_from at_to less f_at c_at. inl (only_left call.bench.tells call.bench.before call.bench.after reads k f c at_from at_to f_at c_at);
+            from = λ k f c at_from at_to f_at c_at. absurd (omega (arith, at_from, at_to));
+          };
+        };
+        idle = λ is_free. record {
+          never = omega arith;
+          pairs = λ k f c at_from at_to f_at c_at. only_left call.bench.tells call.bench.before call.bench.after reads k f c at_from at_to f_at c_at;
+        };
+        zero = λ zero whole. absurd (not_zero zero);
+        not_free = λ zero is_free. absurd (not_zero zero);
+      };
+    }
+
+-- a call that carries the campaign's job
+carried_keeps : (call : Call) (answer : Answer) (w : Work) (aim : stops.Aim) (goal : Goal) → (call.status ≡ 0 → answer ≡ done) → IsWhole (body w) call.bench.before.file
+    → aim.body ≡ body w → goal_of aim (asked_by goal) ≡ w.goal → Carries call.bench call.out (Left call.bench.before) w answer → KeepsFor aim goal call
+carried_keeps call answer w aim goal zero_is whole bodies goals carries = record {
+  turn = carries.stops.turn;
+  keeps = λ end from to. record {
+    later = from;
+    in_time = to;
+    stands = λ is. subst (λ (b : List ℕ). WorkStops call.bench.before call.bench.after carries.stops.turn b (goal_of aim (asked_by goal))) (sym bodies)
+        (subst (λ (g : List ℕ). WorkStops call.bench.before call.bench.after carries.stops.turn (body w) g) (sym goals) (record { pairs = carries.stops.pairs }));
+    idle = λ is_free. absurd (not_free w.job call.bench.before.file whole is_free);
+    zero = λ zero is.
+        let comes = subst (λ (a : Answer). Comes call.bench call.out w carries.broken a) (zero_is zero) carries.comes in
+        record {
+          file = comes.0.file ∙ ap (λ (b : List ℕ). 0 ∷ b) (sym bodies);
+          idle = comes.0.reached.idle;
+          cells = comes.0.reached.goal ∙ sym goals;
+        };
+    not_free = λ zero is_free. absurd (not_free w.job call.bench.before.file whole is_free);
+  };
+}
+
+same_goal : (goal : Goal) (job : Job) (a : flm.Shown) → goal_of (aim_of job a) (asked_by goal) ≡ goal_cells goal job a
+same_goal New job a = refl
+same_goal Old job a = refl
+
+pub later_keeps : (goal : Goal) (call : Call) → GoOnAnswers goal call → LaterKeeps goal call
+later_keeps goal call answers job b a told is_job class =
+    let from = answers.ends.told told in
+    ⊎_elim
+    (λ (is_free : IsFree call.bench.before.file).
+    let refuses = from.free is_free in
+    looked_keeps (aim_of job a) goal call told (looks call.bench call.out answers.answer no_job (λ early. early) answers.ends.lawful.stands refuses)
+    (λ zero. not_done (OnlyLooked call.bench call.out) answers.answer no_job refuses (answers.zero zero)))
+    (λ (whole : IsWhole (body_of job) call.bench.before.file). ⊎_elim
+    (λ (size : a.device.size ≡ call.bench.before.cell_count).
+    let carried = from.stands job b a is_job whole size in
+    carried_keeps call answers.answer (work_to goal job b a carried.0) (aim_of job a) goal answers.zero whole refl (same_goal goal job a) carried.1)
+    (λ (other : a.device.size ≢ call.bench.before.cell_count).
+    let some : IsSomeJob call.bench.before.file = record { job = job; board = b; algorithm = a; is = is_job; whole = whole } in
+    let refuses = from.other_size some other in
+    looked_keeps (aim_of job a) goal call told (looks call.bench call.out answers.answer (cells_differ a.device.size call.bench.before.cell_count) (λ early. early) answers.ends.lawful.stands refuses)
+    (λ zero. not_done (OnlyLooked call.bench call.out) answers.answer (cells_differ a.device.size call.bench.before.cell_count) refuses (answers.zero zero)))
+    (cases_eq a.device.size call.bench.before.cell_count))
+    class
+
+pub first_keeps : (asked : FilesAsked) (call : Call) → ProgramAnswers asked call → FirstKeeps asked call
+first_keeps asked call answers files aim has told told_inputs exact are is is_free =
+    let on = answers.ends.files.goes files aim told_inputs are is told in
+    ⊎_elim
+    (λ (size : aim.region.size ≡ call.bench.before.cell_count).
+    let begins = on.begins has is_free size in
+    record { snapshot = begins.snapshot; is_job = begins.is_job; turn = begins.carries.stops.turn; stops = record { pairs = begins.carries.stops.pairs } })
+    (λ (other : aim.region.size ≢ call.bench.before.cell_count).
+    let refuses = on.other_size is_free other in
+    let looked = looks call.bench call.out answers.answer (cells_differ aim.region.size call.bench.before.cell_count) (λ early. early) answers.ends.lawful.stands refuses in
+    let reads = looked.reads told in
+    let later : call.bench.before.moment ≤ call.bench.after.moment = reads.moments.goes_on.later in
+    record {
+      snapshot = replicate aim.region.size 0;
+      is_job = aim_job asked.raw_at files aim has (replicate aim.region.size 0) is (length-replicate aim.region.size 0);
+      turn = call.bench.after.moment + 1;
+      stops = record {
+        pairs = record {
+          started = omega (arith, later);
+          later = later;
+          before = λ k f c at_from at_to less f_at c_at.
+              let at = only_left call.bench.tells call.bench.before call.bench.after reads k f c at_from at_to f_at c_at in
+              inl (record { free = inr at.0; outside = exact c at.1 });
+          from = λ k f c at_from at_to f_at c_at. absurd (omega (arith, at_from, at_to));
+        };
+      };
+    })
+    (cases_eq aim.region.size call.bench.before.cell_count)

@@ -1,0 +1,14 @@
+pub mod TurnLemmas
+pub mod KindLemmas
+pub mod FinishLemmas
+pub mod CarryLemmas
+pub mod OpenLemmas
+pub mod SurveyLemmas
+pub mod CountLemmas
+pub mod BeginLemmas
+pub mod RegionLemmas
+pub mod EntryLemmas
+pub mod GoOnLemmas
+pub mod ProgramLemmas
+pub mod LawLemmas
+pub mod FollowLemmas

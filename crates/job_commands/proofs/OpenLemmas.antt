@@ -1,0 +1,149 @@
+-- What the class of the file at entry says of the answer.
+use Rattle.std.proofs.Common.{◌≡◌, ◌≢◌, ◌⊎◌, inl, inr, refl, ◌∙◌, ℕ, Bool, true, IsTrue, List, [], ◌∷◌, Ok, Err, sym, ap, subst}
+use Rattle.outside_io.specs.State.{SinkState}
+use Rattle.bench_model.specs.State.{BenchState, Left}
+use Rattle.bench_model.specs.Calls.{OnlyReads, SameOutside}
+use Rattle.bench_model.specs.Pairs.{PairsLeave}
+use Rattle.board_file.specs.Shown as board
+use Rattle.board_file.specs.Text.{reading}
+use Rattle.flm_descriptor.specs.Shown as flm
+use Rattle.flm_descriptor.specs.Flm.{flm_of}
+use Rattle.job_text.specs.Files.{IsFree, IsWhole}
+use Rattle.job_text.specs.Body.{Job, body_of, IsJob}
+use Rattle.job_text.specs.Stands.{IsSomeJob, IsNotAJob}
+use Rattle.job_text.specs.Reading as reading_of
+use Rattle.job_text.proofs.BodyLemmas.{same_job}
+use Rattle.job_file.specs.declared.fault.OpenFault.TheVariants as opening
+use Rattle.flash_session.specs.declared.fault.SessionFault.{SessionFault}
+use Rattle.flash_session.specs.declared.fault.SessionFault.TheVariants as session
+use Rattle.flash_session.specs.declared.fault.SurveyFault.{SurveyFault}
+use Rattle.flash_session.specs.declared.fault.SurveyFault.TheVariants as survey
+use Rattle.flash_session.specs.declared.session.Session.{Session}
+use Rattle.flash_session.specs.declared.goal.Goal.{Goal}
+use Rattle.flash_session.specs.Opened.{IsSessionFault, ReadsIfRefused}
+use Rattle.report_text.specs.Refusal.{not_a_job}
+use Rattle.command_answers.specs.Call.{BenchCall, SinkCall, TookNothing, Answer, refused, bench_call, sink_call}
+use Rattle.command_answers.specs.Answered.{OnlyLooked, StandsEarly}
+use Rattle.job_commands.specs.Work.{Work, body}
+use Rattle.job_commands.specs.Carry.{Carries}
+use Rattle.job_commands.specs.GoOn.{work_to, GoesOnFrom}
+use Rattle.job_commands.specs.Steps.{of_session, of_survey}
+use Rattle.job_commands.proofs.CarryLemmas.{AsEntered, no_memory, no_store, no_device, opened}
+
+-- a file that stands for a job isn't free
+pub not_free : (job : Job) (file : List ℕ) → IsWhole (body_of job) file → IsFree file → ⊥
+not_free job file whole free = (subst (λ (f : List ℕ). IsFree f) whole free) refl
+
+-- a file that isn't a job, for one reason
+pub one_reason : (file : List ℕ) (at other : ℕ) → IsNotAJob at file → IsNotAJob other file → at ≡ other
+one_reason file at other is too = let e : reading_of.not_a_job at ≡ reading_of.not_a_job other = sym is.shows ∙ too.shows in cc
+
+-- A file stands for one job, whose texts say one board and one algorithm.
+pub record AreOne (j k : Job) (b c : board.Shown) (x y : flm.Shown) : Type 0 where
+  pub job : j ≡ k
+  pub board : b ≡ c
+  pub algorithm : x ≡ y
+
+pub one_job : {j k : Job} {b c : board.Shown} {x y : flm.Shown} (file : List ℕ) → IsJob j b x → IsJob k c y → IsWhole (body_of j) file → IsWhole (body_of k) file
+    → AreOne j k b c x y
+one_job {j} {k} {b} {c} {x} {y} file is other whole too =
+    let bodies : body_of j ≡ body_of k = let e : 165 ∷ body_of j ≡ 165 ∷ body_of k = sym whole ∙ too in cc in
+    let jobs : j ≡ k = same_job j k b c x y is other bodies in
+    let boards : Ok b ≡ Ok c = sym is.board ∙ ap (λ (i : Job). reading i.board) jobs ∙ other.board in
+    let algorithms : Ok x ≡ Ok y = sym is.algorithm ∙ ap (λ (i : Job). flm_of i.flm) jobs ∙ other.algorithm in
+    record { job = jobs; board = cc; algorithm = cc }
+
+-- where the file stands for a job of so many cells, the work on this job is all that is to be shown
+pub only_stands : (tells : Bool) (a d : BenchState) (out : SinkCall) (goal : Goal) (answer : Answer) (some : IsSomeJob a.file) → some.algorithm.device.size ≡ a.cell_count
+    → (surveyed : List ℕ) → Carries (bench_call tells a d) out (Left a) (work_to goal some.job some.board some.algorithm surveyed) answer
+    → GoesOnFrom goal (bench_call tells a d) out answer
+only_stands tells a d out goal answer some size surveyed carries = record {
+  free = λ is_free. absurd (not_free some.job a.file some.whole is_free);
+  not_job = λ at is. absurd (is.no_job some.job some.board some.algorithm some.is some.whole);
+  other_size = λ other unequal. absurd (unequal (ap (λ (x : flm.Shown). x.device.size) (one_job a.file other.is some.is other.whole some.whole).algorithm ∙ size));
+  stands = λ job b x is whole same.
+      let one = one_job a.file some.is is some.whole whole in (
+        surveyed,
+        subst (λ (k : Job). Carries (bench_call tells a d) out (Left a) (work_to goal k b x surveyed) answer) one.job
+            (subst (λ (c : board.Shown). Carries (bench_call tells a d) out (Left a) (work_to goal some.job c x surveyed) answer) one.board
+            (subst (λ (y : flm.Shown). Carries (bench_call tells a d) out (Left a) (work_to goal some.job some.board y surveyed) answer) one.algorithm carries)),
+      );
+}
+
+-- A session that could not be opened.
+module _ (tells sinks : Bool) (a b : BenchState) (p : SinkState) (goal : Goal) where
+  nothing : TookNothing (sink_call sinks p p)
+  nothing = record { taken = refl; faults = refl }
+
+  only_looked : OnlyReads tells a b → OnlyLooked (bench_call tells a b) (sink_call sinks p p)
+  only_looked reads = record { reads = λ told. reads; prints = nothing }
+
+  pub open_stands : (fault : SessionFault) → ReadsIfRefused {T = Session} tells a b (Err fault)
+      → StandsEarly OnlyLooked (bench_call tells a b) (sink_call sinks p p) (refused (of_session fault))
+  open_stands session.OutOfMemory reads = tt
+  open_stands (session.Open opening.OutOfMemory) reads = tt
+  open_stands (session.Open opening.NoJob) reads = only_looked reads
+  open_stands (session.Open (opening.NotAJob at)) reads = only_looked reads
+  open_stands (session.Open opening.StoreFault) reads = tt
+  open_stands (session.Open (opening.CellsDiffer said found)) reads = only_looked reads
+  open_stands session.DeviceFault reads = tt
+
+  module _ (file : b.file ≡ a.file) (same : SameOutside a.operation a.cells b.cells) (pairs : PairsLeave a b (Left a)) (cells : AsEntered a b) where
+    pub refuses_open : (fault : SessionFault) → IsSessionFault a.file a.cell_count fault → ReadsIfRefused {T = Session} tells a b (Err fault)
+        → GoesOnFrom goal (bench_call tells a b) (sink_call sinks p p) (refused (of_session fault))
+    refuses_open session.OutOfMemory is reads = record {
+      free = λ is_free. inr (refl, only_looked reads);
+      not_job = λ at no. inr (refl, only_looked reads);
+      other_size = λ some unequal. inr (refl, only_looked reads);
+      stands = λ job c x is_job whole size. (b.cells, no_memory tells sinks a b p (work_to goal job c x b.cells) whole same file same (opened (body_of job) pairs) cells);
+    }
+    refuses_open (session.Open opening.OutOfMemory) is reads = absurd is
+    refuses_open (session.Open opening.StoreFault) is reads = record {
+      free = λ is_free. inr (refl, only_looked reads);
+      not_job = λ at no. inr (refl, only_looked reads);
+      other_size = λ some unequal. inr (refl, only_looked reads);
+      stands = λ job c x is_job whole size. (b.cells, no_store tells sinks a b p (work_to goal job c x b.cells) whole same file same (opened (body_of job) pairs) cells);
+    }
+    refuses_open (session.Open opening.NoJob) is reads = record {
+      free = λ is_free. inl refl;
+      not_job = λ at no. absurd (no.not_free is);
+      other_size = λ some unequal. absurd (not_free some.job a.file some.whole is);
+      stands = λ job c x is_job whole size. absurd (not_free job a.file whole is);
+    }
+    refuses_open (session.Open (opening.NotAJob at)) is reads = record {
+      free = λ is_free. absurd (is.not_free is_free);
+      not_job = λ other no. inl (ap (λ (n : ℕ). refused (not_a_job n)) (one_reason a.file at other is no));
+      other_size = λ some unequal. absurd (is.no_job some.job some.board some.algorithm some.is some.whole);
+      stands = λ job c x is_job whole size. absurd (is.no_job job c x is_job whole);
+    }
+    refuses_open (session.Open (opening.CellsDiffer said found)) is reads = record {
+      free = λ is_free. absurd (not_free is.some.job a.file is.some.whole is_free);
+      not_job = λ at no. absurd (no.no_job is.some.job is.some.board is.some.algorithm is.some.is is.some.whole);
+      other_size = λ some unequal.
+          let one = one_job a.file is.some.is some.is is.some.whole some.whole in
+          let said_is : said ≡ some.algorithm.device.size = is.said_is ∙ ap (λ (y : flm.Shown). y.device.size) one.algorithm in
+          let found_is : found ≡ a.cell_count = is.found_is in
+          inl (cc);
+      stands = λ job c x is_job whole size.
+          let one = one_job a.file is.some.is is_job is.some.whole whole in
+          absurd (is.differ (is.said_is ∙ ap (λ (y : flm.Shown). y.device.size) one.algorithm ∙ size ∙ sym is.found_is));
+    }
+    refuses_open session.DeviceFault is reads = record {
+      free = λ is_free. absurd (not_free is.some.job a.file is.some.whole is_free);
+      not_job = λ at no. absurd (no.no_job is.some.job is.some.board is.some.algorithm is.some.is is.some.whole);
+      other_size = λ some unequal.
+          let one = one_job a.file some.is is.some.is some.whole is.some.whole in
+          absurd (unequal (ap (λ (y : flm.Shown). y.device.size) one.algorithm ∙ is.size));
+      stands = λ job c x is_job whole size. (b.cells, no_device tells sinks a b p (work_to goal job c x b.cells) whole same file same (opened (body_of job) pairs) cells);
+    }
+
+-- a survey that could not be made
+pub refuses_survey : (tells sinks : Bool) (a m : BenchState) (p : SinkState) (w : Work) → IsWhole (body w) a.file → SameOutside a.operation a.cells w.surveyed → m.file ≡ a.file
+    → SameOutside a.operation a.cells m.cells → PairsLeave a m (λ f c. Left a f c ⊎ IsWhole (body w) f) → AsEntered a m
+    → (fault : SurveyFault) → Carries (bench_call tells a m) (sink_call sinks p p) (Left a) w (refused (of_survey fault))
+refuses_survey tells sinks a m p w whole surveyed same outside pairs cells survey.OutOfMemory = no_memory tells sinks a m p w whole surveyed same outside pairs cells
+refuses_survey tells sinks a m p w whole surveyed same outside pairs cells survey.DeviceFault = no_device tells sinks a m p w whole surveyed same outside pairs cells
+
+pub survey_stands : (bench : BenchCall) (out : SinkCall) (fault : SurveyFault) → StandsEarly OnlyLooked bench out (refused (of_survey fault))
+survey_stands bench out survey.OutOfMemory = tt
+survey_stands bench out survey.DeviceFault = tt

@@ -1,0 +1,111 @@
+-- What `program`, `resume` and `revert` have in common: a job is carried to its goal.
+use Rattle.std.specs.Prelude.{◌≡◌, ◌⊎◌, ◌≤◌, ◌<◌, ◌++◌, ℕ, List, ◌∷◌, None}
+use Rattle.bench_model.specs.History.{GoesOn}
+use Rattle.bench_model.specs.State.{BenchState, cells_half}
+use Rattle.bench_model.specs.Calls.{SameOutside}
+use Rattle.bench_model.specs.Pairs.{PairsInTurn}
+use Rattle.job_text.specs.Files.{IsFree, IsWhole}
+use Rattle.campaign.specs.Stops.{IsAtClose}
+use Rattle.flash_session.specs.Script.{Broken}
+use Rattle.report_text.specs.End.{end_text}
+use Rattle.report_text.specs.declared.end.End.TheVariants.{Done}
+use Rattle.report_text.specs.Refusal.{out_of_memory, input_fault, store_fault, device_fault, output_fault, call_failed, mismatch}
+use Rattle.command_answers.specs.Call.{BenchCall, SinkCall, TookNothing, TookAll, TookPart, Answer, done, refused}
+use Rattle.command_answers.specs.Answered.{IsUnless}
+use Rattle.job_commands.specs.Work.{Work, body, shown_plan, Ends, Fails, Misses, Breaks, IsOnPath, KeepsDuties, IsOutsidePlanAsSurveyed}
+
+-- Where a call may end, in the order of the work.
+
+-- each cell is as at entry, but in the range of an operation that was open then
+abbrev pub IsAsEntered : BenchCall → List ℕ → Type 0
+IsAsEntered bench cells = SameOutside bench.before.operation bench.before.cells cells
+
+-- the file stands for the job
+abbrev pub HasJob : BenchState → Work → Type 0
+HasJob now w = IsWhole (body w) now.file
+
+-- the line after a job that was closed
+abbrev pub done_text : List ℕ
+done_text = end_text Done
+
+-- Before the plan: the file stands for the job, or it was free and still is.
+pub record EndsBeforePlan (bench : BenchCall) (out : SinkCall) (w : Work) : Type 0 where
+  pub file : HasJob bench.after w ⊎ (IsFree bench.before.file × IsFree bench.after.file)
+  pub cells : IsAsEntered bench bench.after.cells
+  pub prints : TookNothing out
+
+-- For want of memory, before any cell was changed: the file is as at entry, or stands for the job. The plan may be printed.
+pub record EndsWithoutMemory (bench : BenchCall) (out : SinkCall) (w : Work) : Type 0 where
+  pub file : HasJob bench.after w ⊎ (bench.after.file ≡ bench.before.file)
+  pub cells : IsAsEntered bench bench.after.cells
+  pub prints : TookNothing out ⊎ TookAll out (shown_plan w)
+
+-- In the plan's text: a beginning of it went out, and the cells are as surveyed.
+pub record EndsInPlan (bench : BenchCall) (out : SinkCall) (w : Work) : Type 0 where
+  pub job : HasJob bench.after w
+  pub cells : bench.after.cells ≡ w.surveyed
+  pub prints : TookPart out (shown_plan w)
+
+-- In the script or at its end, in this way. The plan was printed.
+pub record EndsInScript (bench : BenchCall) (out : SinkCall) (w : Work) (Way : Type 0) : Type 0 where
+  pub job : HasJob bench.after w
+  pub prints : TookAll out (shown_plan w)
+  pub way : Way
+
+-- the script went to its end, no operation is open, and the cells are the goal
+pub record HasReached (now : BenchState) (w : Work) (broken : Broken) : Type 0 where
+  pub ends : Ends w broken now.cells
+  pub idle : now.operation ≡ None
+  pub goal : now.cells ≡ w.goal
+
+-- In the close: the file stands for the job, or is free.
+pub record EndsInClose (bench : BenchCall) (out : SinkCall) (w : Work) (broken : Broken) : Type 0 where
+  pub file : HasJob bench.after w ⊎ IsFree bench.after.file
+  pub reached : HasReached bench.after w broken
+  pub prints : TookAll out (shown_plan w)
+
+-- After it: the job is closed.
+pub record HasClosed (now : BenchState) (w : Work) (broken : Broken) : Type 0 where
+  pub file : now.file ≡ 0 ∷ body w
+  pub reached : HasReached now w broken
+
+-- When each answer comes, and what stands and was printed then. A file that couldn't be taken comes before all work, as other
+-- clauses say. No answer refuses the job's file.
+abbrev pub Comes : BenchCall → SinkCall → Work → Broken → Answer → Type 0
+Comes bench out w broken done = HasClosed bench.after w broken × TookAll out (shown_plan w ++ done_text)
+Comes bench out w broken (refused out_of_memory) = EndsWithoutMemory bench out w
+Comes bench out w broken (refused (input_fault name)) = Unit {0}
+Comes bench out w broken (refused store_fault) = EndsBeforePlan bench out w ⊎ EndsInClose bench out w broken
+Comes bench out w broken (refused device_fault) = EndsBeforePlan bench out w ⊎ EndsInScript bench out w (Breaks w broken bench.after)
+Comes bench out w broken (refused output_fault) = EndsInPlan bench out w ⊎ (HasClosed bench.after w broken × TookPart out (shown_plan w ++ done_text))
+Comes bench out w broken (refused (call_failed number call end)) = EndsInScript bench out w (Fails w broken number call end bench.after.cells)
+Comes bench out w broken (refused (mismatch at wanted found)) = EndsInScript bench out w (Misses w broken at wanted found bench.after.cells)
+Comes bench out w broken (refused _) = ⊥
+
+-- The cells that a stop leaves have First before the moment of the turn, and Second from it on.
+pub record CellsInTurn (old new : BenchState) (turn : ℕ) (First Second : List ℕ → Type 0) : Type 0 where
+  pub started : old.moment ≤ turn
+  pub goes_on : GoesOn (cells_half old) (cells_half new)
+  pub before : (k : ℕ) (c : List ℕ) → old.moment ≤ k → k ≤ new.moment → k < turn → new.cells_at k c → First c
+  pub from : (k : ℕ) (c : List ℕ) → turn ≤ k → k ≤ new.moment → new.cells_at k c → Second c
+
+-- What a stop leaves, of a job that is carried on from pairs that have First.
+pub record Stops (bench : BenchCall) (First : List ℕ → List ℕ → Type 0) (w : Work) (broken : Broken) : Type 0 where
+  -- before the close the pair is one of First's, or its file is whole; from there on the file is whole or closed, and the cells are the goal
+  pub turn : ℕ
+  pub pairs : PairsInTurn bench.before bench.after turn (λ f c. First f c ⊎ IsWhole (body w) f) (IsAtClose (body w) w.goal)
+  -- up to the end of the survey no cell changes but by the breaking off at entry, and from there on the script alone changes cells
+  pub survey : ℕ
+  pub path : CellsInTurn bench.before bench.after survey (IsAsEntered bench) (IsOnPath w broken)
+  -- with an algorithm that keeps its duties, what lies outside the plan stays as the survey found it
+  pub local : KeepsDuties w → CellsInTurn bench.before bench.after survey (IsAsEntered bench) (IsOutsidePlanAsSurveyed w)
+
+-- What the three commands share, from entry to exit: the cells as surveyed are those of the entry, and with one choice of what
+-- broken-off operations leave, the answer, what it left and each stop's pair are those of the script.
+pub record Carries (bench : BenchCall) (out : SinkCall) (First : List ℕ → List ℕ → Type 0) (w : Work) (answer : Answer) : Type 0 where
+  pub surveyed : IsAsEntered bench w.surveyed
+  pub broken : Broken
+  pub comes : Comes bench out w broken answer
+  pub stops : Stops bench First w broken
+  -- an algorithm that keeps its duties comes to its end, but for want of memory and counted faults
+  pub complete : KeepsDuties w → IsUnless answer done

@@ -1,0 +1,126 @@
+-- What the steps of the work on a job answer.
+use Rattle.std.specs.Prelude.{◌≡◌, ◌≢◌, ◌⊎◌, ◌≤◌, ◌++◌, ◌↔◌, ℕ, Bool, true, false, List, ◌∷◌}
+use Rattle.bench_model.specs.State.{BenchState, cells_half}
+use Rattle.bench_model.specs.History.{Leaves}
+use Rattle.bench_model.specs.Pairs.{PairsInTurn}
+use Rattle.board_file.specs.Shown as board
+use Rattle.flm_descriptor.specs.Shown as flm
+use Rattle.job_text.specs.Files.{IsFree, IsWhole}
+use Rattle.job_text.specs.Body.{Job, IsJob}
+use Rattle.job_text.specs.Stands.{IsSomeJob, IsNotAJob}
+use Rattle.job_text.specs.Parts.{job_of, AreParts}
+use Rattle.job_text.specs.declared.job.Job as code
+use Rattle.job_text.specs.declared.parts.JobParts.{JobParts}
+use Rattle.job_file.specs.declared.fault.OpenFault.TheVariants as opening
+use Rattle.job_file.specs.declared.fault.BeginFault.{BeginFault}
+use Rattle.job_file.specs.declared.fault.BeginFault.TheVariants as beginning
+use Rattle.campaign.specs.Stops.{IsUntouched, IsAtClose}
+use Rattle.flash_session.specs.declared.fault.SessionFault.{SessionFault}
+use Rattle.flash_session.specs.declared.fault.SessionFault.TheVariants as session
+use Rattle.flash_session.specs.declared.fault.SurveyFault.{SurveyFault}
+use Rattle.flash_session.specs.declared.fault.SurveyFault.TheVariants as survey
+use Rattle.flash_session.specs.declared.goal.Goal.{Goal}
+use Rattle.flash_session.specs.declared.goal.Goal.TheVariants.{New}
+use Rattle.flash_session.specs.Script.{Broken}
+use Rattle.report_text.specs.Refusal.{Refusal, out_of_memory, job_open, no_job, not_a_job, cells_differ, store_fault, device_fault, output_fault, call_failed, mismatch}
+use Rattle.command_answers.specs.Call.{BenchCall, SinkCall, TookNothing, TookAll, TookPart, Answer, done, refused}
+use Rattle.command_answers.specs.Answered.{store, device, output, IsCounted, IsUnless, Refuses, OnlyLooked}
+use Rattle.job_commands.specs.Work.{Work, body, Fails, Misses, Breaks, IsOnPath, KeepsDuties, IsOutsidePlanAsSurveyed}
+use Rattle.job_commands.specs.Carry.{HasJob, HasReached, HasClosed, Carries, done_text}
+use Rattle.job_commands.specs.GoOn.{work_to}
+
+-- The faults of the layers below, as refusals of the program.
+
+abbrev pub of_session : SessionFault → Refusal
+of_session session.OutOfMemory = out_of_memory
+of_session (session.Open opening.OutOfMemory) = out_of_memory
+of_session (session.Open opening.NoJob) = no_job
+of_session (session.Open (opening.NotAJob at)) = not_a_job at
+of_session (session.Open opening.StoreFault) = store_fault
+of_session (session.Open (opening.CellsDiffer said found)) = cells_differ said found
+of_session session.DeviceFault = device_fault
+
+abbrev pub of_survey : SurveyFault → Refusal
+of_survey survey.OutOfMemory = out_of_memory
+of_survey survey.DeviceFault = device_fault
+
+abbrev pub of_begin : BeginFault → Refusal
+of_begin beginning.OutOfMemory = out_of_memory
+of_begin beginning.JobOpen = job_open
+of_begin beginning.StoreFault = store_fault
+of_begin beginning.DeviceFault = device_fault
+of_begin (beginning.CellsDiffer said found) = cells_differ said found
+of_begin (beginning.NotAJob at) = not_a_job at
+
+-- Which refusals a step has.
+
+-- those of the script and what follows: none of them refuses the file
+abbrev pub has_script : Refusal → Bool
+has_script out_of_memory = true
+has_script store_fault = true
+has_script device_fault = true
+has_script output_fault = true
+has_script (call_failed number call end) = true
+has_script (mismatch at wanted found) = true
+has_script _ = false
+
+-- those of a job that is begun and carried
+abbrev pub has_begin : Refusal → Bool
+has_begin out_of_memory = true
+has_begin job_open = true
+has_begin (not_a_job at) = true
+has_begin (cells_differ wanted found) = true
+has_begin store_fault = true
+has_begin device_fault = true
+has_begin output_fault = true
+has_begin (call_failed number call end) = true
+has_begin (mismatch at wanted found) = true
+has_begin _ = false
+
+-- After a job was begun, a file that is free isn't that job any more. No bench that tells its contents comes to it.
+abbrev pub begun : Answer → Answer
+begun (refused no_job) = refused (not_a_job 0)
+begun answer = answer
+
+-- the counts, but for that of the inputs
+pub record BenchCounted (bench : BenchCall) (out : SinkCall) (answer : Answer) : Type 0 where
+  pub store_count : IsCounted bench.before.store_faults bench.after.store_faults store answer
+  pub device_count : IsCounted bench.before.device_faults bench.after.device_faults device answer
+  pub out_count : IsCounted out.before.faults out.after.faults output answer
+
+-- The work of a session.
+
+-- the work on the job of a session, of which this is the text
+abbrev pub session_work : Goal → code.Job → Job → List ℕ → Work
+session_work goal j text cells = work_to goal text (board.shown j.board) (flm.shown j.algorithm) cells
+
+-- From the script on, where the plan is printed: when each answer comes.
+abbrev pub FinishComes : BenchCall → SinkCall → Work → Broken → Answer → Type 0
+FinishComes bench out w broken done = HasClosed bench.after w broken × TookAll out done_text
+FinishComes bench out w broken (refused out_of_memory) = HasJob bench.after w × (bench.after.cells ≡ w.surveyed) × TookNothing out
+FinishComes bench out w broken (refused store_fault) = (HasJob bench.after w ⊎ IsFree bench.after.file) × HasReached bench.after w broken × TookNothing out
+FinishComes bench out w broken (refused device_fault) = HasJob bench.after w × Breaks w broken bench.after × TookNothing out
+FinishComes bench out w broken (refused output_fault) = HasClosed bench.after w broken × TookPart out done_text
+FinishComes bench out w broken (refused (call_failed number call end)) = HasJob bench.after w × Fails w broken number call end bench.after.cells × TookNothing out
+FinishComes bench out w broken (refused (mismatch at wanted found)) = HasJob bench.after w × Misses w broken at wanted found bench.after.cells × TookNothing out
+FinishComes bench out w broken (refused _) = ⊥
+
+pub record Finishes (bench : BenchCall) (out : SinkCall) (w : Work) (answer : Answer) : Type 0 where
+  pub broken : Broken
+  pub comes : FinishComes bench out w broken answer
+  pub turn : ℕ
+  pub pairs : PairsInTurn bench.before bench.after turn (λ f c. IsWhole (body w) f) (IsAtClose (body w) w.goal)
+  pub files_past : (k : ℕ) (f : List ℕ) → k ≤ bench.before.moment → bench.after.files_at k f ↔ bench.before.files_at k f
+  pub path : Leaves (cells_half bench.before) (cells_half bench.after) (IsOnPath w broken)
+  pub local : KeepsDuties w → Leaves (cells_half bench.before) (cells_half bench.after) (IsOutsidePlanAsSurveyed w)
+  pub complete : KeepsDuties w → IsUnless answer done
+
+-- A job of these parts is begun, and carried to its image: by what the file is.
+pub record BeginsParts (bench : BenchCall) (out : SinkCall) (parts : JobParts) (answer : Answer) : Type 0 where
+  pub some_job : IsSomeJob bench.before.file → Refuses (OnlyLooked bench out) answer job_open
+  pub not_job : (at : ℕ) → IsNotAJob at bench.before.file → Refuses (OnlyLooked bench out) answer (not_a_job at)
+  pub other_size : IsFree bench.before.file → parts.size ≢ bench.before.cell_count
+      → Refuses (OnlyLooked bench out) answer (cells_differ parts.size bench.before.cell_count)
+  pub begins : (are : AreParts parts) → IsFree bench.before.file → parts.size ≡ bench.before.cell_count
+      → (snapshot : List ℕ) × IsJob (job_of parts snapshot) are.board are.algorithm
+      × Carries bench out (IsUntouched bench.before) (work_to New (job_of parts snapshot) are.board are.algorithm snapshot) answer

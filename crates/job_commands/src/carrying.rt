@@ -1,0 +1,92 @@
+//! A job is carried to its goal.
+ghost use Rattle.std.specs.Prelude.{◌≡◌, drop, IsTrue, IsSome, IsSomeAnd, None};
+ghost use Rattle.bench_model.specs.History.{GoesOn, LeftOnly};
+ghost use Rattle.bench_model.specs.State.{file_half};
+ghost use Rattle.job_text.specs.Files.{IsWhole};
+ghost use Rattle.job_text.specs.Stands.{StandsFor};
+ghost use Rattle.flash_session.specs.declared.goal.Goal as goals;
+ghost use Rattle.flash_session.specs.Sessions.{job_in, surveyed};
+ghost use Rattle.flash_session.specs.Surveys.{HasSurveyed};
+ghost use Rattle.command_answers.specs.Answered.{has_resume, IsOf, OnlyLooked, StandsEarly};
+ghost use Rattle.command_answers.specs.Call.{bench_call, sink_call};
+ghost use Rattle.command_answers.specs.Shown.{answer_of};
+ghost use Rattle.job_commands.specs.GoOn.{GoesOnFrom};
+ghost use Rattle.job_commands.specs.Steps.{has_script, BenchCounted, session_work, Finishes};
+
+use crate::refusals::{session_refusal, survey_refusal};
+use bench_model::Bench;
+use flash_session::{Goal, Session, SessionEnd};
+use outside_io::Sink;
+use report_text::{End, Refusal, put_end, put_plan};
+use std::alloc::Global;
+
+/// Plays the script of the last survey, and closes the job where the goal is reached.
+fn finish<'a, B: Bench, O: Sink>(
+    alloc: Global,
+    session: &mut Session,
+    bench: &mut B,
+    out: &mut O,
+) -> Result<(), Refusal<'a>>
+    requires surveyed { IsSome (surveyed session.old) }
+    requires count { (B.state bench.old).cell_count ≡ (job_in session.old).algorithm.device.size }
+    requires idle { IsTrue B.tells → (B.state bench.old).operation ≡ None }
+    requires whole { IsTrue B.tells → IsWhole (drop 1 (B.state bench.old).file) (B.state bench.old).file }
+    requires only { IsTrue B.tells → LeftOnly (B.state bench.old).file (file_half (B.state bench.old)) }
+    ensures told { IsTrue B.tells → (goal : goals.Goal) (stands : StandsFor (job_in session.old) (B.state bench.old).file)
+        → IsSomeAnd (surveyed session.old) (λ w. HasSurveyed B.tells (job_in session.old) goal (B.state bench.old).cells w)
+        → Finishes (bench_call B.tells (B.state bench.old) (B.state bench.new)) (sink_call O.tells (O.state out.old) (O.state out.new))
+        (session_work goal (job_in session.old) stands.text (B.state bench.old).cells) (answer_of result) }
+    ensures kind { IsOf has_script (answer_of result) }
+    ensures goes_on { IsTrue B.tells → GoesOn (file_half (B.state bench.old)) (file_half (B.state bench.new)) }
+    ensures counts { BenchCounted (bench_call B.tells (B.state bench.old) (B.state bench.new)) (sink_call O.tells (O.state out.old) (O.state out.new)) (answer_of result) }
+{
+    match session.go(alloc, bench) {
+        SessionEnd::Reached(reached) => match reached.close(session, bench) {
+            Ok(()) => match put_end(out, End::Done) {
+                Ok(()) => Ok(()),
+                Err(_) => Err(Refusal::OutputFault),
+            },
+            Err(_) => Err(Refusal::StoreFault),
+        },
+        SessionEnd::Mismatch(difference) => Err(Refusal::Mismatch {
+            at: session.job().algorithm.device.base + difference.at,
+            wanted: difference.want,
+            found: difference.got,
+        }),
+        SessionEnd::CallFailed { number, call, end } => {
+            Err(Refusal::CallFailed { number, call, end })
+        }
+        SessionEnd::DeviceFault => Err(Refusal::DeviceFault),
+        SessionEnd::OutOfMemory => Err(Refusal::OutOfMemory),
+    }
+}
+
+/// Opens the job of the file, surveys the cells, prints the plan to the goal, and goes on to the end.
+pub(crate) fn carry<'a, B: Bench, O: Sink>(
+    alloc: Global,
+    goal: Goal,
+    bench: &mut B,
+    out: &mut O,
+) -> Result<(), Refusal<'a>>
+    ensures told { IsTrue B.tells → GoesOnFrom goal (bench_call B.tells (B.state bench.old) (B.state bench.new))
+        (sink_call O.tells (O.state out.old) (O.state out.new)) (answer_of result) }
+    ensures early { StandsEarly OnlyLooked (bench_call B.tells (B.state bench.old) (B.state bench.new)) (sink_call O.tells (O.state out.old) (O.state out.new)) (answer_of result) }
+    ensures kind { IsOf has_resume (answer_of result) }
+    ensures goes_on { IsTrue B.tells → GoesOn (file_half (B.state bench.old)) (file_half (B.state bench.new)) }
+    ensures counts { BenchCounted (bench_call B.tells (B.state bench.old) (B.state bench.new)) (sink_call O.tells (O.state out.old) (O.state out.new)) (answer_of result) }
+{
+    let mut session = match Session::open(alloc, bench) {
+        Ok(session) => session,
+        Err(fault) => return Err(session_refusal(fault)),
+    };
+    match session.survey(alloc, bench, goal) {
+        Ok(()) => {}
+        Err(fault) => return Err(survey_refusal(fault)),
+    }
+    let base = session.job().algorithm.device.base;
+    match put_plan(out, session.geometry(), base, session.plan()) {
+        Ok(()) => {}
+        Err(_) => return Err(Refusal::OutputFault),
+    }
+    finish(alloc, &mut session, bench, out)
+}
