@@ -24,7 +24,11 @@ pub fn run(rt: &HostRuntime, setup: &Setup, line: &str) -> Result<()> {
     let mut outside = outside_of(rt.alloc(), setup)?;
     let status = answer(rt.alloc(), &words, &mut outside);
     print_streams(rt, &outside)?;
-    print_end(rt, status, outside.bench.cells() == setup.cells.as_slice())
+    print_end(rt, status, outside.bench.cells() == setup.cells.as_slice())?;
+    if outside.bench.file() != setup.job.as_slice() {
+        println!(rt; "another job file")?;
+    }
+    Ok(())
 }
 
 /// The words of a line.

@@ -2,11 +2,11 @@
 //! these, with numbers in decimal digits and bytes in pairs of hexadecimal ones:
 //!
 //! - `file NAME PATH`, `text NAME LINE|LINE..`, `bytes NAME BYTES` or `empty NAME`: what stands under a name; `patch NAME AT BYTES`
-//!   changes it;
+//!   changes it, and `job NAME` makes it the job file, which is empty else;
 //! - `cells COUNT VALUE`: so many cells of one byte; `count AT LEN` sets each of a range to its place modulo 256, `set AT BYTES` to
 //!   these; `open AT LEN` opens an operation there before the call;
-//! - `fail take N`, `fail cells N`, `fail put N` or `fail line N`: the take of an input, the call on the cells, or the put on standard
-//!   output or on standard error of this number fails.
+//! - `fail take N`, `fail file N`, `fail cells N`, `fail put N` or `fail line N`: the take of an input, the call on the job file or on
+//!   the cells, or the put on standard output or on standard error of this number fails.
 
 use crate::call::run;
 use crate::setup::{Setup, bytes_of};
@@ -34,6 +34,7 @@ fn change(rt: &HostRuntime, setup: &mut Setup, line: &str) -> Result<()> {
     let words = line.splitn(3, ' ').collect::<Vec<&str>>(rt.alloc())?;
     match words.as_slice() {
         ["empty", name] => setup.give(rt.alloc(), name, Vec::new(rt.alloc())),
+        ["job", name] => setup.begin_with(rt.alloc(), name),
         [what, first, second] => {
             if !change_files(rt, setup, what, first, second)? {
                 change_calls(rt, setup, what, first, second)?;

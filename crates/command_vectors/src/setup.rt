@@ -13,14 +13,16 @@ struct Given {
     bytes: Vec<u8>,
 }
 
-/// The files, the cells with the operation that is open on them, and by their numbers from 1 the takes, cell calls, and puts on
-/// standard output and on standard error that are to fail.
+/// The files, the job file, the cells with the operation that is open on them, and by their numbers from 1 the takes, calls on the
+/// job file and on the cells, and puts on standard output and on standard error that are to fail.
 #[derive(Drop)]
 pub struct Setup {
     files: Vec<Given>,
+    pub job: Vec<u8>,
     pub cells: Vec<u8>,
     pub open: Option<(u32, u32)>,
     takes: [u64; 1],
+    stores: [u64; 1],
     calls: [u64; 1],
     pub puts: [u64; 1],
     pub lines: [u64; 1],
@@ -33,24 +35,28 @@ const CELLS: usize = 1024;
 const MOST: usize = 65_536;
 
 impl Setup {
-    /// Blank cells, and no file.
+    /// Blank cells, an empty job file, and no other file.
     pub fn new(alloc: Global) -> Result<Setup> {
         Ok(Setup {
             files: Vec::new(alloc),
+            job: Vec::new(alloc),
             cells: vec![in alloc; 0xFF; CELLS]?,
             open: None,
             takes: [0],
+            stores: [0],
             calls: [0],
             puts: [0],
             lines: [0],
         })
     }
 
-    /// Begins a row: the files stay.
+    /// Begins a row: the files stay, but for the job file.
     pub fn begin(&mut self, alloc: Global) -> Result<()> {
+        self.job = Vec::new(alloc);
         self.cells = vec![in alloc; 0xFF; CELLS]?;
         self.open = None;
         self.takes = [0];
+        self.stores = [0];
         self.calls = [0];
         self.puts = [0];
         self.lines = [0];
@@ -71,6 +77,15 @@ impl Setup {
                 lay(&mut file.bytes, at, bytes);
             }
         }
+    }
+
+    /// Makes what stands under a name the job file.
+    pub fn begin_with(&mut self, alloc: Global, name: &str) -> Result<()> {
+        let Some(file) = self.files.iter().find(|file| file.name.text() == name) else {
+            bail!("{name}: no such file");
+        };
+        self.job = Vec::from_slice(alloc, &file.bytes)?;
+        Ok(())
     }
 
     /// So many cells of one byte.
@@ -98,6 +113,7 @@ impl Setup {
     pub fn fail(&mut self, what: &str, number: u64) -> Result<()> {
         match what {
             "take" => self.takes = [number],
+            "file" => self.stores = [number],
             "cells" => self.calls = [number],
             "put" => self.puts = [number],
             "line" => self.lines = [number],
@@ -109,7 +125,16 @@ impl Setup {
     /// The bench, with the operation open. What is broken off leaves 5A.
     pub fn bench(&self, alloc: Global) -> Result<MemoryBench> {
         let cells = &self.cells[..self.cells.len().min(MOST)];
-        let mut bench = MemoryBench::new(alloc, cells, &[], 0, 64, &[], &self.calls, &[0x5A])?;
+        let mut bench = MemoryBench::new(
+            alloc,
+            cells,
+            &self.job[..self.job.len().min(MOST)],
+            0,
+            64,
+            &self.stores,
+            &self.calls,
+            &[0x5A],
+        )?;
         if let Some((at, len)) = self.open {
             let end = u64::from(at) + u64::from(len);
             if len == 0

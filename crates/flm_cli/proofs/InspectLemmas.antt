@@ -9,10 +9,10 @@ use Rattle.report_text.specs.Inspection.{inspection_text}
 use Rattle.report_text.specs.Refusal.{Refusal, out_of_memory, input_fault, flm_refused, output_fault}
 use Rattle.command_files.specs.Inputs.{InputsCall, IsFile}
 use Rattle.command_files.specs.Steps.{IsTakeFault}
-use Rattle.flm_cli.specs.Call.{BenchCall, SinkCall, Answer, done, refused, bench_call, sink_call, TookAll, TookPart}
-use Rattle.flm_cli.specs.Answered.{input, store, device, output, has_inspect, yields, DidNothing}
+use Rattle.command_answers.specs.Call.{BenchCall, SinkCall, Answer, done, refused, bench_call, sink_call, TookAll, TookPart}
+use Rattle.command_answers.specs.Answered.{input, store, device, output, has_inspect, yields, DidNothing}
 use Rattle.flm_cli.specs.Inspect.{IsDueForFlm, InspectEnds}
-use Rattle.flm_cli.proofs.AnswerLemmas.{did_nothing, untouched_here, plain_lawful, untaken_lawful, unraised, one_file}
+use Rattle.command_answers.proofs.AnswerLemmas.{did_nothing, untouched_here, plain_lawful, untaken_lawful, unraised, one_file}
 
 due_yielding : (bench : BenchCall) (out : SinkCall) (answer : Answer) (bytes : List ℕ) → yields answer ≡ true → DidNothing bench out → IsDueForFlm bench out answer bytes
 due_yielding bench out answer bytes yields did = record { inspected = λ algorithm is. inr yields; refuses = λ fault is. inr (yields, did) }
@@ -20,13 +20,13 @@ due_yielding bench out answer bytes yields did = record { inspected = λ algorit
 module _ (tells told : Bool) (b : BenchState) (o : SinkState) (inputs : InputsCall) (flm : List ℕ) where
   pub ends_untaken : (r : Refusal) → IsTakeFault inputs (flm ∷ []) r → InspectEnds flm (bench_call tells b b) inputs (sink_call told o o) (refused r)
   ends_untaken out_of_memory is = record {
-    lawful = untaken_lawful tells told b o inputs has_inspect (flm ∷ []) out_of_memory refl (λ name. refl) is;
+    lawful = untaken_lawful tells told b o inputs DidNothing has_inspect (flm ∷ []) out_of_memory (did_nothing tells told b o) refl (λ name. refl) is;
     untouched = untouched_here tells b;
     comes = record { taken = refl; faults = refl };
     due = λ bytes tells' stands. due_yielding _ _ (refused out_of_memory) bytes refl (did_nothing tells told b o);
   }
   ends_untaken (input_fault name) is = record {
-    lawful = untaken_lawful tells told b o inputs has_inspect (flm ∷ []) (input_fault name) refl (λ name. refl) is;
+    lawful = untaken_lawful tells told b o inputs DidNothing has_inspect (flm ∷ []) (input_fault name) (did_nothing tells told b o) refl (λ name. refl) is;
     untouched = untouched_here tells b;
     comes = record { taken = refl; faults = refl };
     due = λ bytes tells' stands. due_yielding _ _ (refused (input_fault name)) bytes refl (did_nothing tells told b o);
@@ -39,7 +39,7 @@ module _ (tells told : Bool) (b : BenchState) (o : SinkState) (inputs : InputsCa
   module _ (bytes : List ℕ) (file : IsFile inputs flm bytes) (same : inputs.after.faults ≡ inputs.before.faults) where
     pub ends_refused : (fault : FlmFault) → flm_of bytes ≡ Err fault → InspectEnds flm (bench_call tells b b) inputs (sink_call told o o) (refused (flm_refused fault))
     ends_refused fault is = record {
-      lawful = plain_lawful tells told b o inputs has_inspect (flm ∷ []) (flm_refused fault) refl same refl;
+      lawful = plain_lawful tells told b o inputs DidNothing has_inspect (flm ∷ []) (flm_refused fault) (did_nothing tells told b o) refl same refl;
       untouched = untouched_here tells b;
       comes = (record { bytes = bytes; file = file; refuses = is }, record { taken = refl; faults = refl });
       due = λ other tells' stands.

@@ -1,9 +1,10 @@
-pub mod AnswerLemmas
 pub mod CompareLemmas
 pub mod ComparisonLemmas
+pub mod FoundLemmas
 pub mod InspectLemmas
 pub mod LooksLemmas
 pub mod PlanLemmas
-pub mod ReadingLemmas
+pub mod TopLemmas
 pub mod UnlikeLemmas
 pub mod VerifyLemmas
+pub mod LawLemmas

@@ -11,7 +11,7 @@ use Rattle.byte_map.specs.Image.{Run}
 use Rattle.readback.specs.Difference.{IsFirstDifference}
 use Rattle.readback.specs.Readback.{OnlyReadsCells, Finds}
 use Rattle.readback.specs.declared.compare.Difference.{Difference}
-use Rattle.flm_cli.specs.Call.{bench_call}
+use Rattle.command_answers.specs.Call.{bench_call}
 use Rattle.flm_cli.specs.Comparison.{IsBrokenOff}
 use Rattle.flm_cli.specs.Compare.{CellsAre, DiffersFrom}
 use Rattle.flm_cli.specs.Verify.{CellsAgree, CellsAgreeBelow, AgreesWith, DiffersAt}

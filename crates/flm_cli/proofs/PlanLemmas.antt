@@ -19,13 +19,15 @@ use Rattle.command_files.specs.Inputs.{InputsCall, FilesGiven, AreFiles}
 use Rattle.command_files.specs.Files.{Aim, IsRefused}
 use Rattle.command_files.specs.Steps.{IsTakeFault, IsFilesRefusal, TookFiles, task_aim, IsTask}
 use Rattle.command_files.specs.declared.task.Task.{Task}
-use Rattle.flm_cli.specs.Call.{BenchCall, SinkCall, Answer, done, refused, bench_call, sink_call}
-use Rattle.flm_cli.specs.Answered.{input, store, device, output, fault_in, has_plan, yields, IsUnless, StandsEarly, IsOf, EndsLawfully}
-use Rattle.flm_cli.specs.Reading.{ShowsFiles}
-use Rattle.flm_cli.specs.Plan.{layout_of, plan_for, text_for, text_of, PrintsText, PrintsNothing, PlanLeaves, IsPlanned, ShowsPlan, IsDueForPlan, PlanEnds}
+use Rattle.command_answers.specs.Call.{BenchCall, SinkCall, Answer, done, refused, bench_call, sink_call}
+use Rattle.command_answers.specs.Answered.{input, store, device, output, fault_in, has_plan, yields, IsUnless, DidNothing, StandsEarly, IsOf, EndsLawfully}
+use Rattle.command_answers.specs.Reading.{ShowsFiles}
+use Rattle.job_commands.specs.Work.{layout_of}
+use Rattle.flm_cli.specs.Plan.{plan_for, text_for, text_of, PrintsText, PrintsNothing, PlanLeaves, IsPlanned, ShowsPlan, IsDueForPlan, PlanEnds}
 use Rattle.flm_cli.specs.Steps.{LooksAtCells, IsPrinted, Printed, PlansCells}
-use Rattle.flm_cli.proofs.ReadingLemmas.{answers_yielding, answers_refused, answers_worked}
-use Rattle.flm_cli.proofs.AnswerLemmas.{unraised, never_store, did_nothing, plain_lawful, untaken_lawful, is_early}
+use Rattle.command_answers.proofs.ReadingLemmas.{answers_yielding, answers_refused, answers_worked}
+use Rattle.command_answers.proofs.AnswerLemmas.{unraised, never_store, did_nothing, plain_lawful, untaken_lawful}
+use Rattle.flm_cli.proofs.FoundLemmas.{is_early}
 
 -- The work on the cells.
 
@@ -43,16 +45,16 @@ module _ (bench : BenchCall) (out : SinkCall) (text : List ℕ → List ℕ) whe
       (λ is. let same : output ≡ input = cc in cc) answer printed
 
   planned_lawful : (inputs : InputsCall) (names : List (List ℕ)) (answer : Answer) → inputs.after.faults ≡ inputs.before.faults
-      → PlansCells bench out text answer → EndsLawfully bench inputs out has_plan names answer
+      → PlansCells bench out text answer → EndsLawfully DidNothing bench inputs out has_plan names answer
   planned_lawful inputs names answer same plans = record {
     kind = plan_cases (λ a. IsOf has_plan a) tt refl refl refl answer plans.printed;
     counts = record {
       inputs_count = unraised inputs.before.faults inputs.after.faults input answer same (never_input answer plans.printed);
-      store_count = unraised bench.before.store_faults bench.after.store_faults store answer plans.leaves.file.faults (never_store answer);
+      store_count = unraised bench.before.store_faults bench.after.store_faults store answer plans.leaves.file.faults (never_store has_plan refl answer (plan_cases (λ a. IsOf has_plan a) tt refl refl refl answer plans.printed));
       device_count = plans.device_count;
       out_count = plans.out_count;
     };
-    stands = plan_cases (λ a. StandsEarly bench out a) tt tt tt tt answer plans.printed;
+    stands = plan_cases (λ a. StandsEarly DidNothing bench out a) tt tt tt tt answer plans.printed;
     untaken = λ name is. absurd (never_input answer plans.printed (ap fault_in is));
   }
 
@@ -182,13 +184,13 @@ module _ (tells told : Bool) (b : BenchState) (o : SinkState) (inputs : InputsCa
 
   ends_untaken : (r : Refusal) → IsTakeFault inputs (names_in asked) r → Ends r
   ends_untaken out_of_memory is = record {
-    lawful = untaken_lawful tells told b o inputs has_plan (names_in asked) out_of_memory refl (λ name. refl) is;
+    lawful = untaken_lawful tells told b o inputs DidNothing has_plan (names_in asked) out_of_memory (did_nothing tells told b o) refl (λ name. refl) is;
     leaves = leaves out_of_memory refl;
     files = answers_yielding Bench inputs Out asked (Holds out_of_memory) (Goes out_of_memory) (refused out_of_memory) refl (did_nothing tells told b o)
         (due_yielding out_of_memory refl refl) tt;
   }
   ends_untaken (input_fault name) is = record {
-    lawful = untaken_lawful tells told b o inputs has_plan (names_in asked) (input_fault name) refl (λ name. refl) is;
+    lawful = untaken_lawful tells told b o inputs DidNothing has_plan (names_in asked) (input_fault name) (did_nothing tells told b o) refl (λ name. refl) is;
     leaves = leaves (input_fault name) refl;
     files = answers_yielding Bench inputs Out asked (Holds (input_fault name)) (Goes (input_fault name)) (refused (input_fault name)) refl
         (did_nothing tells told b o) (due_yielding (input_fault name) refl refl) tt;
@@ -200,7 +202,7 @@ module _ (tells told : Bool) (b : BenchState) (o : SinkState) (inputs : InputsCa
     ends_refused : (r : Refusal) → has_plan r ≡ true → is_early r ≡ true → fault_in (refused r) ≡ None → IsRefused asked files r
         → ShowsFiles inputs asked (Holds r) (refused r) → Ends r
     ends_refused r has early no_fault is shows = record {
-      lawful = plain_lawful tells told b o inputs has_plan (names_in asked) r has same no_fault;
+      lawful = plain_lawful tells told b o inputs DidNothing has_plan (names_in asked) r (did_nothing tells told b o) has same no_fault;
       leaves = leaves r early;
       files = answers_refused Bench inputs Out asked (Holds r) (Goes r) r files are is shows;
     }
@@ -227,7 +229,7 @@ module _ (tells told : Bool) (b : BenchState) (o : SinkState) (inputs : InputsCa
         let r = cells_differ task.device.size b.cell_count in
         let aim = task_aim task is.region in
         record {
-          lawful = plain_lawful tells told b o inputs has_plan (names_in asked) r refl same refl;
+          lawful = plain_lawful tells told b o inputs DidNothing has_plan (names_in asked) r (did_nothing tells told b o) refl same refl;
           leaves = leaves r refl;
           files = answers_worked Bench inputs Out asked (Holds r) (Goes r) (refused r) files aim are is.is_aim
               (record {

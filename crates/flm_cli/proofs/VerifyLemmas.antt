@@ -1,14 +1,11 @@
 -- From the steps of `verify` to its end.
-use Rattle.std.proofs.Common.{◌≡◌, ◌≢◌, ◌<◌, ◌≤◌, ◌+◌, ◌-◌, ◌^◌, ◌∙◌, ⊎_elim, sym, ap, subst, refl, arith, inl, inr, ℕ, Bool, true, IsTrue, IsSome, List, [], ◌∷◌, length, slice_index, option_to_list, Option, Some, None, Ok, Err}
+use Rattle.std.proofs.Common.{◌≡◌, ◌≢◌, ◌<◌, ◌≤◌, ◌+◌, ◌^◌, ◌∙◌, ⊎_elim, sym, ap, subst, refl, arith, inl, inr, ℕ, Bool, true, IsTrue, List, length, slice_index, option_to_list, Option, Some, None, Ok, Err}
 use Rattle.std.proofs.lemmas.Bool.{cases_lt}
-use Rattle.std.proofs.lemmas.Bool.Decides.{nat_tests}
 use Rattle.bench_model.specs.State.{BenchState}
 use Rattle.outside_io.specs.State.{SinkState}
-use Rattle.byte_map.specs.Image.{Run, run_at, end_of, byte_of, byte_at, AreMaximal}
-use Rattle.byte_map.proofs.Runs.{each_run, found_in, holds_between}
+use Rattle.byte_map.specs.Image.{Run, run_at, end_of, AreMaximal}
 use Rattle.flm_descriptor.specs.Shown as flm
 use Rattle.flm_descriptor.specs.declared.fault.FlmFault.{FlmFault}
-use Rattle.image_set.specs.Ranges.{is_inside}
 use Rattle.report_text.specs.Refusal.{Refusal, out_of_memory, input_fault, flm_refused, other_device, no_room, board_refused, image_refused, image_misplaced, cells_differ, device_fault, output_fault, differs}
 use Rattle.command_words.specs.Files.{FilesAsked, names_in}
 use Rattle.command_files.specs.Inputs.{InputsCall, FilesGiven, AreFiles}
@@ -17,15 +14,17 @@ use Rattle.command_files.specs.Steps.{IsTakeFault, IsWanted, IsFilesRefusal, aim
 use Rattle.command_files.specs.declared.wanted.Wanted.{Wanted}
 use Rattle.image_set.proofs.UnionLemmas.{below_end}
 use Rattle.command_files.proofs.ImageLemmas.{maximal_union}
-use Rattle.flm_cli.specs.Call.{BenchCall, SinkCall, Answer, done, refused, bench_call, sink_call}
-use Rattle.flm_cli.specs.Answered.{has_verify, yields, DidNothing, IsOf}
+use Rattle.command_answers.specs.Call.{BenchCall, SinkCall, Answer, done, refused, bench_call, sink_call}
+use Rattle.command_answers.specs.Answered.{has_verify, yields, DidNothing, IsOf}
 use Rattle.flm_cli.specs.Comparison as comparison
 use Rattle.flm_cli.specs.Comparison.{Compares}
-use Rattle.flm_cli.specs.Reading.{ShowsFiles, AnswersFiles}
+use Rattle.command_answers.specs.Reading.{ShowsFiles, AnswersFiles}
 use Rattle.flm_cli.specs.Steps.{FitsCells}
 use Rattle.flm_cli.specs.Verify.{wanted_at, CellsAgree, IsLeastDifference, DiffersAt, AgreesWith, IsComparedWithImage, Shows, IsDueForImage, VerifyEnds}
-use Rattle.flm_cli.proofs.ReadingLemmas.{answers_yielding, answers_refused, answers_worked}
-use Rattle.flm_cli.proofs.AnswerLemmas.{did_nothing, plain_lawful, untaken_lawful, leaves_early, found_cases, compared_lawful, is_due, due_yielding}
+use Rattle.command_answers.proofs.ReadingLemmas.{answers_yielding, answers_refused, answers_worked}
+use Rattle.command_answers.proofs.AnswerLemmas.{did_nothing, plain_lawful, untaken_lawful}
+use Rattle.job_commands.proofs.RegionLemmas.{each_inside}
+use Rattle.flm_cli.proofs.FoundLemmas.{leaves_early, found_cases, compared_lawful, is_due, due_yielding}
 
 -- The cells and an image.
 
@@ -64,13 +63,6 @@ module _ (bench : BenchCall) (base : ℕ) (image : List Run) where
 
 -- There is a cell for each address of an image in the region.
 
-in_range : (base size a : ℕ) → IsTrue (is_inside ((base, size) ∷ []) a) → (base ≤ a) × (a < base + size)
-in_range base size a inside = (grind (arith, nat_tests), grind (arith, nat_tests))
-
-is_held : (o : Option ℕ) (byte : ℕ) → o ≡ Some byte → IsSome o
-is_held None byte is = absurd (cc)
-is_held (Some x) byte is = refl
-
 maximal_image : (raw_at : Option ℕ) (files : FilesGiven) (wanted : Wanted) → IsWanted raw_at files wanted → AreMaximal 0 (2 ^ 32) wanted.image
 maximal_image raw_at files wanted is = maximal_union raw_at files.images (length files.images) wanted.image is.is_aim.are_read.union
 
@@ -80,25 +72,9 @@ fits_cells raw_at files wanted cells is size = record {
   low = λ k less. omega (arith, is.base_is, (ends k less).0);
   high = λ k less. omega (arith, is.base_is, is.size_is, size, (ends k less).1);
 } where
-  image : List Run
-  image = wanted.image
-
-  maximal : AreMaximal 0 (2 ^ 32) wanted.image
-  maximal = maximal_image raw_at files wanted is
-
-  inside : (k a : ℕ) → k < length wanted.image → (run_at wanted.image k).at ≤ a → a < end_of (run_at wanted.image k)
-      → (is.region.base ≤ a) × (a < is.region.base + is.region.size)
-  inside k a less from to = in_range is.region.base is.region.size a (is.is_aim.inside.inside a
-      (is_held (byte_at wanted.image a) (byte_of (run_at wanted.image k) a)
-      (found_in 0 (2 ^ 32) wanted.image k a maximal less (holds_between (run_at wanted.image k) a from to))))
-
   ends : (k : ℕ) → k < length wanted.image
       → (is.region.base ≤ (run_at wanted.image k).at) × (end_of (run_at wanted.image k) ≤ is.region.base + is.region.size)
-  ends k less =
-      let run = each_run 0 (2 ^ 32) wanted.image k maximal less in
-      let first = inside k (run_at wanted.image k).at less (omega arith) (omega (arith, run.1)) in
-      let last = inside k (end_of (run_at wanted.image k) - 1) less (omega (arith, run.1)) (omega (arith, run.1)) in
-      (first.0, omega (arith, last.1, run.1))
+  ends = each_inside wanted.image is.region.base is.region.size (maximal_image raw_at files wanted is) is.is_aim.inside
 
 -- an address at which the image has a byte is a word
 pub address_fits : (raw_at : Option ℕ) (files : FilesGiven) (wanted : Wanted) (bench : BenchCall) (at byte found : ℕ) → IsWanted raw_at files wanted
@@ -164,13 +140,13 @@ module _ (tells told : Bool) (b : BenchState) (o : SinkState) (inputs : InputsCa
 
   pub ends_untaken : (r : Refusal) → IsTakeFault inputs (names_in asked) r → Ends r
   ends_untaken out_of_memory is = record {
-    lawful = untaken_lawful tells told b o inputs has_verify (names_in asked) out_of_memory refl (λ name. refl) is;
-    leaves = leaves_early tells told b o inputs out_of_memory refl;
+    lawful = untaken_lawful tells told b o inputs DidNothing has_verify (names_in asked) out_of_memory (did_nothing tells told b o) refl (λ name. refl) is;
+    leaves = leaves_early tells told b o out_of_memory refl;
     files = files_yielding (bench_call tells b b) inputs (sink_call told o o) asked (refused out_of_memory) refl (did_nothing tells told b o) refl tt;
   }
   ends_untaken (input_fault name) is = record {
-    lawful = untaken_lawful tells told b o inputs has_verify (names_in asked) (input_fault name) refl (λ name. refl) is;
-    leaves = leaves_early tells told b o inputs (input_fault name) refl;
+    lawful = untaken_lawful tells told b o inputs DidNothing has_verify (names_in asked) (input_fault name) (did_nothing tells told b o) refl (λ name. refl) is;
+    leaves = leaves_early tells told b o (input_fault name) refl;
     files = files_yielding (bench_call tells b b) inputs (sink_call told o o) asked (refused (input_fault name)) refl (did_nothing tells told b o) refl tt;
   }
   ends_untaken r is = absurd is
@@ -179,21 +155,21 @@ module _ (tells told : Bool) (b : BenchState) (o : SinkState) (inputs : InputsCa
     pub ends_unread : (r : Refusal) → IsFilesRefusal asked files r → Ends r
     ends_unread out_of_memory is = ends_untaken out_of_memory same
     ends_unread (board_refused fault) is = record {
-      lawful = plain_lawful tells told b o inputs has_verify (names_in asked) (board_refused fault) refl same refl;
-      leaves = leaves_early tells told b o inputs (board_refused fault) refl;
+      lawful = plain_lawful tells told b o inputs DidNothing has_verify (names_in asked) (board_refused fault) (did_nothing tells told b o) refl same refl;
+      leaves = leaves_early tells told b o (board_refused fault) refl;
       files = files_refused _ inputs _ asked (board_refused fault) files are is (record { files = files; are_files = are; holds = is });
     }
     ends_unread (flm_refused fault) is = absurd (no_flm_refused files.flm fault (no_flm inputs asked files none are) is.1)
     ends_unread (other_device base size) is = absurd (no_flm_unfit files.flm is.algorithm (no_flm inputs asked files none are) is.is_algorithm)
     ends_unread (no_room need have) is = absurd (no_flm_unfit files.flm is.algorithm (no_flm inputs asked files none are) is.is_algorithm)
     ends_unread (image_refused name fault) is = record {
-      lawful = plain_lawful tells told b o inputs has_verify (names_in asked) (image_refused name fault) refl same refl;
-      leaves = leaves_early tells told b o inputs (image_refused name fault) refl;
+      lawful = plain_lawful tells told b o inputs DidNothing has_verify (names_in asked) (image_refused name fault) (did_nothing tells told b o) refl same refl;
+      leaves = leaves_early tells told b o (image_refused name fault) refl;
       files = files_refused _ inputs _ asked (image_refused name fault) files are is (record { files = files; are_files = are; holds = is });
     }
     ends_unread (image_misplaced fault) is = record {
-      lawful = plain_lawful tells told b o inputs has_verify (names_in asked) (image_misplaced fault) refl same refl;
-      leaves = leaves_early tells told b o inputs (image_misplaced fault) refl;
+      lawful = plain_lawful tells told b o inputs DidNothing has_verify (names_in asked) (image_misplaced fault) (did_nothing tells told b o) refl same refl;
+      leaves = leaves_early tells told b o (image_misplaced fault) refl;
       files = files_refused _ inputs _ asked (image_misplaced fault) files are is (record { files = files; are_files = are; holds = is });
     }
     ends_unread r is = absurd is
@@ -203,8 +179,8 @@ module _ (tells told : Bool) (b : BenchState) (o : SinkState) (inputs : InputsCa
     ends_other_size wanted is unequal =
         let aim = aim_of wanted is.region in
         record {
-          lawful = plain_lawful tells told b o inputs has_verify (names_in asked) (cells_differ wanted.device.size b.cell_count) refl same refl;
-          leaves = leaves_early tells told b o inputs (cells_differ wanted.device.size b.cell_count) refl;
+          lawful = plain_lawful tells told b o inputs DidNothing has_verify (names_in asked) (cells_differ wanted.device.size b.cell_count) (did_nothing tells told b o) refl same refl;
+          leaves = leaves_early tells told b o (cells_differ wanted.device.size b.cell_count) refl;
           files = files_worked _ inputs _ asked (refused (cells_differ wanted.device.size b.cell_count)) files aim are is.is_aim
               (record {
                 files = files;
@@ -238,7 +214,7 @@ ends_compared bench inputs out asked files wanted are same is size answer compar
     let at_base = subst (λ (n : ℕ). Compares bench out (AgreesWith bench n wanted.image) (DiffersAt bench n wanted.image) answer) is.base_is compares in
     let cells : is.region.size ≡ bench.before.cell_count = sym is.size_is ∙ size in
     record {
-      lawful = compared_lawful bench inputs out has_verify (names_in asked) (AgreesWith bench base wanted.image) (DiffersAt bench base wanted.image) answer
+      lawful = compared_lawful bench inputs out has_verify (names_in asked) (AgreesWith bench base wanted.image) (DiffersAt bench base wanted.image) answer refl
           (found_cases (AgreesWith bench base wanted.image) (DiffersAt bench base wanted.image) (λ a. IsOf has_verify a) tt refl refl (λ at byte cell. refl)
           answer at_base.found) same at_base;
       leaves = compares.leaves;

@@ -1,11 +1,16 @@
 -- What a call of `flmprog` answers, by its command.
-use Rattle.std.specs.Prelude.{◌≡◌, Option, Some, None}
+use Rattle.std.specs.Prelude.{◌≡◌, ◌⊎◌, Option, Some, None}
 use Rattle.report_text.specs.Refusal.{Refusal}
 use Rattle.report_text.specs.Refusal as refusal
-use Rattle.command_words.specs.Words.{Command, plan, verify, compare, inspect, not_built}
+use Rattle.command_words.specs.Words.{Command, program, resume, revert, plan, verify, compare, status, inspect, demo, not_built}
 use Rattle.command_files.specs.Inputs.{InputsCall, TakesNothing}
-use Rattle.flm_cli.specs.Call.{BenchCall, SinkCall, Call, Answer, refused}
-use Rattle.flm_cli.specs.Answered.{DidNothing, AnswersBy}
+use Rattle.command_answers.specs.Call.{BenchCall, SinkCall, Call, Answer, refused}
+use Rattle.command_answers.specs.Answered.{DidNothing, AnswersBy}
+use Rattle.flash_session.specs.declared.goal.Goal.{Goal}
+use Rattle.flash_session.specs.declared.goal.Goal.TheVariants.{New, Old}
+use Rattle.job_commands.specs.GoOn.{GoOnEnds}
+use Rattle.job_commands.specs.Program.{ProgramEnds}
+use Rattle.job_status.specs.Status.{StatusEnds}
 use Rattle.flm_cli.specs.Compare.{CompareEnds}
 use Rattle.flm_cli.specs.Inspect.{InspectEnds}
 use Rattle.flm_cli.specs.Plan.{PlanEnds}
@@ -18,15 +23,35 @@ pub record EndsAtOnce (refusal : Refusal) (bench : BenchCall) (inputs : InputsCa
   pub did : DidNothing bench out
   pub takes : TakesNothing inputs
 
+-- The work of words that fit no command: it ends so, or for want of memory, with nothing done.
+pub record EndsUnfit (bench : BenchCall) (inputs : InputsCall) (out : SinkCall) (answer : Answer) : Type 0 where
+  pub answer_is : (answer ≡ refused refusal.usage) ⊎ (answer ≡ refused refusal.out_of_memory)
+  pub did : DidNothing bench out
+  pub takes : TakesNothing inputs
+
 -- the work of a command, or of words that fit none
 abbrev pub EndsOf : Option Command → BenchCall → InputsCall → SinkCall → Answer → Type 0
+EndsOf (Some (program files)) = ProgramEnds files
+EndsOf (Some resume) = GoOnEnds New
+EndsOf (Some revert) = GoOnEnds Old
 EndsOf (Some (plan files)) = PlanEnds files
 EndsOf (Some (verify files)) = VerifyEnds files
 EndsOf (Some (compare image)) = CompareEnds image
+EndsOf (Some status) = StatusEnds
 EndsOf (Some (inspect flm)) = InspectEnds flm
+EndsOf (Some (demo seed)) = EndsAtOnce refusal.not_built
 EndsOf (Some not_built) = EndsAtOnce refusal.not_built
-EndsOf None = EndsAtOnce refusal.usage
+EndsOf None = EndsUnfit
 
 -- The call of words that ask for this, or for nothing.
 abbrev pub Answers : Call → Option Command → Type 0
 Answers call asked = AnswersBy call (EndsOf asked)
+
+-- the command that goes to this goal
+abbrev pub command_to : Goal → Command
+command_to New = resume
+command_to Old = revert
+
+-- the call of words that ask for it
+abbrev pub AnswersLater : Goal → Call → Type 0
+AnswersLater goal call = Answers call (Some (command_to goal))

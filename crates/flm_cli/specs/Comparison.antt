@@ -6,8 +6,8 @@ use Rattle.bench_model.specs.Calls.{SameOutside, FileStays, CellsStay}
 use Rattle.report_text.specs.Refusal.{device_fault, output_fault, differs}
 use Rattle.report_text.specs.End.{end_text}
 use Rattle.report_text.specs.declared.end.End.TheVariants.{Same}
-use Rattle.flm_cli.specs.Call.{BenchCall, SinkCall, Answer, done, refused, TookNothing, TookAll, TookPart}
-use Rattle.flm_cli.specs.Answered.{device, output, IsCounted, yields, IsUnless}
+use Rattle.command_answers.specs.Call.{BenchCall, SinkCall, Answer, done, refused, TookNothing, TookAll, TookPart}
+use Rattle.command_answers.specs.Answered.{device, output, IsCounted, yields, IsUnless}
 
 -- What goes to `out`: `same` where done, a beginning of it where `out` fails, and nothing with every other answer.
 abbrev pub Prints : SinkCall → Answer → Type 0

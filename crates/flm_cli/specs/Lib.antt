@@ -1,10 +1,6 @@
-pub mod Call
-pub mod Answered
-pub mod Shown
 pub mod Comparison
 pub mod Compare
 pub mod Inspect
-pub mod Reading
 pub mod Verify
 pub mod Plan
 pub mod Answers

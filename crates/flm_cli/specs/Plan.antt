@@ -5,26 +5,21 @@ use Rattle.bench_model.specs.History.{AddsNothing}
 use Rattle.bench_model.specs.Calls.{FileStays}
 use Rattle.byte_map.specs.Image.{Run, over}
 use Rattle.board_file.specs.declared.board.Weights.{Weights}
-use Rattle.flm_descriptor.specs.Shape.{shape}
 use Rattle.flm_descriptor.specs.Shown as flm
-use Rattle.page_geometry.specs.Layout.{Layout, layout}
 use Rattle.erase_planner.specs.Plans.{Chosen, chosen}
 use Rattle.report_text.specs.Plan.{plan_text}
 use Rattle.report_text.specs.Refusal.{output_fault, device_fault, cells_differ}
 use Rattle.command_words.specs.Files.{FilesAsked, names_in}
 use Rattle.command_files.specs.Inputs.{InputsCall}
 use Rattle.command_files.specs.Files.{Aim}
-use Rattle.flm_cli.specs.Call.{BenchCall, SinkCall, Answer, done, refused, TookNothing, TookAll, TookPart}
-use Rattle.flm_cli.specs.Answered.{has_plan, IsUnless, Refuses, DidNothing, EndsLawfully}
+use Rattle.command_answers.specs.Call.{BenchCall, SinkCall, Answer, done, refused, TookNothing, TookAll, TookPart}
+use Rattle.command_answers.specs.Answered.{has_plan, IsUnless, Refuses, DidNothing, EndsLawfully}
+use Rattle.job_commands.specs.Work.{layout_of}
 use Rattle.flm_cli.specs.Comparison.{Stands}
-use Rattle.flm_cli.specs.Reading.{AnswersFiles}
+use Rattle.command_answers.specs.Reading.{AnswersFiles}
 use Rattle.flm_cli.specs.Verify.{HasOtherSize}
 
 -- The plan.
-
--- the sectors and pages of an algorithm's device
-abbrev pub layout_of : flm.Shown → Layout
-layout_of algorithm = layout (shape algorithm.device.size algorithm.device.page algorithm.items)
 
 -- the plan that is chosen for cells, the first of which has the address `base`: from the cells as they are to the image laid over
 -- them
@@ -90,6 +85,6 @@ pub record IsDueForPlan (bench : BenchCall) (out : SinkCall) (answer : Answer) (
 
 -- The work of `plan`: all but the status and the line on `err`.
 pub record PlanEnds (asked : FilesAsked) (bench : BenchCall) (inputs : InputsCall) (out : SinkCall) (answer : Answer) : Type 0 where
-  pub lawful : EndsLawfully bench inputs out has_plan (names_in asked) answer
+  pub lawful : EndsLawfully DidNothing bench inputs out has_plan (names_in asked) answer
   pub leaves : PlanLeaves bench out answer
   pub files : AnswersFiles bench inputs out asked answer (λ files. ShowsPlan bench out answer) (λ files. IsDueForPlan bench out answer)

@@ -12,10 +12,11 @@ use Rattle.erase_planner.specs.Marks.{Covers}
 use Rattle.report_text.specs.Refusal.{out_of_memory, device_fault, output_fault, differs}
 use Rattle.report_text.specs.End.{end_text}
 use Rattle.report_text.specs.declared.end.End.TheVariants.{Same}
-use Rattle.flm_cli.specs.Call.{BenchCall, SinkCall, Answer, done, refused, TookNothing, TookAll, TookPart}
-use Rattle.flm_cli.specs.Answered.{device, output, IsCounted}
+use Rattle.command_answers.specs.Call.{BenchCall, SinkCall, Answer, done, refused, TookNothing, TookAll, TookPart}
+use Rattle.command_answers.specs.Answered.{device, output, IsCounted}
 use Rattle.flm_cli.specs.Comparison.{IsBrokenOff, IsStillOpen}
-use Rattle.flm_cli.specs.Plan.{layout_of, PrintsText, PlanLeaves}
+use Rattle.job_commands.specs.Work.{layout_of}
+use Rattle.flm_cli.specs.Plan.{PrintsText, PlanLeaves}
 use Rattle.flm_cli.specs.Verify.{CellsAgree, IsLeastDifference}
 use Rattle.flm_cli.specs.declared.plan.Room.{Room}
 

@@ -4,9 +4,11 @@
 mod compare;
 mod comparison;
 mod inspect;
+mod law;
 mod plan;
 mod top;
 mod unlike;
 mod verify;
 
+pub use law::calls_of_flmprog_are_safe;
 pub use top::flmprog;

@@ -6,9 +6,10 @@ ghost use Rattle.erase_planner.specs.Marks.{Covers};
 ghost use Rattle.command_words.specs.Files.{names_in};
 ghost use Rattle.command_words.specs.Requested.{files_of};
 ghost use Rattle.command_files.specs.Inputs.{inputs_call};
-ghost use Rattle.flm_cli.specs.Call.{bench_call, sink_call};
-ghost use Rattle.flm_cli.specs.Plan.{layout_of, plan_for, text_for, PlanEnds};
-ghost use Rattle.flm_cli.specs.Shown.{answer_of};
+ghost use Rattle.command_answers.specs.Call.{bench_call, sink_call};
+ghost use Rattle.job_commands.specs.Work.{layout_of};
+ghost use Rattle.flm_cli.specs.Plan.{plan_for, text_for, PlanEnds};
+ghost use Rattle.command_answers.specs.Shown.{answer_of};
 ghost use Rattle.flm_cli.specs.Steps.{HasRoomFor, LooksAtCells, PlansCells};
 
 use bench_model::{Bench, DeviceFault};

@@ -1,17 +1,21 @@
 //! The top call.
 ghost use Rattle.std.specs.Prelude.{ℕ, List, Option, All};
+ghost use Rattle.command_words.specs.Lines.{IsReadAs};
 ghost use Rattle.command_words.specs.Words.{Command, Asks, Asked, names_asked};
 ghost use Rattle.command_files.specs.Inputs.{inputs_call};
 ghost use Rattle.flm_cli.specs.Answers.{EndsOf, Answers};
-ghost use Rattle.flm_cli.specs.Call.{call_of, bench_call, sink_call, Says};
-ghost use Rattle.flm_cli.specs.Shown.{answer_of};
+ghost use Rattle.command_answers.specs.Call.{call_of, bench_call, sink_call, Says};
+ghost use Rattle.command_answers.specs.Shown.{answer_of};
 
 use crate::compare::compare;
 use crate::inspect::inspect;
 use crate::plan::plan;
 use crate::verify::verify;
 use bench_model::Bench;
-use command_words::{Request, read_request};
+use command_words::{CommandLine, Request};
+use flash_session::Goal;
+use job_commands::{go_on, program};
+use job_status::status;
 use octets::Word;
 use outside_io::{Inputs, Sink};
 use report_text::{Refusal, put_refusal};
@@ -32,29 +36,41 @@ pub fn flmprog<B: Bench, I: Inputs, O: Sink, E: Sink>(
         (bench_call B.tells (B.state bench.old) (B.state bench.new)) (inputs_call I.tells (I.state inputs.old) (I.state inputs.new))
         (sink_call O.tells (O.state out.old) (O.state out.new)) (sink_call E.tells (E.state err.old) (E.state err.new))) asked }
 {
-    let end = run(alloc, words, bench, inputs, out);
-    report(err, &end)
+    match CommandLine::read(alloc, words) {
+        Ok(line) => {
+            let end = run(alloc, words, &line, bench, inputs, out);
+            report(err, &end)
+        }
+        Err(_) => report(err, &Err(Refusal::OutOfMemory)),
+    }
 }
 
-/// The work of a call, without its status and its line.
+/// The work of a call whose words were read as this line, without its status and its line on `err`.
 fn run<'a, B: Bench, I: Inputs, O: Sink>(
     alloc: Global,
-    words: &'a [Word],
+    words: &[Word],
+    line: &'a CommandLine,
     bench: &mut B,
     inputs: &mut I,
     out: &mut O,
 ) -> Result<(), Refusal<'a>>
-    requires { (command : Command) → Asks words.now command → All (I.may_take inputs.old) (names_asked command) }
+    requires read { IsReadAs words.now line.now }
+    requires may_take { (command : Command) → Asks words.now command → All (I.may_take inputs.old) (names_asked command) }
     ensures { (asked : Option Command) → Asked words.now asked → EndsOf asked (bench_call B.tells (B.state bench.old) (B.state bench.new))
         (inputs_call I.tells (I.state inputs.old) (I.state inputs.new)) (sink_call O.tells (O.state out.old) (O.state out.new)) (answer_of result) }
 {
-    match read_request(words) {
+    match line.request() {
         None => Err(Refusal::Usage),
         Some(Request::NotBuilt) => Err(Refusal::NotBuilt),
+        Some(Request::Program(names)) => program(alloc, &names, bench, inputs, out),
+        Some(Request::Resume) => go_on(alloc, Goal::New, bench, out),
+        Some(Request::Revert) => go_on(alloc, Goal::Old, bench, out),
         Some(Request::Plan(names)) => plan(alloc, &names, bench, inputs, out),
         Some(Request::Verify(names)) => verify(alloc, &names, bench, inputs, out),
         Some(Request::Compare { image }) => compare(alloc, image, bench, inputs, out),
+        Some(Request::Status) => status(alloc, bench, out),
         Some(Request::Inspect { flm }) => inspect(alloc, flm, bench, inputs, out),
+        Some(Request::Demo { seed: _ }) => Err(Refusal::NotBuilt),
     }
 }
 

@@ -2,7 +2,7 @@
 ghost use Rattle.std.specs.Prelude.{◌≡◌, ◌≤◌, ◌<◌, ◌+◌, ◌^◌, ◌∷◌, [], None, length, IsTrue, IfOk};
 ghost use Rattle.faults.specs.Counts.{HasCause};
 ghost use Rattle.readback.specs.Readback.{OnlyReadsCells};
-ghost use Rattle.flm_cli.specs.Call.{bench_call};
+ghost use Rattle.command_answers.specs.Call.{bench_call};
 ghost use Rattle.flm_cli.specs.Steps.{FindsInImage, FitsCells, FoundBy, LooksAtCells};
 ghost use Rattle.flm_cli.specs.Verify.{AgreesWith, DiffersAt};
 

@@ -3,8 +3,8 @@ ghost use Rattle.std.specs.Prelude.{◌≡◌, ℕ, List, All, Option, None};
 ghost use Rattle.command_words.specs.Files.{names_in};
 ghost use Rattle.command_words.specs.Requested.{files_of};
 ghost use Rattle.command_files.specs.Inputs.{inputs_call};
-ghost use Rattle.flm_cli.specs.Call.{bench_call, sink_call};
-ghost use Rattle.flm_cli.specs.Shown.{answer_of};
+ghost use Rattle.command_answers.specs.Call.{bench_call, sink_call};
+ghost use Rattle.command_answers.specs.Shown.{answer_of};
 ghost use Rattle.flm_cli.specs.Verify.{VerifyEnds};
 
 use crate::comparison::tell_found;

@@ -1,9 +1,9 @@
 use Rattle.std.proofs.Common.{rules, ◌≡◌, sym, ap, subst, arith, ℕ, List, length, Err}
 use Rattle.command_files.specs.Inputs.{inputs_call, IsFile}
 use Rattle.report_text.specs.Shown.{shown}
-use Rattle.flm_cli.specs.Call.{bench_call, sink_call}
+use Rattle.command_answers.specs.Call.{bench_call, sink_call}
 use Rattle.flm_cli.specs.Compare.{CellsAre, DiffersFrom}
-use Rattle.flm_cli.specs.Shown.{answer_of}
+use Rattle.command_answers.specs.Shown.{answer_of}
 use Rattle.flm_cli.proofs.CompareLemmas.{ends_untaken, ends_compared}
 use Rattle.flm_cli.proofs.ComparisonLemmas.{compares_by, told_fits}
 use Rattle.flm_cli.proofs.compare.compare.Goals as goal

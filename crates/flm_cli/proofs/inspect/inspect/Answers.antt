@@ -3,7 +3,7 @@ use Rattle.flm_descriptor.specs.Shown as flm
 use Rattle.flm_descriptor.specs.declared.fault.FlmFault.TheVariants.{OutOfMemory}
 use Rattle.command_files.specs.Inputs.{inputs_call, IsFile}
 use Rattle.report_text.specs.Shown.{shown}
-use Rattle.flm_cli.specs.Call.{sink_call}
+use Rattle.command_answers.specs.Call.{sink_call}
 use Rattle.flm_cli.proofs.InspectLemmas.{ends_untaken, ends_refused, ends_done, ends_cut}
 use Rattle.flm_cli.proofs.inspect.inspect.Goals as goal
 

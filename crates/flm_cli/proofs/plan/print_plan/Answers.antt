@@ -1,7 +1,7 @@
 use Rattle.std.proofs.Common.{◌≡◌, ◌∙◌, sym, ap, subst, arith, length, List, ℕ, IsTrue, OnOk}
 use Rattle.flm_descriptor.specs.Shown.{shown}
 use Rattle.report_text.proofs.PutLemmas.{puts_as}
-use Rattle.flm_cli.specs.Call.{bench_call}
+use Rattle.command_answers.specs.Call.{bench_call}
 use Rattle.flm_cli.specs.Plan.{text_for}
 use Rattle.flm_cli.proofs.PlanLemmas.{plans_done, plans_cut, text_is, written_back}
 use Rattle.flm_cli.proofs.plan.print_plan.Goals as goal

@@ -1,48 +1,72 @@
 use Rattle.std.proofs.Common.{refl, subst, Option, Some, None, []}
 use Rattle.std.proofs.lemmas.List.Elements.{All-head}
-use Rattle.command_words.specs.Words.{Command, plan, verify, compare, inspect, not_built, Asked}
+use Rattle.command_words.specs.Words.{Command, program, resume, revert, plan, verify, compare, status, inspect, demo, not_built, Asked}
 use Rattle.command_words.specs.Requested.{files_of}
 use Rattle.command_words.proofs.WordsLemmas.{one_asked}
 use Rattle.command_files.specs.Inputs.{inputs_call}
 use Rattle.report_text.specs.Refusal as refusal
-use Rattle.flm_cli.specs.Call.{bench_call, sink_call, refused}
+use Rattle.command_answers.specs.Call.{bench_call, sink_call}
+use Rattle.command_answers.specs.Shown.{answer_of}
 use Rattle.flm_cli.specs.Answers.{EndsOf}
-use Rattle.flm_cli.specs.Shown.{answer_of}
-use Rattle.flm_cli.proofs.AnswerLemmas.{did_nothing}
+use Rattle.flm_cli.proofs.TopLemmas.{at_once, ends_as, unfit}
 use Rattle.flm_cli.proofs.top.run.Goals as goal
 
 pub returns-in-None : goal.returns-in-None
-returns-in-None g c = λ asked given.
-    let b = g.B.Bench.state c.args.bench.now in
-    let i = g.I.Inputs.state c.args.inputs.now in
-    let o = g.O.Sink.state c.args.out.now in
-    subst (λ (a : Option Command). EndsOf a (bench_call g.B.Bench.tells b b) (inputs_call g.I.Inputs.tells i i) (sink_call g.O.Sink.tells o o) (refused refusal.usage))
-    (one_asked c.args.words.now None asked c.in-None.ensures given)
-    (record { answer_is = refl; did = did_nothing g.B.Bench.tells g.O.Sink.tells b o; takes = record { stands = λ name. refl; faults = refl } })
+returns-in-None g c = λ asked given. ends_as c.args.words.now None asked _ _ _ _ (c.in-None.ensures c.args.words.now c.requires.read) given (unfit _ _ _ _ _ _)
 
 pub returns-in-Some-NotBuilt : goal.returns-in-Some-NotBuilt
 returns-in-Some-NotBuilt g c = λ asked given.
-    let b = g.B.Bench.state c.args.bench.now in
+    ends_as c.args.words.now (Some not_built) asked _ _ _ _ (rw c.in-Some-NotBuilt.field-0-is at (c.in-Some-NotBuilt.ensures c.args.words.now c.requires.read)) given (at_once _ _ _ _ _ _ refusal.not_built)
+
+pub program-requires-clause-has_flm : goal.program-requires-clause-has_flm
+program-requires-clause-has_flm g c =
+    let read : Asked c.args.words.now (Some (program (files_of c.in-Some-Program.names))) = rw c.in-Some-Program.field-0-is at (c.in-Some-Program.ensures c.args.words.now c.requires.read) in
+    read.names.has_flm
+
+pub program-requires-clause-may_take : goal.program-requires-clause-may_take
+program-requires-clause-may_take g c =
+    let read : Asked c.args.words.now (Some (program (files_of c.in-Some-Program.names))) = rw c.in-Some-Program.field-0-is at (c.in-Some-Program.ensures c.args.words.now c.requires.read) in
+    c.requires.may_take (program (files_of c.in-Some-Program.names)) read
+
+pub returns-in-Some-Program : goal.returns-in-Some-Program
+returns-in-Some-Program g c = λ asked given.
+    ends_as c.args.words.now (Some (program (files_of c.in-Some-Program.names))) asked _ _ _ _ (rw c.in-Some-Program.field-0-is at (c.in-Some-Program.ensures c.args.words.now c.requires.read)) given c.program.ensures
+
+pub returns-in-Some-Resume : goal.returns-in-Some-Resume
+returns-in-Some-Resume g c = λ asked given.
     let i = g.I.Inputs.state c.args.inputs.now in
-    let o = g.O.Sink.state c.args.out.now in
-    let read : Asked c.args.words.now (Some not_built) = rw c.in-Some-NotBuilt.field-0-is at c.in-Some-NotBuilt.ensures in
-    subst (λ (a : Option Command). EndsOf a (bench_call g.B.Bench.tells b b) (inputs_call g.I.Inputs.tells i i) (sink_call g.O.Sink.tells o o) (refused refusal.not_built))
-    (one_asked c.args.words.now (Some not_built) asked read given)
-    (record { answer_is = refl; did = did_nothing g.B.Bench.tells g.O.Sink.tells b o; takes = record { stands = λ name. refl; faults = refl } })
+    ends_as c.args.words.now (Some resume) asked _ _ _ _ (rw c.in-Some-Resume.field-0-is at (c.in-Some-Resume.ensures c.args.words.now c.requires.read)) given
+    (c.go_on.ensures (inputs_call g.I.Inputs.tells i i) (record { stands = λ name. refl; faults = refl }))
+
+pub returns-in-Some-Revert : goal.returns-in-Some-Revert
+returns-in-Some-Revert g c = λ asked given.
+    let i = g.I.Inputs.state c.args.inputs.now in
+    ends_as c.args.words.now (Some revert) asked _ _ _ _ (rw c.in-Some-Revert.field-0-is at (c.in-Some-Revert.ensures c.args.words.now c.requires.read)) given
+    (c.go_on-in-Some-Revert.ensures (inputs_call g.I.Inputs.tells i i) (record { stands = λ name. refl; faults = refl }))
+
+pub returns-in-Some-Status : goal.returns-in-Some-Status
+returns-in-Some-Status g c = λ asked given.
+    let i = g.I.Inputs.state c.args.inputs.now in
+    ends_as c.args.words.now (Some status) asked _ _ _ _ (rw c.in-Some-Status.field-0-is at (c.in-Some-Status.ensures c.args.words.now c.requires.read)) given
+    (c.status.ensures (inputs_call g.I.Inputs.tells i i) (record { stands = λ name. refl; faults = refl }))
+
+pub returns-in-Some-Demo : goal.returns-in-Some-Demo
+returns-in-Some-Demo g c = λ asked given.
+    ends_as c.args.words.now (Some (demo c.in-Some-Demo.field-0-0)) asked _ _ _ _ (rw c.in-Some-Demo.field-0-is at (c.in-Some-Demo.ensures c.args.words.now c.requires.read)) given (at_once _ _ _ _ _ _ refusal.not_built)
 
 pub plan-requires-clause-has_flm : goal.plan-requires-clause-has_flm
 plan-requires-clause-has_flm g c =
-    let read : Asked c.args.words.now (Some (plan (files_of c.in-Some-Plan.names))) = rw c.in-Some-Plan.field-0-is at c.in-Some-Plan.ensures in
+    let read : Asked c.args.words.now (Some (plan (files_of c.in-Some-Plan.names))) = rw c.in-Some-Plan.field-0-is at (c.in-Some-Plan.ensures c.args.words.now c.requires.read) in
     read.names.has_flm
 
 pub plan-requires-clause-may_take : goal.plan-requires-clause-may_take
 plan-requires-clause-may_take g c =
-    let read : Asked c.args.words.now (Some (plan (files_of c.in-Some-Plan.names))) = rw c.in-Some-Plan.field-0-is at c.in-Some-Plan.ensures in
-    c.requires (plan (files_of c.in-Some-Plan.names)) read
+    let read : Asked c.args.words.now (Some (plan (files_of c.in-Some-Plan.names))) = rw c.in-Some-Plan.field-0-is at (c.in-Some-Plan.ensures c.args.words.now c.requires.read) in
+    c.requires.may_take (plan (files_of c.in-Some-Plan.names)) read
 
 pub returns-in-Some-Plan : goal.returns-in-Some-Plan
 returns-in-Some-Plan g c = λ asked given.
-    let read : Asked c.args.words.now (Some (plan (files_of c.in-Some-Plan.names))) = rw c.in-Some-Plan.field-0-is at c.in-Some-Plan.ensures in
+    let read : Asked c.args.words.now (Some (plan (files_of c.in-Some-Plan.names))) = rw c.in-Some-Plan.field-0-is at (c.in-Some-Plan.ensures c.args.words.now c.requires.read) in
     subst (λ (a : Option Command). EndsOf a (bench_call g.B.Bench.tells (g.B.Bench.state c.args.bench.now) (g.B.Bench.state c.plan.new.bench))
     (inputs_call g.I.Inputs.tells (g.I.Inputs.state c.args.inputs.now) (g.I.Inputs.state c.plan.new.inputs))
     (sink_call g.O.Sink.tells (g.O.Sink.state c.args.out.now) (g.O.Sink.state c.plan.new.out)) (answer_of c.plan.result))
@@ -50,17 +74,17 @@ returns-in-Some-Plan g c = λ asked given.
 
 pub verify-requires-clause-no_flm : goal.verify-requires-clause-no_flm
 verify-requires-clause-no_flm g c =
-    let read : Asked c.args.words.now (Some (verify (files_of c.in-Some-Verify.names))) = rw c.in-Some-Verify.field-0-is at c.in-Some-Verify.ensures in
+    let read : Asked c.args.words.now (Some (verify (files_of c.in-Some-Verify.names))) = rw c.in-Some-Verify.field-0-is at (c.in-Some-Verify.ensures c.args.words.now c.requires.read) in
     read.names.no_flm
 
 pub verify-requires-clause-may_take : goal.verify-requires-clause-may_take
 verify-requires-clause-may_take g c =
-    let read : Asked c.args.words.now (Some (verify (files_of c.in-Some-Verify.names))) = rw c.in-Some-Verify.field-0-is at c.in-Some-Verify.ensures in
-    c.requires (verify (files_of c.in-Some-Verify.names)) read
+    let read : Asked c.args.words.now (Some (verify (files_of c.in-Some-Verify.names))) = rw c.in-Some-Verify.field-0-is at (c.in-Some-Verify.ensures c.args.words.now c.requires.read) in
+    c.requires.may_take (verify (files_of c.in-Some-Verify.names)) read
 
 pub returns-in-Some-Verify : goal.returns-in-Some-Verify
 returns-in-Some-Verify g c = λ asked given.
-    let read : Asked c.args.words.now (Some (verify (files_of c.in-Some-Verify.names))) = rw c.in-Some-Verify.field-0-is at c.in-Some-Verify.ensures in
+    let read : Asked c.args.words.now (Some (verify (files_of c.in-Some-Verify.names))) = rw c.in-Some-Verify.field-0-is at (c.in-Some-Verify.ensures c.args.words.now c.requires.read) in
     subst (λ (a : Option Command). EndsOf a (bench_call g.B.Bench.tells (g.B.Bench.state c.args.bench.now) (g.B.Bench.state c.verify.new.bench))
     (inputs_call g.I.Inputs.tells (g.I.Inputs.state c.args.inputs.now) (g.I.Inputs.state c.verify.new.inputs))
     (sink_call g.O.Sink.tells (g.O.Sink.state c.args.out.now) (g.O.Sink.state c.verify.new.out)) (answer_of c.verify.result))
@@ -68,12 +92,12 @@ returns-in-Some-Verify g c = λ asked given.
 
 pub compare-requires : goal.compare-requires
 compare-requires g c =
-    let read : Asked c.args.words.now (Some (compare c.in-Some-Compare.image.now)) = rw c.in-Some-Compare.field-0-is at c.in-Some-Compare.ensures in
-    All-head (g.I.Inputs.may_take c.args.inputs.now) c.in-Some-Compare.image.now [] (c.requires (compare c.in-Some-Compare.image.now) read)
+    let read : Asked c.args.words.now (Some (compare c.in-Some-Compare.image.now)) = rw c.in-Some-Compare.field-0-is at (c.in-Some-Compare.ensures c.args.words.now c.requires.read) in
+    All-head (g.I.Inputs.may_take c.args.inputs.now) c.in-Some-Compare.image.now [] (c.requires.may_take (compare c.in-Some-Compare.image.now) read)
 
 pub returns-in-Some-Compare : goal.returns-in-Some-Compare
 returns-in-Some-Compare g c = λ asked given.
-    let read : Asked c.args.words.now (Some (compare c.in-Some-Compare.image.now)) = rw c.in-Some-Compare.field-0-is at c.in-Some-Compare.ensures in
+    let read : Asked c.args.words.now (Some (compare c.in-Some-Compare.image.now)) = rw c.in-Some-Compare.field-0-is at (c.in-Some-Compare.ensures c.args.words.now c.requires.read) in
     subst (λ (a : Option Command). EndsOf a (bench_call g.B.Bench.tells (g.B.Bench.state c.args.bench.now) (g.B.Bench.state c.compare.new.bench))
     (inputs_call g.I.Inputs.tells (g.I.Inputs.state c.args.inputs.now) (g.I.Inputs.state c.compare.new.inputs))
     (sink_call g.O.Sink.tells (g.O.Sink.state c.args.out.now) (g.O.Sink.state c.compare.new.out)) (answer_of c.compare.result))
@@ -81,12 +105,12 @@ returns-in-Some-Compare g c = λ asked given.
 
 pub inspect-requires : goal.inspect-requires
 inspect-requires g c =
-    let read : Asked c.args.words.now (Some (inspect c.in-Some-Inspect.flm.now)) = rw c.in-Some-Inspect.field-0-is at c.in-Some-Inspect.ensures in
-    All-head (g.I.Inputs.may_take c.args.inputs.now) c.in-Some-Inspect.flm.now [] (c.requires (inspect c.in-Some-Inspect.flm.now) read)
+    let read : Asked c.args.words.now (Some (inspect c.in-Some-Inspect.flm.now)) = rw c.in-Some-Inspect.field-0-is at (c.in-Some-Inspect.ensures c.args.words.now c.requires.read) in
+    All-head (g.I.Inputs.may_take c.args.inputs.now) c.in-Some-Inspect.flm.now [] (c.requires.may_take (inspect c.in-Some-Inspect.flm.now) read)
 
 pub returns-in-Some-Inspect : goal.returns-in-Some-Inspect
 returns-in-Some-Inspect g c = λ asked given.
-    let read : Asked c.args.words.now (Some (inspect c.in-Some-Inspect.flm.now)) = rw c.in-Some-Inspect.field-0-is at c.in-Some-Inspect.ensures in
+    let read : Asked c.args.words.now (Some (inspect c.in-Some-Inspect.flm.now)) = rw c.in-Some-Inspect.field-0-is at (c.in-Some-Inspect.ensures c.args.words.now c.requires.read) in
     subst (λ (a : Option Command). EndsOf a (bench_call g.B.Bench.tells (g.B.Bench.state c.args.bench.now) (g.B.Bench.state c.inspect.new.bench))
     (inputs_call g.I.Inputs.tells (g.I.Inputs.state c.args.inputs.now) (g.I.Inputs.state c.inspect.new.inputs))
     (sink_call g.O.Sink.tells (g.O.Sink.state c.args.out.now) (g.O.Sink.state c.inspect.new.out)) (answer_of c.inspect.result))

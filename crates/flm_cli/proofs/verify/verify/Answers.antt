@@ -4,15 +4,15 @@ use Rattle.command_files.specs.Inputs.{inputs_call}
 use Rattle.command_files.specs.Steps.{bytes_of}
 use Rattle.report_text.specs.Refusal.{cells_differ}
 use Rattle.report_text.specs.Shown.{shown}
-use Rattle.flm_cli.specs.Call.{bench_call, sink_call, refused}
-use Rattle.flm_cli.specs.Shown.{answer_of}
+use Rattle.command_answers.specs.Call.{bench_call, sink_call, refused}
+use Rattle.command_answers.specs.Shown.{answer_of}
 use Rattle.flm_cli.specs.Verify.{AgreesWith, DiffersAt, VerifyEnds}
 use Rattle.flm_cli.proofs.VerifyLemmas.{ends_untaken, ends_unread, ends_other_size, ends_compared, fits_cells, address_fits}
 use Rattle.flm_cli.proofs.ComparisonLemmas.{compares_by, told_fits}
 use Rattle.flm_cli.proofs.verify.verify.Goals as goal
 
 pub read_files-requires : goal.read_files-requires
-read_files-requires g c = c.in_ok-files.ensures.0.images.count
+read_files-requires g c = c.in_ok-files.ensures.takes.0.images.count
 
 pub find_in_image-found-requires : goal.find_in_image-found-requires
 find_in_image-found-requires g c =
@@ -32,7 +32,7 @@ returns-in_err-files g c =
     let is : c.from_residual.result ≡ Err c.in_err-files.field-0.0 = search rules in
     rw is (ends_untaken g.B.Bench.tells g.O.Sink.tells (g.B.Bench.state c.args.bench.now) (g.O.Sink.state c.args.out.now)
     (inputs_call g.I.Inputs.tells (g.I.Inputs.state c.args.inputs.now) (g.I.Inputs.state c.take_files.new.inputs)) (files_of c.args.names.now)
-    (shown c.in_err-files.field-0.0) c.in_err-files.ensures)
+    (shown c.in_err-files.field-0.0) c.in_err-files.ensures.takes)
 
 pub returns-in_err-wanted : goal.returns-in_err-wanted
 returns-in_err-wanted g c =
@@ -40,7 +40,7 @@ returns-in_err-wanted g c =
     let is : c.from_residual-in_err-wanted.result ≡ Err c.in_err-wanted.field-0.0 = search rules in
     rw is (ends_unread g.B.Bench.tells g.O.Sink.tells (g.B.Bench.state c.args.bench.now) (g.O.Sink.state c.args.out.now)
     (inputs_call g.I.Inputs.tells (g.I.Inputs.state c.args.inputs.now) (g.I.Inputs.state c.take_files.new.inputs)) (files_of c.args.names.now)
-    (bytes_of c.in_ok-files.files) c.requires.no_flm c.in_ok-files.ensures.0 c.in_ok-files.ensures.1 (shown c.in_err-wanted.field-0.0) c.in_err-wanted.ensures)
+    (bytes_of c.in_ok-files.files) c.requires.no_flm c.in_ok-files.ensures.takes.0 c.in_ok-files.ensures.takes.1 (shown c.in_err-wanted.field-0.0) c.in_err-wanted.ensures)
 
 pub returns-then-cells-wanted : goal.returns-then-cells-wanted
 returns-then-cells-wanted g c =
@@ -49,8 +49,8 @@ returns-then-cells-wanted g c =
     let b = g.B.Bench.state c.args.bench.now in
     let o = g.O.Sink.state c.args.out.now in
     let size = c.in_ok-wanted.wanted.device.size in
-    let ends = ends_other_size g.B.Bench.tells g.O.Sink.tells b o inputs asked (bytes_of c.in_ok-files.files) c.requires.no_flm c.in_ok-files.ensures.0
-    c.in_ok-files.ensures.1 c.in_ok-wanted.wanted c.in_ok-wanted.ensures (λ same. c.if-cells-wanted.true (c.cells_len-cells.ensures ∙ sym same)) in
+    let ends = ends_other_size g.B.Bench.tells g.O.Sink.tells b o inputs asked (bytes_of c.in_ok-files.files) c.requires.no_flm c.in_ok-files.ensures.takes.0
+    c.in_ok-files.ensures.takes.1 c.in_ok-wanted.wanted c.in_ok-wanted.ensures (λ same. c.if-cells-wanted.true (c.cells_len-cells.ensures ∙ sym same)) in
     subst (λ (n : ℕ). VerifyEnds asked (bench_call g.B.Bench.tells b b) inputs (sink_call g.O.Sink.tells o o) (refused (cells_differ size n)))
     (sym c.cells_len-cells.ensures) ends
 
@@ -61,7 +61,7 @@ returns g c =
     let out = sink_call g.O.Sink.tells (g.O.Sink.state c.args.out.now) (g.O.Sink.state c.tell_found.new.out) in
     let wanted = c.in_ok-wanted.wanted in
     let base = wanted.device.base in
-    ends_compared bench inputs out (files_of c.args.names.now) (bytes_of c.in_ok-files.files) wanted c.in_ok-files.ensures.0 c.in_ok-files.ensures.1 c.in_ok-wanted.ensures
+    ends_compared bench inputs out (files_of c.args.names.now) (bytes_of c.in_ok-files.files) wanted c.in_ok-files.ensures.takes.0 c.in_ok-files.ensures.takes.1 c.in_ok-wanted.ensures
     (sym c.if-cells-wanted.false ∙ c.cells_len-cells.ensures) (answer_of c.tell_found.result)
     (compares_by bench out base (AgreesWith bench base wanted.image) (DiffersAt bench base wanted.image) c.find_in_image-found.result (answer_of c.tell_found.result)
     c.find_in_image-found.ensures.looks c.find_in_image-found.ensures.found c.tell_found.ensures)

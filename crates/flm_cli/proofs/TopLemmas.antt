@@ -1,0 +1,72 @@
+-- What words ask for, and calls that end before any work.
+use Rattle.std.proofs.Common.{◌≡◌, refl, inl, inr, subst, arith, true, false, ℕ, Bool, IsTrue, List, length, All, Option, Some, None, IfSome}
+use Rattle.bench_model.specs.History.{left}
+use Rattle.bench_model.specs.State.{BenchState, cells_half}
+use Rattle.bench_model.specs.Calls.{SameOutside}
+use Rattle.bench_model.proofs.Moments.{only_reads_here}
+use Rattle.outside_io.specs.State.{InputsState, SinkState}
+use Rattle.flash_session.specs.declared.goal.Goal.TheVariants.{New, Old}
+use Rattle.report_text.specs.Refusal.{Refusal, out_of_memory}
+use Rattle.report_text.specs.Refusal as refusal
+use Rattle.command_words.specs.Words.{Command, program, resume, revert, plan, verify, compare, status, inspect, demo, not_built, IsNotBuilt, Asks, Asked, names_asked}
+use Rattle.command_words.proofs.WordsLemmas.{one_asked}
+use Rattle.command_files.specs.Inputs.{InputsCall, TakesNothing, inputs_call}
+use Rattle.command_answers.specs.Call.{BenchCall, SinkCall, Answer, refused, bench_call, sink_call}
+use Rattle.command_answers.proofs.AnswerLemmas.{did_nothing}
+use Rattle.job_commands.proofs.GoOnLemmas as go_on
+use Rattle.job_commands.proofs.ProgramLemmas as begin
+use Rattle.job_file.specs.declared.fault.OpenFault.TheVariants as opening
+use Rattle.job_status.specs.Status.{StatusEnds}
+use Rattle.job_status.proofs.StatusLemmas.{ends_refused}
+use Rattle.flm_cli.specs.Answers.{EndsAtOnce, EndsUnfit, EndsOf}
+use Rattle.flm_cli.proofs.CompareLemmas as comparison
+use Rattle.flm_cli.proofs.InspectLemmas as inspection
+use Rattle.flm_cli.proofs.PlanLemmas as planning
+use Rattle.flm_cli.proofs.VerifyLemmas as verification
+
+-- the work of the command that was read is the work of the command that the words ask for
+pub ends_as : (words : List (List ℕ)) (read asked : Option Command) (bench : BenchCall) (inputs : InputsCall) (out : SinkCall) (answer : Answer)
+    → Asked words read → Asked words asked → EndsOf read bench inputs out answer → EndsOf asked bench inputs out answer
+ends_as words read asked bench inputs out answer given_read given ends =
+    subst (λ (a : Option Command). EndsOf a bench inputs out answer) (one_asked words read asked given_read given) ends
+
+-- Where no object was called.
+module _ (tells given told : Bool) (b : BenchState) (i : InputsState) (o : SinkState) where
+  abbrev Bench : BenchCall
+  Bench = bench_call tells b b
+
+  abbrev Inputs : InputsCall
+  Inputs = inputs_call given i i
+
+  abbrev Out : SinkCall
+  Out = sink_call told o o
+
+  took_nothing : TakesNothing Inputs
+  took_nothing = record { stands = λ name. refl; faults = refl }
+
+  pub at_once : (refusal : Refusal) → EndsAtOnce refusal Bench Inputs Out (refused refusal)
+  at_once refusal = record { answer_is = refl; did = did_nothing tells told b o; takes = took_nothing }
+
+  pub unfit : EndsUnfit Bench Inputs Out (refused refusal.usage)
+  unfit = record { answer_is = inl refl; did = did_nothing tells told b o; takes = took_nothing }
+
+  -- `status`, for want of memory before the file was looked at
+  status_unread : StatusEnds Bench Inputs Out (refused out_of_memory)
+  status_unread =
+      ends_refused tells b b Inputs took_nothing (only_reads_here tells b) told o opening.OutOfMemory (λ is. cc)
+      (record { later = omega arith; on_fault = λ is. cc; on_other = λ is. refl }) (λ its. tt)
+
+  -- want of memory for the words, whatever they ask for that is built
+  pub ends_unread : (IsTrue tells → length b.cells ≡ b.cell_count) → (IsTrue tells → (x : List ℕ) → left (cells_half b) x → SameOutside b.operation b.cells x)
+      → (words : List (List ℕ)) → (IsNotBuilt words → ⊥) → (asked : Option Command) → Asked words asked → EndsOf asked Bench Inputs Out (refused out_of_memory)
+  ends_unread many exact words built None given = record { answer_is = inr refl; did = did_nothing tells told b o; takes = took_nothing }
+  ends_unread many exact words built (Some (program files)) given = begin.ends_untaken tells told b o Inputs files many exact out_of_memory refl
+  ends_unread many exact words built (Some resume) given = go_on.ends_unread tells told b o Inputs New many exact took_nothing
+  ends_unread many exact words built (Some revert) given = go_on.ends_unread tells told b o Inputs Old many exact took_nothing
+  ends_unread many exact words built (Some (plan files)) given = planning.ends_early tells told b o Inputs files out_of_memory (inl refl)
+  ends_unread many exact words built (Some (verify files)) given = verification.ends_untaken tells told b o Inputs files out_of_memory refl
+  ends_unread many exact words built (Some (compare image)) given = comparison.ends_untaken tells told b o Inputs image out_of_memory refl
+  ends_unread many exact words built (Some status) given = status_unread
+  ends_unread many exact words built (Some (inspect flm)) given = inspection.ends_untaken tells told b o Inputs flm out_of_memory refl
+  ends_unread many exact words built (Some (demo seed)) given = let wrong : false ≡ true = given.begins.built in absurd (cc)
+  ends_unread many exact words built (Some not_built) given = absurd (built given)

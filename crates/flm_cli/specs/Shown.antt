@@ -1,9 +1,0 @@
--- The answer that a result is.
-use Rattle.std.specs.Prelude.{Result, Ok, Err}
-use Rattle.report_text.specs.Shown.{shown}
-use Rattle.report_text.specs.declared.refusal.Refusal.{Refusal}
-use Rattle.flm_cli.specs.Call.{Answer, done, refused}
-
-abbrev pub answer_of : Result (Unit {0}) Refusal → Answer
-answer_of (Ok _) = done
-answer_of (Err e) = refused (shown e)

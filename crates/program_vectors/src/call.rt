@@ -1,0 +1,101 @@
+//! A call.
+
+use crate::trial::Trial;
+use anyhow::Result;
+use bench_model::{Bench, MemoryBench};
+use flm_cli::flmprog;
+use octets::Word;
+use outside_io::{MemoryInputs, MemorySink};
+use std::alloc::Global;
+use std::str;
+
+/// The inputs and the streams of a call.
+#[derive(Drop)]
+pub struct Outside {
+    inputs: MemoryInputs,
+    out: MemorySink,
+    err: MemorySink,
+}
+
+/// What there is for a call, beside its bench.
+pub fn outside_of(alloc: Global, trial: &Trial) -> Result<Outside> {
+    let out = MemorySink::new(alloc, 4096, &[trial.put])?;
+    let err = MemorySink::new(alloc, 256, &[])?;
+    Ok(Outside {
+        inputs: trial.files.inputs(alloc)?,
+        out,
+        err,
+    })
+}
+
+/// The words of a line.
+pub fn words_of(alloc: Global, line: &str) -> Result<Vec<Word>> {
+    let mut words = Vec::new(alloc);
+    for word in line.split_whitespace() {
+        words.push(Word::copy(alloc, word)?)?;
+    }
+    Ok(words)
+}
+
+/// The status of a call with these words.
+pub fn answer<B: Bench>(alloc: Global, words: &[Word], bench: &mut B, outside: &mut Outside) -> u8 {
+    flmprog(
+        alloc,
+        words,
+        bench,
+        &mut outside.inputs,
+        &mut outside.out,
+        &mut outside.err,
+    )
+}
+
+/// Makes a call, and prints what comes of it.
+pub fn run(rt: &HostRuntime, trial: &Trial, bench: &mut MemoryBench, line: &str) -> Result<()> {
+    let words = words_of(rt.alloc(), line)?;
+    let mut outside = outside_of(rt.alloc(), trial)?;
+    let before = Vec::from_slice(rt.alloc(), bench.file())?;
+    let status = answer(rt.alloc(), &words, bench, &mut outside);
+    print_streams(rt, &outside)?;
+    println!(rt; "status {status}")?;
+    print_cells(rt, &trial.cells, bench.cells())?;
+    print_file(rt, &before, bench.file())
+}
+
+/// Prints what was put on standard output and on standard error.
+fn print_streams(rt: &HostRuntime, outside: &Outside) -> Result<()> {
+    let out = str::from_utf8(outside.out.bytes())?;
+    let err = str::from_utf8(outside.err.bytes())?;
+    print!(rt; "{out}{err}")?;
+    Ok(())
+}
+
+/// Prints how many cells aren't as the row began, and the first four of them.
+pub fn print_cells(rt: &HostRuntime, before: &[u8], after: &[u8]) -> Result<()> {
+    let mut others = 0u32;
+    for (place, (old, new)) in before.iter().zip(after.iter()).enumerate() {
+        if old == new {
+            continue;
+        }
+        if others < 4 {
+            println!(rt; "cell {place}: {old:02X} is {new:02X}")?;
+        }
+        others = others.saturating_add(1);
+    }
+    match others {
+        0 => println!(rt; "the same cells")?,
+        _ => println!(rt; "{others} other cells")?,
+    }
+    Ok(())
+}
+
+/// Prints what became of the job file.
+pub fn print_file(rt: &HostRuntime, before: &[u8], after: &[u8]) -> Result<()> {
+    let state = match after {
+        _ if before == after => "the same job file",
+        [0xA5, _, ..] => "a job is open",
+        [0x00, _, ..] => "a job is closed",
+        _ => "a free job file",
+    };
+    println!(rt; "{state}")?;
+    Ok(())
+}

@@ -1,0 +1,83 @@
+//! The files that stand under names.
+
+use anyhow::{Result, bail};
+use board_file::read_board;
+use flm_forge::{Kind, forge, listing};
+use octets::{Bytes, Word};
+use outside_io::MemoryInputs;
+use std::alloc::Global;
+
+/// A file that stands under a name.
+#[derive(Drop)]
+struct Given {
+    name: Word,
+    bytes: Vec<u8>,
+}
+
+/// The files, of which the one that was given last under a name counts.
+#[derive(Drop)]
+pub struct Files {
+    files: Vec<Given>,
+}
+
+impl Files {
+    pub fn new(alloc: Global) -> Files {
+        Files {
+            files: Vec::new(alloc),
+        }
+    }
+
+    /// Puts a file under a name.
+    pub fn give(&mut self, alloc: Global, name: &str, bytes: Vec<u8>) -> Result<()> {
+        let name = Word::copy(alloc, name)?;
+        self.files.insert(0, Given { name, bytes })?;
+        Ok(())
+    }
+
+    /// What stands under a name.
+    fn bytes(&self, name: &str) -> Result<&[u8]> {
+        match self.files.iter().find(|file| file.name.text() == name) {
+            Some(file) => Ok(&file.bytes),
+            None => bail!("{name}: no such file"),
+        }
+    }
+
+    /// The inputs that have these files.
+    pub fn inputs(&self, alloc: Global) -> Result<MemoryInputs> {
+        let mut inputs = MemoryInputs::new(alloc, &[])?;
+        for file in self.files.iter() {
+            inputs.add(alloc, &file.name, &file.bytes)?;
+        }
+        Ok(inputs)
+    }
+
+    /// The FLM file of an algorithm for the board under a name, with pages of so many bytes, whose sectors take so many milliseconds to be
+    /// erased.
+    pub fn forged(
+        &self,
+        alloc: Global,
+        kind: &str,
+        board: &str,
+        page: u32,
+        time: u32,
+    ) -> Result<Bytes> {
+        let board = read_board(alloc, self.bytes(board)?)?;
+        let mut listing = listing(alloc, kind_of(kind)?, &board, page)?;
+        listing.to_erase = time;
+        Ok(forge(alloc, &listing)?)
+    }
+}
+
+/// The algorithm of a name.
+fn kind_of(name: &str) -> Result<Kind> {
+    Ok(match name {
+        "A1" => Kind::A1,
+        "A2" => Kind::A2,
+        "A3" => Kind::A3,
+        "A4" => Kind::A4,
+        "A5" => Kind::A5,
+        "A6" => Kind::A6,
+        "A7" => Kind::A7,
+        _ => bail!("{name}: no such algorithm"),
+    })
+}
