@@ -3,7 +3,7 @@ ghost use Rattle.std.specs.Prelude.{◌<◌, ◌^◌};
 ghost use Rattle.faults.specs.Counts.{HasCause};
 
 use crate::cells_file::CellsFile;
-use crate::job_file::JobFile;
+use crate::job_store::JobFile;
 use bench_model::{Bench, DeviceFault, StoreFault};
 use faults::FaultCount;
 use octets::Word;

@@ -3,9 +3,10 @@
 
 mod arguments;
 mod cells_file;
+mod cells_window;
 mod file_bench;
 mod file_inputs;
-mod job_file;
+mod job_store;
 mod std_sink;
 mod streams;
 mod sync_guard;

@@ -78,7 +78,21 @@ run 5 '' 'flmprog: flm: other device 08000400 1024' job blank plan small.toml mo
 run 7 '' 'flmprog: job: 1024 cells wanted, 4 found' job cells plan small.toml small.flm right.hex
 run 13 '' 'flmprog: differs at 00000002 wanted 33 found FF' job cells compare other
 run 13 '' 'flmprog: differs at 08000001 wanted 03 found 02' job cells verify board.toml wrong.hex
-run 14 '' 'flmprog: not built' job cells status
+run 14 '' 'flmprog: not built' job cells demo 7
+
+# The job file: one that is missing is made, and is empty then.
+run 0 'job none' '' new_job cells status
+same 'a job file that was made' 0 "$(($(wc -c < new_job)))"
+run 7 '' 'flmprog: job: none' new_job cells resume
+run 7 '' 'flmprog: job: none' new_job cells revert
+printf '\245\0' > no_job
+run 7 '' 'flmprog: job: not a job at 2' no_job cells status
+run 7 '' 'flmprog: job: not a job at 2' no_job blank program small.toml small.flm right.hex
+run 2 '' "$usage" new_job cells resume x
+run 2 '' "$usage" new_job cells program
+run 2 '' "$usage" job cells verify --raw-at 0x08000000 --raw-at 0 b a
+run 2 '' "$usage" job cells plan --raw-at 0x123456789 b f i
+run 3 '' 'flmprog: cannot read missing' job cells program missing small.flm right.hex
 
 # One firmware in each form, against a device that holds it, one that differs in its last byte, and a blank one. GCC 12.2 for Arm
 # compiled it for a Cortex-M0 with -Os -nostdlib -Wl,-n, linked at 0x08000000; arm-none-eabi-objcopy --strip-all made the ELF file,
@@ -101,8 +115,9 @@ run 2 '' "$usage" job cells compare $'\377'
 run 2 '' "$usage" $'\377' cells compare same
 run 2 '' "$usage" job $'\377' compare same
 run 2 '' "$usage" job cells $'\377' same
-run 14 '' 'flmprog: not built' job cells status $'\377'
-run 14 '' 'flmprog: not built' $'\377' cells status
+run 2 '' "$usage" job cells status $'\377'
+run 14 '' 'flmprog: not built' job cells demo $'\377'
+run 14 '' 'flmprog: not built' $'\377' cells demo
 
 # A stream that is closed: nothing is printed into a file, and what can't be printed on standard output is status 10.
 for words in 'compare same' 'verify board.toml right.hex'; do
@@ -132,6 +147,15 @@ cp many many_cells
 run 0 same '' job many_cells compare many
 out=$(cat many | "$program" job many_cells compare /dev/stdin)
 same 'from a pipe' 0 $? same "$out"
+
+# Cells at both sides of a window of those that were read ahead, and the last one.
+for at in 4095 4096 8999; do
+    cp many other_cells
+    printf '\11' | dd status=none of=other_cells bs=1 seek=$at conv=notrunc
+    run 13 '' "$(printf 'flmprog: differs at %08X wanted 07 found 09' $at)" job other_cells compare many
+done
+head -c 8999 many > short_cells
+run 4 '' 'flmprog: image: 9000 bytes for 8999 cells' job short_cells compare many
 
 same 'the cells' 0 "$(cmp -s cells before; echo $?)" 0 "$(cmp -s many_cells many; echo $?)"
 same 'no job file is made' no "$([ -e job ] && echo yes || echo no)"

@@ -18,7 +18,7 @@ fn inputs_are_files(rt: HostRuntime) -> Result<(), Fail> {
         inputs.take(rt.alloc(), &name)?.bytes(),
         b"bytes".as_slice()
     );
-    let long = pattern::<9000>();
+    let long = pattern(rt.alloc(), 9000)?;
     fs::write(&rt, name.text(), long.as_slice())?;
     assert_eq!(rt; inputs.take(rt.alloc(), &name)?.bytes(), long.as_slice());
     fs::remove_file(&rt, name.text())?;

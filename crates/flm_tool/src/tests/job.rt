@@ -1,87 +1,104 @@
 //! The job file from one run to the next.
 
-use super::temporary;
+use super::{Files, temporary};
 use crate::file_bench::FileBench;
-use bench_model::Bench;
+use crate::job_store::JobFile;
+use bench_model::{Bench, DeviceFault, StoreFault};
 use octets::Word;
-use std::fs;
 use std::os::unix::fs::symlink;
 use std::test::Fail;
+use std::{fs, io};
+
+/// A job file of this name.
+fn job_file(rt: HostRuntime, name: &Word) -> Result<JobFile, Fail> {
+    Ok(JobFile::new(rt, Word::copy(rt.alloc(), name.text())?))
+}
+
+/// Writes, cuts, and writes and cuts past the end.
+fn grow(job: &mut JobFile) -> io::Result<()> {
+    job.write(0, b"abcdefgh")?;
+    job.cut(3)?;
+    job.write(3, b"xyz")?;
+    job.write(5, b"12345")?;
+    job.cut(10)
+}
 
 #[test]
 fn a_job_file_is_cut_and_grows(rt: HostRuntime) -> Result<(), Fail> {
-    let job = temporary(&rt, "grown")?;
-    let mut bench = FileBench::new(rt, Word::copy(rt.alloc(), job.text())?, "");
-    bench.file_write(0, b"abcdefgh")?;
-    bench.file_cut(3)?;
-    bench.file_write(3, b"xyz")?;
-    bench.file_write(5, b"12345")?;
-    bench.file_cut(10)?;
-    let mut second = FileBench::new(rt, Word::copy(rt.alloc(), job.text())?, "");
-    assert_eq!(rt; second.file_len()?, 10);
+    let name = temporary(&rt, "grown")?;
+    grow(&mut job_file(rt, &name)?)?;
+    let mut second = job_file(rt, &name)?;
+    assert_eq!(rt; second.len()?, 10);
     let mut read = [0; 10];
-    second.file_read(0, &mut read)?;
+    second.read(0, &mut read)?;
     assert_eq!(rt; &read, b"abcxy12345");
-    fs::remove_file(&rt, job.text())?;
+    fs::remove_file(&rt, name.text())?;
     Ok(())
 }
 
 /// Makes the file calls of a job's beginning.
-fn begin(bench: &mut FileBench, body: &[u8]) -> Result<(), Fail> {
+fn begin(bench: &mut FileBench, body: &[u8]) -> Result<(), StoreFault> {
     bench.file_sync()?;
     bench.file_write(0, &[0])?;
     bench.file_sync()?;
     bench.file_write(1, body)?;
     bench.file_sync()?;
     bench.file_write(0, &[0xA5])?;
-    bench.file_sync()?;
+    bench.file_sync()
+}
+
+/// Opens an operation on the cells, where there are eight.
+fn open(bench: &mut FileBench, at: u32, len: u32) -> Result<(), DeviceFault> {
+    if bench.cells_len() == 8 && len > 0 && at < 4 && len <= 4 {
+        bench.cells_open(at, len)?;
+    }
     Ok(())
+}
+
+/// The file's length, and its first bytes.
+fn stands(bench: &mut FileBench) -> Result<(u64, [u8; 5]), StoreFault> {
+    let mut read = [0; 5];
+    bench.file_read(0, &mut read)?;
+    Ok((bench.file_len()?, read))
+}
+
+/// Closes the job.
+fn close(bench: &mut FileBench) -> Result<(), StoreFault> {
+    bench.file_write(0, &[0])?;
+    bench.file_sync()
 }
 
 /// A run that is killed does nothing more. So the first bench is dropped as it is.
 #[test]
 fn a_job_stands_after_its_run_was_killed(rt: HostRuntime) -> Result<(), Fail> {
-    let job = temporary(&rt, "begun")?;
-    let cells = temporary(&rt, "begun_on")?;
-    fs::write(&rt, cells.text(), b"12345678".as_slice())?;
-    let mut killed = FileBench::new(rt, Word::copy(rt.alloc(), job.text())?, cells.text());
+    let files = Files::new(rt, "begun", "begun_on", b"12345678")?;
+    let mut killed = files.bench()?;
     begin(&mut killed, b"body")?;
-    assert_eq!(rt; killed.cells_len(), 8);
-    killed.cells_open(2, 4)?;
-    let mut bench = FileBench::new(rt, Word::copy(rt.alloc(), job.text())?, cells.text());
+    open(&mut killed, 2, 4)?;
+    let mut bench = files.bench()?;
     drop(killed);
-    let mut read = [0; 5];
-    assert_eq!(rt; bench.file_len()?, 5);
-    bench.file_read(0, &mut read)?;
-    assert_eq!(rt; &read, b"\xA5body");
-    assert_eq!(rt; bench.cells_len(), 8);
-    bench.cells_open(3, 2)?;
+    assert_eq!(rt; stands(&mut bench)?, (5, *b"\xA5body"));
+    open(&mut bench, 3, 2)?;
     bench.cells_settle(b"xy")?;
-    bench.file_write(0, &[0])?;
-    bench.file_sync()?;
-    assert_eq!(rt; fs::read(&rt, job.text())?.as_slice(), b"\0body".as_slice());
-    assert_eq!(rt;
-        fs::read(&rt, cells.text())?.as_slice(),
-        b"123xy678".as_slice()
-    );
-    fs::remove_file(&rt, job.text())?;
-    fs::remove_file(&rt, cells.text())?;
+    close(&mut bench)?;
+    assert!(rt; files.hold(b"\0body", b"123xy678")?);
+    files.remove()?;
     Ok(())
 }
 
 #[test]
 fn a_link_that_leads_nowhere_is_no_job_file(rt: HostRuntime) -> Result<(), Fail> {
-    let job = temporary(&rt, "linked")?;
+    let name = temporary(&rt, "linked")?;
     let link = temporary(&rt, "link")?;
-    symlink(&rt, job.text(), link.text())?;
-    let mut bench = FileBench::new(rt, Word::copy(rt.alloc(), link.text())?, "");
-    assert!(rt; bench.file_len().is_err());
-    assert!(rt; bench.file_write(0, b"a").is_err());
-    assert!(rt; !fs::exists(&rt, job.text())?);
-    fs::write(&rt, job.text(), b"".as_slice())?;
-    bench.file_write(0, b"a")?;
-    assert_eq!(rt; fs::read(&rt, job.text())?.as_slice(), b"a".as_slice());
+    symlink(&rt, name.text(), link.text())?;
+    let mut job = job_file(rt, &link)?;
+    assert!(rt; job.len().is_err());
+    assert!(rt; job.write(0, b"a").is_err());
+    assert!(rt; !fs::exists(&rt, name.text())?);
+    fs::write(&rt, name.text(), b"".as_slice())?;
+    job.write(0, b"a")?;
+    assert_eq!(rt; fs::read(&rt, name.text())?.as_slice(), b"a".as_slice());
     fs::remove_file(&rt, link.text())?;
-    fs::remove_file(&rt, job.text())?;
+    fs::remove_file(&rt, name.text())?;
     Ok(())
 }
