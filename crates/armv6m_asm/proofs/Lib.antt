@@ -4,6 +4,7 @@ mod ListLemmas
 mod Names
 mod NumberLemmas
 mod OperandLemmas
+pub mod OutcomeLemmas
 mod Places
 mod SpelledLemmas
 mod StatementLemmas

@@ -1,6 +1,7 @@
 pub mod Alike
 pub mod Assembly
 pub mod Label
+pub mod Outcome
 pub mod Passes
 pub mod Reading
 pub mod Scanned

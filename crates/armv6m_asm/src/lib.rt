@@ -23,5 +23,5 @@ pub use assembler::{align_pads, assemble};
 pub use code::Code;
 pub use fault::AsmFault;
 pub use labels::{Label, Labels};
-pub use law::one_statement_for_each_line;
+pub use law::{one_refusal, one_statement_for_each_line, refused_or_assembled};
 pub use statement::{Operation, Statement, Target};

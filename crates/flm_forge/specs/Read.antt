@@ -1,7 +1,8 @@
 -- What a file that was made says, and why none is made.
-use Rattle.std.specs.Prelude.{◌≡◌, ◌≢◌, ◌+◌, ◌<◌, ◌≤◌, ◌^◌, ℕ, List, length, All, Ok}
+use Rattle.std.specs.Prelude.{◌≡◌, ◌≢◌, ◌⊎◌, ◌+◌, ◌<◌, ◌≤◌, ◌^◌, ℕ, List, length, All, Result, Ok, IsErrOf}
 use Rattle.armv6m_asm.specs.Assembly.{IsAssembled, IsRefused}
 use Rattle.armv6m_asm.specs.declared.code.Code.{Code}
+use Rattle.armv6m_asm.specs.declared.fault.AsmFault.{AsmFault}
 use Rattle.armv6m_asm.specs.declared.fault.AsmFault.TheVariants as asm
 use Rattle.flm_descriptor.specs.declared.algorithm.Entries.{Entries}
 use Rattle.flm_descriptor.specs.declared.device.Device.{Device}
@@ -73,3 +74,7 @@ pub record IsForged (l : Listing) (file : List ℕ) : Type 0 where
 abbrev pub IsUnforged : Listing → ForgeFault → Type 0
 IsUnforged l OutOfMemory = Unit {0}
 IsUnforged l (Asm fault) = (fault ≢ asm.OutOfMemory) × IsRefused l.text fault
+
+-- and where it is refused, that fault is the answer, or want of memory
+abbrev pub AnswersRefusal : Listing → Result (List ℕ) ForgeFault → Type 0
+AnswersRefusal l answer = (fault : AsmFault) → fault ≢ asm.OutOfMemory → IsRefused l.text fault → IsErrOf answer (Asm fault) ⊎ IsErrOf answer OutOfMemory

@@ -3,7 +3,7 @@ ghost use Rattle.std.specs.Prelude.{◌≡◌, ◌+◌, ◌*◌, ◌<◌, ◌≤
 ghost use Rattle.flm_forge.specs.Device.{ListingFits};
 ghost use Rattle.flm_forge.specs.File.{file_of, sizes_of};
 ghost use Rattle.flm_forge.specs.Places.{end_of};
-ghost use Rattle.flm_forge.specs.Read.{IsForged, IsUnforged};
+ghost use Rattle.flm_forge.specs.Read.{AnswersRefusal, IsForged, IsUnforged};
 ghost use Rattle.flm_forge.specs.Symbols.{entry_symbols};
 
 use crate::device::put_descriptor;
@@ -24,6 +24,7 @@ use std::alloc::Global;
 pub fn forge(alloc: Global, listing: &Listing) -> Result<Bytes, ForgeFault>
     ensures ok { IfOk result (IsForged listing.now) }
     ensures err { IfErr result (IsUnforged listing.now) }
+    ensures exact { AnswersRefusal listing.now result }
 {
     let code = assemble(alloc, listing.text.bytes())?;
     let symbols = entry_symbols(alloc, &code.labels, &listing.hidden)?;
