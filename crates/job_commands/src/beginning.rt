@@ -17,7 +17,7 @@ use report_text::Refusal;
 use std::alloc::Global;
 
 /// Begins a job of these parts over a free file, and carries it to its image.
-pub(crate) fn begin_job<'a, B: Bench, O: Sink>(
+pub fn begin_job<'a, B: Bench, O: Sink>(
     alloc: Global,
     parts: &JobParts,
     bench: &mut B,

@@ -10,6 +10,7 @@ mod law;
 mod programming;
 mod refusals;
 
+pub use beginning::begin_job;
 pub use going_on::go_on;
 pub use law::{Calls, OneCall, calls_are_safe, calls_keep};
 pub use programming::program;

@@ -1,0 +1,20 @@
+use Rattle.std.proofs.Common.{ℕ, false, get_or, arith, sym, ap, ◌∙◌, cond, Bool, refl}
+use Rattle.erase_planner.proofs.FillLemmas.{count_more, count_start}
+use Rattle.demo_job.proofs.first_plan.pages.Goals as goal
+use Rattle.demo_job.proofs.first_plan.pages.Goals.{then-page_in, else-page_in}
+
+pub loop-index-init : goal.loop-index-init
+loop-index-init c = record { count = count_start (λ (k : ℕ). get_or c.args.plan.now.made.pages k false); few = omega arith }
+
+pub loop-index-preserved : goal.loop-index-preserved
+loop-index-preserved c =
+    let n : ℕ = c.loop-index.index in
+    let member : ℕ → Bool = λ k. get_or c.args.plan.now.made.pages k false in
+    let more = count_more n member (member n) refl in
+    record {
+      count = elim c.if-page_in.branch [
+        | then-page_in w ↦ (let one = ap (λ (b : Bool). let r : ℕ = cond b 1 0 in r) (sym c.page_in.ensures ∙ w.if-page_in.true) in omega (arith, more, one, w.count-is, c.loop-index.invariant.count))
+        | else-page_in w ↦ (let one = ap (λ (b : Bool). let r : ℕ = cond b 1 0 in r) (sym c.page_in.ensures ∙ w.if-page_in.false) in omega (arith, more, one, w.count-is, c.loop-index.invariant.count))
+      ];
+      few = elim c.if-page_in.branch [ then-page_in w ↦ omega arith | else-page_in w ↦ omega arith ];
+    }

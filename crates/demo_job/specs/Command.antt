@@ -1,0 +1,52 @@
+-- What `demo N` answers.
+use Rattle.std.specs.Prelude.{◌≡◌, ◌⊎◌, ℕ, []}
+use Rattle.bench_model.specs.Shown.{Memory, made_bench, bench_of}
+use Rattle.bench_model.specs.Shown as bench
+use Rattle.bench_model.specs.declared.memory.MemoryBench.{MemoryBench}
+use Rattle.report_text.specs.Refusal.{out_of_memory, output_fault}
+use Rattle.command_files.specs.Inputs.{InputsCall, TakesNothing}
+use Rattle.command_answers.specs.Call.{BenchCall, SinkCall, TookNothing, TookAll, TookPart, IsUntouched, Answer, refused}
+use Rattle.demo_job.specs.Made.{cells_of}
+use Rattle.demo_job.specs.Run.{IsFresh, answer_in}
+use Rattle.demo_job.specs.Lines.{demo_text}
+use Rattle.demo_job.specs.Demo.{Shows}
+use Rattle.demo_job.specs.declared.run.Demo.{Demo}
+
+-- There was no memory before the resume began, and nothing was put.
+pub record EndsUnbegun (out : SinkCall) (answer : Answer) : Type 0 where
+  pub answer_is : answer ≡ refused out_of_memory
+  pub prints : TookNothing out
+
+-- The bench of a demonstration, as it is made: the cells that the seed makes, an empty file, room for a file of 4,194,304 bytes and 400,000
+-- units of recorded calls; no call is to fail, and what is broken off leaves its old bytes.
+abbrev pub bench_for : ℕ → Memory
+bench_for seed = made_bench (cells_of seed) [] 4194304 400000 [] [] []
+
+-- a demonstration of the seed, on that bench
+pub record IsShown (seed : ℕ) (demo : Demo) : Type 0 where
+  pub fresh : MemoryBench
+  pub is_made : bench.shown fresh ≡ bench_for seed
+  pub is_fresh : IsFresh seed (bench_of fresh)
+  pub shows : Shows seed fresh demo
+
+-- Its lines were put, and the call ends as the resume; or a beginning of them was, and it ends with the output fault.
+abbrev pub Prints : SinkCall → Demo → Answer → Type 0
+Prints out demo answer = ((answer ≡ answer_in demo.refusal) × TookAll out (demo_text demo.lines))
+    ⊎ ((answer ≡ refused output_fault) × TookPart out (demo_text demo.lines))
+
+-- A demonstration of the seed was told.
+pub record Tells (seed : ℕ) (out : SinkCall) (answer : Answer) : Type 0 where
+  pub demo : Demo
+  pub is_shown : IsShown seed demo
+  pub prints : Prints out demo answer
+
+-- the same, of the sink alone
+abbrev pub DemoSays : ℕ → SinkCall → Answer → Type 0
+DemoSays seed out answer = EndsUnbegun out answer ⊎ Tells seed out answer
+
+-- The work of `demo`: all but the status and the line on `err`. It works on a bench of its own: the one that was handed in is as it was,
+-- and no input is taken. The output fault is answered only where the count of `out` rose.
+pub record DemoEnds (seed : ℕ) (bench : BenchCall) (inputs : InputsCall) (out : SinkCall) (answer : Answer) : Type 0 where
+  pub untouched : IsUntouched bench
+  pub takes : TakesNothing inputs
+  pub says : DemoSays seed out answer

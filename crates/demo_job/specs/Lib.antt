@@ -1,0 +1,9 @@
+pub mod Generator
+pub mod Made
+pub mod Target
+pub mod Plan
+pub mod Scene
+pub mod Run
+pub mod Lines
+pub mod Demo
+pub mod Command

@@ -1,0 +1,89 @@
+-- The run of a demonstration: the job of a seed is begun, stopped, and resumed on what the loss of the power left.
+use Rattle.std.specs.Prelude.{◌≡◌, ◌≢◌, ℕ, true, false, [], Option, Some, None}
+use Rattle.outside_io.specs.State.{SinkState}
+use Rattle.bench_model.specs.State.{BenchState, Left}
+use Rattle.bench_model.specs.Loss.{IsAtRest, IsPicked, after_loss}
+use Rattle.bench_model.specs.Shown as bench
+use Rattle.bench_model.specs.Shown.{bench_of}
+use Rattle.bench_model.specs.Stopped.{stopped, IsSameBench}
+use Rattle.bench_model.specs.declared.memory.MemoryBench.{MemoryBench}
+use Rattle.bench_model.specs.declared.pick.Pick.TheVariants.{Filled}
+use Rattle.bench_model.specs.declared.stop.StopBench.{StopBench}
+use Rattle.campaign.specs.Stops.{IsUntouched}
+use Rattle.job_text.specs.Body.{Job, IsJob}
+use Rattle.flash_session.specs.declared.goal.Goal.TheVariants.{New}
+use Rattle.report_text.specs.Shown as refusal
+use Rattle.report_text.specs.Refusal.{out_of_memory, status_of}
+use Rattle.report_text.specs.declared.refusal.Refusal.{Refusal}
+use Rattle.command_files.specs.Inputs.{InputsCall, TakesNothing}
+use Rattle.command_answers.specs.Call.{bench_call, SinkCall, sink_call, Answer, done, refused}
+use Rattle.command_answers.specs.Answered.{IsOf}
+use Rattle.job_commands.specs.Work.{Work}
+use Rattle.job_commands.specs.Carry.{Carries}
+use Rattle.job_commands.specs.GoOn.{work_to, GoOnEnds}
+use Rattle.job_commands.specs.Steps.{has_begin, BenchCounted}
+use Rattle.demo_job.specs.Made.{cells_of, image_of, stop_of}
+use Rattle.demo_job.specs.Target.{board_text, Target}
+
+-- What a sink that keeps nothing means, and a call on it.
+
+abbrev pub silent : SinkState
+silent = record { faults = 0; taken = [] }
+
+abbrev pub silence : SinkCall
+silence = sink_call false silent silent
+
+-- The bench that a demonstration begins on: the cells that the seed makes, and an empty file. Nothing is pending, no operation is open
+-- and no fault was counted.
+pub record IsFresh (seed : ℕ) (now : BenchState) : Type 0 where
+  pub cells : now.cells ≡ cells_of seed
+  pub file : now.file ≡ []
+  pub rest : IsAtRest now
+  pub store : now.store_faults ≡ 0
+  pub device : now.device_faults ≡ 0
+
+-- The job of a seed, whose snapshot is the cells that the seed makes, and the work on it.
+
+abbrev pub job_of : ℕ → Target → Job
+job_of seed t = record { board = board_text; flm = t.file; image = image_of seed; snapshot = cells_of seed }
+
+abbrev pub work_of : ℕ → Target → Work
+work_of seed t = work_to New (job_of seed t) t.board t.algorithm (cells_of seed)
+
+-- a bench in memory that stops, as a bench
+abbrev pub stopping_of : StopBench MemoryBench → BenchState
+stopping_of s = stopped bench_of s
+
+-- The job was begun over a bench that lets as many calls through as the seed says, with no fault of its own yet, and carried on until it
+-- ended or was stopped, by a fault that this bench counted, but not for want of memory. Then the power was lost.
+pub record IsLost (seed : ℕ) (t : Target) (fresh lost : MemoryBench) : Type 0 where
+  pub first : StopBench MemoryBench
+  pub inner : first.inner ≡ fresh
+  pub calls : first.calls ≡ stop_of seed
+  pub same : IsSameBench (bench_of fresh) (stopping_of first)
+  pub begun : StopBench MemoryBench
+  pub answer : Answer
+  pub is_job : IsJob (job_of seed t) t.board t.algorithm
+  pub carries : Carries (bench_call true (stopping_of first) (stopping_of begun)) silence (IsUntouched (stopping_of first)) (work_of seed t) answer
+  pub kind : IsOf has_begin answer
+  pub counts : BenchCounted (bench_call true (stopping_of first) (stopping_of begun)) silence answer
+  pub no_want : answer ≢ refused out_of_memory
+  pub left : Left (bench_of begun.inner) (bench_of lost).file (bench_of lost).cells
+  pub picked : IsPicked (Filled 0x5A) (bench.shown begun.inner) (bench.shown lost).file (bench.shown lost).cells
+  pub rest : IsAtRest (bench_of lost)
+  pub exact : bench.shown lost ≡ after_loss (bench.shown lost).file (bench.shown lost).cells (bench.shown begun.inner)
+
+-- How a resume ended.
+
+abbrev pub answer_in : Option Refusal → Answer
+answer_in None = done
+answer_in (Some r) = refused (refusal.shown r)
+
+abbrev pub status_in : Option Refusal → ℕ
+status_in None = 0
+status_in (Some r) = status_of (refusal.shown r)
+
+-- a call of `resume` on a bench, with no sink and no inputs
+abbrev pub Resumes : MemoryBench → MemoryBench → Option Refusal → Type 0
+Resumes lost after end = (inputs : InputsCall) → TakesNothing inputs
+    → GoOnEnds New (bench_call true (bench_of lost) (bench_of after)) inputs silence (answer_in end)

@@ -1,0 +1,34 @@
+-- All that a demonstration is made of, but for the bench.
+use Rattle.std.specs.Prelude.{◌≡◌, ℕ}
+use Rattle.board_file.specs.Shown as board
+use Rattle.flm_descriptor.specs.Shown as flm
+use Rattle.page_geometry.specs.Layout.{Layout}
+use Rattle.erase_planner.specs.Plans.{Chosen}
+use Rattle.job_text.specs.Fits.{Suits}
+use Rattle.demo_job.specs.Made.{cells_of, image_of, laid_of, stop_of}
+use Rattle.demo_job.specs.Target as target
+use Rattle.demo_job.specs.Target.{IsTarget}
+use Rattle.demo_job.specs.Plan.{erased, programmed}
+use Rattle.demo_job.specs.declared.target.Target.{Target}
+use Rattle.demo_job.specs.declared.scene.Scene.{Scene}
+use Rattle.demo_job.specs.declared.first_plan.Counts.{Counts}
+
+abbrev pub target_of : Target → target.Target
+target_of t = record { board = board.shown t.board; file = t.flm; algorithm = flm.shown t.algorithm }
+
+-- it is that of a seed, and its parts suit
+pub record IsScene (seed : ℕ) (scene : Scene) : Type 0 where
+  pub cells : scene.made.cells.items ≡ cells_of seed
+  pub image : scene.made.image ≡ image_of seed
+  pub calls : scene.made.calls ≡ stop_of seed
+  pub target : IsTarget (target_of scene.target)
+  pub suits : Suits (board.shown scene.target.board) (flm.shown scene.target.algorithm) scene.made.image
+  pub goal : scene.goal.items ≡ laid_of seed
+  pub base : scene.target.algorithm.device.base ≡ 0x08000000
+  pub size : scene.target.algorithm.device.size ≡ 65536
+
+-- the counts of a plan
+pub record IsCounted (l : Layout) (plan : Chosen) (counts : Counts) : Type 0 where
+  pub sectors : counts.sectors ≡ erased l plan
+  pub pages : counts.pages ≡ programmed l plan
+  pub cost : counts.cost ≡ plan.cost

@@ -1,0 +1,118 @@
+//! The run of a demonstration.
+ghost use Rattle.std.specs.Prelude.{◌≡◌, ◌↔◌, IfOk, IsTrue};
+ghost use Rattle.bench_model.specs.Shown.{bench_of};
+ghost use Rattle.job_commands.specs.Work.{layout_of, plan_of};
+ghost use Rattle.demo_job.specs.Demo.{Shows};
+ghost use Rattle.command_answers.specs.Shown.{answer_of};
+ghost use Rattle.demo_job.specs.Run.{IsFresh, IsLost, answer_in, status_in, work_of};
+ghost use Rattle.demo_job.specs.Scene.{IsScene, IsCounted, target_of};
+ghost use Rattle.bench_model.specs.declared.memory.MemoryBench.{MemoryBench};
+
+use crate::first_plan::{Counts, first_plan};
+use crate::lines::DemoLines;
+use crate::nowhere::Nowhere;
+use crate::scene::{Scene, set_scene};
+use bench_model::{MemoryBench, Pick, StopBench};
+use faults::OutOfMemory;
+use flash_session::Goal;
+use job_commands::{begin_job, go_on};
+use report_text::Refusal;
+use std::alloc::Global;
+
+/// What the loss of the power leaves in each byte that is pending, and in each cell of an open operation.
+const LOST: u8 = 0x5A;
+
+/// The status of want of memory.
+const NO_MEMORY: u8 = 1;
+
+/// How a demonstration ended: its lines, the refusal of the resume where there is one, and the bench as the resume left it.
+#[derive(Drop)]
+pub struct Demo {
+    pub lines: DemoLines,
+    pub refusal: Option<Refusal<'static>>,
+    pub bench: MemoryBench,
+}
+
+/// Begins the job that a seed makes, on its bench, stops it after the calls that the seed makes, loses the power, and resumes the
+/// job on what is left. It answers want of memory only where the resume hasn't begun.
+pub fn demo_run(alloc: Global, seed: u32, bench: MemoryBench) -> Result<Demo, OutOfMemory>
+    requires { IsFresh seed (bench_of bench) }
+    ensures { IfOk result (Shows seed bench) }
+{
+    let scene = set_scene(alloc, seed)?;
+    let counts = first_plan(alloc, seed, &scene)?;
+    let lost = lose(alloc, seed, &scene, bench)?;
+    Ok(resume(alloc, seed, &scene, counts, lost))
+}
+
+/// Begins the job over a bench that stops, and loses the power.
+fn lose(
+    alloc: Global,
+    seed: u32,
+    scene: &Scene,
+    bench: MemoryBench,
+) -> Result<MemoryBench, OutOfMemory>
+    requires scene { IsScene seed scene.now }
+    requires fresh { IsFresh seed (bench_of bench) }
+    ensures { IfOk result (IsLost seed (target_of scene.now.target) bench) }
+{
+    let mut stopping = StopBench::new(bench, scene.made.calls);
+    let refusal = refusal_of(begin_job(alloc, &scene.parts(), &mut stopping, &mut Nowhere));
+    if status(&refusal) == NO_MEMORY {
+        return Err(OutOfMemory);
+    }
+    let mut bench = stopping.into_inner();
+    bench.power_loss(Pick::Filled { value: LOST });
+    Ok(bench)
+}
+
+/// Resumes the job on what is left.
+fn resume(alloc: Global, seed: u32, scene: &Scene, counts: Counts, bench: MemoryBench) -> Demo
+    requires scene { IsScene seed scene.now }
+    requires counts { IsCounted (layout_of (target_of scene.now.target).algorithm) (plan_of (work_of seed (target_of scene.now.target))) counts }
+    ensures { (fresh : MemoryBench) → IsFresh seed (bench_of fresh) → IsLost seed (target_of scene.now.target) fresh bench → Shows seed fresh result }
+{
+    let mut bench = bench;
+    let refusal = refusal_of(go_on(alloc, Goal::New, &mut bench, &mut Nowhere));
+    let lines = DemoLines {
+        seed,
+        sectors: counts.sectors,
+        pages: counts.pages,
+        cost: counts.cost,
+        calls: scene.made.calls,
+        status: status(&refusal),
+        same: is_same(bench.cells(), &scene.goal),
+    };
+    Demo {
+        lines,
+        refusal,
+        bench,
+    }
+}
+
+/// Whether cells are as wanted.
+fn is_same(cells: &[u8], goal: &[u8]) -> bool
+    ensures { IsTrue result ↔ (cells.now ≡ goal.now) }
+{
+    cells == goal
+}
+
+/// The refusal of an end, where there is one.
+fn refusal_of(end: Result<(), Refusal<'static>>) -> Option<Refusal<'static>>
+    ensures { answer_in result ≡ answer_of end.entry }
+{
+    match end {
+        Ok(()) => None,
+        Err(refusal) => Some(refusal),
+    }
+}
+
+/// The status of an end.
+fn status(refusal: &Option<Refusal<'_>>) -> u8
+    ensures { result ≡ status_in refusal.now }
+{
+    match refusal {
+        None => 0,
+        Some(refusal) => refusal.status(),
+    }
+}

@@ -1,0 +1,77 @@
+//! All that a demonstration is made of, but for the bench.
+ghost use Rattle.std.specs.Prelude.{◌≡◌, ◌≤◌, ◌+◌, ◌^◌, length, IfOk, IsTrue};
+ghost use Rattle.board_file.specs.Shown.{shown as board_shown};
+ghost use Rattle.flm_descriptor.specs.Shown.{shown as flm_shown};
+ghost use Rattle.job_text.specs.Fits.{Suits};
+ghost use Rattle.byte_map.specs.Image.{over};
+ghost use Rattle.job_text.specs.Parts.{AreParts};
+ghost use Rattle.demo_job.specs.Made.{base};
+ghost use Rattle.demo_job.specs.Target.{board_text};
+ghost use Rattle.demo_job.specs.Scene.{IsScene};
+
+use crate::made::{BASE, Made, make};
+use crate::target::{BOARD, Target, make_target};
+use faults::OutOfMemory;
+use job_text::{JobParts, suits};
+use std::alloc::Global;
+
+/// What the seed makes, the target, and the cells with the image laid over them.
+#[derive(Drop)]
+pub(crate) struct Scene {
+    pub(crate) made: Made,
+    pub(crate) target: Target,
+    pub(crate) goal: Vec<u8>,
+}
+
+/// The scene of a seed.
+pub(crate) fn set_scene(alloc: Global, seed: u32) -> Result<Scene, OutOfMemory>
+    ensures { IfOk result (IsScene seed) }
+{
+    let made = make(alloc, seed)?;
+    let target = make_target(alloc)?;
+    if !fits(&target, &made) {
+        return Err(OutOfMemory);
+    }
+    let goal = goal(alloc, &made)?;
+    Ok(Scene { made, target, goal })
+}
+
+/// Whether the device of a target is the cells, and board, algorithm and image go together in a job. Those of a demonstration do.
+fn fits(target: &Target, made: &Made) -> bool
+    ensures base { IsTrue result → target.now.algorithm.device.base ≡ base }
+    ensures size { IsTrue result → target.now.algorithm.device.size ≡ length made.now.cells.items }
+    ensures suits { IsTrue result → Suits (board_shown target.now.board) (flm_shown target.now.algorithm) made.now.image }
+{
+    let device = &target.algorithm.device;
+    device.base == BASE
+        && device.size as usize == made.cells.len()
+        && suits(&target.board, &target.algorithm, &made.image)
+}
+
+/// The image laid over the cells.
+fn goal(alloc: Global, made: &Made) -> Result<Vec<u8>, OutOfMemory>
+    requires { base + length made.now.cells.items ≤ 2 ^ 32 }
+    ensures { IfOk result (λ goal. goal.items ≡ over made.now.image base made.now.cells.items) }
+{
+    let mut goal = made.cells.to_vec(alloc)?;
+    made.image.overlay_into(BASE, &mut goal);
+    Ok(goal)
+}
+
+impl Scene {
+    /// The parts of the job.
+    #[tactic(auto, unfolding(crate::specs::Target::board_text))]
+    pub(crate) fn parts(&self) -> JobParts<'_>
+        ensures board { result.board.now ≡ board_text }
+        ensures flm { result.flm.now ≡ self.now.target.flm }
+        ensures image { result.image.now ≡ self.now.made.image }
+        ensures size { result.size ≡ self.now.target.algorithm.device.size }
+    {
+        JobParts {
+            board: BOARD,
+            flm: self.target.flm.bytes(),
+            image: &self.made.image,
+            size: self.target.algorithm.device.size,
+        }
+    }
+}
