@@ -1,5 +1,5 @@
 -- What lines make of a command, by their addresses and their positional words.
-use Rattle.std.proofs.Common.{◌≡◌, ◌<◌, ◌≤◌, ◌+◌, ◌-◌, ◌^◌, ◌∙◌, sym, ap, subst, refl, arith, rules, ℕ, List, [], ◌∷◌, ◌++◌, length, get_or, take, drop, Option, Some, None, IsSome, MatchOption, IfNone, option_to_list}
+use Rattle.std.proofs.Common.{◌≡◌, ◌<◌, ◌≤◌, ◌+◌, ◌-◌, ◌^◌, ap, subst, refl, arith, rules, ℕ, List, [], ◌∷◌, ◌++◌, length, get_or, take, drop, Option, Some, None, IsSome, MatchOption, IfNone, option_to_list}
 use Rattle.std.proofs.lemmas.List.{take_all}
 use Rattle.std.specs.Str.Parse.{IsNumeral, digits_value}
 use Rattle.command_line.specs.Scan.{scan}

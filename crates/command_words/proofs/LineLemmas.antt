@@ -1,15 +1,14 @@
 -- Lines, and what their words ask for.
-use Rattle.std.proofs.Common.{◌≡◌, ◌≢◌, ◌∙◌, sym, ap, subst, refl, inl, inr, true, false, ℕ, List, [], ◌∷◌, Option, Some, None, find}
+use Rattle.std.proofs.Common.{◌≡◌, ◌≢◌, ◌∙◌, sym, ap, refl, inl, inr, ℕ, List, [], ◌∷◌, Option, Some, None, find}
 use Rattle.std.proofs.lemmas.Bool.{cases_Bool}
 use Rattle.std.proofs.lemmas.Option.{same_Some}
 use Rattle.std.proofs.lemmas.Slice.Eq.{bytes_eq-Decides}
 use Rattle.std.specs.Str.{bytes_eq}
 use Rattle.command_line.specs.Scan.{Said, commands, command_of, scan, with_command, says}
-use Rattle.command_line.specs.Shown.{shown}
 use Rattle.command_line.specs.declared.line.Line.{Line}
 use Rattle.command_words.specs.Fits.{Fitted}
 use Rattle.command_words.specs.Lines.{Spells, IsLineOf}
-use Rattle.command_words.specs.Words.{text_of, is_built, AreArguments, IsNotBuilt, Command, program, resume, revert, plan, verify, compare, status, inspect, demo, not_built, Asks, AsksNothing, Asked}
+use Rattle.command_words.specs.Words.{text_of, AreArguments, Command, program, resume, revert, plan, verify, compare, status, inspect, demo, AsksNothing, Asked}
 use Rattle.command_words.specs.declared.command.CommandName.{CommandName}
 use Rattle.command_words.specs.declared.command.CommandName.TheVariants.{Program, Resume, Revert, Plan, Verify, Compare, Status, Inspect, Demo}
 use Rattle.command_words.proofs.ScanLemmas.{arguments_read}
@@ -64,8 +63,8 @@ named_known Status = refl
 named_known Inspect = refl
 named_known Demo = refl
 
--- Words that say no line ask for nothing, but for a command that isn't built.
-module _ (words : Words) (built : IsNotBuilt words → ⊥) (none : says words ≡ None) where
+-- Words that say no line ask for nothing.
+module _ (words : Words) (none : says words ≡ None) where
   no_arguments : (name : CommandName) (others : Words) (raw_at : Option ℕ) (names : Words) → words ≡ text_of name ∷ others → AreArguments others raw_at names → ⊥
   no_arguments name others raw_at names words_are are =
       let read = arguments_read others raw_at names are in
@@ -75,38 +74,26 @@ module _ (words : Words) (built : IsNotBuilt words → ⊥) (none : says words �
       absurd (cc)
 
   pub AsksNothing-unread : AsksNothing words
-  AsksNothing-unread (program files) asked = no_arguments Program asked.others files.raw_at _ asked.begins.words_are asked.names.arguments
-  AsksNothing-unread resume asked = no_arguments Resume asked.others None [] asked.begins.words_are asked.none
-  AsksNothing-unread revert asked = no_arguments Revert asked.others None [] asked.begins.words_are asked.none
-  AsksNothing-unread (plan files) asked = no_arguments Plan asked.others files.raw_at _ asked.begins.words_are asked.names.arguments
-  AsksNothing-unread (verify files) asked = no_arguments Verify asked.others files.raw_at _ asked.begins.words_are asked.names.arguments
-  AsksNothing-unread (compare image) asked = no_arguments Compare asked.others None (image ∷ []) asked.begins.words_are asked.one
-  AsksNothing-unread status asked = no_arguments Status asked.others None [] asked.begins.words_are asked.none
-  AsksNothing-unread (inspect flm) asked = no_arguments Inspect asked.others None (flm ∷ []) asked.begins.words_are asked.one
-  AsksNothing-unread (demo seed) asked = no_arguments Demo asked.others None (asked.number.word ∷ []) asked.begins.words_are asked.number.one
-  AsksNothing-unread not_built asked = built asked
+  AsksNothing-unread (program files) asked = no_arguments Program asked.others files.raw_at _ asked.begins asked.names.arguments
+  AsksNothing-unread resume asked = no_arguments Resume asked.others None [] asked.begins asked.none
+  AsksNothing-unread revert asked = no_arguments Revert asked.others None [] asked.begins asked.none
+  AsksNothing-unread (plan files) asked = no_arguments Plan asked.others files.raw_at _ asked.begins asked.names.arguments
+  AsksNothing-unread (verify files) asked = no_arguments Verify asked.others files.raw_at _ asked.begins asked.names.arguments
+  AsksNothing-unread (compare image) asked = no_arguments Compare asked.others None (image ∷ []) asked.begins asked.one
+  AsksNothing-unread status asked = no_arguments Status asked.others None [] asked.begins asked.none
+  AsksNothing-unread (inspect flm) asked = no_arguments Inspect asked.others None (flm ∷ []) asked.begins asked.one
+  AsksNothing-unread (demo seed) asked = no_arguments Demo asked.others None (asked.number.word ∷ []) asked.begins asked.number.one
 
 -- What the words of a line ask for.
 module _ (words : Words) (line : Line) (is : IsLineOf words line) where
   said : IsSaid words line.command line.addresses.items line.names.items
-  said = is_said words line.command line.addresses.items line.names.items is.says
+  said = is_said words line.command line.addresses.items line.names.items is
 
   pub AsksNothing-unnamed : ((name : CommandName) → line.command ≢ text_of name) → AsksNothing words
   AsksNothing-unnamed none = AsksNothing-unknown words said.others line.command said.words_are none
 
-  built_name : (name : CommandName) → line.command ≡ text_of name → is_built name ≡ true
-  built_name name text = elim (cases_Bool (is_built name)) [
-    | inl hit ↦ hit
-    | inr miss ↦ absurd (is.built (record {
-      name = name;
-      others = said.others;
-      words_are = said.words_are ∙ ap (λ (w : List ℕ). w ∷ said.others) text;
-      not_built = miss;
-    }))
-  ]
-
   pub Asked-line : (name : CommandName) (asked : Option Command) → line.command ≡ text_of name
       → ((others : Words) → Spells others line → Fitted name others asked) → Asked words asked
   Asked-line name asked text fitted =
-      Asked-fitted name words said.others (said.words_are ∙ ap (λ (w : List ℕ). w ∷ said.others) text) (built_name name text) asked
+      Asked-fitted name words said.others (said.words_are ∙ ap (λ (w : List ℕ). w ∷ said.others) text) asked
       (fitted said.others said.scans)

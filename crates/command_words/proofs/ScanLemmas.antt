@@ -1,6 +1,5 @@
 -- The words behind the name of a command, and what they were read as.
-use Rattle.std.proofs.Common.{◌≡◌, ◌<◌, ◌∙◌, sym, ap, subst, refl, arith, inl, inr, ⊎_elim, Bool, true, false, cond, ℕ, List, [], ◌∷◌, ◌++◌, length, slice_index, codes, Option, Some, None}
-use Rattle.std.proofs.lemmas.Bool.{cases_Bool}
+use Rattle.std.proofs.Common.{◌≡◌, ◌∙◌, sym, ap, subst, refl, arith, inl, inr, ⊎_elim, Bool, true, false, cond, ℕ, List, [], ◌∷◌, ◌++◌, slice_index, codes, Option, Some, None}
 use Rattle.std.proofs.lemmas.List.{append_assoc, append-nil}
 use Rattle.std.proofs.lemmas.Option.{same_Some}
 use Rattle.std.proofs.lemmas.Slice.Eq.{bytes_eq-Decides}

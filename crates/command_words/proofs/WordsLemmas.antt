@@ -1,7 +1,6 @@
 -- Words and what they ask for.
-use Rattle.std.proofs.Common.{◌≡◌, ◌≢◌, ◌<◌, ◌≤◌, ◌∙◌, sym, ap, subst, refl, arith, inr, ◌==◌, if◌then◌else◌, Bool, true, false, ℕ, List, [], ◌∷◌, ◌++◌, length, get_or, take, drop, ◌-◌, Option, Some, None, IsSome, option_to_list}
-use Rattle.std.proofs.lemmas.List.{take_all}
-use Rattle.command_words.specs.Words.{text_of, is_built, dashes, Begins, Positional, AreArguments, AreFew, HasOneName, IsDemo, HasBoardAndImages, IsVerify, HasTargetAndImages, IsOnTarget, Command, program, resume, revert, plan, verify, compare, status, inspect, demo, not_built, Asks, AsksNothing, Asked}
+use Rattle.std.proofs.Common.{◌≡◌, ◌≢◌, ◌∙◌, sym, ap, subst, refl, ◌==◌, if◌then◌else◌, Bool, ℕ, List, [], ◌∷◌, ◌++◌, get_or, drop, Option, Some, None, IsSome, option_to_list}
+use Rattle.command_words.specs.Words.{text_of, Begins, Positional, HasOneName, IsDemo, HasBoardAndImages, IsVerify, HasTargetAndImages, IsOnTarget, Command, program, resume, revert, plan, verify, compare, status, inspect, demo, Asks, AsksNothing, Asked}
 use Rattle.command_words.specs.Files.{FilesAsked, names_in}
 use Rattle.command_words.specs.Fits.{Fits, Fitted}
 use Rattle.command_words.specs.declared.command.CommandName.{CommandName}
@@ -34,18 +33,17 @@ named-text_of Status = refl
 named-text_of Inspect = refl
 named-text_of Demo = refl
 
--- the command that a first word names is the one that the words ask for, where that is built
+-- the command that a first word names is the one that the words ask for
 abbrev IsCalled : Command → CommandName → Type 0
-IsCalled (program files) name = (name ≡ Program) × (is_built name ≡ true)
-IsCalled resume name = (name ≡ Resume) × (is_built name ≡ true)
-IsCalled revert name = (name ≡ Revert) × (is_built name ≡ true)
-IsCalled (plan files) name = (name ≡ Plan) × (is_built name ≡ true)
-IsCalled (verify files) name = (name ≡ Verify) × (is_built name ≡ true)
-IsCalled (compare image) name = (name ≡ Compare) × (is_built name ≡ true)
-IsCalled status name = (name ≡ Status) × (is_built name ≡ true)
-IsCalled (inspect flm) name = (name ≡ Inspect) × (is_built name ≡ true)
-IsCalled (demo seed) name = (name ≡ Demo) × (is_built name ≡ true)
-IsCalled not_built name = is_built name ≡ false
+IsCalled (program files) name = name ≡ Program
+IsCalled resume name = name ≡ Resume
+IsCalled revert name = name ≡ Revert
+IsCalled (plan files) name = name ≡ Plan
+IsCalled (verify files) name = name ≡ Verify
+IsCalled (compare image) name = name ≡ Compare
+IsCalled status name = name ≡ Status
+IsCalled (inspect flm) name = name ≡ Inspect
+IsCalled (demo seed) name = name ≡ Demo
 
 -- `other` is what stands in place of a first word, where there is none
 module _ (words : List (List ℕ)) (other : List ℕ) where
@@ -56,21 +54,16 @@ module _ (words : List (List ℕ)) (other : List ℕ) where
   first_is : (command : CommandName) (others : List (List ℕ)) → words ≡ text_of command ∷ others → first_name ≡ command
   first_is command others words_are = ap (λ (w : List (List ℕ)). named (get_or w 0 other)) words_are ∙ named-text_of command
 
-  begun : (command : CommandName) (others : List (List ℕ)) → Begins command words others → (first_name ≡ command) × (is_built first_name ≡ true)
-  begun command others begins =
-      let is = first_is command others begins.words_are in (is, ap is_built is ∙ begins.built)
-
   called : (command : Command) → Asks words command → IsCalled command first_name
-  called (program files) asked = begun Program asked.others asked.begins
-  called resume asked = begun Resume asked.others asked.begins
-  called revert asked = begun Revert asked.others asked.begins
-  called (plan files) asked = begun Plan asked.others asked.begins
-  called (verify files) asked = begun Verify asked.others asked.begins
-  called (compare image) asked = begun Compare asked.others asked.begins
-  called status asked = begun Status asked.others asked.begins
-  called (inspect flm) asked = begun Inspect asked.others asked.begins
-  called (demo seed) asked = begun Demo asked.others asked.begins
-  called not_built asked = ap is_built (first_is asked.name asked.others asked.words_are) ∙ asked.not_built
+  called (program files) asked = first_is Program asked.others asked.begins
+  called resume asked = first_is Resume asked.others asked.begins
+  called revert asked = first_is Revert asked.others asked.begins
+  called (plan files) asked = first_is Plan asked.others asked.begins
+  called (verify files) asked = first_is Verify asked.others asked.begins
+  called (compare image) asked = first_is Compare asked.others asked.begins
+  called status asked = first_is Status asked.others asked.begins
+  called (inspect flm) asked = first_is Inspect asked.others asked.begins
+  called (demo seed) asked = first_is Demo asked.others asked.begins
 
 -- a first word that names no command
 module _ (words others : List (List ℕ)) (first : List ℕ) (is : words ≡ first ∷ others) (none : (name : CommandName) → first ≢ text_of name) where
@@ -78,19 +71,18 @@ module _ (words others : List (List ℕ)) (first : List ℕ) (is : words ≡ fir
   no_beginning name rest words_are = none name (ap (λ (w : List (List ℕ)). get_or w 0 []) (sym is ∙ words_are))
 
   pub AsksNothing-unknown : AsksNothing words
-  AsksNothing-unknown (program files) asked = no_beginning Program asked.others asked.begins.words_are
-  AsksNothing-unknown resume asked = no_beginning Resume asked.others asked.begins.words_are
-  AsksNothing-unknown revert asked = no_beginning Revert asked.others asked.begins.words_are
-  AsksNothing-unknown (plan files) asked = no_beginning Plan asked.others asked.begins.words_are
-  AsksNothing-unknown (verify files) asked = no_beginning Verify asked.others asked.begins.words_are
-  AsksNothing-unknown (compare image) asked = no_beginning Compare asked.others asked.begins.words_are
-  AsksNothing-unknown status asked = no_beginning Status asked.others asked.begins.words_are
-  AsksNothing-unknown (inspect flm) asked = no_beginning Inspect asked.others asked.begins.words_are
-  AsksNothing-unknown (demo seed) asked = no_beginning Demo asked.others asked.begins.words_are
-  AsksNothing-unknown not_built asked = no_beginning asked.name asked.others asked.words_are
+  AsksNothing-unknown (program files) asked = no_beginning Program asked.others asked.begins
+  AsksNothing-unknown resume asked = no_beginning Resume asked.others asked.begins
+  AsksNothing-unknown revert asked = no_beginning Revert asked.others asked.begins
+  AsksNothing-unknown (plan files) asked = no_beginning Plan asked.others asked.begins
+  AsksNothing-unknown (verify files) asked = no_beginning Verify asked.others asked.begins
+  AsksNothing-unknown (compare image) asked = no_beginning Compare asked.others asked.begins
+  AsksNothing-unknown status asked = no_beginning Status asked.others asked.begins
+  AsksNothing-unknown (inspect flm) asked = no_beginning Inspect asked.others asked.begins
+  AsksNothing-unknown (demo seed) asked = no_beginning Demo asked.others asked.begins
 
--- Words that begin with the name of a built command ask for what the others make of it.
-module _ (name : CommandName) (words others : List (List ℕ)) (is : words ≡ text_of name ∷ others) (built : is_built name ≡ true) where
+-- Words that begin with the name of a command ask for what the others make of it.
+module _ (name : CommandName) (words others : List (List ℕ)) (is : words ≡ text_of name ∷ others) where
   -- what holds of the name with which the words begin, and of the words behind it
   same_beginning : (P : CommandName → List (List ℕ) → Type 0) (command : CommandName) (rest : List (List ℕ)) → words ≡ text_of command ∷ rest → P command rest → P name others
   same_beginning P command rest words_are holds =
@@ -99,33 +91,29 @@ module _ (name : CommandName) (words others : List (List ℕ)) (is : words ≡ t
       subst (λ (n : CommandName). P n others) name_is (subst (λ (r : List (List ℕ)). P command r) rest_is holds)
 
   fits : (command : Command) → Asks words command → Fits name others command
-  fits (program files) asked = same_beginning (λ n o. Fits n o (program files)) Program asked.others asked.begins.words_are asked.names
-  fits resume asked = same_beginning (λ n o. Fits n o resume) Resume asked.others asked.begins.words_are asked.none
-  fits revert asked = same_beginning (λ n o. Fits n o revert) Revert asked.others asked.begins.words_are asked.none
-  fits (plan files) asked = same_beginning (λ n o. Fits n o (plan files)) Plan asked.others asked.begins.words_are asked.names
-  fits (verify files) asked = same_beginning (λ n o. Fits n o (verify files)) Verify asked.others asked.begins.words_are asked.names
-  fits (compare image) asked = same_beginning (λ n o. Fits n o (compare image)) Compare asked.others asked.begins.words_are asked.one
-  fits status asked = same_beginning (λ n o. Fits n o status) Status asked.others asked.begins.words_are asked.none
-  fits (inspect flm) asked = same_beginning (λ n o. Fits n o (inspect flm)) Inspect asked.others asked.begins.words_are asked.one
-  fits (demo seed) asked = same_beginning (λ n o. Fits n o (demo seed)) Demo asked.others asked.begins.words_are asked.number
-  fits not_built asked =
-      let unbuilt : is_built name ≡ false = same_beginning (λ n o. is_built n ≡ false) asked.name asked.others asked.words_are asked.not_built in
-      let wrong : false ≡ true = sym unbuilt ∙ built in
-      absurd (cc)
+  fits (program files) asked = same_beginning (λ n o. Fits n o (program files)) Program asked.others asked.begins asked.names
+  fits resume asked = same_beginning (λ n o. Fits n o resume) Resume asked.others asked.begins asked.none
+  fits revert asked = same_beginning (λ n o. Fits n o revert) Revert asked.others asked.begins asked.none
+  fits (plan files) asked = same_beginning (λ n o. Fits n o (plan files)) Plan asked.others asked.begins asked.names
+  fits (verify files) asked = same_beginning (λ n o. Fits n o (verify files)) Verify asked.others asked.begins asked.names
+  fits (compare image) asked = same_beginning (λ n o. Fits n o (compare image)) Compare asked.others asked.begins asked.one
+  fits status asked = same_beginning (λ n o. Fits n o status) Status asked.others asked.begins asked.none
+  fits (inspect flm) asked = same_beginning (λ n o. Fits n o (inspect flm)) Inspect asked.others asked.begins asked.one
+  fits (demo seed) asked = same_beginning (λ n o. Fits n o (demo seed)) Demo asked.others asked.begins asked.number
 
   pub Asked-fitted : (asked : Option Command) → Fitted name others asked → Asked words asked
-  Asked-fitted (Some command) fitted = asks name is built command fitted where
-    asks : (n : CommandName) → words ≡ text_of n ∷ others → is_built n ≡ true → (command : Command) → Fits n others command → Asks words command
-    asks Program is built (program files) fits = record { others = others; begins = record { words_are = is; built = built }; names = fits }
-    asks Resume is built resume fits = record { others = others; begins = record { words_are = is; built = built }; none = fits }
-    asks Revert is built revert fits = record { others = others; begins = record { words_are = is; built = built }; none = fits }
-    asks Plan is built (plan files) fits = record { others = others; begins = record { words_are = is; built = built }; names = fits }
-    asks Verify is built (verify files) fits = record { others = others; begins = record { words_are = is; built = built }; names = fits }
-    asks Compare is built (compare image) fits = record { others = others; begins = record { words_are = is; built = built }; one = fits }
-    asks Status is built status fits = record { others = others; begins = record { words_are = is; built = built }; none = fits }
-    asks Inspect is built (inspect flm) fits = record { others = others; begins = record { words_are = is; built = built }; one = fits }
-    asks Demo is built (demo seed) fits = record { others = others; begins = record { words_are = is; built = built }; number = fits }
-    asks n is built command fits = absurd fits
+  Asked-fitted (Some command) fitted = asks name is command fitted where
+    asks : (n : CommandName) → words ≡ text_of n ∷ others → (command : Command) → Fits n others command → Asks words command
+    asks Program is (program files) fits = record { others = others; begins = is; names = fits }
+    asks Resume is resume fits = record { others = others; begins = is; none = fits }
+    asks Revert is revert fits = record { others = others; begins = is; none = fits }
+    asks Plan is (plan files) fits = record { others = others; begins = is; names = fits }
+    asks Verify is (verify files) fits = record { others = others; begins = is; names = fits }
+    asks Compare is (compare image) fits = record { others = others; begins = is; one = fits }
+    asks Status is status fits = record { others = others; begins = is; none = fits }
+    asks Inspect is (inspect flm) fits = record { others = others; begins = is; one = fits }
+    asks Demo is (demo seed) fits = record { others = others; begins = is; number = fits }
+    asks n is command fits = absurd fits
   Asked-fitted None none = λ command asked. none command (fits command asked)
 
 -- A list of words has at most one command.
@@ -136,7 +124,7 @@ one_name_alone words a b one two =
 
 -- the words behind one name
 same_others : (command : CommandName) (words xs ys : List (List ℕ)) → Begins command words xs → Begins command words ys → xs ≡ ys
-same_others command words xs ys one two = ap (λ (w : List (List ℕ)). drop 1 w) (sym one.words_are ∙ two.words_are)
+same_others command words xs ys one two = ap (λ (w : List (List ℕ)). drop 1 w) (sym one ∙ two)
 
 same_name : (command : CommandName) (words : List (List ℕ)) (a b : List ℕ) → HasOneName command words a → HasOneName command words b → a ≡ b
 same_name command words a b one two =
@@ -204,7 +192,6 @@ one_command words (compare a) (compare b) one two = ap compare (same_name Compar
 one_command words status status one two = refl
 one_command words (inspect a) (inspect b) one two = ap inspect (same_name Inspect words a b one two)
 one_command words (demo a) (demo b) one two = ap demo (same_seed words a b one two)
-one_command words not_built not_built one two = refl
 one_command words a b one two =
     absurd (let called_one = called words [] a one in let called_other = called words [] b two in let no : ⊥ = cc in no)
 

@@ -1,11 +1,11 @@
 -- The line that words were read as.
-use Rattle.std.specs.Prelude.{◌≡◌, ◌≢◌, ℕ, List, [], ◌∷◌, Option, Some, None}
+use Rattle.std.specs.Prelude.{◌≡◌, ℕ, List, [], ◌∷◌, Option, Some, None}
 use Rattle.command_line.specs.Scan.{scan, says}
 use Rattle.command_line.specs.Shown.{shown}
 use Rattle.command_line.specs.declared.line.Line.{Line}
-use Rattle.command_words.specs.Words.{IsAddress, IsNotBuilt, AsksNothing}
+use Rattle.command_words.specs.Words.{IsAddress, AsksNothing}
 use Rattle.command_words.specs.declared.line.CommandLine.{CommandLine}
-use Rattle.command_words.specs.declared.line.CommandLine.TheVariants.{NotBuilt, Faulty, Line as line_that}
+use Rattle.command_words.specs.declared.line.CommandLine.TheVariants.{Faulty, Line as line_that}
 
 -- the words behind the name of a command have these addresses and these positional words
 abbrev pub Spells : List (List ℕ) → Line → Type 0
@@ -17,13 +17,11 @@ Gives [] None = Unit {0}
 Gives (address ∷ []) (Some at) = IsAddress address at
 Gives _ _ = ⊥
 
--- the words begin with no name of a command that isn't built, and they say this line
-pub record IsLineOf (words : List (List ℕ)) (line : Line) : Type 0 where
-  pub built : IsNotBuilt words → ⊥
-  pub says : says words ≡ Some (shown line)
+-- the words say this line
+abbrev pub IsLineOf : List (List ℕ) → Line → Type 0
+IsLineOf words line = says words ≡ Some (shown line)
 
 -- the words were read as this
 abbrev pub IsReadAs : List (List ℕ) → CommandLine → Type 0
-IsReadAs words NotBuilt = IsNotBuilt words
 IsReadAs words Faulty = AsksNothing words
 IsReadAs words (line_that line) = IsLineOf words line

@@ -1,5 +1,5 @@
 -- What the words of a command line ask for.
-use Rattle.std.specs.Prelude.{◌≡◌, ◌≤◌, ◌<◌, ◌^◌, ◌⊎◌, ℕ, Bool, true, false, List, [], ◌∷◌, ◌++◌, length, All, slice_index, codes, Option, Some, None, IsSome}
+use Rattle.std.specs.Prelude.{◌≡◌, ◌≤◌, ◌<◌, ◌^◌, ◌⊎◌, ℕ, List, [], ◌∷◌, ◌++◌, length, All, slice_index, codes, Option, Some, None, IsSome}
 use Rattle.std.specs.Str.Parse.{IsNumeral, digits_value}
 use Rattle.command_words.specs.Files.{FilesAsked, names_in}
 use Rattle.command_words.specs.declared.command.CommandName.{CommandName}
@@ -16,17 +16,6 @@ text_of Compare = codes "compare"
 text_of Status = codes "status"
 text_of Inspect = codes "inspect"
 text_of Demo = codes "demo"
-
-abbrev pub is_built : CommandName → Bool
-is_built Program = true
-is_built Resume = true
-is_built Revert = true
-is_built Plan = true
-is_built Verify = true
-is_built Compare = true
-is_built Status = true
-is_built Inspect = true
-is_built _ = false
 
 -- an option begins with `-` and is longer than one byte
 abbrev pub IsOption : List ℕ → Type 0
@@ -56,10 +45,9 @@ pub record EndedByDashes (words positional : List (List ℕ)) : Type 0 where
 abbrev pub Positional : List (List ℕ) → List (List ℕ) → Type 0
 Positional words positional = AllPositional words positional ⊎ EndedByDashes words positional
 
--- the words are the command's name, and others; and the command is built
-pub record Begins (command : CommandName) (words others : List (List ℕ)) : Type 0 where
-  pub words_are : words ≡ text_of command ∷ others
-  pub built : is_built command ≡ true
+-- the words are the command's name, and others
+abbrev pub Begins : CommandName → List (List ℕ) → List (List ℕ) → Type 0
+Begins command words others = words ≡ text_of command ∷ others
 
 -- the command with no name
 pub record HasNoName (command : CommandName) (words : List (List ℕ)) : Type 0 where
@@ -183,13 +171,6 @@ IsProgram words files = IsOnTarget Program words files
 abbrev pub IsPlan : List (List ℕ) → FilesAsked → Type 0
 IsPlan words files = IsOnTarget Plan words files
 
--- the first word names a command that isn't built, whatever the other words are
-pub record IsNotBuilt (words : List (List ℕ)) : Type 0 where
-  pub name : CommandName
-  pub others : List (List ℕ)
-  pub words_are : words ≡ text_of name ∷ others
-  pub not_built : is_built name ≡ false
-
 -- What words ask for: a command, with the names of its files or its number.
 
 pub data Command : Type 0 where
@@ -202,7 +183,6 @@ pub data Command : Type 0 where
   status : Command
   inspect : (flm : List ℕ) → Command
   demo : (seed : ℕ) → Command
-  not_built : Command
 
 abbrev pub Asks : List (List ℕ) → Command → Type 0
 Asks words (program files) = IsProgram words files
@@ -214,7 +194,6 @@ Asks words (compare image) = IsCompare words image
 Asks words status = HasNoName Status words
 Asks words (inspect flm) = IsInspect words flm
 Asks words (demo seed) = IsDemo words seed
-Asks words not_built = IsNotBuilt words
 
 -- the names of the files that a command may take, in the order of the words
 abbrev pub names_asked : Command → List (List ℕ)

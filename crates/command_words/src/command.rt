@@ -1,6 +1,6 @@
 //! The commands, with what each is given.
 ghost use Rattle.std.specs.Prelude.{◌≡◌, ◌≢◌, IfSome, IfNone};
-ghost use Rattle.command_words.specs.Words.{text_of, is_built};
+ghost use Rattle.command_words.specs.Words.{text_of};
 ghost use Rattle.command_words.specs.declared.command.CommandName.{CommandName};
 
 use crate::names::Names;
@@ -37,18 +37,6 @@ impl CommandName {
             b"inspect" => Some(CommandName::Inspect),
             b"demo" => Some(CommandName::Demo),
             _ => None,
-        }
-    }
-
-    /// Whether the command is built.
-    pub fn is_built(self) -> bool
-        ensures { result ≡ is_built self }
-    {
-        match self {
-            CommandName::Program | CommandName::Resume | CommandName::Revert => true,
-            CommandName::Plan | CommandName::Verify | CommandName::Compare => true,
-            CommandName::Status | CommandName::Inspect => true,
-            _ => false,
         }
     }
 }
@@ -92,7 +80,4 @@ pub enum Request<'a> {
 
     /// Runs the job in memory that is made of this number.
     Demo { seed: u32 },
-
-    /// A command that isn't built yet.
-    NotBuilt,
 }

@@ -1,8 +1,8 @@
 //! The words of a command line.
-ghost use Rattle.std.specs.Prelude.{◌↔◌, ℕ, List, IfOk, IfErr, IsTrue, option_map};
+ghost use Rattle.std.specs.Prelude.{ℕ, List, IfOk, option_map};
 ghost use Rattle.command_words.specs.Lines.{IsReadAs, IsLineOf};
 ghost use Rattle.command_words.specs.Requested.{command_of};
-ghost use Rattle.command_words.specs.Words.{Asked, IsNotBuilt};
+ghost use Rattle.command_words.specs.Words.{Asked};
 
 use crate::command::{CommandName, Request};
 use crate::fit::read_command;
@@ -14,9 +14,6 @@ use std::alloc::Global;
 /// The words of a command line, as they were read.
 #[derive(Debug, Drop)]
 pub enum CommandLine {
-    /// The first names a command that isn't built yet.
-    NotBuilt,
-
     /// They fit no command.
     Faulty,
 
@@ -27,12 +24,8 @@ pub enum CommandLine {
 impl CommandLine {
     /// Reads words. Words that fit no command are no error: `request` answers none then.
     pub fn read(alloc: Global, words: &[Word]) -> Result<CommandLine, OutOfMemory>
-        ensures line { IfOk result (IsReadAs words.now) }
-        ensures built { IfErr result (λ _. IsNotBuilt words.now → ⊥) }
+        ensures { IfOk result (IsReadAs words.now) }
     {
-        if names_no_built_command(words) {
-            return Ok(CommandLine::NotBuilt);
-        }
         match read_line(alloc, words) {
             Ok(line) => Ok(CommandLine::Line(line)),
             Err(LineFault::Usage) => Ok(CommandLine::Faulty),
@@ -45,23 +38,9 @@ impl CommandLine {
         ensures { (words : List (List ℕ)) → IsReadAs words self.now → Asked words (option_map command_of result) }
     {
         match self {
-            CommandLine::NotBuilt => Some(Request::NotBuilt),
             CommandLine::Faulty => None,
             CommandLine::Line(line) => request_of(line),
         }
-    }
-}
-
-/// Whether the first word names a command that isn't built yet.
-fn names_no_built_command(words: &[Word]) -> bool
-    ensures { IsTrue result ↔ IsNotBuilt words.now }
-{
-    match words {
-        [] => false,
-        [first, ..] => match CommandName::read(first) {
-            None => false,
-            Some(name) => !name.is_built(),
-        },
     }
 }
 

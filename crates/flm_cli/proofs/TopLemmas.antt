@@ -1,5 +1,5 @@
 -- What words ask for, and calls that end before any work.
-use Rattle.std.proofs.Common.{◌≡◌, refl, inl, inr, subst, arith, true, false, ℕ, Bool, IsTrue, List, length, All, Option, Some, None, IfSome}
+use Rattle.std.proofs.Common.{◌≡◌, refl, inl, inr, subst, arith, ℕ, Bool, IsTrue, List, length, Option, Some, None}
 use Rattle.bench_model.specs.History.{left}
 use Rattle.bench_model.specs.State.{BenchState, cells_half}
 use Rattle.bench_model.specs.Calls.{SameOutside}
@@ -8,7 +8,7 @@ use Rattle.outside_io.specs.State.{InputsState, SinkState}
 use Rattle.flash_session.specs.declared.goal.Goal.TheVariants.{New, Old}
 use Rattle.report_text.specs.Refusal.{Refusal, out_of_memory}
 use Rattle.report_text.specs.Refusal as refusal
-use Rattle.command_words.specs.Words.{Command, program, resume, revert, plan, verify, compare, status, inspect, demo, not_built, IsNotBuilt, Asks, Asked, names_asked}
+use Rattle.command_words.specs.Words.{Command, program, resume, revert, plan, verify, compare, status, inspect, demo, Asked}
 use Rattle.command_words.proofs.WordsLemmas.{one_asked}
 use Rattle.command_files.specs.Inputs.{InputsCall, TakesNothing, inputs_call}
 use Rattle.command_answers.specs.Call.{BenchCall, SinkCall, Answer, refused, bench_call, sink_call}
@@ -18,7 +18,8 @@ use Rattle.job_commands.proofs.ProgramLemmas as begin
 use Rattle.job_file.specs.declared.fault.OpenFault.TheVariants as opening
 use Rattle.job_status.specs.Status.{StatusEnds}
 use Rattle.job_status.proofs.StatusLemmas.{ends_refused}
-use Rattle.flm_cli.specs.Answers.{EndsAtOnce, EndsUnfit, EndsOf}
+use Rattle.demo_job.specs.Command.{DemoEnds}
+use Rattle.flm_cli.specs.Answers.{EndsUnfit, EndsOf}
 use Rattle.flm_cli.proofs.CompareLemmas as comparison
 use Rattle.flm_cli.proofs.InspectLemmas as inspection
 use Rattle.flm_cli.proofs.PlanLemmas as planning
@@ -44,9 +45,6 @@ module _ (tells given told : Bool) (b : BenchState) (i : InputsState) (o : SinkS
   took_nothing : TakesNothing Inputs
   took_nothing = record { stands = λ name. refl; faults = refl }
 
-  pub at_once : (refusal : Refusal) → EndsAtOnce refusal Bench Inputs Out (refused refusal)
-  at_once refusal = record { answer_is = refl; did = did_nothing tells told b o; takes = took_nothing }
-
   pub unfit : EndsUnfit Bench Inputs Out (refused refusal.usage)
   unfit = record { answer_is = inl refl; did = did_nothing tells told b o; takes = took_nothing }
 
@@ -56,17 +54,22 @@ module _ (tells given told : Bool) (b : BenchState) (i : InputsState) (o : SinkS
       ends_refused tells b b Inputs took_nothing (only_reads_here tells b) told o opening.OutOfMemory (λ is. cc)
       (record { later = omega arith; on_fault = λ is. cc; on_other = λ is. refl }) (λ its. tt)
 
-  -- want of memory for the words, whatever they ask for that is built
+  -- `demo`, for want of memory before it ran
+  demo_unbegun : (seed : ℕ) → DemoEnds seed Bench Inputs Out (refused out_of_memory)
+  demo_unbegun seed =
+      let did = did_nothing tells told b o in
+      record { untouched = did.untouched; takes = took_nothing; says = inl (record { answer_is = refl; prints = did.prints }) }
+
+  -- want of memory for the words, whatever they ask for
   pub ends_unread : (IsTrue tells → length b.cells ≡ b.cell_count) → (IsTrue tells → (x : List ℕ) → left (cells_half b) x → SameOutside b.operation b.cells x)
-      → (words : List (List ℕ)) → (IsNotBuilt words → ⊥) → (asked : Option Command) → Asked words asked → EndsOf asked Bench Inputs Out (refused out_of_memory)
-  ends_unread many exact words built None given = record { answer_is = inr refl; did = did_nothing tells told b o; takes = took_nothing }
-  ends_unread many exact words built (Some (program files)) given = begin.ends_untaken tells told b o Inputs files many exact out_of_memory refl
-  ends_unread many exact words built (Some resume) given = go_on.ends_unread tells told b o Inputs New many exact took_nothing
-  ends_unread many exact words built (Some revert) given = go_on.ends_unread tells told b o Inputs Old many exact took_nothing
-  ends_unread many exact words built (Some (plan files)) given = planning.ends_early tells told b o Inputs files out_of_memory (inl refl)
-  ends_unread many exact words built (Some (verify files)) given = verification.ends_untaken tells told b o Inputs files out_of_memory refl
-  ends_unread many exact words built (Some (compare image)) given = comparison.ends_untaken tells told b o Inputs image out_of_memory refl
-  ends_unread many exact words built (Some status) given = status_unread
-  ends_unread many exact words built (Some (inspect flm)) given = inspection.ends_untaken tells told b o Inputs flm out_of_memory refl
-  ends_unread many exact words built (Some (demo seed)) given = let wrong : false ≡ true = given.begins.built in absurd (cc)
-  ends_unread many exact words built (Some not_built) given = absurd (built given)
+      → (words : List (List ℕ)) → (asked : Option Command) → Asked words asked → EndsOf asked Bench Inputs Out (refused out_of_memory)
+  ends_unread many exact words None given = record { answer_is = inr refl; did = did_nothing tells told b o; takes = took_nothing }
+  ends_unread many exact words (Some (program files)) given = begin.ends_untaken tells told b o Inputs files many exact out_of_memory refl
+  ends_unread many exact words (Some resume) given = go_on.ends_unread tells told b o Inputs New many exact took_nothing
+  ends_unread many exact words (Some revert) given = go_on.ends_unread tells told b o Inputs Old many exact took_nothing
+  ends_unread many exact words (Some (plan files)) given = planning.ends_early tells told b o Inputs files out_of_memory (inl refl)
+  ends_unread many exact words (Some (verify files)) given = verification.ends_untaken tells told b o Inputs files out_of_memory refl
+  ends_unread many exact words (Some (compare image)) given = comparison.ends_untaken tells told b o Inputs image out_of_memory refl
+  ends_unread many exact words (Some status) given = status_unread
+  ends_unread many exact words (Some (inspect flm)) given = inspection.ends_untaken tells told b o Inputs flm out_of_memory refl
+  ends_unread many exact words (Some (demo seed)) given = demo_unbegun seed

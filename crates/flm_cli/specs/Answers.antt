@@ -1,11 +1,11 @@
 -- What a call of `flmprog` answers, by its command.
 use Rattle.std.specs.Prelude.{◌≡◌, ◌⊎◌, Option, Some, None}
-use Rattle.report_text.specs.Refusal.{Refusal}
 use Rattle.report_text.specs.Refusal as refusal
-use Rattle.command_words.specs.Words.{Command, program, resume, revert, plan, verify, compare, status, inspect, demo, not_built}
+use Rattle.command_words.specs.Words.{Command, program, resume, revert, plan, verify, compare, status, inspect, demo}
 use Rattle.command_files.specs.Inputs.{InputsCall, TakesNothing}
 use Rattle.command_answers.specs.Call.{BenchCall, SinkCall, Call, Answer, refused}
 use Rattle.command_answers.specs.Answered.{DidNothing, AnswersBy}
+use Rattle.demo_job.specs.Command.{DemoEnds}
 use Rattle.flash_session.specs.declared.goal.Goal.{Goal}
 use Rattle.flash_session.specs.declared.goal.Goal.TheVariants.{New, Old}
 use Rattle.job_commands.specs.GoOn.{GoOnEnds}
@@ -15,13 +15,6 @@ use Rattle.flm_cli.specs.Compare.{CompareEnds}
 use Rattle.flm_cli.specs.Inspect.{InspectEnds}
 use Rattle.flm_cli.specs.Plan.{PlanEnds}
 use Rattle.flm_cli.specs.Verify.{VerifyEnds}
-
--- The work of a call that runs no command: it ends with this refusal. The bench is as it was, no input was taken, and nothing
--- went to `out`.
-pub record EndsAtOnce (refusal : Refusal) (bench : BenchCall) (inputs : InputsCall) (out : SinkCall) (answer : Answer) : Type 0 where
-  pub answer_is : answer ≡ refused refusal
-  pub did : DidNothing bench out
-  pub takes : TakesNothing inputs
 
 -- The work of words that fit no command: it ends so, or for want of memory, with nothing done.
 pub record EndsUnfit (bench : BenchCall) (inputs : InputsCall) (out : SinkCall) (answer : Answer) : Type 0 where
@@ -39,8 +32,7 @@ EndsOf (Some (verify files)) = VerifyEnds files
 EndsOf (Some (compare image)) = CompareEnds image
 EndsOf (Some status) = StatusEnds
 EndsOf (Some (inspect flm)) = InspectEnds flm
-EndsOf (Some (demo seed)) = EndsAtOnce refusal.not_built
-EndsOf (Some not_built) = EndsAtOnce refusal.not_built
+EndsOf (Some (demo seed)) = DemoEnds seed
 EndsOf None = EndsUnfit
 
 -- The call of words that ask for this, or for nothing.

@@ -10,5 +10,6 @@ mod top;
 mod unlike;
 mod verify;
 
+pub use demo_job::{Demo, DemoLines, demo_run, made_cells, put_demo};
 pub use law::calls_of_flmprog_are_safe;
 pub use top::flmprog;

@@ -13,6 +13,7 @@ use crate::plan::plan;
 use crate::verify::verify;
 use bench_model::Bench;
 use command_words::{CommandLine, Request};
+use demo_job::demo;
 use flash_session::Goal;
 use job_commands::{go_on, program};
 use job_status::status;
@@ -61,7 +62,6 @@ fn run<'a, B: Bench, I: Inputs, O: Sink>(
 {
     match line.request() {
         None => Err(Refusal::Usage),
-        Some(Request::NotBuilt) => Err(Refusal::NotBuilt),
         Some(Request::Program(names)) => program(alloc, &names, bench, inputs, out),
         Some(Request::Resume) => go_on(alloc, Goal::New, bench, out),
         Some(Request::Revert) => go_on(alloc, Goal::Old, bench, out),
@@ -70,7 +70,7 @@ fn run<'a, B: Bench, I: Inputs, O: Sink>(
         Some(Request::Compare { image }) => compare(alloc, image, bench, inputs, out),
         Some(Request::Status) => status(alloc, bench, out),
         Some(Request::Inspect { flm }) => inspect(alloc, flm, bench, inputs, out),
-        Some(Request::Demo { seed: _ }) => Err(Refusal::NotBuilt),
+        Some(Request::Demo { seed }) => demo(alloc, seed, out),
     }
 }
 

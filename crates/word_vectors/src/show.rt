@@ -41,7 +41,6 @@ fn show(rt: &HostRuntime, request: &Request<'_>) -> Result<()> {
         Request::Status => println!(rt; "  status")?,
         Request::Inspect { flm } => println!(rt; "  inspect [{}]", flm.text())?,
         Request::Demo { seed } => println!(rt; "  demo {seed}")?,
-        Request::NotBuilt => println!(rt; "  not built")?,
     }
     Ok(())
 }

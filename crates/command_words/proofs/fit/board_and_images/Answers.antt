@@ -1,6 +1,5 @@
 use Rattle.std.proofs.Common.{◌≡◌, ◌∙◌, ◌-◌, true, false, refl, sym, ap, subst, arith, ℕ, List, length, take, drop}
 use Rattle.command_words.specs.Lines.{Gives}
-use Rattle.command_words.specs.Words.{AreFew}
 use Rattle.command_words.proofs.FitLemmas.{board_without_address, no_board, many_images, board_fits, one_front}
 use Rattle.command_words.proofs.fit.board_and_images.Goals as goal
 

@@ -1,6 +1,5 @@
 use Rattle.std.proofs.Common.{◌≡◌, ◌∙◌, ◌-◌, true, false, refl, sym, ap, subst, arith, ℕ, List, length, take, drop}
 use Rattle.command_words.specs.Lines.{Gives}
-use Rattle.command_words.specs.Words.{AreFew}
 use Rattle.command_words.proofs.FitLemmas.{target_without_address, no_target, many_target_images, target_fits, two_fronts}
 use Rattle.command_words.proofs.fit.target_and_images.Goals as goal
 

@@ -6,7 +6,7 @@ use Rattle.flm_cli.proofs.TopLemmas.{ends_unread}
 use Rattle.flm_cli.proofs.top.flmprog.Goals as goal
 
 pub run-end-requires-clause-read : goal.run-end-requires-clause-read
-run-end-requires-clause-read g c = c.in-Ok.ensures.line
+run-end-requires-clause-read g c = c.in-Ok.ensures
 
 pub returns-in-Err : goal.returns-in-Err
 returns-in-Err g c = λ asked given. record {
@@ -15,7 +15,7 @@ returns-in-Err g c = λ asked given. record {
   zero = zero_is_done _ _ (refused out_of_memory) c.report-in-Err.ensures;
   ends = ends_unread g.B.Bench.tells g.I.Inputs.tells g.O.Sink.tells (g.B.Bench.state c.args.bench.now) (g.I.Inputs.state c.args.inputs.now) (g.O.Sink.state c.args.out.now)
       (λ told. g.met.B.Bench.all_told c.args.bench.now told) (λ told x at. (g.met.B.Bench.as_told c.args.bench.now x told).0 at)
-      c.args.words.now c.in-Err.ensures.built asked given;
+      c.args.words.now asked given;
 }
 
 pub returns-in-Ok : goal.returns-in-Ok

@@ -1,22 +1,18 @@
 use Rattle.std.proofs.Common.{refl, subst, Option, Some, None, []}
 use Rattle.std.proofs.lemmas.List.Elements.{All-head}
-use Rattle.command_words.specs.Words.{Command, program, resume, revert, plan, verify, compare, status, inspect, demo, not_built, Asked}
+use Rattle.command_words.specs.Words.{Command, program, resume, revert, plan, verify, compare, status, inspect, demo, Asked}
 use Rattle.command_words.specs.Requested.{files_of}
 use Rattle.command_words.proofs.WordsLemmas.{one_asked}
 use Rattle.command_files.specs.Inputs.{inputs_call}
-use Rattle.report_text.specs.Refusal as refusal
 use Rattle.command_answers.specs.Call.{bench_call, sink_call}
 use Rattle.command_answers.specs.Shown.{answer_of}
+use Rattle.command_answers.proofs.AnswerLemmas.{untouched_here}
 use Rattle.flm_cli.specs.Answers.{EndsOf}
-use Rattle.flm_cli.proofs.TopLemmas.{at_once, ends_as, unfit}
+use Rattle.flm_cli.proofs.TopLemmas.{ends_as, unfit}
 use Rattle.flm_cli.proofs.top.run.Goals as goal
 
 pub returns-in-None : goal.returns-in-None
 returns-in-None g c = λ asked given. ends_as c.args.words.now None asked _ _ _ _ (c.in-None.ensures c.args.words.now c.requires.read) given (unfit _ _ _ _ _ _)
-
-pub returns-in-Some-NotBuilt : goal.returns-in-Some-NotBuilt
-returns-in-Some-NotBuilt g c = λ asked given.
-    ends_as c.args.words.now (Some not_built) asked _ _ _ _ (rw c.in-Some-NotBuilt.field-0-is at (c.in-Some-NotBuilt.ensures c.args.words.now c.requires.read)) given (at_once _ _ _ _ _ _ refusal.not_built)
 
 pub program-requires-clause-has_flm : goal.program-requires-clause-has_flm
 program-requires-clause-has_flm g c =
@@ -52,7 +48,8 @@ returns-in-Some-Status g c = λ asked given.
 
 pub returns-in-Some-Demo : goal.returns-in-Some-Demo
 returns-in-Some-Demo g c = λ asked given.
-    ends_as c.args.words.now (Some (demo c.in-Some-Demo.field-0-0)) asked _ _ _ _ (rw c.in-Some-Demo.field-0-is at (c.in-Some-Demo.ensures c.args.words.now c.requires.read)) given (at_once _ _ _ _ _ _ refusal.not_built)
+    ends_as c.args.words.now (Some (demo c.in-Some-Demo.seed)) asked _ _ _ _ (rw c.in-Some-Demo.field-0-is at (c.in-Some-Demo.ensures c.args.words.now c.requires.read)) given
+    (record { untouched = untouched_here g.B.Bench.tells (g.B.Bench.state c.args.bench.now); takes = record { stands = λ name. refl; faults = refl }; says = c.demo.ensures })
 
 pub plan-requires-clause-has_flm : goal.plan-requires-clause-has_flm
 plan-requires-clause-has_flm g c =
