@@ -67,19 +67,22 @@ impl JobFile {
     }
 }
 
-/// Opens a job file, or makes it. An empty one, as it is when it was just made, has its entry in its folder synced, so
-/// that a host which loses power still finds the file under its name.
+/// Opens a job file, or makes it.
 fn open_or_make(rt: HostRuntime, name: &str, guard: &mut SyncGuard) -> io::Result<File> {
     match OpenOptions::new().read(true).write(true).open(&rt, name) {
-        Ok(file) => {
-            if file.metadata()?.len() == 0 {
-                guard.sync(&open_real_folder(rt, name)?)?;
-            }
-            Ok(file)
-        }
+        Ok(file) => sync_entry(rt, name, file, guard),
         Err(fault) if fault.kind() == ErrorKind::NotFound => make(rt, name, guard),
         Err(fault) => Err(fault),
     }
+}
+
+/// Answers a job file, once the entry of an empty one, as it is when it was just made, is synced in its folder: so a host
+/// that loses power still finds the file under its name.
+fn sync_entry(rt: HostRuntime, name: &str, file: File, guard: &mut SyncGuard) -> io::Result<File> {
+    if file.metadata()?.len() == 0 {
+        guard.sync(&open_real_folder(rt, name)?)?;
+    }
+    Ok(file)
 }
 
 /// Makes a job file where there is none. A link that leads to no file is an error, and so is a folder that can't be opened
@@ -102,8 +105,9 @@ fn open_real_folder(rt: HostRuntime, name: &str) -> io::Result<File> {
 
 /// Opens the folder of this path's last name.
 fn open_folder(rt: HostRuntime, path: Path<'_>) -> io::Result<File> {
-    match path.parent() {
-        Some(folder) if !folder.as_os_str().is_empty() => File::open(&rt, folder),
-        _ => File::open(&rt, "."),
-    }
+    let folder = match path.parent() {
+        Some(folder) if !folder.as_os_str().is_empty() => folder,
+        _ => Path::new("."),
+    };
+    File::open(&rt, folder)
 }

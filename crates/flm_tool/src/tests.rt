@@ -8,18 +8,67 @@ mod job;
 
 use crate::file_bench::FileBench;
 use crate::std_sink::StdSink;
+use bench_model::Bench;
+use faults::OutOfMemory;
 use octets::Word;
 use outside_io::Sink;
 use std::alloc::{AllocError, Global};
 use std::test::Fail;
-use std::{env, fs, io, process};
+use std::{env, fs, process};
 
-/// A name of this test's own for a temporary file.
-fn temporary(rt: &HostRuntime, name: &str) -> Result<Word, Fail> {
-    let folder = env::temp_dir(rt)?;
-    let id = process::id(rt.process());
-    let path = format!(in rt.alloc(); "{}/flm_tool_{id}_{name}", folder.as_path().as_str())?;
-    Ok(Word::copy(rt.alloc(), path.as_str())?)
+/// A file of a test's own. It is there once it is written.
+#[derive(Drop)]
+struct Temporary {
+    rt: HostRuntime,
+    name: Word,
+}
+
+impl Temporary {
+    /// A name with this end.
+    fn new(rt: HostRuntime, end: &str) -> Result<Temporary, Fail> {
+        let folder = env::temp_dir(&rt)?;
+        let id = process::id(rt.process());
+        let path = format!(in rt.alloc(); "{}/flm_tool_{id}_{end}", folder.as_path().as_str())?;
+        let name = Word::copy(rt.alloc(), path.as_str())?;
+        Ok(Temporary { rt, name })
+    }
+
+    /// A file with this end of its name, and these bytes.
+    fn holding(rt: HostRuntime, end: &str, bytes: &[u8]) -> Result<Temporary, Fail> {
+        let file = Temporary::new(rt, end)?;
+        fs::write(&rt, file.name.text(), bytes)?;
+        Ok(file)
+    }
+
+    /// The folder for temporary files itself.
+    fn folder(rt: HostRuntime) -> Result<Temporary, Fail> {
+        let folder = env::temp_dir(&rt)?;
+        let name = Word::copy(rt.alloc(), folder.as_path().as_str())?;
+        Ok(Temporary { rt, name })
+    }
+
+    /// Puts these bytes into the file, and says whether that went well.
+    fn write(&self, bytes: &[u8]) -> bool {
+        fs::write(&self.rt, self.name.text(), bytes).is_ok()
+    }
+
+    /// Whether the file holds these bytes.
+    fn holds(&self, bytes: &[u8]) -> bool {
+        match fs::read(&self.rt, self.name.text()) {
+            Ok(found) => found.as_slice() == bytes,
+            Err(_) => false,
+        }
+    }
+
+    /// Whether nothing stands under the name.
+    fn is_missing(&self) -> bool {
+        matches!(fs::exists(&self.rt, self.name.text()), Ok(false))
+    }
+
+    /// Removes the file, and says whether that went well.
+    fn remove(&self) -> bool {
+        fs::remove_file(&self.rt, self.name.text()).is_ok()
+    }
 }
 
 /// So many bytes, which differ from their neighbours, and from those a window further on.
@@ -33,40 +82,74 @@ fn pattern(alloc: Global, len: usize) -> Result<Vec<u8>, AllocError>
     Ok(bytes)
 }
 
-/// A cells file and the name of a job file, of a test's own.
+/// A bench over two files. Calls that answer no value say whether they went well.
 #[derive(Drop)]
 struct Files {
-    rt: HostRuntime,
-    job: Word,
-    cells: Word,
+    job: Temporary,
+    cells: Temporary,
+    bench: FileBench,
+}
+
+/// A bench over two files.
+fn bench_over(job: &Temporary, cells: &Temporary) -> Result<FileBench, OutOfMemory> {
+    let name = Word::copy(job.rt.alloc(), job.name.text())?;
+    Ok(FileBench::new(job.rt, name, cells.name.text()))
 }
 
 impl Files {
-    /// Names with these ends, and these cells.
-    fn new(rt: HostRuntime, job: &str, cells: &str, bytes: &[u8]) -> Result<Files, Fail> {
-        let job = temporary(&rt, job)?;
-        let cells = temporary(&rt, cells)?;
-        fs::write(&rt, cells.text(), bytes)?;
-        Ok(Files { rt, job, cells })
+    /// A bench over these files.
+    fn over(job: Temporary, cells: Temporary) -> Result<Files, Fail> {
+        let bench = bench_over(&job, &cells)?;
+        Ok(Files { job, cells, bench })
     }
 
-    /// A bench over them.
-    fn bench(&self) -> Result<FileBench, Fail> {
-        let job = Word::copy(self.rt.alloc(), self.job.text())?;
-        Ok(FileBench::new(self.rt, job, self.cells.text()))
+    /// Names with these ends, and these cells.
+    fn new(rt: HostRuntime, job: &str, cells: &str, bytes: &[u8]) -> Result<Files, Fail> {
+        let cells = Temporary::holding(rt, cells, bytes)?;
+        Files::over(Temporary::new(rt, job)?, cells)
+    }
+
+    /// Opens an operation on cells of the first six.
+    fn open(&mut self, at: u32, len: u32) -> bool {
+        len > 0
+            && at < 6
+            && len <= 6 - at
+            && self.bench.cells_len() >= 6
+            && self.bench.cells_open(at, len).is_ok()
+    }
+
+    /// Whether the first six cells are these.
+    fn reads_cells(&mut self, cells: [u8; 6]) -> bool {
+        let mut found = [0; 6];
+        self.bench.cells_len() >= 6
+            && self.bench.cells_read(0, &mut found).is_ok()
+            && found == cells
+    }
+
+    /// Writes to the job file, and syncs it.
+    fn write_synced(&mut self, at: u64, bytes: &[u8]) -> bool {
+        self.bench.file_write(at, bytes).is_ok() && self.bench.file_sync().is_ok()
+    }
+
+    /// Whether the job file has so many bytes.
+    fn has_length(&mut self, len: u64) -> bool {
+        matches!(self.bench.file_len(), Ok(found) if found == len)
+    }
+
+    /// Whether these three bytes stand in the job file from a place on.
+    fn reads(&mut self, at: u64, bytes: [u8; 3]) -> bool {
+        let mut found = [0; 3];
+        self.bench.file_read(at, &mut found).is_ok() && found == bytes
     }
 
     /// Whether the files hold these bytes.
-    fn hold(&self, job: &[u8], cells: &[u8]) -> io::Result<bool> {
-        let job_found = fs::read(&self.rt, self.job.text())?;
-        let cells_found = fs::read(&self.rt, self.cells.text())?;
-        Ok(job_found.as_slice() == job && cells_found.as_slice() == cells)
+    fn hold(&self, job: &[u8], cells: &[u8]) -> bool {
+        self.job.holds(job) && self.cells.holds(cells)
     }
 
     /// Removes both.
-    fn remove(&self) -> io::Result<()> {
-        fs::remove_file(&self.rt, self.job.text())?;
-        fs::remove_file(&self.rt, self.cells.text())
+    fn remove(&self) -> bool {
+        self.job.remove() && self.cells.remove()
     }
 }
 

@@ -58,7 +58,7 @@ head -c 1024 /dev/zero | tr '\0' '\377' > blank
 
 usage='flmprog: usage: flm_tool JOB CELLS COMMAND [WORDS]'
 
-# Each status that the built commands have without a fault of the system, with both streams.
+# Each status that the commands have without a fault of the system, with both streams.
 run 0 same '' job cells compare same
 run 0 same '' job cells compare empty
 run 0 same '' job cells verify board.toml right.hex
@@ -78,7 +78,16 @@ run 5 '' 'flmprog: flm: other device 08000400 1024' job blank plan small.toml mo
 run 7 '' 'flmprog: job: 1024 cells wanted, 4 found' job cells plan small.toml small.flm right.hex
 run 13 '' 'flmprog: differs at 00000002 wanted 33 found FF' job cells compare other
 run 13 '' 'flmprog: differs at 08000001 wanted 03 found 02' job cells verify board.toml wrong.hex
-run 14 '' 'flmprog: not built' job cells demo 7
+
+# The demonstration, which needs neither file and prints the same each time.
+demo=$'demo 7\nsectors 8\npages 20\ncost 1000\nstopped 27698\nresumed 0\nsame'
+run 0 "$demo" '' job cells demo 7
+run 0 "$demo" '' job missing demo 7
+run 0 "$demo" '' job cells demo -- 007
+run 2 '' "$usage" job cells demo
+run 2 '' "$usage" job cells demo 4294967296
+run 2 '' "$usage" job cells demo -1
+run 2 '' "$usage" job cells demo 7 7
 
 # The job file: one that is missing is made, and is empty then.
 run 0 'job none' '' new_job cells status
@@ -110,14 +119,14 @@ for image in "$data/firmware.elf" "$data/firmware.hex" "$data/firmware.s19" "--r
 done
 run 4 '' "flmprog: image $data/firmware.bin: NoForm" job holds verify "$data/one_sector.toml" "$data/firmware.bin"
 
-# Words that aren't UTF-8: the command keeps its own answer.
+# Words that aren't UTF-8 fit no command.
 run 2 '' "$usage" job cells compare $'\377'
 run 2 '' "$usage" $'\377' cells compare same
 run 2 '' "$usage" job $'\377' compare same
 run 2 '' "$usage" job cells $'\377' same
 run 2 '' "$usage" job cells status $'\377'
-run 14 '' 'flmprog: not built' job cells demo $'\377'
-run 14 '' 'flmprog: not built' $'\377' cells demo
+run 2 '' "$usage" job cells demo $'\377'
+run 2 '' "$usage" $'\377' cells demo 7
 
 # A stream that is closed: nothing is printed into a file, and what can't be printed on standard output is status 10.
 for words in 'compare same' 'verify board.toml right.hex'; do
@@ -140,6 +149,8 @@ same 'differs, no stream' 13 $?
 same 'a full output' 10 $? 'flmprog: output fault' "$(cat err)"
 "$program" job blank plan small.toml small.flm right.hex > /dev/full 2> err
 same 'a full output of a plan' 10 $? 'flmprog: output fault' "$(cat err)"
+"$program" job cells demo 7 > /dev/full 2> err
+same 'a full output of a demonstration' 10 $? 'flmprog: output fault' "$(cat err)"
 
 # An input of more than one reading, from a pipe too.
 head -c 9000 /dev/zero | tr '\0' '\7' > many
