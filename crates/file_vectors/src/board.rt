@@ -1,7 +1,8 @@
 //! Questions about the texts of boards.
 
-use anyhow::{Result, bail};
-use board_file::{Board, read_board};
+use anyhow::{Context, Result};
+use board_file::{Board, Region, read_board};
+use std::alloc::Global;
 
 /// Prints what a text says: the board's numbers and regions, or why it is refused.
 fn put_answer(rt: &HostRuntime, text: &[u8]) -> Result<()> {
@@ -16,29 +17,46 @@ fn put_answer(rt: &HostRuntime, text: &[u8]) -> Result<()> {
 
 /// Prints a board, and then the line's end.
 fn put_board(rt: &HostRuntime, board: &Board) -> Result<()> {
-    print!(rt;
-        "ram {:08X} {} {} ",
-        board.ram_base, board.ram_size, board.stack
-    )?;
-    print!(rt;
-        "controller {:08X} {} {} {} ",
-        board.controller_base, board.program_ticks, board.erase_ticks, board.chip_ticks
-    )?;
-    print!(rt; "clock {} {} ", board.hz, board.steps_per_ms)?;
-    print!(rt;
-        "weights {} {} {}",
-        board.weights.sector, board.weights.page, board.weights.chip
-    )?;
+    put_ram(rt, board)?;
+    put_controller(rt, board)?;
+    put_weights(rt, board)?;
     for region in board.regions.as_slice() {
-        print!(rt;
-            " region {:08X} {} {:02X} {}",
-            region.base, region.size, region.empty, region.unit
-        )?;
-        for run in region.sectors.as_slice() {
-            print!(rt; " {}x{}", run.count, run.size)?;
-        }
+        put_region(rt, region)?;
     }
     println!(rt;)?;
+    Ok(())
+}
+
+/// Prints the RAM.
+fn put_ram(rt: &HostRuntime, board: &Board) -> Result<()> {
+    print!(rt; "ram {:08X} ", board.ram_base)?;
+    print!(rt; "{} {} ", board.ram_size, board.stack)?;
+    Ok(())
+}
+
+/// Prints the controller and the clock.
+fn put_controller(rt: &HostRuntime, board: &Board) -> Result<()> {
+    print!(rt; "controller {:08X} ", board.controller_base)?;
+    print!(rt; "{} {} ", board.program_ticks, board.erase_ticks)?;
+    print!(rt; "{} ", board.chip_ticks)?;
+    print!(rt; "clock {} {} ", board.hz, board.steps_per_ms)?;
+    Ok(())
+}
+
+/// Prints the weights.
+fn put_weights(rt: &HostRuntime, board: &Board) -> Result<()> {
+    print!(rt; "weights {} ", board.weights.sector)?;
+    print!(rt; "{} {}", board.weights.page, board.weights.chip)?;
+    Ok(())
+}
+
+/// Prints a region.
+fn put_region(rt: &HostRuntime, region: &Region) -> Result<()> {
+    print!(rt; " region {:08X} {} ", region.base, region.size)?;
+    print!(rt; "{:02X} {}", region.empty, region.unit)?;
+    for run in region.sectors.as_slice() {
+        print!(rt; " {}x{}", run.count, run.size)?;
+    }
     Ok(())
 }
 
@@ -51,28 +69,38 @@ fn name_in(key: &str, in_region: bool) -> Option<&str> {
     }
 }
 
-/// Answers a board in which one key has another value: `KEY = VALUE`. Where the value is empty, the key is left out. A key of
-/// the region is told with `region.` before it.
-pub fn answer_change(rt: &HostRuntime, base: &str, change: &str) -> Result<()> {
-    let Some((key, value)) = change.split_once(" =") else {
-        bail!("KEY = VALUE is wanted");
-    };
-    let mut text = String::new(rt.alloc());
+/// Appends a line of a board, with another value where it is that of the key, or nothing where that is empty.
+fn push_line(text: &mut String, line: &str, key: Option<&str>, value: &str) -> Result<()> {
+    let name = line.split(" =").next().unwrap_or("");
+    if key != Some(name) {
+        text.push_str(line)?;
+    } else if !value.is_empty() {
+        text.push_str(name)?;
+        text.push_str(" =")?;
+        text.push_str(value)?;
+    }
+    text.push_str("\n")?;
+    Ok(())
+}
+
+/// The text of a board in which one key has another value, or is left out where that is empty.
+fn changed(alloc: Global, base: &str, key: &str, value: &str) -> Result<String> {
+    let mut text = String::new(alloc);
     let mut in_region = false;
     for line in base.lines() {
         if line == "[[region]]" {
             in_region = true;
         }
-        let name = line.split(" =").next().unwrap_or("");
-        if name_in(key, in_region) != Some(name) {
-            text.push_str(line)?;
-        } else if !value.is_empty() {
-            text.push_str(name)?;
-            text.push_str(" =")?;
-            text.push_str(value)?;
-        }
-        text.push_str("\n")?;
+        push_line(&mut text, line, name_in(key, in_region), value)?;
     }
+    Ok(text)
+}
+
+/// Answers a board in which one key has another value: `KEY = VALUE`. Where the value is empty, the key is left out. A key of
+/// the region is told with `region.` before it.
+pub fn answer_change(rt: &HostRuntime, base: &str, change: &str) -> Result<()> {
+    let (key, value) = change.split_once(" =").context("KEY = VALUE is wanted")?;
+    let text = changed(rt.alloc(), base, key, value)?;
     print!(rt; "{change}: ")?;
     put_answer(rt, text.as_bytes())
 }

@@ -1,25 +1,37 @@
 //! Questions about ELF files.
 
 use anyhow::{Result, bail};
-use elf32::{Elf, ElfFault};
+use elf32::{Elf, ElfFault, Segment};
 
 /// Prints what a file says: `read`, `section NAME TYPE`, `bytes NAME TYPE`, `symbol NAME` or `segment - INDEX`.
 pub fn answer(rt: &HostRuntime, bytes: &[u8], what: &str, name: &str, number: u32) -> Result<()> {
-    let elf = match Elf::read(rt.alloc(), bytes) {
-        Ok(elf) => elf,
-        Err(fault) => {
-            println!(rt; "{fault}")?;
-            return Ok(());
-        }
-    };
+    match Elf::read(rt.alloc(), bytes) {
+        Ok(elf) => put_answer(rt, &elf, what, name, number),
+        Err(fault) => put_fault(rt, fault),
+    }
+}
+
+/// Prints what a file says that is read.
+fn put_answer(rt: &HostRuntime, elf: &Elf, what: &str, name: &str, number: u32) -> Result<()> {
     match what {
-        "read" => println!(rt; "{} segments", elf.segments())?,
-        "section" => section(rt, &elf, name, number)?,
-        "bytes" => section_bytes(rt, &elf, name, number)?,
-        "symbol" => symbol(rt, &elf, name)?,
-        "segment" => segment(rt, &elf, number as usize)?,
+        "read" => read(rt, elf),
+        "section" => section(rt, elf, name, number),
+        "bytes" => section_bytes(rt, elf, name, number),
+        "symbol" => symbol(rt, elf, name),
+        "segment" => segment(rt, elf, number as usize),
         _ => bail!("{what}: no question"),
     }
+}
+
+/// Prints why a file is refused, or a part of it.
+fn put_fault(rt: &HostRuntime, fault: ElfFault) -> Result<()> {
+    println!(rt; "{fault}")?;
+    Ok(())
+}
+
+/// Prints how many segments there are.
+fn read(rt: &HostRuntime, elf: &Elf) -> Result<()> {
+    println!(rt; "{} segments", elf.segments())?;
     Ok(())
 }
 
@@ -35,18 +47,21 @@ fn section(rt: &HostRuntime, elf: &Elf, name: &str, kind: u32) -> Result<()> {
     Ok(())
 }
 
-/// Prints bytes in hexadecimal digits, or why there are none.
+/// Prints bytes in hexadecimal digits.
+fn put_bytes(rt: &HostRuntime, bytes: &[u8]) -> Result<()> {
+    for byte in bytes {
+        print!(rt; "{byte:02X}")?;
+    }
+    println!(rt; " {} bytes", bytes.len())?;
+    Ok(())
+}
+
+/// Prints bytes, or why there are none.
 fn put(rt: &HostRuntime, answer: Result<&[u8], ElfFault>) -> Result<()> {
     match answer {
-        Ok(bytes) => {
-            for byte in bytes {
-                print!(rt; "{byte:02X}")?;
-            }
-            println!(rt; " {} bytes", bytes.len())?;
-        }
-        Err(fault) => println!(rt; "{fault}")?,
+        Ok(bytes) => put_bytes(rt, bytes),
+        Err(fault) => put_fault(rt, fault),
     }
-    Ok(())
 }
 
 /// Prints the bytes of a section.
@@ -76,14 +91,15 @@ fn segment(rt: &HostRuntime, elf: &Elf, index: usize) -> Result<()> {
         println!(rt; "none")?;
         return Ok(());
     }
-    let found = elf.segment(index);
-    print!(rt;
-        "type {} offset {:06X} addresses {:08X} {:08X} ",
-        found.kind, found.offset, found.vaddr, found.paddr
-    )?;
-    print!(rt;
-        "sizes {:05X} {:05X} flags {} align {} ",
-        found.filesz, found.memsz, found.flags, found.align
-    )?;
+    put_segment(rt, &elf.segment(index))?;
     put(rt, elf.segment_bytes(index))
+}
+
+/// Prints the fields of a program header.
+fn put_segment(rt: &HostRuntime, found: &Segment) -> Result<()> {
+    print!(rt; "type {} offset {:06X} ", found.kind, found.offset)?;
+    print!(rt; "addresses {:08X} {:08X} ", found.vaddr, found.paddr)?;
+    print!(rt; "sizes {:05X} {:05X} ", found.filesz, found.memsz)?;
+    print!(rt; "flags {} align {} ", found.flags, found.align)?;
+    Ok(())
 }

@@ -6,23 +6,13 @@ mod board;
 mod elf;
 mod flm;
 
-use anyhow::{Result, bail};
-use std::fs::File;
-use std::io::Read;
-
-/// The bytes of a file.
-fn read_file(rt: &HostRuntime, name: &str) -> Result<Vec<u8>> {
-    let mut file = File::open(rt, name)?;
-    let mut bytes = Vec::new(rt.alloc());
-    file.read_to_end(&mut bytes)?;
-    Ok(bytes)
-}
+use anyhow::{Context, Result, bail};
+use std::fs;
+use std::str::SplitAsciiWhitespace;
 
 /// Changes a byte as `AT=VALUE` says it: the place in decimal digits, the byte in hexadecimal ones.
 fn change(bytes: &mut [u8], words: &str) -> Result<()> {
-    let Some((at, value)) = words.split_once('=') else {
-        bail!("AT=VALUE is wanted");
-    };
+    let (at, value) = words.split_once('=').context("AT=VALUE is wanted")?;
     let at = at.parse::<usize>()?;
     let value = u8::from_str_radix(value, 16)?;
     match bytes.get_mut(at) {
@@ -30,6 +20,15 @@ fn change(bytes: &mut [u8], words: &str) -> Result<()> {
         None => bail!("{at}: past the end"),
     }
     Ok(())
+}
+
+/// A file with changes of its bytes.
+fn changed(rt: &HostRuntime, name: &str, changes: SplitAsciiWhitespace) -> Result<Vec<u8>> {
+    let mut bytes = fs::read(rt, name)?;
+    for words in changes {
+        change(&mut bytes, words)?;
+    }
+    Ok(bytes)
 }
 
 /// A question about a file: `FILE WHAT NAME NUMBER`, and then changes of its bytes.
@@ -43,31 +42,46 @@ fn answer(rt: &HostRuntime, question: &str) -> Result<()> {
     ) else {
         bail!("FILE WHAT NAME NUMBER is wanted");
     };
-    let mut bytes = read_file(rt, file)?;
-    for word in words {
-        change(&mut bytes, word)?;
-    }
+    let number = number.parse::<u32>()?;
+    let bytes = changed(rt, file, words)?;
     print!(rt; "{question}: ")?;
     if what == "flm" {
         flm::answer(rt, &bytes)
     } else {
-        elf::answer(rt, &bytes, what, name, number.parse::<u32>()?)
+        elf::answer(rt, &bytes, what, name, number)
     }
 }
 
-fn main(rt: HostRuntime) -> Result<()> {
-    let questions = read_file(&rt, "questions.txt")?;
-    for question in std::str::from_utf8(&questions)?.lines() {
-        answer(&rt, question)?;
-    }
-    let base = read_file(&rt, "board.toml")?;
-    let changes = read_file(&rt, "changes.txt")?;
-    for change in std::str::from_utf8(&changes)?.lines() {
-        board::answer_change(&rt, std::str::from_utf8(&base)?, change)?;
-    }
-    let texts = read_file(&rt, "texts.txt")?;
-    for text in std::str::from_utf8(&texts)?.split("----\n") {
-        board::answer_text(&rt, text)?;
+/// Answers the questions about files.
+fn answer_questions(rt: &HostRuntime) -> Result<()> {
+    let questions = fs::read_to_string(rt, "questions.txt")?;
+    for question in questions.lines() {
+        answer(rt, question)?;
     }
     Ok(())
+}
+
+/// Answers boards with one key changed.
+fn answer_changes(rt: &HostRuntime) -> Result<()> {
+    let base = fs::read_to_string(rt, "board.toml")?;
+    let changes = fs::read_to_string(rt, "changes.txt")?;
+    for change in changes.lines() {
+        board::answer_change(rt, &base, change)?;
+    }
+    Ok(())
+}
+
+/// Answers other texts of boards.
+fn answer_texts(rt: &HostRuntime) -> Result<()> {
+    let texts = fs::read_to_string(rt, "texts.txt")?;
+    for text in texts.split("----\n") {
+        board::answer_text(rt, text)?;
+    }
+    Ok(())
+}
+
+fn main(rt: HostRuntime) -> Result<()> {
+    answer_questions(&rt)?;
+    answer_changes(&rt)?;
+    answer_texts(&rt)
 }

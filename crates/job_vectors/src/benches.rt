@@ -27,7 +27,7 @@ pub fn blank(
 
 /// 1,024 blank cells, of which an operation is open on 256. It leaves 5A where it is broken off.
 pub fn busy(alloc: Global, file: &[u8]) -> Result<MemoryBench> {
-    let cells = [0xFF; 1024];
+    let cells = vec![in alloc; 0xFFu8; 1024]?;
     let mut bench = MemoryBench::new(alloc, &cells, file, 0x1000, 0x4000, &[], &[], &[0x5A])?;
     bench.cells_open(256, 256)?;
     Ok(bench)

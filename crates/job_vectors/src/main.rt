@@ -5,6 +5,8 @@
 //! the format says. `changes.txt` has a line for each file that is made of it.
 #![tactic(auto)]
 
+ghost use Rattle.job_text.specs.Parts.{AreParts};
+
 mod benches;
 mod changes;
 mod class;
@@ -17,29 +19,60 @@ use byte_map::ByteMap;
 use flm_descriptor::read_flm;
 use job_file::JobParts;
 use job_text::suits;
+use std::alloc::Global;
 use std::fs;
 
-fn main(rt: HostRuntime) -> Result<()> {
-    let alloc = rt.alloc();
-    let job = fs::read(&rt, "job.bin")?;
-    let board_text = fs::read(&rt, "small.toml")?;
-    let flm_file = fs::read(&rt, "algorithm.flm")?;
-    let board = read_board(alloc, &board_text)?;
-    let algorithm = read_flm(alloc, &flm_file)?;
+/// The files.
+#[derive(Drop)]
+struct Files {
+    job: Vec<u8>,
+    board: Vec<u8>,
+    flm: Vec<u8>,
+}
+
+/// Reads them.
+fn read_files(rt: &HostRuntime) -> Result<Files> {
+    let job = fs::read(rt, "job.bin")?;
+    let board = fs::read(rt, "small.toml")?;
+    let flm = fs::read(rt, "algorithm.flm")?;
+    Ok(Files { job, board, flm })
+}
+
+/// The image.
+fn image(alloc: Global) -> Result<ByteMap> {
     let mut image = ByteMap::new(alloc);
     image.lay(0x0800_0000, &[1, 2, 3, 4])?;
-    if board_text.len() > 0xFFFF || flm_file.len() > 0xFFFF || !suits(&board, &algorithm, &image) {
+    Ok(image)
+}
+
+/// Goes through all that is done with the job of these parts, whose file is `job`.
+fn go_through(rt: &HostRuntime, parts: &JobParts, job: &[u8]) -> Result<()>
+    requires { AreParts parts.now }
+{
+    stops::begin_stopped(rt, parts, job)?;
+    refusals::begin_refused(rt, parts, job)?;
+    refusals::open_refused(rt, job)?;
+    changes::read_prefixes(rt, job)?;
+    changes::read_changed(rt, job)
+}
+
+/// Goes through it for the job of these files and this image, where they go together.
+fn go_through_files(rt: &HostRuntime, files: &Files, image: &ByteMap) -> Result<()> {
+    let board = read_board(rt.alloc(), &files.board)?;
+    let algorithm = read_flm(rt.alloc(), &files.flm)?;
+    if files.board.len() > 0xFFFF || files.flm.len() > 0xFFFF || !suits(&board, &algorithm, image) {
         bail!("the files don't go together");
     }
     let parts = JobParts {
-        board: &board_text,
-        flm: &flm_file,
-        image: &image,
+        board: &files.board,
+        flm: &files.flm,
+        image,
         size: algorithm.device.size,
     };
-    stops::begin_stopped(&rt, &parts, &job)?;
-    refusals::begin_refused(&rt, &parts, &job)?;
-    refusals::open_refused(&rt, &job)?;
-    changes::read_prefixes(&rt, &job)?;
-    changes::read_changed(&rt, &job)
+    go_through(rt, &parts, &files.job)
+}
+
+fn main(rt: HostRuntime) -> Result<()> {
+    let files = read_files(&rt)?;
+    go_through_files(&rt, &files, &image(rt.alloc())?)
 }

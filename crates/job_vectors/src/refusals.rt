@@ -3,9 +3,11 @@ ghost use Rattle.job_text.specs.Parts.{AreParts};
 
 use crate::benches::blank;
 use crate::class::class;
+use crate::stops::put_end;
 use anyhow::Result;
 use bench_model::MemoryBench;
 use job_file::{JobParts, begin, open};
+use job_text::Job;
 
 /// How many calls a job takes that is begun over a closed one: file calls and cell calls.
 const STORE_CALLS: u64 = 13;
@@ -13,16 +15,17 @@ const STORE_CALLS: u64 = 13;
 const DEVICE_CALLS: u64 = 2;
 
 /// Begins on a bench, and says how it ends.
-fn put_begin(rt: &HostRuntime, parts: &JobParts, bench: MemoryBench, job: &[u8]) -> Result<()>
+fn put_begin(rt: &HostRuntime, parts: &JobParts, bench: &mut MemoryBench, job: &[u8]) -> Result<()>
     requires { AreParts parts.now }
 {
-    let alloc = rt.alloc();
-    let mut bench = bench;
-    match begin(alloc, &mut bench, parts) {
-        Ok(()) => print!(rt; "begun")?,
-        Err(fault) => print!(rt; "{fault}")?,
-    }
-    println!(rt; ", {}", class(alloc, bench.file(), job)?)?;
+    let end = begin(rt.alloc(), bench, parts);
+    put_end(rt, end, "begun")?;
+    put_file(rt, bench.file(), job)
+}
+
+/// Says what a file is then.
+fn put_file(rt: &HostRuntime, file: &[u8], job: &[u8]) -> Result<()> {
+    println!(rt; ", {}", class(rt.alloc(), file, job)?)?;
     Ok(())
 }
 
@@ -30,50 +33,72 @@ fn put_begin(rt: &HostRuntime, parts: &JobParts, bench: MemoryBench, job: &[u8])
 pub fn begin_refused(rt: &HostRuntime, parts: &JobParts, job: &[u8]) -> Result<()>
     requires { AreParts parts.now }
 {
-    let alloc = rt.alloc();
     println!(rt; "begin")?;
-    put_begin(rt, parts, blank(alloc, 1024, job, 0, 0)?, job)?;
-    put_begin(rt, parts, blank(alloc, 1024, &[0xA5, 0], 0, 0)?, job)?;
-    put_begin(rt, parts, blank(alloc, 1024, &[0xA5], 0, 0)?, job)?;
-    put_begin(rt, parts, blank(alloc, 512, &[], 0, 0)?, job)?;
-    put_begin(rt, parts, blank(alloc, 512, job, 0, 0)?, job)?;
+    for (cells, file) in [
+        (1024, job),
+        (1024, &[0xA5, 0]),
+        (1024, &[0xA5]),
+        (512, &[]),
+        (512, job),
+    ] {
+        put_begin(rt, parts, &mut blank(rt.alloc(), cells, file, 0, 0)?, job)?;
+    }
     for call in 1..=STORE_CALLS {
-        put_begin(rt, parts, blank(alloc, 1024, &[0, 7, 7], call, 0)?, job)?;
+        put_begin_failed(rt, parts, job, call, 0)?;
     }
     for call in 1..=DEVICE_CALLS {
-        put_begin(rt, parts, blank(alloc, 1024, &[0, 7, 7], 0, call)?, job)?;
+        put_begin_failed(rt, parts, job, 0, call)?;
     }
     Ok(())
+}
+
+/// Begins over a free file, where the file call or the cell call of this number fails.
+fn put_begin_failed(
+    rt: &HostRuntime,
+    parts: &JobParts,
+    job: &[u8],
+    store: u64,
+    device: u64,
+) -> Result<()>
+    requires { AreParts parts.now }
+{
+    let mut bench = blank(rt.alloc(), 1024, &[0, 7, 7], store, device)?;
+    put_begin(rt, parts, &mut bench, job)
 }
 
 /// Opens a bench, and says what it finds.
 fn put_open(rt: &HostRuntime, cells: u32, file: &[u8], store: u64) -> Result<()> {
     let mut bench = blank(rt.alloc(), cells, file, store, 0)?;
     match open(rt.alloc(), &mut bench) {
-        Ok(job) => {
-            let device = &job.algorithm.device;
-            print!(rt;
-                "{:08X} {}, {:?}",
-                device.base,
-                device.size,
-                job.image.get(device.base)
-            )?;
-            println!(rt; ", {} cells", job.snapshot.len())?;
+        Ok(job) => put_job(rt, &job),
+        Err(fault) => {
+            println!(rt; "{fault}")?;
+            Ok(())
         }
-        Err(fault) => println!(rt; "{fault}")?,
     }
+}
+
+/// A line for a job: its device, and the image's byte there.
+fn put_job(rt: &HostRuntime, job: &Job) -> Result<()> {
+    let base = job.algorithm.device.base;
+    print!(rt; "{base:08X} {}, ", job.algorithm.device.size)?;
+    println!(rt; "{:?}, {} cells", job.image.get(base), job.snapshot.len())?;
     Ok(())
 }
 
 /// Opens files that are free, jobs and neither, with another number of cells, and where each call fails in its turn.
 pub fn open_refused(rt: &HostRuntime, job: &[u8]) -> Result<()> {
     println!(rt; "open")?;
-    put_open(rt, 1024, job, 0)?;
-    put_open(rt, 1024, &[], 0)?;
-    put_open(rt, 1024, &[0xA5], 0)?;
-    put_open(rt, 1024, &[0xA5, 0], 0)?;
-    put_open(rt, 512, &[0xA5, 0], 0)?;
-    put_open(rt, 512, job, 0)?;
+    for (cells, file) in [
+        (1024, job),
+        (1024, &[]),
+        (1024, &[0xA5]),
+        (1024, &[0xA5, 0]),
+        (512, &[0xA5, 0]),
+        (512, job),
+    ] {
+        put_open(rt, cells, file, 0)?;
+    }
     for call in 1..=4 {
         put_open(rt, 1024, job, call)?;
     }

@@ -5,19 +5,25 @@ use crate::benches::{blank, busy};
 use crate::class::class;
 use anyhow::Result;
 use bench_model::{Bench, MemoryBench, Pick, StopBench};
-use job_file::{JobParts, begin, close};
+use job_file::{BeginFault, CloseFault, JobParts, begin, close};
 use std::alloc::Global;
 
 /// More calls than a job takes that is begun and closed.
 const CALLS: u64 = 18;
 
 /// Begins a job, and closes it.
-fn begin_and_close<B: Bench>(alloc: Global, bench: &mut B, parts: &JobParts) -> Result<()>
+fn begin_and_close<B: Bench>(
+    alloc: Global,
+    bench: &mut B,
+    parts: &JobParts,
+) -> Result<(), BeginFault>
     requires { AreParts parts.now }
 {
     begin(alloc, bench, parts)?;
-    close(bench)?;
-    Ok(())
+    match close(bench) {
+        Ok(()) => Ok(()),
+        Err(CloseFault::StoreFault) => Err(BeginFault::StoreFault),
+    }
 }
 
 /// What is left of this bench once so many calls went through and the power went.
@@ -27,37 +33,77 @@ fn left_of(
     bench: MemoryBench,
     calls: u64,
     pick: Pick,
-) -> Result<MemoryBench>
+) -> MemoryBench
     requires { AreParts parts.now }
 {
     let mut stopped = StopBench::new(bench, calls);
     let _end = begin_and_close(alloc, &mut stopped, parts);
     let mut left = stopped.into_inner();
     left.power_loss(pick);
-    Ok(left)
+    left
+}
+
+/// Says how a job was begun, or begun and closed.
+pub fn put_end(rt: &HostRuntime, end: Result<(), BeginFault>, done: &str) -> Result<()> {
+    match end {
+        Ok(()) => print!(rt; "{done}")?,
+        Err(fault) => print!(rt; "{fault}")?,
+    }
+    Ok(())
+}
+
+/// Says how so many calls end.
+fn put_calls(rt: &HostRuntime, parts: &JobParts, file: &[u8], calls: u64) -> Result<()>
+    requires { AreParts parts.now }
+{
+    let mut whole = StopBench::new(blank(rt.alloc(), 1024, file, 0, 0)?, calls);
+    print!(rt; "{calls} calls: ")?;
+    let end = begin_and_close(rt.alloc(), &mut whole, parts);
+    put_end(rt, end, "done")
+}
+
+/// Says what is left of a bench.
+fn put_left(rt: &HostRuntime, left: &MemoryBench, job: &[u8]) -> Result<()> {
+    let cells = if left.cells().iter().all(|cell| *cell == 0xFF) {
+        ""
+    } else {
+        ", cells changed"
+    };
+    print!(rt; "; {}{cells}", class(rt.alloc(), left.file(), job)?)?;
+    Ok(())
 }
 
 /// A line for a number of calls: how they end, and what each pick leaves.
 fn put_line(rt: &HostRuntime, parts: &JobParts, file: &[u8], calls: u64, job: &[u8]) -> Result<()>
     requires { AreParts parts.now }
 {
-    let alloc = rt.alloc();
-    let mut whole = StopBench::new(blank(alloc, 1024, file, 0, 0)?, calls);
-    match begin_and_close(alloc, &mut whole, parts) {
-        Ok(()) => print!(rt; "{calls} calls: done")?,
-        Err(fault) => print!(rt; "{calls} calls: {fault}")?,
-    }
+    put_calls(rt, parts, file, calls)?;
     for pick in [Pick::AsWritten, Pick::AsOld, Pick::Filled { value: 0x5A }] {
-        let left = left_of(alloc, parts, blank(alloc, 1024, file, 0, 0)?, calls, pick)?;
-        let cells = if left.cells().iter().all(|cell| *cell == 0xFF) {
-            ""
-        } else {
-            ", cells changed"
-        };
-        print!(rt; "; {}{cells}", class(alloc, left.file(), job)?)?;
+        let bench = blank(rt.alloc(), 1024, file, 0, 0)?;
+        let left = left_of(rt.alloc(), parts, bench, calls, pick);
+        put_left(rt, &left, job)?;
     }
     println!(rt; "")?;
     Ok(())
+}
+
+/// A line for each number of calls.
+fn put_lines(rt: &HostRuntime, parts: &JobParts, file: &[u8], job: &[u8]) -> Result<()>
+    requires { AreParts parts.now }
+{
+    for calls in 0..CALLS {
+        put_line(rt, parts, file, calls, job)?;
+    }
+    Ok(())
+}
+
+/// The file of a job that was closed.
+fn closed(alloc: Global, job: &[u8]) -> Result<Vec<u8>> {
+    let mut closed = Vec::from_slice(alloc, job)?;
+    if let Some(gate) = closed.first_mut() {
+        *gate = 0;
+    }
+    Ok(closed)
 }
 
 /// Begins over an empty file and over that of a closed job, stopped after each number of calls; then once over a device on
@@ -66,17 +112,9 @@ pub fn begin_stopped(rt: &HostRuntime, parts: &JobParts, job: &[u8]) -> Result<(
     requires { AreParts parts.now }
 {
     println!(rt; "an empty file")?;
-    for calls in 0..CALLS {
-        put_line(rt, parts, &[], calls, job)?;
-    }
+    put_lines(rt, parts, &[], job)?;
     println!(rt; "a closed job")?;
-    let mut closed = Vec::from_slice(rt.alloc(), job)?;
-    if let Some(gate) = closed.first_mut() {
-        *gate = 0;
-    }
-    for calls in 0..CALLS {
-        put_line(rt, parts, &closed, calls, job)?;
-    }
+    put_lines(rt, parts, &closed(rt.alloc(), job)?, job)?;
     begin_busy(rt, parts, job)
 }
 
@@ -84,13 +122,17 @@ pub fn begin_stopped(rt: &HostRuntime, parts: &JobParts, job: &[u8]) -> Result<(
 fn begin_busy(rt: &HostRuntime, parts: &JobParts, job: &[u8]) -> Result<()>
     requires { AreParts parts.now }
 {
-    let alloc = rt.alloc();
-    let mut bench = busy(alloc, &[])?;
-    begin(alloc, &mut bench, parts)?;
+    let mut bench = busy(rt.alloc(), &[])?;
+    begin(rt.alloc(), &mut bench, parts)?;
+    put_busy(rt, &bench, job)
+}
+
+/// Says what a job holds that was begun so.
+fn put_busy(rt: &HostRuntime, bench: &MemoryBench, job: &[u8]) -> Result<()> {
     let broken = bench.cells().iter().filter(|cell| **cell == 0x5A).count();
     println!(rt;
         "an open operation: {}, {broken} cells",
-        class(alloc, bench.file(), job)?
+        class(rt.alloc(), bench.file(), job)?
     )?;
     println!(rt;
         "its snapshot is the cells: {}",

@@ -8,14 +8,12 @@ use board_file::{Board, read_board};
 use flm_descriptor::read_flm;
 use flm_forge::{Kind, Listing, forge, listing};
 use serve_law::{A1_CODE, a1_serves};
-use std::fs::File;
-use std::io::Read;
+use std::fs;
 
-/// The board of a file.
+/// The board of this name, from its file.
 fn board(rt: &HostRuntime, name: &str) -> Result<Board> {
-    let mut file = File::open(rt, name)?;
-    let mut text = Vec::new(rt.alloc());
-    file.read_to_end(&mut text)?;
+    let path = format!(in rt.alloc(); "{name}.toml")?;
+    let text = fs::read(rt, path.as_str())?;
     Ok(read_board(rt.alloc(), &text)?)
 }
 
@@ -26,49 +24,60 @@ fn answer(rt: &HostRuntime, board: &Board, listing: &Listing) -> Result<bool> {
     Ok(a1_serves(board, &algorithm))
 }
 
-/// Puts the answers for A1 with pages of so many bytes.
-fn put_pages(rt: &HostRuntime, name: &str, board: &Board, pages: &[u32]) -> Result<()> {
-    for &page in pages {
-        let listing = listing(rt.alloc(), Kind::A1, board, page)?;
-        println!(rt; "{name} A1 {page} {}", answer(rt, board, &listing)?)?;
+/// Puts a line with an answer.
+fn put_line(rt: &HostRuntime, name: &str, kind: Kind, page: u32, serves: bool) -> Result<()> {
+    print!(rt; "{name} {kind:?} ")?;
+    println!(rt; "{page} {serves}")?;
+    Ok(())
+}
+
+/// Puts the answer for an algorithm with pages of so many bytes.
+fn put(rt: &HostRuntime, name: &str, board: &Board, kind: Kind, page: u32) -> Result<()> {
+    let listing = listing(rt.alloc(), kind, board, page)?;
+    put_line(rt, name, kind, page, answer(rt, board, &listing)?)
+}
+
+/// Puts the answers for algorithms on the board of this name.
+fn put_all(rt: &HostRuntime, name: &str, algorithms: &[(Kind, u32)]) -> Result<()> {
+    let board = board(rt, name)?;
+    for &(kind, page) in algorithms {
+        put(rt, name, &board, kind, page)?;
     }
     Ok(())
 }
 
-/// Puts the answer for an algorithm that doesn't as it should.
-fn put_other(rt: &HostRuntime, kind: &str, listing: &Listing, board: &Board) -> Result<()> {
-    println!(rt;
-        "small {kind} {} {}",
-        listing.page,
-        answer(rt, board, listing)?
-    )?;
-    Ok(())
-}
-
-/// Puts the answers for A2 to A7 with pages of 64 bytes.
-fn put_others(rt: &HostRuntime, board: &Board) -> Result<()> {
-    let alloc = rt.alloc();
-    put_other(rt, "A2", &listing(alloc, Kind::A2, board, 64)?, board)?;
-    put_other(rt, "A3", &listing(alloc, Kind::A3, board, 64)?, board)?;
-    put_other(rt, "A4", &listing(alloc, Kind::A4, board, 64)?, board)?;
-    put_other(rt, "A5", &listing(alloc, Kind::A5, board, 64)?, board)?;
-    put_other(rt, "A6", &listing(alloc, Kind::A6, board, 64)?, board)?;
-    put_other(rt, "A7", &listing(alloc, Kind::A7, board, 64)?, board)
+/// Whether the text of a listing makes the code of A1.
+fn makes_code(rt: &HostRuntime, listing: &Listing) -> Result<bool> {
+    let code = assemble(rt.alloc(), listing.text.bytes())?;
+    Ok(code.bytes.bytes() == A1_CODE.as_slice())
 }
 
 /// Puts whether the text of A1 makes its code.
-fn put_code(rt: &HostRuntime, board: &Board) -> Result<()> {
-    let listing = listing(rt.alloc(), Kind::A1, board, 64)?;
-    let code = assemble(rt.alloc(), listing.text.bytes())?;
-    println!(rt; "code {}", code.bytes.bytes() == A1_CODE.as_slice())?;
+fn put_code(rt: &HostRuntime) -> Result<()> {
+    let board = board(rt, "small")?;
+    let listing = listing(rt.alloc(), Kind::A1, &board, 64)?;
+    println!(rt; "code {}", makes_code(rt, &listing)?)?;
     Ok(())
 }
 
+/// What is asked on the small board: A1 with the shortest and the longest page, with one that is shorter and one that is longer, and the
+/// algorithms that don't as they should.
+const SMALL: [(Kind, u32); 10] = [
+    (Kind::A1, 64),
+    (Kind::A1, 2776),
+    (Kind::A1, 63),
+    (Kind::A1, 2778),
+    (Kind::A2, 64),
+    (Kind::A3, 64),
+    (Kind::A4, 64),
+    (Kind::A5, 64),
+    (Kind::A6, 64),
+    (Kind::A7, 64),
+];
+
 fn main(rt: HostRuntime) -> Result<()> {
-    let small = board(&rt, "small.toml")?;
-    put_pages(&rt, "small", &small, &[64, 2776, 63, 2778])?;
-    put_others(&rt, &small)?;
-    put_pages(&rt, "demo", &board(&rt, "demo.toml")?, &[1024])?;
-    put_pages(&rt, "unit_4", &board(&rt, "unit_4.toml")?, &[64])?;
-    put_code(&rt, &small)
+    put_all(&rt, "small", &SMALL)?;
+    put_all(&rt, "demo", &[(Kind::A1, 1024)])?;
+    put_all(&rt, "unit_4", &[(Kind::A1, 64)])?;
+    put_code(&rt)
 }
