@@ -2,23 +2,10 @@
 #![tactic(auto)]
 
 mod arguments;
-mod cells_file;
-mod cells_window;
-mod file_bench;
-mod file_inputs;
-mod job_store;
-mod std_sink;
-mod streams;
-mod sync_guard;
-#[cfg(test)]
-mod tests;
 
 use crate::arguments::{Arguments, read_arguments};
-use crate::file_bench::FileBench;
-use crate::file_inputs::FileInputs;
-use crate::std_sink::StdSink;
-use crate::streams::hold_streams;
 use flm_cli::flmprog;
+use host_files::{FileBench, FileInputs, StdSink, hold_streams};
 use outside_io::Sink;
 use std::process::ExitCode;
 

@@ -28,7 +28,7 @@ impl Temporary {
     fn new(rt: HostRuntime, end: &str) -> Result<Temporary, Fail> {
         let folder = env::temp_dir(&rt)?;
         let id = process::id(rt.process());
-        let path = format!(in rt.alloc(); "{}/flm_tool_{id}_{end}", folder.as_path().as_str())?;
+        let path = format!(in rt.alloc(); "{}/host_files_{id}_{end}", folder.as_path().as_str())?;
         let name = Word::copy(rt.alloc(), path.as_str())?;
         Ok(Temporary { rt, name })
     }

@@ -24,9 +24,15 @@ pub struct FileBench {
 }
 
 impl FileBench {
+    ghost use Rattle.std.specs.Prelude.{◌≡◌};
+    ghost use Rattle.host_files.specs.Bench.{state_of};
+
     /// Opens the cells file. One that can't be opened counts as no cells, and each call on it that can fail does. The
     /// job file is opened by the first call on it.
-    pub fn new(rt: HostRuntime, job_name: Word, cells_name: &str) -> FileBench {
+    pub fn new(rt: HostRuntime, job_name: Word, cells_name: &str) -> FileBench
+        ensures store { (state_of result).store_faults ≡ 0 }
+        ensures device { (state_of result).device_faults ≡ 0 }
+    {
         let (cells, cell_count) = CellsFile::open(rt, cells_name);
         FileBench {
             job: JobFile::new(rt, job_name),
@@ -70,11 +76,12 @@ fn counted<T, F: Drop>(faults: &mut FaultCount, answer: io::Result<T>, fault: F)
 
 impl Bench for FileBench {
     ghost use Rattle.std.specs.Prelude.{false};
-    ghost use Rattle.bench_model.specs.Untold.{untold_state, untold_law};
+    ghost use Rattle.bench_model.specs.Untold.{untold_law};
+    ghost use Rattle.host_files.specs.Bench.{state_of};
 
     ghost tells = { false };
 
-    ghost state = { λ b. untold_state b.cell_count b.store_faults b.device_faults };
+    ghost state = { state_of };
 
     ghost acts = { λ before act after. Unit {0} };
 

@@ -1,18 +1,31 @@
 //! The standard streams as sinks.
+ghost use Rattle.std.specs.Prelude.{◌≡◌};
+
 use faults::FaultCount;
 use outside_io::{OutputFault, Sink};
 use std::io::Print;
+use std::marker::Model;
 
-/// A standard stream. Each piece is written at once. It doesn't tell what it has taken.
+/// A standard stream. Each piece is written at once. It doesn't tell what it has taken. A contract sees how often it has failed.
 #[derive(Drop)]
 pub struct StdSink<P: Print + Drop> {
     stream: P,
     faults: FaultCount,
 }
 
+impl<P: Print + Drop> Model for StdSink<P> {
+    ghost use Rattle.std.specs.Prelude.{ℕ};
+
+    ghost Value = { ℕ };
+
+    ghost view = { λ s. s.faults };
+}
+
 impl<P: Print + Drop> StdSink<P> {
     /// A sink that writes to this stream.
-    pub fn new(stream: P) -> StdSink<P> {
+    pub fn new(stream: P) -> StdSink<P>
+        ensures { result ≡ 0 }
+    {
         StdSink {
             stream,
             faults: FaultCount::new(),
@@ -25,7 +38,7 @@ impl<P: Print + Drop> Sink for StdSink<P> {
 
     ghost tells = { false };
 
-    ghost state = { λ s. record { faults = s.faults; taken = [] } };
+    ghost state = { λ s. record { faults = s; taken = [] } };
 
     fn put(&mut self, piece: &[u8]) -> Result<(), OutputFault> {
         if self.stream.write_all(piece).is_err() {

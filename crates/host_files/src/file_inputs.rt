@@ -1,5 +1,5 @@
 //! Files of the system as inputs.
-ghost use Rattle.std.specs.Prelude.{◌≤◌, length, vec_len, IfOk};
+ghost use Rattle.std.specs.Prelude.{◌≡◌, ◌≤◌, vec_len, IfOk};
 
 use faults::FaultCount;
 use octets::{Bytes, Word};
@@ -8,20 +8,31 @@ use std::alloc::Global;
 use std::fs::File;
 use std::io;
 use std::io::{ErrorKind, Read};
+use std::marker::Model;
 
 /// How many bytes are read at a time.
 const CHUNK: usize = 4096;
 
-/// The system's files by their paths. They don't tell what stands under a name.
+/// The system's files by their paths. They don't tell what stands under a name. A contract sees how often they have failed.
 #[derive(Drop)]
 pub struct FileInputs {
     rt: HostRuntime,
     faults: FaultCount,
 }
 
+impl Model for FileInputs {
+    ghost use Rattle.std.specs.Prelude.{ℕ};
+
+    ghost Value = { ℕ };
+
+    ghost view = { λ i. i.faults };
+}
+
 impl FileInputs {
     /// Inputs that read files through this runtime.
-    pub fn new(rt: HostRuntime) -> FileInputs {
+    pub fn new(rt: HostRuntime) -> FileInputs
+        ensures { result ≡ 0 }
+    {
         FileInputs {
             rt,
             faults: FaultCount::new(),
@@ -67,7 +78,7 @@ impl Inputs for FileInputs {
 
     ghost tells = { false };
 
-    ghost state = { λ i. record { faults = i.faults; stands = λ _. None } };
+    ghost state = { λ i. record { faults = i; stands = λ _. None } };
 
     ghost may_take = { λ _ _. Unit {0} };
 

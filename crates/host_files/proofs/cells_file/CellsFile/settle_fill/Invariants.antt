@@ -1,5 +1,5 @@
 use Rattle.std.proofs.Common.{◌≤◌, ◌-◌}
-use Rattle.flm_tool.proofs.cells_file.CellsFile.settle_fill.Given as goal
+use Rattle.host_files.proofs.cells_file.CellsFile.settle_fill.Given as goal
 
 abbrev pub invariant-loop-done : goal.invariant-loop-done
 invariant-loop-done l = l.done ≤ l.len

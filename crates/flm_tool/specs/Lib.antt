@@ -1,1 +1,0 @@
--- What contracts here say stands in the words of the crates below.

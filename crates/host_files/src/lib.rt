@@ -1,0 +1,18 @@
+//! The device, the job, the inputs and the standard streams as files of the host.
+#![tactic(auto)]
+
+mod cells_file;
+mod cells_window;
+mod file_bench;
+mod file_inputs;
+mod job_store;
+mod std_sink;
+mod streams;
+mod sync_guard;
+#[cfg(test)]
+mod tests;
+
+pub use file_bench::FileBench;
+pub use file_inputs::FileInputs;
+pub use std_sink::StdSink;
+pub use streams::hold_streams;
