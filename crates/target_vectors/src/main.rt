@@ -1,7 +1,8 @@
 //! Runs code on the emulated target, case by case: `target_vectors CASES..`, files of steps. It prints the name of each case, and what each
 //! step finds.
 //!
-//! A line is `case NAME`, or one of these. Numbers and bytes are in hexadecimal digits, but for FAIL, FUEL and STEPS, which are decimal.
+//! A line is `case NAME`, or one of these. Numbers and bytes are in hexadecimal digits, but for FAIL, FUEL, STEPS and ROUNDS, which are
+//! decimal.
 //!
 //! - `new CODE FAIL`: a target of 256 bytes of RAM from 0x20000000 on with this code at its beginning, and 8 blank cells from 0x08000000 on.
 //!   The cell call of the number FAIL fails, or none at 0.
@@ -10,18 +11,36 @@
 //! - `slices PC R0 R1 FUEL STEPS`: the same in slices of so many steps. It prints also what is left of the fuel, and whether the registers are
 //!   then those that the last run left.
 //! - `cells`: it prints the cells.
+//! - `measure ROUNDS FILE..`: each file, which is code for address 0x20000020, is run on a target of its own with the number of rounds in R0.
+//!   It prints how the run ended, and how many steps were made.
+//! - `measure ROUNDS`: the same of a loop of mixed instructions, which the core runs over the bus in memory.
+//!
+//! `target_vectors measure ROUNDS FILE..` and `target_vectors measure ROUNDS` do only this. The time that they take is to be measured from
+//! outside: of a whole target with a tick for each step, and of the core alone.
 #![tactic(auto)]
 
+mod bed;
+mod core_loop;
+mod measured;
 mod put;
 mod steps;
 mod trial;
 
+use crate::measured::measure;
 use anyhow::Result;
 use std::{env, fs};
 
 fn main(rt: HostRuntime) -> Result<()> {
-    for name in env::args(&rt)?.skip(1) {
-        let text = fs::read_to_string(&rt, name.as_str())?;
+    let words = env::args(&rt)?.skip(1).collect::<Vec<String>>(rt.alloc())?;
+    let words = words
+        .iter()
+        .map(|word| word.as_str())
+        .collect::<Vec<&str>>(rt.alloc())?;
+    if let ["measure", words @ ..] = words.as_slice() {
+        return measure(&rt, words);
+    }
+    for name in words.iter() {
+        let text = fs::read_to_string(&rt, *name)?;
         steps::go_through(&rt, text.as_str())?;
     }
     Ok(())

@@ -1,5 +1,6 @@
 //! The steps of the cases.
 
+use crate::measured::measure;
 use crate::put::{put_cells, put_end};
 use crate::trial::{Trial, frame};
 use anyhow::{Context, Result, bail};
@@ -70,6 +71,7 @@ fn go(rt: &HostRuntime, trial: &mut Trial, words: &[&str]) -> Result<()> {
             slices(rt, trial, &frame_of(pc, r0, r1)?, fuel, steps)
         }
         ["cells"] => put_cells(rt, trial.cells()),
+        ["measure", words @ ..] => measure(rt, words),
         _ => bail!("no step"),
     }
 }

@@ -1,5 +1,5 @@
 /* A plain interpreter in C to measure against: Armv6-M instructions by nested switches, an end for each step, and a tick of the same flash
- * controller after each. gcc -O2 -o interpreter interpreter.c; then interpreter ROUNDS FILE.. as target_speed. */
+ * controller after each. gcc -O2 -o interpreter interpreter.c; then interpreter ROUNDS FILE.. as target_vectors measure. */
 #include <stdint.h>
 #include <stdio.h>
 #include <stdlib.h>

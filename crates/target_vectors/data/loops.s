@@ -1,4 +1,4 @@
-@ The workloads of target_speed: code at 0x20000020, R0 the number of rounds, SP the end of 4,096 bytes of RAM, the return point
+@ What target_vectors measures: code at 0x20000020, R0 the number of rounds, SP the end of 4,096 bytes of RAM, the return point
 @ in LR. arm-none-eabi-as -mcpu=cortex-m0; each section is one file NAME.bin.
 
         .syntax unified

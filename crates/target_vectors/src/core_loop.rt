@@ -1,12 +1,8 @@
-//! How fast the core steps: a loop of mixed instructions over the bus in memory.
-//!
-//! It is given the number of rounds, and prints how the last step ended, how many steps were made, and two registers.
-#![tactic(auto)]
+//! A loop of mixed instructions, which the core runs over the bus in memory.
 
-use anyhow::Context;
+use anyhow::Result;
 use armv6m_decode::registers::{PC, SP};
 use armv6m_step::{Core, MemoryBus, StepEnd, step};
-use std::env;
 
 /// arm-none-eabi-as -mcpu=cortex-m0, at 0x20000000; R0 counts the rounds down and R1 is the address of eight bytes:
 ///
@@ -34,13 +30,9 @@ fn run(core: &mut Core, bus: &mut MemoryBus) -> (StepEnd, u64) {
     (StepEnd::Went, u64::MAX)
 }
 
-fn main(rt: HostRuntime) -> anyhow::Result<()> {
-    let alloc = rt.alloc();
-    let mut rounds = 1000;
-    for word in env::args(&rt)?.skip(1) {
-        rounds = word.parse::<u32>().context("the number of rounds")?;
-    }
-    let mut bytes = Vec::from_slice(alloc, &CODE)?;
+/// Runs the loop for so many rounds. It prints how the last step ended, how many steps were made, and two registers.
+pub fn run_loop(rt: &HostRuntime, rounds: u32) -> Result<()> {
+    let mut bytes = Vec::from_slice(rt.alloc(), &CODE)?;
     bytes.resize(1024, 0)?;
     let mut bus = MemoryBus::new(BASE, bytes);
     let mut core = Core {
