@@ -1,5 +1,6 @@
 //! A call.
 
+use crate::files::Files;
 use crate::trial::Trial;
 use anyhow::Result;
 use bench_model::{Bench, MemoryBench};
@@ -17,15 +18,22 @@ pub struct Outside {
     err: MemorySink,
 }
 
+impl Outside {
+    /// The inputs that have these files, and room for so many bytes of standard output, whose put of this number fails.
+    pub fn new(alloc: Global, files: &Files, room: usize, put: u64) -> Result<Outside> {
+        let out = MemorySink::new(alloc, room, &[put])?;
+        let err = MemorySink::new(alloc, 256, &[])?;
+        Ok(Outside {
+            inputs: files.inputs(alloc)?,
+            out,
+            err,
+        })
+    }
+}
+
 /// What there is for a call, beside its bench.
 pub fn outside_of(alloc: Global, trial: &Trial) -> Result<Outside> {
-    let out = MemorySink::new(alloc, 4096, &[trial.put])?;
-    let err = MemorySink::new(alloc, 256, &[])?;
-    Ok(Outside {
-        inputs: trial.files.inputs(alloc)?,
-        out,
-        err,
-    })
+    Outside::new(alloc, &trial.files, 4096, trial.put)
 }
 
 /// The words of a line.

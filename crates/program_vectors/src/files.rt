@@ -6,6 +6,7 @@ use flm_forge::{Kind, forge, listing};
 use octets::{Bytes, Word};
 use outside_io::MemoryInputs;
 use std::alloc::Global;
+use std::fs;
 
 /// A file that stands under a name.
 #[derive(Drop)]
@@ -35,11 +36,19 @@ impl Files {
     }
 
     /// What stands under a name.
-    fn bytes(&self, name: &str) -> Result<&[u8]> {
+    pub fn bytes(&self, name: &str) -> Result<&[u8]> {
         match self.files.iter().find(|file| file.name.text() == name) {
             Some(file) => Ok(&file.bytes),
             None => bail!("{name}: no such file"),
         }
+    }
+
+    /// Puts the files into a folder.
+    pub fn put(&self, rt: &HostRuntime, folder: &str) -> Result<()> {
+        for file in self.files.iter() {
+            put_file(rt, folder, file.name.text(), &file.bytes)?;
+        }
+        Ok(())
     }
 
     /// The inputs that have these files.
@@ -66,6 +75,13 @@ impl Files {
         listing.to_erase = time;
         Ok(forge(alloc, &listing)?)
     }
+}
+
+/// Puts a file into a folder.
+pub fn put_file(rt: &HostRuntime, folder: &str, name: &str, bytes: &[u8]) -> Result<()> {
+    let path = format!(in rt.alloc(); "{folder}/{name}")?;
+    fs::write(rt, path.as_str(), bytes)?;
+    Ok(())
 }
 
 /// The algorithm of a name.

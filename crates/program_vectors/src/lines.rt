@@ -8,10 +8,12 @@
 //! - `run WORDS`: a call on the row's bench. It prints what was put, the status, the cells that aren't as the row began, and the job file.
 //! - `stop CALLS PICK WORDS`: a call on a new bench, which is stopped after so many of its calls that can fail. PICK is `written`, `old` or
 //!   the byte that the stop leaves wherever it may leave any.
+//! - `random SECTORS SIZE`: the job of random bytes on a device of so many sectors of so many bytes (`job`).
 //! - `stops resume WORDS` or `stops revert WORDS`: calls of `program` that are stopped at each of their calls in turn, with each pick, and then
 //!   `resume` or `revert`.
 
 use crate::call::run;
+use crate::job::run_random;
 use crate::stops::{stop, stop_all};
 use crate::trial::{Trial, bytes_of};
 use anyhow::{Result, bail};
@@ -56,6 +58,7 @@ fn step(
             let words = words.strip_prefix(*later).unwrap_or(words);
             stop_all(rt, trial, later, words)
         }
+        ["random", sectors, size] => run_random(rt, sectors, size),
         ["forge", name, kind, rest] => forge(rt, trial, name, kind, rest),
         _ => change(rt, trial, line),
     }
