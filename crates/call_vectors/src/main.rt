@@ -12,12 +12,20 @@
 //!   an end is `done`, `answered R0`, `no fuel at PC`, `stray break at PC`, `undefined at PC`, `bus fault at PC address AT`, `unaligned
 //!   at PC address AT`, `bad state at PC` or `device fault`, and no bytes are `-`.
 //! - `cells BYTES..`: what the device holds.
+//! - `plan BOARD FLM chip` or `plan BOARD FLM sectors`: a full plan, call by call. The device has 4 sectors of 256 bytes from 0x08000000 on
+//!   and pages of 64. Its cells are used, and then all of them are erased, by the chip or by sectors, programmed and verified.
+//!
+//! Of each call of a plan are printed its number for the function, which is an address or what Init and UnInit are told; how it ended; whether
+//! the cells after it are those of the ideal device; how many operations were open at some point of it; how many of these didn't lie in its
+//! sector, its page or, for EraseChip, the chip; and whether one is open at its end. A call of another function may open none.
 #![tactic(auto)]
 
 mod end;
 mod hex;
+mod plan;
 mod steps;
 mod trial;
+mod watch;
 
 use anyhow::Result;
 use std::{env, fs};

@@ -2,6 +2,7 @@
 
 use crate::end::end;
 use crate::hex::{all_bytes, bytes, number};
+use crate::plan::carry_out;
 use crate::trial::Trial;
 use algo_calls::Call;
 use algo_loader::{Layout, NoRoom, place};
@@ -128,11 +129,25 @@ fn placed(rt: &HostRuntime, board_name: &str, flm: &str, due: &[&str]) -> Result
     placed_on(rt, &board, flm, due)
 }
 
-/// Whether the step of a line holds, if it has one. Without a trial that is a layout.
+/// Carries out a plan with an algorithm on a board.
+fn plan_on(rt: &HostRuntime, board: &Board, flm: &str, chip: bool) -> Result<()> {
+    let algorithm = algorithm(rt, flm)?;
+    carry_out(rt, board, algorithm, chip)
+}
+
+/// The same on the board of a file, by the chip or by sectors.
+fn plan(rt: &HostRuntime, board_name: &str, flm: &str, way: &str) -> Result<bool> {
+    let board = board(rt, board_name)?;
+    plan_on(rt, &board, flm, way == "chip")?;
+    Ok(true)
+}
+
+/// Whether the step of a line holds, if it has one. Without a trial that is a layout or a plan.
 fn step(rt: &HostRuntime, trial: Option<&mut Trial>, words: &[&str]) -> Result<bool> {
     match (words, trial) {
         ([], _) => Ok(true),
         (["place", board, flm, due @ ..], _) => placed(rt, board, flm, due),
+        (["plan", board, flm, way], _) => plan(rt, board, flm, way),
         (words, Some(trial)) => holds(trial, words, rt.alloc()),
         _ => Ok(false),
     }

@@ -1,4 +1,4 @@
-//! The calls of an algorithm, over a bench in memory.
+//! The calls of an algorithm, over a bench in memory that is watched.
 ghost use Rattle.std.specs.Prelude.{◌≡◌, true, vec_len, IfOk};
 ghost use Rattle.bench_model.specs.Shown.{bench_of};
 ghost use Rattle.board_file.specs.Shown.{shown as board_of};
@@ -7,6 +7,7 @@ ghost use Rattle.flash_layout.specs.Maps.{board_map};
 ghost use Rattle.target_core.specs.Units.{OfFc1, unit_cells, unit_map, unit_state};
 ghost use Rattle.algo_calls.specs.Shows.{unit_in, Agrees};
 
+use crate::watch::{Area, Watch};
 use algo_calls::{Call, CallEnd, Calls};
 use algo_loader::place;
 use anyhow::{Result, bail};
@@ -21,9 +22,9 @@ use target_core::Target;
 #[derive(Drop)]
 pub struct Trial {
     calls: Calls,
-    bench: MemoryBench,
+    pub bench: Watch<MemoryBench>,
 
-    ghost agrees: { Agrees true calls (bench_of bench) },
+    ghost agrees: { Agrees true calls (bench_of bench.inner) },
 }
 
 /// The target of a board, which has so many cells.
@@ -64,7 +65,10 @@ impl Trial {
         let target = target_of(alloc, board, cells.len())?;
         let calls = calls_on(target, algorithm, board)?;
         let bench = MemoryBench::new(alloc, cells, &[], 0, 0x10000, &[], &[fail], &[0x5A])?;
-        Ok(Trial { calls, bench })
+        Ok(Trial {
+            calls,
+            bench: Watch::new(bench),
+        })
     }
 
     /// Puts the algorithm into the RAM.
@@ -96,8 +100,13 @@ impl Trial {
         })
     }
 
+    /// Counts the operations anew, in and out of an area.
+    pub fn watch(&mut self, area: Area) {
+        self.bench.watch(area);
+    }
+
     /// What the device holds.
     pub fn cells(&self) -> &[u8] {
-        self.bench.cells()
+        self.bench.inner.cells()
     }
 }
