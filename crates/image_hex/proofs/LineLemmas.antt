@@ -1,5 +1,5 @@
 -- What is at fault with a line of Intel HEX, and what taking it answers.
-use Rattle.std.proofs.Common.{◌≡◌, ◌++◌, ◌+◌, ◌-◌, ◌*◌, ℕ, Bool, true, false, cond, List, [], ◌∷◌, Option, Some, None, Ok, Err, length, get_or, take, drop, refl, sym, ap, subst}
+use Rattle.std.proofs.Common.{◌≡◌, ◌++◌, ◌≤◌, ◌+◌, ◌-◌, ◌*◌, ℕ, Bool, true, false, cond, List, [], ◌∷◌, Option, Some, None, Ok, Err, length, get_or, take, drop, refl, sym, ap, subst}
 use Rattle.std.specs.Prelude.{◌==◌, ◌&&◌, ◌||◌, not, nat_lt, slice_range}
 use Rattle.std.specs.List.{list_all}
 use Rattle.byte_map.specs.Image.{Run}
@@ -17,6 +17,7 @@ use Rattle.image_hex.specs.declared.record.HexRecord.TheVariants.{Data}
 use Rattle.image_hex.specs.Record.{Reading, read_line, checked, record_of, word_of, checksum_of}
 use Rattle.image_hex.specs.Hex.{hex, data_cells, IsHexFault}
 use Rattle.image_hex.specs.Clashes.{line_fault_of}
+use Rattle.image_hex.proofs.Apart.{consistent_data}
 
 -- a kind that a line may have: no missing end record, and no want of memory
 abbrev pub IsKindOfLine : HexKind → Type 0
@@ -85,11 +86,11 @@ pub faulty : (reading : Reading) (kind : HexKind) (before : List Cell) (base : B
 faulty reading kind before base is = ap (line_fault hex base before) is
 
 -- a data record whose bytes were added
-pub took_data : (reading : Reading) (before : List Cell) (base : Base) (offset : ℕ) (bytes : List ℕ) (image : List Run) → reading ≡ Ok (Some (Data offset bytes))
+pub took_data : (reading : Reading) (before : List Cell) (base : Base) (offset : ℕ) (bytes : List ℕ) (image : List Run) → reading ≡ Ok (Some (Data offset bytes)) → length bytes ≤ 255
     → (first_clash before (data_cells base offset bytes) ≡ None) × IsImageOf (data_cells base offset bytes ++ before) image → TakesLine hex reading before base base false image
-took_data reading before base offset bytes image is laid =
+took_data reading before base offset bytes image is few laid =
     subst (λ (r : Reading). TakesLine hex r before base base false image) (sym is)
-    (record { right = ap (or_clash hex None) laid.0; ends_is = refl; known_is = refl; image_is = laid.1; end_cells = tt })
+    (record { right = ap (or_clash hex None) laid.0; ends_is = refl; known_is = refl; image_is = laid.1; own = consistent_data base offset bytes few; end_cells = tt })
 
 -- or that clashed
 clash_as_line : (fault : ClashFault) (before : List Cell) (base : Base) (offset : ℕ) (bytes : List ℕ) → IsClashFault fault (first_clash before (data_cells base offset bytes))

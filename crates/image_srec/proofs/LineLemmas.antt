@@ -10,6 +10,7 @@ use Rattle.record_lines.specs.Clashes.{IsClashFault}
 use Rattle.record_lines.specs.Format.{line_fault, or_clash, line_at, context_before, cells_before, IsFaultOfLine, TakesLine, IsLineFault}
 use Rattle.record_lines.specs.declared.fault.ClashFault.{ClashFault}
 use Rattle.record_lines.specs.declared.fault.ClashFault.TheVariants as clash
+use Rattle.record_lines.proofs.CellLemmas.{consistent_from}
 use Rattle.image_srec.specs.declared.fault.SrecKind.{SrecKind}
 use Rattle.image_srec.specs.declared.fault.SrecKind.TheVariants.{NotRecord, BadDigit, BadLength, BadSum, BadType, CountDiffers, PastEnd, Conflict, NoEnd, OutOfMemory}
 use Rattle.image_srec.specs.declared.record.Seen.{Seen}
@@ -117,6 +118,7 @@ took_data reading before seen next at bytes image is fits counted laid =
       ends_is = refl;
       known_is = counted;
       image_is = laid.1;
+      own = consistent_from at bytes;
       end_cells = tt;
     })
 

@@ -1,18 +1,20 @@
 -- Cells at rising addresses against a run of a map.
-use Rattle.std.proofs.Common.{◌≡◌, ◌≢◌, ⊎_elim, ◌≤◌, ◌<◌, ◌+◌, ◌-◌, ◌^◌, ℕ, zero, suc, List, [], ◌∷◌, ◌++◌, length, get_or, Option, Some, None, refl, sym, ap, ◌∙◌, cond, Bool, true, false, arith}
+use Rattle.std.proofs.Common.{◌≡◌, ◌≢◌, ⊎_elim, ◌≤◌, ◌<◌, ◌+◌, ◌-◌, ◌^◌, ℕ, zero, suc, List, [], ◌∷◌, ◌++◌, length, get_or, Option, Some, None, refl, sym, ap, ◌∙◌, cond, Bool, true, false, subst, arith}
+use Rattle.std.specs.List.{All}
+use Rattle.std.proofs.lemmas.List.Elements.{All-nil, All-cons}
 use Rattle.std.specs.Prelude.{◌==◌}
-use Rattle.byte_map.specs.declared.fault.LayFault.TheVariants.{Conflict, PastEnd}
+use Rattle.byte_map.specs.declared.fault.LayFault.TheVariants.{Conflict}
 use Rattle.std.proofs.lemmas.Bool.{cases_lt}
 use Rattle.std.proofs.lemmas.Bool.Decides.{nat_tests}
 use Rattle.byte_map.specs.Image.{Run, holds, byte_of, byte_at}
 use Rattle.byte_map.specs.Laying.{IsFirstClash, Lays, IsLayFault}
 use Rattle.byte_map.proofs.Runs.{holds_between, holds_no_lower, holds_no_higher, held_from, held_to, or_else}
-use Rattle.record_lines.specs.Cells.{Cell, held, cells_from, Clash, clash_with, first_clash, IsImageOf}
+use Rattle.record_lines.specs.Cells.{Cell, held, AreConsistent, cells_from, Clash, clash_with, first_clash, IsImageOf}
 
-same_number : (a b : ℕ) → a ≡ b → (a == b) ≡ true
+pub same_number : (a b : ℕ) → a ≡ b → (a == b) ≡ true
 same_number a b is = grind (arith, nat_tests)
 
-other_number : (a b : ℕ) → a ≢ b → (a == b) ≡ false
+pub other_number : (a b : ℕ) → a ≢ b → (a == b) ≡ false
 other_number a b not = grind (arith, nat_tests)
 
 pub held-append : (xs ys : List Cell) (a : ℕ) → held (xs ++ ys) a ≡ or_else (held xs a) (held ys a)
@@ -38,6 +40,17 @@ held-within at (byte ∷ bytes) (suc k) lt =
     ap (λ (b : Bool). cond b (Some byte) (held (cells_from (at + 1) bytes) (at + suc k))) (other_number (at + suc k) at (omega arith))
     ∙ ap (held (cells_from (at + 1) bytes)) (let is : at + suc k ≡ at + 1 + k = omega arith in is)
     ∙ held-within (at + 1) bytes k (omega arith)
+
+-- what holds of each of them
+all_from : (P : Cell → Type 0) (at : ℕ) (bytes : List ℕ) → ((k : ℕ) → k < length bytes → P (record { at = at + k; byte = get_or bytes k 0 })) → All P (cells_from at bytes)
+all_from P at [] each = All-nil P
+all_from P at (byte ∷ bytes) each =
+    All-cons P (record { at = at; byte = byte }) (cells_from (at + 1) bytes)
+    (subst (λ (a : ℕ). P (record { at = a; byte = byte })) (let z : at + 0 ≡ at = omega arith in z) (each 0 (omega arith)))
+    (all_from P (at + 1) bytes (λ k lt. subst (λ (a : ℕ). P (record { at = a; byte = get_or bytes k 0 })) (let z : at + suc k ≡ at + 1 + k = omega arith in z) (each (suc k) (omega arith))))
+
+pub consistent_from : (at : ℕ) (bytes : List ℕ) → AreConsistent (cells_from at bytes)
+consistent_from at bytes = all_from (λ (cell : Cell). held (cells_from at bytes) cell.at ≡ Some cell.byte) at bytes (λ k lt. held-within at bytes k lt)
 
 pub held-run : (at : ℕ) (bytes : List ℕ) (a : ℕ) → held (cells_from at bytes) a ≡ byte_at (record { at = at; bytes = bytes } ∷ []) a
 held-run at bytes a =
@@ -69,7 +82,7 @@ held-laid at bytes old new before lays same a =
     ∙ sym (held-append (cells_from at bytes) before a)
 
 -- cells that agree with those before them clash nowhere
-clash-agreed : (o : Option ℕ) (cell : Cell) (later : Option Clash) → ((old : ℕ) → o ≡ Some old → old ≡ cell.byte) → clash_with o cell later ≡ later
+pub clash-agreed : (o : Option ℕ) (cell : Cell) (later : Option Clash) → ((old : ℕ) → o ≡ Some old → old ≡ cell.byte) → clash_with o cell later ≡ later
 clash-agreed None cell later agrees = refl
 clash-agreed (Some old) cell later agrees = ap (λ (b : Bool). cond b later (Some (record { at = cell.at; old = old; new = cell.byte }))) (same_number old cell.byte (agrees old refl))
 
@@ -140,9 +153,6 @@ laid_ok at bytes old new lays before image =
 pub laid_clash : (at : ℕ) (bytes : List ℕ) (old : List Run) (a o n : ℕ) → IsLayFault (record { at = at; bytes = bytes }) old (Conflict a o n)
     → (before : List Cell) → IsImageOf before old → first_clash before (cells_from at bytes) ≡ Some (record { at = a; old = o; new = n })
 laid_clash at bytes old a o n is before image = clash_refused at bytes old before a o n is.1 image.same
-
-pub fits_within : (at : ℕ) (bytes : List ℕ) (old : List Run) (a : ℕ) → at + length bytes ≤ 2 ^ 32 → IsLayFault (record { at = at; bytes = bytes }) old (PastEnd a) → ⊥
-fits_within at bytes old a fits is = omega (arith, fits, is.1)
 
 first_clash-some_at : (before : List Cell) (o : Option ℕ) (x : Cell) (xs ys : List Cell) (c : Clash) → clash_with o x (first_clash before xs) ≡ Some c → (first_clash before xs ≡ Some c → first_clash before (xs ++ ys) ≡ Some c) → clash_with o x (first_clash before (xs ++ ys)) ≡ Some c
 first_clash-some_at before None x xs ys c is later = later is

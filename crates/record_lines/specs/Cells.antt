@@ -1,5 +1,6 @@
 -- The bytes of records as cells, each an address with its byte.
 use Rattle.std.specs.Prelude.{◌≡◌, ◌+◌, ◌^◌, ℕ, ◌==◌, List, [], ◌∷◌, Option, Some, None, if◌then◌else◌}
+use Rattle.std.specs.List.{All}
 use Rattle.byte_map.specs.Image.{Run, byte_at, AreMaximal}
 
 pub record Cell : Type 0 where
@@ -10,6 +11,10 @@ pub record Cell : Type 0 where
 abbrev pub held : List Cell → ℕ → Option ℕ
 held [] a = None
 held (cell ∷ cells) a = if a == cell.at then Some cell.byte else held cells a
+
+-- cells of which no two have unequal bytes at one address
+abbrev pub AreConsistent : List Cell → Type 0
+AreConsistent cells = All (λ cell. held cells cell.at ≡ Some cell.byte) cells
 
 -- bytes at rising addresses from one on
 abbrev pub cells_from : ℕ → List ℕ → List Cell

@@ -2,7 +2,7 @@
 use Rattle.std.specs.Prelude.{◌≡◌, ◌+◌, ◌<◌, ◌≤◌, ℕ, zero, suc, min, Bool, true, false, List, [], ◌++◌, length, get_or, Option, Some, None, Result, Ok, Err}
 use Rattle.std.specs.Bool.{OnTrue}
 use Rattle.byte_map.specs.Image.{Run}
-use Rattle.record_lines.specs.Cells.{Cell, Clash, first_clash, IsImageOf}
+use Rattle.record_lines.specs.Cells.{Cell, AreConsistent, Clash, first_clash, IsImageOf}
 use Rattle.record_lines.specs.declared.fault.LineFault.{LineFault}
 use Rattle.record_lines.specs.declared.fault.LineFault.TheVariants as line
 use Rattle.record_lines.specs.declared.fault.LineFault.TheVariants.{Refused}
@@ -113,6 +113,8 @@ pub record TakesLine {C R F : Type 0} (f : Format C R F) (reading : Result (Opti
   pub ends_is : line_ends f reading ≡ ends
   pub known_is : known ≡ f.behind reading c
   pub image_is : IsImageOf (line_cells f c reading ++ before) image
+  -- a line's own bytes don't clash
+  pub own : AreConsistent (line_cells f c reading)
   -- a line that ends the text has no bytes
   pub end_cells : OnTrue ends (line_cells f c reading ≡ [])
 

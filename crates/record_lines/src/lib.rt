@@ -2,8 +2,11 @@
 //! together are an image.
 #![tactic(auto)]
 
+mod by_address;
+mod by_line;
 mod digits;
 mod fault;
+mod gathered;
 mod law;
 mod laying;
 mod payload;

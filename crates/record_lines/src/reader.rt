@@ -1,12 +1,13 @@
-//! A text of records, read line by line.
+//! A text of records: its image, or its first fault.
 ghost use Rattle.std.specs.Prelude.{◌≡◌, ◌≤◌, ◌<◌, ◌+◌, ◌-◌, ◌^◌, ℕ, List, IfOk, IfErr};
 ghost use Rattle.octets.specs.Lines.{lines_of};
 ghost use Rattle.record_lines.specs.Cells.{Cell, IsImageOf};
 ghost use Rattle.record_lines.specs.Format.{Format, TakesLine, IsLineFault, IsImageOfText, IsTextFault};
 
+use crate::by_address::read_by_address;
+use crate::by_line::read_by_line;
 use crate::fault::{LineFault, TextFault};
 use byte_map::ByteMap;
-use octets::next_line;
 use std::alloc::Global;
 
 /// A format of records. A value is what is known of the lines that were read.
@@ -14,7 +15,7 @@ pub trait RecordFormat: Drop {
     /// A record.
     type Record;
     /// What may be at fault with a line.
-    type Fault;
+    type Fault: Drop;
 
     ghost format: { Format Self Self.Record Self.Fault };
 
@@ -43,19 +44,8 @@ pub fn read_records<S: RecordFormat>(
     ensures ok { IfOk result (IsImageOfText S.format (lines_of text.now)) }
     ensures err { IfErr result (IsTextFault S.format (lines_of text.now)) }
 {
-    let mut map = ByteMap::new(alloc);
-    let mut known = S::start();
-    let mut line: u32 = 0;
-    let mut from = 0;
-    while from < text.len() {
-        let (start, end, next) = next_line(text, from);
-        line = line.saturating_add(1);
-        match known.take_line(&mut map, &text[start..end]) {
-            Ok(false) => from = next,
-            Ok(true) => return Ok(map),
-            Err(LineFault::Refused(fault)) => return Err(TextFault::Line { line, fault }),
-            Err(LineFault::OutOfMemory) => return Err(TextFault::OutOfMemory),
-        }
+    match read_by_address::<S>(alloc, text) {
+        Some(map) => Ok(map),
+        None => read_by_line::<S>(alloc, text),
     }
-    Err(TextFault::NoEnd { line })
 }

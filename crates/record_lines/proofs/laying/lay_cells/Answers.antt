@@ -1,6 +1,6 @@
 use Rattle.std.proofs.Common.{subst}
 use Rattle.byte_map.specs.Laying.{IsLayFault}
-use Rattle.record_lines.proofs.CellLemmas.{laid_ok, laid_clash, fits_within}
+use Rattle.record_lines.proofs.CellLemmas.{laid_ok, laid_clash}
 use Rattle.record_lines.proofs.laying.lay_cells.Goals as goal
 
 pub returns-in-Ok-clause-ok : goal.returns-in-Ok-clause-ok

@@ -1,4 +1,4 @@
-use Rattle.std.proofs.Common.{◌≡◌, ◌++◌, List, ℕ, Some, Ok, Err, None, sym, subst}
+use Rattle.std.proofs.Common.{◌≡◌, ◌≤◌, ◌++◌, length, List, ℕ, Some, Ok, Err, None, sym, subst}
 use Rattle.record_lines.specs.Cells.{first_clash, IsImageOf}
 use Rattle.record_lines.specs.Clashes.{IsClashFault}
 use Rattle.record_lines.specs.Format.{IsLineFault}
@@ -18,7 +18,8 @@ returns-in-Ok-clause-ok c = λ before image.
     let base = c.args.self.now in
     let is : read_line c.args.line.now ≡ Ok (Some (Data arm.offset arm.bytes)) = cc in
     let laid = subst (λ (bytes : List ℕ). (first_clash before (data_cells base arm.offset bytes) ≡ None) × IsImageOf (data_cells base arm.offset bytes ++ before) c.lay_data.new.map) c.bytes.ensures.value (c.in-Ok.ensures.ok before image) in
-    took_data (read_line c.args.line.now) before base arm.offset arm.bytes c.lay_data.new.map is laid
+    let few : length arm.bytes ≤ 255 = subst (λ (bytes : List ℕ). length bytes ≤ 255) c.bytes.ensures.value c.bytes.ensures.limit in
+    took_data (read_line c.args.line.now) before base arm.offset arm.bytes c.lay_data.new.map is few laid
 
 pub returns-in-Err-lay_data-clause-err : goal.returns-in-Err-lay_data-clause-err
 returns-in-Err-lay_data-clause-err c = λ before image.

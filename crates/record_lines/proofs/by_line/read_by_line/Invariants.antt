@@ -1,6 +1,6 @@
 use Rattle.std.proofs.Common.{◌+◌, ◌-◌, ◌≤◌, ◌^◌, ℕ, length}
 use Rattle.record_lines.proofs.Reading.{HasRead}
-use Rattle.record_lines.proofs.reader.read_records.Given as goal
+use Rattle.record_lines.proofs.by_line.read_by_line.Given as goal
 
 abbrev pub invariant-loop-from : goal.invariant-loop-from
 invariant-loop-from g l = record {
