@@ -1,10 +1,13 @@
 //! Lays records of 16 bytes into a map, and reads or merges images, in orders that are hard on a table of runs:
 //! `map_speed WORD.. RECORDS`. The words: an order (`rising`, `falling`, `outward`, by turns at both ends, or
 //! `shuffled`), `apart` (32 addresses a record, so that none touch), `merged` (each second record in a map of its own,
-//! and the two merged), `text` (single bytes as S-records, read as a file). It prints the runs that come of it.
-//! `map_speed hostile` does some of each, and what would be slow if a body moved more than it must. The time that it
-//! takes is to be measured from outside.
+//! and the two merged), `file` (the records as S-records, read as a file), `text` (the same with the first byte of each
+//! record alone). It prints the runs that come of it. `map_speed hostile` does some of each, shuffled records of a file
+//! among them, and what would be slow if a body moved more than it must. The time that it takes is to be measured from
+//! outside.
 #![tactic(auto)]
+
+ghost use Rattle.std.specs.Prelude.{◌≤◌, length};
 
 use anyhow::Result;
 use byte_map::ByteMap;
@@ -14,6 +17,9 @@ use std::env;
 
 /// The bytes of one record.
 const RECORD: [u8; 16] = [0x5A; 16];
+
+/// The hexadecimal digits.
+const DIGITS: [u8; 16] = *b"0123456789ABCDEF";
 
 /// The least address.
 const LOW: u32 = 0x0800_0000;
@@ -101,23 +107,39 @@ fn merge_records(alloc: Global, plan: &Plan) -> Result<ByteMap> {
     Ok(map)
 }
 
-/// Adds a byte of S-records: a data record with a 32-bit address, its checksum the complement of the sum of its other bytes.
-fn push_record(text: &mut Vec<u8>, at: u32) -> Result<()> {
-    let sum = at
-        .to_be_bytes()
-        .iter()
-        .fold(0xFF - 6 - 0x5A_u8, |left, byte| left.wrapping_sub(*byte));
-    let alloc = *text.allocator();
-    let line = format!(in alloc; "S306{at:08X}5A{sum:02X}\n")?;
-    text.extend_from_slice(line.as_bytes())?;
+/// Adds bytes as hexadecimal digits, and answers a checksum less all of them.
+fn push_bytes(text: &mut Vec<u8>, bytes: &[u8], checksum: u8) -> Result<u8> {
+    let mut left = checksum;
+    for byte in bytes {
+        let high = DIGITS[usize::from(*byte / 16)];
+        let low = DIGITS[usize::from(*byte % 16)];
+        text.extend_from_slice(&[high, low])?;
+        left = left.wrapping_sub(*byte);
+    }
+    Ok(left)
+}
+
+/// Adds an S-record: a data record with a 32-bit address, its checksum the complement of the sum of its other bytes.
+fn push_record(text: &mut Vec<u8>, at: u32, bytes: &[u8]) -> Result<()>
+    requires { length bytes.now ≤ 250 }
+{
+    let count = (bytes.len() + 5) as u8;
+    text.extend_from_slice(b"S3")?;
+    let left = push_bytes(text, &[count], 0xFF)?;
+    let left = push_bytes(text, &at.to_be_bytes(), left)?;
+    let left = push_bytes(text, bytes, left)?;
+    push_bytes(text, &[left], 0)?;
+    text.extend_from_slice(b"\n")?;
     Ok(())
 }
 
-/// The image of a text of S-records with one byte at the beginning of each record of a plan.
-fn read_text(alloc: Global, plan: &Plan) -> Result<ByteMap> {
+/// The image of a text of S-records with the first bytes of each record of a plan, as many as are asked for.
+fn read_text(alloc: Global, plan: &Plan, bytes: &[u8]) -> Result<ByteMap>
+    requires { length bytes.now ≤ 250 }
+{
     let mut text = Vec::new(alloc);
     for number in 0..plan.records {
-        push_record(&mut text, plan.address(number))?;
+        push_record(&mut text, plan.address(number), bytes)?;
     }
     text.extend_from_slice(b"S70500000000FA\n")?;
     Ok(read_image(alloc, &text, None)?)
@@ -154,6 +176,7 @@ fn bridge(alloc: Global, count: u32) -> Result<ByteMap> {
 enum Way {
     Laid,
     Merged,
+    File,
     Text,
 }
 
@@ -162,7 +185,8 @@ fn try_plan(alloc: Global, way: Way, plan: &Plan) -> Result<(usize, usize)> {
     let map = match way {
         Way::Laid => lay_records(alloc, plan, None)?,
         Way::Merged => merge_records(alloc, plan)?,
-        Way::Text => read_text(alloc, plan)?,
+        Way::File => read_text(alloc, plan, &RECORD)?,
+        Way::Text => read_text(alloc, plan, &RECORD[..1])?,
     };
     Ok(measure(&map))
 }
@@ -194,6 +218,13 @@ fn try_hostile(rt: &HostRuntime) -> Result<()> {
             println!(rt; "{runs} runs, {bytes} bytes in the first")?;
         }
     }
+    let plan = Plan {
+        order: Order::Shuffled,
+        apart: false,
+        records: 1 << 17,
+    };
+    let (runs, bytes) = try_plan(rt.alloc(), Way::File, &plan)?;
+    println!(rt; "{runs} runs, {bytes} bytes in the first")?;
     let falling = measure(&lay_bytes(rt.alloc(), 1 << 21)?);
     println!(rt; "{} runs, {} bytes in the first", falling.0, falling.1)?;
     let bridged = measure(&bridge(rt.alloc(), 1 << 16)?);
@@ -211,6 +242,7 @@ fn main(rt: HostRuntime) -> Result<()> {
             "hostile" => try_hostile(&rt)?,
             "apart" => apart = true,
             "merged" => way = Way::Merged,
+            "file" => way = Way::File,
             "text" => way = Way::Text,
             name => match name.parse::<u32>() {
                 Ok(number) => records = number.min(MOST),
