@@ -1,14 +1,18 @@
 //! Answers questions about files: ELF files and an FLM file, as a compiler, a linker or a hand made them and with some bytes
-//! changed; boards with one key changed; and other texts of boards. It prints each question with its answer.
+//! changed; boards with one key changed; and other texts of boards. It prints each question with its answer. Then it reads the image files
+//! of a list, which other tools wrote, and compares their bytes with the binary file that the same tools make of them.
+//!
+//! `file_vectors BINARY IMAGE..` compares these image files alone. The time that it takes is to be measured from outside.
 #![tactic(auto)]
 
 mod board;
 mod elf;
 mod flm;
+mod images;
 
 use anyhow::{Context, Result, bail};
-use std::fs;
 use std::str::SplitAsciiWhitespace;
+use std::{env, fs};
 
 /// Changes a byte as `AT=VALUE` says it: the place in decimal digits, the byte in hexadecimal ones.
 fn change(bytes: &mut [u8], words: &str) -> Result<()> {
@@ -80,8 +84,24 @@ fn answer_texts(rt: &HostRuntime) -> Result<()> {
     Ok(())
 }
 
+/// Compares the images of the list.
+fn compare_images(rt: &HostRuntime) -> Result<()> {
+    let list = fs::read_to_string(rt, "images.txt")?;
+    let names = list.lines().collect::<Vec<&str>>(rt.alloc())?;
+    images::compare(rt, &names)
+}
+
 fn main(rt: HostRuntime) -> Result<()> {
+    let words = env::args(&rt)?.skip(1).collect::<Vec<String>>(rt.alloc())?;
+    if !words.is_empty() {
+        let names = words
+            .iter()
+            .map(|word| word.as_str())
+            .collect::<Vec<&str>>(rt.alloc())?;
+        return images::compare(&rt, &names);
+    }
     answer_questions(&rt)?;
     answer_changes(&rt)?;
-    answer_texts(&rt)
+    answer_texts(&rt)?;
+    compare_images(&rt)
 }

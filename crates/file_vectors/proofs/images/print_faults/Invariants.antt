@@ -1,5 +1,5 @@
 use Rattle.std.proofs.Common.{◌-◌, length}
-use Rattle.image_vectors.proofs.print_faults.Given as goal
+use Rattle.file_vectors.proofs.images.print_faults.Given as goal
 
 abbrev pub decreases-loop-from : goal.decreases-loop-from
 decreases-loop-from l = length l.table - l.from
