@@ -1,17 +1,11 @@
-//! Reads an ELF file of 65,279 sections and looks for one by its name, as often as it is told: `elf_speed NAMES TIMES`, or
-//! `elf_speed colliding TIMES TABLE`. It prints the place of the section in the file's table. The time that it takes is to
-//! be measured from outside.
-#![tactic(auto)]
+//! Reads an ELF file of 65,279 sections and looks for one by its name, as often as it is told: `reader_speed elf NAMES TIMES`, or
+//! `reader_speed elf colliding TIMES TABLE`. It prints the place of the section in the file's table.
 
-mod names;
-
+use crate::names::{Names, Table};
 use anyhow::{Result, bail};
 use elf32::{Elf, Section};
-use names::{Names, Table};
 use std::alloc::{AllocError, Global};
-use std::env;
-use std::fs::File;
-use std::io::Read;
+use std::fs;
 
 /// The most sections that a file may have.
 const SECTIONS: u32 = 0xFEFF;
@@ -57,25 +51,28 @@ fn file_of(alloc: Global, table: &Table) -> Result<Vec<u8>, AllocError> {
     Ok(file)
 }
 
-/// The bytes of a file.
-fn read_file(rt: &HostRuntime, name: &str) -> Result<Vec<u8>> {
-    let mut file = File::open(rt, name)?;
-    let mut bytes = Vec::new(rt.alloc());
-    file.read_to_end(&mut bytes)?;
-    Ok(bytes)
+/// Reads the file so many times, and looks for the section each time: its place in the file's table.
+fn look(alloc: Global, file: &[u8], sought: &[u8], times: u32) -> Result<Option<u32>> {
+    let mut found = None;
+    for _time in 0..times {
+        let elf = Elf::read(alloc, file)?;
+        found = elf.section(sought, Section::PROGBITS);
+    }
+    Ok(found.map(|section| section.offset))
 }
 
-fn main(rt: HostRuntime) -> Result<()> {
+/// Does what the words ask for.
+pub fn run(rt: &HostRuntime, words: &[&str]) -> Result<()> {
     let mut names = None;
     let mut times = 0;
     let mut colliding = Vec::new(rt.alloc());
-    for word in env::args(&rt)?.skip(1) {
+    for word in words {
         if let Ok(number) = word.parse::<u32>() {
             times = number;
-        } else if let Some(form) = Names::named(word.as_str()) {
+        } else if let Some(form) = Names::named(word) {
             names = Some(form);
         } else {
-            colliding = read_file(&rt, word.as_str())?;
+            colliding = fs::read(rt, *word)?;
         }
     }
     let Some(names) = names else {
@@ -83,13 +80,8 @@ fn main(rt: HostRuntime) -> Result<()> {
     };
     let table = names.table(rt.alloc(), SECTIONS, &colliding)?;
     let file = file_of(rt.alloc(), &table)?;
-    let mut found = None;
-    for _time in 0..times {
-        let elf = Elf::read(rt.alloc(), &file)?;
-        found = elf.section(&table.sought, Section::PROGBITS);
-    }
-    match found {
-        Some(section) => println!(rt; "section {}", section.offset)?,
+    match look(rt.alloc(), &file, &table.sought, times)? {
+        Some(place) => println!(rt; "section {place}")?,
         None => println!(rt; "no section")?,
     }
     Ok(())

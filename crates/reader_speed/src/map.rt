@@ -1,19 +1,15 @@
 //! Lays records of 16 bytes into a map, and reads or merges images, in orders that are hard on a table of runs:
-//! `map_speed WORD.. RECORDS`. The words: an order (`rising`, `falling`, `outward`, by turns at both ends, or
+//! `reader_speed map WORD.. RECORDS`. The words: an order (`rising`, `falling`, `outward`, by turns at both ends, or
 //! `shuffled`), `apart` (32 addresses a record, so that none touch), `merged` (each second record in a map of its own,
 //! and the two merged), `file` (the records as S-records, read as a file), `text` (the same with the first byte of each
-//! record alone). It prints the runs that come of it. `map_speed hostile` does some of each, shuffled records of a file
-//! among them, and what would be slow if a body moved more than it must. The time that it takes is to be measured from
-//! outside.
-#![tactic(auto)]
-
+//! record alone). It prints the runs that come of it. `reader_speed map hostile` does some of each, shuffled records of a
+//! file among them, and what would be slow if a body moved more than it must.
 ghost use Rattle.std.specs.Prelude.{◌≤◌, length};
 
 use anyhow::Result;
 use byte_map::ByteMap;
 use image_set::{merge, read_image};
 use std::alloc::Global;
-use std::env;
 
 /// The bytes of one record.
 const RECORD: [u8; 16] = [0x5A; 16];
@@ -232,14 +228,15 @@ fn try_hostile(rt: &HostRuntime) -> Result<()> {
     Ok(())
 }
 
-fn main(rt: HostRuntime) -> Result<()> {
+/// Does what the words ask for.
+pub fn run(rt: &HostRuntime, words: &[&str]) -> Result<()> {
     let mut order = None;
     let mut apart = false;
     let mut way = Way::Laid;
     let mut records = 0;
-    for word in env::args(&rt)? {
-        match word.as_str() {
-            "hostile" => try_hostile(&rt)?,
+    for word in words {
+        match *word {
+            "hostile" => try_hostile(rt)?,
             "apart" => apart = true,
             "merged" => way = Way::Merged,
             "file" => way = Way::File,
