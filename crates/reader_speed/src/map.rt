@@ -221,7 +221,7 @@ fn try_hostile(rt: &HostRuntime) -> Result<()> {
     };
     let (runs, bytes) = try_plan(rt.alloc(), Way::File, &plan)?;
     println!(rt; "{runs} runs, {bytes} bytes in the first")?;
-    let falling = measure(&lay_bytes(rt.alloc(), 1 << 21)?);
+    let falling = measure(&lay_bytes(rt.alloc(), 1 << 23)?);
     println!(rt; "{} runs, {} bytes in the first", falling.0, falling.1)?;
     let bridged = measure(&bridge(rt.alloc(), 1 << 16)?);
     println!(rt; "{} runs, {} bytes in the first", bridged.0, bridged.1)?;
