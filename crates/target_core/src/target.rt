@@ -132,6 +132,21 @@ impl Target {
         }
     }
 
+    /// Starts anew, as after a reset, and asks no bench: an operation that is open on one goes on there.
+    pub fn restart(&mut self)
+        ensures unit { unit_state self.new.unit ≡ state_reset (unit_state self.old.unit) }
+        ensures ram { self.new.ram.items ≡ replicate (vec_len self.old.ram) 0 }
+        ensures core { self.new.core ≡ fresh_core }
+        ensures map { unit_map self.new.unit ≡ unit_map self.old.unit }
+        ensures base { self.new.ram_base ≡ self.old.ram_base }
+        ensures len { vec_len self.new.ram ≡ vec_len self.old.ram }
+        ensures return_at { self.new.return_at ≡ self.old.return_at }
+    {
+        self.unit.restart();
+        self.clear_ram();
+        self.core = fresh_core();
+    }
+
     /// Zeroes the RAM.
     pub fn clear_ram(&mut self)
         ensures ram { self.new.ram.items ≡ replicate (vec_len self.old.ram) 0 }
