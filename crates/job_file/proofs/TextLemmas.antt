@@ -1,16 +1,20 @@
--- The snapshot over the zeros at a body's end.
-use Rattle.std.proofs.Common.{◌≡◌, ◌+◌, ◌-◌, ℕ, take, replicate, List, ◌++◌, length, ap, ◌∙◌, arith}
-use Rattle.std.proofs.lemmas.List.{length-append, length-replicate, take_at}
+-- The snapshot behind the front of a body, and in the file of a job.
+use Rattle.std.proofs.Common.{◌≡◌, ◌≤◌, ◌<◌, ◌+◌, ◌-◌, ℕ, List, ◌++◌, length, drop, sym, ap, ◌∙◌, arith}
+use Rattle.std.proofs.lemmas.List.{length-drop}
 use Rattle.job_text.specs.Body.{body_of}
+use Rattle.job_text.specs.declared.job.Job as code
 use Rattle.job_text.specs.declared.parts.JobParts.{JobParts}
 use Rattle.job_text.specs.Parts.{job_of, front_of}
+use Rattle.job_text.specs.Stands.{StandsFor, snapshot_in}
 use Rattle.job_text.proofs.PartLemmas.{front_is}
 
 -- the body of a job with these cells for its snapshot
-pub body_from : (p : JobParts) (blank cells : List ℕ) (len : ℕ) → blank ≡ front_of p ++ replicate p.size 0 → len ≡ length blank → length cells ≡ p.size
-    → take (len - p.size) blank ++ cells ≡ body_of (job_of p cells)
-body_from p blank cells len is long many =
-    let zeros : List ℕ = replicate p.size 0 in
-    let blank_len : length blank ≡ length (front_of p) + p.size = ap (λ (l : List ℕ). length l) is ∙ length-append (front_of p) zeros ∙ ap (λ (n : ℕ). length (front_of p) + n) (length-replicate p.size 0) in
-    let n : length (front_of p) ≡ len - p.size = omega (arith, blank_len, long) in
-    ap (λ (l : List ℕ). l ++ cells) (ap (take (len - p.size)) is ∙ take_at (front_of p) (replicate p.size 0) (len - p.size) n) ∙ front_is p cells many
+pub body_from : (p : JobParts) (front cells : List ℕ) → front ≡ front_of p → length cells ≡ p.size → front ++ cells ≡ body_of (job_of p cells)
+body_from p front cells is many = ap (λ (l : List ℕ). l ++ cells) is ∙ front_is p cells many
+
+-- a range of the snapshot lies in the file
+pub snapshot_within : (job : code.Job) (file : List ℕ) (at len : ℕ) → StandsFor job file → 1 ≤ job.algorithm.device.size → at + len ≤ job.algorithm.device.size
+    → job.snapshot_at + at + len ≤ length file
+snapshot_within job file at len stands some range =
+    let long : length (snapshot_in job file) ≡ job.algorithm.device.size = ap (λ (l : List ℕ). length l) (sym stands.snapshot) ∙ stands.is.cells in
+    omega (arith, long, some, range, length-drop job.snapshot_at file)

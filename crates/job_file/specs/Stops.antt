@@ -1,7 +1,15 @@
 -- What a stop leaves of the file.
-use Rattle.std.specs.Prelude.{◌⊎◌, ℕ, List}
+use Rattle.std.specs.Prelude.{◌≡◌, ◌⊎◌, ℕ, List, [], ◌∷◌, take}
 use Rattle.bench_model.specs.History.{Half, left}
 use Rattle.job_text.specs.Files.{IsFree, IsWhole, IsClosed}
+
+-- byte 0 is there, and closes the gate
+abbrev pub IsShut : List ℕ → Type 0
+IsShut file = take 1 file ≡ 0 ∷ []
+
+-- byte 0 is as before
+abbrev pub KeepsGate : List ℕ → List ℕ → Type 0
+KeepsGate old new = take 1 new ≡ take 1 old
 
 -- free, or whole for this body
 abbrev pub IsFreeOrWhole : List ℕ → List ℕ → Type 0

@@ -1,9 +1,8 @@
 //! The call that begins a job.
-ghost use Rattle.std.specs.Prelude.{◌≡◌, ◌+◌, ◌++◌, ◌∷◌, length, replicate, take, false, IsTrue, IsOk, IsErrOf, OnOk, IfOk, IfErr, None};
-ghost use Rattle.faults.specs.Counts.{HasCause};
+ghost use Rattle.std.specs.Prelude.{◌≡◌, ◌++◌, ◌∷◌, length, false, IsTrue, IsOk, OnOk, IfOk, IfErr, None};
 ghost use Rattle.bench_model.specs.History.{LeftOnly, Leaves, AddsNothing};
 ghost use Rattle.bench_model.specs.State.{file_half, cells_half};
-ghost use Rattle.bench_model.specs.Calls.{FileStays, SameOutside, OnlyReads};
+ghost use Rattle.bench_model.specs.Calls.{SameOutside, OnlyReads};
 ghost use Rattle.job_text.specs.Body.{body_of};
 ghost use Rattle.job_text.specs.Files.{IsFree, open_gate};
 ghost use Rattle.job_text.specs.Parts.{job_of, AreParts, front_of};
@@ -13,9 +12,9 @@ ghost use Rattle.job_file.specs.Stops.{IsFreeOrWhole, IsOfBegin};
 
 use crate::fault::BeginFault;
 use crate::gate::put_job;
-use crate::reading::look;
-use bench_model::{Bench, DeviceFault};
-use job_text::{Class, JobParts, blank_body, class_of_file};
+use crate::reading::{PIECE, look};
+use bench_model::Bench;
+use job_text::{Class, JobParts, body_front, class_of_file};
 use std::alloc::Global;
 
 /// Whether a job for so many cells may be begun over this file.
@@ -33,24 +32,10 @@ fn admit(alloc: Global, file: &[u8], said: u32, found: u32) -> Result<(), BeginF
     }
 }
 
-/// Breaks an operation off, and reads all cells.
-fn photograph<B: Bench>(bench: &mut B, out: &mut [u8]) -> Result<(), DeviceFault>
-    requires { length out.old ≡ (B.state bench.old).cell_count }
-    ensures ok { IsTrue B.tells → OnOk result ((out.new ≡ (B.state bench.new).cells) × ((B.state bench.new).operation ≡ None)) }
-    ensures same { IsTrue B.tells → SameOutside (B.state bench.old).operation (B.state bench.old).cells (B.state bench.new).cells }
-    ensures count { (B.state bench.new).cell_count ≡ (B.state bench.old).cell_count }
-    ensures moments { AddsNothing (cells_half (B.state bench.old)) (cells_half (B.state bench.new)) }
-    ensures file { FileStays (B.state bench.old) (B.state bench.new) }
-    ensures cause { HasCause (B.state bench.old).device_faults (B.state bench.new).device_faults result }
-{
-    bench.cells_drop()?;
-    bench.cells_read(0, out)
-}
-
-/// All that `begin` does before it touches the device: the body to be written, but for its snapshot.
+/// All that `begin` does before it touches the device: the front of the body that is to be written.
 fn prepare<B: Bench>(alloc: Global, bench: &mut B, parts: &JobParts) -> Result<Vec<u8>, BeginFault>
     requires { AreParts parts.now }
-    ensures ok { IfOk result (λ v. v.items ≡ front_of parts.now ++ replicate parts.now.size 0) }
+    ensures front { IfOk result (λ v. v.items ≡ front_of parts.now) }
     ensures sized { IsOk result → parts.now.size ≡ (B.state bench.old).cell_count }
     ensures free { IsTrue B.tells → OnOk result (IsFree (B.state bench.old).file
         × LeftOnly (B.state bench.old).file (file_half (B.state bench.new))) }
@@ -62,33 +47,32 @@ fn prepare<B: Bench>(alloc: Global, bench: &mut B, parts: &JobParts) -> Result<V
     let bytes = look(alloc, bench)?;
     let found = bench.cells_len();
     admit(alloc, &bytes, parts.size, found)?;
-    Ok(blank_body(alloc, parts)?)
+    Ok(body_front(alloc, parts)?)
 }
 
-/// Takes the snapshot into the end of the body, and puts the job.
-fn take_and_put<B: Bench>(bench: &mut B, body: &mut [u8], front: usize) -> Result<(), BeginFault>
-    requires size { front + (B.state bench.old).cell_count ≡ length body.old }
+/// Breaks an operation off, and puts the job, whose snapshot is read as it is written.
+fn drop_and_put<B: Bench>(bench: &mut B, front: &[u8], window: &mut [u8]) -> Result<(), BeginFault>
+    requires room { length window.old ≡ PIECE }
     requires free { IsTrue B.tells → IsFree (B.state bench.old).file }
     requires only { IsTrue B.tells → LeftOnly (B.state bench.old).file (file_half (B.state bench.old)) }
     ensures same { IsTrue B.tells → SameOutside (B.state bench.old).operation (B.state bench.old).cells (B.state bench.new).cells }
-    ensures ok { IsTrue B.tells → OnOk result (((B.state bench.new).file ≡ open_gate ∷ take front body.old ++ (B.state bench.new).cells)
-        × LeftOnly (open_gate ∷ take front body.old ++ (B.state bench.new).cells) (file_half (B.state bench.new))
+    ensures ok { IsTrue B.tells → OnOk result (((B.state bench.new).file ≡ open_gate ∷ front.now ++ (B.state bench.new).cells)
+        × LeftOnly (open_gate ∷ front.now ++ (B.state bench.new).cells) (file_half (B.state bench.new))
         × ((B.state bench.new).operation ≡ None)) }
     ensures stops { IsTrue B.tells → Leaves (file_half (B.state bench.old)) (file_half (B.state bench.new))
-        (IsOfBegin (file_half (B.state bench.old)) (take front body.old ++ (B.state bench.new).cells)) }
+        (IsOfBegin (file_half (B.state bench.old)) (front.now ++ (B.state bench.new).cells)) }
     ensures cells { AddsNothing (cells_half (B.state bench.old)) (cells_half (B.state bench.new)) }
     ensures count { (B.state bench.new).cell_count ≡ (B.state bench.old).cell_count }
     ensures fault { IfErr result IsFault }
     ensures store { IsCounted (B.state bench.old).store_faults (B.state bench.new).store_faults (is_store_fault result) }
     ensures device { IsCounted (B.state bench.old).device_faults (B.state bench.new).device_faults (is_device_fault result) }
 {
-    photograph(bench, &mut body[front..])?;
-    put_job(bench, body)?;
-    Ok(())
+    bench.cells_drop()?;
+    put_job(bench, front, window)
 }
 
-/// Begins a job over a free file: the snapshot is read once nothing is open on the device, and the gate is opened last. All
-/// its memory is taken before it breaks off an operation.
+/// Begins a job over a free file: the snapshot is read once nothing is open on the device, and written as it is read, some thousand
+/// cells at a time; the gate is opened last. All its memory is taken before it breaks off an operation.
 ///
 /// # Errors
 ///
@@ -125,7 +109,6 @@ pub fn begin<B: Bench>(alloc: Global, bench: &mut B, parts: &JobParts) -> Result
     ensures store { IsCounted (B.state bench.old).store_faults (B.state bench.new).store_faults (is_store_fault result) }
     ensures device { IsCounted (B.state bench.old).device_faults (B.state bench.new).device_faults (is_device_fault result) }
 {
-    let mut body = prepare(alloc, bench, parts)?;
-    let front = body.len() - parts.size as usize;
-    take_and_put(bench, &mut body, front)
+    let front = prepare(alloc, bench, parts)?;
+    drop_and_put(bench, &front, &mut [0; PIECE])
 }

@@ -234,3 +234,12 @@ same_job j k b c a e is_j is_k same =
     let x : Found = record { job = j; board = b; algorithm = a } in
     let y : Found = record { job = k; board = c; algorithm = e } in
     ap (λ (f : Found). f.job) (ok_is {E = ℕ} x y (sym one ∙ both ∙ two))
+
+-- what stands before the snapshot of a body, which ends with it
+abbrev pub front_text : Job → List ℕ
+front_text j = mark ++ field (length j.board) ++ field (length j.flm) ++ field (length j.image) ++ field (length j.snapshot) ++ j.board ++ j.flm ++ flat_map run_text j.image
+
+pub ends_in_snapshot : (j : Job) → front_text j ++ j.snapshot ≡ body_of j
+ends_in_snapshot j =
+    ap (λ (l : List ℕ). mark ++ (field (length j.board) ++ (field (length j.flm) ++ (field (length j.image) ++ (field (length j.snapshot) ++ l)))))
+    (append_assoc (j.board ++ j.flm) (flat_map run_text j.image) j.snapshot ∙ append_assoc j.board j.flm (flat_map run_text j.image ++ j.snapshot))

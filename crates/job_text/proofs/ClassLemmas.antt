@@ -1,20 +1,21 @@
 -- What a file is, in the words of the format.
-use Rattle.std.proofs.Common.{◌≡◌, ◌≢◌, ◌⊎◌, ⊎_elim, inl, inr, ℕ, suc, ◌+◌, ◌<◌, ◌≤◌, Bool, cond, List, [], ◌∷◌, length, get_or, drop, Result, Ok, Err, refl, sym, ap, subst, ◌∙◌, arith}
+use Rattle.std.proofs.Common.{◌≡◌, ◌≢◌, ◌⊎◌, ⊎_elim, inl, inr, ℕ, suc, ◌+◌, ◌-◌, ◌<◌, ◌≤◌, Bool, cond, List, [], ◌∷◌, ◌++◌, length, get_or, drop, Result, Ok, Err, refl, sym, ap, subst, ◌∙◌, arith}
 use Rattle.std.proofs.lemmas.Bool.{cases_eq, eq-eqb, ne_eqb}
+use Rattle.std.proofs.lemmas.List.{length-append, drop_at}
 use Rattle.board_file.specs.Shown as board
 use Rattle.flm_descriptor.specs.Shown as flm
 use Rattle.job_text.specs.declared.job.Class.{Class}
 use Rattle.job_text.specs.declared.job.Class.TheVariants.{Free, Stands, NotAJob}
 use Rattle.job_text.specs.declared.job.Job as code
 use Rattle.job_text.specs.Files.{IsFree, IsWhole}
-use Rattle.job_text.specs.Body.{body_of, IsJob}
+use Rattle.job_text.specs.Body.{Job, body_of, IsJob}
 use Rattle.job_text.specs.Reading as reading
 use Rattle.job_text.specs.Reading.{Found, job_at, class_of, class_from, free, stands, not_a_job, seen_of}
 use Rattle.job_text.specs.Shown.{IsClass}
 use Rattle.job_text.specs.Stands.{StandsFor, IsSomeJob, IsNotAJob, IsClassOf}
 use Rattle.job_text.proofs.Steps.{ok_is}
 use Rattle.job_text.proofs.TakeLemmas.{IsBytes}
-use Rattle.job_text.proofs.BodyLemmas.{job_takes, job_again, long_body}
+use Rattle.job_text.proofs.BodyLemmas.{job_takes, job_again, long_body, front_text, ends_in_snapshot}
 
 record IsShut (gate next : ℕ) (rest : List ℕ) : Type 0 where
   is : class_of (gate ∷ next ∷ rest) ≡ free
@@ -86,7 +87,16 @@ not_class (gate ∷ next ∷ rest) at e = ⊎_elim
     })
     (long gate next rest)
 
-pub classes : (c : Class) (file : List ℕ) → IsBytes file → IsClass c (class_of file) → IsClassOf c file
+-- the snapshot stands at the end
+snapshot_from : (j : Job) (file : List ℕ) → IsWhole (body_of j) file → j.snapshot ≡ drop (length file - length j.snapshot) file
+snapshot_from j file whole =
+    let front : List ℕ = 165 ∷ front_text j in
+    let parts : file ≡ front ++ j.snapshot = whole ∙ ap (λ (l : List ℕ). 165 ∷ l) (sym (ends_in_snapshot j)) in
+    let long : length file ≡ length front + length j.snapshot = ap (λ (l : List ℕ). length l) parts ∙ length-append front j.snapshot in
+    let at : length front ≡ length file - length j.snapshot = omega (arith, long) in
+    sym (ap (λ (l : List ℕ). drop (length file - length j.snapshot) l) parts ∙ drop_at front j.snapshot (length file - length j.snapshot) at)
+
+pub classes : (c : Class) (file : List ℕ) → IsBytes file → IsClass (length file) c (class_of file) → IsClassOf c file
 classes Free file fits is = free_class file is
 classes (Stands job) file fits (x, e, same) =
     let f = stands_class file x fits e in
@@ -97,24 +107,24 @@ classes (Stands job) file fits (x, e, same) =
       is = subst (λ (y : board.Shown). IsJob x.job y (flm.shown job.algorithm)) b (subst (λ (y : flm.Shown). IsJob x.job x.board y) a f.is);
       whole = f.whole;
       image = ap (λ (s : reading.Seen). s.image) same;
-      snapshot = ap (λ (s : reading.Seen). s.snapshot) same;
+      snapshot = snapshot_from x.job file f.whole ∙ ap (λ (n : ℕ). drop n file) (ap (λ (s : reading.Seen). s.snapshot_at) same);
     }
 classes (NotAJob at) file fits is = not_class file at is
 
 -- what was seen of a job was found
-was_seen : (r : Result Found ℕ) (s : reading.Seen) → seen_of r ≡ Ok s → (x : Found) × (r ≡ Ok x) × (reading.seen x ≡ s)
-was_seen (Ok x) s e = (x, refl, ok_is {E = ℕ} (reading.seen x) s e)
-was_seen (Err at) s e = absurd cc
+was_seen : (whole : ℕ) (r : Result Found ℕ) (s : reading.Seen) → seen_of whole r ≡ Ok s → (x : Found) × (r ≡ Ok x) × (reading.seen whole x ≡ s)
+was_seen whole (Ok x) s e = (x, refl, ok_is {E = ℕ} (reading.seen whole x) s e)
+was_seen whole (Err at) s e = absurd cc
 
 -- a file behind whose open gate a job is seen
-pub stands_as : (file : List ℕ) (s : reading.Seen) → 1 < length file → get_or file 0 0 ≡ 165 → seen_of (job_at (length file) (drop 1 file)) ≡ Ok s
-    → (x : Found) × (class_of file ≡ stands x) × (reading.seen x ≡ s)
+pub stands_as : (file : List ℕ) (s : reading.Seen) → 1 < length file → get_or file 0 0 ≡ 165 → seen_of (length file) (job_at (length file) (drop 1 file)) ≡ Ok s
+    → (x : Found) × (class_of file ≡ stands x) × (reading.seen (length file) x ≡ s)
 unfolding class_of
 stands_as [] s long open_ is = absurd (omega arith)
 stands_as (gate ∷ []) s long open_ is = absurd (omega arith)
 stands_as (gate ∷ next ∷ rest) s long open_ is =
     let len : length rest + 2 ≡ length (gate ∷ next ∷ rest) = omega arith in
-    let (x, found, same) = was_seen (job_at (length (gate ∷ next ∷ rest)) (next ∷ rest)) s is in
+    let (x, found, same) = was_seen (length (gate ∷ next ∷ rest)) (job_at (length (gate ∷ next ∷ rest)) (next ∷ rest)) s is in
     (x, ap (λ (b : Bool). cond b (class_from (job_at (length rest + 2) (next ∷ rest))) free) (eq-eqb gate 165 open_) ∙ ap (λ (n : ℕ). class_from (job_at n (next ∷ rest))) len ∙ ap class_from found, same)
 
 -- a file that stands for a job in memory stands for a job

@@ -1,5 +1,5 @@
 -- Runs taken one after the other, as a loop does.
-use Rattle.std.proofs.Common.{◌≡◌, ℕ, suc, ◌-◌, ◌+◌, ◌≤◌, ◌<◌, List, [], ◌∷◌, ◌++◌, length, Result, Ok, Err, refl, sym, ap, subst, ◌∙◌, append_assoc, arith}
+use Rattle.std.proofs.Common.{◌≡◌, ℕ, suc, ◌-◌, ◌+◌, ◌*◌, ◌≤◌, ◌<◌, List, [], ◌∷◌, ◌++◌, length, Result, Ok, Err, refl, sym, ap, subst, ◌∙◌, append_assoc, arith}
 use Rattle.std.proofs.lemmas.List.{append-nil, length-append}
 use Rattle.faults.specs.Results.{◌>>=◌}
 use Rattle.byte_map.specs.Image.{Run, end_of, AreMaximal}
@@ -22,6 +22,8 @@ pub record SoFar (whole low end from count : ℕ) (image : List Run) (rest bytes
   pub maximal : AreMaximal low end image
   pub behind : EndBelow from image
   pub above : low ≤ from
+  pub below : from ≤ end + 1
+  pub used : length bytes ≤ length rest + 5 * (from - low)
 
 regroup : (front : List Run) (n : Run) (read : Result (List Run × List ℕ) ℕ) → with_front front (read >>= λ x. Ok (n ∷ x.0, x.1)) ≡ with_front (front ++ n ∷ []) read
 regroup front n (Ok x) = ap (λ (ns : List Run). Ok (ns, x.1)) (simp append_assoc)
@@ -38,9 +40,10 @@ goes_on d low end front count i bytes n after total lt h so_far =
 -- one run more
 pub more : (whole low end from count : ℕ) (image : List Run) (rest bytes : List ℕ) (taken : ℕ) (r : Run) (after : List ℕ) (new : List Run) (next : ℕ)
     → SoFar whole low end from count image rest bytes taken → taken < count → run_at whole from end rest ≡ Ok (r, after) → length after ≤ length rest
+    → length rest ≤ length after + length r.bytes + 8
     → from ≤ r.at → 1 ≤ length r.bytes → end_of r ≤ end → new ≡ image ++ r ∷ [] → next ≡ end_of r + 1
     → SoFar whole low end next count new after bytes (taken + 1)
-more whole low end from count image rest bytes taken r after new next so_far lt is shorter le some ends new-is next-is =
+more whole low end from count image rest bytes taken r after new next so_far lt is shorter longer le some ends new-is next-is =
     let grown : SoFar whole low end (end_of r + 1) count (image ++ r ∷ []) after bytes (taken + 1) = record {
       said = goes_on whole from end image count taken rest r after (runs_at whole count low end bytes) lt is so_far.said;
       inside = omega (arith, so_far.inside, shorter);
@@ -48,6 +51,8 @@ more whole low end from count image rest bytes taken r after new next so_far lt 
       maximal = maximal_behind low end image r so_far.maximal (omega (arith, so_far.above, le)) (λ k l. let b = so_far.behind k l in omega (arith, b, le)) some ends;
       behind = end_below_more image r from (end_of r + 1) so_far.behind le (omega arith);
       above = omega (arith, so_far.above, le);
+      below = omega (arith, ends);
+      used = omega (arith, so_far.used, so_far.above, longer, le, some);
     } in
     subst (λ (n : ℕ). SoFar whole low end n count new after bytes (taken + 1)) (sym next-is)
     (subst (λ (rs : List Run). SoFar whole low end (end_of r + 1) count rs after bytes (taken + 1)) (sym new-is) grown)

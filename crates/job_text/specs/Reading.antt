@@ -131,16 +131,18 @@ class_of [] = free
 class_of (gate ∷ []) = free
 class_of (gate ∷ next ∷ rest) = if gate == open_gate then class_from (job_at (length rest + 2) (next ∷ rest)) else free
 
--- what a caller sees of a job: all but the two texts
+-- what a caller sees of a job: all but the two texts, and of the snapshot where it begins
 pub record Seen : Type 0 where
   pub board : board.Shown
   pub algorithm : flm.Shown
   pub image : List Run
-  pub snapshot : List ℕ
+  pub snapshot_at : ℕ
 
-abbrev pub seen : Found → Seen
-seen found = record { board = found.board; algorithm = found.algorithm; image = found.job.image; snapshot = found.job.snapshot }
+-- in a file of so many bytes
+abbrev pub seen : ℕ → Found → Seen
+seen whole found =
+    record { board = found.board; algorithm = found.algorithm; image = found.job.image; snapshot_at = whole - length found.job.snapshot }
 
-abbrev pub seen_of : Result Found ℕ → Result Seen ℕ
-seen_of (Ok found) = Ok (seen found)
-seen_of (Err at) = Err at
+abbrev pub seen_of : ℕ → Result Found ℕ → Result Seen ℕ
+seen_of whole (Ok found) = Ok (seen whole found)
+seen_of whole (Err at) = Err at

@@ -10,7 +10,7 @@ use Rattle.job_text.specs.declared.job.Class.{Class}
 use Rattle.job_text.specs.Reading as reading
 
 abbrev pub seen_job : Job → reading.Seen
-seen_job j = record { board = board.shown j.board; algorithm = flm.shown j.algorithm; image = j.image; snapshot = j.snapshot }
+seen_job j = record { board = board.shown j.board; algorithm = flm.shown j.algorithm; image = j.image; snapshot_at = j.snapshot_at }
 
 -- what a function returned, seen by `view`, is what is read, unless memory ran out
 abbrev pub Fails : {Y : Type 0} → JobFault → Result Y ℕ → Type 0
@@ -21,8 +21,8 @@ abbrev pub Gives : {X Y : Type 0} → (X → Y) → Result X JobFault → Result
 Gives view (Ok x) read = read ≡ Ok (view x)
 Gives view (Err e) read = Fails e read
 
--- the code's class is this one
-abbrev pub IsClass : Class → reading.Class → Type 0
-IsClass code.Free c = c ≡ reading.free
-IsClass (code.Stands job) c = (found : reading.Found) × (c ≡ reading.stands found) × (reading.seen found ≡ seen_job job)
-IsClass (code.NotAJob at) c = c ≡ reading.not_a_job at
+-- the code's class of a file of so many bytes is this one
+abbrev pub IsClass : ℕ → Class → reading.Class → Type 0
+IsClass whole code.Free c = c ≡ reading.free
+IsClass whole (code.Stands job) c = (found : reading.Found) × (c ≡ reading.stands found) × (reading.seen whole found ≡ seen_job job)
+IsClass whole (code.NotAJob at) c = c ≡ reading.not_a_job at

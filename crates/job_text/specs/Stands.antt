@@ -1,5 +1,5 @@
 -- What a file is, in the words of the format alone.
-use Rattle.std.specs.Prelude.{◌≡◌, ℕ, List}
+use Rattle.std.specs.Prelude.{◌≡◌, ℕ, List, drop}
 use Rattle.board_file.specs.Shown as board
 use Rattle.flm_descriptor.specs.Shown as flm
 use Rattle.job_text.specs.declared.job.Class.{Class}
@@ -9,13 +9,17 @@ use Rattle.job_text.specs.Files.{IsFree, IsWhole}
 use Rattle.job_text.specs.Body.{Job, body_of, IsJob}
 use Rattle.job_text.specs.Reading.{class_of, not_a_job}
 
+-- the snapshot of a job in its file
+abbrev pub snapshot_in : code.Job → List ℕ → List ℕ
+snapshot_in job file = drop job.snapshot_at file
+
 -- the file stands for a job that is this one in memory
 pub record StandsFor (job : code.Job) (file : List ℕ) : Type 0 where
   pub text : Job
   pub is : IsJob text (board.shown job.board) (flm.shown job.algorithm)
   pub whole : IsWhole (body_of text) file
   pub image : text.image ≡ job.image
-  pub snapshot : text.snapshot ≡ job.snapshot
+  pub snapshot : text.snapshot ≡ snapshot_in job file
 
 -- the file stands for a job
 pub record IsSomeJob (file : List ℕ) : Type 0 where

@@ -11,7 +11,6 @@ use crate::job::{Class, Job};
 use crate::runs::take_runs;
 use crate::texts::{Said, take_texts};
 use faults::OutOfMemory;
-use octets::Bytes;
 use std::alloc::Global;
 
 /// Byte 0 of a file whose job is open.
@@ -28,8 +27,9 @@ const CELLS_AT: u64 = 20;
 /// What stands behind the head.
 #[tactic(auto, unfolding(crate::specs::Reading::rest_at))]
 fn read_rest(alloc: Global, whole: u64, head: &Head, bytes: &[u8]) -> Result<Job, JobFault>
-    requires { length bytes.now ≤ whole }
-    ensures { Gives seen_job result (seen_of (rest_at whole (head_of head.now) bytes.now)) }
+    requires inside { length bytes.now ≤ whole }
+    requires early { whole ≤ length bytes.now + 24 }
+    ensures { Gives seen_job result (seen_of whole (rest_at whole (head_of head.now) bytes.now)) }
 {
     let (said, rest) = take_texts(alloc, whole, head, bytes)?;
     let Said {
@@ -49,12 +49,11 @@ fn read_rest(alloc: Global, whole: u64, head: &Head, bytes: &[u8]) -> Result<Job
     if rest.len() != head.cells as usize {
         return Err(JobFault::NotAJob { at: whole });
     }
-    let snapshot = Bytes::copy(alloc, rest)?;
     Ok(Job {
         board,
         algorithm,
         image,
-        snapshot,
+        snapshot_at: whole - rest.len() as u64,
     })
 }
 
@@ -62,7 +61,7 @@ fn read_rest(alloc: Global, whole: u64, head: &Head, bytes: &[u8]) -> Result<Job
 #[tactic(auto, unfolding(crate::specs::Reading::job_at))]
 fn read_job(alloc: Global, whole: u64, body: &[u8]) -> Result<Job, JobFault>
     requires { whole ≡ length body.now + 1 }
-    ensures { Gives seen_job result (seen_of (job_at whole body.now)) }
+    ensures { Gives seen_job result (seen_of whole (job_at whole body.now)) }
 {
     if whole < HEAD_LEN {
         return Err(JobFault::NotAJob { at: whole });
@@ -74,7 +73,7 @@ fn read_job(alloc: Global, whole: u64, body: &[u8]) -> Result<Job, JobFault>
 /// What a file is as it is read.
 #[tactic(auto, unfolding(crate::specs::Reading::class_of))]
 fn read_class(alloc: Global, file: &[u8]) -> Result<Class, OutOfMemory>
-    ensures { IfOk result (λ c. IsClass c (class_of file.now)) }
+    ensures { IfOk result (λ c. IsClass (length file.now) c (class_of file.now)) }
 {
     if file.len() <= 1 || file[0] != OPEN_GATE {
         return Ok(Class::Free);

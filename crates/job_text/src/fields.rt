@@ -1,5 +1,5 @@
 //! The steps from left to right through a file, of which each takes something from the front, and their opposites.
-ghost use Rattle.std.specs.Prelude.{◌≡◌, ◌≤◌, ◌++◌, length, IfOk, OnOk};
+ghost use Rattle.std.specs.Prelude.{◌≡◌, ◌≤◌, ◌+◌, ◌++◌, length, IfOk, OnOk};
 ghost use Rattle.job_text.specs.Body.{field};
 ghost use Rattle.job_text.specs.Reading.{number_at, text_at, mark_at};
 ghost use Rattle.job_text.specs.Shown.{Gives};
@@ -16,6 +16,7 @@ pub const MARK: [u8; 7] = [70, 76, 77, 74, 79, 66, 49];
 pub fn take_number(whole: u64, bytes: &[u8]) -> Result<(u32, &[u8]), JobFault>
     ensures gives { Gives (λ x. (x.0, x.1.now)) result (number_at whole bytes.now) }
     ensures shorter { IfOk result (λ x. length x.1.now ≤ length bytes.now) }
+    ensures taken { IfOk result (λ x. length bytes.now ≤ length x.1.now + 4) }
 {
     if bytes.len() < 4 {
         return Err(JobFault::NotAJob { at: whole });
@@ -27,6 +28,7 @@ pub fn take_number(whole: u64, bytes: &[u8]) -> Result<(u32, &[u8]), JobFault>
 pub fn take_text(whole: u64, len: u32, bytes: &[u8]) -> Result<(&[u8], &[u8]), JobFault>
     ensures gives { Gives (λ x. (x.0.now, x.1.now)) result (text_at whole len bytes.now) }
     ensures shorter { IfOk result (λ x. length x.1.now ≤ length bytes.now) }
+    ensures taken { IfOk result (λ x. length bytes.now ≤ length x.1.now + len) }
 {
     let len = len as usize;
     if bytes.len() < len {
@@ -38,7 +40,8 @@ pub fn take_text(whole: u64, len: u32, bytes: &[u8]) -> Result<(&[u8], &[u8]), J
 /// Takes the mark.
 pub fn take_mark(bytes: &[u8]) -> Result<&[u8], JobFault>
     requires { 7 ≤ length bytes.now }
-    ensures { Gives (λ x. x.now) result (mark_at bytes.now) }
+    ensures gives { Gives (λ x. x.now) result (mark_at bytes.now) }
+    ensures taken { IfOk result (λ x. length bytes.now ≤ length x.now + 7) }
 {
     if bytes.starts_with(&MARK) {
         Ok(&bytes[7..])

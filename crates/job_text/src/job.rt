@@ -1,5 +1,5 @@
 //! A job in memory.
-ghost use Rattle.std.specs.Prelude.{◌≡◌, ◌≤◌, IsTrue, length};
+ghost use Rattle.std.specs.Prelude.{◌≤◌, ◌<◌, ◌^◌, IsTrue, length};
 ghost use Rattle.board_file.specs.Shown.{shown as board_shown};
 ghost use Rattle.flm_descriptor.specs.Shown.{shown as flm_shown};
 ghost use Rattle.algo_loader.specs.Places.{has_room};
@@ -8,7 +8,6 @@ ghost use Rattle.job_text.specs.Fits.{is_only_region, LiesIn, LiesIn-prop};
 use board_file::Board;
 use byte_map::ByteMap;
 use flm_descriptor::Algorithm;
-use octets::Bytes;
 
 /// A job: an image to be programmed on a board by an algorithm, over the contents that the device had when the job began.
 /// Addresses are those of the board, in bytes; a cell is a byte.
@@ -20,17 +19,19 @@ pub struct Job {
     pub algorithm: Algorithm,
     /// What is to be programmed, by address.
     pub image: ByteMap,
-    /// The cells of the region as they were, from its base on.
-    pub snapshot: Bytes,
+    /// Where in the job file the snapshot begins, to the file's end: the cells of the region as they were, from its base on.
+    pub snapshot_at: u64,
 
     // The algorithm's device is the board's region, and the algorithm has room in the board's RAM.
     pub ghost region: { IsTrue (is_only_region board.regions algorithm.device) },
     pub ghost room: { IsTrue (has_room (flm_shown algorithm) (board_shown board)) },
 
-    // The image isn't empty and lies in the region, and the snapshot has a byte for each of its cells.
+    // The image isn't empty and lies in the region.
     pub ghost some: { 1 ≤ length image },
     pub ghost inside: { LiesIn algorithm.device image } by { LiesIn-prop algorithm.device image },
-    pub ghost cells: { length snapshot ≡ algorithm.device.size },
+
+    // Heads, texts and runs before it are no longer than this.
+    pub ghost early: { snapshot_at < 2 ^ 34 },
 }
 
 /// What a job file is.

@@ -1,5 +1,5 @@
 //! A body as it is written.
-ghost use Rattle.std.specs.Prelude.{◌≡◌, ◌<◌, ◌+◌, ◌^◌, ◌++◌, length, replicate, take, slice_get, Some, IfOk, OnOk};
+ghost use Rattle.std.specs.Prelude.{◌≡◌, ◌<◌, ◌^◌, ◌++◌, length, take, slice_get, Some, IfOk, OnOk};
 ghost use Rattle.std.specs.List.{flat_map};
 ghost use Rattle.job_text.specs.Body.{mark, field, run_text};
 ghost use Rattle.job_text.specs.Runs.{run_of, AreShort};
@@ -55,10 +55,10 @@ fn put_runs(out: &mut Vec<u8>, image: &ByteMap) -> Result<(), AllocError>
     Ok(())
 }
 
-/// The body of a job, with zeros for its snapshot.
-pub fn blank_body(alloc: Global, parts: &JobParts) -> Result<Vec<u8>, OutOfMemory>
+/// The body of a job up to its snapshot.
+pub fn body_front(alloc: Global, parts: &JobParts) -> Result<Vec<u8>, OutOfMemory>
     requires { AreParts parts.now }
-    ensures { IfOk result (λ v. v.items ≡ front_of parts.now ++ replicate parts.now.size 0) }
+    ensures { IfOk result (λ v. v.items ≡ front_of parts.now) }
 {
     let mut out = Vec::new(alloc);
     out.extend_from_slice(&MARK)?;
@@ -66,7 +66,5 @@ pub fn blank_body(alloc: Global, parts: &JobParts) -> Result<Vec<u8>, OutOfMemor
     out.extend_from_slice(parts.board)?;
     out.extend_from_slice(parts.flm)?;
     put_runs(&mut out, parts.image)?;
-    let filled = out.len() + parts.size as usize;
-    out.resize(filled, 0)?;
     Ok(out)
 }

@@ -1,5 +1,5 @@
 //! The runs of an image in a body.
-ghost use Rattle.std.specs.Prelude.{◌≡◌, ◌≤◌, ◌<◌, ◌+◌, ◌^◌, ◌++◌, [], ◌∷◌, IfOk, OnOk, length};
+ghost use Rattle.std.specs.Prelude.{◌≡◌, ◌≤◌, ◌<◌, ◌+◌, ◌-◌, ◌*◌, ◌^◌, ◌++◌, [], ◌∷◌, IfOk, OnOk, length};
 ghost use Rattle.byte_map.specs.Image.{AreMaximal};
 ghost use Rattle.job_text.specs.Reading.{run_at, runs_at};
 ghost use Rattle.job_text.specs.Runs.{EndBelow, run_of};
@@ -17,6 +17,7 @@ fn take_run(whole: u64, low: u64, end: u64, bytes: &[u8]) -> Result<(u32, &[u8],
     requires { length bytes.now ≤ whole }
     ensures gives { Gives (λ x. (run_of x.0 x.1.now, x.2.now)) result (run_at whole low end bytes.now) }
     ensures shorter { IfOk result (λ x. length x.2.now ≤ length bytes.now) }
+    ensures taken { IfOk result (λ x. length bytes.now ≤ length x.2.now + length x.1.now + 8) }
     ensures low { IfOk result (λ x. low ≤ x.0) }
     ensures some { IfOk result (λ x. 1 ≤ length x.1.now) }
     ensures inside { IfOk result (λ x. x.0 + length x.1.now ≤ end) }
@@ -61,9 +62,13 @@ pub fn take_runs(
 ) -> Result<(ByteMap, &[u8]), JobFault>
     requires inside { length bytes.now ≤ whole }
     requires small { end ≤ 2 ^ 32 }
+    requires low { low ≤ end }
     ensures gives { Gives (λ x. (x.0, x.1.now)) result (runs_at whole count low end bytes.now) }
     ensures count { IfOk result (λ x. length x.0 ≡ count) }
     ensures inside { IfOk result (λ x. AreMaximal low end x.0) }
+    ensures shorter { IfOk result (λ x. length x.1.now ≤ whole) }
+    // A run takes two addresses at least, with the one behind it that it doesn't touch, and then nine bytes.
+    ensures taken { IfOk result (λ x. length bytes.now ≤ length x.1.now + 5 * (end + 1 - low)) }
 {
     let mut image = ByteMap::new(alloc);
     let mut from = low;

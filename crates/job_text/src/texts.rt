@@ -62,6 +62,7 @@ pub fn take_texts<'a>(
 ) -> Result<(Said<'a>, &'a [u8]), JobFault>
     ensures gives { Gives (λ x. (texts_of x.0, x.1.now)) result (texts_at whole (head_of head.now) bytes.now) }
     ensures shorter { IfOk result (λ x. length x.1.now ≤ length bytes.now) }
+    ensures taken { IfOk result (λ x. length bytes.now ≤ length x.1.now + head.now.board + head.now.flm) }
     ensures region { IfOk result (λ x. IsTrue (is_only_region x.0.board.regions x.0.algorithm.device)) }
     ensures room { IfOk result (λ x. IsTrue (has_room (flm_shown x.0.algorithm) (board_shown x.0.board))) }
 {

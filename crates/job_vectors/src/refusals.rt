@@ -82,7 +82,7 @@ fn put_open(rt: &HostRuntime, cells: u32, file: &[u8], store: u64) -> Result<()>
 fn put_job(rt: &HostRuntime, job: &Job) -> Result<()> {
     let base = job.algorithm.device.base;
     print!(rt; "{base:08X} {}, ", job.algorithm.device.size)?;
-    println!(rt; "{:?}, {} cells", job.image.get(base), job.snapshot.len())?;
+    println!(rt; "{:?}, {} cells", job.image.get(base), job.algorithm.device.size)?;
     Ok(())
 }
 

@@ -1,4 +1,4 @@
-use Rattle.std.proofs.Common.{⊎_elim, inl, ◌≡◌, ◌-◌, ◌∙◌, ◌++◌, ◌∷◌, ℕ, List, length, take, sym, refl, subst, arith, None, OnOk}
+use Rattle.std.proofs.Common.{⊎_elim, inl, ◌≡◌, ◌∙◌, ◌++◌, ◌∷◌, ℕ, List, length, sym, refl, subst, arith, None, OnOk}
 use Rattle.bench_model.specs.History.{LeftOnly, left}
 use Rattle.bench_model.specs.State.{file_half}
 use Rattle.bench_model.proofs.Moments.{leaves_left}
@@ -13,31 +13,30 @@ use Rattle.job_file.proofs.beginning.begin.Goals as goal
 pub returns-clause-ok : goal.returns-clause-ok
 returns-clause-ok g c = λ told.
     let p = c.args.parts.now in
-    let b = g.B.Bench.state c.prepare.new.bench in
-    let d = g.B.Bench.state c.take_and_put.new.bench in
-    let many : length d.cells ≡ p.size = omega (arith, g.met.B.Bench.all_told c.take_and_put.new.bench told, c.take_and_put.ensures.count, c.prepare.ensures.reads.cells.count, c.in_ok-body.ensures.sized refl) in
-    let text = body_from p c.deref_mut.result.now d.cells c.len.result (c.deref_mut.ensures.value ∙ c.in_ok-body.ensures.ok) (c.len.ensures ∙ sym c.deref_mut.ensures.len) many in
-    subst (λ (l : List ℕ). OnOk c.take_and_put.result ((d.file ≡ 165 ∷ l) × LeftOnly (165 ∷ l) (file_half d) × (d.operation ≡ None))) text (c.take_and_put.ensures.ok told)
+    let d = g.B.Bench.state c.drop_and_put.new.bench in
+    let many : length d.cells ≡ p.size = omega (arith, g.met.B.Bench.all_told c.drop_and_put.new.bench told, c.drop_and_put.ensures.count, c.prepare.ensures.reads.cells.count, c.in_ok-front.ensures.sized refl) in
+    let text = body_from p c.deref.result.now d.cells (c.deref.ensures.value ∙ c.in_ok-front.ensures.front) many in
+    subst (λ (l : List ℕ). OnOk c.drop_and_put.result ((d.file ≡ 165 ∷ l) × LeftOnly (165 ∷ l) (file_half d) × (d.operation ≡ None))) text (c.drop_and_put.ensures.ok told)
 
 pub returns-clause-stops : goal.returns-clause-stops
 returns-clause-stops g c = λ told.
     let p = c.args.parts.now in
-    let b = g.B.Bench.state c.prepare.new.bench in
-    let d = g.B.Bench.state c.take_and_put.new.bench in
-    let many : length d.cells ≡ p.size = omega (arith, g.met.B.Bench.all_told c.take_and_put.new.bench told, c.take_and_put.ensures.count, c.prepare.ensures.reads.cells.count, c.in_ok-body.ensures.sized refl) in
-    let text = body_from p c.deref_mut.result.now d.cells c.len.result (c.deref_mut.ensures.value ∙ c.in_ok-body.ensures.ok) (c.len.ensures ∙ sym c.deref_mut.ensures.len) many in
     let a = g.B.Bench.state c.args.bench.now in
-    begins g.B.Bench.tells a b d (take (c.len.result - p.size) c.deref_mut.result.now ++ d.cells) (body_of (job_of p d.cells)) c.prepare.ensures.reads (c.take_and_put.ensures.stops told) text
+    let b = g.B.Bench.state c.prepare.new.bench in
+    let d = g.B.Bench.state c.drop_and_put.new.bench in
+    let many : length d.cells ≡ p.size = omega (arith, g.met.B.Bench.all_told c.drop_and_put.new.bench told, c.drop_and_put.ensures.count, c.prepare.ensures.reads.cells.count, c.in_ok-front.ensures.sized refl) in
+    let text = body_from p c.deref.result.now d.cells (c.deref.ensures.value ∙ c.in_ok-front.ensures.front) many in
+    begins g.B.Bench.tells a b d (c.deref.result.now ++ d.cells) (body_of (job_of p d.cells)) c.prepare.ensures.reads (c.drop_and_put.ensures.stops told) text
 
 pub returns-clause-after : goal.returns-clause-after
 returns-clause-after g c = λ told is_free.
     let p = c.args.parts.now in
     let b = g.B.Bench.state c.prepare.new.bench in
-    let d = g.B.Bench.state c.take_and_put.new.bench in
-    let many : length d.cells ≡ p.size = omega (arith, g.met.B.Bench.all_told c.take_and_put.new.bench told, c.take_and_put.ensures.count, c.prepare.ensures.reads.cells.count, c.in_ok-body.ensures.sized refl) in
-    let text = body_from p c.deref_mut.result.now d.cells c.len.result (c.deref_mut.ensures.value ∙ c.in_ok-body.ensures.ok) (c.len.ensures ∙ sym c.deref_mut.ensures.len) many in
-    let body = take (c.len.result - p.size) c.deref_mut.result.now ++ d.cells in
+    let d = g.B.Bench.state c.drop_and_put.new.bench in
+    let many : length d.cells ≡ p.size = omega (arith, g.met.B.Bench.all_told c.drop_and_put.new.bench told, c.drop_and_put.ensures.count, c.prepare.ensures.reads.cells.count, c.in_ok-front.ensures.sized refl) in
+    let text = body_from p c.deref.result.now d.cells (c.deref.ensures.value ∙ c.in_ok-front.ensures.front) many in
+    let body = c.deref.result.now ++ d.cells in
     ⊎_elim
-    (λ (at : left (file_half b) d.file). inl (subst (λ (f : List ℕ). IsFree f) (sym ((c.in_ok-body.ensures.free told).1 d.file at)) is_free))
+    (λ (at : left (file_half b) d.file). inl (subst (λ (f : List ℕ). IsFree f) (sym ((c.in_ok-front.ensures.free told).1 d.file at)) is_free))
     (λ (other : IsFreeOrWhole body d.file). subst (λ (l : List ℕ). IsFreeOrWhole l d.file) text other)
-    (leaves_left (IsOfBegin (file_half b) body) (c.take_and_put.ensures.stops told) d.file (g.met.B.Bench.as_read c.take_and_put.new.bench told))
+    (leaves_left (IsOfBegin (file_half b) body) (c.drop_and_put.ensures.stops told) d.file (g.met.B.Bench.as_read c.drop_and_put.new.bench told))

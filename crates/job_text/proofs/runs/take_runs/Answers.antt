@@ -13,7 +13,7 @@ returns-in_err-at-clause-gives c =
 pub loop-preserved : goal.loop-preserved
 loop-preserved c =
     more c.args.whole c.args.low c.args.end c.loop.from c.args.count c.loop.image c.loop.rest.now c.args.bytes.now c.loop.counter (run_of c.in_ok-at.at c.in_ok-at.text.now) c.in_ok-at.after.now
-    c.add_run.new.image (c.from.result + length c.in_ok-at.text.now + 1) c.loop.invariant c.loop-test.true c.in_ok-at.ensures.gives c.in_ok-at.ensures.shorter c.in_ok-at.ensures.low c.in_ok-at.ensures.some
+    c.add_run.new.image (c.from.result + length c.in_ok-at.text.now + 1) c.loop.invariant c.loop-test.true c.in_ok-at.ensures.gives c.in_ok-at.ensures.shorter c.in_ok-at.ensures.taken c.in_ok-at.ensures.low c.in_ok-at.ensures.some
     c.in_ok-at.ensures.inside c.in_ok-add_run.ensures (omega arith)
 
 pub returns-clause-gives : goal.returns-clause-gives

@@ -1,5 +1,5 @@
 use Rattle.job_text.proofs.PartLemmas.{blank_small, short_parts}
-use Rattle.job_text.proofs.parts.blank_body.Goals as goal
+use Rattle.job_text.proofs.parts.body_front.Goals as goal
 
 pub put_lengths-requires-clause-board : goal.put_lengths-requires-clause-board
 put_lengths-requires-clause-board c = c.requires.short_board

@@ -1,0 +1,68 @@
+-- A body is written behind a closed gate.
+use Rattle.std.proofs.Common.{◌≡◌, ◌≤◌, ◌+◌, ◌-◌, ◌++◌, ◌∷◌, [], ◌∙◌, ℕ, List, Bool, IsTrue, length, take, drop, refl, sym, ap, arith, append_assoc}
+use Rattle.std.proofs.lemmas.List.{append-nil, take_all}
+use Rattle.std.proofs.Math.Seq.{take-add}
+use Rattle.bench_model.specs.History.{left, Leaves, AddsNothing, LeftOnly}
+use Rattle.bench_model.specs.State.{BenchState, file_half, cells_half}
+use Rattle.bench_model.specs.Calls.{Torn, Follows, FileStays, CellsStay}
+use Rattle.bench_model.proofs.Moments.{leaves_as, leaves_then, leaves_left, leaves_step, adds_nothing_here, adds_nothing_then, stays_leaves, stays_left, stays_adds_nothing}
+use Rattle.job_file.specs.Reads.{CellsAreRead}
+use Rattle.job_file.specs.Stops.{IsShut, KeepsGate}
+
+pub cells_read_here : (tells : Bool) (s : BenchState) → CellsAreRead tells s s
+cells_read_here tells s = record { cells = λ told. refl; operation = λ told. refl; count = refl; moments = adds_nothing_here (cells_half s) }
+
+pub cells_read_then : {tells : Bool} {a b c : BenchState} → CellsAreRead tells a b → CellsAreRead tells b c → CellsAreRead tells a c
+cells_read_then one two = record {
+  cells = λ told. two.cells told ∙ one.cells told;
+  operation = λ told. two.operation told ∙ one.operation told;
+  count = two.count ∙ one.count;
+  moments = adds_nothing_then one.moments two.moments;
+}
+
+pub cells_read_stay : (tells : Bool) (a b : BenchState) → CellsStay a b → CellsAreRead tells a b
+cells_read_stay tells a b stay = record { cells = λ told. stay.cells; operation = λ told. stay.operation; count = stay.count; moments = stays_adds_nothing stay.half }
+
+-- the front, and so many cells behind it
+pub record PutSoFar (tells : Bool) (start now : BenchState) (front window : List ℕ) (at : ℕ) : Type 0 where
+  pub within : at ≤ start.cell_count
+  pub room : length window ≡ 4096
+  pub file : IsTrue tells → now.file ≡ 0 ∷ (front ++ take at start.cells)
+  pub shut : IsTrue tells → Leaves (file_half start) (file_half now) IsShut
+  pub cells : CellsAreRead tells start now
+  pub store : now.store_faults ≡ start.store_faults
+  pub device : now.device_faults ≡ start.device_faults
+
+-- a write behind the gate, which is closed on the disk
+pub shut_by_write : (n : ℕ) (start now : BenchState) → LeftOnly (0 ∷ []) (file_half start) → Leaves (file_half start) (file_half now) (Follows (Torn 1 n) (file_half start)) → Leaves (file_half start) (file_half now) IsShut
+shut_by_write n start now only moments = leaves_step (Torn 1 n) IsShut (0 ∷ []) (0 ∷ []) only refl (λ f torn. torn.before) moments
+
+-- a step that keeps byte 0
+pub still_shut : (a b c : BenchState) → Leaves (file_half a) (file_half b) IsShut → Leaves (file_half b) (file_half c) (Follows KeepsGate (file_half b)) → Leaves (file_half a) (file_half c) IsShut
+still_shut a b c shut moments =
+    leaves_then IsShut shut (leaves_as (Follows KeepsGate (file_half b)) IsShut (λ f (d, was, same). same ∙ leaves_left IsShut shut d was) moments)
+
+-- some cells more
+pub cells_more : (front cells file new : List ℕ) (at end : ℕ) → at ≤ end → file ≡ 0 ∷ (front ++ take at cells) → new ≡ file ++ take (end - at) (drop at cells) → new ≡ 0 ∷ (front ++ take end cells)
+cells_more front cells file new at end le is more =
+    let n : at + (end - at) ≡ end = omega (arith, le) in
+    more ∙ ap (λ (l : List ℕ). l ++ take (end - at) (drop at cells)) is
+    ∙ ap (λ (l : List ℕ). 0 ∷ l) (append_assoc front (take at cells) (take (end - at) (drop at cells)) ∙ ap (λ (l : List ℕ). front ++ l) (sym (take-add at (end - at) cells)))
+    ∙ ap (λ (k : ℕ). 0 ∷ (front ++ take k cells)) n
+
+-- what a write at the end leaves of byte 0
+pub gate_kept : (to n : ℕ) (d f : List ℕ) → 1 ≤ to → Torn to n d f → take 1 f ≡ take 1 d
+gate_kept to n d f some torn = gate_in to d f some torn.before
+  where
+    gate_in : (to : ℕ) (d f : List ℕ) → 1 ≤ to → take to f ≡ take to d → take 1 f ≡ take 1 d
+    gate_in to d f some same = sym (shorter f) ∙ ap (take 1) same ∙ shorter d
+      where
+        shorter : (l : List ℕ) → take 1 (take to l) ≡ take 1 l
+        shorter l = Rattle.std.proofs.lemmas.List.take-take 1 to l some
+
+-- a write behind byte 0, after the cells were read
+pub kept_by_write : (s m t : BenchState) (to n : ℕ) → 1 ≤ to → FileStays s m → Leaves (file_half m) (file_half t) (Follows (Torn to n) (file_half m)) → Leaves (file_half s) (file_half t) (Follows KeepsGate (file_half s))
+kept_by_write s m t to n some stay moments =
+    let P : List ℕ → Type 0 = Follows KeepsGate (file_half s) in
+    leaves_then P (stays_leaves P (λ f at. (f, at, refl)) stay.half)
+    (leaves_as (Follows (Torn to n) (file_half m)) P (λ f (d, was, torn). (d, (stays_left stay.half d).0 was, gate_kept to n d f some torn)) moments)

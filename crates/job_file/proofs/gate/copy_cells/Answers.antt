@@ -1,0 +1,11 @@
+use Rattle.std.proofs.Common.{length}
+use Rattle.job_file.proofs.PutLemmas.{kept_by_write}
+use Rattle.job_file.proofs.gate.copy_cells.Goals as goal
+
+pub returns-in_err-file_write-clause-moments : goal.returns-in_err-file_write-clause-moments
+returns-in_err-file_write-clause-moments g c =
+    kept_by_write (g.B.Bench.state c.args.bench.now) (g.B.Bench.state c.cells_read.new.self) (g.B.Bench.state c.file_write.new.self) c.args.to _ c.requires.behind c.cells_read.ensures.does.file c.file_write.ensures.does.moments
+
+pub returns-clause-moments : goal.returns-clause-moments
+returns-clause-moments g c =
+    kept_by_write (g.B.Bench.state c.args.bench.now) (g.B.Bench.state c.cells_read.new.self) (g.B.Bench.state c.file_write.new.self) c.args.to _ c.requires.behind c.cells_read.ensures.does.file c.file_write.ensures.does.moments
