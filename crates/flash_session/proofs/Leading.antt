@@ -1,15 +1,14 @@
 -- Duties as the ideal device does them: from one contents to another.
-use Rattle.std.proofs.Common.{◌≡◌, ◌<◌, ◌≤◌, ◌+◌, ◌^◌, ◌∙◌, ⊎_elim, ℕ, Bool, true, false, cond, All, List, [], ◌∷◌, ◌++◌, map, length, get_or, slice_index, refl, sym, ap, subst, arith}
+use Rattle.std.proofs.Common.{◌≡◌, ◌<◌, ◌+◌, ◌^◌, ◌∙◌, ⊎_elim, ℕ, Bool, true, false, cond, All, List, [], ◌∷◌, ◌++◌, map, length, slice_index, refl, sym, ap, subst, arith}
 use Rattle.std.proofs.lemmas.Grind.{get_or_default_zero}
 use Rattle.flm_descriptor.specs.Shape.{range_at}
 use Rattle.page_geometry.specs.Layout.{In, Layout}
-use Rattle.page_geometry.specs.Cells.{IsEmpty}
-use Rattle.page_geometry.specs.Ideal.{Action, EraseSector, EraseChip, ProgramPage, Acts, erasures, writes}
+use Rattle.page_geometry.specs.Ideal.{Action, EraseSector, EraseChip, ProgramPage, Acts, erasures}
 use Rattle.page_geometry.proofs.TestLemmas.{cases_in}
 use Rattle.erase_planner.specs.Plans.{Leads}
 use Rattle.algo_calls.specs.Setups.{Setup}
 use Rattle.algo_calls.specs.Frames.{Request}
-use Rattle.algo_calls.specs.Duties.{Duty, Acting, Quiet, IsReady, Does, AreReady, checks, works_of, Phase, Verifies}
+use Rattle.algo_calls.specs.Duties.{Duty, Acting, Quiet, IsReady, Does, AreReady, checks, works_of, Verifies}
 use Rattle.algo_calls.proofs.IdealLemmas.{acts_length, does_same}
 
 -- in turn, each with what it may count on

@@ -7,6 +7,9 @@ mod OutcomeLemmas
 mod FuelLemmas
 mod JobLemmas
 mod GoLemmas
+mod GoalLemmas
+mod ReadLemmas
+mod SurveyLemmas
 mod Members
 mod Leading
 mod Passing

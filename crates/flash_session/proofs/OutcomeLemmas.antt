@@ -1,10 +1,9 @@
 -- How a script ends on a bench, and that it ends so once what broken-off operations leave is given.
-use Rattle.std.proofs.Common.{◌≡◌, ◌≢◌, ◌<◌, ◌≤◌, ◌∙◌, ⊎_elim, ℕ, Bool, IsTrue, List, length, take, get_or, Result, Ok, Err, Some, None, refl, sym, ap, subst, arith}
-use Rattle.std.proofs.lemmas.List.{get_or-take, take_all}
+use Rattle.std.proofs.Common.{◌≡◌, ◌<◌, ◌≤◌, ◌∙◌, ⊎_elim, ℕ, Bool, IsTrue, List, get_or, Result, Ok, Err, Some, None, refl, sym, ap, subst, arith}
+use Rattle.std.proofs.lemmas.List.{get_or-take}
 use Rattle.std.proofs.lemmas.Bool.{cases_lt}
 use Rattle.bench_model.specs.State.{BenchState}
 use Rattle.bench_model.proofs.Moments.{leaves_then_nothing}
-use Rattle.readback.specs.Readback.{Finds, OnlyReadsCells}
 use Rattle.readback.specs.declared.compare.Difference.{Difference}
 use Rattle.algo_calls.specs.declared.call.Call.{Call}
 use Rattle.algo_calls.specs.declared.call.CallEnd.{CallEnd}
@@ -15,10 +14,11 @@ use Rattle.flash_session.specs.declared.ending.SessionEnd.{SessionEnd}
 use Rattle.flash_session.specs.declared.ending.SessionEnd.TheVariants as end
 use Rattle.flash_session.specs.declared.stopped.Stopped.{Stopped}
 use Rattle.flash_session.specs.declared.stopped.Stopped.TheVariants as stopped
-use Rattle.flash_session.specs.Differs.{IsFirstDifference}
+use Rattle.flash_session.specs.Differs.{IsFirstDifference, Compares}
+use Rattle.flash_session.specs.Reads.{IsRead}
 use Rattle.flash_session.specs.Moves.{Move, Stand, Failure, failure, run, IsLeftOnWay}
 use Rattle.flash_session.specs.Drivers.{setup_for, stand_of}
-use Rattle.flash_session.specs.Plays.{IsAtBench, IsNotDone, IsStop}
+use Rattle.flash_session.specs.Plays.{IsAtBench, BreaksOff, IsNotDone, IsStop}
 use Rattle.flash_session.specs.Script.{Errand, script}
 use Rattle.flash_session.specs.Outcome.{GoTo, FailAt, IsEnd, Follows}
 use Rattle.flash_session.proofs.Runs.{end_on}
@@ -70,29 +70,26 @@ one_outcome a moves goal (end.Reached r) (end.Reached s) c d one two = (refl, on
 one_outcome a moves goal (end.Reached r) (end.Mismatch y) c d one two = absurd (differs_somewhere goal d y (sym (one_cells a moves c d one.0 two.0) ∙ one.1) two.1)
 one_outcome a moves goal (end.Reached r) (end.CallFailed number call e) c d one two = absurd (not_both (run a moves) _ _ one.0.ran two.ran)
 one_outcome a moves goal (end.Reached r) end.DeviceFault c d one two = absurd two
-one_outcome a moves goal (end.Reached r) end.OutOfMemory c d one two = absurd two
+one_outcome a moves goal (end.Reached r) end.StoreFault c d one two = absurd two
 one_outcome a moves goal (end.Mismatch x) (end.Reached s) c d one two = absurd (differs_somewhere goal c x (one_cells a moves c d one.0 two.0 ∙ two.1) one.1)
 one_outcome a moves goal (end.Mismatch x) (end.Mismatch y) c d one two =
     let same : c ≡ d = one_cells a moves c d one.0 two.0 in
     (ap end.Mismatch (one_difference goal d x y (subst (λ (l : List ℕ). IsFirstDifference goal l x) same one.1) two.1), same)
 one_outcome a moves goal (end.Mismatch x) (end.CallFailed number call e) c d one two = absurd (not_both (run a moves) _ _ one.0.ran two.ran)
 one_outcome a moves goal (end.Mismatch x) end.DeviceFault c d one two = absurd two
-one_outcome a moves goal (end.Mismatch x) end.OutOfMemory c d one two = absurd two
+one_outcome a moves goal (end.Mismatch x) end.StoreFault c d one two = absurd two
 one_outcome a moves goal (end.CallFailed number call e) (end.Reached s) c d one two = absurd (not_both (run a moves) _ _ two.0.ran one.ran)
 one_outcome a moves goal (end.CallFailed number call e) (end.Mismatch y) c d one two = absurd (not_both (run a moves) _ _ two.0.ran one.ran)
 one_outcome a moves goal (end.CallFailed n x e) (end.CallFailed m y f) c d one two = one_failure a moves n m x y e f c d one two
 one_outcome a moves goal (end.CallFailed number call e) end.DeviceFault c d one two = absurd two
-one_outcome a moves goal (end.CallFailed number call e) end.OutOfMemory c d one two = absurd two
+one_outcome a moves goal (end.CallFailed number call e) end.StoreFault c d one two = absurd two
 one_outcome a moves goal end.DeviceFault f c d one two = absurd one
-one_outcome a moves goal end.OutOfMemory f c d one two = absurd one
+one_outcome a moves goal end.StoreFault f c d one two = absurd one
 
 -- ---- the ends of a session
 
 pub sound_stop : (x : Stopped) (number : ℕ) (call : Call) (e : CallEnd) → x ≡ stopped.Call number call e → IsStop (Err x) → IsNotDone number e
 sound_stop x number call e is stop = subst (λ (y : Stopped). IsStop (Err y)) is stop
-
-pub sound_difference : (tells : Bool) (cells goal : List ℕ) (d : Difference) → Finds tells cells 0 goal (Some d) → (d.at < length goal) × (d.want ≢ d.got)
-sound_difference tells cells goal d finds = (omega (arith, finds.place, finds.first.within), finds.first.unequal)
 
 module _ (tells : Bool) (t : Errand) (before after : Driver) (s w : BenchState) (told : IsTrue tells) where
   as_stop : (x y : Stopped) → x ≡ y → SomeScript tells t before (Err x) after s w → SomeScript tells t before (Err y) after s w
@@ -106,51 +103,53 @@ module _ (tells : Bool) (t : Errand) (before after : Driver) (s w : BenchState) 
       let went = some.1.went told in
       record { broken = some.0; ends = record { at = world_in after.calls w.cells; ran = went.ends; leaves = refl }; moments = went.moments }
 
-  -- a device fault broke a move off
+  -- a fault of the device broke a move off, or bytes for a call could not be read
   pub follows_device : (x : Stopped) → x ≡ stopped.Device → SomeScript tells t before (Err x) after s w → Follows (setup_for before) t (stand_of before s.cells) end.DeviceFault s w
   follows_device x is found = let some = as_stop x stopped.Device is found in let went = some.1.went told in record { broken = some.0; ends = went.ends; moments = went.moments }
 
-  module _ (u : Unit {0}) (some : SomeScript tells t before (Ok u) after s w) (x : BenchState) (reads : OnlyReadsCells tells w x) where
+  pub follows_store : (x : Stopped) → x ≡ stopped.Store → SomeScript tells t before (Err x) after s w → Follows (setup_for before) t (stand_of before s.cells) end.StoreFault s w
+  follows_store x is found = let some = as_stop x stopped.Store is found in let went = some.1.went told in record { broken = some.0; ends = went.ends; moments = went.moments }
+
+  module _ (u : Unit {0}) (some : SomeScript tells t before (Ok u) after s w) (x : BenchState) (reads : IsRead tells w x) where
     goes_to : GoTo (stand_of before s.cells) (script (setup_for before) t some.0) x.cells
-    goes_to = record { last = stand_of after w.cells; ran = (some.1.went told).ends; leaves = sym (reads.cells told) }
+    goes_to = record { last = stand_of after w.cells; ran = (some.1.went told).ends; leaves = sym (reads.cells.cells told) }
 
     -- the cells are the goal
-    pub follows_reached : (r : Reached) → Finds tells w.cells 0 t.goal None → length w.cells ≡ length t.goal → Follows (setup_for before) t (stand_of before s.cells) (end.Reached r) s x
-    follows_reached r finds long = record {
+    pub follows_reached : (r : Reached) (count : ℕ) → Compares tells t.goal w.cells count None → Follows (setup_for before) t (stand_of before s.cells) (end.Reached r) s x
+    follows_reached r count same = record {
       broken = some.0;
-      ends = (goes_to, reads.cells told ∙ sym (take_all (length t.goal) w.cells (omega (arith, long))) ∙ finds told);
-      moments = leaves_then_nothing (IsLeftOnWay (stand_of before s.cells) (script (setup_for before) t some.0)) (some.1.went told).moments reads.moments;
+      ends = (goes_to, reads.cells.cells told ∙ same told);
+      moments = leaves_then_nothing (IsLeftOnWay (stand_of before s.cells) (script (setup_for before) t some.0)) (some.1.went told).moments reads.cells.moments;
     }
 
     -- a cell is not the goal
-    pub follows_mismatch : (d : Difference) → Finds tells w.cells 0 t.goal (Some d) → Follows (setup_for before) t (stand_of before s.cells) (end.Mismatch d) s x
-    follows_mismatch d finds =
-        let at : finds.offset ≡ d.at = omega (arith, finds.place) in
-        let here : IsFirstDifference t.goal w.cells d = record {
-          inside = omega (arith, at, finds.first.within);
-          wanted = ap (λ (i : ℕ). get_or t.goal i 0) (sym at) ∙ finds.first.is_wanted;
-          found = ap (λ (i : ℕ). get_or w.cells i 0) finds.place ∙ finds.first.is_found told;
-          differ = finds.first.unequal;
-          before = subst (λ (i : ℕ). take i w.cells ≡ take i t.goal) at (finds.first.least told);
-        } in
-        record {
-          broken = some.0;
-          ends = (goes_to, subst (λ (l : List ℕ). IsFirstDifference t.goal l d) (sym (reads.cells told)) here);
-          moments = leaves_then_nothing (IsLeftOnWay (stand_of before s.cells) (script (setup_for before) t some.0)) (some.1.went told).moments reads.moments;
-        }
+    pub follows_mismatch : (d : Difference) (count : ℕ) → Compares tells t.goal w.cells count (Some d) → Follows (setup_for before) t (stand_of before s.cells) (end.Mismatch d) s x
+    follows_mismatch d count finds = record {
+      broken = some.0;
+      ends = (goes_to, subst (λ (l : List ℕ). IsFirstDifference t.goal l d) (sym (reads.cells.cells told)) (finds.2 told));
+      moments = leaves_then_nothing (IsLeftOnWay (stand_of before s.cells) (script (setup_for before) t some.0)) (some.1.went told).moments reads.cells.moments;
+    }
 
-    -- they could not be read back
-    pub follows_unread : Follows (setup_for before) t (stand_of before s.cells) end.DeviceFault s x
-    follows_unread =
-        let a = stand_of before s.cells in
-        let moves = script (setup_for before) t some.0 in
+    breaks_after : BreaksOff (stand_of before s.cells) (script (setup_for before) t some.0) x
+    breaks_after =
         let now : IsAtBench tells after w = some.1.agrees refl in
         record {
-          broken = some.0;
-          ends = record {
-            at = world_in after.calls w.cells;
-            on = end_on a (stand_of after w.cells) moves (some.1.went told).ends;
-            shows = record { cells = reads.cells told; operation = reads.operation told ∙ now.operation told };
-          };
-          moments = leaves_then_nothing (IsLeftOnWay a moves) (some.1.went told).moments reads.moments;
+          at = world_in after.calls w.cells;
+          on = end_on (stand_of before s.cells) (stand_of after w.cells) (script (setup_for before) t some.0) (some.1.went told).ends;
+          shows = record { cells = reads.cells.cells told; operation = reads.cells.operation told ∙ now.operation told };
         }
+
+    -- they could not be compared
+    pub follows_unread : Follows (setup_for before) t (stand_of before s.cells) end.DeviceFault s x
+    follows_unread = record {
+      broken = some.0;
+      ends = breaks_after;
+      moments = leaves_then_nothing (IsLeftOnWay (stand_of before s.cells) (script (setup_for before) t some.0)) (some.1.went told).moments reads.cells.moments;
+    }
+
+    pub follows_unstored : Follows (setup_for before) t (stand_of before s.cells) end.StoreFault s x
+    follows_unstored = record {
+      broken = some.0;
+      ends = breaks_after;
+      moments = leaves_then_nothing (IsLeftOnWay (stand_of before s.cells) (script (setup_for before) t some.0)) (some.1.went told).moments reads.cells.moments;
+    }

@@ -1,11 +1,10 @@
 -- Moves that go to their end, and meanwhile change no cell but at some places, whatever a stop of the power leaves.
-use Rattle.std.proofs.Common.{◌≡◌, ◌<◌, ◌≤◌, ◌+◌, ◌-◌, ◌∙◌, ⊎_elim, ℕ, true, List, [], ◌∷◌, ◌++◌, map, length, take, drop, replicate, get_or, slice_index, Option, Some, None, Result, Ok, Err, refl, sym, ap, subst, arith}
+use Rattle.std.proofs.Common.{◌≡◌, ◌<◌, ◌≤◌, ◌+◌, ◌-◌, ◌∙◌, ⊎_elim, ℕ, List, [], ◌∷◌, ◌++◌, map, length, replicate, get_or, Option, Some, None, Result, Ok, refl, sym, ap, subst, arith}
 use Rattle.std.proofs.lemmas.List.{get_or-take, get_or-drop, map-append}
 use Rattle.std.proofs.lemmas.Bool.{cases_lt}
 use Rattle.bench_model.specs.Calls.{SameOutside}
 use Rattle.flash_controller.specs.Table.{after_reset as idle_state}
-use Rattle.flash_layout.specs.Maps.{Map, board_map}
-use Rattle.board_file.specs.Shown.{Shown as BoardShown}
+use Rattle.flash_layout.specs.Maps.{Map}
 use Rattle.page_geometry.specs.Layout.{Layout, IsLayout}
 use Rattle.target_core.specs.World.{World}
 use Rattle.target_core.specs.Units.{UnitState, OfFc1, state_op, state_reset}
@@ -16,10 +15,10 @@ use Rattle.algo_calls.specs.Ends.{is_done}
 use Rattle.algo_calls.specs.Setups.{Setup}
 use Rattle.algo_calls.specs.Frames.{asked, loaded, after_load, path_of, end_of, after}
 use Rattle.algo_calls.specs.Calls.{after_reset, broken_off}
-use Rattle.algo_calls.specs.Duties.{Duty, Quiet, request_of, place_of, Does, Keeps, KeepAll}
+use Rattle.algo_calls.specs.Duties.{Duty, Quiet, request_of, place_of, Keeps, KeepAll}
 use Rattle.algo_calls.proofs.IdealLemmas.{does_same, does_length}
 use Rattle.algo_calls.proofs.KeptLemmas.{kept_local, board_in, after_board}
-use Rattle.flash_session.specs.Moves.{Move, Reset, Load, Make, Stand, stand_at, Failure, failure, moved, run, IsPointOf, IsOf, IsWithin, IsOnPath, StopLeaves, reset_to}
+use Rattle.flash_session.specs.Moves.{Move, Reset, Load, Make, Stand, stand_at, Failure, failure, run, IsPointOf, IsWithin, StopLeaves, reset_to}
 use Rattle.flash_session.specs.Script.{phase}
 use Rattle.flash_session.specs.Local.{SameBut}
 use Rattle.flash_session.proofs.LocalLemmas.{but_none, but_then}

@@ -1,5 +1,5 @@
 -- Where the algorithm keeps its duties, a script goes to its goal, and leaves what lies outside its plan.
-use Rattle.std.proofs.Common.{◌≡◌, ◌<◌, ◌≤◌, ◌+◌, ◌-◌, ◌^◌, ◌∙◌, ⊎_elim, inl, inr, ℕ, zero, suc, Bool, true, false, cond, IsTrue, is_some, List, [], ◌∷◌, ◌++◌, map, length, get_or, Option, Some, None, Result, Ok, Err, refl, sym, ap, subst, arith}
+use Rattle.std.proofs.Common.{◌≡◌, ◌<◌, ◌≤◌, ◌+◌, ◌^◌, ◌∙◌, ⊎_elim, inl, inr, ℕ, suc, Bool, true, false, cond, is_some, List, [], ◌∷◌, ◌++◌, map, length, get_or, None, refl, sym, ap, subst, arith}
 use Rattle.std.proofs.lemmas.List.FromFn.{length-map-range_with_len}
 use Rattle.bench_model.specs.State.{BenchState, cells_half}
 use Rattle.bench_model.specs.History.{Leaves}
@@ -19,20 +19,20 @@ use Rattle.target_core.specs.Units.{OfFc1, state_op}
 use Rattle.target_core.specs.World.{World}
 use Rattle.algo_calls.specs.Setups.{Setup, setup_of}
 use Rattle.algo_calls.specs.Frames.{loaded}
-use Rattle.algo_calls.specs.Duties.{Duty, Acting, Quiet, span, place_of, KeepAll, Phase, Erases, ErasesChip, Programs, Verifies, kind_of, checks, works_of, MayAsk, device_of, ready, Serves}
+use Rattle.algo_calls.specs.Duties.{Acting, span, KeepAll, Phase, Erases, ErasesChip, Programs, Verifies, kind_of, checks, works_of, MayAsk, device_of, ready, Serves}
 use Rattle.algo_calls.proofs.KeptLemmas.{board_in}
 use Rattle.flash_session.specs.declared.ending.SessionEnd.{SessionEnd}
 use Rattle.flash_session.specs.declared.ending.SessionEnd.TheVariants as end
 use Rattle.flash_session.specs.Moves.{Move, Reset, Stand, run, IsWithin, IsLeftOnWay}
-use Rattle.flash_session.specs.Script.{Errand, errand, planned, erase_moves, page_moves, has_verify, verify_moves, phase, Broken, script}
-use Rattle.flash_session.specs.Outcome.{GoTo, Follows, is_device_end, IsReachedOrOutOfMemory}
+use Rattle.flash_session.specs.Script.{Errand, errand, erase_moves, page_moves, has_verify, verify_moves, phase, Broken, script}
+use Rattle.flash_session.specs.Outcome.{GoTo, Follows, is_device_end, is_store_end, IsReached}
 use Rattle.flash_session.specs.Local.{IsInPlan, SameBut}
 use Rattle.flash_session.proofs.OutcomeLemmas.{differs_somewhere, one_cells, not_both}
 use Rattle.flash_session.proofs.Lists.{phase_none}
 use Rattle.flash_session.proofs.LocalLemmas.{but_none}
 use Rattle.flash_session.proofs.Members.{move_of, erasing_phase, erase_list, program_list, check_list}
 use Rattle.flash_session.proofs.Leading.{Led, led_ready, led_actions, led_verifies, leads_split, leads_length, AreBytes, erased_bytes}
-use Rattle.flash_session.proofs.Passing.{PlaceIn, PlacesIn, Passes, passes_none, passes_then, passes_reset, passes_phase, begun, whole_phase, idle_local}
+use Rattle.flash_session.proofs.Passing.{PlacesIn, Passes, passes_none, passes_then, passes_reset, passes_phase, begun, whole_phase, idle_local}
 
 -- ---- the sets of a plan
 
@@ -229,18 +229,18 @@ module _ (b : BoardShown) (a : AlgorithmShown) (w : Weights) (plan : Chosen) (go
 
   module _ (x : Stand) (same : x.world.cells ≡ old) (board : board_in x.world ≡ (b.ram_base, board_map b)) (idle : state_op x.world.state ≡ None) (start now : BenchState) where
     -- so a session ends so, but for a device fault
-    pub follows_reaches : (e : SessionEnd) → Follows (setup_of a b) whole_errand x e start now → is_device_end e ≡ false → IsReachedOrOutOfMemory e
-    follows_reaches (end.Reached r) follows other = tt
-    follows_reaches (end.Mismatch d) follows other =
+    pub follows_reaches : (e : SessionEnd) → Follows (setup_of a b) whole_errand x e start now → is_device_end e ≡ false → is_store_end e ≡ false → IsReached e
+    follows_reaches (end.Reached r) follows other stored = tt
+    follows_reaches (end.Mismatch d) follows other stored =
         let p = script_passes x follows.broken same board idle in
         let goes : GoTo x (script (setup_of a b) whole_errand follows.broken) goal = record { last = p.last; ran = p.ran; leaves = p.reached } in
         let at_goal : now.cells ≡ goal = one_cells x (script (setup_of a b) whole_errand follows.broken) now.cells goal follows.ends.0 goes in
         absurd (differs_somewhere goal now.cells d at_goal follows.ends.1)
-    follows_reaches (end.CallFailed number call f) follows other =
+    follows_reaches (end.CallFailed number call f) follows other stored =
         let p = script_passes x follows.broken same board idle in
         absurd (not_both (run x (script (setup_of a b) whole_errand follows.broken)) _ _ p.ran follows.ends.ran)
-    follows_reaches end.DeviceFault follows other = cc
-    follows_reaches end.OutOfMemory follows other = absurd follows.ends
+    follows_reaches end.DeviceFault follows other stored = cc
+    follows_reaches end.StoreFault follows other stored = cc
 
     -- and at each moment, whatever the end, a stop leaves what lies outside the plan
     pub follows_local : (e : SessionEnd) → Follows (setup_of a b) whole_errand x e start now → Leaves (cells_half start) (cells_half now) (SameBut P old)

@@ -16,7 +16,8 @@ abbrev pub stand_of : Driver → List ℕ → Stand
 stand_of d cells = stand_at d.made (world_in d.calls cells)
 
 abbrev pub planned_in : Task → Planned
-planned_in t = planned t.geometry.now t.base t.plan.now.made
+planned_in t = planned t.geometry.now t.job.now.algorithm.device.base t.plan.now.made
 
-abbrev pub errand_in : Task → Errand
-errand_in t = errand t.geometry.now t.base t.plan.now.made t.goal.now
+-- with the bytes of its goal
+abbrev pub errand_in : Task → List ℕ → Errand
+errand_in t goal = errand t.geometry.now t.job.now.algorithm.device.base t.plan.now.made goal

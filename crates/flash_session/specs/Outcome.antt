@@ -31,15 +31,15 @@ IsEnd a moves goal (end.Reached r) cells = GoTo a moves cells × (cells ≡ goal
 IsEnd a moves goal (end.Mismatch d) cells = GoTo a moves cells × IsFirstDifference goal cells d
 IsEnd a moves goal (end.CallFailed number call e) cells = FailAt a moves number call e cells
 IsEnd a moves goal end.DeviceFault cells = ⊥
-IsEnd a moves goal end.OutOfMemory cells = ⊥
+IsEnd a moves goal end.StoreFault cells = ⊥
 
--- and on a bench, where a device fault breaks the moves off at a point of their path
+-- and on a bench, where a fault of the device or of the job file breaks the moves off at a point of their path
 abbrev pub EndsIn : Stand → List Move → List ℕ → SessionEnd → BenchState → Type 0
 EndsIn a moves goal (end.Reached r) now = IsEnd a moves goal (end.Reached r) now.cells
 EndsIn a moves goal (end.Mismatch d) now = IsEnd a moves goal (end.Mismatch d) now.cells
 EndsIn a moves goal (end.CallFailed number call e) now = IsEnd a moves goal (end.CallFailed number call e) now.cells
 EndsIn a moves goal end.DeviceFault now = BreaksOff a moves now
-EndsIn a moves goal end.OutOfMemory now = ⊥
+EndsIn a moves goal end.StoreFault now = BreaksOff a moves now
 
 -- with one choice of what broken-off operations leave, the end, the cells and each moment are the script's
 pub record Follows (s : Setup) (t : Errand) (a : Stand) (e : SessionEnd) (start now : BenchState) : Type 0 where
@@ -52,7 +52,14 @@ is_device_end (end.Reached r) = false
 is_device_end (end.Mismatch d) = false
 is_device_end (end.CallFailed number call e) = false
 is_device_end end.DeviceFault = true
-is_device_end end.OutOfMemory = false
+is_device_end end.StoreFault = false
+
+abbrev pub is_store_end : SessionEnd → Bool
+is_store_end (end.Reached r) = false
+is_store_end (end.Mismatch d) = false
+is_store_end (end.CallFailed number call e) = false
+is_store_end end.DeviceFault = false
+is_store_end end.StoreFault = true
 
 -- what an end says for itself, on every bench: a place lies in the device, where two unequal bytes are wanted and found; a call that failed
 -- has a number, and was neither done nor broken off by a device fault
@@ -61,7 +68,7 @@ IsSound size (end.Reached r) = Unit {0}
 IsSound size (end.Mismatch d) = (d.at < size) × (d.want ≢ d.got)
 IsSound size (end.CallFailed number call e) = IsNotDone number e
 IsSound size end.DeviceFault = Unit {0}
-IsSound size end.OutOfMemory = Unit {0}
+IsSound size end.StoreFault = Unit {0}
 
 -- the script came to its comparison
 abbrev pub IsCompared : SessionEnd → Type 0
@@ -69,12 +76,11 @@ IsCompared (end.Reached r) = Unit {0}
 IsCompared (end.Mismatch d) = Unit {0}
 IsCompared (end.CallFailed number call e) = ⊥
 IsCompared end.DeviceFault = ⊥
-IsCompared end.OutOfMemory = ⊥
+IsCompared end.StoreFault = ⊥
 
--- the goal was reached, or memory was refused before the first move
-abbrev pub IsReachedOrOutOfMemory : SessionEnd → Type 0
-IsReachedOrOutOfMemory (end.Reached r) = Unit {0}
-IsReachedOrOutOfMemory (end.Mismatch d) = ⊥
-IsReachedOrOutOfMemory (end.CallFailed number call e) = ⊥
-IsReachedOrOutOfMemory end.DeviceFault = ⊥
-IsReachedOrOutOfMemory end.OutOfMemory = Unit {0}
+abbrev pub IsReached : SessionEnd → Type 0
+IsReached (end.Reached r) = Unit {0}
+IsReached (end.Mismatch d) = ⊥
+IsReached (end.CallFailed number call e) = ⊥
+IsReached end.DeviceFault = ⊥
+IsReached end.StoreFault = ⊥

@@ -1,5 +1,5 @@
 -- The script: the moves by which a target is to reach the goal.
-use Rattle.std.specs.Prelude.{◌≡◌, ◌≤◌, ◌+◌, ◌-◌, ◌^◌, ℕ, zero, suc, Bool, true, false, if◌then◌else◌, IsTrue, is_some, List, [], ◌∷◌, ◌++◌, length, take, drop, get_or}
+use Rattle.std.specs.Prelude.{◌≤◌, ◌+◌, ◌-◌, ◌^◌, ℕ, zero, suc, Bool, true, false, if◌then◌else◌, IsTrue, is_some, List, [], ◌∷◌, ◌++◌, length, take, drop, get_or}
 use Rattle.flm_descriptor.specs.Shape.{Range, range_at}
 use Rattle.page_geometry.specs.Layout.{Layout, PagesFit}
 use Rattle.erase_planner.specs.Plans.{Chosen}
@@ -82,9 +82,8 @@ script s t b =
     phase s 1 b.erase (erase_moves s t.planned)
     ++ (phase s 2 b.program (page_moves false s t) ++ (phase s 3 b.verify (verify_moves s t) ++ (Reset s b.last ∷ [])))
 
--- the errand is one for this algorithm
-pub record IsErrand (s : Setup) (t : Errand) : Type 0 where
-  pub goal : length t.goal ≡ t.planned.layout.size
-  pub end : t.planned.base + t.planned.layout.size ≤ 2 ^ 32
-  pub pages : PagesFit s.algorithm.device.page t.planned.layout
-  pub chip : IsTrue t.planned.plan.chip → IsTrue (is_some s.algorithm.entries.erase_chip)
+-- the plan is one for this algorithm
+pub record IsErrand (s : Setup) (p : Planned) : Type 0 where
+  pub end : p.base + p.layout.size ≤ 2 ^ 32
+  pub pages : PagesFit s.algorithm.device.page p.layout
+  pub chip : IsTrue p.plan.chip → IsTrue (is_some s.algorithm.entries.erase_chip)

@@ -1,8 +1,8 @@
 //! A whole session.
-ghost use Rattle.std.specs.Prelude.{◌≡◌, drop, IsTrue, IsSome, None};
+ghost use Rattle.std.specs.Prelude.{◌≡◌, IsTrue, IsSome, None};
 ghost use Rattle.bench_model.specs.History.{LeftOnly};
 ghost use Rattle.bench_model.specs.State.{file_half};
-ghost use Rattle.job_text.specs.Files.{IsWhole};
+ghost use Rattle.job_text.specs.Stands.{StandsFor};
 ghost use Rattle.flash_session.specs.Sessions.{job_in, surveyed};
 
 use algo_calls::{Call, CallEnd};
@@ -25,18 +25,18 @@ pub enum Carried {
         end: CallEnd,
     },
     DeviceFault,
-    OutOfMemory,
+    StoreFault,
 }
 
 /// Goes to the goal of the session's last survey, and closes the job there.
-fn finish<B: Bench>(alloc: Global, session: &mut Session, bench: &mut B) -> Carried
+fn finish<B: Bench>(session: &mut Session, bench: &mut B) -> Carried
     requires surveyed { IsSome (surveyed session.old) }
     requires count { (B.state bench.old).cell_count ≡ (job_in session.old).algorithm.device.size }
     requires idle { IsTrue B.tells → (B.state bench.old).operation ≡ None }
-    requires whole { IsTrue B.tells → IsWhole (drop 1 (B.state bench.old).file) (B.state bench.old).file }
+    requires stands { IsTrue B.tells → StandsFor (job_in session.old) (B.state bench.old).file }
     requires only { IsTrue B.tells → LeftOnly (B.state bench.old).file (file_half (B.state bench.old)) }
 {
-    match session.go(alloc, bench) {
+    match session.go(bench) {
         SessionEnd::Reached(reached) => match reached.close(session, bench) {
             Ok(()) => Carried::Closed,
             Err(_) => Carried::Unclosed,
@@ -44,7 +44,7 @@ fn finish<B: Bench>(alloc: Global, session: &mut Session, bench: &mut B) -> Carr
         SessionEnd::Mismatch(difference) => Carried::Mismatch(difference),
         SessionEnd::CallFailed { number, call, end } => Carried::CallFailed { number, call, end },
         SessionEnd::DeviceFault => Carried::DeviceFault,
-        SessionEnd::OutOfMemory => Carried::OutOfMemory,
+        SessionEnd::StoreFault => Carried::StoreFault,
     }
 }
 
@@ -55,7 +55,7 @@ pub fn carry<B: Bench>(alloc: Global, bench: &mut B, goal: Goal) -> Carried {
         Err(fault) => return Carried::Refused(fault),
     };
     match session.survey(alloc, bench, goal) {
-        Ok(()) => finish(alloc, &mut session, bench),
+        Ok(()) => finish(&mut session, bench),
         Err(fault) => Carried::Unsurveyed(fault),
     }
 }

@@ -64,7 +64,7 @@ pub fn print(rt: &HostRuntime, carried: Carried) -> Result<()> {
             print_end(rt, end)?;
         }
         Carried::DeviceFault => println!(rt; "device fault")?,
-        Carried::OutOfMemory => println!(rt; "no memory")?,
+        Carried::StoreFault => println!(rt; "store fault")?,
     }
     Ok(())
 }

@@ -1,0 +1,16 @@
+-- What a session is to reach.
+use Rattle.std.specs.Prelude.{ℕ, List}
+use Rattle.byte_map.specs.Image.{over}
+use Rattle.job_text.specs.Stands.{snapshot_in}
+use Rattle.job_text.specs.declared.job.Job.{Job}
+use Rattle.flash_session.specs.declared.goal.Goal.{Goal}
+use Rattle.flash_session.specs.declared.goal.Goal.TheVariants as goal
+
+-- the image laid over a snapshot, or the snapshot
+abbrev pub laid : Job → Goal → List ℕ → List ℕ
+laid j goal.New snapshot = over j.image j.algorithm.device.base snapshot
+laid j goal.Old snapshot = snapshot
+
+-- the goal of a job in its file
+abbrev pub goal_in : Job → Goal → List ℕ → List ℕ
+goal_in j g file = laid j g (snapshot_in j file)
