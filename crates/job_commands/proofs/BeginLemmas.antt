@@ -1,5 +1,5 @@
 -- A job is begun (a to b), and carried (b to d).
-use Rattle.std.proofs.Common.{◌≡◌, ◌≢◌, ◌⊎◌, ⊎_elim, inl, inr, refl, ◌∙◌, ◌++◌, ℕ, Bool, true, List, ◌∷◌, length, IsTrue, Option, None, Err, sym, ap, subst}
+use Rattle.std.proofs.Common.{◌≡◌, ◌⊎◌, ⊎_elim, inl, inr, refl, ◌∙◌, ◌++◌, ℕ, Bool, true, List, ◌∷◌, length, IsTrue, Option, None, Err, sym, ap, subst}
 use Rattle.outside_io.specs.State.{SinkState}
 use Rattle.bench_model.specs.History.{left, GoesOn, Leaves, LeftOnly}
 use Rattle.bench_model.specs.State.{BenchState, file_half, Left}
@@ -19,7 +19,7 @@ use Rattle.job_file.specs.declared.fault.BeginFault.TheVariants as beginning
 use Rattle.campaign.specs.Stops.{IsUntouched, IsAtClose}
 use Rattle.flash_session.specs.declared.goal.Goal.TheVariants.{New}
 use Rattle.flash_session.specs.Script.{Broken}
-use Rattle.report_text.specs.Refusal.{Refusal, out_of_memory, input_fault, no_job, not_a_job, cells_differ, store_fault, device_fault, output_fault, call_failed, mismatch}
+use Rattle.report_text.specs.Refusal.{out_of_memory, input_fault, no_job, not_a_job, cells_differ, store_fault, device_fault, output_fault, call_failed, mismatch}
 use Rattle.command_answers.specs.Call.{BenchCall, SinkCall, TookNothing, TookPart, Answer, done, refused, bench_call, sink_call}
 use Rattle.command_answers.specs.Answered.{has_resume, yields, OnlyLooked, StandsEarly, IsOf}
 use Rattle.job_commands.specs.Work.{Work, body, shown_plan, Breaks, IsOnPath, IsOutsidePlanAsSurveyed}
@@ -96,7 +96,7 @@ module _ (tells sinks : Bool) (a b : BenchState) (p : SinkState) (parts : JobPar
       some_job = λ some. inr (refl, only_looked reads);
       not_job = λ at no. inr (refl, only_looked reads);
       other_size = λ is_free unequal. inr (refl, only_looked reads);
-      begins = unbegun (refused out_of_memory) refl (λ are is_free. record { file = inr (reads.file told); cells = same; prints = inl nothing });
+      begins = unbegun (refused out_of_memory) refl (λ are is_free. record { file = inr (reads.file told); cells = same; prints = nothing });
     }
     refuses_begin beginning.StoreFault is reads = record {
       some_job = λ some. inr (refl, only_looked (looks (λ both. not_free some.job a.file some.whole both.0)));
@@ -158,7 +158,10 @@ module _ (tells : Bool) (a b d : BenchState) (out : SinkCall) (w : Work) (idle :
   }
   begun_comes k (refused store_fault) comes = ⊎_elim
       (λ (early : EndsBeforePlan (bench_call tells b d) out w). inl (has_begun early))
+      (λ (later : EndsInScript (bench_call tells b d) out w (Breaks w k d) ⊎ EndsInClose (bench_call tells b d) out w k). inr (⊎_elim
+      (λ (cut : EndsInScript (bench_call tells b d) out w (Breaks w k d)). inl (record { job = cut.job; prints = cut.prints; way = cut.way }))
       (λ (late : EndsInClose (bench_call tells b d) out w k). inr (record { file = late.file; reached = late.reached; prints = late.prints }))
+      later))
       comes
   begun_comes k (refused device_fault) comes = ⊎_elim
       (λ (early : EndsBeforePlan (bench_call tells b d) out w). inl (has_begun early))

@@ -1,5 +1,5 @@
 -- A job is carried: entered (a), opened (b), surveyed (m), finished (d).
-use Rattle.std.proofs.Common.{◌≡◌, ◌⊎◌, ⊎_elim, inl, inr, refl, ◌≤◌, ◌+◌, ◌++◌, ◌∙◌, ℕ, Bool, true, List, [], ◌∷◌, sym, ap, subst, arith, append_assoc}
+use Rattle.std.proofs.Common.{◌≡◌, ◌⊎◌, ⊎_elim, inl, inr, refl, ◌≤◌, ◌+◌, ◌++◌, ◌∙◌, ℕ, Bool, true, List, ap, subst, append_assoc}
 use Rattle.faults.specs.Counts.{Rose}
 use Rattle.outside_io.specs.State.{SinkState}
 use Rattle.outside_io.proofs.AppendsLemmas.{AppendsPart-second}
@@ -11,11 +11,11 @@ use Rattle.bench_model.proofs.Moments.{leaves_as, pairs_as, pairs_then, never}
 use Rattle.job_text.specs.Files.{IsWhole, IsFree}
 use Rattle.campaign.specs.Stops.{IsAtClose}
 use Rattle.flash_session.specs.Script.{Broken}
-use Rattle.report_text.specs.Refusal.{Refusal, out_of_memory, store_fault, device_fault, output_fault, call_failed, mismatch}
+use Rattle.report_text.specs.Refusal.{out_of_memory, store_fault, device_fault, output_fault, call_failed, mismatch}
 use Rattle.command_answers.specs.Call.{SinkCall, TookNothing, TookAll, TookPart, Answer, done, refused, bench_call, sink_call}
 use Rattle.command_answers.specs.Answered.{yields}
-use Rattle.job_commands.specs.Work.{Work, body, shown_plan, IsOnPath, IsOutsidePlanAsSurveyed}
-use Rattle.job_commands.specs.Carry.{EndsBeforePlan, Comes, Carries, done_text}
+use Rattle.job_commands.specs.Work.{Work, body, shown_plan, Breaks, IsOnPath, IsOutsidePlanAsSurveyed}
+use Rattle.job_commands.specs.Carry.{EndsBeforePlan, HasJob, HasReached, Comes, Carries, done_text}
 use Rattle.job_commands.specs.Steps.{FinishComes, Finishes}
 use Rattle.job_commands.proofs.TurnLemmas.{turn_then, cells_never, cells_in_turn}
 use Rattle.job_commands.proofs.FinishLemmas.{nothing_broken}
@@ -58,7 +58,7 @@ module _ (tells sinks : Bool) (a x : BenchState) (p : SinkState) (w : Work) (who
 
   pub no_memory : Carries (bench_call tells a x) (sink_call sinks p p) (Left a) w (refused out_of_memory)
   no_memory = ends_early tells a x (sink_call sinks p p) (Left a) w (refused out_of_memory) surveyed
-      (record { file = inl (same ∙ whole); cells = outside; prints = inl nothing }) refl pairs cells
+      (record { file = inl (same ∙ whole); cells = outside; prints = nothing }) refl pairs cells
 
   pub no_store : Carries (bench_call tells a x) (sink_call sinks p p) (Left a) w (refused store_fault)
   no_store = ends_early tells a x (sink_call sinks p p) (Left a) w (refused store_fault) surveyed (inl before_plan) refl pairs cells
@@ -106,12 +106,10 @@ module _ (tells sinks : Bool) (a m d : BenchState) (p q r : SinkState) (w : Work
   comes_then : (broken : Broken) (answer : Answer) → FinishComes (bench_call tells m d) (sink_call sinks q r) w broken answer
       → Comes (bench_call tells a d) (sink_call sinks p r) w broken answer
   comes_then b done rest = (rest.0, all_then sinks p q r (shown_plan w) plan done_text rest.1)
-  comes_then b (refused out_of_memory) rest = record {
-    file = inl rest.0;
-    cells = subst (λ (c : List ℕ). SameOutside a.operation a.cells c) (sym rest.1) surveyed;
-    prints = inr (nothing_then sinks p q r (shown_plan w) plan rest.2);
-  }
-  comes_then b (refused store_fault) rest = inr (record { file = rest.0; reached = rest.1; prints = nothing_then sinks p q r (shown_plan w) plan rest.2 })
+  comes_then b (refused store_fault) rest = inr (⊎_elim
+      (λ (breaks : HasJob d w × Breaks w b d). inl (record { job = breaks.0; prints = nothing_then sinks p q r (shown_plan w) plan rest.1; way = breaks.1 }))
+      (λ (closes : (HasJob d w ⊎ IsFree d.file) × HasReached d w b). inr (record { file = closes.0; reached = closes.1; prints = nothing_then sinks p q r (shown_plan w) plan rest.1 }))
+      rest.0)
   comes_then b (refused device_fault) rest = inr (record { job = rest.0; prints = nothing_then sinks p q r (shown_plan w) plan rest.2; way = rest.1 })
   comes_then b (refused output_fault) rest = inr (rest.0, part_then sinks p q r (shown_plan w) plan done_text rest.1)
   comes_then b (refused (call_failed number call end)) rest =

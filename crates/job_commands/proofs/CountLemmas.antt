@@ -1,13 +1,19 @@
 -- The counts of faults of a job's work.
-use Rattle.std.proofs.Common.{◌≡◌, ◌≤◌, ◌<◌, ◌∙◌, refl, sym, ap, subst, arith, ℕ, Bool, true, false, List, Some}
+use Rattle.std.proofs.Common.{◌≡◌, ◌≤◌, ◌∙◌, refl, sym, ap, subst, arith, ℕ, Bool, false, List, Some, Err}
 use Rattle.faults.specs.Counts.{Rose}
+use Rattle.outside_io.specs.State.{SinkState}
 use Rattle.bench_model.specs.State.{BenchState}
+use Rattle.bench_model.specs.Device.{HasDeviceCause}
+use Rattle.job_file.specs.Counted as job_file
+use Rattle.flash_session.specs.declared.fault.SurveyFault.{SurveyFault}
+use Rattle.flash_session.specs.declared.fault.SurveyFault.TheVariants as survey
+use Rattle.flash_session.specs.Surveys.{is_survey_store, is_survey_device}
 use Rattle.report_text.specs.Refusal.{Refusal, input_fault, no_job}
 use Rattle.command_files.specs.Inputs.{InputsCall}
-use Rattle.command_answers.specs.Call.{BenchCall, SinkCall, Answer, done, refused, bench_call}
-use Rattle.command_answers.specs.Answered.{Fault, input, fault_in, IsCounted, OnlyLooked, StandsEarly, IsOf, EndsLawfully}
+use Rattle.command_answers.specs.Call.{BenchCall, SinkCall, Answer, done, refused, bench_call, sink_call}
+use Rattle.command_answers.specs.Answered.{Fault, input, store, device, output, fault_in, IsCounted, OnlyLooked, StandsEarly, IsOf, EndsLawfully}
 use Rattle.command_answers.proofs.AnswerLemmas.{unraised, never_input}
-use Rattle.job_commands.specs.Steps.{BenchCounted, begun}
+use Rattle.job_commands.specs.Steps.{BenchCounted, begun, of_survey}
 
 -- the work after the files, of a command that may take some
 pub worked_lawful : (bench : BenchCall) (inputs : InputsCall) (out : SinkCall) (has its : Refusal → Bool) (names : List (List ℕ)) (answer : Answer)
@@ -40,8 +46,42 @@ counted_then first before after fault answer same one = record {
 -- a job was begun, and no fault was counted; then it was carried
 pub begun_counted : (tells : Bool) (a b d : BenchState) (out : SinkCall) (answer : Answer) → b.store_faults ≡ a.store_faults → b.device_faults ≡ a.device_faults
     → BenchCounted (bench_call tells b d) out answer → BenchCounted (bench_call tells a d) out (begun answer)
-begun_counted tells a b d out answer store device counts = record {
-  store_count = counted_then a.store_faults b.store_faults d.store_faults _ answer store counts.store_count;
-  device_count = counted_then a.device_faults b.device_faults d.device_faults _ answer device counts.device_count;
+begun_counted tells a b d out answer stores devices counts = record {
+  store_count = counted_then a.store_faults b.store_faults d.store_faults _ answer stores counts.store_count;
+  device_count = counted_then a.device_faults b.device_faults d.device_faults _ answer devices counts.device_count;
   out_count = counted_then out.before.faults out.before.faults out.after.faults _ answer refl counts.out_count;
 }
+
+-- a count that rose with its fault, behind calls that left it as it was
+raised_here : (first before after : ℕ) (fault : Fault) (answer : Answer) → before ≡ first → Rose before after → before ≤ after → fault_in answer ≡ Some fault → IsCounted first after fault answer
+raised_here first before after fault answer same rose later is = record {
+  later = omega (arith, same, later);
+  only = λ its. subst (λ (n : ℕ). Rose n after) same rose;
+  answered = λ more. is;
+}
+
+-- a session was opened, and no fault was counted; then its survey failed
+pub survey_counted : (tells sinks : Bool) (a b m : BenchState) (p : SinkState) (fault : SurveyFault) → b.store_faults ≡ a.store_faults → b.device_faults ≡ a.device_faults
+    → job_file.IsCounted b.store_faults m.store_faults (is_survey_store {T = Unit {0}} (Err fault)) → HasDeviceCause b.device_faults m.device_faults (is_survey_device {T = Unit {0}} (Err fault))
+    → BenchCounted (bench_call tells a m) (sink_call sinks p p) (refused (of_survey fault))
+survey_counted tells sinks a b m p survey.OutOfMemory stores devices counts causes =
+    let answer = refused (of_survey survey.OutOfMemory) in
+    record {
+      store_count = unraised a.store_faults m.store_faults store answer (counts.on_other refl ∙ stores) (λ is. cc);
+      device_count = unraised a.device_faults m.device_faults device answer (causes.on_other refl ∙ devices) (λ is. cc);
+      out_count = unraised p.faults p.faults output answer refl (λ is. cc);
+    }
+survey_counted tells sinks a b m p survey.DeviceFault stores devices counts causes =
+    let answer = refused (of_survey survey.DeviceFault) in
+    record {
+      store_count = unraised a.store_faults m.store_faults store answer (counts.on_other refl ∙ stores) (λ its. let same : device ≡ store = cc in cc);
+      device_count = raised_here a.device_faults b.device_faults m.device_faults device answer devices (causes.on_device refl) causes.later refl;
+      out_count = unraised p.faults p.faults output answer refl (λ its. let same : device ≡ output = cc in cc);
+    }
+survey_counted tells sinks a b m p survey.StoreFault stores devices counts causes =
+    let answer = refused (of_survey survey.StoreFault) in
+    record {
+      store_count = raised_here a.store_faults b.store_faults m.store_faults store answer stores (counts.on_fault refl) counts.later refl;
+      device_count = unraised a.device_faults m.device_faults device answer (causes.on_other refl ∙ devices) (λ its. let same : store ≡ device = cc in cc);
+      out_count = unraised p.faults p.faults output answer refl (λ its. let same : store ≡ output = cc in cc);
+    }

@@ -1,5 +1,5 @@
 -- A command on a job ends before any work: the bench and `out` weren't called.
-use Rattle.std.proofs.Common.{◌≡◌, ◌⊎◌, inl, inr, refl, ◌∙◌, sym, ℕ, Bool, true, List, length, Option, Some, None, IsTrue}
+use Rattle.std.proofs.Common.{◌≡◌, ◌⊎◌, inl, inr, refl, ◌∙◌, sym, ℕ, Bool, true, List, length, Option, Some, None}
 use Rattle.bench_model.specs.History.{left}
 use Rattle.bench_model.specs.State.{BenchState, file_half, cells_half, Left}
 use Rattle.bench_model.specs.Calls.{SameOutside}
@@ -14,13 +14,13 @@ use Rattle.flash_session.specs.declared.goal.Goal.TheVariants.{New}
 use Rattle.report_text.specs.Refusal.{out_of_memory, input_fault}
 use Rattle.command_files.specs.Inputs.{FilesGiven}
 use Rattle.command_files.specs.Files.{Aim, IsAim}
-use Rattle.command_answers.specs.Call.{SinkCall, Answer, refused, bench_call, sink_call}
+use Rattle.command_answers.specs.Call.{Answer, refused, bench_call, sink_call}
 use Rattle.command_answers.specs.Answered.{yields}
 use Rattle.command_answers.proofs.AnswerLemmas.{only_looked}
 use Rattle.job_commands.specs.Work.{Work, body}
 use Rattle.job_commands.specs.Carry.{Comes}
 use Rattle.job_commands.specs.GoOn.{work_to, GoesOnFrom}
-use Rattle.job_commands.specs.Program.{HasAlgorithm, job_for, BeginsOn}
+use Rattle.job_commands.specs.Program.{job_for, BeginsOn}
 use Rattle.job_commands.proofs.CarryLemmas.{AsEntered, entered, ends_early, no_memory}
 use Rattle.job_commands.proofs.FinishLemmas.{nothing_broken}
 use Rattle.job_commands.proofs.RegionLemmas.{aim_job}
@@ -74,4 +74,4 @@ module _ (tells sinks : Bool) (b : BenchState) (o : SinkState) (many : length b.
   pub begins_unread : (raw_at : Option ℕ) (files : FilesGiven) (aim : Aim) → IsAim raw_at files aim
       → BeginsOn (bench_call tells b b) (sink_call sinks o o) (refused out_of_memory) files aim
   begins_unread raw_at files aim is = begins_on raw_at files aim (refused out_of_memory) is refl
-      (λ w. record { file = inr refl; cells = same_here b.operation b.cells; prints = inl (record { taken = refl; faults = refl }) })
+      (λ w. record { file = inr refl; cells = same_here b.operation b.cells; prints = record { taken = refl; faults = refl } })

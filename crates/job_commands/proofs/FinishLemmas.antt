@@ -1,12 +1,12 @@
 -- A session from its script on: entered (s), gone through its script (m), closed (d).
-use Rattle.std.proofs.Common.{◌≡◌, ◌⊎◌, ⊎_elim, inl, inr, refl, ◌≤◌, ◌+◌, ◌∙◌, ℕ, Bool, true, false, IsTrue, List, [], ◌∷◌, drop, Option, Some, None, IfSome, IsSomeAnd, is_some, sym, ap, subst, arith}
+use Rattle.std.proofs.Common.{◌≡◌, ⊎_elim, inl, inr, refl, ◌+◌, ◌∙◌, ℕ, Bool, false, IsTrue, List, [], ◌∷◌, drop, Option, Some, None, IfSome, IsSomeAnd, is_some, sym, ap, subst}
 use Rattle.bench_model.specs.History.{left, GoesOn, Leaves, LeftOnly}
 use Rattle.bench_model.specs.State.{BenchState, file_half, cells_half}
-use Rattle.bench_model.specs.Calls.{FileStays, CellsStay, SameOutside}
+use Rattle.bench_model.specs.Calls.{CellsStay}
+use Rattle.job_file.specs.Reads.{FileIsRead}
 use Rattle.bench_model.specs.Pairs.{PairsLeave}
-use Rattle.bench_model.proofs.Moments.{goes_then, pairs_of, pairs_as, stays_leaves, leaves_then, leaves_left, in_turn, never}
+use Rattle.bench_model.proofs.Moments.{goes_then, pairs_of, pairs_as, stays_leaves, leaves_as, leaves_then, leaves_left, in_turn, never}
 use Rattle.byte_map.specs.Image.{Run, over}
-use Rattle.board_file.specs.Shown as board
 use Rattle.flm_descriptor.specs.Shown as flm
 use Rattle.page_geometry.specs.Layout.{Layout}
 use Rattle.erase_planner.specs.Plans.{Chosen, chosen}
@@ -14,9 +14,9 @@ use Rattle.outside_io.specs.State.{SinkState}
 use Rattle.readback.specs.declared.compare.Difference.{Difference}
 use Rattle.algo_calls.specs.declared.call.Call.{Call}
 use Rattle.algo_calls.specs.declared.call.CallEnd.{CallEnd}
-use Rattle.job_text.specs.Files.{IsWhole, IsFree, IsClosed}
-use Rattle.job_text.specs.Body.{Job, body_of}
-use Rattle.job_text.specs.Stands.{StandsFor}
+use Rattle.job_text.specs.Files.{IsWhole, IsClosed}
+use Rattle.job_text.specs.Body.{Job}
+use Rattle.job_text.specs.Stands.{StandsFor, snapshot_in}
 use Rattle.job_text.specs.declared.job.Job as code
 use Rattle.job_file.specs.Stops.{IsWholeOrClosed}
 use Rattle.campaign.specs.Stops.{IsAtClose}
@@ -28,21 +28,25 @@ use Rattle.flash_session.specs.declared.goal.Goal.TheVariants.{New, Old}
 use Rattle.flash_session.specs.Script.{Errand, errand, Broken}
 use Rattle.flash_session.specs.Outcome.{Follows}
 use Rattle.flash_session.specs.Starts.{job_setup, job_start}
-use Rattle.flash_session.specs.Surveys.{Surveyed, goal_in, HasSurveyed}
+use Rattle.flash_session.specs.Goals.{goal_in}
+use Rattle.flash_session.specs.Surveys.{Surveyed, HasSurveyed}
 use Rattle.flash_session.specs.Sessions as sessions
 use Rattle.flash_session.specs.Sessions.{Goes, JobServes, IsAsSurveyed}
 use Rattle.flash_session.specs.Local.{IsInPlan, SameBut}
-use Rattle.report_text.specs.Refusal.{out_of_memory, store_fault, device_fault, output_fault, call_failed, mismatch}
+use Rattle.report_text.specs.Refusal.{store_fault, device_fault, output_fault, call_failed, mismatch}
 use Rattle.command_answers.specs.Call.{SinkCall, TookNothing, TookAll, TookPart, Answer, done, refused, bench_call, sink_call}
 use Rattle.command_answers.specs.Answered.{IsUnless}
-use Rattle.job_commands.specs.Work.{Work, body, layout_of, plan_of, setup_for, errand_for, start_for, moves_of, Ends, IsOnPath, KeepsDuties, IsOutsidePlanAsSurveyed}
-use Rattle.job_commands.specs.Carry.{HasReached, HasClosed, done_text}
+use Rattle.job_commands.specs.Work.{Work, body, layout_of, plan_of, setup_for, errand_for, start_for, Ends, IsOnPath, KeepsDuties, IsOutsidePlanAsSurveyed}
+use Rattle.job_commands.specs.Carry.{HasReached, done_text}
 use Rattle.job_commands.specs.GoOn.{goal_cells}
 use Rattle.job_commands.specs.Steps.{session_work, FinishComes, Finishes}
 
--- what is found on one session's survey is found on an equal one
-pub close_as : {o q : Option Surveyed} (P : Surveyed → Type 0) → o ≡ q → IfSome o P → IfSome q P
-close_as P same close = subst (λ (x : Option Surveyed). IfSome x P) same close
+-- what a stop of a close leaves, to the goal of a survey
+abbrev pub ClosePairs : BenchState → BenchState → code.Job → Surveyed → Type 0
+ClosePairs m d k v = PairsLeave m d (λ f c. IsWholeOrClosed (drop 1 m.file) f × (c ≡ goal_in k v.goal m.file))
+
+pub closed_as : (m d : BenchState) (k j : code.Job) (o q : Option Surveyed) → k ≡ j → o ≡ q → IfSome o (ClosePairs m d k) → IfSome q (ClosePairs m d j)
+closed_as m d k j o q is same close = subst (λ (i : code.Job). IfSome q (ClosePairs m d i)) is (subst (λ (x : Option Surveyed). IfSome x (ClosePairs m d k)) same close)
 
 pub nothing_broken : Broken
 nothing_broken = record { erase = []; program = []; verify = []; last = [] }
@@ -50,10 +54,10 @@ nothing_broken = record { erase = []; program = []; verify = []; last = [] }
 -- Of any work: each end, by what went before.
 
 module _ (tells : Bool) (w : Work) (s m : BenchState) (out : SinkCall) (answer : Answer) (whole : IsWhole (body w) s.file) (only : LeftOnly s.file (file_half s))
-    (stay : FileStays s m) where
+    (stay : FileIsRead tells s m) where
   early : GoesOn (cells_half s) (cells_half m) → PairsLeave s m (λ f c. IsWhole (body w) f)
   early goes = pairs_of (λ f. IsWhole (body w) f) (λ c. Unit {0}) (λ f c. IsWhole (body w) f)
-      (stays_leaves (λ f. IsWhole (body w) f) (λ f at. only f at ∙ whole) stay.half)
+      (leaves_as (left (file_half s)) (λ f. IsWhole (body w) f) (λ f at. only f at ∙ whole) stay.moments)
       (record { goes_on = goes; each = λ k c from to at. tt }) (λ f c is u. is)
 
   ends_in_script : (broken : Broken) → FinishComes (bench_call tells s m) out w broken answer → Leaves (cells_half s) (cells_half m) (IsOnPath w broken)
@@ -64,7 +68,7 @@ module _ (tells : Bool) (w : Work) (s m : BenchState) (out : SinkCall) (answer :
     comes = comes;
     turn = m.moment + 1;
     pairs = never (λ f c. IsWhole (body w) f) (IsAtClose (body w) w.goal) (early path.goes_on);
-    files_past = stay.half.goes_on.past;
+    files_past = stay.moments.goes_on.past;
     path = path;
     local = local;
     complete = complete;
@@ -83,7 +87,7 @@ module _ (tells : Bool) (w : Work) (s m : BenchState) (out : SinkCall) (answer :
     turn = m.moment;
     pairs = in_turn (λ f c. IsWhole (body w) f) (IsAtClose (body w) w.goal) (early path.goes_on)
         (pairs_as (λ f c. IsWholeOrClosed (body w) f × (c ≡ w.goal)) (IsAtClose (body w) w.goal) (λ f c both. record { whole_or_closed = both.0; done = both.1 }) close);
-    files_past = (goes_then stay.half.goes_on close.files).past;
+    files_past = (goes_then stay.moments.goes_on close.files).past;
     path = on_through d (IsOnPath w broken) cells path;
     local = λ keeps. on_through d (IsOutsidePlanAsSurveyed w) cells (local keeps);
     complete = complete;
@@ -91,75 +95,79 @@ module _ (tells : Bool) (w : Work) (s m : BenchState) (out : SinkCall) (answer :
 
 -- Of the work of a session.
 
-module _ (tells : Bool) (told : IsTrue tells) (j : code.Job) (goal : Goal) (text : Job) (image : text.image ≡ j.image) (snapshot : text.snapshot ≡ j.snapshot) (cells : List ℕ) where
+module _ (tells : Bool) (told : IsTrue tells) (j : code.Job) (goal : Goal) (text : Job) (image : text.image ≡ j.image) (file : List ℕ) (snapshot : text.snapshot ≡ snapshot_in j file) (cells : List ℕ) where
   abbrev its_work : Work
   its_work = session_work goal j text cells
 
-  pub same_goal : (g : Goal) → goal_in j g ≡ goal_cells g text (flm.shown j.algorithm)
-  same_goal New = ap (λ (r : List Run). over r j.algorithm.device.base j.snapshot) (sym image) ∙ ap (λ (c : List ℕ). over text.image j.algorithm.device.base c) (sym snapshot)
+  pub same_goal : (g : Goal) → goal_in j g file ≡ goal_cells g text (flm.shown j.algorithm)
+  same_goal New = ap (λ (r : List Run). over r j.algorithm.device.base (snapshot_in j file)) (sym image) ∙ ap (λ (c : List ℕ). over text.image j.algorithm.device.base c) (sym snapshot)
   same_goal Old = sym snapshot
 
-  module _ (v : Surveyed) (has : HasSurveyed tells j goal cells v) where
-    pub goal_is : v.goal ≡ its_work.goal
-    goal_is = has.goal ∙ same_goal goal
+  module _ (v : Surveyed) (has : HasSurveyed tells j goal file cells v) where
+    pub goal_is : goal_in j v.goal file ≡ its_work.goal
+    goal_is = ap (λ (g : Goal). goal_in j g file) has.goal ∙ same_goal goal
 
     -- the plan that was made is the chosen one
     pub plan_is : v.plan ≡ plan_of its_work
     plan_is = (has.plan told).chosen
-        ∙ ap (λ (l : Layout). chosen l j.board.weights (is_some j.algorithm.entries.erase_chip) j.algorithm.device.empty cells v.goal) has.layout
-        ∙ ap (λ (g : List ℕ). chosen (layout_of (flm.shown j.algorithm)) j.board.weights (is_some j.algorithm.entries.erase_chip) j.algorithm.device.empty cells g) goal_is
+        ∙ ap (λ (l : Layout). chosen l j.board.weights (is_some j.algorithm.entries.erase_chip) j.algorithm.device.empty cells (goal_in j goal file)) has.layout
+        ∙ ap (λ (g : List ℕ). chosen (layout_of (flm.shown j.algorithm)) j.board.weights (is_some j.algorithm.entries.erase_chip) j.algorithm.device.empty cells g) (same_goal goal)
 
-    errand_is : sessions.errand_for j v ≡ errand_for its_work
-    errand_is = ap (λ (l : Layout). errand l j.algorithm.device.base v.plan v.goal) has.layout
-        ∙ ap (λ (p : Chosen). errand (layout_of (flm.shown j.algorithm)) j.algorithm.device.base p v.goal) plan_is
+    errand_is : sessions.errand_for j v file ≡ errand_for its_work
+    errand_is = ap (λ (l : Layout). errand l j.algorithm.device.base v.plan (goal_in j v.goal file)) has.layout
+        ∙ ap (λ (p : Chosen). errand (layout_of (flm.shown j.algorithm)) j.algorithm.device.base p (goal_in j v.goal file)) plan_is
         ∙ ap (λ (g : List ℕ). errand (layout_of (flm.shown j.algorithm)) j.algorithm.device.base (plan_of its_work) g) goal_is
 
-    pub follows_plan : (e : SessionEnd) (s m : BenchState) → Follows (job_setup j) (sessions.errand_for j v) (job_start j cells) e s m
+    pub follows_plan : (e : SessionEnd) (s m : BenchState) → Follows (job_setup j) (sessions.errand_for j v file) (job_start j cells) e s m
         → Follows (setup_for its_work) (errand_for its_work) (start_for its_work) e s m
     follows_plan e s m follows = subst (λ (t : Errand). Follows (job_setup j) t (job_start j cells) e s m) errand_is follows
 
+    -- as its own goal has it
+    pub as_surveyed : HasSurveyed tells j v.goal file cells v
+    as_surveyed = subst (λ (g : Goal). HasSurveyed tells j g file cells v) (sym has.goal) has
+
 module _ (tells sinks : Bool) (told : IsTrue tells) (j : code.Job) (goal : Goal) (s m : BenchState) (p : SinkState) (stands : StandsFor j s.file)
-    (only : LeftOnly s.file (file_half s)) (stay : FileStays s m) where
+    (only : LeftOnly s.file (file_half s)) (stay : FileIsRead tells s m) where
   abbrev w : Work
   w = session_work goal j stands.text s.cells
 
   abbrev Followed : SessionEnd → Type 0
   Followed e = Follows (setup_for w) (errand_for w) (start_for w) e s m
 
-  followed : (o : Option Surveyed) (e : SessionEnd) → IsSomeAnd o (λ v. HasSurveyed tells j goal s.cells v)
-      → IfSome o (λ v. Follows (job_setup j) (sessions.errand_for j v) (job_start j s.cells) e s m) → Followed e
+  followed : (o : Option Surveyed) (e : SessionEnd) → IsSomeAnd o (λ v. HasSurveyed tells j goal s.file s.cells v)
+      → IfSome o (λ v. Follows (job_setup j) (sessions.errand_for j v s.file) (job_start j s.cells) e s m) → Followed e
   followed None e has goes = absurd has
-  followed (Some v) e has goes = follows_plan tells told j goal stands.text stands.image stands.snapshot s.cells v has e s m goes
+  followed (Some v) e has goes = follows_plan tells told j goal stands.text stands.image s.file stands.snapshot s.cells v has e s m goes
 
   nothing : TookNothing (sink_call sinks p p)
   nothing = record { taken = refl; faults = refl }
 
   job_stays : IsWhole (body w) m.file
-  job_stays = stay.file ∙ stands.whole
+  job_stays = stay.file told ∙ stands.whole
 
   -- each stop of the script leaves what lies outside the chosen plan
-  local_from : (q : Option Surveyed) → IsSomeAnd q (λ v. HasSurveyed tells j goal s.cells v)
-      → IfSome q (λ v. IsAsSurveyed tells j s.cells v → Leaves (cells_half s) (cells_half m) (SameBut (IsInPlan v.layout v.plan) s.cells))
+  local_from : (q : Option Surveyed) → IsSomeAnd q (λ v. HasSurveyed tells j goal s.file s.cells v)
+      → IfSome q (λ v. IsAsSurveyed tells j s v → Leaves (cells_half s) (cells_half m) (SameBut (IsInPlan v.layout v.plan) s.cells))
       → Leaves (cells_half s) (cells_half m) (IsOutsidePlanAsSurveyed w)
   local_from None some local = absurd some
   local_from (Some v) some local =
       subst (λ (c : Chosen). Leaves (cells_half s) (cells_half m) (SameBut (IsInPlan (layout_of (flm.shown j.algorithm)) c) s.cells))
-      (plan_is tells told j goal stands.text stands.image stands.snapshot s.cells v some)
-      (subst (λ (l : Layout). Leaves (cells_half s) (cells_half m) (SameBut (IsInPlan l v.plan) s.cells)) some.layout (local (record { goal = goal; found = some })))
+      (plan_is tells told j goal stands.text stands.image s.file stands.snapshot s.cells v some)
+      (subst (λ (l : Layout). Leaves (cells_half s) (cells_half m) (SameBut (IsInPlan l v.plan) s.cells)) some.layout (local (as_surveyed tells told j goal stands.text stands.image s.file stands.snapshot s.cells v some)))
 
   -- an end that doesn't come
-  unfailing : (q : Option Surveyed) → IsSomeAnd q (λ v. HasSurveyed tells j goal s.cells v)
-      → IfSome q (λ v. IsAsSurveyed tells j s.cells v → false ≡ false → ⊥) → ⊥
+  unfailing : (q : Option Surveyed) → IsSomeAnd q (λ v. HasSurveyed tells j goal s.file s.cells v)
+      → IfSome q (λ v. IsAsSurveyed tells j s v → false ≡ false → false ≡ false → ⊥) → ⊥
   unfailing None some fails = some
-  unfailing (Some v) some fails = fails (record { goal = goal; found = some }) refl
+  unfailing (Some v) some fails = fails (as_surveyed tells told j goal stands.text stands.image s.file stands.snapshot s.cells v some) refl refl
 
-  module _ (o : Option Surveyed) (has : IsSomeAnd o (λ v. HasSurveyed tells j goal s.cells v))
-      (keeps : JobServes j → IfSome o (λ v. IsAsSurveyed tells j s.cells v → Leaves (cells_half s) (cells_half m) (SameBut (IsInPlan v.layout v.plan) s.cells))) where
+  module _ (o : Option Surveyed) (has : IsSomeAnd o (λ v. HasSurveyed tells j goal s.file s.cells v))
+      (keeps : JobServes j → IfSome o (λ v. IsAsSurveyed tells j s v → Leaves (cells_half s) (cells_half m) (SameBut (IsInPlan v.layout v.plan) s.cells))) where
     its_local : KeepsDuties w → Leaves (cells_half s) (cells_half m) (IsOutsidePlanAsSurveyed w)
     its_local = λ serves. local_from o has (keeps serves)
 
     pub ends_mismatch : (d : Difference) (at : ℕ) → at ≡ j.algorithm.device.base + d.at → IfSome o (λ v. Goes j v (end.Mismatch d) s m)
-        → (JobServes j → IfSome o (λ v. IsAsSurveyed tells j s.cells v → false ≡ false → ⊥))
+        → (JobServes j → IfSome o (λ v. IsAsSurveyed tells j s v → false ≡ false → false ≡ false → ⊥))
         → Finishes (bench_call tells s m) (sink_call sinks p p) w (refused (mismatch at d.want d.got))
     ends_mismatch d at at_is goes fails =
         let f = followed o (end.Mismatch d) has goes in
@@ -168,7 +176,7 @@ module _ (tells sinks : Bool) (told : IsTrue tells) (j : code.Job) (goal : Goal)
         (λ serves. absurd (unfailing o has (fails serves)))
 
     pub ends_failed : (number : ℕ) (call : Call) (e : CallEnd) → IfSome o (λ v. Goes j v (end.CallFailed number call e) s m)
-        → (JobServes j → IfSome o (λ v. IsAsSurveyed tells j s.cells v → false ≡ false → ⊥))
+        → (JobServes j → IfSome o (λ v. IsAsSurveyed tells j s v → false ≡ false → false ≡ false → ⊥))
         → Finishes (bench_call tells s m) (sink_call sinks p p) w (refused (call_failed number call e))
     ends_failed number call e goes fails =
         let f = followed o (end.CallFailed number call e) has goes in
@@ -180,32 +188,14 @@ module _ (tells sinks : Bool) (told : IsTrue tells) (j : code.Job) (goal : Goal)
         let f = followed o end.DeviceFault has goes in
         ends_in_script tells w s m (sink_call sinks p p) (refused device_fault) stands.whole only stay f.broken (job_stays, f.ends, nothing) f.moments its_local (λ serves. inr refl)
 
-    -- where nothing was done each moment is at the start of the path
-    stays_on_path : s.operation ≡ None → ((x : List ℕ) → left (cells_half s) x → SameOutside s.operation s.cells x) → CellsStay s m
-        → Leaves (cells_half s) (cells_half m) (IsOnPath w nothing_broken)
-    stays_on_path idle exact cells = stays_leaves (IsOnPath w nothing_broken)
-        (λ x at. record {
-          at = (start_for w).world;
-          on = inl refl;
-          left = subst (λ (q : Option (ℕ × ℕ)). SameOutside q s.cells x) idle (exact x at);
-        })
-        cells.half
-
-    unmoved : (q : Option Surveyed) → IsSomeAnd q (λ v. HasSurveyed tells j goal s.cells v) → IfSome q (λ v. Goes j v end.OutOfMemory s m) → CellsStay s m
-    unmoved None some goes = absurd some
-    unmoved (Some v) some goes = goes
-
-    pub ends_unmoved : IfSome o (λ v. Goes j v end.OutOfMemory s m) → s.operation ≡ None
-        → ((x : List ℕ) → left (cells_half s) x → SameOutside s.operation s.cells x)
-        → Finishes (bench_call tells s m) (sink_call sinks p p) w (refused out_of_memory)
-    ends_unmoved goes idle exact =
-        let cells = unmoved o has goes in
-        ends_in_script tells w s m (sink_call sinks p p) (refused out_of_memory) stands.whole only stay nothing_broken (job_stays, cells.cells, nothing)
-        (stays_on_path idle exact cells) its_local (λ serves. inr refl)
+    pub ends_unread : IfSome o (λ v. Goes j v end.StoreFault s m) → Finishes (bench_call tells s m) (sink_call sinks p p) w (refused store_fault)
+    ends_unread goes =
+        let f = followed o end.StoreFault has goes in
+        ends_in_script tells w s m (sink_call sinks p p) (refused store_fault) stands.whole only stay f.broken (inl (job_stays, f.ends), nothing) f.moments its_local (λ serves. inr refl)
 
     -- The goal is reached, and the job is closed or was to be.
     module _ (d : BenchState) (r : Reached) (goes : IfSome o (λ v. Goes j v (end.Reached r) s m)) (idle : m.operation ≡ None) (cells : CellsStay m d)
-        (close : IfSome o (λ v. PairsLeave m d (λ f c. IsWholeOrClosed (drop 1 m.file) f × (c ≡ v.goal)))) where
+        (close : IfSome o (λ v. PairsLeave m d (λ f c. IsWholeOrClosed (drop 1 m.file) f × (c ≡ goal_in j v.goal m.file)))) where
       abbrev f : Followed (end.Reached r)
       f = followed o (end.Reached r) has goes
 
@@ -219,12 +209,13 @@ module _ (tells sinks : Bool) (told : IsTrue tells) (j : code.Job) (goal : Goal)
       behind : drop 1 m.file ≡ body w
       behind = ap (drop 1) job_stays
 
-      close_from : (q : Option Surveyed) → IsSomeAnd q (λ v. HasSurveyed tells j goal s.cells v)
-          → IfSome q (λ v. PairsLeave m d (λ f c. IsWholeOrClosed (drop 1 m.file) f × (c ≡ v.goal))) → PairsLeave m d (λ f c. IsWholeOrClosed (body w) f × (c ≡ w.goal))
+      close_from : (q : Option Surveyed) → IsSomeAnd q (λ v. HasSurveyed tells j goal s.file s.cells v)
+          → IfSome q (λ v. PairsLeave m d (λ f c. IsWholeOrClosed (drop 1 m.file) f × (c ≡ goal_in j v.goal m.file))) → PairsLeave m d (λ f c. IsWholeOrClosed (body w) f × (c ≡ w.goal))
       close_from None some pairs = absurd some
       close_from (Some v) some pairs =
-          subst (λ (g : List ℕ). PairsLeave m d (λ f c. IsWholeOrClosed (body w) f × (c ≡ g))) (goal_is tells told j goal stands.text stands.image stands.snapshot s.cells v some)
-          (subst (λ (b : List ℕ). PairsLeave m d (λ f c. IsWholeOrClosed b f × (c ≡ v.goal))) behind pairs)
+          subst (λ (g : List ℕ). PairsLeave m d (λ f c. IsWholeOrClosed (body w) f × (c ≡ g))) (goal_is tells told j goal stands.text stands.image s.file stands.snapshot s.cells v some)
+          (subst (λ (b : List ℕ). PairsLeave m d (λ f c. IsWholeOrClosed b f × (c ≡ goal_in j v.goal s.file))) behind
+          (subst (λ (l : List ℕ). PairsLeave m d (λ f c. IsWholeOrClosed (drop 1 m.file) f × (c ≡ goal_in j v.goal l))) (stay.file told) pairs))
 
       closes : (out : SinkCall) (answer : Answer) → IsUnless answer done → FinishComes (bench_call tells s d) out w f.broken answer → Finishes (bench_call tells s d) out w answer
       closes out answer due comes = ends_in_close tells w s m out answer stands.whole only stay d f.broken comes f.moments its_local (λ serves. due) cells (close_from o has close)
@@ -239,10 +230,12 @@ module _ (tells sinks : Bool) (told : IsTrue tells) (j : code.Job) (goal : Goal)
       -- after a close that failed
       pub ends_unclosed : IsWholeOrClosed (drop 1 m.file) d.file → Finishes (bench_call tells s d) (sink_call sinks p p) w (refused store_fault)
       ends_unclosed file = closes (sink_call sinks p p) (refused store_fault) (inr refl) (
-        ⊎_elim
-            (λ (is : IsWhole (drop 1 m.file) d.file). inl (is ∙ ap (λ (b : List ℕ). 165 ∷ b) behind))
-            (λ (closed : IsClosed (drop 1 m.file) d.file). inr closed.free)
-            file,
-        reached,
+        inr (
+          ⊎_elim
+              (λ (is : IsWhole (drop 1 m.file) d.file). inl (is ∙ ap (λ (b : List ℕ). 165 ∷ b) behind))
+              (λ (closed : IsClosed (drop 1 m.file) d.file). inr closed.free)
+              file,
+          reached,
+        ),
         nothing,
       )

@@ -1,5 +1,5 @@
 -- The calls of the program that follow one another are a campaign.
-use Rattle.std.proofs.Common.{◌≡◌, ◌⊎◌, ⊎_elim, inl, inr, refl, ◌≤◌, ap, ℕ, suc, List, [], ◌∷◌, length, Option, None, IsTrue}
+use Rattle.std.proofs.Common.{◌≡◌, ◌⊎◌, ⊎_elim, inl, inr, refl, ◌≤◌, ap, ℕ, suc, List, [], ◌∷◌, length, Option, None}
 use Rattle.bench_model.specs.History.{left}
 use Rattle.bench_model.specs.State.{BenchState, file_half}
 use Rattle.board_file.specs.Shown as board
@@ -8,7 +8,7 @@ use Rattle.job_text.specs.Files.{IsFree, IsWhole}
 use Rattle.job_text.specs.Body.{Job, IsJob}
 use Rattle.campaign.specs.Stops as stops
 use Rattle.campaign.specs.Stops.{IsUntouched}
-use Rattle.campaign.specs.Campaign.{goal_of, IsEntered, AllGoOn, last_at, IsCampaign, IsSafe}
+use Rattle.campaign.specs.Campaign.{goal_of, AllGoOn, last_at, IsCampaign, IsSafe}
 use Rattle.campaign.proofs.CampaignLemmas.{in_turn, reads, one, enters, campaigns_are_safe}
 use Rattle.command_words.specs.Files.{FilesAsked}
 use Rattle.command_files.specs.Inputs.{FilesGiven}
@@ -16,7 +16,7 @@ use Rattle.command_files.specs.Files.{Aim}
 use Rattle.command_answers.specs.Call.{Call}
 use Rattle.job_commands.specs.GoOn.{GoOnAnswers}
 use Rattle.job_commands.specs.Program.{HasAlgorithm, job_for, ProgramAnswers}
-use Rattle.job_commands.specs.Law.{aim_of, asked_by, later_call, LaterCall, AllAnswer, IsFirst, AllFollow, calls_of, campaign_of, AreSafe, IsSafeFrom}
+use Rattle.job_commands.specs.Law.{aim_of, asked_by, later_call, LaterCall, AllAnswer, IsFirst, AllFollow, calls_of, campaign_of, IsSafeFrom}
 use Rattle.job_commands.proofs.LawLemmas.{later_keeps, first_keeps}
 
 -- the later calls, each with a moment of its close, go on as those of a campaign do

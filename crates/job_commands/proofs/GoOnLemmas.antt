@@ -1,5 +1,5 @@
 -- The end of `resume` and `revert`.
-use Rattle.std.proofs.Common.{◌≡◌, refl, ℕ, Bool, true, IsTrue, List, [], length}
+use Rattle.std.proofs.Common.{◌≡◌, refl, ℕ, Bool, IsTrue, List, [], length}
 use Rattle.bench_model.specs.History.{left}
 use Rattle.bench_model.specs.State.{BenchState, cells_half}
 use Rattle.bench_model.specs.Calls.{SameOutside}

@@ -1,5 +1,5 @@
 -- Which refusals a step has.
-use Rattle.std.proofs.Common.{◌≡◌, refl, true, false}
+use Rattle.std.proofs.Common.{refl}
 use Rattle.job_file.specs.declared.fault.OpenFault.TheVariants as opening
 use Rattle.job_file.specs.declared.fault.BeginFault.{BeginFault}
 use Rattle.job_file.specs.declared.fault.BeginFault.TheVariants as beginning
@@ -7,7 +7,7 @@ use Rattle.flash_session.specs.declared.fault.SessionFault.{SessionFault}
 use Rattle.flash_session.specs.declared.fault.SessionFault.TheVariants as session
 use Rattle.flash_session.specs.declared.fault.SurveyFault.{SurveyFault}
 use Rattle.flash_session.specs.declared.fault.SurveyFault.TheVariants as survey
-use Rattle.report_text.specs.Refusal.{Refusal, out_of_memory, no_job, not_a_job, cells_differ, store_fault, device_fault, output_fault, call_failed, mismatch}
+use Rattle.report_text.specs.Refusal.{out_of_memory, no_job, not_a_job, cells_differ, store_fault, device_fault, output_fault, call_failed, mismatch}
 use Rattle.command_answers.specs.Call.{BenchCall, SinkCall, Answer, done, refused}
 use Rattle.command_answers.specs.Answered.{has_resume, OnlyLooked, StandsEarly, IsOf}
 use Rattle.job_commands.specs.Steps.{of_session, of_survey, of_begin, has_script, has_begin, begun}
@@ -15,7 +15,6 @@ use Rattle.job_commands.specs.Steps.{of_session, of_survey, of_begin, has_script
 -- an answer of the script is one of the whole work
 pub script_kind : (answer : Answer) → IsOf has_script answer → IsOf has_resume answer
 script_kind done kind = tt
-script_kind (refused out_of_memory) kind = refl
 script_kind (refused store_fault) kind = refl
 script_kind (refused device_fault) kind = refl
 script_kind (refused output_fault) kind = refl
@@ -26,7 +25,6 @@ script_kind (refused r) kind = absurd (cc)
 -- and comes late
 pub script_stands : (bench : BenchCall) (out : SinkCall) (answer : Answer) → IsOf has_script answer → StandsEarly OnlyLooked bench out answer
 script_stands bench out done kind = tt
-script_stands bench out (refused out_of_memory) kind = tt
 script_stands bench out (refused store_fault) kind = tt
 script_stands bench out (refused device_fault) kind = tt
 script_stands bench out (refused output_fault) kind = tt
@@ -46,6 +44,7 @@ session_kind session.DeviceFault = refl
 pub survey_kind : (fault : SurveyFault) → IsOf has_resume (refused (of_survey fault))
 survey_kind survey.OutOfMemory = refl
 survey_kind survey.DeviceFault = refl
+survey_kind survey.StoreFault = refl
 
 pub begin_kind : (fault : BeginFault) → IsOf has_begin (refused (of_begin fault))
 begin_kind beginning.OutOfMemory = refl

@@ -1,14 +1,12 @@
 -- What a call answers is what a campaign asks of it.
-use Rattle.std.proofs.Common.{◌≡◌, ◌≢◌, ◌⊎◌, ⊎_elim, inl, inr, refl, ◌≤◌, ◌<◌, ◌+◌, ◌∙◌, ℕ, Bool, true, List, ◌∷◌, replicate, IsTrue, sym, ap, subst, arith}
+use Rattle.std.proofs.Common.{◌≡◌, ◌≢◌, ⊎_elim, inl, inr, refl, ◌≤◌, ◌+◌, ◌∙◌, ℕ, Bool, true, List, ◌∷◌, replicate, IsTrue, sym, ap, subst, arith}
 use Rattle.std.proofs.lemmas.Bool.{cases_eq}
 use Rattle.std.proofs.lemmas.List.{length-replicate}
-use Rattle.bench_model.specs.History.{left}
-use Rattle.bench_model.specs.State.{BenchState, cells_half, Left}
-use Rattle.bench_model.specs.Calls.{OnlyReads, SameOutside}
-use Rattle.board_file.specs.Shown as board
+use Rattle.bench_model.specs.State.{BenchState, Left}
+use Rattle.bench_model.specs.Calls.{OnlyReads}
 use Rattle.flm_descriptor.specs.Shown as flm
 use Rattle.job_text.specs.Files.{IsFree, IsWhole}
-use Rattle.job_text.specs.Body.{Job, body_of, IsJob}
+use Rattle.job_text.specs.Body.{Job, body_of}
 use Rattle.job_text.specs.Stands.{IsSomeJob}
 use Rattle.campaign.specs.Stops as stops
 use Rattle.campaign.specs.Stops.{WorkStops}

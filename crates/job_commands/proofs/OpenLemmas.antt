@@ -1,5 +1,5 @@
 -- What the class of the file at entry says of the answer.
-use Rattle.std.proofs.Common.{◌≡◌, ◌≢◌, ◌⊎◌, inl, inr, refl, ◌∙◌, ℕ, Bool, true, IsTrue, List, [], ◌∷◌, Ok, Err, sym, ap, subst}
+use Rattle.std.proofs.Common.{◌≡◌, ◌⊎◌, inl, inr, refl, ◌∙◌, ℕ, Bool, List, ◌∷◌, Ok, Err, sym, ap, subst}
 use Rattle.outside_io.specs.State.{SinkState}
 use Rattle.bench_model.specs.State.{BenchState, Left}
 use Rattle.bench_model.specs.Calls.{OnlyReads, SameOutside}
@@ -143,7 +143,9 @@ pub refuses_survey : (tells sinks : Bool) (a m : BenchState) (p : SinkState) (w 
     → (fault : SurveyFault) → Carries (bench_call tells a m) (sink_call sinks p p) (Left a) w (refused (of_survey fault))
 refuses_survey tells sinks a m p w whole surveyed same outside pairs cells survey.OutOfMemory = no_memory tells sinks a m p w whole surveyed same outside pairs cells
 refuses_survey tells sinks a m p w whole surveyed same outside pairs cells survey.DeviceFault = no_device tells sinks a m p w whole surveyed same outside pairs cells
+refuses_survey tells sinks a m p w whole surveyed same outside pairs cells survey.StoreFault = no_store tells sinks a m p w whole surveyed same outside pairs cells
 
 pub survey_stands : (bench : BenchCall) (out : SinkCall) (fault : SurveyFault) → StandsEarly OnlyLooked bench out (refused (of_survey fault))
 survey_stands bench out survey.OutOfMemory = tt
 survey_stands bench out survey.DeviceFault = tt
+survey_stands bench out survey.StoreFault = tt

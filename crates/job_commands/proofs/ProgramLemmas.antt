@@ -1,10 +1,9 @@
 -- From the steps of `program` to its end.
-use Rattle.std.proofs.Common.{◌≡◌, ◌≢◌, ◌⊎◌, ⊎_elim, ◌≤◌, ◌∙◌, inr, refl, sym, ap, subst, ℕ, Bool, true, IsTrue, List, length, Some, None}
+use Rattle.std.proofs.Common.{◌≡◌, ◌≢◌, ◌⊎◌, ⊎_elim, ◌∙◌, inr, refl, sym, subst, ℕ, Bool, true, IsTrue, List, length, Some, None}
 use Rattle.bench_model.specs.History.{left}
 use Rattle.bench_model.specs.State.{BenchState, cells_half}
 use Rattle.bench_model.specs.Calls.{SameOutside}
 use Rattle.outside_io.specs.State.{SinkState}
-use Rattle.byte_map.specs.Image.{Run}
 use Rattle.board_file.specs.Shown as board
 use Rattle.flm_descriptor.specs.Shown as flm
 use Rattle.job_text.specs.Body.{Job, IsJob}
@@ -16,8 +15,7 @@ use Rattle.report_text.specs.Refusal.{Refusal, out_of_memory, input_fault, flm_r
 use Rattle.command_words.specs.Files.{FilesAsked, names_in}
 use Rattle.command_files.specs.Inputs.{InputsCall, FilesGiven, AreFiles}
 use Rattle.command_files.specs.Files.{Aim, IsAim, IsRefused}
-use Rattle.command_files.specs.Steps.{IsTakeFault, IsFilesRefusal, TookFiles, task_aim, IsTask}
-use Rattle.command_files.specs.declared.task.Task.{Task}
+use Rattle.command_files.specs.Steps.{IsTakeFault, IsFilesRefusal, TookFiles}
 use Rattle.command_answers.specs.Call.{BenchCall, SinkCall, Answer, done, refused, bench_call, sink_call}
 use Rattle.command_answers.specs.Answered.{fault_in, has_program, Refuses, OnlyLooked, StandsEarly, IsOf}
 use Rattle.command_answers.specs.Reading.{ShowsFiles}

@@ -3,19 +3,19 @@ use Rattle.std.proofs.Common.{◌≡◌, ◌⊎◌, ◌≤◌, ◌+◌, ◌^◌,
 use Rattle.outside_io.specs.State.{SinkState}
 use Rattle.bench_model.specs.History.{left, AddsNothing, LeftOnly}
 use Rattle.bench_model.specs.State.{BenchState, file_half, cells_half, Left}
-use Rattle.bench_model.specs.Calls.{SameOutside, FileStays}
+use Rattle.bench_model.specs.Calls.{SameOutside}
 use Rattle.bench_model.specs.Pairs.{PairsLeave}
-use Rattle.bench_model.proofs.Moments.{adds_nothing_then, only_then}
+use Rattle.bench_model.proofs.Moments.{adds_nothing_then, still_only}
 use Rattle.page_geometry.specs.Layout.{Layout}
 use Rattle.erase_planner.specs.Plans.{Chosen}
-use Rattle.readback.specs.Readback.{OnlyReadsCells}
 use Rattle.flm_descriptor.specs.Shown as flm
 use Rattle.job_text.specs.Files.{IsWhole}
-use Rattle.job_text.specs.Stands.{StandsFor}
+use Rattle.job_text.specs.Stands.{StandsFor, snapshot_in}
 use Rattle.job_text.specs.declared.job.Job as code
 use Rattle.job_text.proofs.ClassLemmas.{some_job}
 use Rattle.flash_session.specs.declared.fault.SurveyFault.{SurveyFault}
 use Rattle.flash_session.specs.declared.goal.Goal.{Goal}
+use Rattle.flash_session.specs.Reads.{IsRead}
 use Rattle.flash_session.specs.Surveys.{Surveyed, HasSurveyed}
 use Rattle.report_text.specs.Plan.{plan_text}
 use Rattle.report_text.specs.Refusal.{output_fault}
@@ -32,10 +32,10 @@ pub whole_behind : (text file : List ℕ) → IsWhole text file → IsWhole (dro
 whole_behind text file whole = subst (λ (f : List ℕ). f ≡ 165 ∷ drop 1 f) (sym whole) refl
 
 -- the addresses of a surveyed device are below 2 ^ 32
-pub fits_memory : (tells : Bool) (j : code.Job) (goal : Goal) (cells : List ℕ) (o : Option Surveyed) → IsSomeAnd o (λ v. HasSurveyed tells j goal cells v)
+pub fits_memory : (tells : Bool) (j : code.Job) (goal : Goal) (file cells : List ℕ) (o : Option Surveyed) → IsSomeAnd o (λ v. HasSurveyed tells j goal file cells v)
     → (geometry : Layout) → IfSome o (λ v. geometry ≡ v.layout) → j.algorithm.device.base + geometry.size ≤ 2 ^ 32
-fits_memory tells j goal cells None has geometry is = absurd has
-fits_memory tells j goal cells (Some v) has geometry is =
+fits_memory tells j goal file cells None has geometry is = absurd has
+fits_memory tells j goal file cells (Some v) has geometry is =
     let size : geometry.size ≡ j.algorithm.device.size = ap (λ (l : Layout). l.size) (is ∙ has.layout) in
     omega (arith, size, j.algorithm.in_memory)
 
@@ -43,27 +43,27 @@ module _ (tells sinks : Bool) (told : IsTrue tells) (a b m : BenchState) (goal :
     (sized : j.algorithm.device.size ≡ a.cell_count) (file : b.file ≡ a.file) (same : SameOutside a.operation a.cells b.cells)
     (only : LeftOnly a.file (file_half b)) (open_pairs : PairsLeave a b (Left a)) (halves : AddsNothing (cells_half a) (cells_half b))
     (exact : (x : List ℕ) → left (cells_half a) x → SameOutside a.operation a.cells x)
-    (reads : OnlyReadsCells tells b m) (pairs : PairsLeave b m (Left b)) where
+    (reads : IsRead tells b m) (pairs : PairsLeave b m (Left b)) where
   abbrev w : Work
   w = session_work goal j stands.text m.cells
 
   outside : SameOutside a.operation a.cells m.cells
-  outside = subst (λ (x : List ℕ). SameOutside a.operation a.cells x) (sym (reads.cells told)) same
+  outside = subst (λ (x : List ℕ). SameOutside a.operation a.cells x) (sym (reads.cells.cells told)) same
 
   pub file_is : m.file ≡ a.file
-  file_is = reads.file.file ∙ file
+  file_is = reads.file.file told ∙ file
 
   its_pairs : PairsLeave a m (λ f c. Left a f c ⊎ IsWhole (body w) f)
   its_pairs = looked (body w) stands.whole only open_pairs pairs
 
   still : AsEntered a m
-  still = entered a m exact (adds_nothing_then halves reads.moments)
+  still = entered a m exact (adds_nothing_then halves reads.cells.moments)
 
-  pub still_whole : IsWhole (drop 1 m.file) m.file
-  still_whole = whole_behind (body w) m.file (file_is ∙ stands.whole)
+  pub still_stands : StandsFor j m.file
+  still_stands = subst (λ (f : List ℕ). StandsFor j f) (sym file_is) stands
 
   pub still_left : LeftOnly m.file (file_half m)
-  still_left = subst (λ (f : List ℕ). LeftOnly f (file_half m)) (sym file_is) (only_then a.file reads.file.half only)
+  still_left = subst (λ (f : List ℕ). LeftOnly f (file_half m)) (sym file_is) (still_only a.file reads.file.moments only)
 
   -- the survey failed
   pub unsurveyed : (p : SinkState) (fault : SurveyFault) → GoesOnFrom goal (bench_call tells a m) (sink_call sinks p p) (refused (of_survey fault))
@@ -71,16 +71,17 @@ module _ (tells sinks : Bool) (told : IsTrue tells) (a b m : BenchState) (goal :
       (refuses_survey tells sinks a m p w stands.whole outside file_is outside its_pairs still fault)
 
   -- It found this.
-  module _ (o : Option Surveyed) (found : IsSomeAnd o (λ v. HasSurveyed tells j goal b.cells v)) where
-    pub found_here : IsSomeAnd o (λ v. HasSurveyed tells j goal m.cells v)
-    found_here = subst (λ (c : List ℕ). IsSomeAnd o (λ v. HasSurveyed tells j goal c v)) (sym (reads.cells told)) found
+  module _ (o : Option Surveyed) (found : IsSomeAnd o (λ v. HasSurveyed tells j goal b.file b.cells v)) where
+    pub found_here : IsSomeAnd o (λ v. HasSurveyed tells j goal m.file m.cells v)
+    found_here = subst (λ (f : List ℕ). IsSomeAnd o (λ v. HasSurveyed tells j goal f m.cells v)) (sym (reads.file.file told))
+        (subst (λ (c : List ℕ). IsSomeAnd o (λ v. HasSurveyed tells j goal b.file c v)) (sym (reads.cells.cells told)) found)
 
-    shown_from : (q : Option Surveyed) → IsSomeAnd q (λ v. HasSurveyed tells j goal m.cells v) → (geometry : Layout) → IfSome q (λ v. geometry ≡ v.layout)
+    shown_from : (q : Option Surveyed) → IsSomeAnd q (λ v. HasSurveyed tells j goal m.file m.cells v) → (geometry : Layout) → IfSome q (λ v. geometry ≡ v.layout)
         → (made : Chosen) → IfSome q (λ v. made ≡ v.plan) → plan_text geometry j.algorithm.device.base made ≡ shown_plan w
     shown_from None has geometry lays made plans = absurd has
     shown_from (Some v) has geometry lays made plans =
         let layouts : geometry ≡ layout_of (flm.shown j.algorithm) = lays ∙ has.layout in
-        let chosen_is : made ≡ plan_of w = plans ∙ plan_is tells told j goal stands.text stands.image stands.snapshot m.cells v has in
+        let chosen_is : made ≡ plan_of w = plans ∙ plan_is tells told j goal stands.text stands.image m.file (stands.snapshot ∙ ap (λ (f : List ℕ). snapshot_in j f) (sym file_is)) m.cells v has in
         ap (λ (l : Layout). plan_text l j.algorithm.device.base made) layouts
         ∙ ap (λ (c : Chosen). plan_text (layout_of (flm.shown j.algorithm)) j.algorithm.device.base c) chosen_is
 
@@ -98,16 +99,16 @@ module _ (tells sinks : Bool) (told : IsTrue tells) (a b m : BenchState) (goal :
 
       -- what follows is of the same job
       finished_as : (k : code.Job) (d : BenchState) (out : SinkCall) (answer : Answer) → k ≡ j
-          → ((s : StandsFor k m.file) → IsSomeAnd o (λ v. HasSurveyed tells k goal m.cells v) → Finishes (bench_call tells m d) out (session_work goal k s.text m.cells) answer)
+          → ((s : StandsFor k m.file) → IsSomeAnd o (λ v. HasSurveyed tells k goal m.file m.cells v) → Finishes (bench_call tells m d) out (session_work goal k s.text m.cells) answer)
           → Finishes (bench_call tells m d) out w answer
       finished_as k d out answer is finishes =
-          subst (λ (i : code.Job). (s : StandsFor i m.file) → IsSomeAnd o (λ v. HasSurveyed tells i goal m.cells v)
+          subst (λ (i : code.Job). (s : StandsFor i m.file) → IsSomeAnd o (λ v. HasSurveyed tells i goal m.file m.cells v)
           → Finishes (bench_call tells m d) out (session_work goal i s.text m.cells) answer) is finishes
-          (record { text = stands.text; is = stands.is; whole = file_is ∙ stands.whole; image = stands.image; snapshot = stands.snapshot })
+          (record { text = stands.text; is = stands.is; whole = file_is ∙ stands.whole; image = stands.image; snapshot = stands.snapshot ∙ ap (λ (f : List ℕ). snapshot_in j f) (sym file_is) })
           found_here
 
       pub finished : (k : code.Job) (d : BenchState) (p q r : SinkState) (answer : Answer) → k ≡ j → TookAll (sink_call sinks p q) (plan_text geometry base made)
-          → ((s : StandsFor k m.file) → IsSomeAnd o (λ v. HasSurveyed tells k goal m.cells v)
+          → ((s : StandsFor k m.file) → IsSomeAnd o (λ v. HasSurveyed tells k goal m.file m.cells v)
           → Finishes (bench_call tells m d) (sink_call sinks q r) (session_work goal k s.text m.cells) answer)
           → GoesOnFrom goal (bench_call tells a d) (sink_call sinks p r) answer
       finished k d p q r answer is took finishes = only_stands tells a d (sink_call sinks p r) goal answer (some_job j a.file stands) sized m.cells

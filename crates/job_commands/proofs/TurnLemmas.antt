@@ -1,7 +1,7 @@
 -- A stretch of moments before pairs, or cells, in turn.
-use Rattle.std.proofs.Common.{◌≡◌, ⊎_elim, ◌≤◌, ◌<◌, ◌+◌, ℕ, List, arith}
+use Rattle.std.proofs.Common.{⊎_elim, ◌≤◌, ◌<◌, ◌+◌, ℕ, List, arith}
 use Rattle.std.proofs.lemmas.Bool.{cases_lt}
-use Rattle.bench_model.specs.History.{GoesOn, Leaves}
+use Rattle.bench_model.specs.History.{Leaves}
 use Rattle.bench_model.specs.State.{BenchState, cells_half}
 use Rattle.bench_model.specs.Pairs.{PairsLeave, PairsInTurn}
 use Rattle.bench_model.proofs.Moments.{goes_then}

@@ -34,11 +34,11 @@ pub record EndsBeforePlan (bench : BenchCall) (out : SinkCall) (w : Work) : Type
   pub cells : IsAsEntered bench bench.after.cells
   pub prints : TookNothing out
 
--- For want of memory, before any cell was changed: the file is as at entry, or stands for the job. The plan may be printed.
+-- For want of memory, before any cell was changed and anything was printed: the file is as at entry, or stands for the job.
 pub record EndsWithoutMemory (bench : BenchCall) (out : SinkCall) (w : Work) : Type 0 where
   pub file : HasJob bench.after w ⊎ (bench.after.file ≡ bench.before.file)
   pub cells : IsAsEntered bench bench.after.cells
-  pub prints : TookNothing out ⊎ TookAll out (shown_plan w)
+  pub prints : TookNothing out
 
 -- In the plan's text: a beginning of it went out, and the cells are as surveyed.
 pub record EndsInPlan (bench : BenchCall) (out : SinkCall) (w : Work) : Type 0 where
@@ -75,7 +75,7 @@ abbrev pub Comes : BenchCall → SinkCall → Work → Broken → Answer → Typ
 Comes bench out w broken done = HasClosed bench.after w broken × TookAll out (shown_plan w ++ done_text)
 Comes bench out w broken (refused out_of_memory) = EndsWithoutMemory bench out w
 Comes bench out w broken (refused (input_fault name)) = Unit {0}
-Comes bench out w broken (refused store_fault) = EndsBeforePlan bench out w ⊎ EndsInClose bench out w broken
+Comes bench out w broken (refused store_fault) = EndsBeforePlan bench out w ⊎ (EndsInScript bench out w (Breaks w broken bench.after) ⊎ EndsInClose bench out w broken)
 Comes bench out w broken (refused device_fault) = EndsBeforePlan bench out w ⊎ EndsInScript bench out w (Breaks w broken bench.after)
 Comes bench out w broken (refused output_fault) = EndsInPlan bench out w ⊎ (HasClosed bench.after w broken × TookPart out (shown_plan w ++ done_text))
 Comes bench out w broken (refused (call_failed number call end)) = EndsInScript bench out w (Fails w broken number call end bench.after.cells)

@@ -1,6 +1,6 @@
 -- What the steps of the work on a job answer.
-use Rattle.std.specs.Prelude.{◌≡◌, ◌≢◌, ◌⊎◌, ◌≤◌, ◌++◌, ◌↔◌, ℕ, Bool, true, false, List, ◌∷◌}
-use Rattle.bench_model.specs.State.{BenchState, cells_half}
+use Rattle.std.specs.Prelude.{◌≡◌, ◌≢◌, ◌⊎◌, ◌≤◌, ◌↔◌, ℕ, Bool, true, false, List}
+use Rattle.bench_model.specs.State.{cells_half}
 use Rattle.bench_model.specs.History.{Leaves}
 use Rattle.bench_model.specs.Pairs.{PairsInTurn}
 use Rattle.board_file.specs.Shown as board
@@ -43,6 +43,7 @@ of_session session.DeviceFault = device_fault
 abbrev pub of_survey : SurveyFault → Refusal
 of_survey survey.OutOfMemory = out_of_memory
 of_survey survey.DeviceFault = device_fault
+of_survey survey.StoreFault = store_fault
 
 abbrev pub of_begin : BeginFault → Refusal
 of_begin beginning.OutOfMemory = out_of_memory
@@ -56,7 +57,6 @@ of_begin (beginning.NotAJob at) = not_a_job at
 
 -- those of the script and what follows: none of them refuses the file
 abbrev pub has_script : Refusal → Bool
-has_script out_of_memory = true
 has_script store_fault = true
 has_script device_fault = true
 has_script output_fault = true
@@ -97,8 +97,7 @@ session_work goal j text cells = work_to goal text (board.shown j.board) (flm.sh
 -- From the script on, where the plan is printed: when each answer comes.
 abbrev pub FinishComes : BenchCall → SinkCall → Work → Broken → Answer → Type 0
 FinishComes bench out w broken done = HasClosed bench.after w broken × TookAll out done_text
-FinishComes bench out w broken (refused out_of_memory) = HasJob bench.after w × (bench.after.cells ≡ w.surveyed) × TookNothing out
-FinishComes bench out w broken (refused store_fault) = (HasJob bench.after w ⊎ IsFree bench.after.file) × HasReached bench.after w broken × TookNothing out
+FinishComes bench out w broken (refused store_fault) = ((HasJob bench.after w × Breaks w broken bench.after) ⊎ ((HasJob bench.after w ⊎ IsFree bench.after.file) × HasReached bench.after w broken)) × TookNothing out
 FinishComes bench out w broken (refused device_fault) = HasJob bench.after w × Breaks w broken bench.after × TookNothing out
 FinishComes bench out w broken (refused output_fault) = HasClosed bench.after w broken × TookPart out done_text
 FinishComes bench out w broken (refused (call_failed number call end)) = HasJob bench.after w × Fails w broken number call end bench.after.cells × TookNothing out

@@ -1,8 +1,7 @@
 //! A job is carried to its goal.
-ghost use Rattle.std.specs.Prelude.{◌≡◌, drop, IsTrue, IsSome, IsSomeAnd, None};
+ghost use Rattle.std.specs.Prelude.{◌≡◌, IsTrue, IsSome, IsSomeAnd, None};
 ghost use Rattle.bench_model.specs.History.{GoesOn, LeftOnly};
 ghost use Rattle.bench_model.specs.State.{file_half};
-ghost use Rattle.job_text.specs.Files.{IsWhole};
 ghost use Rattle.job_text.specs.Stands.{StandsFor};
 ghost use Rattle.flash_session.specs.declared.goal.Goal as goals;
 ghost use Rattle.flash_session.specs.Sessions.{job_in, surveyed};
@@ -22,7 +21,6 @@ use std::alloc::Global;
 
 /// Plays the script of the last survey, and closes the job where the goal is reached.
 fn finish<'a, B: Bench, O: Sink>(
-    alloc: Global,
     session: &mut Session,
     bench: &mut B,
     out: &mut O,
@@ -30,17 +28,17 @@ fn finish<'a, B: Bench, O: Sink>(
     requires surveyed { IsSome (surveyed session.old) }
     requires count { (B.state bench.old).cell_count ≡ (job_in session.old).algorithm.device.size }
     requires idle { IsTrue B.tells → (B.state bench.old).operation ≡ None }
-    requires whole { IsTrue B.tells → IsWhole (drop 1 (B.state bench.old).file) (B.state bench.old).file }
+    requires stands { IsTrue B.tells → StandsFor (job_in session.old) (B.state bench.old).file }
     requires only { IsTrue B.tells → LeftOnly (B.state bench.old).file (file_half (B.state bench.old)) }
     ensures told { IsTrue B.tells → (goal : goals.Goal) (stands : StandsFor (job_in session.old) (B.state bench.old).file)
-        → IsSomeAnd (surveyed session.old) (λ w. HasSurveyed B.tells (job_in session.old) goal (B.state bench.old).cells w)
+        → IsSomeAnd (surveyed session.old) (λ w. HasSurveyed B.tells (job_in session.old) goal (B.state bench.old).file (B.state bench.old).cells w)
         → Finishes (bench_call B.tells (B.state bench.old) (B.state bench.new)) (sink_call O.tells (O.state out.old) (O.state out.new))
         (session_work goal (job_in session.old) stands.text (B.state bench.old).cells) (answer_of result) }
     ensures kind { IsOf has_script (answer_of result) }
     ensures goes_on { IsTrue B.tells → GoesOn (file_half (B.state bench.old)) (file_half (B.state bench.new)) }
     ensures counts { BenchCounted (bench_call B.tells (B.state bench.old) (B.state bench.new)) (sink_call O.tells (O.state out.old) (O.state out.new)) (answer_of result) }
 {
-    match session.go(alloc, bench) {
+    match session.go(bench) {
         SessionEnd::Reached(reached) => match reached.close(session, bench) {
             Ok(()) => match put_end(out, End::Done) {
                 Ok(()) => Ok(()),
@@ -57,7 +55,7 @@ fn finish<'a, B: Bench, O: Sink>(
             Err(Refusal::CallFailed { number, call, end })
         }
         SessionEnd::DeviceFault => Err(Refusal::DeviceFault),
-        SessionEnd::OutOfMemory => Err(Refusal::OutOfMemory),
+        SessionEnd::StoreFault => Err(Refusal::StoreFault),
     }
 }
 
@@ -88,5 +86,5 @@ pub(crate) fn carry<'a, B: Bench, O: Sink>(
         Ok(()) => {}
         Err(_) => return Err(Refusal::OutputFault),
     }
-    finish(alloc, &mut session, bench, out)
+    finish(&mut session, bench, out)
 }

@@ -32,6 +32,7 @@ pub(crate) fn survey_refusal<'a>(fault: SurveyFault) -> Refusal<'a>
     match fault {
         SurveyFault::OutOfMemory => Refusal::OutOfMemory,
         SurveyFault::DeviceFault => Refusal::DeviceFault,
+        SurveyFault::StoreFault => Refusal::StoreFault,
     }
 }
 

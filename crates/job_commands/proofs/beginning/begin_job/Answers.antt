@@ -1,4 +1,4 @@
-use Rattle.std.proofs.Common.{◌≡◌, ◌∙◌, refl, sym, ap, subst, arith, ℕ, List, length}
+use Rattle.std.proofs.Common.{◌≡◌, ◌∙◌, refl, sym, subst, length}
 use Rattle.bench_model.specs.State.{Left}
 use Rattle.job_text.specs.Parts.{job_of}
 use Rattle.flash_session.specs.declared.goal.Goal.TheVariants.{New}

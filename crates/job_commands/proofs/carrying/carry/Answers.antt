@@ -1,16 +1,18 @@
-use Rattle.std.proofs.Common.{◌≡◌, ◌∙◌, refl, sym, ap, subst, ℕ, List, IsSomeAnd, IsTrue}
+use Rattle.std.proofs.Common.{◌≡◌, ◌∙◌, refl, sym, ap, subst, ℕ, List}
 use Rattle.job_text.specs.declared.job.Job as code
+use Rattle.job_text.specs.Stands.{StandsFor}
 use Rattle.flash_session.specs.Sessions.{job_in, surveyed}
-use Rattle.flash_session.specs.Surveys.{Surveyed, HasSurveyed}
 use Rattle.report_text.specs.Refusal.{Refusal}
 use Rattle.command_answers.specs.Answered.{has_resume, OnlyLooked, StandsEarly, IsOf}
 use Rattle.command_answers.specs.Call.{bench_call, sink_call, refused}
 use Rattle.command_answers.specs.Shown.{answer_of}
 use Rattle.job_commands.specs.GoOn.{GoesOnFrom}
+use Rattle.job_commands.specs.Steps.{BenchCounted}
 use Rattle.job_commands.proofs.CarryLemmas.{entered}
+use Rattle.job_commands.proofs.CountLemmas.{survey_counted}
 use Rattle.job_commands.proofs.KindLemmas.{script_kind, script_stands, session_kind, survey_kind}
 use Rattle.job_commands.proofs.OpenLemmas.{refuses_open, open_stands, survey_stands}
-use Rattle.job_commands.proofs.SurveyLemmas.{fits_memory, still_whole, still_left, unsurveyed, cut_in_plan, finished}
+use Rattle.job_commands.proofs.SurveyLemmas.{fits_memory, still_stands, still_left, unsurveyed, cut_in_plan, finished}
 use Rattle.job_commands.proofs.carrying.carry.Goals as goal
 
 pub returns-in-Err-clause-told : goal.returns-in-Err-clause-told
@@ -43,13 +45,22 @@ returns-in-Err-survey-clause-told g c = λ told.
     subst (λ (r : Refusal). GoesOnFrom c.args.goal (bench_call g.B.Bench.tells a m) (sink_call g.O.Sink.tells o o) (refused r)) (sym c.survey_refusal.ensures)
     (unsurveyed g.B.Bench.tells g.O.Sink.tells told a b m c.args.goal (job_in c.in-Ok.session) (c.in-Ok.ensures.ok told) (c.in-Ok.ensures.sized ∙ c.open.ensures.count)
     (c.open.ensures.file told) (c.open.ensures.same told) (c.in-Ok.ensures.only told) c.open.ensures.pairs c.open.ensures.halves
-    (λ x at. (g.met.B.Bench.as_told c.args.bench.now x told).0 at) c.survey.ensures.bench c.survey.ensures.pairs o c.in-Err-survey.fault)
+    (λ x at. (g.met.B.Bench.as_told c.args.bench.now x told).0 at) c.survey.ensures.reads c.survey.ensures.pairs o c.in-Err-survey.fault)
 
 pub returns-in-Err-survey-clause-early : goal.returns-in-Err-survey-clause-early
 returns-in-Err-survey-clause-early g c =
     let bench = bench_call g.B.Bench.tells (g.B.Bench.state c.args.bench.now) (g.B.Bench.state c.survey.new.bench) in
     let out = sink_call g.O.Sink.tells (g.O.Sink.state c.args.out.now) (g.O.Sink.state c.args.out.now) in
     subst (λ (r : Refusal). StandsEarly OnlyLooked bench out (refused r)) (sym c.survey_refusal.ensures) (survey_stands bench out c.in-Err-survey.fault)
+
+pub returns-in-Err-survey-clause-counts : goal.returns-in-Err-survey-clause-counts
+returns-in-Err-survey-clause-counts g c =
+    let a = g.B.Bench.state c.args.bench.now in
+    let b = g.B.Bench.state c.open.new.bench in
+    let m = g.B.Bench.state c.survey.new.bench in
+    let o = g.O.Sink.state c.args.out.now in
+    subst (λ (r : Refusal). BenchCounted (bench_call g.B.Bench.tells a m) (sink_call g.O.Sink.tells o o) (refused r)) (sym c.survey_refusal.ensures)
+    (survey_counted g.B.Bench.tells g.O.Sink.tells a b m o c.in-Err-survey.fault (c.in-Ok.ensures.store.on_other refl) (c.in-Ok.ensures.device.on_other refl) c.in-Err-survey.ensures.store c.in-Err-survey.ensures.device)
 
 pub returns-in-Err-survey-clause-kind : goal.returns-in-Err-survey-clause-kind
 returns-in-Err-survey-clause-kind g c = subst (λ (r : Refusal). IsOf has_resume (refused r)) (sym c.survey_refusal.ensures) (survey_kind c.in-Err-survey.fault)
@@ -62,7 +73,7 @@ returns-in-Err-put_plan-clause-told g c = λ told.
     let puts = c.in-Err-put_plan.ensures in
     cut_in_plan g.B.Bench.tells g.O.Sink.tells told a b m c.args.goal (job_in c.in-Ok.session) (c.in-Ok.ensures.ok told) (c.in-Ok.ensures.sized ∙ c.open.ensures.count)
     (c.open.ensures.file told) (c.open.ensures.same told) (c.in-Ok.ensures.only told) c.open.ensures.pairs c.open.ensures.halves
-    (λ x at. (g.met.B.Bench.as_told c.args.bench.now x told).0 at) c.survey.ensures.bench c.survey.ensures.pairs
+    (λ x at. (g.met.B.Bench.as_told c.args.bench.now x told).0 at) c.survey.ensures.reads c.survey.ensures.pairs
     (surveyed c.survey.new.self) c.in-Ok-survey.ensures.ok c.geometry.result.now c.geometry.ensures c.plan.result.now.made c.plan.ensures
     c.job.result.now.algorithm.device.base (ap (λ (j : code.Job). j.algorithm.device.base) (c.job.ensures ∙ c.survey.ensures.job))
     (g.O.Sink.state c.args.out.now) (g.O.Sink.state c.put_plan.new.out) (record { taken = puts.err; later = puts.cause.later; rose = puts.cause.on_fault refl })
@@ -70,7 +81,7 @@ returns-in-Err-put_plan-clause-told g c = λ told.
 pub put_plan-requires : goal.put_plan-requires
 put_plan-requires g c =
     let base : c.job.result.now.algorithm.device.base ≡ (job_in c.in-Ok.session).algorithm.device.base = ap (λ (j : code.Job). j.algorithm.device.base) (c.job.ensures ∙ c.survey.ensures.job) in
-    rw base (fits_memory g.B.Bench.tells (job_in c.in-Ok.session) c.args.goal (g.B.Bench.state c.open.new.bench).cells (surveyed c.survey.new.self) c.in-Ok-survey.ensures.ok
+    rw base (fits_memory g.B.Bench.tells (job_in c.in-Ok.session) c.args.goal (g.B.Bench.state c.open.new.bench).file (g.B.Bench.state c.open.new.bench).cells (surveyed c.survey.new.self) c.in-Ok-survey.ensures.ok
     c.geometry.result.now c.geometry.ensures)
 
 pub returns-clause-told : goal.returns-clause-told
@@ -81,7 +92,7 @@ returns-clause-told g c = λ told.
     let puts = c.in-Ok-put_plan.ensures in
     finished g.B.Bench.tells g.O.Sink.tells told a b m c.args.goal (job_in c.in-Ok.session) (c.in-Ok.ensures.ok told) (c.in-Ok.ensures.sized ∙ c.open.ensures.count)
     (c.open.ensures.file told) (c.open.ensures.same told) (c.in-Ok.ensures.only told) c.open.ensures.pairs c.open.ensures.halves
-    (λ x at. (g.met.B.Bench.as_told c.args.bench.now x told).0 at) c.survey.ensures.bench c.survey.ensures.pairs
+    (λ x at. (g.met.B.Bench.as_told c.args.bench.now x told).0 at) c.survey.ensures.reads c.survey.ensures.pairs
     (surveyed c.survey.new.self) c.in-Ok-survey.ensures.ok c.geometry.result.now c.geometry.ensures c.plan.result.now.made c.plan.ensures
     c.job.result.now.algorithm.device.base (ap (λ (j : code.Job). j.algorithm.device.base) (c.job.ensures ∙ c.survey.ensures.job))
     (job_in c.survey.new.self) (g.B.Bench.state c.finish.new.bench) (g.O.Sink.state c.args.out.now) (g.O.Sink.state c.put_plan.new.out) (g.O.Sink.state c.finish.new.out)
@@ -95,19 +106,23 @@ returns-clause-early g c = script_stands (bench_call g.B.Bench.tells (g.B.Bench.
 pub returns-clause-kind : goal.returns-clause-kind
 returns-clause-kind g c = script_kind (answer_of c.finish.result) c.finish.ensures.kind
 
-pub finish-requires-clause-whole : goal.finish-requires-clause-whole
-finish-requires-clause-whole g c = λ told.
-    still_whole g.B.Bench.tells g.O.Sink.tells told (g.B.Bench.state c.args.bench.now) (g.B.Bench.state c.open.new.bench) (g.B.Bench.state c.survey.new.bench) c.args.goal
+pub finish-requires-clause-stands : goal.finish-requires-clause-stands
+finish-requires-clause-stands g c = λ told.
+    subst (λ (j : code.Job). StandsFor j (g.B.Bench.state c.survey.new.bench).file) (sym c.survey.ensures.job)
+    (still_stands g.B.Bench.tells g.O.Sink.tells told (g.B.Bench.state c.args.bench.now) (g.B.Bench.state c.open.new.bench) (g.B.Bench.state c.survey.new.bench) c.args.goal
     (job_in c.in-Ok.session) (c.in-Ok.ensures.ok told) (c.in-Ok.ensures.sized ∙ c.open.ensures.count)
     (c.open.ensures.file told) (c.open.ensures.same told) (c.in-Ok.ensures.only told) c.open.ensures.pairs c.open.ensures.halves
-    (λ x at. (g.met.B.Bench.as_told c.args.bench.now x told).0 at) c.survey.ensures.bench c.survey.ensures.pairs
+    (λ x at. (g.met.B.Bench.as_told c.args.bench.now x told).0 at) c.survey.ensures.reads c.survey.ensures.pairs)
 
 pub finish-requires-clause-only : goal.finish-requires-clause-only
 finish-requires-clause-only g c = λ told.
     still_left g.B.Bench.tells g.O.Sink.tells told (g.B.Bench.state c.args.bench.now) (g.B.Bench.state c.open.new.bench) (g.B.Bench.state c.survey.new.bench) c.args.goal
     (job_in c.in-Ok.session) (c.in-Ok.ensures.ok told) (c.in-Ok.ensures.sized ∙ c.open.ensures.count)
     (c.open.ensures.file told) (c.open.ensures.same told) (c.in-Ok.ensures.only told) c.open.ensures.pairs c.open.ensures.halves
-    (λ x at. (g.met.B.Bench.as_told c.args.bench.now x told).0 at) c.survey.ensures.bench c.survey.ensures.pairs
+    (λ x at. (g.met.B.Bench.as_told c.args.bench.now x told).0 at) c.survey.ensures.reads c.survey.ensures.pairs
 
 pub finish-requires-clause-idle : goal.finish-requires-clause-idle
-finish-requires-clause-idle g c = λ told. c.survey.ensures.bench.operation told ∙ c.in-Ok.ensures.idle told
+finish-requires-clause-idle g c = λ told. c.survey.ensures.reads.cells.operation told ∙ c.in-Ok.ensures.idle told
+
+pub survey-requires-clause-stands : goal.survey-requires-clause-stands
+survey-requires-clause-stands g c = λ told. subst (λ (f : List ℕ). StandsFor (job_in c.in-Ok.session) f) (sym (c.open.ensures.file told)) (c.in-Ok.ensures.ok told)

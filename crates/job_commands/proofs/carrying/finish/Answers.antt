@@ -1,7 +1,12 @@
-use Rattle.std.proofs.Common.{◌≡◌, ◌+◌, ◌∙◌, refl, ap, ℕ}
+use Rattle.std.proofs.Common.{◌+◌, ◌∙◌, refl, sym, ap, subst, drop, List, ℕ}
+use Rattle.bench_model.specs.History.{LeftOnly}
+use Rattle.bench_model.specs.State.{file_half}
+use Rattle.bench_model.proofs.Moments.{still_only}
+use Rattle.job_text.specs.Files.{IsWhole}
+use Rattle.job_commands.proofs.SurveyLemmas.{whole_behind}
 use Rattle.job_text.specs.declared.job.Job as code
 use Rattle.flash_session.specs.Sessions.{job_in, surveyed}
-use Rattle.job_commands.proofs.FinishLemmas.{close_as, ends_mismatch, ends_failed, ends_at_fault, ends_unmoved, ends_done, ends_cut, ends_unclosed}
+use Rattle.job_commands.proofs.FinishLemmas.{closed_as, ends_mismatch, ends_failed, ends_at_fault, ends_unread, ends_done, ends_cut, ends_unclosed}
 use Rattle.job_commands.proofs.carrying.finish.Goals as goal
 
 pub returns-in-Mismatch-clause-told : goal.returns-in-Mismatch-clause-told
@@ -21,24 +26,23 @@ returns-in-DeviceFault-clause-told g c = λ told goal stands has.
     ends_at_fault g.B.Bench.tells g.O.Sink.tells told (job_in c.args.session.now) goal (g.B.Bench.state c.args.bench.now) (g.B.Bench.state c.go.new.bench)
     (g.O.Sink.state c.args.out.now) stands (c.requires.only told) c.go.ensures.file (surveyed c.args.session.now) has (c.go.ensures.local told) (c.in-DeviceFault.ensures.follows told)
 
-pub returns-in-OutOfMemory-clause-told : goal.returns-in-OutOfMemory-clause-told
-returns-in-OutOfMemory-clause-told g c = λ told goal stands has.
-    ends_unmoved g.B.Bench.tells g.O.Sink.tells told (job_in c.args.session.now) goal (g.B.Bench.state c.args.bench.now) (g.B.Bench.state c.go.new.bench)
-    (g.O.Sink.state c.args.out.now) stands (c.requires.only told) c.go.ensures.file (surveyed c.args.session.now) has (c.go.ensures.local told) (c.in-OutOfMemory.ensures.follows told)
-    (c.requires.idle told) (λ x at. (g.met.B.Bench.as_told c.args.bench.now x told).0 at)
+pub returns-in-StoreFault-clause-told : goal.returns-in-StoreFault-clause-told
+returns-in-StoreFault-clause-told g c = λ told goal stands has.
+    ends_unread g.B.Bench.tells g.O.Sink.tells told (job_in c.args.session.now) goal (g.B.Bench.state c.args.bench.now) (g.B.Bench.state c.go.new.bench)
+    (g.O.Sink.state c.args.out.now) stands (c.requires.only told) c.go.ensures.file (surveyed c.args.session.now) has (c.go.ensures.local told) (c.in-StoreFault.ensures.follows told)
 
 pub returns-in-Ok-put_end-clause-told : goal.returns-in-Ok-put_end-clause-told
 returns-in-Ok-put_end-clause-told g c = λ told goal stands has.
     ends_done g.B.Bench.tells g.O.Sink.tells told (job_in c.args.session.now) goal (g.B.Bench.state c.args.bench.now) (g.B.Bench.state c.go.new.bench)
     (g.O.Sink.state c.args.out.now) stands (c.requires.only told) c.go.ensures.file (surveyed c.args.session.now) has (c.go.ensures.local told) (g.B.Bench.state c.close.new.bench) c.in-Reached.reached
-    (c.in-Reached.ensures.follows told) (c.in-Reached.ensures.idle told tt) c.close.ensures.cells (close_as _ c.go.ensures.work (c.close.ensures.pairs told))
+    (c.in-Reached.ensures.follows told) (c.in-Reached.ensures.idle told tt) c.close.ensures.cells (closed_as (g.B.Bench.state c.go.new.bench) (g.B.Bench.state c.close.new.bench) (job_in c.go.new.self) (job_in c.args.session.now) (surveyed c.go.new.self) (surveyed c.args.session.now) c.go.ensures.job c.go.ensures.work (c.close.ensures.pairs told))
     (g.O.Sink.state c.put_end.new.out) (c.in-Ok.ensures.ok told).0 (record { taken = c.in-Ok-put_end.ensures.ok; faults = c.in-Ok-put_end.ensures.cause.on_ok refl })
 
 pub returns-in-Err-put_end-clause-told : goal.returns-in-Err-put_end-clause-told
 returns-in-Err-put_end-clause-told g c = λ told goal stands has.
     ends_cut g.B.Bench.tells g.O.Sink.tells told (job_in c.args.session.now) goal (g.B.Bench.state c.args.bench.now) (g.B.Bench.state c.go.new.bench)
     (g.O.Sink.state c.args.out.now) stands (c.requires.only told) c.go.ensures.file (surveyed c.args.session.now) has (c.go.ensures.local told) (g.B.Bench.state c.close.new.bench) c.in-Reached.reached
-    (c.in-Reached.ensures.follows told) (c.in-Reached.ensures.idle told tt) c.close.ensures.cells (close_as _ c.go.ensures.work (c.close.ensures.pairs told))
+    (c.in-Reached.ensures.follows told) (c.in-Reached.ensures.idle told tt) c.close.ensures.cells (closed_as (g.B.Bench.state c.go.new.bench) (g.B.Bench.state c.close.new.bench) (job_in c.go.new.self) (job_in c.args.session.now) (surveyed c.go.new.self) (surveyed c.args.session.now) c.go.ensures.job c.go.ensures.work (c.close.ensures.pairs told))
     (g.O.Sink.state c.put_end.new.out) (c.in-Ok.ensures.ok told).0
     (record { taken = c.in-Err-put_end.ensures.err; later = c.in-Err-put_end.ensures.cause.later; rose = c.in-Err-put_end.ensures.cause.on_fault refl })
 
@@ -46,4 +50,13 @@ pub returns-in-Err-clause-told : goal.returns-in-Err-clause-told
 returns-in-Err-clause-told g c = λ told goal stands has.
     ends_unclosed g.B.Bench.tells g.O.Sink.tells told (job_in c.args.session.now) goal (g.B.Bench.state c.args.bench.now) (g.B.Bench.state c.go.new.bench)
     (g.O.Sink.state c.args.out.now) stands (c.requires.only told) c.go.ensures.file (surveyed c.args.session.now) has (c.go.ensures.local told) (g.B.Bench.state c.close.new.bench) c.in-Reached.reached
-    (c.in-Reached.ensures.follows told) (c.in-Reached.ensures.idle told tt) c.close.ensures.cells (close_as _ c.go.ensures.work (c.close.ensures.pairs told)) (c.in-Err.ensures.err told)
+    (c.in-Reached.ensures.follows told) (c.in-Reached.ensures.idle told tt) c.close.ensures.cells (closed_as (g.B.Bench.state c.go.new.bench) (g.B.Bench.state c.close.new.bench) (job_in c.go.new.self) (job_in c.args.session.now) (surveyed c.go.new.self) (surveyed c.args.session.now) c.go.ensures.job c.go.ensures.work (c.close.ensures.pairs told)) (c.in-Err.ensures.err told)
+
+pub close-requires-clause-whole : goal.close-requires-clause-whole
+close-requires-clause-whole g c = λ told.
+    subst (λ (l : List ℕ). IsWhole (drop 1 l) l) (sym (c.go.ensures.file.file told)) (whole_behind _ (g.B.Bench.state c.args.bench.now).file (c.requires.stands told).whole)
+
+pub close-requires-clause-only : goal.close-requires-clause-only
+close-requires-clause-only g c = λ told.
+    subst (λ (l : List ℕ). LeftOnly l (file_half (g.B.Bench.state c.go.new.bench))) (sym (c.go.ensures.file.file told))
+    (still_only (g.B.Bench.state c.args.bench.now).file c.go.ensures.file.moments (c.requires.only told))

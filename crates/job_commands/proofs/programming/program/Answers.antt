@@ -1,6 +1,4 @@
 use Rattle.std.proofs.Common.{rules, ◌≡◌, ◌∙◌, refl, sym, ap, ℕ, List, Some, Err}
-use Rattle.board_file.specs.Shown as board
-use Rattle.flm_descriptor.specs.Shown as flm
 use Rattle.report_text.specs.Shown.{shown}
 use Rattle.command_words.specs.Requested.{files_of}
 use Rattle.command_files.specs.Inputs.{inputs_call}
