@@ -25,6 +25,7 @@ pub fn one_pair_row()
 /// The instruction of the row that the halfword fits, with the row's fields. It is `NeedsSecond` exactly where the top five
 /// bits are 11101, 11110 or 11111, and `Undefined` exactly where no row fits.
 #[tactic(auto, using(crate::proofs::TableLemmas::begins_pair))]
+#[inline(always)]
 pub fn decode16(half: u16) -> Decoded
     ensures { result ≡ decoded half }
 {

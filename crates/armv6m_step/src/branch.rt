@@ -68,6 +68,7 @@ fn link_and_exchange(core: &mut Core, next: u32, m: u8) -> Result<(), Stop>
 }
 
 /// Does the instruction, where the next one is at `next`.
+#[inline(always)]
 pub(crate) fn run(core: &mut Core, next: u32, op: Branch) -> Result<(), Stop>
     ensures { Leaves (branch core.old next op) core.old (end_of result) core.new }
 {

@@ -172,6 +172,7 @@ fn compare_high(core: &mut Core, next: u32, n: u8, m: u8) -> Result<(), Stop>
 }
 
 /// Does the instruction, where the next one is at `next`.
+#[inline(always)]
 pub(crate) fn run(core: &mut Core, next: u32, op: Alu) -> Result<(), Stop>
     ensures { Leaves (alu core.old next op) core.old (end_of result) core.new }
 {

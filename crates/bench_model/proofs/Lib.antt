@@ -1,6 +1,6 @@
 pub mod Moments
-mod RecordLemmas
+pub mod RecordLemmas
 mod MarkLemmas
-mod LeftLemmas
-mod MemoryLemmas
+pub mod LeftLemmas
+pub mod MemoryLemmas
 mod LossLemmas

@@ -3,7 +3,7 @@ use Rattle.std.proofs.Common.{◌≡◌, ◌∙◌, ◌+◌, ◌≤◌, ℕ, zer
 use Rattle.bench_model.specs.State.{BenchState}
 use Rattle.byte_map.specs.Image.{Run, byte_at, over}
 use Rattle.std.specs.Prelude.{unwrap_or}
-use Rattle.job_file.specs.Reads.{FileIsRead}
+use Rattle.bench_model.specs.Calls.{FileIsRead}
 use Rattle.job_text.specs.Stands.{StandsFor}
 use Rattle.job_text.specs.declared.job.Job.{Job}
 use Rattle.flash_session.specs.declared.goal.Goal.{Goal}

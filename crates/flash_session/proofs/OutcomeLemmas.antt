@@ -15,7 +15,7 @@ use Rattle.flash_session.specs.declared.ending.SessionEnd.TheVariants as end
 use Rattle.flash_session.specs.declared.stopped.Stopped.{Stopped}
 use Rattle.flash_session.specs.declared.stopped.Stopped.TheVariants as stopped
 use Rattle.flash_session.specs.Differs.{IsFirstDifference, Compares}
-use Rattle.flash_session.specs.Reads.{IsRead}
+use Rattle.bench_model.specs.Calls.{IsRead}
 use Rattle.flash_session.specs.Moves.{Move, Stand, Failure, failure, run, IsLeftOnWay}
 use Rattle.flash_session.specs.Drivers.{setup_for, stand_of}
 use Rattle.flash_session.specs.Plays.{IsAtBench, BreaksOff, IsNotDone, IsStop}

@@ -3,12 +3,11 @@ use Rattle.std.proofs.Common.{◌≡◌, ◌<◌, ◌≤◌, ◌+◌, ◌-◌, �
 use Rattle.std.proofs.Math.Seq.{take-add}
 use Rattle.std.proofs.lemmas.List.{get_or-take, get_or-drop, take_all, length-take, length-drop, take-take}
 use Rattle.bench_model.specs.State.{BenchState, file_half, cells_half}
-use Rattle.bench_model.specs.Calls.{OnlyReads}
+use Rattle.bench_model.specs.Calls.{OnlyReads, IsRead}
 use Rattle.bench_model.proofs.Moments.{adds_nothing_here, adds_nothing_then, stays_adds_nothing}
 use Rattle.readback.specs.Readback.{OnlyReadsCells}
 use Rattle.readback.specs.declared.compare.Difference.{Difference}
 use Rattle.flash_session.specs.Differs.{FindsIn, Compares}
-use Rattle.flash_session.specs.Reads.{IsRead}
 
 pub read_here : (tells : Bool) (s : BenchState) → IsRead tells s s
 read_here tells s = record {

@@ -6,7 +6,7 @@ use Rattle.std.proofs.lemmas.List.Elements.{All-append}
 use Rattle.bench_model.specs.State.{BenchState}
 use Rattle.page_geometry.specs.Layout.{Layout}
 use Rattle.erase_planner.specs.Marks.{PlanView, Fed, Covers}
-use Rattle.flash_session.specs.Reads.{IsRead}
+use Rattle.bench_model.specs.Calls.{IsRead}
 
 abbrev pub AreBytes : List ℕ → Type 0
 AreBytes cells = All (λ v. v < 2 ^ 8) cells

@@ -1,18 +1,12 @@
--- What reading leaves, and from where the bytes of a goal are read.
+-- From where the bytes of a goal are read, and what a read of them may end in.
 use Rattle.std.specs.Prelude.{◌≡◌, Bool, true, false, IsTrue, ℕ, List, Result, Ok, Err}
 use Rattle.bench_model.specs.State.{BenchState}
-use Rattle.job_file.specs.Reads.{FileIsRead, CellsAreRead}
 use Rattle.job_text.specs.Stands.{StandsFor}
 use Rattle.job_text.specs.declared.job.Job.{Job}
 use Rattle.flash_session.specs.declared.comparing.Unread.{Unread}
 use Rattle.flash_session.specs.declared.comparing.Unread.TheVariants as unread
 use Rattle.flash_session.specs.declared.goal.Goal.{Goal}
 use Rattle.flash_session.specs.Goals.{goal_in}
-
--- file and cells are only read
-pub record IsRead (tells : Bool) (old new : BenchState) : Type 0 where
-  pub file : FileIsRead tells old new
-  pub cells : CellsAreRead tells old new
 
 -- where the bench tells its file, that stands for the job and gives these bytes as the goal
 pub record HasGoal (tells : Bool) (j : Job) (g : Goal) (bytes : List ℕ) (b : BenchState) : Type 0 where

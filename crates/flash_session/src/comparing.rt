@@ -2,7 +2,8 @@
 ghost use Rattle.std.specs.Prelude.{◌≡◌, ◌<◌, ◌≤◌, ◌+◌, ℕ, List, length, IsTrue, IfOk, None};
 ghost use Rattle.job_file.specs.Counted.{IsCounted};
 ghost use Rattle.flash_session.specs.Differs.{Compares, FindsIn};
-ghost use Rattle.flash_session.specs.Reads.{HasGoal, IsRead, is_unread_store, is_unread_device};
+ghost use Rattle.bench_model.specs.Calls.{IsRead};
+ghost use Rattle.flash_session.specs.Reads.{HasGoal, is_unread_store, is_unread_device};
 
 use crate::goal::want_into;
 use crate::task::Task;

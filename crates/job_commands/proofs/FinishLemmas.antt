@@ -2,8 +2,7 @@
 use Rattle.std.proofs.Common.{◌≡◌, ⊎_elim, inl, inr, refl, ◌+◌, ◌∙◌, ℕ, Bool, false, IsTrue, List, [], ◌∷◌, drop, Option, Some, None, IfSome, IsSomeAnd, is_some, sym, ap, subst}
 use Rattle.bench_model.specs.History.{left, GoesOn, Leaves, LeftOnly}
 use Rattle.bench_model.specs.State.{BenchState, file_half, cells_half}
-use Rattle.bench_model.specs.Calls.{CellsStay}
-use Rattle.job_file.specs.Reads.{FileIsRead}
+use Rattle.bench_model.specs.Calls.{CellsStay, FileIsRead}
 use Rattle.bench_model.specs.Pairs.{PairsLeave}
 use Rattle.bench_model.proofs.Moments.{goes_then, pairs_of, pairs_as, stays_leaves, leaves_as, leaves_then, leaves_left, in_turn, never}
 use Rattle.byte_map.specs.Image.{Run, over}

@@ -3,7 +3,7 @@ use Rattle.std.proofs.Common.{◌≡◌, ◌⊎◌, ◌≤◌, ◌+◌, ◌^◌,
 use Rattle.outside_io.specs.State.{SinkState}
 use Rattle.bench_model.specs.History.{left, AddsNothing, LeftOnly}
 use Rattle.bench_model.specs.State.{BenchState, file_half, cells_half, Left}
-use Rattle.bench_model.specs.Calls.{SameOutside}
+use Rattle.bench_model.specs.Calls.{SameOutside, IsRead}
 use Rattle.bench_model.specs.Pairs.{PairsLeave}
 use Rattle.bench_model.proofs.Moments.{adds_nothing_then, still_only}
 use Rattle.page_geometry.specs.Layout.{Layout}
@@ -15,7 +15,6 @@ use Rattle.job_text.specs.declared.job.Job as code
 use Rattle.job_text.proofs.ClassLemmas.{some_job}
 use Rattle.flash_session.specs.declared.fault.SurveyFault.{SurveyFault}
 use Rattle.flash_session.specs.declared.goal.Goal.{Goal}
-use Rattle.flash_session.specs.Reads.{IsRead}
 use Rattle.flash_session.specs.Surveys.{Surveyed, HasSurveyed}
 use Rattle.report_text.specs.Plan.{plan_text}
 use Rattle.report_text.specs.Refusal.{output_fault}

@@ -4,9 +4,8 @@ use Rattle.std.proofs.lemmas.List.{append-nil, take_all}
 use Rattle.std.proofs.Math.Seq.{take-add}
 use Rattle.bench_model.specs.History.{left, Leaves, AddsNothing, LeftOnly}
 use Rattle.bench_model.specs.State.{BenchState, file_half, cells_half}
-use Rattle.bench_model.specs.Calls.{Torn, Follows, FileStays, CellsStay}
+use Rattle.bench_model.specs.Calls.{Torn, Follows, FileStays, CellsStay, CellsAreRead}
 use Rattle.bench_model.proofs.Moments.{leaves_as, leaves_then, leaves_left, leaves_step, adds_nothing_here, adds_nothing_then, stays_leaves, stays_left, stays_adds_nothing}
-use Rattle.job_file.specs.Reads.{CellsAreRead}
 use Rattle.job_file.specs.Stops.{IsShut, KeepsGate}
 
 pub cells_read_here : (tells : Bool) (s : BenchState) → CellsAreRead tells s s

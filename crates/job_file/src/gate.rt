@@ -3,10 +3,9 @@ ghost use Rattle.std.specs.Prelude.{◌≡◌, ◌≤◌, ◌+◌, ◌++◌, ◌
 ghost use Rattle.faults.specs.Counts.{HasCause};
 ghost use Rattle.bench_model.specs.History.{Leaves, LeftOnly};
 ghost use Rattle.bench_model.specs.State.{file_half};
-ghost use Rattle.bench_model.specs.Calls.{CellsStay, Follows};
+ghost use Rattle.bench_model.specs.Calls.{CellsStay, Follows, CellsAreRead};
 ghost use Rattle.job_text.specs.Files.{IsFree, open_gate};
 ghost use Rattle.job_file.specs.Counted.{IsCounted, is_store_fault, is_device_fault, IsFault};
-ghost use Rattle.job_file.specs.Reads.{CellsAreRead};
 ghost use Rattle.job_file.specs.Stops.{IsFreeOrWhole, IsShut, KeepsGate};
 
 use crate::fault::BeginFault;
