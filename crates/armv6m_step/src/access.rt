@@ -8,6 +8,7 @@ ghost use Rattle.armv6m_step.specs.Meaning.{LoadGives, StoreGives};
 use crate::{Bus, Stop};
 use bench_model::BusEnd;
 
+#[inline(always)]
 fn stop_at(at: u32, end: BusEnd) -> Stop
     ensures { stop_end result ≡ bus_end_at at end }
 {
@@ -17,6 +18,7 @@ fn stop_at(at: u32, end: BusEnd) -> Stop
     }
 }
 
+#[inline(always)]
 pub(crate) fn load8<B: Bus>(bus: &mut B, at: u32) -> Result<u32, Stop>
     ensures gives { LoadGives B.acts 1 at bus.old result bus.new }
     ensures fits { IfOk result (λ v. v < 2 ^ 8) }
@@ -27,6 +29,7 @@ pub(crate) fn load8<B: Bus>(bus: &mut B, at: u32) -> Result<u32, Stop>
     }
 }
 
+#[inline(always)]
 pub(crate) fn load16<B: Bus>(bus: &mut B, at: u32) -> Result<u32, Stop>
     ensures gives { LoadGives B.acts 2 at bus.old result bus.new }
     ensures fits { IfOk result (λ v. v < 2 ^ 16) }
@@ -40,6 +43,7 @@ pub(crate) fn load16<B: Bus>(bus: &mut B, at: u32) -> Result<u32, Stop>
     }
 }
 
+#[inline(always)]
 pub(crate) fn load32<B: Bus>(bus: &mut B, at: u32) -> Result<u32, Stop>
     ensures { LoadGives B.acts 4 at bus.old result bus.new }
 {
@@ -52,6 +56,7 @@ pub(crate) fn load32<B: Bus>(bus: &mut B, at: u32) -> Result<u32, Stop>
     }
 }
 
+#[inline(always)]
 pub(crate) fn store8<B: Bus>(bus: &mut B, at: u32, value: u32) -> Result<(), Stop>
     requires { value < 2 ^ 8 }
     ensures { StoreGives B.acts 1 at value bus.old result bus.new }
@@ -62,6 +67,7 @@ pub(crate) fn store8<B: Bus>(bus: &mut B, at: u32, value: u32) -> Result<(), Sto
     }
 }
 
+#[inline(always)]
 pub(crate) fn store16<B: Bus>(bus: &mut B, at: u32, value: u32) -> Result<(), Stop>
     requires { value < 2 ^ 16 }
     ensures { StoreGives B.acts 2 at value bus.old result bus.new }
@@ -75,6 +81,7 @@ pub(crate) fn store16<B: Bus>(bus: &mut B, at: u32, value: u32) -> Result<(), St
     }
 }
 
+#[inline(always)]
 pub(crate) fn store32<B: Bus>(bus: &mut B, at: u32, value: u32) -> Result<(), Stop>
     ensures { StoreGives B.acts 4 at value bus.old result bus.new }
 {

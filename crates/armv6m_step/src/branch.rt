@@ -10,6 +10,7 @@ use crate::{Core, Stop};
 use armv6m_decode::registers::LR;
 use armv6m_decode::{Branch, Condition, targets};
 
+#[inline(always)]
 fn condition_holds(core: &Core, condition: Condition) -> bool
     ensures { result ≡ holds core.now condition }
 {
@@ -32,6 +33,7 @@ fn condition_holds(core: &Core, condition: Condition) -> bool
 }
 
 /// N = V.
+#[inline(always)]
 fn is_same(core: &Core) -> bool
     ensures { result ≡ same core.now.n core.now.v }
 {

@@ -24,6 +24,7 @@ pub struct Core {
 
 impl Core {
     /// The address of the instruction.
+    #[inline(always)]
     pub(crate) fn pc(&self) -> u32
         ensures { result ≡ pc_of self.now }
     {
@@ -31,6 +32,7 @@ impl Core {
     }
 
     /// A register as an operand.
+    #[inline(always)]
     #[tactic(auto, unfolding(crate::specs::Registers::reg))]
     pub(crate) fn read(&self, n: u8) -> u32
         ensures { result ≡ reg self.now n }
@@ -40,6 +42,7 @@ impl Core {
     }
 
     /// Bits 7 to 0 of a register.
+    #[inline(always)]
     pub(crate) fn low_byte(&self, n: u8) -> u32
         ensures { result ≡ reg self.now n % 2 ^ 8 }
     {
@@ -47,12 +50,14 @@ impl Core {
     }
 
     /// Bits 15 to 0 of a register.
+    #[inline(always)]
     pub(crate) fn low_half(&self, n: u8) -> u32
         ensures { result ≡ reg self.now n % 2 ^ 16 }
     {
         self.read(n) % 0x1_0000
     }
 
+    #[inline(always)]
     #[tactic(auto, unfolding(crate::specs::Registers::written))]
     pub(crate) fn write(&mut self, n: u8, value: u32)
         ensures { self.new ≡ written self.old n value }
@@ -60,6 +65,7 @@ impl Core {
         self.regs[(n % 16) as usize] = if n % 16 == SP { value / 4 * 4 } else { value };
     }
 
+    #[inline(always)]
     #[tactic(auto, unfolding(crate::specs::Registers::moved))]
     pub(crate) fn go_to(&mut self, pc: u32)
         ensures { self.new ≡ moved self.old pc }
@@ -68,6 +74,7 @@ impl Core {
     }
 
     /// Sets N and Z by a result.
+    #[inline(always)]
     #[tactic(auto, unfolding(crate::specs::Registers::with_nz))]
     pub(crate) fn set_nz(&mut self, value: u32)
         ensures { self.new ≡ with_nz self.old value }
@@ -76,6 +83,7 @@ impl Core {
         self.z = value == 0;
     }
 
+    #[inline(always)]
     #[tactic(auto, unfolding(crate::specs::Registers::with_carry))]
     pub(crate) fn set_carry(&mut self, carry: bool)
         ensures { self.new ≡ with_carry self.old carry }
@@ -84,6 +92,7 @@ impl Core {
     }
 
     /// Sets N, Z, C and V by a sum.
+    #[inline(always)]
     #[tactic(auto, unfolding(crate::specs::Registers::with_nzcv))]
     pub(crate) fn set_nzcv(&mut self, sum: Sum)
         ensures { self.new ≡ with_nzcv self.old sum }

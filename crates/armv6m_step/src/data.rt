@@ -16,6 +16,7 @@ use armv6m_alu::{
 use armv6m_decode::Alu;
 use armv6m_decode::registers::PC;
 
+#[inline(always)]
 fn put_value(core: &mut Core, next: u32, d: u8, value: u32)
     ensures { value_into core.old next d value ≡ Ok core.new }
 {
@@ -24,6 +25,7 @@ fn put_value(core: &mut Core, next: u32, d: u8, value: u32)
     core.go_to(next);
 }
 
+#[inline(always)]
 fn put_shift(core: &mut Core, next: u32, d: u8, shifted: Shifted)
     ensures { shift_into core.old next d shifted ≡ Ok core.new }
 {
@@ -33,6 +35,7 @@ fn put_shift(core: &mut Core, next: u32, d: u8, shifted: Shifted)
     core.go_to(next);
 }
 
+#[inline(always)]
 fn put_sum(core: &mut Core, next: u32, d: u8, sum: Sum)
     ensures { sum_into core.old next d sum ≡ Ok core.new }
 {
@@ -41,6 +44,7 @@ fn put_sum(core: &mut Core, next: u32, d: u8, sum: Sum)
     core.go_to(next);
 }
 
+#[inline(always)]
 fn put_flags(core: &mut Core, next: u32, sum: Sum)
     ensures { compared core.old next sum ≡ Ok core.new }
 {
@@ -48,6 +52,7 @@ fn put_flags(core: &mut Core, next: u32, sum: Sum)
     core.go_to(next);
 }
 
+#[inline(always)]
 fn test(core: &mut Core, next: u32, value: u32)
     ensures { tested core.old next value ≡ Ok core.new }
 {
@@ -66,6 +71,7 @@ fn put_plain(core: &mut Core, next: u32, d: u8, value: u32)
     }
 }
 
+#[inline(always)]
 fn subtract(x: u32, y: u32) -> Sum
     ensures { result ≡ subtraction x y }
 {
@@ -83,6 +89,7 @@ fn amount(immediate: u8) -> u32
 }
 
 /// LSLS: R[d] = R[m] shifted left.
+#[inline(always)]
 fn lsls(core: &mut Core, next: u32, d: u8, m: u8, by: u32)
     ensures { shift_into core.old next d (shifted_left (reg core.old m) by core.old.c) ≡ Ok core.new }
 {
@@ -90,6 +97,7 @@ fn lsls(core: &mut Core, next: u32, d: u8, m: u8, by: u32)
 }
 
 /// LSRS: R[d] = R[m] shifted right.
+#[inline(always)]
 fn lsrs(core: &mut Core, next: u32, d: u8, m: u8, by: u32)
     ensures { shift_into core.old next d (shifted_right (reg core.old m) by core.old.c) ≡ Ok core.new }
 {
@@ -97,6 +105,7 @@ fn lsrs(core: &mut Core, next: u32, d: u8, m: u8, by: u32)
 }
 
 /// ASRS: R[d] = R[m] shifted right with its sign.
+#[inline(always)]
 fn asrs(core: &mut Core, next: u32, d: u8, m: u8, by: u32)
     ensures { shift_into core.old next d (shifted_right_signed (reg core.old m) by core.old.c) ≡ Ok core.new }
 {
@@ -104,6 +113,7 @@ fn asrs(core: &mut Core, next: u32, d: u8, m: u8, by: u32)
 }
 
 /// ADDS: R[d] = R[n] + y.
+#[inline(always)]
 fn adds(core: &mut Core, next: u32, d: u8, n: u8, y: u32)
     ensures { sum_into core.old next d (sum_with_carry (reg core.old n) y false) ≡ Ok core.new }
 {
@@ -111,6 +121,7 @@ fn adds(core: &mut Core, next: u32, d: u8, n: u8, y: u32)
 }
 
 /// SUBS: R[d] = R[n] - y.
+#[inline(always)]
 fn subs(core: &mut Core, next: u32, d: u8, n: u8, y: u32)
     ensures { sum_into core.old next d (subtraction (reg core.old n) y) ≡ Ok core.new }
 {
@@ -118,6 +129,7 @@ fn subs(core: &mut Core, next: u32, d: u8, n: u8, y: u32)
 }
 
 /// CMP: the flags of R[n] - y.
+#[inline(always)]
 fn cmp(core: &mut Core, next: u32, n: u8, y: u32)
     ensures { compared core.old next (subtraction (reg core.old n) y) ≡ Ok core.new }
 {
@@ -125,6 +137,7 @@ fn cmp(core: &mut Core, next: u32, n: u8, y: u32)
 }
 
 /// ADCS: R[d] = R[d] + y + C. SBCS adds NOT R[m].
+#[inline(always)]
 fn adcs(core: &mut Core, next: u32, d: u8, y: u32)
     ensures { sum_into core.old next d (sum_with_carry (reg core.old d) y core.old.c) ≡ Ok core.new }
 {
@@ -139,6 +152,7 @@ fn rors(core: &mut Core, next: u32, d: u8, by: u32)
 }
 
 /// CMN: the flags of R[n] + y.
+#[inline(always)]
 fn cmn(core: &mut Core, next: u32, n: u8, y: u32)
     ensures { compared core.old next (sum_with_carry (reg core.old n) y false) ≡ Ok core.new }
 {

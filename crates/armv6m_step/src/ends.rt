@@ -33,6 +33,7 @@ pub enum Stop {
 }
 
 /// The end of a step whose instruction went so.
+#[inline(always)]
 pub(crate) fn step_end(made: Result<(), Stop>) -> StepEnd
     ensures { result ≡ end_of made }
 {

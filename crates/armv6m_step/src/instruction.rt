@@ -3,7 +3,8 @@ ghost use Rattle.std.specs.Prelude.{◌≡◌, ◌⊎◌};
 ghost use Rattle.bench_model.specs.Device.{HasDeviceCause};
 ghost use Rattle.armv6m_step.specs.Ends.{end_of, is_device_end};
 ghost use Rattle.armv6m_step.specs.Meaning.{Runs};
-ghost use Rattle.armv6m_step.specs.Step.{meaning, instruction};
+ghost use Rattle.armv6m_decode.specs.Table.{decoded};
+ghost use Rattle.armv6m_step.specs.Step.{meaning, of_halfword, instruction};
 
 use crate::access::load16;
 use crate::data::undefined;
@@ -11,8 +12,6 @@ use crate::ends::step_end;
 use crate::{Bus, Core, StepEnd, Stop, branch, data, many, memory, other};
 use armv6m_decode::{Decoded, Instr, decode16, decode32};
 
-/// It is put in line: called, it costs a step a third of its speed.
-#[inline(always)]
 #[tactic(auto, using(crate::proofs::RunLemmas::asks))]
 fn execute<B: Bus>(core: &mut Core, bus: &mut B, next: u32, instr: Instr) -> Result<(), Stop>
     ensures { Runs B.acts (meaning core.old next instr) core.old bus.old (end_of result) core.new bus.new }
@@ -26,13 +25,12 @@ fn execute<B: Bus>(core: &mut Core, bus: &mut B, next: u32, instr: Instr) -> Res
     }
 }
 
-/// Fetches the instruction at the PC and does it.
-#[tactic(auto, using(crate::proofs::RunLemmas::asks), unfolding(crate::specs::Step::instruction))]
-fn fetch_and_execute<B: Bus>(core: &mut Core, bus: &mut B) -> Result<(), Stop>
-    ensures { Runs B.acts (instruction core.old) core.old bus.old (end_of result) core.new bus.new }
+/// Does the instruction at the PC that this halfword is, or begins, whichever it is.
+#[tactic(auto, using(crate::proofs::RunLemmas::asks))]
+fn go_on<B: Bus>(core: &mut Core, bus: &mut B, half: u16) -> Result<(), Stop>
+    ensures { Runs B.acts (of_halfword core.old half (decoded half)) core.old bus.old (end_of result) core.new bus.new }
 {
     let pc = core.pc();
-    let half = load16(bus, pc)? as u16;
     match decode16(half) {
         Decoded::Op(instr) => execute(core, bus, pc.wrapping_add(2), instr),
         Decoded::NeedsSecond => {
@@ -46,9 +44,72 @@ fn fetch_and_execute<B: Bus>(core: &mut Core, bus: &mut B) -> Result<(), Stop>
     }
 }
 
+/// The same in line, for a halfword that is likely data processing.
+#[inline(always)]
+#[tactic(auto, using(crate::proofs::RunLemmas::asks))]
+fn process<B: Bus>(core: &mut Core, bus: &mut B, half: u16) -> Result<(), Stop>
+    ensures { Runs B.acts (of_halfword core.old half (decoded half)) core.old bus.old (end_of result) core.new bus.new }
+{
+    match decode16(half) {
+        Decoded::Op(Instr::Alu(op)) => data::run(core, core.pc().wrapping_add(2), op),
+        _ => go_on(core, bus, half),
+    }
+}
+
+/// The same in line, for a halfword that is likely a load or a store.
+#[inline(always)]
+#[tactic(auto, using(crate::proofs::RunLemmas::asks))]
+fn access<B: Bus>(core: &mut Core, bus: &mut B, half: u16) -> Result<(), Stop>
+    ensures { Runs B.acts (of_halfword core.old half (decoded half)) core.old bus.old (end_of result) core.new bus.new }
+{
+    match decode16(half) {
+        Decoded::Op(Instr::Memory(op)) => memory::run(core, bus, core.pc().wrapping_add(2), op),
+        _ => go_on(core, bus, half),
+    }
+}
+
+/// The same in line, for a halfword that is likely a branch.
+#[inline(always)]
+#[tactic(auto, using(crate::proofs::RunLemmas::asks))]
+fn jump<B: Bus>(core: &mut Core, bus: &mut B, half: u16) -> Result<(), Stop>
+    ensures { Runs B.acts (of_halfword core.old half (decoded half)) core.old bus.old (end_of result) core.new bus.new }
+{
+    match decode16(half) {
+        Decoded::Op(Instr::Branch(op)) => branch::run(core, core.pc().wrapping_add(2), op),
+        _ => go_on(core, bus, half),
+    }
+}
+
+/// Fetches the instruction at the PC and does it. Each arm puts in line only what its halfwords stand for, so that an instruction
+/// is found by one jump: a step by way of `go_on` alone is half as fast.
+#[inline(always)]
+#[tactic(auto, using(crate::proofs::RunLemmas::asks), unfolding(crate::specs::Step::instruction))]
+fn fetch_and_execute<B: Bus>(core: &mut Core, bus: &mut B) -> Result<(), Stop>
+    ensures { Runs B.acts (instruction core.old) core.old bus.old (end_of result) core.new bus.new }
+{
+    let half = load16(bus, core.pc())? as u16;
+    match half >> 12 {
+        0x0 => process(core, bus, half),
+        0x1 => process(core, bus, half),
+        0x2 => process(core, bus, half),
+        0x3 => process(core, bus, half),
+        0x4 if half < 0x4400 => process(core, bus, half),
+        0x4 if half >= 0x4800 => access(core, bus, half),
+        0x5 => access(core, bus, half),
+        0x6 => access(core, bus, half),
+        0x7 => access(core, bus, half),
+        0x8 => access(core, bus, half),
+        0x9 => access(core, bus, half),
+        0xD => jump(core, bus, half),
+        0xE => jump(core, bus, half),
+        _ => go_on(core, bus, half),
+    }
+}
+
 /// Does the instruction at the PC: what its row of the table means, with its end. The bus goes through its accesses in order, up
 /// to the first that is not answered. An instruction that ends otherwise than `Went` leaves every register and flag as it was;
 /// its stores before a fault stand. `Device` comes only where the bus's count of device faults rose.
+#[inline(always)]
 pub fn step<B: Bus>(core: &mut Core, bus: &mut B) -> StepEnd
     ensures runs { Runs B.acts (instruction core.old) core.old bus.old result core.new bus.new }
     ensures kept { (result ≡ StepEnd.Went) ⊎ (core.new ≡ core.old) }

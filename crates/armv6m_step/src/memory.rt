@@ -42,6 +42,7 @@ fn at_offset(core: &Core, n: u8, offset: u32) -> u32
 }
 
 /// LDR of a literal.
+#[inline(always)]
 #[tactic(auto, using(crate::proofs::RunLemmas::asks), unfolding(crate::specs::MemoryRows::load_word))]
 fn literal_into<B: Bus>(core: &mut Core, bus: &mut B, next: u32, t: u8, i: u8) -> Result<(), Stop>
     ensures { Runs B.acts (memory core.old next (Memory.LdrLiteral t i)) core.old bus.old (end_of result) core.new bus.new }
@@ -53,6 +54,7 @@ fn literal_into<B: Bus>(core: &mut Core, bus: &mut B, next: u32, t: u8, i: u8) -
 }
 
 /// LDR: the word at R[n] + offset, into R[t].
+#[inline(always)]
 #[tactic(auto, using(crate::proofs::RunLemmas::asks), unfolding(crate::specs::MemoryRows::load_word))]
 fn word_into<B: Bus>(
     core: &mut Core,
@@ -71,6 +73,7 @@ fn word_into<B: Bus>(
 }
 
 /// LDRH: the halfword, with zeros above it.
+#[inline(always)]
 #[tactic(auto, using(crate::proofs::RunLemmas::asks), unfolding(crate::specs::MemoryRows::load_half))]
 fn half_into<B: Bus>(
     core: &mut Core,
@@ -89,6 +92,7 @@ fn half_into<B: Bus>(
 }
 
 /// LDRB: the byte, with zeros above it.
+#[inline(always)]
 #[tactic(auto, using(crate::proofs::RunLemmas::asks), unfolding(crate::specs::MemoryRows::load_byte))]
 fn byte_into<B: Bus>(
     core: &mut Core,
@@ -107,6 +111,7 @@ fn byte_into<B: Bus>(
 }
 
 /// LDRSH: the halfword, with its sign above it.
+#[inline(always)]
 #[tactic(auto, using(crate::proofs::RunLemmas::asks), unfolding(crate::specs::MemoryRows::load_signed_half))]
 fn signed_half_into<B: Bus>(
     core: &mut Core,
@@ -125,6 +130,7 @@ fn signed_half_into<B: Bus>(
 }
 
 /// LDRSB: the byte, with its sign above it.
+#[inline(always)]
 #[tactic(auto, using(crate::proofs::RunLemmas::asks), unfolding(crate::specs::MemoryRows::load_signed_byte))]
 fn signed_byte_into<B: Bus>(
     core: &mut Core,
@@ -143,6 +149,7 @@ fn signed_byte_into<B: Bus>(
 }
 
 /// STR: R[t], to the word at R[n] + offset.
+#[inline(always)]
 #[tactic(auto, using(crate::proofs::RunLemmas::asks), unfolding(crate::specs::MemoryRows::store_word))]
 fn word_from<B: Bus>(
     core: &mut Core,
@@ -160,6 +167,7 @@ fn word_from<B: Bus>(
 }
 
 /// STRH: the low halfword of R[t].
+#[inline(always)]
 #[tactic(auto, using(crate::proofs::RunLemmas::asks), unfolding(crate::specs::MemoryRows::store_half))]
 fn half_from<B: Bus>(
     core: &mut Core,
@@ -177,6 +185,7 @@ fn half_from<B: Bus>(
 }
 
 /// STRB: the low byte of R[t].
+#[inline(always)]
 #[tactic(auto, using(crate::proofs::RunLemmas::asks), unfolding(crate::specs::MemoryRows::store_byte))]
 fn byte_from<B: Bus>(
     core: &mut Core,
@@ -194,6 +203,7 @@ fn byte_from<B: Bus>(
 }
 
 /// Does the instruction, where the next one is at `next`.
+#[inline(always)]
 pub(crate) fn run<B: Bus>(core: &mut Core, bus: &mut B, next: u32, op: Memory) -> Result<(), Stop>
     ensures { Runs B.acts (memory core.old next op) core.old bus.old (end_of result) core.new bus.new }
 {
