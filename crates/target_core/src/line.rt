@@ -35,6 +35,8 @@ impl<'a, B: Bench> Bus for Line<'a, B> {
         }
     }
 
+    // a fetch is one of these
+    #[inline(always)]
     fn load16(&mut self, at: u32) -> Result<u32, BusEnd> {
         match ram::load16(self.ram_base, self.ram.as_slice(), at) {
             Some(value) => Ok(value),
