@@ -9,7 +9,7 @@ use Rattle.target_core.specs.declared.run.SliceEnd.TheVariants as slice
 use Rattle.target_core.specs.declared.target.Target.{Target}
 use Rattle.target_core.specs.Units.{state_op}
 use Rattle.target_core.specs.Path.{Point, whole, point, is_device_end, GoesTo, IsLeftOnPath, LeftAt}
-use Rattle.target_core.specs.Runs.{steps_made, run_end_of, run_last, run_path, last_point, StandsOn, RunEndsAs, RunGives, HasOneEnd, GoesOnAs}
+use Rattle.target_core.specs.Runs.{steps_made, run_end_of, run_last, run_path, last_point, BreaksOffOn, RunEndsAs, RunGives, HasOneEnd, GoesOnAs}
 use Rattle.target_core.specs.Targets.{point_in, SliceGives}
 use Rattle.target_core.proofs.PathLemmas.{point_even, longer}
 use Rattle.target_core.proofs.RunLemmas.{steps_made_is, steps_made_within, run_end_is, run_last_is, run_last_from}
@@ -71,12 +71,15 @@ module _ (return_at fuel : ℕ) (first : Point) (made : ℕ) (le : made ≤ fuel
     left = subst (λ (p : Point). LeftAt p c) (there at.number) at.left;
   }
 
-  stands_there : (end : BenchState) → StandsOn (run_path return_at rest here) end → StandsOn (run_path return_at fuel first) end
-  stands_there end stands = record {
-    number = 2 * made + stands.number;
-    within = omega (arith, far, stands.within);
-    cells = stands.cells ∙ ap (λ (p : Point). p.world.cells) (there stands.number);
-    operation = stands.operation ∙ ap (λ (p : Point). state_op p.world.state) (there stands.number);
+  breaks_off_there : (end : BenchState) → BreaksOffOn (run_path return_at rest here) end → BreaksOffOn (run_path return_at fuel first) end
+  breaks_off_there end broke = record {
+    number = 2 * made + broke.number;
+    before = omega (arith, far, broke.before);
+    stands = record {
+      cells = broke.stands.cells ∙ ap (λ (p : Point). p.world.cells) (there broke.number);
+      operation = broke.stands.operation ∙ ap (λ (p : Point). state_op p.world.state) (there broke.number);
+    };
+    idle = λ even. broke.idle (omega (arith, even));
   }
 
   same_end : run_end_of return_at rest here ≡ run_end_of return_at fuel first
@@ -90,7 +93,7 @@ module _ (return_at fuel : ℕ) (first : Point) (made : ℕ) (le : made ≤ fuel
   ends_there (run.NoFuel pc) last end ends = (ends.0 ∙ same_end, ends.1 ∙ same_last)
   ends_there (run.StrayBreak pc) last end ends = (ends.0 ∙ same_end, ends.1 ∙ same_last)
   ends_there (run.Faulted kind pc) last end ends = (ends.0 ∙ same_end, ends.1 ∙ same_last)
-  ends_there run.DeviceFault last end ends = stands_there end ends
+  ends_there run.DeviceFault last end ends = breaks_off_there end ends
 
   pub rest_gives : (start mid end : BenchState) (e : RunEnd) (last : Point) → Leaves (cells_half start) (cells_half mid) (IsLeftOnPath first (2 * made)) → RunGives return_at rest here mid e last end → RunGives return_at fuel first start e last end
   rest_gives start mid end e last before gives = record {

@@ -5,5 +5,6 @@ pub mod TargetLemmas
 pub mod RunLemmas
 pub mod SliceLemmas
 pub mod FineLemmas
+pub mod EndLemmas
 pub mod LawLemmas
 pub mod StayLemmas

@@ -1,17 +1,10 @@
--- A run is the one that its first point and its fuel give.
-use Rattle.std.proofs.Common.{◌≡◌, ◌<◌, ◌≤◌, ◌+◌, ◌-◌, ◌*◌, ℕ, zero, suc, true, false, Option, Some, None, is_some, refl, sym, ap, subst, arith, ◌∙◌, ◌⊎◌, inl, inr, ⊎_elim}
+-- The steps of a run, its end and the number of its last point, from its first point and its fuel.
+use Rattle.std.proofs.Common.{◌≡◌, ◌<◌, ◌≤◌, ◌+◌, ◌*◌, ℕ, zero, suc, true, false, Option, Some, None, is_some, refl, ap, subst, arith, ◌⊎◌, inl, inr, ⊎_elim}
 use Rattle.std.proofs.lemmas.Bool.{cases_lt}
-use Rattle.bench_model.specs.History.{Leaves}
-use Rattle.bench_model.specs.State.{BenchState, cells_half}
-use Rattle.bench_model.proofs.Moments.{leaves_as}
-use Rattle.target_core.specs.declared.target.Target.{Target}
 use Rattle.target_core.specs.declared.run.RunEnd.{RunEnd}
 use Rattle.target_core.specs.declared.run.RunEnd.TheVariants as run
-use Rattle.target_core.specs.declared.run.SliceEnd.TheVariants as slice
-use Rattle.target_core.specs.Path.{Point, point, end_at, last_number, GoesTo, RunsTo, EndsWith, EndIs, IsLeftOnPath}
-use Rattle.target_core.specs.Runs.{steps_from, steps_made, run_end_of, run_last, run_path, IsLeftOn, RunGives}
-use Rattle.target_core.specs.Targets.{point_in, SliceGives}
-use Rattle.target_core.proofs.PathLemmas.{longer}
+use Rattle.target_core.specs.Path.{Point, end_at, last_number, GoesTo}
+use Rattle.target_core.specs.Runs.{steps_from, steps_made, run_end_of, run_last}
 
 pub tests : (o : Option RunEnd) → (is_some o ≡ true) ⊎ (o ≡ None)
 tests (Some e) = inl refl
@@ -75,7 +68,7 @@ pub steps_made_least : (return_at fuel : ℕ) (p : Point) (made : ℕ) → made 
 unfolding steps_made
 steps_made_least return_at fuel p made within goes = from_least return_at fuel p 0 fuel made goes (omega (arith, within))
 
-last_from : (e : RunEnd) (made : ℕ) → 2 * made ≤ last_number e made
+pub last_from : (e : RunEnd) (made : ℕ) → 2 * made ≤ last_number e made
 last_from (run.Returned r0) made = omega arith
 last_from (run.NoFuel pc) made = omega arith
 last_from (run.StrayBreak pc) made = omega arith
@@ -106,31 +99,3 @@ run_end_is return_at fuel p made e within goes ends = rw (steps_made_is return_a
 pub run_last_is : (return_at fuel : ℕ) (p : Point) (made : ℕ) (e : RunEnd) → made ≤ fuel → GoesTo return_at fuel p made → end_at return_at fuel p made ≡ Some e → run_last return_at fuel p ≡ last_number e made
 unfolding run_last
 run_last_is return_at fuel p made e within goes ends = rw (run_end_is return_at fuel p made e within goes ends, steps_made_is return_at fuel p made e within goes ends) refl
-
--- an end that is no device fault
-module _ (return_at fuel : ℕ) (first : Point) (made : ℕ) (start : BenchState) (e : RunEnd) (last : Point) (end : BenchState)
-    (runs : RunsTo return_at fuel first made (last_number e made) start end) (ends : EndsWith return_at fuel first made e last) where
-  same_last : run_last return_at fuel first ≡ last_number e made
-  same_last = run_last_is return_at fuel first made e runs.within runs.goes ends.ends
-
-  pub ended_moments : Leaves (cells_half start) (cells_half end) (IsLeftOn (run_path return_at fuel first))
-  ended_moments = subst (λ (n : ℕ). Leaves (cells_half start) (cells_half end) (IsLeftOnPath first n)) (sym same_last) runs.moments
-
-  pub ended_as : (e ≡ run_end_of return_at fuel first) × (last ≡ point first (run_last return_at fuel first))
-  ended_as = (sym (run_end_is return_at fuel first made e runs.within runs.goes ends.ends), ends.leaves ∙ ap (point first) (sym same_last))
-
-pub run_gives : (return_at fuel : ℕ) (first : Point) (made : ℕ) (start : BenchState) (e : RunEnd) (last : Point) (end : BenchState) → RunsTo return_at fuel first made (last_number e made) start end → EndIs return_at fuel first made e last end → RunGives return_at fuel first start e last end
-run_gives return_at fuel first made start (run.Returned r0) last end runs ends = record { moments = ended_moments return_at fuel first made start _ last end runs ends; ends = ended_as return_at fuel first made start _ last end runs ends }
-run_gives return_at fuel first made start (run.NoFuel pc) last end runs ends = record { moments = ended_moments return_at fuel first made start _ last end runs ends; ends = ended_as return_at fuel first made start _ last end runs ends }
-run_gives return_at fuel first made start (run.StrayBreak pc) last end runs ends = record { moments = ended_moments return_at fuel first made start _ last end runs ends; ends = ended_as return_at fuel first made start _ last end runs ends }
-run_gives return_at fuel first made start (run.Faulted kind pc) last end runs ends = record { moments = ended_moments return_at fuel first made start _ last end runs ends; ends = ended_as return_at fuel first made start _ last end runs ends }
-run_gives return_at fuel first made start run.DeviceFault last end runs ends =
-    let le : 2 * made ≤ run_last return_at fuel first = run_last_from return_at fuel first made runs.within runs.goes in
-    record {
-      moments = leaves_as (IsLeftOnPath first (2 * made)) (IsLeftOnPath first (run_last return_at fuel first)) (longer first (2 * made) (run_last return_at fuel first) le) runs.moments;
-      ends = record { number = ends.number; within = omega (arith, ends.within, le); cells = ends.cells; operation = ends.operation };
-    }
-
--- a slice that ended, ended as the run with the fuel that was left to it
-pub run_of_slice : (from : Target) (start : BenchState) (left left' steps : ℕ) (e : RunEnd) (to : Target) (end : BenchState) → SliceGives from start left left' steps (slice.Ended e) to end → RunGives from.return_at left (point_in from start.cells) start e (point_in to end.cells) end
-run_of_slice from start left left' steps e to end is = run_gives from.return_at left (point_in from start.cells) (left - left') start e (point_in to end.cells) end is.runs is.ends.0

@@ -32,7 +32,7 @@ pub returns-in-Some-clause-end : goal.returns-in-Some-clause-end
 returns-in-Some-clause-end g c told = (
   step_ends c.args.return_at c.args.fuel c.args.steps c.args.core.now c.args.line.now c.steps.core c.steps.line c.steps.made c.instruction.new.core c.instruction.new.line c.instruction.result c.steps.invariant
       c.instruction.ensures told
-      c.in-Some.end c.if-pc-return_at.false c.if-made-fuel.false (sym c.in-Some.ensures),
+      c.in-Some.end c.if-pc-return_at.false c.if-made-fuel.false c.if-made-steps.false (sym c.in-Some.ensures),
   λ before fine. omega (arith, c.if-made-steps.false, c.steps.invariant.within_steps),
 )
 

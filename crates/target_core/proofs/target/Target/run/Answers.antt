@@ -2,7 +2,7 @@ use Rattle.std.proofs.Common.{subst}
 use Rattle.target_core.specs.declared.target.Target.{Target}
 use Rattle.target_core.specs.Runs.{RunGives}
 use Rattle.target_core.specs.Targets.{point_in}
-use Rattle.target_core.proofs.RunLemmas.{run_of_slice}
+use Rattle.target_core.proofs.EndLemmas.{run_of_slice}
 use Rattle.target_core.proofs.target.Target.run.Goals as goal
 
 pub returns-in-Ended-clause-run : goal.returns-in-Ended-clause-run
