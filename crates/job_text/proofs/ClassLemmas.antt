@@ -40,7 +40,7 @@ found_is : (r : Result Found ℕ) (x : Found) → class_from r ≡ stands x → 
 found_is (Ok y) x e = let same : y ≡ x = cc in ap (λ (z : Found). Ok z) same
 found_is (Err at) x e = absurd cc
 
-free_class : (file : List ℕ) → class_of file ≡ free → IsFree file
+pub free_class : (file : List ℕ) → class_of file ≡ free → IsFree file
 unfolding class_of
 free_class [] e = tt
 free_class (gate ∷ []) e = tt
@@ -56,7 +56,7 @@ pub record IsFoundIn (x : Found) (file : List ℕ) : Type 0 where
   pub whole : IsWhole (body_of x.job) file
   pub is : IsJob x.job x.board x.algorithm
 
-stands_class : (file : List ℕ) (x : Found) → IsBytes file → class_of file ≡ stands x → IsFoundIn x file
+pub stands_class : (file : List ℕ) (x : Found) → IsBytes file → class_of file ≡ stands x → IsFoundIn x file
 unfolding class_of
 stands_class [] x fits e = absurd cc
 stands_class (gate ∷ []) x fits e = absurd cc
@@ -68,7 +68,7 @@ stands_class (gate ∷ next ∷ rest) x fits e = ⊎_elim
     record { whole = ap (λ (b : ℕ). b ∷ next ∷ rest) o.opened ∙ ap (λ (l : List ℕ). 165 ∷ l) t.0; is = t.1 })
     (long gate next rest)
 
-not_class : (file : List ℕ) (at : ℕ) → class_of file ≡ not_a_job at → IsNotAJob at file
+pub not_class : (file : List ℕ) (at : ℕ) → class_of file ≡ not_a_job at → IsNotAJob at file
 unfolding class_of
 not_class [] at e = absurd cc
 not_class (gate ∷ []) at e = absurd cc

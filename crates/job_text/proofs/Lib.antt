@@ -6,5 +6,6 @@ pub mod RunTextLemmas
 pub mod LoopLemmas
 pub mod BodyLemmas
 pub mod ClassLemmas
+mod OneClassLemmas
 pub mod PartLemmas
 mod RegionLemmas

@@ -6,4 +6,5 @@ pub mod Shown
 pub mod Heads
 pub mod Runs
 pub mod Stands
+pub mod Classes
 pub mod Parts

@@ -1,9 +1,10 @@
 //! The laws on jobs.
-ghost use Rattle.std.specs.Prelude.{◌≡◌, ℕ, List, length, IsTrue};
+ghost use Rattle.std.specs.Prelude.{◌≡◌, ◌<◌, ℕ, List, get_or, length, IsTrue};
 ghost use Rattle.board_file.specs.Shown as board;
 ghost use Rattle.flm_descriptor.specs.Shown as flm;
 ghost use Rattle.flm_descriptor.specs.declared.device.Device.{Device};
 ghost use Rattle.job_text.specs.Body.{Job, IsJob, body_of};
+ghost use Rattle.job_text.specs.Classes.{HasOneClass};
 ghost use Rattle.job_text.specs.declared.parts.JobParts.{JobParts};
 ghost use Rattle.job_text.specs.Parts.{job_of, AreParts};
 ghost use Rattle.job_text.specs.Fits.{is_only_region, HasRegion};
@@ -23,4 +24,9 @@ pub fn parts_make_a_job()
 /// The board of a job has one region, and the algorithm's device is that region.
 pub fn jobs_have_one_region()
     ensures { (b : board.Shown) (device : Device) → IsTrue (is_only_region b.regions device) → HasRegion b device }
+{}
+
+/// Every file of bytes is free, or stands for a job, or is no job, and is one of these only.
+pub fn files_have_one_class()
+    ensures { (file : List ℕ) → ((i : ℕ) → get_or file i 0 < 256) → HasOneClass file }
 {}

@@ -1,0 +1,5 @@
+use Rattle.job_text.proofs.OneClassLemmas.{one_class}
+use Rattle.job_text.proofs.law.files_have_one_class.Goals as goal
+
+pub returns : goal.returns
+returns c = one_class
