@@ -4,7 +4,7 @@ ghost use Rattle.bench_model.specs.Calls.{SameOutside, written};
 ghost use Rattle.bench_model.specs.History.{Leaves};
 ghost use Rattle.bench_model.specs.State.{cells_half};
 ghost use Rattle.page_geometry.specs.Layout.{IsLayout, Layout};
-ghost use Rattle.target_core.specs.Runs.{IsLeftOn, Piece, StandsOn};
+ghost use Rattle.target_core.specs.Runs.{BreaksOffOn, IsLeftOn, Piece, StandsOn};
 ghost use Rattle.target_core.specs.Units.{state_op};
 ghost use Rattle.target_core.specs.World.{World};
 ghost use Rattle.algo_calls.specs.declared.call.CallEnd.{CallEnd};
@@ -41,7 +41,7 @@ pub fn calls_in_turn_compose<B: Bench>()
 
 /// What a reset leaves in the range of an operation that it breaks off is any bytes, and the cells outside it stay: the contents that
 /// `broken_off` makes are exactly those. No operation runs after a reset. A stop of the power at any moment of a reset leaves what one at
-/// the point of a path leaves at which the bench stood before it.
+/// the point of a path leaves at which the bench stood before it: so also behind a call that a device fault broke off.
 pub fn resets_break_off<B: Bench>()
     ensures stays { (operation : Option (ℕ × ℕ)) (torn cells : List ℕ) → SameOutside operation cells (broken_off operation torn cells) }
     ensures all { (operation : Option (ℕ × ℕ)) (cells left : List ℕ) → SameOutside operation cells left → left ≡ broken_off operation left cells }
@@ -49,6 +49,7 @@ pub fn resets_break_off<B: Bench>()
     ensures moments { (path : Piece) (start end : B) → StandsOn path (B.state start)
         → Leaves (cells_half (B.state start)) (cells_half (B.state end)) (SameOutside (B.state start).operation (B.state start).cells)
         → Leaves (cells_half (B.state start)) (cells_half (B.state end)) (IsLeftOn path) }
+    ensures behind { (path : Piece) (now : B) → BreaksOffOn path (B.state now) → StandsOn path (B.state now) }
 {}
 
 /// A call that keeps its duty leaves each cell outside its sector or page as it was, wherever a stop of the power comes; one that is to
