@@ -41,3 +41,21 @@ IsBeginFault file size count beginning.StoreFault = Unit {0}
 IsBeginFault file size count beginning.DeviceFault = Unit {0}
 IsBeginFault file size count (beginning.CellsDiffer said found) = IsFree file × (said ≡ size) × (found ≡ count) × (said ≢ found)
 IsBeginFault file size count (beginning.NotAJob at) = IsNotAJob at file
+
+-- What they say for themselves, on every bench: numbers of cells that differ, of which one is that of the job and the other that of the
+-- device.
+
+abbrev pub IsSoundOpen : ℕ → OpenFault → Type 0
+IsSoundOpen count (opening.CellsDiffer said found) = (found ≡ count) × (said ≢ found)
+IsSoundOpen count opening.OutOfMemory = Unit {0}
+IsSoundOpen count opening.NoJob = Unit {0}
+IsSoundOpen count (opening.NotAJob at) = Unit {0}
+IsSoundOpen count opening.StoreFault = Unit {0}
+
+abbrev pub IsSoundBegin : ℕ → ℕ → BeginFault → Type 0
+IsSoundBegin size count (beginning.CellsDiffer said found) = (said ≡ size) × (found ≡ count) × (said ≢ found)
+IsSoundBegin size count beginning.OutOfMemory = Unit {0}
+IsSoundBegin size count beginning.JobOpen = Unit {0}
+IsSoundBegin size count beginning.StoreFault = Unit {0}
+IsSoundBegin size count beginning.DeviceFault = Unit {0}
+IsSoundBegin size count (beginning.NotAJob at) = Unit {0}

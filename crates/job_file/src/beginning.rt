@@ -7,7 +7,7 @@ ghost use Rattle.job_text.specs.Body.{body_of};
 ghost use Rattle.job_text.specs.Files.{IsFree, open_gate};
 ghost use Rattle.job_text.specs.Parts.{job_of, AreParts, front_of};
 ghost use Rattle.job_file.specs.Counted.{IsCounted, is_store_fault, is_device_fault, IsFault, ReadsUnlessFault};
-ghost use Rattle.job_file.specs.Faults.{IsBeginFault};
+ghost use Rattle.job_file.specs.Faults.{IsBeginFault, IsSoundBegin};
 ghost use Rattle.job_file.specs.Stops.{IsFreeOrWhole, IsOfBegin};
 
 use crate::fault::BeginFault;
@@ -21,6 +21,7 @@ use std::alloc::Global;
 fn admit(alloc: Global, file: &[u8], said: u32, found: u32) -> Result<(), BeginFault>
     ensures ok { OnOk result (IsFree file.now × (said ≡ found)) }
     ensures refused { IfErr result (IsBeginFault file.now said found) }
+    ensures sound { IfErr result (IsSoundBegin said found) }
     ensures no_store { is_store_fault result ≡ false }
     ensures no_device { is_device_fault result ≡ false }
 {
@@ -40,6 +41,7 @@ fn prepare<B: Bench>(alloc: Global, bench: &mut B, parts: &JobParts) -> Result<V
     ensures free { IsTrue B.tells → OnOk result (IsFree (B.state bench.old).file
         × LeftOnly (B.state bench.old).file (file_half (B.state bench.new))) }
     ensures refused { IsTrue B.tells → IfErr result (IsBeginFault (B.state bench.old).file parts.now.size (B.state bench.old).cell_count) }
+    ensures sound { IfErr result (IsSoundBegin parts.now.size (B.state bench.old).cell_count) }
     ensures reads { OnlyReads B.tells (B.state bench.old) (B.state bench.new) }
     ensures counted { IsCounted (B.state bench.old).store_faults (B.state bench.new).store_faults (is_store_fault result) }
     ensures no_device { is_device_fault result ≡ false }
@@ -105,6 +107,7 @@ pub fn begin<B: Bench>(alloc: Global, bench: &mut B, parts: &JobParts) -> Result
 
     // With `ok`, `free` and `sized`, each refusal comes exactly where it says.
     ensures refused { IsTrue B.tells → IfErr result (IsBeginFault (B.state bench.old).file parts.now.size (B.state bench.old).cell_count) }
+    ensures sound { IfErr result (IsSoundBegin parts.now.size (B.state bench.old).cell_count) }
     ensures reads { ReadsUnlessFault B.tells (B.state bench.old) (B.state bench.new) result }
     ensures store { IsCounted (B.state bench.old).store_faults (B.state bench.new).store_faults (is_store_fault result) }
     ensures device { IsCounted (B.state bench.old).device_faults (B.state bench.new).device_faults (is_device_fault result) }

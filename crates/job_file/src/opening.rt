@@ -5,7 +5,7 @@ ghost use Rattle.bench_model.specs.State.{file_half};
 ghost use Rattle.bench_model.specs.Calls.{OnlyReads};
 ghost use Rattle.job_text.specs.Stands.{StandsFor};
 ghost use Rattle.job_file.specs.Counted.{IsCounted, is_open_fault};
-ghost use Rattle.job_file.specs.Faults.{IsOpenFault};
+ghost use Rattle.job_file.specs.Faults.{IsOpenFault, IsSoundOpen};
 
 use crate::fault::OpenFault;
 use crate::reading::look;
@@ -18,6 +18,7 @@ fn judge(alloc: Global, file: &[u8], found: u32) -> Result<Job, OpenFault>
     ensures ok { IfOk result (λ job. StandsFor job file.now) }
     ensures sized { IfOk result (λ job. job.algorithm.device.size ≡ found) }
     ensures refused { IfErr result (IsOpenFault file.now found) }
+    ensures sound { IfErr result (IsSoundOpen found) }
     ensures no_fault { IsErrOf result OpenFault.StoreFault → ⊥ }
 {
     match class_of_file(alloc, file)? {
@@ -46,6 +47,7 @@ pub fn open<B: Bench>(alloc: Global, bench: &mut B) -> Result<Job, OpenFault>
 
     // With `ok` and `sized`, each refusal comes exactly where it says.
     ensures refused { IsTrue B.tells → IfErr result (IsOpenFault (B.state bench.old).file (B.state bench.old).cell_count) }
+    ensures sound { IfErr result (IsSoundOpen (B.state bench.old).cell_count) }
 
     ensures reads { OnlyReads B.tells (B.state bench.old) (B.state bench.new) }
     ensures counted { IsCounted (B.state bench.old).store_faults (B.state bench.new).store_faults (is_open_fault result) }
