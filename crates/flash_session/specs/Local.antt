@@ -1,5 +1,8 @@
 -- What lies outside a plan.
-use Rattle.std.specs.Prelude.{◌≡◌, ◌⊎◌, ℕ, true, false, List, length, get_or, slice_index}
+use Rattle.std.specs.Prelude.{◌≡◌, ◌⊎◌, ◌∷◌, [], ℕ, true, false, List, length, get_or, slice_index}
+use Rattle.bench_model.specs.Calls.{CellsStay}
+use Rattle.bench_model.specs.History.{Leaves}
+use Rattle.bench_model.specs.State.{BenchState, cells_half}
 use Rattle.flm_descriptor.specs.Shape.{range_at}
 use Rattle.page_geometry.specs.Layout.{In, Layout}
 use Rattle.erase_planner.specs.Plans.{Chosen}
@@ -14,3 +17,18 @@ IsInPlan l plan i = (plan.chip ≡ true)
 pub record SameBut (P : ℕ → Type 0) (old new : List ℕ) : Type 0 where
   pub long : length new ≡ length old
   pub same : (i : ℕ) → ¬ P i → slice_index new i ≡ slice_index old i
+
+-- What a session does behind a survey, from one bench to the next: a script that changes cells at these places alone, or what leaves the
+-- cells as they are, such as the close.
+abbrev pub IsLocalStep : (P : ℕ → Type 0) (old new : BenchState) → Type 0
+IsLocalStep P old new = Leaves (cells_half old) (cells_half new) (SameBut P old.cells) ⊎ CellsStay old new
+
+-- so from each bench to the next, any number of times
+abbrev pub AreLocalSteps : {B : Type 0} (state : B → BenchState) (P : ℕ → Type 0) → B → List B → Type 0
+AreLocalSteps state P old [] = Unit {0}
+AreLocalSteps state P old (new ∷ later) = IsLocalStep P (state old) (state new) × AreLocalSteps state P new later
+
+-- the bench at their end
+abbrev pub last_bench : {B : Type 0} → B → List B → B
+last_bench old [] = old
+last_bench old (new ∷ later) = last_bench new later
