@@ -2,10 +2,10 @@
 use Rattle.std.proofs.Common.{◌≡◌, ◌≤◌, ◌+◌, ◌-◌, ◌++◌, ◌∷◌, [], ◌∙◌, ℕ, List, Bool, IsTrue, length, take, drop, refl, sym, ap, arith, append_assoc}
 use Rattle.std.proofs.lemmas.List.{append-nil, take_all}
 use Rattle.std.proofs.Math.Seq.{take-add}
-use Rattle.bench_model.specs.History.{left, Leaves, AddsNothing, LeftOnly}
+use Rattle.bench_model.specs.History.{left, Leaves, AddsNothing}
 use Rattle.bench_model.specs.State.{BenchState, file_half, cells_half}
 use Rattle.bench_model.specs.Calls.{Torn, Follows, FileStays, CellsStay, CellsAreRead}
-use Rattle.bench_model.proofs.Moments.{leaves_as, leaves_then, leaves_left, leaves_step, adds_nothing_here, adds_nothing_then, stays_leaves, stays_left, stays_adds_nothing}
+use Rattle.bench_model.proofs.Moments.{leaves_as, leaves_then, leaves_left, adds_nothing_here, adds_nothing_then, stays_leaves, stays_left, stays_adds_nothing}
 use Rattle.job_file.specs.Stops.{IsShut, KeepsGate}
 
 pub cells_read_here : (tells : Bool) (s : BenchState) → CellsAreRead tells s s
@@ -31,10 +31,6 @@ pub record PutSoFar (tells : Bool) (start now : BenchState) (front window : List
   pub cells : CellsAreRead tells start now
   pub store : now.store_faults ≡ start.store_faults
   pub device : now.device_faults ≡ start.device_faults
-
--- a write behind the gate, which is closed on the disk
-pub shut_by_write : (n : ℕ) (start now : BenchState) → LeftOnly (0 ∷ []) (file_half start) → Leaves (file_half start) (file_half now) (Follows (Torn 1 n) (file_half start)) → Leaves (file_half start) (file_half now) IsShut
-shut_by_write n start now only moments = leaves_step (Torn 1 n) IsShut (0 ∷ []) (0 ∷ []) only refl (λ f torn. torn.before) moments
 
 -- a step that keeps byte 0
 pub still_shut : (a b c : BenchState) → Leaves (file_half a) (file_half b) IsShut → Leaves (file_half b) (file_half c) (Follows KeepsGate (file_half b)) → Leaves (file_half a) (file_half c) IsShut

@@ -1,16 +1,8 @@
--- The snapshot behind the front of a body, and in the file of a job.
-use Rattle.std.proofs.Common.{◌≡◌, ◌≤◌, ◌<◌, ◌+◌, ◌-◌, ℕ, List, ◌++◌, length, drop, sym, ap, ◌∙◌, arith}
+-- The snapshot in the file of a job.
+use Rattle.std.proofs.Common.{◌≡◌, ◌≤◌, ◌<◌, ◌+◌, ◌-◌, ℕ, List, length, drop, sym, ap, ◌∙◌, arith}
 use Rattle.std.proofs.lemmas.List.{length-drop}
-use Rattle.job_text.specs.Body.{body_of}
 use Rattle.job_text.specs.declared.job.Job as code
-use Rattle.job_text.specs.declared.parts.JobParts.{JobParts}
-use Rattle.job_text.specs.Parts.{job_of, front_of}
 use Rattle.job_text.specs.Stands.{StandsFor, snapshot_in}
-use Rattle.job_text.proofs.PartLemmas.{front_is}
-
--- the body of a job with these cells for its snapshot
-pub body_from : (p : JobParts) (front cells : List ℕ) → front ≡ front_of p → length cells ≡ p.size → front ++ cells ≡ body_of (job_of p cells)
-body_from p front cells is many = ap (λ (l : List ℕ). l ++ cells) is ∙ front_is p cells many
 
 -- a range of the snapshot lies in the file
 pub snapshot_within : (job : code.Job) (file : List ℕ) (at len : ℕ) → StandsFor job file → 1 ≤ job.algorithm.device.size → at + len ≤ job.algorithm.device.size

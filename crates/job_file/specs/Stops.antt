@@ -1,6 +1,10 @@
 -- What a stop leaves of the file.
-use Rattle.std.specs.Prelude.{◌≡◌, ◌⊎◌, ℕ, List, [], ◌∷◌, take}
-use Rattle.bench_model.specs.History.{Half, left}
+use Rattle.std.specs.Prelude.{◌≡◌, ◌⊎◌, ℕ, Bool, IsTrue, List, [], ◌∷◌, ◌++◌, take, Result, OnOk}
+use Rattle.faults.specs.Counts.{HasCause}
+use Rattle.bench_model.specs.History.{Half, left, Leaves}
+use Rattle.bench_model.specs.State.{BenchState, file_half}
+use Rattle.bench_model.specs.Calls.{CellsStay, Follows}
+use Rattle.bench_model.specs.declared.bench_fault.StoreFault.{StoreFault}
 use Rattle.job_text.specs.Files.{IsFree, IsWhole, IsClosed}
 
 -- byte 0 is there, and closes the gate
@@ -10,6 +14,13 @@ IsShut file = take 1 file ≡ 0 ∷ []
 -- byte 0 is as before
 abbrev pub KeepsGate : List ℕ → List ℕ → Type 0
 KeepsGate old new = take 1 new ≡ take 1 old
+
+-- bytes are put behind the end of the file, of which byte 0 stays at each moment
+pub record Appends {T : Type 0} (tells : Bool) (old new : BenchState) (bytes : List ℕ) (result : Result T StoreFault) : Type 0 where
+  pub ok : IsTrue tells → OnOk result (new.file ≡ old.file ++ bytes)
+  pub moments : Leaves (file_half old) (file_half new) (Follows KeepsGate (file_half old))
+  pub cells : CellsStay old new
+  pub cause : HasCause old.store_faults new.store_faults result
 
 -- free, or whole for this body
 abbrev pub IsFreeOrWhole : List ℕ → List ℕ → Type 0

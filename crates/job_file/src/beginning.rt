@@ -5,7 +5,7 @@ ghost use Rattle.bench_model.specs.State.{file_half, cells_half};
 ghost use Rattle.bench_model.specs.Calls.{SameOutside, OnlyReads};
 ghost use Rattle.job_text.specs.Body.{body_of};
 ghost use Rattle.job_text.specs.Files.{IsFree, open_gate};
-ghost use Rattle.job_text.specs.Parts.{job_of, AreParts, front_of};
+ghost use Rattle.job_text.specs.Parts.{job_of, AreParts, head_of_parts, front_of};
 ghost use Rattle.job_file.specs.Counted.{IsCounted, is_store_fault, is_device_fault, IsFault, ReadsUnlessFault};
 ghost use Rattle.job_file.specs.Faults.{IsBeginFault, IsSoundBegin};
 ghost use Rattle.job_file.specs.Stops.{IsFreeOrWhole, IsOfBegin};
@@ -14,7 +14,7 @@ use crate::fault::BeginFault;
 use crate::gate::put_job;
 use crate::reading::{PIECE, look};
 use bench_model::Bench;
-use job_text::{Class, JobParts, body_front, class_of_file};
+use job_text::{Class, JobParts, class_of_file, head_text};
 use std::alloc::Global;
 
 /// Whether a job for so many cells may be begun over this file.
@@ -33,10 +33,10 @@ fn admit(alloc: Global, file: &[u8], said: u32, found: u32) -> Result<(), BeginF
     }
 }
 
-/// All that `begin` does before it touches the device: the front of the body that is to be written.
+/// All that `begin` does before it touches the device, and all for which it takes memory: the head of the body that is to be written.
 fn prepare<B: Bench>(alloc: Global, bench: &mut B, parts: &JobParts) -> Result<Vec<u8>, BeginFault>
     requires { AreParts parts.now }
-    ensures front { IfOk result (λ v. v.items ≡ front_of parts.now) }
+    ensures head { IfOk result (λ v. v.items ≡ head_of_parts parts.now) }
     ensures sized { IsOk result → parts.now.size ≡ (B.state bench.old).cell_count }
     ensures free { IsTrue B.tells → OnOk result (IsFree (B.state bench.old).file
         × LeftOnly (B.state bench.old).file (file_half (B.state bench.new))) }
@@ -49,20 +49,27 @@ fn prepare<B: Bench>(alloc: Global, bench: &mut B, parts: &JobParts) -> Result<V
     let bytes = look(alloc, bench)?;
     let found = bench.cells_len();
     admit(alloc, &bytes, parts.size, found)?;
-    Ok(body_front(alloc, parts)?)
+    Ok(head_text(alloc, parts)?)
 }
 
 /// Breaks an operation off, and puts the job, whose snapshot is read as it is written.
-fn drop_and_put<B: Bench>(bench: &mut B, front: &[u8], window: &mut [u8]) -> Result<(), BeginFault>
+fn drop_and_put<B: Bench>(
+    bench: &mut B,
+    head: &[u8],
+    parts: &JobParts,
+    window: &mut [u8],
+) -> Result<(), BeginFault>
+    requires parts { AreParts parts.now }
+    requires head { head.now ≡ head_of_parts parts.now }
     requires room { length window.old ≡ PIECE }
     requires free { IsTrue B.tells → IsFree (B.state bench.old).file }
     requires only { IsTrue B.tells → LeftOnly (B.state bench.old).file (file_half (B.state bench.old)) }
     ensures same { IsTrue B.tells → SameOutside (B.state bench.old).operation (B.state bench.old).cells (B.state bench.new).cells }
-    ensures ok { IsTrue B.tells → OnOk result (((B.state bench.new).file ≡ open_gate ∷ front.now ++ (B.state bench.new).cells)
-        × LeftOnly (open_gate ∷ front.now ++ (B.state bench.new).cells) (file_half (B.state bench.new))
+    ensures ok { IsTrue B.tells → OnOk result (((B.state bench.new).file ≡ open_gate ∷ front_of parts.now ++ (B.state bench.new).cells)
+        × LeftOnly (open_gate ∷ front_of parts.now ++ (B.state bench.new).cells) (file_half (B.state bench.new))
         × ((B.state bench.new).operation ≡ None)) }
     ensures stops { IsTrue B.tells → Leaves (file_half (B.state bench.old)) (file_half (B.state bench.new))
-        (IsOfBegin (file_half (B.state bench.old)) (front.now ++ (B.state bench.new).cells)) }
+        (IsOfBegin (file_half (B.state bench.old)) (front_of parts.now ++ (B.state bench.new).cells)) }
     ensures cells { AddsNothing (cells_half (B.state bench.old)) (cells_half (B.state bench.new)) }
     ensures count { (B.state bench.new).cell_count ≡ (B.state bench.old).cell_count }
     ensures fault { IfErr result IsFault }
@@ -70,7 +77,7 @@ fn drop_and_put<B: Bench>(bench: &mut B, front: &[u8], window: &mut [u8]) -> Res
     ensures device { IsCounted (B.state bench.old).device_faults (B.state bench.new).device_faults (is_device_fault result) }
 {
     bench.cells_drop()?;
-    put_job(bench, front, window)
+    put_job(bench, head, parts, window)
 }
 
 /// Begins a job over a free file: the snapshot is read once nothing is open on the device, and written as it is read, some thousand
@@ -112,6 +119,6 @@ pub fn begin<B: Bench>(alloc: Global, bench: &mut B, parts: &JobParts) -> Result
     ensures store { IsCounted (B.state bench.old).store_faults (B.state bench.new).store_faults (is_store_fault result) }
     ensures device { IsCounted (B.state bench.old).device_faults (B.state bench.new).device_faults (is_device_fault result) }
 {
-    let front = prepare(alloc, bench, parts)?;
-    drop_and_put(bench, &front, &mut [0; PIECE])
+    let head = prepare(alloc, bench, parts)?;
+    drop_and_put(bench, &head, parts, &mut [0; PIECE])
 }

@@ -9,7 +9,12 @@ use job_text::Job;
 
 /// Fills the buffer with the snapshot of a job from place `at` on. The file stands for the job, and the places are the device's. On a
 /// fault the buffer holds any bytes. It takes no memory.
-pub fn snapshot_into<B: Bench>(bench: &mut B, job: &Job, at: u32, out: &mut [u8]) -> Result<(), StoreFault>
+pub fn snapshot_into<B: Bench>(
+    bench: &mut B,
+    job: &Job,
+    at: u32,
+    out: &mut [u8],
+) -> Result<(), StoreFault>
     requires range { at + length out.old ≤ job.now.algorithm.device.size }
     requires stands { IsTrue B.tells → StandsFor job.now (B.state bench.old).file }
     ensures ok { IsTrue B.tells → OnOk result (out.new ≡ take (length out.old) (drop at (snapshot_in job.now (B.state bench.old).file))) }

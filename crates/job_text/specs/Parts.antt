@@ -24,7 +24,10 @@ pub record AreParts (parts : JobParts) : Type 0 where
   pub short_board : length parts.board.now < 2 ^ 32
   pub short_flm : length parts.flm.now < 2 ^ 32
 
+-- the mark and the four lengths
+abbrev pub head_of_parts : JobParts → List ℕ
+head_of_parts parts = mark ++ field (length parts.board.now) ++ field (length parts.flm.now) ++ field (length parts.image.now) ++ field parts.size
+
 -- what stands before the snapshot
 abbrev pub front_of : JobParts → List ℕ
-front_of parts = mark ++ field (length parts.board.now) ++ field (length parts.flm.now) ++ field (length parts.image.now) ++ field parts.size
-    ++ parts.board.now ++ parts.flm.now ++ flat_map run_text parts.image.now
+front_of parts = head_of_parts parts ++ parts.board.now ++ parts.flm.now ++ flat_map run_text parts.image.now

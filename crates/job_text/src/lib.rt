@@ -20,4 +20,4 @@ pub use fault::JobFault;
 pub use fitting::suits;
 pub use job::{Class, Job};
 pub use law::{bodies_have_one_job, files_have_one_class, jobs_have_one_region, parts_make_a_job};
-pub use parts::{JobParts, body_front};
+pub use parts::{JobParts, head_text, run_head};

@@ -1,12 +1,11 @@
 //! A body as it is written.
-ghost use Rattle.std.specs.Prelude.{◌≡◌, ◌<◌, ◌^◌, ◌++◌, length, take, slice_get, Some, IfOk, OnOk};
-ghost use Rattle.std.specs.List.{flat_map};
-ghost use Rattle.job_text.specs.Body.{mark, field, run_text};
-ghost use Rattle.job_text.specs.Runs.{run_of, AreShort};
-ghost use Rattle.job_text.specs.Parts.{AreParts, front_of};
+ghost use Rattle.std.specs.Prelude.{◌≡◌, ◌<◌, ◌^◌, ◌++◌, length, IfOk, OnOk};
+ghost use Rattle.job_text.specs.Body.{field};
+ghost use Rattle.job_text.specs.Parts.{AreParts, head_of_parts};
 
 use crate::fields::{MARK, put_number};
 use byte_map::ByteMap;
+use byteorder::{ByteOrder, LittleEndian};
 use faults::OutOfMemory;
 use std::alloc::{AllocError, Global};
 
@@ -33,38 +32,23 @@ fn put_lengths(out: &mut Vec<u8>, parts: &JobParts) -> Result<(), AllocError>
     put_number(out, parts.size)
 }
 
-/// Appends a run.
-fn put_run(out: &mut Vec<u8>, at: u32, bytes: &[u8]) -> Result<(), AllocError>
-    requires { length bytes.now < 2 ^ 32 }
-    ensures { OnOk result (out.new.items ≡ out.old.items ++ run_text (run_of at bytes.now)) }
-{
-    put_number(out, at)?;
-    put_number(out, bytes.len() as u32)?;
-    out.extend_from_slice(bytes)
-}
-
-/// Appends the runs of an image.
-fn put_runs(out: &mut Vec<u8>, image: &ByteMap) -> Result<(), AllocError>
-    requires { AreShort image.now }
-    ensures { OnOk result (out.new.items ≡ out.old.items ++ flat_map run_text image.now) }
-{
-    for index in 0..image.runs() {
-        let (at, bytes) = image.run(index);
-        put_run(out, at, bytes)?;
-    }
-    Ok(())
-}
-
-/// The body of a job up to its snapshot.
-pub fn body_front(alloc: Global, parts: &JobParts) -> Result<Vec<u8>, OutOfMemory>
+/// What stands before the board's text: the mark and the four lengths, which are 23 bytes.
+pub fn head_text(alloc: Global, parts: &JobParts) -> Result<Vec<u8>, OutOfMemory>
     requires { AreParts parts.now }
-    ensures { IfOk result (λ v. v.items ≡ front_of parts.now) }
+    ensures { IfOk result (λ v. v.items ≡ head_of_parts parts.now) }
 {
     let mut out = Vec::new(alloc);
     out.extend_from_slice(&MARK)?;
     put_lengths(&mut out, parts)?;
-    out.extend_from_slice(parts.board)?;
-    out.extend_from_slice(parts.flm)?;
-    put_runs(&mut out, parts.image)?;
     Ok(out)
+}
+
+/// What stands before the bytes of a run: its address, and how many there are.
+pub fn run_head(at: u32, len: u32) -> [u8; 8]
+    ensures { result ≡ field at ++ field len }
+{
+    let mut out = [0; 8];
+    LittleEndian::write_u32(&mut out[..4], at);
+    LittleEndian::write_u32(&mut out[4..], len);
+    out
 }

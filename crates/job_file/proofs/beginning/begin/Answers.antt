@@ -4,9 +4,9 @@ use Rattle.bench_model.specs.State.{file_half}
 use Rattle.bench_model.proofs.Moments.{leaves_left}
 use Rattle.job_text.specs.Body.{body_of}
 use Rattle.job_text.specs.Files.{IsFree}
-use Rattle.job_text.specs.Parts.{job_of}
+use Rattle.job_text.specs.Parts.{job_of, front_of}
+use Rattle.job_text.proofs.PartLemmas.{front_is}
 use Rattle.job_file.specs.Stops.{IsOfBegin, IsFreeOrWhole}
-use Rattle.job_file.proofs.TextLemmas.{body_from}
 use Rattle.job_file.proofs.PieceLemmas.{begins}
 use Rattle.job_file.proofs.beginning.begin.Goals as goal
 
@@ -14,8 +14,8 @@ pub returns-clause-ok : goal.returns-clause-ok
 returns-clause-ok g c = λ told.
     let p = c.args.parts.now in
     let d = g.B.Bench.state c.drop_and_put.new.bench in
-    let many : length d.cells ≡ p.size = omega (arith, g.met.B.Bench.all_told c.drop_and_put.new.bench told, c.drop_and_put.ensures.count, c.prepare.ensures.reads.cells.count, c.in_ok-front.ensures.sized refl) in
-    let text = body_from p c.deref.result.now d.cells (c.deref.ensures.value ∙ c.in_ok-front.ensures.front) many in
+    let many : length d.cells ≡ p.size = omega (arith, g.met.B.Bench.all_told c.drop_and_put.new.bench told, c.drop_and_put.ensures.count, c.prepare.ensures.reads.cells.count, c.in_ok-head.ensures.sized refl) in
+    let text = front_is p d.cells many in
     subst (λ (l : List ℕ). OnOk c.drop_and_put.result ((d.file ≡ 165 ∷ l) × LeftOnly (165 ∷ l) (file_half d) × (d.operation ≡ None))) text (c.drop_and_put.ensures.ok told)
 
 pub returns-clause-stops : goal.returns-clause-stops
@@ -24,19 +24,19 @@ returns-clause-stops g c = λ told.
     let a = g.B.Bench.state c.args.bench.now in
     let b = g.B.Bench.state c.prepare.new.bench in
     let d = g.B.Bench.state c.drop_and_put.new.bench in
-    let many : length d.cells ≡ p.size = omega (arith, g.met.B.Bench.all_told c.drop_and_put.new.bench told, c.drop_and_put.ensures.count, c.prepare.ensures.reads.cells.count, c.in_ok-front.ensures.sized refl) in
-    let text = body_from p c.deref.result.now d.cells (c.deref.ensures.value ∙ c.in_ok-front.ensures.front) many in
-    begins g.B.Bench.tells a b d (c.deref.result.now ++ d.cells) (body_of (job_of p d.cells)) c.prepare.ensures.reads (c.drop_and_put.ensures.stops told) text
+    let many : length d.cells ≡ p.size = omega (arith, g.met.B.Bench.all_told c.drop_and_put.new.bench told, c.drop_and_put.ensures.count, c.prepare.ensures.reads.cells.count, c.in_ok-head.ensures.sized refl) in
+    let text = front_is p d.cells many in
+    begins g.B.Bench.tells a b d (front_of p ++ d.cells) (body_of (job_of p d.cells)) c.prepare.ensures.reads (c.drop_and_put.ensures.stops told) text
 
 pub returns-clause-after : goal.returns-clause-after
 returns-clause-after g c = λ told is_free.
     let p = c.args.parts.now in
     let b = g.B.Bench.state c.prepare.new.bench in
     let d = g.B.Bench.state c.drop_and_put.new.bench in
-    let many : length d.cells ≡ p.size = omega (arith, g.met.B.Bench.all_told c.drop_and_put.new.bench told, c.drop_and_put.ensures.count, c.prepare.ensures.reads.cells.count, c.in_ok-front.ensures.sized refl) in
-    let text = body_from p c.deref.result.now d.cells (c.deref.ensures.value ∙ c.in_ok-front.ensures.front) many in
-    let body = c.deref.result.now ++ d.cells in
+    let many : length d.cells ≡ p.size = omega (arith, g.met.B.Bench.all_told c.drop_and_put.new.bench told, c.drop_and_put.ensures.count, c.prepare.ensures.reads.cells.count, c.in_ok-head.ensures.sized refl) in
+    let text = front_is p d.cells many in
+    let body = front_of p ++ d.cells in
     ⊎_elim
-    (λ (at : left (file_half b) d.file). inl (subst (λ (f : List ℕ). IsFree f) (sym ((c.in_ok-front.ensures.free told).1 d.file at)) is_free))
+    (λ (at : left (file_half b) d.file). inl (subst (λ (f : List ℕ). IsFree f) (sym ((c.in_ok-head.ensures.free told).1 d.file at)) is_free))
     (λ (other : IsFreeOrWhole body d.file). subst (λ (l : List ℕ). IsFreeOrWhole l d.file) text other)
     (leaves_left (IsOfBegin (file_half b) body) (c.drop_and_put.ensures.stops told) d.file (g.met.B.Bench.as_read c.drop_and_put.new.bench told))

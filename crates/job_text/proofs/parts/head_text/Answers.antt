@@ -1,5 +1,5 @@
-use Rattle.job_text.proofs.PartLemmas.{blank_small, short_parts}
-use Rattle.job_text.proofs.parts.body_front.Goals as goal
+use Rattle.job_text.proofs.PartLemmas.{blank_small}
+use Rattle.job_text.proofs.parts.head_text.Goals as goal
 
 pub put_lengths-requires-clause-board : goal.put_lengths-requires-clause-board
 put_lengths-requires-clause-board c = c.requires.short_board
@@ -9,6 +9,3 @@ put_lengths-requires-clause-flm c = c.requires.short_flm
 
 pub put_lengths-requires-clause-image : goal.put_lengths-requires-clause-image
 put_lengths-requires-clause-image c = (blank_small c.args.parts.now c.requires).runs
-
-pub put_runs-requires : goal.put_runs-requires
-put_runs-requires c = short_parts c.args.parts.now c.requires

@@ -1,6 +1,6 @@
 use Rattle.std.proofs.Common.{length}
 use Rattle.job_file.proofs.PutLemmas.{kept_by_write}
-use Rattle.job_file.proofs.gate.copy_cells.Goals as goal
+use Rattle.job_file.proofs.body.copy_cells.Goals as goal
 
 pub returns-in_err-file_write-clause-moments : goal.returns-in_err-file_write-clause-moments
 returns-in_err-file_write-clause-moments g c =

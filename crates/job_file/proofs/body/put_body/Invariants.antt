@@ -1,9 +1,10 @@
 use Rattle.std.proofs.Common.{◌-◌}
+use Rattle.job_text.specs.Parts.{front_of}
 use Rattle.job_file.proofs.PutLemmas.{PutSoFar}
-use Rattle.job_file.proofs.gate.put_body.Given as goal
+use Rattle.job_file.proofs.body.put_body.Given as goal
 
 abbrev pub invariant-loop-at : goal.invariant-loop-at
-invariant-loop-at g l = PutSoFar g.B.Bench.tells (g.B.Bench.state l.fn.bench) (g.B.Bench.state l.bench) l.front l.window l.at
+invariant-loop-at g l = PutSoFar g.B.Bench.tells (g.B.Bench.state l.fn.bench) (g.B.Bench.state l.bench) (front_of l.parts) l.window l.at
 
 abbrev pub decreases-loop-at : goal.decreases-loop-at
 decreases-loop-at g l = l.count - l.at
