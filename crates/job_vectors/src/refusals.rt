@@ -10,7 +10,7 @@ use job_file::{JobParts, begin, open};
 use job_text::Job;
 
 /// How many calls a job takes that is begun over a closed one: file calls and cell calls.
-const STORE_CALLS: u64 = 13;
+const STORE_CALLS: u64 = 17;
 
 const DEVICE_CALLS: u64 = 2;
 
@@ -82,7 +82,11 @@ fn put_open(rt: &HostRuntime, cells: u32, file: &[u8], store: u64) -> Result<()>
 fn put_job(rt: &HostRuntime, job: &Job) -> Result<()> {
     let base = job.algorithm.device.base;
     print!(rt; "{base:08X} {}, ", job.algorithm.device.size)?;
-    println!(rt; "{:?}, {} cells", job.image.get(base), job.algorithm.device.size)?;
+    println!(rt;
+        "{:?}, {} cells",
+        job.image.get(base),
+        job.algorithm.device.size
+    )?;
     Ok(())
 }
 
