@@ -74,12 +74,15 @@ fn difference_in<B: Bench>(
     }
 }
 
-/// The first index at which two lists of one length differ.
+/// The first index at which two lists of one length differ. They are compared whole first, which is much faster than byte by byte.
 fn first_unequal(want: &[u8], got: &[u8]) -> Option<usize>
     requires { length got.now ≡ length want.now }
     ensures { MatchOption result (got.now ≡ want.now) (λ i. (i < length want.now)
         × (slice_index want.now i ≢ slice_index got.now i) × (take i got.now ≡ take i want.now)) }
 {
+    if got == want {
+        return None;
+    }
     for i in 0..want.len() {
         if want[i] != got[i] {
             return Some(i);
