@@ -1,3 +1,4 @@
 pub mod PutLemmas
 pub mod PlanLemmas
 mod JobLemmas
+pub mod GatherLemmas

@@ -6,9 +6,9 @@ use Rattle.outside_io.specs.declared.sink.OutputFault.{OutputFault}
 use Rattle.flm_descriptor.specs.Shape.{Range, range_at}
 use Rattle.page_geometry.specs.Layout.{Layout, IsPartition, IsAt}
 use Rattle.erase_planner.specs.Plans.{Chosen, IsEmptyPlan}
-use Rattle.report_text.specs.Puts.{Puts}
+use Rattle.report_text.specs.Gathers.{Gathers}
 use Rattle.report_text.specs.Plan.{is_none, asks_nothing, kind_text, texts_below, action_text, member_text, set_text, erase_text}
-use Rattle.report_text.proofs.PutLemmas.{puts_nothing, puts_as, puts_then, puts_stops}
+use Rattle.report_text.proofs.GatherLemmas.{gathers_nothing, gathers_as, gathers_then, gathers_stops}
 
 module _ (text : ℕ → List ℕ) where
   below_next : (n : ℕ) → texts_below n text ++ text n ≡ texts_below (n + 1) text
@@ -32,20 +32,20 @@ module _ (text : ℕ → List ℕ) where
   begins_below m n less = below_then m (n - m) ∙ ap (λ (k : ℕ). texts_below k text) (let e : m + (n - m) ≡ n = omega arith in e)
 
   -- no number yet
-  pub puts_none : (tells : Bool) (a : SinkState) (u : Unit {0}) → Puts tells a a (texts_below 0 text) (Ok u)
+  pub gathers_none : (tells : Bool) (a : SinkState) (w : List ℕ) (u : Unit {0}) → Gathers tells a a w w (texts_below 0 text) (Ok u)
   unfolding texts_below
-  puts_none tells a u = puts_nothing tells a u
+  gathers_none tells a w u = gathers_nothing tells a w u
 
   -- one more
-  pub puts_next : {tells : Bool} {a b c : SinkState} {u v : Unit {0}} (n : ℕ) → Puts tells a b (texts_below n text) (Ok u)
-      → Puts tells b c (text n) (Ok v) → Puts tells a c (texts_below (n + 1) text) (Ok v)
-  puts_next n one two = puts_as (below_next n) (puts_then _ one two)
+  pub gathers_next : {tells : Bool} {a b c : SinkState} {v w x : List ℕ} {i j : Unit {0}} (n : ℕ) → Gathers tells a b v w (texts_below n text) (Ok i)
+      → Gathers tells b c w x (text n) (Ok j) → Gathers tells a c v x (texts_below (n + 1) text) (Ok j)
+  gathers_next n one two = gathers_as (below_next n) (gathers_then _ one two)
 
   -- one that a fault broke off
-  pub puts_broken : {tells : Bool} {a b c : SinkState} {u : Unit {0}} {e : OutputFault} (n all : ℕ) → n < all → Puts tells a b (texts_below n text) (Ok u)
-      → Puts tells b c (text n) (Err e) → Puts tells a c (texts_below all text) (Err e)
-  puts_broken n all less one two =
-      puts_as (begins_below (n + 1) all (omega (arith, less))) (puts_stops _ (puts_as (below_next n) (puts_then _ one two)))
+  pub gathers_broken : {tells : Bool} {a b c : SinkState} {v w x : List ℕ} {i : Unit {0}} {e : OutputFault} (n all : ℕ) → n < all
+      → Gathers tells a b v w (texts_below n text) (Ok i) → Gathers tells b c w x (text n) (Err e) → Gathers tells a c v x (texts_below all text) (Err e)
+  gathers_broken n all less one two =
+      gathers_as (begins_below (n + 1) all (omega (arith, less))) (gathers_stops _ (gathers_as (below_next n) (gathers_then _ one two)))
 
 -- Members of a set.
 

@@ -66,9 +66,12 @@ puts_failed (Err f) failed puts = record {
 
 -- The texts of a list, one after the other.
 module _ {A : Type 0} (text : A → List ℕ) (items : List A) (i : ℕ) (d : A) (less : i < length items) where
-  next_text : flat_map text (take i items) ++ text (get_or items i d) ≡ flat_map text (take (i + 1) items)
+  pub next_text : flat_map text (take i items) ++ text (get_or items i d) ≡ flat_map text (take (i + 1) items)
   next_text = sym (rw (add-one, take-suc items i d less, flat_map-append)
       (ap (λ (l : List ℕ). flat_map text (take i items) ++ l) (append-nil (text (get_or items i d)))))
+
+  pub rest_text : flat_map text (take (i + 1) items) ++ flat_map text (drop (i + 1) items) ≡ flat_map text items
+  rest_text = sym (flat_map-append text (take (i + 1) items) (drop (i + 1) items)) ∙ ap (flat_map text) (take-append-drop (i + 1) items)
 
   -- one more
   pub puts_more : {tells : Bool} {a b c : SinkState} {u v : Unit {0}}
@@ -80,7 +83,4 @@ module _ {A : Type 0} (text : A → List ℕ) (items : List A) (i : ℕ) (d : A)
   pub puts_breaks : {tells : Bool} {a b c : SinkState} {u : Unit {0}} {e : OutputFault}
       → Puts tells a b (flat_map text (take i items)) (Ok u) → Puts tells b c (text (get_or items i d)) (Err e)
       → Puts tells a c (flat_map text items) (Err e)
-  puts_breaks one two =
-      let whole : flat_map text (take (i + 1) items) ++ flat_map text (drop (i + 1) items) ≡ flat_map text items =
-      sym (flat_map-append text (take (i + 1) items) (drop (i + 1) items)) ∙ ap (flat_map text) (take-append-drop (i + 1) items) in
-      puts_as whole (puts_stops (flat_map text (drop (i + 1) items)) (puts_as next_text (puts_then _ one two)))
+  puts_breaks one two = puts_as rest_text (puts_stops (flat_map text (drop (i + 1) items)) (puts_as next_text (puts_then _ one two)))

@@ -7,3 +7,4 @@ pub mod Refusal
 pub mod Shown
 pub mod Plan
 pub mod Job
+pub mod Gathers

@@ -5,6 +5,7 @@
 mod board_reason;
 mod call_reason;
 mod end;
+mod gathered;
 mod image_reason;
 mod inspection;
 mod job;

@@ -3,9 +3,10 @@ ghost use Rattle.std.specs.Prelude.{◌≡◌, ◌≤◌, ◌<◌, ◌+◌, ◌-
 ghost use Rattle.flm_descriptor.specs.Shape.{range_at};
 ghost use Rattle.page_geometry.specs.Layout.{IsLayout};
 ghost use Rattle.report_text.specs.Plan.{kind_text, action_text, member_text, set_text, erase_text, cost_text, plan_text};
+ghost use Rattle.report_text.specs.Gathers.{Gathers};
 ghost use Rattle.report_text.specs.Puts.{Puts};
 
-use crate::pieces::put_pieces;
+use crate::gathered::Gathered;
 use erase_planner::Plan;
 use itoa::Buffer;
 use octets::hex_digits;
@@ -13,7 +14,7 @@ use outside_io::{OutputFault, Sink};
 use page_geometry::Geometry;
 
 /// Puts what a plan erases, what it programs and what it costs, line by line, for the device of this geometry, whose first
-/// byte has the address `base`. A fault may leave a beginning of it.
+/// byte has the address `base`. A fault may leave a beginning of it. It goes out in pieces of up to 4,096 bytes.
 pub fn put_plan<O: Sink>(
     out: &mut O,
     geometry: &Geometry,
@@ -23,60 +24,79 @@ pub fn put_plan<O: Sink>(
     requires { base + geometry.now.size ≤ 2 ^ 32 }
     ensures { Puts O.tells (O.state out.old) (O.state out.new) (plan_text geometry.now base plan.now.made) result }
 {
-    put_kind(out, plan)?;
-    put_erasures(out, geometry, base, plan)?;
-    put_pages(out, geometry, base, plan)?;
-    put_cost(out, plan.cost())
+    let mut text = Gathered::new();
+    gather_plan(out, &mut text, geometry, base, plan)?;
+    text.put(out)
 }
 
-/// Puts the line that says what kind of plan it is.
-fn put_kind<O: Sink>(out: &mut O, plan: &Plan) -> Result<(), OutputFault>
-    ensures { Puts O.tells (O.state out.old) (O.state out.new) (kind_text plan.now.made) result }
+/// Gathers the whole text of a plan.
+fn gather_plan<O: Sink>(
+    out: &mut O,
+    text: &mut Gathered,
+    geometry: &Geometry,
+    base: u32,
+    plan: &Plan,
+) -> Result<(), OutputFault>
+    requires { base + geometry.now.size ≤ 2 ^ 32 }
+    ensures { Gathers O.tells (O.state out.old) (O.state out.new) text.old text.new (plan_text geometry.now base plan.now.made) result }
+{
+    gather_kind(out, text, plan)?;
+    gather_erasures(out, text, geometry, base, plan)?;
+    gather_pages(out, text, geometry, base, plan)?;
+    gather_cost(out, text, plan.cost())
+}
+
+/// Gathers the line that says what kind of plan it is.
+fn gather_kind<O: Sink>(out: &mut O, text: &mut Gathered, plan: &Plan) -> Result<(), OutputFault>
+    ensures { Gathers O.tells (O.state out.old) (O.state out.new) text.old text.new (kind_text plan.now.made) result }
 {
     if plan.is_empty() {
-        return put_pieces(out, &[b"plan none\n"]);
+        return text.add_all(out, &[b"plan none\n"]);
     }
     if plan.is_chip() {
-        return put_pieces(out, &[b"plan chip\n"]);
+        return text.add_all(out, &[b"plan chip\n"]);
     }
-    put_pieces(out, &[b"plan sectors\n"])
+    text.add_all(out, &[b"plan sectors\n"])
 }
 
-/// Puts a line for the chip where it is erased, or else one for each sector.
-fn put_erasures<O: Sink>(
+/// Gathers a line for the chip where it is erased, or else one for each sector.
+fn gather_erasures<O: Sink>(
     out: &mut O,
+    text: &mut Gathered,
     geometry: &Geometry,
     base: u32,
     plan: &Plan,
 ) -> Result<(), OutputFault>
     requires { base + geometry.now.size ≤ 2 ^ 32 }
-    ensures { Puts O.tells (O.state out.old) (O.state out.new) (erase_text geometry.now base plan.now.made) result }
+    ensures { Gathers O.tells (O.state out.old) (O.state out.new) text.old text.new (erase_text geometry.now base plan.now.made) result }
 {
     if plan.is_chip() {
-        return put_pieces(out, &[b"erase chip\n"]);
+        return text.add_all(out, &[b"erase chip\n"]);
     }
-    put_sectors(out, geometry, base, plan)
+    gather_sectors(out, text, geometry, base, plan)
 }
 
-/// Puts a line for each sector that is erased.
-fn put_sectors<O: Sink>(
+/// Gathers a line for each sector that is erased.
+fn gather_sectors<O: Sink>(
     out: &mut O,
+    text: &mut Gathered,
     geometry: &Geometry,
     base: u32,
     plan: &Plan,
 ) -> Result<(), OutputFault>
     requires { base + geometry.now.size ≤ 2 ^ 32 }
-    ensures { Puts O.tells (O.state out.old) (O.state out.new) (set_text (codes "erase") base geometry.now.sectors plan.now.made.sectors) result }
+    ensures { Gathers O.tells (O.state out.old) (O.state out.new) text.old text.new (set_text (codes "erase") base geometry.now.sectors plan.now.made.sectors) result }
 {
     for index in 0..geometry.sectors() {
-        put_sector(out, geometry, base, plan, index)?;
+        gather_sector(out, text, geometry, base, plan, index)?;
     }
     Ok(())
 }
 
-/// Puts the line of a sector where it is erased.
-fn put_sector<O: Sink>(
+/// Gathers the line of a sector where it is erased.
+fn gather_sector<O: Sink>(
     out: &mut O,
+    text: &mut Gathered,
     geometry: &Geometry,
     base: u32,
     plan: &Plan,
@@ -85,34 +105,36 @@ fn put_sector<O: Sink>(
     requires lawful { IsLayout geometry.now }
     requires fits { base + geometry.now.size ≤ 2 ^ 32 }
     requires number { index < length geometry.now.sectors }
-    ensures { Puts O.tells (O.state out.old) (O.state out.new) (member_text (codes "erase") base geometry.now.sectors plan.now.made.sectors index) result }
+    ensures { Gathers O.tells (O.state out.old) (O.state out.new) text.old text.new (member_text (codes "erase") base geometry.now.sectors plan.now.made.sectors index) result }
 {
     if !plan.sector_in(index) {
         return Ok(());
     }
     let (place, len) = geometry.sector(index);
-    put_action(out, b"erase", base + place, len)
+    gather_action(out, text, b"erase", base + place, len)
 }
 
-/// Puts a line for each page that is programmed.
-fn put_pages<O: Sink>(
+/// Gathers a line for each page that is programmed.
+fn gather_pages<O: Sink>(
     out: &mut O,
+    text: &mut Gathered,
     geometry: &Geometry,
     base: u32,
     plan: &Plan,
 ) -> Result<(), OutputFault>
     requires { base + geometry.now.size ≤ 2 ^ 32 }
-    ensures { Puts O.tells (O.state out.old) (O.state out.new) (set_text (codes "program") base geometry.now.pages plan.now.made.pages) result }
+    ensures { Gathers O.tells (O.state out.old) (O.state out.new) text.old text.new (set_text (codes "program") base geometry.now.pages plan.now.made.pages) result }
 {
     for index in 0..geometry.pages() {
-        put_page(out, geometry, base, plan, index)?;
+        gather_page(out, text, geometry, base, plan, index)?;
     }
     Ok(())
 }
 
-/// Puts the line of a page where it is programmed.
-fn put_page<O: Sink>(
+/// Gathers the line of a page where it is programmed.
+fn gather_page<O: Sink>(
     out: &mut O,
+    text: &mut Gathered,
     geometry: &Geometry,
     base: u32,
     plan: &Plan,
@@ -121,31 +143,37 @@ fn put_page<O: Sink>(
     requires lawful { IsLayout geometry.now }
     requires fits { base + geometry.now.size ≤ 2 ^ 32 }
     requires number { index < length geometry.now.pages }
-    ensures { Puts O.tells (O.state out.old) (O.state out.new) (member_text (codes "program") base geometry.now.pages plan.now.made.pages index) result }
+    ensures { Gathers O.tells (O.state out.old) (O.state out.new) text.old text.new (member_text (codes "program") base geometry.now.pages plan.now.made.pages index) result }
 {
     if !plan.page_in(index) {
         return Ok(());
     }
     let (place, len) = geometry.page(index);
-    put_action(out, b"program", base + place, len)
+    gather_action(out, text, b"program", base + place, len)
 }
 
-/// Puts the line of an action.
+/// Gathers the line of an action.
 #[tactic(auto, unfolding(crate::specs::Plan::action_text))]
-fn put_action<O: Sink>(out: &mut O, name: &[u8], at: u32, len: u32) -> Result<(), OutputFault>
-    ensures { Puts O.tells (O.state out.old) (O.state out.new) (action_text name.now at len) result }
+fn gather_action<O: Sink>(
+    out: &mut O,
+    text: &mut Gathered,
+    name: &[u8],
+    at: u32,
+    len: u32,
+) -> Result<(), OutputFault>
+    ensures { Gathers O.tells (O.state out.old) (O.state out.new) text.old text.new (action_text name.now at len) result }
 {
     let mut of_len = Buffer::new();
     let at = hex_digits::<8>(at);
     let len = of_len.format(len).as_bytes();
-    put_pieces(out, &[name, b" ", &at, b" ", len, b"\n"])
+    text.add_all(out, &[name, b" ", &at, b" ", len, b"\n"])
 }
 
-/// Puts the line of a cost.
+/// Gathers the line of a cost.
 #[tactic(auto, unfolding(crate::specs::Plan::cost_text))]
-fn put_cost<O: Sink>(out: &mut O, cost: u64) -> Result<(), OutputFault>
-    ensures { Puts O.tells (O.state out.old) (O.state out.new) (cost_text cost) result }
+fn gather_cost<O: Sink>(out: &mut O, text: &mut Gathered, cost: u64) -> Result<(), OutputFault>
+    ensures { Gathers O.tells (O.state out.old) (O.state out.new) text.old text.new (cost_text cost) result }
 {
     let mut of_cost = Buffer::new();
-    put_pieces(out, &[b"cost ", of_cost.format(cost).as_bytes(), b"\n"])
+    text.add_all(out, &[b"cost ", of_cost.format(cost).as_bytes(), b"\n"])
 }

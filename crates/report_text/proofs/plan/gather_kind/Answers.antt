@@ -1,18 +1,18 @@
 use Rattle.std.proofs.Common.{◌≡◌, ◌∙◌, sym, refl, false, true}
 use Rattle.erase_planner.specs.Plans.{IsEmptyPlan}
-use Rattle.report_text.proofs.PutLemmas.{puts_as}
+use Rattle.report_text.proofs.GatherLemmas.{gathers_as}
 use Rattle.report_text.proofs.PlanLemmas.{kind_none, kind_chip, kind_sectors}
-use Rattle.report_text.proofs.plan.put_kind.Goals as goal
+use Rattle.report_text.proofs.plan.gather_kind.Goals as goal
 
 pub returns-then-is_empty : goal.returns-then-is_empty
-returns-then-is_empty g c = puts_as (kind_none c.args.plan.now.made (c.if-is_empty.ensures.0 refl)) c.put_pieces.ensures
+returns-then-is_empty g c = gathers_as (kind_none c.args.plan.now.made (c.if-is_empty.ensures.0 refl)) c.add_all.ensures
 
 pub returns-then-is_chip : goal.returns-then-is_chip
 returns-then-is_chip g c =
     let some = λ (none : IsEmptyPlan c.args.plan.now.made). let wrong : false ≡ true = c.if-is_empty.ensures.1 none in let no : ⊥ = cc in no in
-    puts_as (kind_chip c.args.plan.now.made some (sym c.is_chip.ensures ∙ c.if-is_chip.true)) c.put_pieces-then-is_chip.ensures
+    gathers_as (kind_chip c.args.plan.now.made some (sym c.is_chip.ensures ∙ c.if-is_chip.true)) c.add_all-then-is_chip.ensures
 
 pub returns : goal.returns
 returns g c =
     let some = λ (none : IsEmptyPlan c.args.plan.now.made). let wrong : false ≡ true = c.if-is_empty.ensures.1 none in let no : ⊥ = cc in no in
-    puts_as (kind_sectors c.args.plan.now.made some (sym c.is_chip.ensures ∙ c.if-is_chip.false)) c.put_pieces-2.ensures
+    gathers_as (kind_sectors c.args.plan.now.made some (sym c.is_chip.ensures ∙ c.if-is_chip.false)) c.add_all-2.ensures

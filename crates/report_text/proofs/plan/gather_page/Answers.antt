@@ -1,0 +1,13 @@
+use Rattle.std.specs.Prelude.{codes}
+use Rattle.report_text.proofs.GatherLemmas.{gathers_nothing, gathers_as}
+use Rattle.report_text.proofs.PlanLemmas.{not_in, is_in}
+use Rattle.report_text.proofs.plan.gather_page.Goals as goal
+
+pub returns-then-not-page_in : goal.returns-then-not-page_in
+returns-then-not-page_in g c =
+    gathers_as (not_in (codes "program") c.args.base c.args.geometry.now.pages c.args.plan.now.made.pages c.args.index (cc)) (gathers_nothing _ _ _ _)
+
+pub returns : goal.returns
+returns g c =
+    gathers_as (is_in (codes "program") c.args.base c.args.geometry.now.pages c.args.plan.now.made.pages c.args.index c.page-place.result.0 c.page-place.result.1 (cc) c.page-place.ensures.range)
+    c.gather_action.ensures
