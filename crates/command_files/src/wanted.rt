@@ -17,6 +17,9 @@ use octets::Bytes;
 use report_text::Refusal;
 use std::alloc::Global;
 
+/// The most bytes of a board's text that are parsed: 1 MiB. Parsing takes some forty times a text's length of memory.
+const LONGEST_BOARD: usize = 1_048_576;
+
 /// The addresses of a device: how many from which on.
 #[derive(Clone, Copy)]
 pub struct Device {
@@ -35,7 +38,8 @@ pub struct Wanted {
 }
 
 /// Reads the board, the FLM file where there is one, which has to be for the board, and then each image in turn, and checks that
-/// their union lies in the board's region. The files are those of the names.
+/// their union lies in the board's region. The files are those of the names. A board's text that is longer than 1 MiB is answered
+/// as want of memory.
 pub fn read_files<'a>(
     alloc: Global,
     names: &FileNames<'a>,
@@ -60,10 +64,13 @@ pub fn read_files<'a>(
     }
 }
 
-/// Reads the text of a board.
+/// Reads the text of a board. For one that is longer than `LONGEST_BOARD` no memory is asked for.
 fn read_text<'a>(alloc: Global, text: &[u8]) -> Result<Board, Refusal<'a>>
     ensures { ReadsBoard text.now result }
 {
+    if text.len() > LONGEST_BOARD {
+        return Err(Refusal::OutOfMemory);
+    }
     match read_board(alloc, text) {
         Ok(board) => Ok(board),
         Err(BoardFault::OutOfMemory) => Err(Refusal::OutOfMemory),

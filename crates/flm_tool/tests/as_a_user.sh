@@ -103,6 +103,12 @@ run 2 '' "$usage" job cells verify --raw-at 0x08000000 --raw-at 0 b a
 run 2 '' "$usage" job cells plan --raw-at 0x123456789 b f i
 run 3 '' 'flmprog: cannot read missing' job cells program missing small.flm right.hex
 
+# A board's text of 1 MiB is parsed, and no longer one.
+(cat board.toml; head -c 1048576 /dev/zero | tr '\0' '#') > long.toml
+head -c 1048576 long.toml > full.toml
+run 0 same '' job cells verify full.toml right.hex
+run 1 '' 'flmprog: out of memory' job cells verify long.toml right.hex
+
 # One firmware in each form, against a device that holds it, one that differs in its last byte, and a blank one. GCC 12.2 for Arm
 # compiled it for a Cortex-M0 with -Os -nostdlib -Wl,-n, linked at 0x08000000; arm-none-eabi-objcopy --strip-all made the ELF file,
 # and -O ihex, -O srec and -O binary the others of it.
