@@ -1,11 +1,11 @@
 //! Image files that other tools wrote. A name that ends in `hex` is read as Intel HEX, any other as S-records. A name that begins with
-//! `refused` is a table: each of its lines is a text by itself, where `|` stands for a line feed, and the fault of each is printed.
+//! `refused` is a table: each of its lines is what it shows, and then a text by itself, where `|` stands for a line feed; the fault of each is
+//! printed.
 
-use anyhow::{Result, bail};
+use anyhow::{Context, Result, bail};
 use byte_map::ByteMap;
 use image_hex::read_hex;
 use image_srec::read_srec;
-use octets::next_line;
 use std::alloc::Global;
 use std::fs;
 
@@ -18,22 +18,27 @@ fn read_image(alloc: Global, name: &str, text: &[u8]) -> Result<ByteMap> {
     }
 }
 
-/// Prints the fault of each text of a table.
-fn print_faults(rt: &HostRuntime, name: &str, table: &[u8]) -> Result<()> {
-    let mut from = 0;
-    while from < table.len() {
-        let (start, end, next) = next_line(table, from);
-        let mut text = Vec::from_slice(rt.alloc(), &table[start..end])?;
-        for byte in text.iter_mut() {
-            if *byte == b'|' {
-                *byte = b'\n';
-            }
+/// A text in which `|` stands for a line feed.
+fn text_of(alloc: Global, line: &str) -> Result<Vec<u8>> {
+    let mut text = Vec::from_slice(alloc, line.as_bytes())?;
+    for byte in text.iter_mut() {
+        if *byte == b'|' {
+            *byte = b'\n';
         }
+    }
+    Ok(text)
+}
+
+/// Prints the fault of each text of a table, behind what it shows.
+fn print_faults(rt: &HostRuntime, name: &str, table: &str) -> Result<()> {
+    for line in table.lines() {
+        let (shows, text) = line.split_once("; ").context("what it shows is wanted")?;
+        print!(rt; "{name}: {shows}: ")?;
+        let text = text_of(rt.alloc(), text)?;
         match read_image(rt.alloc(), name, &text) {
-            Ok(map) => println!(rt; "{name}: {} runs", map.runs())?,
-            Err(fault) => println!(rt; "{name}: {fault}")?,
+            Ok(map) => println!(rt; "{} runs", map.runs())?,
+            Err(fault) => println!(rt; "{fault}")?,
         }
-        from = next;
     }
     Ok(())
 }
@@ -57,10 +62,11 @@ pub fn compare(rt: &HostRuntime, names: &[&str]) -> Result<()> {
     };
     let wanted = fs::read(rt, *binary)?;
     for name in names {
-        let text = fs::read(rt, *name)?;
         if name.starts_with("refused") {
-            print_faults(rt, name, &text)?;
+            let table = fs::read_to_string(rt, *name)?;
+            print_faults(rt, name, table.as_str())?;
         } else {
+            let text = fs::read(rt, *name)?;
             print_image(rt, name, &text, &wanted)?;
         }
     }

@@ -1,22 +1,32 @@
 //! Answers questions about files: ELF files and an FLM file, as a compiler, a linker or a hand made them and with some bytes
 //! changed; boards with one key changed; and other texts of boards. It prints each question with its answer. Then it reads the image files
-//! of a list, which other tools wrote, and compares their bytes with the binary file that the same tools make of them.
+//! of a list, which other tools wrote, and compares their bytes with the binary file that the same tools make of them. At last it goes
+//! through sweeps: every prefix of a file, every byte of it changed, large numbers in its fields. It counts their answers.
 //!
 //! `file_vectors BINARY IMAGE..` compares these image files alone. The time that it takes is to be measured from outside.
 #![tactic(auto)]
 
 mod board;
+mod digest;
 mod elf;
 mod flm;
 mod images;
+mod readers;
+mod sweeps;
+mod tally;
 
 use anyhow::{Context, Result, bail};
 use std::str::SplitAsciiWhitespace;
 use std::{env, fs};
 
-/// Changes a byte as `AT=VALUE` says it: the place in decimal digits, the byte in hexadecimal ones.
-fn change(bytes: &mut [u8], words: &str) -> Result<()> {
-    let (at, value) = words.split_once('=').context("AT=VALUE is wanted")?;
+/// Changes a file as a word says it: `AT=VALUE` writes a byte, the place in decimal digits and the byte in hexadecimal ones; `cut=LEN`
+/// cuts the file.
+fn change(bytes: &mut Vec<u8>, word: &str) -> Result<()> {
+    let (at, value) = word.split_once('=').context("AT=VALUE is wanted")?;
+    if at == "cut" {
+        bytes.truncate(value.parse::<usize>()?);
+        return Ok(());
+    }
     let at = at.parse::<usize>()?;
     let value = u8::from_str_radix(value, 16)?;
     match bytes.get_mut(at) {
@@ -29,14 +39,15 @@ fn change(bytes: &mut [u8], words: &str) -> Result<()> {
 /// A file with changes of its bytes.
 fn changed(rt: &HostRuntime, name: &str, changes: SplitAsciiWhitespace) -> Result<Vec<u8>> {
     let mut bytes = fs::read(rt, name)?;
-    for words in changes {
-        change(&mut bytes, words)?;
+    for word in changes {
+        change(&mut bytes, word)?;
     }
     Ok(bytes)
 }
 
-/// A question about a file: `FILE WHAT NAME NUMBER`, and then changes of its bytes.
-fn answer(rt: &HostRuntime, question: &str) -> Result<()> {
+/// A question about a file, behind what it shows: `FILE WHAT NAME NUMBER`, and then changes of its bytes.
+fn answer(rt: &HostRuntime, line: &str) -> Result<()> {
+    let (_shows, question) = line.split_once("; ").context("what it shows is wanted")?;
     let mut words = question.split_ascii_whitespace();
     let (Some(file), Some(what), Some(name), Some(number)) = (
         words.next(),
@@ -48,7 +59,7 @@ fn answer(rt: &HostRuntime, question: &str) -> Result<()> {
     };
     let number = number.parse::<u32>()?;
     let bytes = changed(rt, file, words)?;
-    print!(rt; "{question}: ")?;
+    print!(rt; "{line}: ")?;
     if what == "flm" {
         flm::answer(rt, &bytes)
     } else {
@@ -59,8 +70,8 @@ fn answer(rt: &HostRuntime, question: &str) -> Result<()> {
 /// Answers the questions about files.
 fn answer_questions(rt: &HostRuntime) -> Result<()> {
     let questions = fs::read_to_string(rt, "questions.txt")?;
-    for question in questions.lines() {
-        answer(rt, question)?;
+    for line in questions.lines() {
+        answer(rt, line)?;
     }
     Ok(())
 }
@@ -103,5 +114,6 @@ fn main(rt: HostRuntime) -> Result<()> {
     answer_questions(&rt)?;
     answer_changes(&rt)?;
     answer_texts(&rt)?;
-    compare_images(&rt)
+    compare_images(&rt)?;
+    sweeps::go_through(&rt)
 }
