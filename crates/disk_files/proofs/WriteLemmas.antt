@@ -1,0 +1,118 @@
+-- Whole writes, in as many calls as they take.
+use Rattle.std.proofs.Common.{◌≡◌, ◌<◌, ◌≤◌, ◌+◌, ◌-◌, ◌∙◌, ap, sym, subst, refl, ℕ, List, Bool, false, IsTrue, ◌++◌, length, take, drop, arith, append-nil, append_assoc, length-take, length-drop, length-append}
+use Rattle.std.proofs.lemmas.List.{take-take, drop-drop, drop-take, take-append-drop, take_all, take_at}
+use Rattle.bench_model.specs.History.{Half, left, Leaves}
+use Rattle.bench_model.specs.Calls.{written, Torn, Follows}
+use Rattle.bench_model.proofs.Moments.{leaves_then, leaves_as, leaves_here, leaves_left, stays_here, stays_then}
+use Rattle.disk_files.specs.DiskState.{DiskState, job_half, range_half, CellsAsWere}
+use Rattle.disk_files.specs.DiskDoes.{WritesJob}
+
+pub torn_here : (at n : ℕ) (d : List ℕ) → Torn at n d d
+torn_here at n d = record { before = refl; after = refl; no_shorter = omega arith; no_longer = omega arith }
+
+-- a write inside the range of an earlier one
+pub torn_then : (at n at' n' : ℕ) (d e f : List ℕ) → at ≤ at' → at' + n' ≤ at + n → Torn at n d e → Torn at' n' e f → Torn at n d f
+torn_then at n at' n' d e f from to one two =
+    let rest : at' + n' + (at + n - (at' + n')) ≡ at + n = omega (arith, to) in
+    record {
+      before = sym (take-take at at' f from) ∙ ap (λ (l : List ℕ). take at l) two.before ∙ take-take at at' e from ∙ one.before;
+      after = ap (λ (m : ℕ). drop m f) (sym rest) ∙ sym (drop-drop (at + n - (at' + n')) (at' + n') f)
+          ∙ ap (λ (l : List ℕ). drop (at + n - (at' + n')) l) two.after
+          ∙ drop-drop (at + n - (at' + n')) (at' + n') e ∙ ap (λ (m : ℕ). drop m e) rest ∙ one.after;
+      no_shorter = omega (arith, one.no_shorter, two.no_shorter);
+      no_longer = omega (arith, one.no_longer, two.no_longer, to);
+    }
+
+pub take_split : (n m : ℕ) (xs : List ℕ) → take (n + m) xs ≡ take n xs ++ take m (drop n xs)
+take_split n m xs =
+    let shorter : n ≤ n + m = omega arith in
+    sym (take-append-drop n (take (n + m) xs))
+    ∙ ap (λ (l : List ℕ). l ++ drop n (take (n + m) xs)) (take-take n (n + m) xs shorter)
+    ∙ ap (λ (l : List ℕ). take n xs ++ l) (drop-take n m xs)
+
+pub cells_as_were_here : (d : DiskState) → CellsAsWere d d
+cells_as_were_here d = record { bytes = refl; cells = refl; operation = refl; unsynced = refl; earlier = refl; half = stays_here (range_half d) }
+
+pub cells_as_were_then : {a b c : DiskState} → CellsAsWere a b → CellsAsWere b c → CellsAsWere a c
+cells_as_were_then one two = record {
+  bytes = two.bytes ∙ one.bytes;
+  cells = two.cells ∙ one.cells;
+  operation = two.operation ∙ one.operation;
+  unsynced = two.unsynced ∙ one.unsynced;
+  earlier = two.earlier ∙ one.earlier;
+  half = stays_then one.half two.half;
+}
+
+-- so many bytes of a write stand there, and in the rest of its range any may
+pub record IsWrittenTo (tells : Bool) (old new : DiskState) (at : ℕ) (bytes : List ℕ) (done : ℕ) : Type 0 where
+  pub within : done ≤ length bytes
+  pub some : IsTrue tells → take (at + done) new.file ≡ take at old.file ++ take done bytes
+  pub torn : IsTrue tells → Torn at (length bytes) old.file new.file
+  pub entry : IsTrue tells → new.entry ≡ old.entry
+  pub moments : Leaves (job_half old) (job_half new) (Follows (Torn at (length bytes)) (job_half old))
+  pub cells : CellsAsWere old new
+
+pub written_none : (tells : Bool) (d : DiskState) (at : ℕ) (bytes : List ℕ) → IsWrittenTo tells d d at bytes 0
+written_none tells d at bytes = record {
+  within = omega arith;
+  some = λ told. let e : at + 0 ≡ at = omega arith in ap (λ (m : ℕ). take m d.file) e ∙ sym (append-nil (take at d.file));
+  torn = λ told. torn_here at (length bytes) d.file;
+  entry = λ told. refl;
+  moments = leaves_here (job_half d) (Follows (Torn at (length bytes)) (job_half d)) (λ x is. (x, is, torn_here at (length bytes) x));
+  cells = cells_as_were_here d;
+}
+
+module _ (tells : Bool) (old mid new : DiskState) (at : ℕ) (bytes : List ℕ) (done : ℕ) (so_far : IsWrittenTo tells old mid at bytes done) where
+  -- where the next call begins
+  pub place : IsTrue tells → at ≤ length old.file → at + done ≤ length mid.file
+  place told inside =
+      let same = ap length (so_far.some told) in
+      omega (arith, inside, same, length-take (at + done) mid.file, length-append (take at old.file) (take done bytes), length-take at old.file, length-take done bytes, so_far.within)
+
+  module _ (rest : List ℕ) (is_rest : rest ≡ drop done bytes) (does : WritesJob tells mid new (at + done) (length rest))
+      (torn : IsTrue tells → Torn (at + done) (length rest) mid.file new.file) where
+    from : at ≤ at + done
+    from = omega arith
+
+    to : at + done + length rest ≤ at + length bytes
+    to = omega (arith, ap length is_rest, length-drop done bytes, so_far.within)
+
+    step : (x y : List ℕ) → Follows (Torn at (length bytes)) (job_half old) x → Torn (at + done) (length rest) x y → Follows (Torn at (length bytes)) (job_half old) y
+    step x y (d, is, one) two = (d, is, torn_then at (length bytes) (at + done) (length rest) d x y from to one two)
+
+    -- once more of the bytes are written
+    pub written_more : (n : ℕ) → n ≤ length rest → (IsTrue tells → take (at + done + n) new.file ≡ take (at + done) mid.file ++ take n rest)
+        → IsWrittenTo tells old new at bytes (done + n)
+    written_more n le some = record {
+      within = omega (arith, le, ap length is_rest, length-drop done bytes, so_far.within);
+      some = λ told. let e : at + (done + n) ≡ at + done + n = omega arith in ap (λ (m : ℕ). take m new.file) e ∙ some told
+          ∙ ap (λ (l : List ℕ). l ++ take n rest) (so_far.some told)
+          ∙ append_assoc (take at old.file) (take done bytes) (take n rest)
+          ∙ ap (λ (l : List ℕ). take at old.file ++ (take done bytes ++ take n l)) is_rest
+          ∙ ap (λ (l : List ℕ). take at old.file ++ l) (sym (take_split done n bytes));
+      torn = λ told. torn_then at (length bytes) (at + done) (length rest) old.file mid.file new.file from to (so_far.torn told) (torn told);
+      entry = λ told. does.entry told ∙ so_far.entry told;
+      moments = leaves_then (Follows (Torn at (length bytes)) (job_half old)) so_far.moments
+          (leaves_as (Follows (Torn (at + done) (length rest)) (job_half mid)) (Follows (Torn at (length bytes)) (job_half old))
+          (λ y (x, is, two). step x y (leaves_left (Follows (Torn at (length bytes)) (job_half old)) so_far.moments x is) two) does.moments);
+      cells = cells_as_were_then so_far.cells does.cells;
+    }
+
+    -- after an error
+    pub written_no_more : IsWrittenTo tells old new at bytes done
+    written_no_more =
+        let e : done + 0 ≡ done = omega arith in
+        subst (λ (m : ℕ). IsWrittenTo tells old new at bytes m) e (written_more 0 (omega arith) (λ told.
+        let z : at + done + 0 ≡ at + done = omega arith in
+        ap (λ (m : ℕ). take m new.file) z ∙ (torn told).before ∙ sym (append-nil (take (at + done) mid.file))))
+
+-- once all are written
+pub written_all : (tells : Bool) (old new : DiskState) (at : ℕ) (bytes : List ℕ) (done : ℕ) → IsWrittenTo tells old new at bytes done → done ≡ length bytes
+    → IsTrue tells → new.file ≡ written at bytes old.file
+written_all tells old new at bytes done so_far is told =
+    let whole : take (at + length bytes) new.file ≡ take at old.file ++ bytes
+            = ap (λ (m : ℕ). take (at + m) new.file) (sym is) ∙ so_far.some told
+            ∙ ap (λ (l : List ℕ). take at old.file ++ l) (take_all done bytes (omega (arith, is))) in
+    sym (take-append-drop (at + length bytes) new.file)
+    ∙ ap (λ (l : List ℕ). l ++ drop (at + length bytes) new.file) whole
+    ∙ ap (λ (l : List ℕ). (take at old.file ++ bytes) ++ l) (so_far.torn told).after

@@ -1,0 +1,56 @@
+-- What a host's two files mean: the job file and the cells file.
+use Rattle.std.specs.Prelude.{◌≡◌, ℕ, List, Bool, Option}
+use Rattle.bench_model.specs.History.{Half, Stays}
+use Rattle.bench_model.specs.State.{BenchState}
+
+pub record DiskState : Type 1 where
+  -- the bytes that a read of the job file gives, and whether its entry in the folder is on the disk
+  pub file : List ℕ
+  pub entry : Bool
+  -- the bytes that a read of the cells file gives
+  pub bytes : List ℕ
+  -- the cells as when the range was opened in which they may now be written, and that range
+  pub cells : List ℕ
+  pub operation : Option (ℕ × ℕ)
+  -- whether cells may have been written and not synced, and whether that may be since an earlier run
+  pub unsynced : Bool
+  pub earlier : Bool
+  -- the moment, and what a stop may leave at each moment up to it
+  pub moment : ℕ
+  pub files_at : ℕ → List ℕ → Type 0
+  pub cells_at : ℕ → List ℕ → Type 0
+
+abbrev pub job_half : DiskState → Half
+job_half d = record { now = d.moment; at = d.files_at }
+
+abbrev pub range_half : DiskState → Half
+range_half d = record { now = d.moment; at = d.cells_at }
+
+-- the job file's half is as it was, at each moment
+pub record JobAsWas (old new : DiskState) : Type 0 where
+  pub file : new.file ≡ old.file
+  pub entry : new.entry ≡ old.entry
+  pub half : Stays (job_half old) (job_half new)
+
+-- the cells' half is as it was, at each moment
+pub record CellsAsWere (old new : DiskState) : Type 0 where
+  pub bytes : new.bytes ≡ old.bytes
+  pub cells : new.cells ≡ old.cells
+  pub operation : new.operation ≡ old.operation
+  pub unsynced : new.unsynced ≡ old.unsynced
+  pub earlier : new.earlier ≡ old.earlier
+  pub half : Stays (range_half old) (range_half new)
+
+-- what a bench over these files means
+abbrev pub over : DiskState → (cell_count store_faults device_faults : ℕ) → BenchState
+over d cell_count store_faults device_faults = record {
+  file = d.file;
+  cells = d.cells;
+  operation = d.operation;
+  cell_count = cell_count;
+  store_faults = store_faults;
+  device_faults = device_faults;
+  moment = d.moment;
+  files_at = d.files_at;
+  cells_at = d.cells_at;
+}

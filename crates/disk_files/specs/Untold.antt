@@ -1,0 +1,17 @@
+-- What files mean that tell nothing.
+use Rattle.std.specs.Prelude.{ℕ, List, [], None, false}
+use Rattle.disk_files.specs.DiskState.{DiskState}
+
+abbrev pub untold_disk : DiskState
+untold_disk = record {
+  file = [];
+  entry = false;
+  bytes = [];
+  cells = [];
+  operation = None;
+  unsynced = false;
+  earlier = false;
+  moment = 0;
+  files_at = λ k file. ⊥;
+  cells_at = λ k cells. ⊥;
+}

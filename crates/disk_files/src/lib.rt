@@ -1,0 +1,10 @@
+//! A bench over the files of a host, which one small trait stands for.
+#![tactic(auto)]
+
+mod cells_half;
+mod disk;
+mod disk_bench;
+mod job_half;
+
+pub use disk::Disk;
+pub use disk_bench::DiskBench;
