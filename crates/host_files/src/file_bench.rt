@@ -1,30 +1,24 @@
 //! The job file and the cells file as a bench.
-ghost use Rattle.std.specs.Prelude.{◌<◌, ◌^◌};
-ghost use Rattle.faults.specs.Counts.{HasCause};
+ghost use Rattle.std.specs.Prelude.{◌≡◌};
 
 use crate::cells_file::CellsFile;
+use crate::host_disk::HostDisk;
 use crate::job_store::JobFile;
+use crate::progress_line::ProgressLine;
 use bench_model::{Bench, DeviceFault, StoreFault};
-use faults::FaultCount;
+use disk_files::DiskBench;
 use octets::Word;
-use std::io;
 
 /// A bench over two files of the system. It tells no contents.
-///
-/// Before the job file is first written or cut, the cells are synced, and before each later time again where cells were
-/// written since: a host that loses power never has the later job file with the earlier cells.
 #[derive(Drop)]
 pub struct FileBench {
-    job: JobFile,
-    cells: CellsFile,
-    cell_count: u32,
-    store_faults: FaultCount,
-    device_faults: FaultCount,
-    ghost few: { cell_count < 2 ^ 32 },
+    bench: DiskBench<HostDisk>,
+    line: ProgressLine,
+    // the length of the operation that was opened last
+    open_len: u32,
 }
 
 impl FileBench {
-    ghost use Rattle.std.specs.Prelude.{◌≡◌};
     ghost use Rattle.host_files.specs.Bench.{state_of};
 
     /// Opens the cells file. One that can't be opened counts as no cells, and each call on it that can fail does. The
@@ -33,44 +27,23 @@ impl FileBench {
         ensures store { (state_of result).store_faults ≡ 0 }
         ensures device { (state_of result).device_faults ≡ 0 }
     {
-        let (cells, cell_count) = CellsFile::open(rt, cells_name);
+        let cells = CellsFile::open(rt, cells_name);
+        let count = cells.count();
+        let job = JobFile::new(rt, job_name, cells.id());
         FileBench {
-            job: JobFile::new(rt, job_name),
-            cells,
-            cell_count,
-            store_faults: FaultCount::new(),
-            device_faults: FaultCount::new(),
+            bench: DiskBench::new(HostDisk::new(job, cells), count),
+            line: ProgressLine::none(),
+            open_len: 0,
         }
     }
-}
 
-/// Syncs the cells that are pending, and then writes the job file.
-fn write_after_cells(
-    job: &mut JobFile,
-    cells: &mut CellsFile,
-    at: u64,
-    bytes: &[u8],
-) -> io::Result<()> {
-    cells.sync()?;
-    job.write(at, bytes)
-}
-
-/// Syncs the cells that are pending, and then cuts the job file.
-fn cut_after_cells(job: &mut JobFile, cells: &mut CellsFile, len: u64) -> io::Result<()> {
-    cells.sync()?;
-    job.cut(len)
-}
-
-/// Counts an error of the system as a fault.
-fn counted<T, F: Drop>(faults: &mut FaultCount, answer: io::Result<T>, fault: F) -> Result<T, F>
-    ensures { HasCause faults.old faults.new result }
-{
-    match answer {
-        Ok(value) => Ok(value),
-        Err(_) => {
-            faults.raise();
-            Err(fault)
-        }
+    /// Counts from now on on this line which cells were erased and programmed.
+    pub fn show_on(&mut self, line: ProgressLine)
+        ensures count { (state_of self.new).cell_count ≡ (state_of self.old).cell_count }
+        ensures store { (state_of self.new).store_faults ≡ (state_of self.old).store_faults }
+        ensures device { (state_of self.new).device_faults ≡ (state_of self.old).device_faults }
+    {
+        self.line = line;
     }
 }
 
@@ -91,61 +64,56 @@ impl Bench for FileBench {
 
     ghost all_told = { λ b told. untold_law told };
 
-    ghost few = { λ b. b.few };
+    ghost few = { λ b. b.bench.few };
 
     ghost inside = { λ b told. untold_law told };
 
     fn file_len(&mut self) -> Result<u64, StoreFault> {
-        let answer = self.job.len();
-        counted(&mut self.store_faults, answer, StoreFault)
+        self.bench.file_len()
     }
 
     fn file_read(&mut self, at: u64, out: &mut [u8]) -> Result<(), StoreFault> {
-        let answer = self.job.read(at, out);
-        counted(&mut self.store_faults, answer, StoreFault)
+        self.bench.file_read(at, out)
     }
 
     fn file_write(&mut self, at: u64, bytes: &[u8]) -> Result<(), StoreFault> {
-        let answer = write_after_cells(&mut self.job, &mut self.cells, at, bytes);
-        counted(&mut self.store_faults, answer, StoreFault)
+        self.bench.file_write(at, bytes)
     }
 
     fn file_cut(&mut self, len: u64) -> Result<(), StoreFault> {
-        let answer = cut_after_cells(&mut self.job, &mut self.cells, len);
-        counted(&mut self.store_faults, answer, StoreFault)
+        self.bench.file_cut(len)
     }
 
     fn file_sync(&mut self) -> Result<(), StoreFault> {
-        let answer = self.job.sync();
-        counted(&mut self.store_faults, answer, StoreFault)
+        self.bench.file_sync()
     }
 
     fn cells_len(&self) -> u32 {
-        self.cell_count
+        self.bench.cells_len()
     }
 
     fn cells_read(&mut self, at: u32, out: &mut [u8]) -> Result<(), DeviceFault> {
-        let answer = self.cells.read(at, out);
-        counted(&mut self.device_faults, answer, DeviceFault)
+        self.bench.cells_read(at, out)
     }
 
     fn cells_open(&mut self, at: u32, len: u32) -> Result<(), DeviceFault> {
-        let answer = self.cells.begin(at, len);
-        counted(&mut self.device_faults, answer, DeviceFault)
+        self.open_len = len;
+        self.bench.cells_open(at, len)
     }
 
     fn cells_settle(&mut self, bytes: &[u8]) -> Result<(), DeviceFault> {
-        let answer = self.cells.settle(bytes);
-        counted(&mut self.device_faults, answer, DeviceFault)
+        self.bench.cells_settle(bytes)?;
+        self.line.programmed(bytes.len() as u64);
+        Ok(())
     }
 
     fn cells_settle_fill(&mut self, value: u8) -> Result<(), DeviceFault> {
-        let answer = self.cells.settle_fill(value);
-        counted(&mut self.device_faults, answer, DeviceFault)
+        self.bench.cells_settle_fill(value)?;
+        self.line.erased(u64::from(self.open_len));
+        Ok(())
     }
 
     fn cells_drop(&mut self) -> Result<(), DeviceFault> {
-        let answer = self.cells.drop_operation();
-        counted(&mut self.device_faults, answer, DeviceFault)
+        self.bench.cells_drop()
     }
 }

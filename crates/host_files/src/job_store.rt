@@ -1,4 +1,8 @@
 //! The job file on the disk.
+ghost use Rattle.std.specs.Prelude.{◌≤◌, length, IfOk};
+
+use crate::file_id::FileId;
+use crate::file_lock::FileLock;
 use crate::sync_guard::SyncGuard;
 use octets::Word;
 use std::fs::{File, OpenOptions};
@@ -7,91 +11,141 @@ use std::os::unix::fs::FileExt;
 use std::path::Path;
 use std::{fs, io};
 
-/// A job file, which its first call opens, and makes where it is missing.
+/// An open job file, with the folder in which it stands.
+#[derive(Drop)]
+struct Opened {
+    file: File,
+    folder: File,
+}
+
+/// A job file. Each call on it fails where it isn't open, or another program has it locked, and a change where another looks
+/// at it.
 #[derive(Drop)]
 pub struct JobFile {
     rt: HostRuntime,
     name: Word,
-    file: Option<File>,
+    cells: Option<FileId>,
+    opened: Option<Opened>,
+    lock: FileLock,
     guard: SyncGuard,
 }
 
 impl JobFile {
-    /// The job file of this name, not opened yet.
-    pub fn new(rt: HostRuntime, name: Word) -> JobFile {
+    /// The job file of this name, not opened yet. It may not be the file of the cells.
+    pub fn new(rt: HostRuntime, name: Word, cells: Option<FileId>) -> JobFile {
         JobFile {
             rt,
             name,
-            file: None,
+            cells,
+            opened: None,
+            lock: FileLock::new(),
             guard: SyncGuard::new(),
         }
     }
 
-    /// The file, opened.
-    fn open(&mut self) -> io::Result<&File> {
-        if self.file.is_none() {
-            self.file = Some(open_or_make(self.rt, self.name.text(), &mut self.guard)?);
+    /// Opens the file, or makes it where it is missing.
+    pub fn open(&mut self) -> io::Result<()> {
+        if self.opened.is_none() {
+            self.opened = Some(open_or_make(self.rt, self.name.text(), self.cells)?);
         }
-        self.file
-            .as_ref()
-            .ok_or(io::Error::from(ErrorKind::NotFound))
+        let _file = self.shared()?;
+        Ok(())
+    }
+
+    /// The file, which no other program writes.
+    fn shared(&mut self) -> io::Result<&File> {
+        match &self.opened {
+            Some(Opened { file, folder: _ }) => {
+                self.lock.share(file)?;
+                Ok(file)
+            }
+            None => Err(io::Error::from(ErrorKind::NotFound)),
+        }
+    }
+
+    /// The file, which no other program reads or writes.
+    fn owned(&mut self) -> io::Result<&File> {
+        match &self.opened {
+            Some(Opened { file, folder: _ }) => {
+                self.lock.own(file)?;
+                Ok(file)
+            }
+            None => Err(io::Error::from(ErrorKind::NotFound)),
+        }
     }
 
     /// The number of bytes.
     pub fn len(&mut self) -> io::Result<u64> {
-        Ok(self.open()?.metadata()?.len())
+        Ok(self.shared()?.metadata()?.len())
     }
 
-    /// Fills `out` with the bytes from `at` on.
-    pub fn read(&mut self, at: u64, out: &mut [u8]) -> io::Result<()> {
-        self.open()?.read_exact_at(out, at)
+    /// Reads some bytes from `at` on.
+    pub fn read_at(&mut self, at: u64, out: &mut [u8]) -> io::Result<usize>
+        ensures { IfOk result (λ count. count ≤ length out.old) }
+    {
+        self.shared()?.read_at(out, at)
     }
 
-    /// Writes `bytes` from `at` on.
-    pub fn write(&mut self, at: u64, bytes: &[u8]) -> io::Result<()> {
-        self.open()?.write_all_at(bytes, at)
+    /// Writes some of the bytes from `at` on.
+    pub fn write_at(&mut self, at: u64, bytes: &[u8]) -> io::Result<usize>
+        ensures { IfOk result (λ count. count ≤ length bytes.now) }
+    {
+        self.owned()?.write_at(bytes, at)
     }
 
     /// Cuts the file to `len` bytes.
     pub fn cut(&mut self, len: u64) -> io::Result<()> {
-        self.open()?.set_len(len)
+        self.owned()?.set_len(len)
     }
 
     /// Brings the file to the disk. Once that has failed, or the sync of its folder, it always does.
     pub fn sync(&mut self) -> io::Result<()> {
-        self.open()?;
-        match &self.file {
-            Some(file) => self.guard.sync(file),
+        match &self.opened {
+            Some(Opened { file, folder: _ }) => {
+                self.lock.share(file)?;
+                self.guard.sync(file)
+            }
+            None => Err(io::Error::from(ErrorKind::NotFound)),
+        }
+    }
+
+    /// Brings the file's entry in its folder to the disk. Another program, or a run that was killed, may just have made it:
+    /// so a host that loses power still finds the file under its name.
+    pub fn sync_folder(&mut self) -> io::Result<()> {
+        match &self.opened {
+            Some(Opened { file: _, folder }) => self.guard.sync(folder),
             None => Err(io::Error::from(ErrorKind::NotFound)),
         }
     }
 }
 
-/// Opens a job file, or makes it.
-fn open_or_make(rt: HostRuntime, name: &str, guard: &mut SyncGuard) -> io::Result<File> {
+/// Opens a job file, or makes it. One that is the file of the cells is an error.
+fn open_or_make(rt: HostRuntime, name: &str, cells: Option<FileId>) -> io::Result<Opened> {
     match OpenOptions::new().read(true).write(true).open(&rt, name) {
-        Ok(file) => sync_entry(rt, name, file, guard),
-        Err(fault) if fault.kind() == ErrorKind::NotFound => make(rt, name, guard),
+        Ok(file) => Ok(Opened {
+            file: apart(file, cells)?,
+            folder: open_real_folder(rt, name)?,
+        }),
+        Err(fault) if fault.kind() == ErrorKind::NotFound => make(rt, name),
         Err(fault) => Err(fault),
     }
 }
 
-/// Answers a job file, once the entry of an empty one, as it is when it was just made, is synced in its folder: so a host
-/// that loses power still finds the file under its name.
-fn sync_entry(rt: HostRuntime, name: &str, file: File, guard: &mut SyncGuard) -> io::Result<File> {
-    if file.metadata()?.len() == 0 {
-        guard.sync(&open_real_folder(rt, name)?)?;
+/// Answers a file that isn't the one of the cells, under whatever name.
+fn apart(file: File, cells: Option<FileId>) -> io::Result<File> {
+    let id = FileId::of(&file)?;
+    match cells {
+        Some(other) if other == id => Err(io::Error::from(ErrorKind::InvalidInput)),
+        _ => Ok(file),
     }
-    Ok(file)
 }
 
 /// Makes a job file where there is none. A link that leads to no file is an error, and so is a folder that can't be opened
 /// for its sync: then no file is made.
-fn make(rt: HostRuntime, name: &str, guard: &mut SyncGuard) -> io::Result<File> {
+fn make(rt: HostRuntime, name: &str) -> io::Result<Opened> {
     let folder = open_folder(rt, Path::new(name))?;
     let file = File::create_new(&rt, name)?;
-    guard.sync(&folder)?;
-    Ok(file)
+    Ok(Opened { file, folder })
 }
 
 /// Opens the folder in which a file stands. Where its name is that of a link, that is the folder to which it leads.

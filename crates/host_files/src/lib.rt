@@ -4,8 +4,12 @@
 mod cells_file;
 mod cells_window;
 mod file_bench;
+mod file_id;
 mod file_inputs;
+mod file_lock;
+mod host_disk;
 mod job_store;
+mod progress_line;
 mod std_sink;
 mod streams;
 mod sync_guard;
@@ -14,5 +18,6 @@ mod tests;
 
 pub use file_bench::FileBench;
 pub use file_inputs::FileInputs;
+pub use progress_line::ProgressLine;
 pub use std_sink::StdSink;
 pub use streams::hold_streams;

@@ -1,6 +1,7 @@
 //! The standard streams as sinks.
 ghost use Rattle.std.specs.Prelude.{◌≡◌};
 
+use crate::progress_line::ProgressLine;
 use faults::FaultCount;
 use outside_io::{OutputFault, Sink};
 use std::io::Print;
@@ -11,6 +12,7 @@ use std::marker::Model;
 pub struct StdSink<P: Print + Drop> {
     stream: P,
     faults: FaultCount,
+    line: ProgressLine,
 }
 
 impl<P: Print + Drop> Model for StdSink<P> {
@@ -29,7 +31,15 @@ impl<P: Print + Drop> StdSink<P> {
         StdSink {
             stream,
             faults: FaultCount::new(),
+            line: ProgressLine::none(),
         }
+    }
+
+    /// Clears this line before each piece from now on.
+    pub fn wipe_first(&mut self, line: ProgressLine)
+        ensures { self.new ≡ self.old }
+    {
+        self.line = line;
     }
 }
 
@@ -41,6 +51,7 @@ impl<P: Print + Drop> Sink for StdSink<P> {
     ghost state = { λ s. record { faults = s; taken = [] } };
 
     fn put(&mut self, piece: &[u8]) -> Result<(), OutputFault> {
+        self.line.wipe();
         if self.stream.write_all(piece).is_err() {
             self.faults.raise();
             return Err(OutputFault);

@@ -5,6 +5,7 @@ mod bench;
 mod cells;
 mod inputs;
 mod job;
+mod locks;
 
 use crate::file_bench::FileBench;
 use crate::std_sink::StdSink;

@@ -3,6 +3,9 @@
 use super::{Temporary, pattern};
 use crate::cells_file::CellsFile;
 use crate::cells_window::CellsWindow;
+use crate::file_bench::FileBench;
+use bench_model::Bench;
+use octets::Word;
 use std::io::ErrorKind;
 use std::os::unix::fs::FileExt;
 use std::test::Fail;
@@ -11,11 +14,11 @@ use std::{fs, io};
 /// A window of cells, and some of the next.
 const CELLS: usize = 5000;
 
-/// A file of cells of a test's own, opened. Calls that answer no value say whether they went well.
+/// A bench over a file of cells of a test's own. Calls that answer no value say whether they went well.
 #[derive(Drop)]
 struct Trial {
     file: Temporary,
-    cells: CellsFile,
+    bench: FileBench,
 }
 
 impl Trial {
@@ -23,29 +26,34 @@ impl Trial {
     fn new(rt: HostRuntime, end: &str) -> Result<Trial, Fail> {
         let bytes = pattern(rt.alloc(), CELLS)?;
         let file = Temporary::holding(rt, end, &bytes)?;
-        let (cells, _count) = CellsFile::open(rt, file.name.text());
-        Ok(Trial { file, cells })
+        let bench = FileBench::new(rt, Word::copy(rt.alloc(), "")?, file.name.text());
+        Ok(Trial { file, bench })
     }
 
     /// Whether these four cells are read in one call.
     fn reads(&mut self, at: u32, cells: [u8; 4]) -> bool {
         let mut found = [0; 4];
-        self.cells.read(at, &mut found).is_ok() && found == cells
+        let count = self.bench.cells_len();
+        count >= 4
+            && at <= count - 4
+            && self.bench.cells_read(at, &mut found).is_ok()
+            && found == cells
+    }
+
+    /// Opens an operation.
+    fn open(&mut self, at: u32, len: u32) -> bool {
+        let count = self.bench.cells_len();
+        len > 0 && len <= count && at <= count - len && self.bench.cells_open(at, len).is_ok()
     }
 
     /// An operation on two cells, with its end.
     fn settle(&mut self, at: u32, bytes: [u8; 2]) -> bool {
-        self.cells.begin(at, 2).is_ok() && self.cells.settle(&bytes).is_ok()
+        self.open(at, 2) && self.bench.cells_settle(&bytes).is_ok()
     }
 
     /// An operation that fills cells, with its end.
     fn fill(&mut self, at: u32, len: u32, value: u8) -> bool {
-        self.cells.begin(at, len).is_ok() && self.cells.settle_fill(value).is_ok()
-    }
-
-    /// Writes this byte into each cell, as another program does.
-    fn write_outside(&self, value: u8) -> bool {
-        self.file.write(&[value; CELLS])
+        self.open(at, len) && self.bench.cells_settle_fill(value).is_ok()
     }
 
     /// The cell of the file itself.
@@ -55,6 +63,12 @@ impl Trial {
             Err(_) => None,
         }
     }
+}
+
+/// Whether these four cells are read in one call.
+fn reads(cells: &mut CellsFile, at: u64, bytes: [u8; 4]) -> bool {
+    let mut found = [0; 4];
+    matches!(cells.read_at(at, &mut found), Ok(4)) && found == bytes
 }
 
 #[test]
@@ -92,12 +106,12 @@ fn a_fill_is_seen_at_once(rt: HostRuntime) -> Result<(), Fail> {
 #[test]
 fn a_long_fill_reaches_each_cell(rt: HostRuntime) -> Result<(), Fail> {
     let mut wanted = pattern(rt.alloc(), CELLS)?;
-    wanted[50..670].fill(252);
+    wanted[50..4870].fill(252);
     let mut trial = Trial::new(rt, "filled")?;
-    assert!(rt; trial.fill(50, 620, 252));
+    assert!(rt; trial.fill(50, 4820, 252));
     assert!(rt; trial.file.holds(&wanted));
     assert!(rt; trial.reads(48, [48, 49, 252, 252]));
-    assert!(rt; trial.reads(668, [252, 252, 168, 169]));
+    assert!(rt; trial.reads(4868, [252, 252, 101, 102]));
     assert!(rt; trial.file.remove());
     Ok(())
 }
@@ -106,8 +120,8 @@ fn a_long_fill_reaches_each_cell(rt: HostRuntime) -> Result<(), Fail> {
 fn cells_keep_their_places(rt: HostRuntime) -> Result<(), Fail> {
     let bytes = pattern(rt.alloc(), 320)?;
     let mut trial = Trial::new(rt, "placed")?;
-    assert!(rt; trial.cells.begin(300, 320).is_ok());
-    assert!(rt; trial.cells.settle(&bytes).is_ok());
+    assert!(rt; trial.open(300, 320));
+    assert!(rt; trial.bench.cells_settle(&bytes).is_ok());
     assert!(rt; trial.reads(298, [47, 48, 0, 1]));
     assert!(rt; trial.reads(549, [249, 250, 0, 1]));
     assert!(rt; trial.reads(618, [67, 68, 118, 119]));
@@ -120,49 +134,51 @@ fn cells_keep_their_places(rt: HostRuntime) -> Result<(), Fail> {
 #[test]
 fn nothing_is_read_past_the_last_cell(rt: HostRuntime) -> Result<(), Fail> {
     let wanted = pattern(rt.alloc(), CELLS)?;
+    let file = Temporary::holding(rt, "ended", &wanted)?;
     let mut many = [0; 4500];
-    let mut trial = Trial::new(rt, "ended")?;
-    assert!(rt; trial.reads(0, [0, 1, 2, 3]));
-    assert!(rt; trial.reads(4996, [227, 228, 229, 230]));
-    for at in [4997, 5000, 9000, u32::MAX] {
-        assert!(rt; trial.cells.read(at, &mut [0; 4]).is_err(), "{at}");
-        assert!(rt; trial.reads(4996, [227, 228, 229, 230]));
+    let mut cells = CellsFile::open(rt, file.name.text());
+    assert!(rt; reads(&mut cells, 0, [0, 1, 2, 3]));
+    assert!(rt; reads(&mut cells, 4996, [227, 228, 229, 230]));
+    for at in [4997, 5000, 9000, 4294967295] {
+        assert!(rt; !matches!(cells.read_at(at, &mut [0; 4]), Ok(4)), "{at}");
+        assert!(rt; reads(&mut cells, 4996, [227, 228, 229, 230]));
     }
-    assert!(rt; trial.cells.read(400, &mut many).is_ok());
+    assert!(rt; matches!(cells.read_at(400, &mut many), Ok(4500)));
     assert!(rt; many.as_slice() == &wanted[400..4900]);
-    assert!(rt; trial.file.remove());
+    assert!(rt; file.remove());
     Ok(())
 }
 
 #[test]
 fn a_window_is_kept_until_it_is_dropped(rt: HostRuntime) -> Result<(), Fail> {
-    let mut trial = Trial::new(rt, "outside")?;
-    assert!(rt; trial.reads(0, [0, 1, 2, 3]));
-    assert!(rt; trial.write_outside(211));
-    assert!(rt; trial.reads(96, [96, 97, 98, 99]));
-    assert!(rt; trial.cells.drop_operation().is_ok());
-    assert!(rt; trial.reads(0, [211; 4]));
-    assert!(rt; trial.write_outside(212));
-    assert!(rt; trial.cells.sync().is_ok());
-    assert!(rt; trial.reads(0, [212; 4]));
-    assert!(rt; trial.write_outside(213));
-    assert!(rt; trial.cells.read(1000, &mut [0; 4500]).is_err());
-    assert!(rt; trial.reads(0, [213; 4]));
-    assert!(rt; trial.file.remove());
+    let bytes = pattern(rt.alloc(), CELLS)?;
+    let file = Temporary::holding(rt, "outside", &bytes)?;
+    let mut cells = CellsFile::open(rt, file.name.text());
+    assert!(rt; reads(&mut cells, 0, [0, 1, 2, 3]));
+    assert!(rt; file.write(&[211; CELLS]));
+    assert!(rt; reads(&mut cells, 96, [96, 97, 98, 99]));
+    assert!(rt; cells.break_off().is_ok());
+    assert!(rt; reads(&mut cells, 0, [211; 4]));
+    assert!(rt; file.write(&[212; CELLS]));
+    assert!(rt; cells.sync().is_ok());
+    assert!(rt; reads(&mut cells, 0, [212; 4]));
+    assert!(rt; file.write(&[213; CELLS]));
+    assert!(rt; !matches!(cells.read_at(1000, &mut [0; 4500]), Ok(4500)));
+    assert!(rt; reads(&mut cells, 0, [213; 4]));
+    assert!(rt; file.remove());
     Ok(())
 }
 
 /// The system's `/dev/full` is read as zeros, and no write of it succeeds.
 #[test]
 fn a_write_that_failed_is_not_seen(rt: HostRuntime) {
-    let (mut cells, count) = CellsFile::open(rt, "/dev/full");
-    assert_eq!(rt; count, 0);
+    let mut cells = CellsFile::open(rt, "/dev/full");
+    assert_eq!(rt; cells.count(), 0);
     let mut found = [1; 2];
-    assert!(rt; cells.read(0, &mut found).is_ok());
-    assert!(rt; cells.begin(0, 2).is_ok());
-    assert!(rt; cells.settle(&[1, 2]).is_err());
-    assert!(rt; cells.settle_fill(3).is_err());
-    assert!(rt; cells.read(0, &mut found).is_ok());
+    assert!(rt; matches!(cells.read_at(0, &mut found), Ok(2)));
+    assert!(rt; cells.begin().is_ok());
+    assert!(rt; cells.write_at(0, &[1, 2]).is_err());
+    assert!(rt; matches!(cells.read_at(0, &mut found), Ok(2)));
     assert_eq!(rt; found, [0, 0]);
 }
 

@@ -17,7 +17,7 @@ fn takes(inputs: &mut FileInputs, file: &Temporary, bytes: &[u8]) -> bool {
 
 #[test]
 fn inputs_are_files(rt: HostRuntime) -> Result<(), Fail> {
-    let long = pattern(rt.alloc(), 9000)?;
+    let long = pattern(rt.alloc(), 70_000)?;
     let file = Temporary::new(rt, "image")?;
     let mut inputs = FileInputs::new(rt);
     assert!(rt; inputs.take(rt.alloc(), &file.name).is_err());

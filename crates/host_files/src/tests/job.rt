@@ -1,32 +1,32 @@
 //! The job file from one run to the next.
 
 use super::{Files, Temporary, bench_over};
-use crate::job_store::JobFile;
+use crate::file_bench::FileBench;
 use bench_model::Bench;
 use faults::OutOfMemory;
 use octets::Word;
 use std::os::unix::fs::symlink;
 use std::test::Fail;
 
-/// A job file under a name.
-fn job_file(file: &Temporary) -> Result<JobFile, OutOfMemory> {
+/// A bench with this job file and no cells.
+fn job_file(file: &Temporary) -> Result<FileBench, OutOfMemory> {
     let name = Word::copy(file.rt.alloc(), file.name.text())?;
-    Ok(JobFile::new(file.rt, name))
+    Ok(FileBench::new(file.rt, name, ""))
 }
 
 /// Writes, cuts, and writes and cuts past the end.
-fn grow(job: &mut JobFile) -> bool {
-    job.write(0, b"abcdefgh").is_ok()
-        && job.cut(3).is_ok()
-        && job.write(3, b"xyz").is_ok()
-        && job.write(5, b"12345").is_ok()
-        && job.cut(10).is_ok()
+fn grow(job: &mut FileBench) -> bool {
+    job.file_write(0, b"abcdefgh").is_ok()
+        && job.file_cut(3).is_ok()
+        && job.file_write(3, b"xyz").is_ok()
+        && job.file_write(5, b"12345").is_ok()
+        && job.file_cut(10).is_ok()
 }
 
 /// Whether a job file has these bytes, and no more.
-fn reads(job: &mut JobFile, bytes: [u8; 10]) -> bool {
+fn reads(job: &mut FileBench, bytes: [u8; 10]) -> bool {
     let mut found = [0; 10];
-    matches!(job.len(), Ok(10)) && job.read(0, &mut found).is_ok() && found == bytes
+    matches!(job.file_len(), Ok(10)) && job.file_read(0, &mut found).is_ok() && found == bytes
 }
 
 #[test]
@@ -70,11 +70,11 @@ fn a_link_that_leads_nowhere_is_no_job_file(rt: HostRuntime) -> Result<(), Fail>
     let file = Temporary::new(rt, "linked")?;
     assert!(rt; symlink(&rt, file.name.text(), link.name.text()).is_ok());
     let mut job = job_file(&link)?;
-    assert!(rt; job.len().is_err());
-    assert!(rt; job.write(0, b"a").is_err());
+    assert!(rt; job.file_len().is_err());
+    assert!(rt; job.file_write(0, b"a").is_err());
     assert!(rt; file.is_missing());
     assert!(rt; file.write(b""));
-    assert!(rt; job.write(0, b"a").is_ok());
+    assert!(rt; job.file_write(0, b"a").is_ok());
     assert!(rt; file.holds(b"a"));
     assert!(rt; link.remove() && file.remove());
     Ok(())

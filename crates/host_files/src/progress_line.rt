@@ -1,0 +1,127 @@
+//! A line on the terminal that says how far the cells have come.
+use std::cell::Cell;
+use std::io::{IsTerminal, Print};
+use std::rc::Rc;
+use std::time::{Duration, Instant};
+
+/// The least time between two texts of the line, in milliseconds.
+const INTERVAL: u64 = 100;
+
+/// Goes to the beginning of the terminal's line and clears it.
+const CLEAR: &[u8] = b"\r\x1b[K";
+
+/// What all holders of one line share.
+#[derive(Drop)]
+struct Shared {
+    rt: HostRuntime,
+    erased: Cell<u64>,
+    programmed: Cell<u64>,
+    is_shown: Cell<bool>,
+    last: Cell<Option<Instant>>,
+}
+
+impl Shared {
+    /// Whether the line may be rewritten by now.
+    fn is_due(&self) -> bool {
+        let Ok(now) = Instant::now(&self.rt) else {
+            return false;
+        };
+        if let Some(last) = self.last.get() {
+            if now.saturating_duration_since(last) < Duration::from_millis(INTERVAL) {
+                return false;
+            }
+        }
+        self.last.set(Some(now));
+        true
+    }
+
+    /// Rewrites the line, where it is due. An error of the terminal is passed over.
+    fn show(&self) {
+        if !self.is_due() {
+            return;
+        }
+        let erased = self.erased.get();
+        let programmed = self.programmed.get();
+        if let Ok(text) =
+            format!(in self.rt.alloc(); "{erased} cells erased, {programmed} programmed")
+        {
+            self.is_shown.set(true);
+            let _cleared = self.rt.stderr().write_all(CLEAR).is_ok();
+            let _shown = self.rt.stderr().write_all(text.as_bytes()).is_ok();
+        }
+    }
+
+    /// Clears the line, where it is shown.
+    fn wipe(&self) {
+        if self.is_shown.get() {
+            self.is_shown.set(false);
+            let _cleared = self.rt.stderr().write_all(CLEAR).is_ok();
+        }
+    }
+}
+
+/// A line on standard error that counts the cells erased and programmed so far, rewritten at most ten times a second. There
+/// is one only where standard error is a terminal, so that nothing else ever gets it. Those who hold it share it.
+#[derive(Drop)]
+pub struct ProgressLine {
+    shared: Option<Rc<Shared>>,
+}
+
+impl ProgressLine {
+    /// No line: nothing is ever shown.
+    pub fn none() -> ProgressLine {
+        ProgressLine { shared: None }
+    }
+
+    /// A line on standard error, where that is a terminal and there is memory for it.
+    pub fn on_terminal(rt: HostRuntime) -> ProgressLine {
+        if !rt.stderr().is_terminal() {
+            return ProgressLine::none();
+        }
+        let shared = Shared {
+            rt,
+            erased: Cell::new(0),
+            programmed: Cell::new(0),
+            is_shown: Cell::new(false),
+            last: Cell::new(None),
+        };
+        ProgressLine {
+            shared: Rc::new(rt.alloc(), shared).ok(),
+        }
+    }
+
+    /// The same line, for another to hold.
+    pub fn share(&self) -> ProgressLine {
+        match &self.shared {
+            Some(shared) => ProgressLine {
+                shared: shared.clone().ok(),
+            },
+            None => ProgressLine::none(),
+        }
+    }
+
+    /// Counts cells that were erased.
+    pub fn erased(&self, cells: u64) {
+        if let Some(shared) = &self.shared {
+            shared.erased.set(shared.erased.get().saturating_add(cells));
+            shared.show();
+        }
+    }
+
+    /// Counts cells that were programmed.
+    pub fn programmed(&self, cells: u64) {
+        if let Some(shared) = &self.shared {
+            shared
+                .programmed
+                .set(shared.programmed.get().saturating_add(cells));
+            shared.show();
+        }
+    }
+
+    /// Clears the line, where it is shown: before anything else is put on a stream, and at the end.
+    pub fn wipe(&self) {
+        if let Some(shared) = &self.shared {
+            shared.wipe();
+        }
+    }
+}
