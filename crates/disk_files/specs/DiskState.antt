@@ -54,3 +54,18 @@ over d cell_count store_faults device_faults = record {
   files_at = d.files_at;
   cells_at = d.cells_at;
 }
+
+-- what a disk means whose job file and cells are those of a bench, with the bytes that a read of the cells gives
+abbrev pub disk_over : BenchState → Bool → List ℕ → Bool → Bool → DiskState
+disk_over b entry bytes unsynced earlier = record {
+  file = b.file;
+  entry = entry;
+  bytes = bytes;
+  cells = b.cells;
+  operation = b.operation;
+  unsynced = unsynced;
+  earlier = earlier;
+  moment = b.moment;
+  files_at = b.files_at;
+  cells_at = b.cells_at;
+}

@@ -5,6 +5,8 @@ mod cells_half;
 mod disk;
 mod disk_bench;
 mod job_half;
+mod memory_disk;
 
 pub use disk::Disk;
 pub use disk_bench::DiskBench;
+pub use memory_disk::MemoryDisk;

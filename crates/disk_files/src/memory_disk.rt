@@ -1,0 +1,220 @@
+//! A disk in memory, over a bench.
+ghost use Rattle.std.specs.Prelude.{◌≡◌, ◌≤◌, ◌+◌, ◌<◌, ◌^◌, length, IsTrue, vec_len, false, None};
+ghost use Rattle.std.specs.Option.{ForSome};
+ghost use Rattle.bench_model.specs.Calls.{written};
+ghost use Rattle.disk_files.specs.DiskDoes.{ClosesRange};
+ghost use Rattle.disk_files.specs.DiskState.{disk_over};
+ghost use Rattle.disk_files.specs.Memory.{DiffersInside};
+
+use crate::Disk;
+use bench_model::Bench;
+use std::io;
+use std::io::ErrorKind;
+
+/// A disk whose job file and cells are those of a bench, as one in memory. It tells its contents where the bench does.
+///
+/// The cells are written in the bench where a range is closed. Until then the bytes that were written stand beside it.
+#[derive(Drop)]
+pub struct MemoryDisk<B: Bench> {
+    bench: B,
+    // what a read of the cells gives
+    bytes: Vec<u8>,
+    operation: Option<(u32, u32)>,
+    entry: bool,
+    unsynced: bool,
+    earlier: bool,
+    ghost same: { IsTrue B.tells → (B.state bench).operation ≡ operation },
+    ghost apart: { IsTrue B.tells → DiffersInside operation (B.state bench).cells bytes.items },
+    ghost long: { vec_len bytes ≡ (B.state bench).cell_count },
+    ghost fits: { ForSome operation (λ range. range.0 + range.1 ≤ vec_len bytes) },
+}
+
+/// Lays bytes over others.
+fn overlay(old: &mut [u8], at: usize, bytes: &[u8])
+    requires { at + length bytes.now ≤ length old.old }
+    ensures { old.new ≡ written at bytes.now old.old }
+{
+    old[at..at + bytes.len()].copy_from_slice(bytes);
+}
+
+/// Lays bytes over cells.
+fn settle(cells: &mut Vec<u8>, at: usize, bytes: &[u8])
+    requires { at + length bytes.now ≤ vec_len cells.old }
+    ensures items { cells.new.items ≡ written at bytes.now cells.old.items }
+{
+    overlay(cells, at, bytes);
+}
+
+impl<B: Bench> MemoryDisk<B> {
+    /// The disk of a bench with these cells, on which no operation is open. Its job file's entry isn't on the disk, and an
+    /// earlier run may have left cells.
+    pub fn new(bench: B, bytes: Vec<u8>) -> MemoryDisk<B>
+        requires count { vec_len bytes ≡ (B.state bench).cell_count }
+        requires cells { IsTrue B.tells → bytes.items ≡ (B.state bench).cells }
+        requires idle { IsTrue B.tells → (B.state bench).operation ≡ None }
+        ensures bench { result.bench ≡ bench }
+    {
+        MemoryDisk {
+            bench,
+            bytes,
+            operation: None,
+            entry: false,
+            unsynced: true,
+            earlier: true,
+        }
+    }
+
+    /// Gives the bench back.
+    pub fn into_bench(self) -> B
+        ensures { result ≡ self.bench }
+    {
+        let MemoryDisk {
+            bench,
+            bytes: _,
+            operation: _,
+            entry: _,
+            unsynced: _,
+            earlier: _,
+        } = self;
+        bench
+    }
+
+    /// Puts the bytes of an open range into the bench.
+    fn end_range(&mut self) -> io::Result<()>
+        ensures does { ClosesRange B.tells (disk_over (B.state self.old.bench) self.old.entry self.old.bytes.items self.old.unsynced self.old.earlier)
+            (disk_over (B.state self.new.bench) self.new.entry self.new.bytes.items self.new.unsynced self.new.earlier) result }
+    {
+        let Some((at, len)) = self.operation else {
+            return Ok(());
+        };
+        let from = at as usize;
+        let to = from + len as usize;
+        match self.bench.cells_settle(&self.bytes[from..to]) {
+            Ok(()) => {
+                self.operation = None;
+                Ok(())
+            }
+            Err(_) => Err(io::Error::from(ErrorKind::Other)),
+        }
+    }
+}
+
+impl<B: Bench + Drop> Disk for MemoryDisk<B> {
+    ghost use Rattle.disk_files.specs.DiskState.{disk_over};
+    ghost use Rattle.disk_files.specs.Laws.{disk_inside};
+    ghost use Rattle.disk_files.specs.Memory.{same_outside};
+
+    ghost tells = { B.tells };
+
+    ghost state = { λ d. disk_over (B.state d.bench) d.entry d.bytes.items d.unsynced d.earlier };
+
+    ghost as_read = { λ d told. B.as_read d.bench told };
+
+    ghost as_told = { λ d cells told. B.as_told d.bench cells told };
+
+    ghost outside = { λ d told. same_outside (d.same told) (d.apart told) };
+
+    ghost inside = { λ d told. disk_inside (B.state d.bench).cells (B.inside d.bench told) (B.all_told d.bench told) };
+
+    fn job_open(&mut self) -> io::Result<()> {
+        Ok(())
+    }
+
+    fn folder_sync(&mut self) -> io::Result<()> {
+        self.entry = true;
+        Ok(())
+    }
+
+    fn job_len(&mut self) -> io::Result<u64> {
+        match self.bench.file_len() {
+            Ok(len) => Ok(len),
+            Err(_) => Err(io::Error::from(ErrorKind::Other)),
+        }
+    }
+
+    fn job_read_at(&mut self, at: u64, out: &mut [u8]) -> io::Result<usize> {
+        let wanted = out.len() as u64;
+        match self.bench.file_len() {
+            Ok(len) if wanted <= len && at <= len - wanted => {}
+            Ok(_) => return Ok(0),
+            Err(_) => return Err(io::Error::from(ErrorKind::Other)),
+        }
+        match self.bench.file_read(at, out) {
+            Ok(()) => Ok(out.len()),
+            Err(_) => Err(io::Error::from(ErrorKind::Other)),
+        }
+    }
+
+    fn job_write_at(&mut self, at: u64, bytes: &[u8]) -> io::Result<usize> {
+        match self.bench.file_write(at, bytes) {
+            Ok(()) => Ok(bytes.len()),
+            Err(_) => Err(io::Error::from(ErrorKind::Other)),
+        }
+    }
+
+    fn job_set_len(&mut self, len: u64) -> io::Result<()> {
+        match self.bench.file_cut(len) {
+            Ok(()) => Ok(()),
+            Err(_) => Err(io::Error::from(ErrorKind::Other)),
+        }
+    }
+
+    fn job_sync(&mut self) -> io::Result<()> {
+        match self.bench.file_sync() {
+            Ok(()) => Ok(()),
+            Err(_) => Err(io::Error::from(ErrorKind::Other)),
+        }
+    }
+
+    fn cells_sync(&mut self) -> io::Result<()> {
+        self.unsynced = false;
+        self.earlier = false;
+        Ok(())
+    }
+
+    fn cells_read_at(&mut self, at: u64, out: &mut [u8]) -> io::Result<usize> {
+        let len = self.bytes.len();
+        let from = at as usize;
+        if out.len() > len || from > len - out.len() {
+            return Ok(0);
+        }
+        out.copy_from_slice(&self.bytes[from..from + out.len()]);
+        Ok(out.len())
+    }
+
+    fn cells_write_at(&mut self, at: u64, bytes: &[u8]) -> io::Result<usize> {
+        let len = self.bytes.len();
+        let from = at as usize;
+        if self.operation.is_none() || bytes.len() > len || from > len - bytes.len() {
+            return Err(io::Error::from(ErrorKind::InvalidInput));
+        }
+        self.unsynced = true;
+        settle(&mut self.bytes, from, bytes);
+        Ok(bytes.len())
+    }
+
+    fn open_range(&mut self, at: u32, len: u32) -> io::Result<()> {
+        let count = self.bench.cells_len();
+        if len > count || at > count - len {
+            return Err(io::Error::from(ErrorKind::InvalidInput));
+        }
+        match self.bench.cells_open(at, len) {
+            Ok(()) => {
+                self.operation = Some((at, len));
+                Ok(())
+            }
+            Err(_) => {
+                self.operation = None;
+                Err(io::Error::from(ErrorKind::Other))
+            }
+        }
+    }
+
+    fn close_range(&mut self) -> io::Result<()> {
+        self.end_range()
+    }
+
+    fn break_range(&mut self) -> io::Result<()> {
+        self.end_range()
+    }
+}
