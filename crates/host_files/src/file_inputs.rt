@@ -74,11 +74,11 @@ pub fn read_to_end<R: Read>(reader: &mut R, mut bytes: Vec<u8>) -> io::Result<Ve
 }
 
 impl Inputs for FileInputs {
-    ghost use Rattle.std.specs.Prelude.{false, None};
+    ghost use Rattle.std.specs.Prelude.{false, None, []};
 
     ghost tells = { false };
 
-    ghost state = { λ i. record { faults = i; stands = λ _. None } };
+    ghost state = { λ i. record { faults = i; failed = []; stands = λ _. None } };
 
     ghost may_take = { λ _ _. Unit {0} };
 
