@@ -9,7 +9,7 @@ use Rattle.faults.specs.Counts.{Rose}
 use Rattle.outside_io.specs.State.{InputsState}
 use Rattle.report_text.specs.Refusal.{Refusal, out_of_memory, input_fault}
 use Rattle.command_words.proofs.ArgumentLemmas.{in_parts}
-use Rattle.command_files.specs.Inputs.{InputsCall, inputs_call, name_at, IsFile, IsThere, AreEach}
+use Rattle.command_files.specs.Inputs.{InputsCall, inputs_call, name_at, IsFile, IsThere, AreEach, NoneFailed}
 use Rattle.image_set.specs.Files.{file_at}
 use Rattle.command_files.specs.Steps.{IsTakeFault}
 
@@ -64,6 +64,14 @@ is_there {inputs} {names} {files} are = λ k d less.
         get_or-defaults (z ∷ zs) zero x y less = refl
         get_or-defaults (z ∷ zs) (suc k) x y less = get_or-defaults zs k x y (omega (arith, less))
 
+-- No take failed.
+
+pub none_failed_here : (tells : Bool) (a : InputsState) → NoneFailed (inputs_call tells a a)
+none_failed_here tells a = record { faults = refl; failed = λ told. refl }
+
+pub none_failed_then : {tells : Bool} {a b c : InputsState} → NoneFailed (inputs_call tells a b) → NoneFailed (inputs_call tells b c) → NoneFailed (inputs_call tells a c)
+none_failed_then one two = record { faults = two.faults ∙ one.faults; failed = λ told. two.failed told ∙ one.failed told }
+
 -- Names that can't be taken.
 
 -- among more names
@@ -77,48 +85,50 @@ fault_before inputs names later (input_fault name) is = (
     later = is.2.later ++ later;
     names_are = ap (λ (n : List (List ℕ)). n ++ later) is.2.names_are ∙ append_assoc is.2.earlier (name ∷ is.2.later) later;
     taken = is.2.taken;
+    failed = is.2.failed;
   }),
 )
 fault_before inputs names later r is = absurd is
 
 -- behind names that were taken
 pub fault_behind : {tells : Bool} {a b x : InputsState} {names files : List (List ℕ)} (c : InputsState) (more : List (List ℕ)) (r : Refusal)
-    → AreEach (inputs_call tells a x) names files → ((name : List ℕ) → b.stands name ≡ a.stands name) → b.faults ≡ a.faults
+    → AreEach (inputs_call tells a x) names files → ((name : List ℕ) → b.stands name ≡ a.stands name) → NoneFailed (inputs_call tells a b)
     → IsTakeFault (inputs_call tells b c) more r → IsTakeFault (inputs_call tells a c) (names ++ more) r
-fault_behind {tells} {a} {b} {x} {names} {files} c more out_of_memory are same faults is = is ∙ faults
-fault_behind {tells} {a} {b} {x} {names} {files} c more (input_fault name) are same faults is = (
-  omega (arith, faults, is.0),
-  subst (λ (n : ℕ). Rose n c.faults) faults is.1,
+fault_behind {tells} {a} {b} {x} {names} {files} c more out_of_memory are same none is = none_failed_then none is
+fault_behind {tells} {a} {b} {x} {names} {files} c more (input_fault name) are same none is = (
+  omega (arith, none.faults, is.0),
+  subst (λ (n : ℕ). Rose n c.faults) none.faults is.1,
   (record {
     earlier = names ++ is.2.earlier;
     later = is.2.later;
     names_are = ap (λ (n : List (List ℕ)). names ++ n) is.2.names_are ∙ sym (append_assoc names is.2.earlier (name ∷ is.2.later));
     taken = All-append (IsThere (inputs_call tells a c)) names is.2.earlier (is_there (each_earlier {a = a} {d = c} are (λ n. refl)))
         (λ k d less. let there = is.2.taken k d less in (there.0, λ told. sym (same (get_or is.2.earlier k d)) ∙ there.1 told));
+    failed = λ told. is.2.failed told ∙ ap (λ (n : List (List ℕ)). n ++ name ∷ []) (none.failed told);
   }),
 )
-fault_behind c more r are same faults is = absurd is
+fault_behind c more r are same none is = absurd is
 
 -- Name after name.
 
--- the files of the first names were taken, and no fault was counted
+-- the files of the first names were taken, and no take failed
 pub record TakenSoFar (tells : Bool) (start now : InputsState) (names files : List (List ℕ)) (done : ℕ) : Type 0 where
   pub each : AreEach (inputs_call tells start now) (take done names) files
   pub stands : (name : List ℕ) → now.stands name ≡ start.stands name
-  pub faults : now.faults ≡ start.faults
+  pub none_failed : NoneFailed (inputs_call tells start now)
 
 pub taken_here : (tells : Bool) (start : InputsState) (names : List (List ℕ)) → TakenSoFar tells start start names [] 0
-taken_here tells start names = record { each = each_of_none (inputs_call tells start start); stands = λ name. refl; faults = refl }
+taken_here tells start names = record { each = each_of_none (inputs_call tells start start); stands = λ name. refl; none_failed = none_failed_here tells start }
 
 pub taken_then : {tells : Bool} {start mid now : InputsState} {names files : List (List ℕ)} {done : ℕ} (file : List ℕ)
     → TakenSoFar tells start mid names files done → done < length names
-    → (IsTrue tells → mid.stands (name_at names done) ≡ Some file) → ((name : List ℕ) → now.stands name ≡ mid.stands name) → now.faults ≡ mid.faults
+    → (IsTrue tells → mid.stands (name_at names done) ≡ Some file) → ((name : List ℕ) → now.stands name ≡ mid.stands name) → NoneFailed (inputs_call tells mid now)
     → TakenSoFar tells start now names (files ++ file ∷ []) (done + 1)
-taken_then {tells} {start} {mid} {now} {names} {files} {done} file so_far less taken stands faults = record {
+taken_then {tells} {start} {mid} {now} {names} {files} {done} file so_far less taken stands none = record {
   each = subst (λ (n : List (List ℕ)). AreEach (inputs_call tells start now) n (files ++ file ∷ [])) (sym (take_more names done [] less))
       (each_push (each_earlier {d = now} so_far.each (λ n. refl)) (name_at names done) file (λ told. sym (so_far.stands (name_at names done)) ∙ taken told));
   stands = λ name. stands name ∙ so_far.stands name;
-  faults = faults ∙ so_far.faults;
+  none_failed = none_failed_then so_far.none_failed none;
 }
 
 -- and then one that can't be taken
@@ -127,5 +137,5 @@ pub untaken_then : {tells : Bool} {start mid : InputsState} {names files : List 
     → IsTakeFault (inputs_call tells mid now) (name_at names done ∷ []) r → IsTakeFault (inputs_call tells start now) names r
 untaken_then {tells} {start} {mid} {names} {files} {done} now r so_far less is =
     subst (λ (n : List (List ℕ)). IsTakeFault (inputs_call tells start now) n r) (sym (in_parts names done less))
-    (fault_behind now (name_at names done ∷ drop (done + 1) names) r so_far.each so_far.stands so_far.faults
+    (fault_behind now (name_at names done ∷ drop (done + 1) names) r so_far.each so_far.stands so_far.none_failed
     (fault_before (inputs_call tells mid now) (name_at names done ∷ []) (drop (done + 1) names) r is))

@@ -17,6 +17,12 @@ inputs_call tells before after = record { tells = tells; before = before; after 
 pub record TakesNothing (inputs : InputsCall) : Type 0 where
   pub stands : (name : List ℕ) → inputs.after.stands name ≡ inputs.before.stands name
   pub faults : inputs.after.faults ≡ inputs.before.faults
+  pub failed : inputs.after.failed ≡ inputs.before.failed
+
+-- no take failed
+pub record NoneFailed (inputs : InputsCall) : Type 0 where
+  pub faults : inputs.after.faults ≡ inputs.before.faults
+  pub failed : IsTrue inputs.tells → inputs.after.failed ≡ inputs.before.failed
 
 -- these bytes stand under the name, where the inputs tell
 abbrev pub IsFile : InputsCall → List ℕ → List ℕ → Type 0
@@ -52,9 +58,10 @@ pub record Given (inputs : InputsCall) (asked : FilesAsked) (Holds : FilesGiven 
 abbrev pub IsThere : InputsCall → List ℕ → Type 0
 IsThere inputs name = (file : List ℕ) × IsFile inputs name file
 
--- The names before it were taken, and then this one was not.
+-- The names before it were taken, and then the take of this one failed, and no other take.
 pub record IsUntaken (inputs : InputsCall) (names : List (List ℕ)) (name : List ℕ) : Type 0 where
   pub earlier : List (List ℕ)
   pub later : List (List ℕ)
   pub names_are : names ≡ earlier ++ name ∷ later
   pub taken : All (IsThere inputs) earlier
+  pub failed : IsTrue inputs.tells → inputs.after.failed ≡ inputs.before.failed ++ name ∷ []

@@ -16,7 +16,7 @@ use Rattle.report_text.specs.Refusal as refusal
 use Rattle.report_text.specs.Shown.{shown}
 use Rattle.report_text.specs.declared.refusal.Refusal.{Refusal}
 use Rattle.command_words.specs.Files.{FilesAsked, names_in}
-use Rattle.command_files.specs.Inputs.{InputsCall, FilesGiven, AreEach, AreFiles, Given, IsUntaken}
+use Rattle.command_files.specs.Inputs.{InputsCall, FilesGiven, AreEach, AreFiles, Given, IsUntaken, NoneFailed}
 use Rattle.image_set.specs.Files.{IsUnionBefore}
 use Rattle.command_files.specs.Files.{algorithm_of, IsForBoard, IsUnfit, Clashes, IsImageRefused, Aim, IsAim, IsRefused}
 use Rattle.command_files.specs.declared.take.Files.{Files}
@@ -26,15 +26,15 @@ use Rattle.command_files.specs.declared.wanted.Wanted.{Wanted}
 
 -- Taking the files of some names.
 
--- why it ends early; no fault is counted for want of memory
+-- why it ends early; no take failed where there was no memory
 abbrev pub IsTakeFault : InputsCall → List (List ℕ) → refusal.Refusal → Type 0
-IsTakeFault inputs names refusal.out_of_memory = inputs.after.faults ≡ inputs.before.faults
+IsTakeFault inputs names refusal.out_of_memory = NoneFailed inputs
 IsTakeFault inputs names (refusal.input_fault name) =
     (inputs.before.faults ≤ inputs.after.faults) × Rose inputs.before.faults inputs.after.faults × IsUntaken inputs names name
 IsTakeFault inputs names _ = ⊥
 
 abbrev pub TakesEach : InputsCall → List (List ℕ) → Result (List (List ℕ)) Refusal → Type 0
-TakesEach inputs names (Ok files) = AreEach inputs names files × (inputs.after.faults ≡ inputs.before.faults)
+TakesEach inputs names (Ok files) = AreEach inputs names files × NoneFailed inputs
 TakesEach inputs names (Err e) = IsTakeFault inputs names (shown e)
 
 -- the bytes of files that were taken
@@ -47,7 +47,7 @@ pub record AreShort (files : Files) : Type 0 where
   pub flm : ForSome files.flm (λ bytes. length bytes ≤ 67108864)
 
 abbrev pub TakesFiles : InputsCall → FilesAsked → List (List ℕ) → Result Files Refusal → Type 0
-TakesFiles inputs asked names (Ok files) = AreFiles inputs asked (bytes_of files) × (inputs.after.faults ≡ inputs.before.faults)
+TakesFiles inputs asked names (Ok files) = AreFiles inputs asked (bytes_of files) × NoneFailed inputs
 TakesFiles inputs asked names (Err e) = IsTakeFault inputs names (shown e)
 
 -- Reading the files.
@@ -149,10 +149,10 @@ pub record IsTask (raw_at : Option ℕ) (files : FilesGiven) (task : Task) : Typ
   pub board_text : files.board ≡ task.board_text
   pub flm : files.flm ≡ Some task.flm
 
--- The files were taken, and no fault was counted.
+-- The files were taken, and no take failed.
 pub record TookFiles (inputs : InputsCall) (asked : FilesAsked) (Holds : FilesGiven → Type 0) : Type 0 where
   pub given : Given inputs asked Holds
-  pub faults : inputs.after.faults ≡ inputs.before.faults
+  pub none_failed : NoneFailed inputs
 
 -- a file can't be taken, or else the files are refused
 abbrev pub ReadsTask : InputsCall → FilesAsked → Result Task Refusal → Type 0

@@ -3,7 +3,7 @@ use Rattle.std.proofs.lemmas.List.Elements.{All-head, All-tail, All-weaker}
 use Rattle.report_text.specs.Shown.{shown}
 use Rattle.command_words.specs.Requested.{files_of}
 use Rattle.command_files.specs.Inputs.{inputs_call}
-use Rattle.command_files.proofs.TakeLemmas.{all_front, all_back, each_earlier, fault_before, fault_behind}
+use Rattle.command_files.proofs.TakeLemmas.{all_front, all_back, each_earlier, fault_before, fault_behind, none_failed_then}
 use Rattle.command_files.proofs.take.take_files.Goals as goal
 
 pub take_one-requires : goal.take_one-requires
@@ -61,5 +61,5 @@ returns-clause-takes g c = (
     flm = each_earlier c.in_ok-flm.ensures.takes.0 c.in_ok-board.ensures.stands;
     images = each_earlier c.in_ok-images.ensures.0 (λ name. c.in_ok-flm.ensures.stands name ∙ c.in_ok-board.ensures.stands name);
   },
-  c.in_ok-images.ensures.1 ∙ c.in_ok-flm.ensures.takes.1 ∙ c.in_ok-board.ensures.takes.1,
+  none_failed_then (none_failed_then c.in_ok-board.ensures.takes.1 c.in_ok-flm.ensures.takes.1) c.in_ok-images.ensures.1,
 )

@@ -20,7 +20,7 @@ returns-in_err-wanted-clause-reads g c =
     let is : c.from_residual-in_err-wanted.result ≡ Err c.in_err-wanted.field-0.0 = search rules in
     rw is (inr (record {
       given = record { files = bytes_of c.in_ok-files.files; are_files = c.in_ok-files.ensures.takes.0; holds = c.in_err-wanted.ensures };
-      faults = c.in_ok-files.ensures.takes.1;
+      none_failed = c.in_ok-files.ensures.takes.1;
     }))
 
 pub unwrap-requires : goal.unwrap-requires
@@ -42,5 +42,5 @@ returns-clause-reads g c = record {
     holds = task_is c.args.names.now.raw_at (bytes_of c.in_ok-files.files) c.in_ok-wanted.wanted c.unwrap-2.result c.in_ok-files.files.board c.unwrap.result
         c.in_ok-wanted.ensures c.unwrap-2.ensures refl c.unwrap.ensures;
   };
-  faults = c.in_ok-files.ensures.takes.1;
+  none_failed = c.in_ok-files.ensures.takes.1;
 }
