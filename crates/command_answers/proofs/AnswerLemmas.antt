@@ -4,10 +4,10 @@ use Rattle.bench_model.specs.State.{BenchState}
 use Rattle.bench_model.proofs.Moments.{only_reads_here, file_stays_here, cells_stay_here}
 use Rattle.outside_io.specs.State.{SinkState}
 use Rattle.report_text.specs.Refusal.{Refusal, out_of_memory, usage, input_fault, image_too_long, flm_refused, other_device, no_room, board_refused, image_refused, image_misplaced, job_open, no_job, not_a_job, cells_differ, store_fault, device_fault, output_fault, call_failed, mismatch, differs, not_built, status_of}
-use Rattle.command_files.specs.Inputs.{InputsCall, IsFile, IsUntaken}
+use Rattle.command_files.specs.Inputs.{InputsCall, IsFile, IsUntaken, NoneFailed, TakesNothing}
 use Rattle.command_files.specs.Steps.{IsTakeFault}
 use Rattle.command_answers.specs.Call.{BenchCall, SinkCall, Answer, done, refused, bench_call, sink_call, IsUntouched, Says}
-use Rattle.command_answers.specs.Answered.{Fault, input, store, device, output, fault_in, IsCounted, AreCounted, DidNothing, OnlyLooked, StandsEarly, IsOf, EndsLawfully}
+use Rattle.command_answers.specs.Answered.{Fault, input, store, device, output, fault_in, IsCounted, AreCounted, DidNothing, OnlyLooked, Scope, on_files, on_job_file, on_own_bench, AtSeven, AtOne, StandsEarly, IsOf, EndsLawfully}
 
 -- The status.
 
@@ -82,8 +82,14 @@ did_nothing tells told b o = record { untouched = untouched_here tells b; prints
 pub only_looked : (tells told : Bool) (b : BenchState) (o : SinkState) → OnlyLooked (bench_call tells b b) (sink_call told o o)
 only_looked tells told b o = record { reads = λ is. only_reads_here tells b; prints = record { taken = refl; faults = refl } }
 
-stands_early : (AtSeven : BenchCall → SinkCall → Type 0) (bench : BenchCall) (out : SinkCall) (r : Refusal) → AtSeven bench out → DidNothing bench out
-    → StandsEarly AtSeven bench out (refused r)
+pub at_one : (scope : Scope) (bench : BenchCall) (out : SinkCall) → DidNothing bench out → AtOne scope out
+at_one on_files bench out did = did.prints
+at_one on_job_file bench out did = did.prints
+at_one on_own_bench bench out did = tt
+
+stands_early : (scope : Scope) (bench : BenchCall) (out : SinkCall) (r : Refusal) → AtSeven scope bench out → DidNothing bench out
+    → StandsEarly scope bench out (refused r)
+stands_early A bench out out_of_memory seven did = at_one A bench out did
 stands_early A bench out usage seven did = did
 stands_early A bench out (input_fault name) seven did = did
 stands_early A bench out (image_too_long bytes cells) seven did = did
@@ -101,32 +107,33 @@ stands_early A bench out not_built seven did = did
 stands_early A bench out r seven did = tt
 
 module _ (tells told : Bool) (b : BenchState) (o : SinkState) (inputs : InputsCall) where
-  plain_counts : (answer : Answer) → inputs.after.faults ≡ inputs.before.faults → fault_in answer ≡ None
+  plain_counts : (answer : Answer) → NoneFailed inputs → fault_in answer ≡ None
       → AreCounted (bench_call tells b b) inputs (sink_call told o o) answer
   plain_counts answer same none = record {
-    inputs_count = unraised inputs.before.faults inputs.after.faults input answer same (no_fault answer input none);
+    inputs_count = unraised inputs.before.faults inputs.after.faults input answer same.faults (no_fault answer input none);
     store_count = unraised b.store_faults b.store_faults store answer refl (no_fault answer store none);
     device_count = unraised b.device_faults b.device_faults device answer refl (no_fault answer device none);
     out_count = unraised o.faults o.faults output answer refl (no_fault answer output none);
   }
 
   -- a refusal that is no fault, before any work
-  pub plain_lawful : (AtSeven : BenchCall → SinkCall → Type 0) (has : Refusal → Bool) (names : List (List ℕ)) (r : Refusal)
-      → AtSeven (bench_call tells b b) (sink_call told o o) → has r ≡ true → inputs.after.faults ≡ inputs.before.faults
-      → fault_in (refused r) ≡ None → EndsLawfully AtSeven (bench_call tells b b) inputs (sink_call told o o) has names (refused r)
-  plain_lawful AtSeven has names r seven kind same none = record {
+  pub plain_lawful : (scope : Scope) (has : Refusal → Bool) (names : List (List ℕ)) (r : Refusal)
+      → AtSeven scope (bench_call tells b b) (sink_call told o o) → has r ≡ true → NoneFailed inputs
+      → fault_in (refused r) ≡ None → EndsLawfully scope (bench_call tells b b) inputs (sink_call told o o) has names (refused r)
+  plain_lawful scope has names r seven kind same none = record {
     kind = kind;
     counts = plain_counts (refused r) same none;
-    stands = stands_early AtSeven (bench_call tells b b) (sink_call told o o) r seven (did_nothing tells told b o);
+    stands = stands_early scope (bench_call tells b b) (sink_call told o o) r seven (did_nothing tells told b o);
     untaken = λ name is. absurd (no_fault (refused r) input none (ap fault_in is));
+    none_failed = λ told no. same.failed told;
   }
 
   -- a file that couldn't be taken
-  pub untaken_lawful : (AtSeven : BenchCall → SinkCall → Type 0) (has : Refusal → Bool) (names : List (List ℕ)) (r : Refusal)
-      → AtSeven (bench_call tells b b) (sink_call told o o) → has out_of_memory ≡ true → ((name : List ℕ) → has (input_fault name) ≡ true)
-      → IsTakeFault inputs names r → EndsLawfully AtSeven (bench_call tells b b) inputs (sink_call told o o) has names (refused r)
-  untaken_lawful AtSeven has names out_of_memory seven memory fault is = plain_lawful AtSeven has names out_of_memory seven memory is refl
-  untaken_lawful AtSeven has names (input_fault name) seven memory fault is = record {
+  pub untaken_lawful : (scope : Scope) (has : Refusal → Bool) (names : List (List ℕ)) (r : Refusal)
+      → AtSeven scope (bench_call tells b b) (sink_call told o o) → has out_of_memory ≡ true → ((name : List ℕ) → has (input_fault name) ≡ true)
+      → IsTakeFault inputs names r → EndsLawfully scope (bench_call tells b b) inputs (sink_call told o o) has names (refused r)
+  untaken_lawful scope has names out_of_memory seven memory fault is = plain_lawful scope has names out_of_memory seven memory is refl
+  untaken_lawful scope has names (input_fault name) seven memory fault is = record {
     kind = fault name;
     counts = record {
       inputs_count = record { later = is.0; only = λ its. is.1; answered = λ more. refl };
@@ -136,10 +143,15 @@ module _ (tells told : Bool) (b : BenchState) (o : SinkState) (inputs : InputsCa
     };
     stands = did_nothing tells told b o;
     untaken = λ other same. let name_is : name ≡ other = cc in subst (λ (n : List ℕ). IsUntaken inputs names n) name_is is.2;
+    none_failed = λ told no. absurd (no refl);
   }
-  untaken_lawful AtSeven has names r seven memory fault is = absurd is
+  untaken_lawful scope has names r seven memory fault is = absurd is
 
 -- the file that was taken is the one that stands under the name
 pub one_file : (inputs : InputsCall) (name bytes other : List ℕ) → IsTrue inputs.tells → inputs.before.stands name ≡ Some bytes
     → IsFile inputs name other → other ≡ bytes
 one_file inputs name bytes other told stands file = let its = file told in cc
+
+-- where nothing was taken no take failed
+pub took_none : (inputs : InputsCall) → TakesNothing inputs → NoneFailed inputs
+took_none inputs takes = record { faults = takes.faults; failed = λ told. takes.failed }

@@ -148,38 +148,58 @@ pub record OnlyLooked (bench : BenchCall) (out : SinkCall) : Type 0 where
   pub reads : IsTrue bench.tells → OnlyReads bench.tells bench.before bench.after
   pub prints : TookNothing out
 
--- Statuses 2 to 6, and 14; and status 7, after which this stands: a command that doesn't look at the job file did nothing then, and the
--- others only looked.
-abbrev pub StandsEarly : (BenchCall → SinkCall → Type 0) → BenchCall → SinkCall → Answer → Type 0
-StandsEarly AtSeven bench out (refused usage) = DidNothing bench out
-StandsEarly AtSeven bench out (refused (input_fault name)) = DidNothing bench out
-StandsEarly AtSeven bench out (refused (image_too_long bytes cells)) = DidNothing bench out
-StandsEarly AtSeven bench out (refused (image_refused name fault)) = DidNothing bench out
-StandsEarly AtSeven bench out (refused (image_misplaced fault)) = DidNothing bench out
-StandsEarly AtSeven bench out (refused (flm_refused fault)) = DidNothing bench out
-StandsEarly AtSeven bench out (refused (other_device base size)) = DidNothing bench out
-StandsEarly AtSeven bench out (refused (no_room need have)) = DidNothing bench out
-StandsEarly AtSeven bench out (refused (board_refused fault)) = DidNothing bench out
-StandsEarly AtSeven bench out (refused job_open) = AtSeven bench out
-StandsEarly AtSeven bench out (refused no_job) = AtSeven bench out
-StandsEarly AtSeven bench out (refused (not_a_job at)) = AtSeven bench out
-StandsEarly AtSeven bench out (refused (cells_differ wanted found)) = AtSeven bench out
-StandsEarly AtSeven bench out (refused not_built) = DidNothing bench out
-StandsEarly AtSeven bench out _ = Unit {0}
+-- What a command works on: its files and the cells, the job file too, or a bench in memory of its own.
+pub data Scope : Type 0 where
+  on_files : Scope
+  on_job_file : Scope
+  on_own_bench : Scope
+
+-- Status 7: a command that doesn't look at the job file did nothing then, and the others only looked. One on a bench of its own prints what
+-- came of it.
+abbrev pub AtSeven : Scope → BenchCall → SinkCall → Type 0
+AtSeven on_files bench out = DidNothing bench out
+AtSeven on_job_file bench out = OnlyLooked bench out
+AtSeven on_own_bench bench out = IsTrue bench.tells → OnlyReads bench.tells bench.before bench.after
+
+-- Status 1: nothing went to `out`. One on a bench of its own prints that there was no memory for the work on it.
+abbrev pub AtOne : Scope → SinkCall → Type 0
+AtOne on_files out = TookNothing out
+AtOne on_job_file out = TookNothing out
+AtOne on_own_bench out = Unit {0}
+
+-- What stands after statuses 1 to 7, and 14.
+abbrev pub StandsEarly : Scope → BenchCall → SinkCall → Answer → Type 0
+StandsEarly scope bench out (refused out_of_memory) = AtOne scope out
+StandsEarly scope bench out (refused usage) = DidNothing bench out
+StandsEarly scope bench out (refused (input_fault name)) = DidNothing bench out
+StandsEarly scope bench out (refused (image_too_long bytes cells)) = DidNothing bench out
+StandsEarly scope bench out (refused (image_refused name fault)) = DidNothing bench out
+StandsEarly scope bench out (refused (image_misplaced fault)) = DidNothing bench out
+StandsEarly scope bench out (refused (flm_refused fault)) = DidNothing bench out
+StandsEarly scope bench out (refused (other_device base size)) = DidNothing bench out
+StandsEarly scope bench out (refused (no_room need have)) = DidNothing bench out
+StandsEarly scope bench out (refused (board_refused fault)) = DidNothing bench out
+StandsEarly scope bench out (refused job_open) = AtSeven scope bench out
+StandsEarly scope bench out (refused no_job) = AtSeven scope bench out
+StandsEarly scope bench out (refused (not_a_job at)) = AtSeven scope bench out
+StandsEarly scope bench out (refused (cells_differ wanted found)) = AtSeven scope bench out
+StandsEarly scope bench out (refused not_built) = DidNothing bench out
+StandsEarly scope bench out _ = Unit {0}
 
 -- the answer is done, or a refusal that passes the test
 abbrev pub IsOf : (Refusal → Bool) → Answer → Type 0
 IsOf has done = Unit {0}
 IsOf has (refused refusal) = has refusal ≡ true
 
--- What holds of the work of each command that leaves this with status 7, has these refusals and may ask for these files, whatever
--- the objects tell: which refusals it has, its counts of faults, what stands after an early refusal, and that it asks for no other
--- file.
-pub record EndsLawfully (AtSeven : BenchCall → SinkCall → Type 0) (bench : BenchCall) (inputs : InputsCall) (out : SinkCall) (has : Refusal → Bool) (names : List (List ℕ)) (answer : Answer) : Type 0 where
+-- What holds of the work of each command of this scope that has these refusals and may ask for these files, whatever the objects tell:
+-- which refusals it has, its counts of faults, what stands after an early refusal, that it asks for no other file, and that no take
+-- failed but the one whose fault it answers.
+pub record EndsLawfully (scope : Scope) (bench : BenchCall) (inputs : InputsCall) (out : SinkCall) (has : Refusal → Bool) (names : List (List ℕ)) (answer : Answer) : Type 0 where
   pub kind : IsOf has answer
   pub counts : AreCounted bench inputs out answer
-  pub stands : StandsEarly AtSeven bench out answer
+  pub stands : StandsEarly scope bench out answer
   pub untaken : (name : List ℕ) → answer ≡ refused (input_fault name) → IsUntaken inputs names name
+  pub none_failed : IsTrue inputs.tells → (fault_in answer ≡ Some input → ⊥) → inputs.after.failed ≡ inputs.before.failed
 
 -- A call whose work ends so: its answer, its status and its line on `err`.
 pub record AnswersBy (call : Call) (Ends : BenchCall → InputsCall → SinkCall → Answer → Type 0) : Type 0 where

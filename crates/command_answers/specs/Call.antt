@@ -55,6 +55,12 @@ pub record TookPart (sink : SinkCall) (text : List ℕ) : Type 0 where
   pub later : sink.before.faults ≤ sink.after.faults
   pub rose : Rose sink.before.faults sink.after.faults
 
+-- this whole text and then a beginning of another, where its count of faults rose
+pub record TookPartBehind (sink : SinkCall) (whole text : List ℕ) : Type 0 where
+  pub taken : IsTrue sink.tells → AppendsPart text (sink.before.taken ++ whole) sink.after.taken
+  pub later : sink.before.faults ≤ sink.after.faults
+  pub rose : Rose sink.before.faults sink.after.faults
+
 -- The bench is as it was.
 pub record IsUntouched (bench : BenchCall) : Type 0 where
   pub file : FileStays bench.before bench.after
