@@ -33,3 +33,7 @@ IsWholeOrClosed body file = IsWhole body file ⊎ IsClosed body file
 -- one that a stop at the start may leave, or free, or whole
 abbrev pub IsOfBegin : Half → List ℕ → List ℕ → Type 0
 IsOfBegin start body file = left start file ⊎ IsFreeOrWhole body file
+
+-- one that a stop at the start may leave, or free: the job's gate wasn't opened
+abbrev pub IsUnopened : Half → List ℕ → Type 0
+IsUnopened start file = left start file ⊎ IsFree file

@@ -9,6 +9,8 @@ ghost use Rattle.job_text.specs.Parts.{job_of, AreParts, head_of_parts, front_of
 ghost use Rattle.job_file.specs.Counted.{IsCounted, is_store_fault, is_device_fault, IsFault, ReadsUnlessFault};
 ghost use Rattle.job_file.specs.Faults.{IsBeginFault, IsSoundBegin};
 ghost use Rattle.job_file.specs.Stops.{IsFreeOrWhole, IsOfBegin};
+ghost use Rattle.job_file.specs.First.{SyncsFirst};
+ghost use Rattle.job_file.specs.Unopened.{UnopenedAtDeviceFault};
 
 use crate::fault::BeginFault;
 use crate::gate::put_job;
@@ -45,6 +47,7 @@ fn prepare<B: Bench>(alloc: Global, bench: &mut B, parts: &JobParts) -> Result<V
     ensures reads { OnlyReads B.tells (B.state bench.old) (B.state bench.new) }
     ensures counted { IsCounted (B.state bench.old).store_faults (B.state bench.new).store_faults (is_store_fault result) }
     ensures no_device { is_device_fault result ≡ false }
+    ensures first { SyncsFirst B.acts bench.old }
 {
     let bytes = look(alloc, bench)?;
     let found = bench.cells_len();
@@ -70,6 +73,7 @@ fn drop_and_put<B: Bench>(
         × ((B.state bench.new).operation ≡ None)) }
     ensures stops { IsTrue B.tells → Leaves (file_half (B.state bench.old)) (file_half (B.state bench.new))
         (IsOfBegin (file_half (B.state bench.old)) (front_of parts.now ++ (B.state bench.new).cells)) }
+    ensures unopened { IsTrue B.tells → UnopenedAtDeviceFault (file_half (B.state bench.old)) (file_half (B.state bench.new)) result }
     ensures cells { AddsNothing (cells_half (B.state bench.old)) (cells_half (B.state bench.new)) }
     ensures count { (B.state bench.new).cell_count ≡ (B.state bench.old).cell_count }
     ensures fault { IfErr result IsFault }
@@ -104,6 +108,9 @@ pub fn begin<B: Bench>(alloc: Global, bench: &mut B, parts: &JobParts) -> Result
         (IsOfBegin (file_half (B.state bench.old)) (body_of (job_of parts.now (B.state bench.new).cells))) }
     ensures cells { AddsNothing (cells_half (B.state bench.old)) (cells_half (B.state bench.new)) }
 
+    // A device fault comes before the gate is opened.
+    ensures unopened { IsTrue B.tells → UnopenedAtDeviceFault (file_half (B.state bench.old)) (file_half (B.state bench.new)) result }
+
     // Whatever it answers, a file that was free is free or stands for this job.
     ensures after { IsTrue B.tells → IsFree (B.state bench.old).file
         → IsFreeOrWhole (body_of (job_of parts.now (B.state bench.new).cells)) (B.state bench.new).file }
@@ -111,6 +118,9 @@ pub fn begin<B: Bench>(alloc: Global, bench: &mut B, parts: &JobParts) -> Result
     // Where the file isn't free or the numbers of cells differ, it is only looked at, whatever it answers.
     ensures looked { IsTrue B.tells → (IsFree (B.state bench.old).file × (parts.now.size ≡ (B.state bench.old).cell_count) → ⊥)
         → OnlyReads B.tells (B.state bench.old) (B.state bench.new) }
+
+    // The file is synced before any other call on the bench.
+    ensures first { SyncsFirst B.acts bench.old }
 
     // With `ok`, `free` and `sized`, each refusal comes exactly where it says.
     ensures refused { IsTrue B.tells → IfErr result (IsBeginFault (B.state bench.old).file parts.now.size (B.state bench.old).cell_count) }

@@ -8,6 +8,7 @@ ghost use Rattle.job_text.specs.Files.{IsFree, open_gate};
 ghost use Rattle.job_text.specs.Parts.{AreParts, head_of_parts, front_of};
 ghost use Rattle.job_file.specs.Counted.{IsCounted, is_store_fault, is_device_fault, IsFault};
 ghost use Rattle.job_file.specs.Stops.{IsFreeOrWhole, IsShut};
+ghost use Rattle.job_file.specs.Unopened.{UnopenedAtDeviceFault};
 
 use crate::body::put_body;
 use crate::fault::BeginFault;
@@ -39,6 +40,7 @@ pub fn put_job<B: Bench>(
         × LeftOnly (open_gate ∷ front_of parts.now ++ (B.state bench.old).cells) (file_half (B.state bench.new))) }
     ensures moments { IsTrue B.tells → Leaves (file_half (B.state bench.old)) (file_half (B.state bench.new))
         (IsFreeOrWhole (front_of parts.now ++ (B.state bench.old).cells)) }
+    ensures unopened { IsTrue B.tells → UnopenedAtDeviceFault (file_half (B.state bench.old)) (file_half (B.state bench.new)) result }
     ensures cells { CellsAreRead B.tells (B.state bench.old) (B.state bench.new) }
     ensures fault { IfErr result IsFault }
     ensures store { IsCounted (B.state bench.old).store_faults (B.state bench.new).store_faults (is_store_fault result) }

@@ -1,4 +1,4 @@
-use Rattle.std.proofs.Common.{⊎_elim, inl, ◌≡◌, ◌∙◌, ◌++◌, ◌∷◌, ℕ, List, length, sym, refl, subst, arith, None, OnOk}
+use Rattle.std.proofs.Common.{rules, Err, ⊎_elim, inl, ◌≡◌, ◌∙◌, ◌++◌, ◌∷◌, ℕ, List, length, sym, refl, subst, arith, None, OnOk}
 use Rattle.bench_model.specs.History.{LeftOnly, left}
 use Rattle.bench_model.specs.State.{file_half}
 use Rattle.bench_model.proofs.Moments.{leaves_left}
@@ -8,6 +8,7 @@ use Rattle.job_text.specs.Parts.{job_of, front_of}
 use Rattle.job_text.proofs.PartLemmas.{front_is}
 use Rattle.job_file.specs.Stops.{IsOfBegin, IsFreeOrWhole}
 use Rattle.job_file.proofs.PieceLemmas.{begins}
+use Rattle.job_file.proofs.UnopenedLemmas.{unopened_behind, unopened_other}
 use Rattle.job_file.proofs.beginning.begin.Goals as goal
 
 pub returns-clause-ok : goal.returns-clause-ok
@@ -40,3 +41,14 @@ returns-clause-after g c = λ told is_free.
     (λ (at : left (file_half b) d.file). inl (subst (λ (f : List ℕ). IsFree f) (sym ((c.in_ok-head.ensures.free told).1 d.file at)) is_free))
     (λ (other : IsFreeOrWhole body d.file). subst (λ (l : List ℕ). IsFreeOrWhole l d.file) text other)
     (leaves_left (IsOfBegin (file_half b) body) (c.drop_and_put.ensures.stops told) d.file (g.met.B.Bench.as_read c.drop_and_put.new.bench told))
+
+pub returns-in_err-head-clause-unopened : goal.returns-in_err-head-clause-unopened
+returns-in_err-head-clause-unopened g c = λ told.
+    let u = c.from_residual.ensures in
+    let is : c.from_residual.result ≡ Err c.in_err-head.field-0.0 = search rules in
+    rw is (unopened_other (Unit {0}) (file_half (g.B.Bench.state c.args.bench.now)) (file_half (g.B.Bench.state c.prepare.new.bench)) c.in_err-head.field-0.0 c.in_err-head.ensures.no_device)
+
+pub returns-clause-unopened : goal.returns-clause-unopened
+returns-clause-unopened g c = λ told.
+    unopened_behind (file_half (g.B.Bench.state c.args.bench.now)) (file_half (g.B.Bench.state c.prepare.new.bench)) (file_half (g.B.Bench.state c.drop_and_put.new.bench)) c.drop_and_put.result
+    c.prepare.ensures.reads.moments (c.drop_and_put.ensures.unopened told)

@@ -1,9 +1,11 @@
-use Rattle.std.proofs.Common.{◌∙◌, ◌++◌, ◌∷◌, ap, inl, refl, List, ℕ, arith}
+use Rattle.std.proofs.Common.{rules, ◌≡◌, ◌∙◌, ◌++◌, ◌∷◌, ap, inl, inr, refl, List, ℕ, arith, Err}
+use Rattle.bench_model.specs.State.{file_half}
 use Rattle.bench_model.proofs.Moments.{leaves_as, leaves_then, leaves_step, leaves_then_nothing}
 use Rattle.job_text.specs.Files.{IsFree}
 use Rattle.job_text.specs.Parts.{front_of}
-use Rattle.job_file.specs.Stops.{IsFreeOrWhole, IsShut}
+use Rattle.job_file.specs.Stops.{IsFreeOrWhole, IsShut, IsUnopened}
 use Rattle.job_file.proofs.FileLemmas.{free_closed, opening}
+use Rattle.job_file.proofs.UnopenedLemmas.{unopened_by}
 use Rattle.job_file.proofs.gate.put_job.Goals as goal
 
 -- one line for each step
@@ -19,3 +21,13 @@ returns-clause-moments g c = λ told.
     let is = c.in_ok-file_sync.ensures.does.file told ∙ c.in_ok-put_body.ensures.ok told ∙ ap (λ (l : List ℕ). 0 ∷ (front ++ l)) c.in_ok-shut.ensures.cells.cells in
     leaves_then P run3 (leaves_step _ P _ _ (c.in_ok-file_sync.ensures.does.ok told) (c.in_ok-put_body.ensures.ok told ∙ ap (λ (l : List ℕ). 0 ∷ (front ++ l)) c.in_ok-shut.ensures.cells.cells)
     (λ f torn. opening body f torn) c.write_synced.ensures.moments)
+
+pub returns-in_err-put_body-clause-unopened : goal.returns-in_err-put_body-clause-unopened
+returns-in_err-put_body-clause-unopened g c = λ told.
+    let a = file_half (g.B.Bench.state c.args.bench.now) in
+    let P = IsUnopened a in
+    let run1 = leaves_as IsFree P (λ f free. inr free) (c.shut.ensures.moments told) in
+    let run2 = leaves_then P run1 (leaves_as IsShut P (λ f shut. inr (free_closed f _ 0 (λ e. absurd (omega (arith, e))) shut)) (c.put_body.ensures.moments told)) in
+    let u = c.from_residual-in_err-put_body.ensures in
+    let is : c.from_residual-in_err-put_body.result ≡ Err c.in_err-put_body.field-0.0 = search rules in
+    rw is (unopened_by (Unit {0}) a (file_half (g.B.Bench.state c.put_body.new.bench)) c.in_err-put_body.field-0.0 run2)

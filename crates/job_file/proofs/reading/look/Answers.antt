@@ -1,0 +1,16 @@
+use Rattle.job_file.proofs.reading.look.Goals as goal
+
+pub returns-in_err-file_sync-clause-first : goal.returns-in_err-file_sync-clause-first
+returns-in_err-file_sync-clause-first g c = record { result = c.file_sync.result; after = c.file_sync.new.self; acted = c.file_sync.ensures.acts }
+
+pub returns-in_err-len-clause-first : goal.returns-in_err-len-clause-first
+returns-in_err-len-clause-first g c = record { result = c.file_sync.result; after = c.file_sync.new.self; acted = c.file_sync.ensures.acts }
+
+pub returns-in_err-bytes-clause-first : goal.returns-in_err-bytes-clause-first
+returns-in_err-bytes-clause-first g c = record { result = c.file_sync.result; after = c.file_sync.new.self; acted = c.file_sync.ensures.acts }
+
+pub returns-in_err-fill-clause-first : goal.returns-in_err-fill-clause-first
+returns-in_err-fill-clause-first g c = record { result = c.file_sync.result; after = c.file_sync.new.self; acted = c.file_sync.ensures.acts }
+
+pub returns-clause-first : goal.returns-clause-first
+returns-clause-first g c = record { result = c.file_sync.result; after = c.file_sync.new.self; acted = c.file_sync.ensures.acts }
