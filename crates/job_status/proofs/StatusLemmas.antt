@@ -18,7 +18,7 @@ use Rattle.report_text.specs.Job.{job_text, no_job_text}
 use Rattle.report_text.specs.Refusal.{Refusal, out_of_memory, not_a_job, cells_differ, store_fault, output_fault}
 use Rattle.command_files.specs.Inputs.{InputsCall, TakesNothing}
 use Rattle.command_answers.specs.Call.{BenchCall, SinkCall, Answer, done, refused, bench_call, sink_call}
-use Rattle.command_answers.specs.Answered.{input, store, device, output, fault_in, AreCounted, EndsLawfully, OnlyLooked, has_status}
+use Rattle.command_answers.specs.Answered.{input, store, device, output, fault_in, AreCounted, EndsLawfully, on_job_file, has_status}
 use Rattle.command_answers.proofs.AnswerLemmas.{unraised}
 use Rattle.job_status.specs.Opened.{refusal_of}
 use Rattle.job_status.specs.Status.{SaysText, IsSaid, SaysNone, IsJobWith, SaysJob, ComesOfJobFile, IsDueForJobFile, StatusEnds}
@@ -125,13 +125,14 @@ module _ (tells : Bool) (b after : BenchState) (inputs : InputsCall) (takes : Ta
     }
     said_counts text (refused r) says = absurd says
 
-    said_lawful : (text : List ℕ) (answer : Answer) → SaysText out text answer → EndsLawfully OnlyLooked (bench_call tells b after) inputs out has_status [] answer
-    said_lawful text done says = record { kind = tt; counts = said_counts text done says; stands = tt; untaken = λ name is. absurd (cc) }
+    said_lawful : (text : List ℕ) (answer : Answer) → SaysText out text answer → EndsLawfully on_job_file (bench_call tells b after) inputs out has_status [] answer
+    said_lawful text done says = record { kind = tt; counts = said_counts text done says; stands = tt; untaken = λ name is. absurd (cc); none_failed = λ told no. takes.failed }
     said_lawful text (refused output_fault) says = record {
       kind = refl;
       counts = said_counts text (refused output_fault) says;
       stands = tt;
       untaken = λ name is. absurd (cc);
+      none_failed = λ told no. takes.failed;
     }
     said_lawful text (refused r) says = absurd says
 
@@ -167,7 +168,7 @@ module _ (tells : Bool) (b after : BenchState) (inputs : InputsCall) (takes : Ta
 
   -- nothing went to `out`
   module _ (told : Bool) (o : SinkState) where
-    refused_ends : (r : Refusal) → EndsLawfully OnlyLooked (bench_call tells b after) inputs (sink_call told o o) has_status [] (refused r)
+    refused_ends : (r : Refusal) → EndsLawfully on_job_file (bench_call tells b after) inputs (sink_call told o o) has_status [] (refused r)
         → ComesOfJobFile (bench_call tells b after) (sink_call told o o) (refused r) → StatusEnds (bench_call tells b after) inputs (sink_call told o o) (refused r)
     refused_ends r lawful comes = record {
       lawful = lawful;
@@ -190,8 +191,9 @@ module _ (tells : Bool) (b after : BenchState) (inputs : InputsCall) (takes : Ta
     ends_refused opening.OutOfMemory some counted is = refused_ends out_of_memory (record {
       kind = refl;
       counts = plain_counts out_of_memory (counted.on_other refl) refl;
-      stands = tt;
+      stands = record { taken = refl; faults = refl };
       untaken = λ name wrong. absurd (cc);
+      none_failed = λ its no. takes.failed;
     }) (record { taken = refl; faults = refl })
     ends_refused opening.NoJob some counted is = absurd (some refl)
     ends_refused (opening.NotAJob at) some counted is = refused_ends (not_a_job at) (record {
@@ -199,6 +201,7 @@ module _ (tells : Bool) (b after : BenchState) (inputs : InputsCall) (takes : Ta
       counts = plain_counts (not_a_job at) (counted.on_other refl) refl;
       stands = record { reads = λ its. reads; prints = record { taken = refl; faults = refl } };
       untaken = λ name wrong. absurd (cc);
+      none_failed = λ its no. takes.failed;
     }) (is, record { taken = refl; faults = refl })
     ends_refused opening.StoreFault some counted is = refused_ends store_fault (record {
       kind = refl;
@@ -210,10 +213,12 @@ module _ (tells : Bool) (b after : BenchState) (inputs : InputsCall) (takes : Ta
       };
       stands = tt;
       untaken = λ name wrong. absurd (cc);
+      none_failed = λ its no. takes.failed;
     }) (record { taken = refl; faults = refl })
     ends_refused (opening.CellsDiffer said found) some counted is = refused_ends (cells_differ said found) (record {
       kind = refl;
       counts = plain_counts (cells_differ said found) (counted.on_other refl) refl;
       stands = record { reads = λ its. reads; prints = record { taken = refl; faults = refl } };
       untaken = λ name wrong. absurd (cc);
+      none_failed = λ its no. takes.failed;
     }) (is, record { taken = refl; faults = refl })

@@ -10,7 +10,7 @@ use Rattle.report_text.specs.Job.{job_text, no_job_text}
 use Rattle.report_text.specs.Refusal.{out_of_memory, not_a_job, cells_differ, store_fault, output_fault}
 use Rattle.command_files.specs.Inputs.{InputsCall, TakesNothing}
 use Rattle.command_answers.specs.Call.{BenchCall, SinkCall, Answer, done, refused, TookNothing, TookAll, TookPart}
-use Rattle.command_answers.specs.Answered.{has_status, yields, Refuses, OnlyLooked, EndsLawfully}
+use Rattle.command_answers.specs.Answered.{has_status, yields, Refuses, on_job_file, EndsLawfully}
 
 -- What goes to `out`.
 
@@ -69,7 +69,7 @@ pub record IsDueForJobFile (bench : BenchCall) (out : SinkCall) (answer : Answer
 -- The work of `status`: all but the status and the line on `err`. No input is taken, and the job file is only read: file and cells are
 -- as they were, and a stop at any moment leaves nothing that one at entry might not have left.
 pub record StatusEnds (bench : BenchCall) (inputs : InputsCall) (out : SinkCall) (answer : Answer) : Type 0 where
-  pub lawful : EndsLawfully OnlyLooked bench inputs out has_status [] answer
+  pub lawful : EndsLawfully on_job_file bench inputs out has_status [] answer
   pub takes : TakesNothing inputs
   pub reads : OnlyReads bench.tells bench.before bench.after
   pub comes : ComesOfJobFile bench out answer
