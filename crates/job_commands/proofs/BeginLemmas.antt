@@ -13,6 +13,7 @@ use Rattle.job_text.specs.declared.parts.JobParts.{JobParts}
 use Rattle.job_text.proofs.PartLemmas.{job_of_parts}
 use Rattle.job_file.specs.Stops.{IsOfBegin, IsFreeOrWhole}
 use Rattle.job_file.specs.Faults.{IsBeginFault}
+use Rattle.job_file.specs.Unopened.{UnopenedAtDeviceFault}
 use Rattle.job_file.specs.Counted.{ReadsUnlessFault}
 use Rattle.job_file.specs.declared.fault.BeginFault.{BeginFault}
 use Rattle.job_file.specs.declared.fault.BeginFault.TheVariants as beginning
@@ -20,10 +21,10 @@ use Rattle.campaign.specs.Stops.{IsUntouched, IsAtClose}
 use Rattle.flash_session.specs.declared.goal.Goal.TheVariants.{New}
 use Rattle.flash_session.specs.Script.{Broken}
 use Rattle.report_text.specs.Refusal.{out_of_memory, input_fault, no_job, not_a_job, cells_differ, store_fault, device_fault, output_fault, call_failed, mismatch}
-use Rattle.command_answers.specs.Call.{BenchCall, SinkCall, TookNothing, TookPart, Answer, done, refused, bench_call, sink_call}
-use Rattle.command_answers.specs.Answered.{has_resume, yields, OnlyLooked, StandsEarly, IsOf}
+use Rattle.command_answers.specs.Call.{BenchCall, SinkCall, TookNothing, TookPartBehind, Answer, done, refused, bench_call, sink_call}
+use Rattle.command_answers.specs.Answered.{has_resume, yields, OnlyLooked, StandsEarly, IsOf, on_job_file}
 use Rattle.job_commands.specs.Work.{Work, body, shown_plan, Breaks, IsOnPath, IsOutsidePlanAsSurveyed}
-use Rattle.job_commands.specs.Carry.{EndsBeforePlan, EndsInPlan, EndsInScript, EndsInClose, HasClosed, Comes, Carries, done_text}
+use Rattle.job_commands.specs.Carry.{EndsInBegin, NeverBegun, EndsBeforePlan, EndsInPlan, EndsInScript, EndsInClose, HasClosed, Comes, Carries, done_text}
 use Rattle.job_commands.specs.GoOn.{work_to, GoesOnFrom}
 use Rattle.job_commands.specs.Steps.{of_begin, begun, BeginsParts}
 use Rattle.job_commands.proofs.TurnLemmas.{turn_then, cells_turn_then}
@@ -52,8 +53,8 @@ module _ (tells sinks : Bool) (a b : BenchState) (p : SinkState) (parts : JobPar
   only_looked reads = record { reads = λ is. reads; prints = nothing }
 
   pub begin_stands : (fault : BeginFault) → ReadsUnlessFault {T = Unit {0}} tells a b (Err fault)
-      → StandsEarly OnlyLooked (bench_call tells a b) (sink_call sinks p p) (refused (of_begin fault))
-  begin_stands beginning.OutOfMemory reads = tt
+      → StandsEarly on_job_file (bench_call tells a b) (sink_call sinks p p) (refused (of_begin fault))
+  begin_stands beginning.OutOfMemory reads = nothing
   begin_stands beginning.JobOpen reads = only_looked reads
   begin_stands beginning.StoreFault reads = tt
   begin_stands beginning.DeviceFault reads = tt
@@ -80,10 +81,11 @@ module _ (tells sinks : Bool) (a b : BenchState) (p : SinkState) (parts : JobPar
           (begun_pairs (body_of (job_of parts b.cells)) stops cells) cells,
     )
 
-    before_plan : (are : AreParts parts) → IsFree a.file → EndsBeforePlan (bench_call tells a b) (sink_call sinks p p) (its_work are)
-    before_plan are is_free = record {
+    in_begin : (are : AreParts parts) → IsFree a.file → EndsInBegin (bench_call tells a b) (sink_call sinks p p) (its_work are)
+    in_begin are is_free = record {
+      free = is_free;
       file = ⊎_elim
-          (λ (still : IsFree b.file). inr (is_free, still))
+          (λ (still : IsFree b.file). inr still)
           (λ (whole : IsWhole (body_of (job_of parts b.cells)) b.file). inl whole)
           (after is_free);
       cells = same;
@@ -91,38 +93,45 @@ module _ (tells sinks : Bool) (a b : BenchState) (p : SinkState) (parts : JobPar
     }
 
     pub refuses_begin : (fault : BeginFault) → IsBeginFault a.file parts.size a.cell_count fault → ReadsUnlessFault {T = Unit {0}} tells a b (Err fault)
+        → UnopenedAtDeviceFault {T = Unit {0}} (file_half a) (file_half b) (Err fault)
         → BeginsParts (bench_call tells a b) (sink_call sinks p p) parts (refused (of_begin fault))
-    refuses_begin beginning.OutOfMemory is reads = record {
+    refuses_begin beginning.OutOfMemory is reads never = record {
+      free = λ its. absurd (cc);
       some_job = λ some. inr (refl, only_looked reads);
       not_job = λ at no. inr (refl, only_looked reads);
       other_size = λ is_free unequal. inr (refl, only_looked reads);
       begins = unbegun (refused out_of_memory) refl (λ are is_free. record { file = inr (reads.file told); cells = same; prints = nothing });
     }
-    refuses_begin beginning.StoreFault is reads = record {
+    refuses_begin beginning.StoreFault is reads never = record {
+      free = λ its. absurd (cc);
       some_job = λ some. inr (refl, only_looked (looks (λ both. not_free some.job a.file some.whole both.0)));
       not_job = λ at no. inr (refl, only_looked (looks (λ both. no.not_free both.0)));
       other_size = λ is_free unequal. inr (refl, only_looked (looks (λ both. unequal both.1)));
-      begins = unbegun (refused store_fault) refl (λ are is_free. inl (before_plan are is_free));
+      begins = unbegun (refused store_fault) refl (λ are is_free. inl (in_begin are is_free));
     }
-    refuses_begin beginning.DeviceFault is reads = record {
+    refuses_begin beginning.DeviceFault is reads never = record {
+      free = λ its. absurd (cc);
       some_job = λ some. inr (refl, only_looked (looks (λ both. not_free some.job a.file some.whole both.0)));
       not_job = λ at no. inr (refl, only_looked (looks (λ both. no.not_free both.0)));
       other_size = λ is_free unequal. inr (refl, only_looked (looks (λ both. unequal both.1)));
-      begins = unbegun (refused device_fault) refl (λ are is_free. inl (before_plan are is_free));
+      begins = unbegun (refused device_fault) refl (λ are is_free. inl (in_begin are is_free, never));
     }
-    refuses_begin beginning.JobOpen is reads = record {
+    refuses_begin beginning.JobOpen is reads never = record {
+      free = λ its. absurd (cc);
       some_job = λ some. inl refl;
       not_job = λ at no. absurd (no.no_job is.job is.board is.algorithm is.is is.whole);
       other_size = λ is_free unequal. absurd (not_free is.job a.file is.whole is_free);
       begins = λ are is_free size. absurd (not_free is.job a.file is.whole is_free);
     }
-    refuses_begin (beginning.NotAJob at) is reads = record {
+    refuses_begin (beginning.NotAJob at) is reads never = record {
+      free = λ its. absurd (cc);
       some_job = λ some. absurd (is.no_job some.job some.board some.algorithm some.is some.whole);
       not_job = λ other no. inl (ap (λ (n : ℕ). refused (not_a_job n)) (one_reason a.file at other is no));
       other_size = λ is_free unequal. absurd (is.not_free is_free);
       begins = λ are is_free size. absurd (is.not_free is_free);
     }
-    refuses_begin (beginning.CellsDiffer said found) is reads = record {
+    refuses_begin (beginning.CellsDiffer said found) is reads never = record {
+      free = λ its. is.0;
       some_job = λ some. absurd (not_free some.job a.file some.whole is.0);
       not_job = λ at no. absurd (no.not_free is.0);
       other_size = λ is_free unequal.
@@ -131,6 +140,9 @@ module _ (tells sinks : Bool) (a b : BenchState) (p : SinkState) (parts : JobPar
           inl (cc);
       begins = λ are is_free size. absurd (is.3 (is.1 ∙ size ∙ sym is.2));
     }
+
+three_cases : {A B C R : Type 0} → (A → R) → (B → R) → (C → R) → A ⊎ (B ⊎ C) → R
+three_cases {A} {B} {C} a b c either = ⊎_elim (λ (x : A). a x) (λ (rest : B ⊎ C). ⊎_elim (λ (x : B). b x) (λ (x : C). c x) rest) either
 
 -- From b on nothing is open and the file stands for the job.
 
@@ -144,7 +156,7 @@ module _ (tells : Bool) (a b d : BenchState) (out : SinkCall) (w : Work) (idle :
 
   has_begun : EndsBeforePlan (bench_call tells b d) out w → EndsBeforePlan (bench_call tells a d) out w
   has_begun early = record {
-    file = inl (⊎_elim (λ (has : IsWhole (body w) d.file). has) (λ (frees : IsFree b.file × IsFree d.file). absurd (not_free w.job b.file whole frees.0)) early.file);
+    job = early.job;
     cells = entered_before d.cells early.cells;
     prints = early.prints;
   }
@@ -156,20 +168,22 @@ module _ (tells : Bool) (a b d : BenchState) (out : SinkCall) (w : Work) (idle :
     cells = entered_before d.cells comes.cells;
     prints = comes.prints;
   }
-  begun_comes k (refused store_fault) comes = ⊎_elim
-      (λ (early : EndsBeforePlan (bench_call tells b d) out w). inl (has_begun early))
-      (λ (later : EndsInScript (bench_call tells b d) out w (Breaks w k d) ⊎ EndsInClose (bench_call tells b d) out w k). inr (⊎_elim
+  begun_comes k (refused store_fault) comes = three_cases
+      (λ (before : EndsInBegin (bench_call tells b d) out w). absurd (not_free w.job b.file whole before.free))
+      (λ (early : EndsBeforePlan (bench_call tells b d) out w). inr (inl (has_begun early)))
+      (λ (later : EndsInScript (bench_call tells b d) out w (Breaks w k d) ⊎ EndsInClose (bench_call tells b d) out w k). inr (inr (⊎_elim
       (λ (cut : EndsInScript (bench_call tells b d) out w (Breaks w k d)). inl (record { job = cut.job; prints = cut.prints; way = cut.way }))
       (λ (late : EndsInClose (bench_call tells b d) out w k). inr (record { file = late.file; reached = late.reached; prints = late.prints }))
-      later))
+      later)))
       comes
-  begun_comes k (refused device_fault) comes = ⊎_elim
-      (λ (early : EndsBeforePlan (bench_call tells b d) out w). inl (has_begun early))
-      (λ (late : EndsInScript (bench_call tells b d) out w (Breaks w k d)). inr (record { job = late.job; prints = late.prints; way = late.way }))
+  begun_comes k (refused device_fault) comes = three_cases
+      (λ (before : EndsInBegin (bench_call tells b d) out w × NeverBegun (bench_call tells b d)). absurd (not_free w.job b.file whole before.0.free))
+      (λ (early : EndsBeforePlan (bench_call tells b d) out w). inr (inl (has_begun early)))
+      (λ (late : EndsInScript (bench_call tells b d) out w (Breaks w k d)). inr (inr (record { job = late.job; prints = late.prints; way = late.way })))
       comes
   begun_comes k (refused output_fault) comes = ⊎_elim
-      (λ (early : EndsInPlan (bench_call tells b d) out w). inl (record { job = early.job; cells = early.cells; prints = early.prints }))
-      (λ (late : HasClosed d w k × TookPart out (shown_plan w ++ done_text)). inr late)
+      (λ (early : EndsInPlan (bench_call tells b d) out w). inl (record { job = early.job; cells = early.cells; idle = early.idle; prints = early.prints }))
+      (λ (late : HasClosed d w k × TookPartBehind out (shown_plan w) done_text). inr late)
       comes
   begun_comes k (refused (call_failed number call end)) comes = record { job = comes.job; prints = comes.prints; way = comes.way }
   begun_comes k (refused (mismatch at wanted found)) comes = record { job = comes.job; prints = comes.prints; way = comes.way }
@@ -205,11 +219,11 @@ begun_is (refused r) carries = refl
 
 -- after a job was begun its file is never refused, where the bench tells it
 pub begun_stands : (tells sinks : Bool) (a b d : BenchState) (p r : SinkState) (First : List ℕ → List ℕ → Type 0) (w : Work) (answer : Answer) → IsOf has_resume answer
-    → StandsEarly OnlyLooked (bench_call tells b d) (sink_call sinks p r) answer
+    → StandsEarly on_job_file (bench_call tells b d) (sink_call sinks p r) answer
     → (IsTrue tells → Carries (bench_call tells b d) (sink_call sinks p r) First w answer)
-    → StandsEarly OnlyLooked (bench_call tells a d) (sink_call sinks p r) (begun answer)
+    → StandsEarly on_job_file (bench_call tells a d) (sink_call sinks p r) (begun answer)
 begun_stands tells sinks a b d p r First w done kind early carries = tt
-begun_stands tells sinks a b d p r First w (refused out_of_memory) kind early carries = tt
+begun_stands tells sinks a b d p r First w (refused out_of_memory) kind early carries = early
 begun_stands tells sinks a b d p r First w (refused no_job) kind early carries = record { reads = λ told. absurd ((carries told).comes); prints = early.prints }
 begun_stands tells sinks a b d p r First w (refused (not_a_job at)) kind early carries = record { reads = λ told. absurd ((carries told).comes); prints = early.prints }
 begun_stands tells sinks a b d p r First w (refused (cells_differ wanted found)) kind early carries = record { reads = λ told. absurd ((carries told).comes); prints = early.prints }
@@ -241,6 +255,7 @@ module _ (tells sinks : Bool) (a b d : BenchState) (p r : SinkState) (parts : Jo
       → GoesOn (file_half b) (file_half d) → BeginsParts (bench_call tells a d) (sink_call sinks p r) parts (begun answer)
   begins_whole one stops cells on =
       subst (λ (x : Answer). BeginsParts (bench_call tells a d) (sink_call sinks p r) parts x) (sym (begun_is answer (carried one))) (record {
+        free = λ its. is_free;
         some_job = λ some. absurd (not_free some.job a.file some.whole is_free);
         not_job = λ at no. absurd (no.not_free is_free);
         other_size = λ free_too unequal. absurd (unequal sized);

@@ -1,8 +1,8 @@
 -- A job is carried: entered (a), opened (b), surveyed (m), finished (d).
-use Rattle.std.proofs.Common.{◌≡◌, ◌⊎◌, ⊎_elim, inl, inr, refl, ◌≤◌, ◌+◌, ◌++◌, ◌∙◌, ℕ, Bool, true, List, ap, subst, append_assoc}
+use Rattle.std.proofs.Common.{◌≡◌, ◌⊎◌, ⊎_elim, inl, inr, refl, ◌≤◌, ◌+◌, ◌++◌, ◌∙◌, ℕ, Bool, true, List, Option, None, ap, subst, append_assoc}
 use Rattle.faults.specs.Counts.{Rose}
 use Rattle.outside_io.specs.State.{SinkState}
-use Rattle.outside_io.proofs.AppendsLemmas.{AppendsPart-second}
+use Rattle.outside_io.specs.Appends.{AppendsPart}
 use Rattle.bench_model.specs.History.{left, Leaves, AddsNothing, LeftOnly}
 use Rattle.bench_model.specs.State.{BenchState, file_half, cells_half, Left}
 use Rattle.bench_model.specs.Calls.{SameOutside}
@@ -12,7 +12,7 @@ use Rattle.job_text.specs.Files.{IsWhole, IsFree}
 use Rattle.campaign.specs.Stops.{IsAtClose}
 use Rattle.flash_session.specs.Script.{Broken}
 use Rattle.report_text.specs.Refusal.{out_of_memory, store_fault, device_fault, output_fault, call_failed, mismatch}
-use Rattle.command_answers.specs.Call.{SinkCall, TookNothing, TookAll, TookPart, Answer, done, refused, bench_call, sink_call}
+use Rattle.command_answers.specs.Call.{SinkCall, TookNothing, TookAll, TookPart, TookPartBehind, Answer, done, refused, bench_call, sink_call}
 use Rattle.command_answers.specs.Answered.{yields}
 use Rattle.job_commands.specs.Work.{Work, body, shown_plan, Breaks, IsOnPath, IsOutsidePlanAsSurveyed}
 use Rattle.job_commands.specs.Carry.{EndsBeforePlan, HasJob, HasReached, Comes, Carries, done_text}
@@ -54,23 +54,23 @@ module _ (tells sinks : Bool) (a x : BenchState) (p : SinkState) (w : Work) (who
   nothing = record { taken = refl; faults = refl }
 
   before_plan : EndsBeforePlan (bench_call tells a x) (sink_call sinks p p) w
-  before_plan = record { file = inl (same ∙ whole); cells = outside; prints = nothing }
+  before_plan = record { job = same ∙ whole; cells = outside; prints = nothing }
 
   pub no_memory : Carries (bench_call tells a x) (sink_call sinks p p) (Left a) w (refused out_of_memory)
   no_memory = ends_early tells a x (sink_call sinks p p) (Left a) w (refused out_of_memory) surveyed
       (record { file = inl (same ∙ whole); cells = outside; prints = nothing }) refl pairs cells
 
   pub no_store : Carries (bench_call tells a x) (sink_call sinks p p) (Left a) w (refused store_fault)
-  no_store = ends_early tells a x (sink_call sinks p p) (Left a) w (refused store_fault) surveyed (inl before_plan) refl pairs cells
+  no_store = ends_early tells a x (sink_call sinks p p) (Left a) w (refused store_fault) surveyed (inr (inl before_plan)) refl pairs cells
 
   pub no_device : Carries (bench_call tells a x) (sink_call sinks p p) (Left a) w (refused device_fault)
-  no_device = ends_early tells a x (sink_call sinks p p) (Left a) w (refused device_fault) surveyed (inl before_plan) refl pairs cells
+  no_device = ends_early tells a x (sink_call sinks p p) (Left a) w (refused device_fault) surveyed (inr (inl before_plan)) refl pairs cells
 
   -- in the plan's text
-  pub ends_in_plan : (q : SinkState) → x.cells ≡ w.surveyed → TookPart (sink_call sinks p q) (shown_plan w)
+  pub ends_in_plan : (q : SinkState) → x.cells ≡ w.surveyed → x.operation ≡ None → TookPart (sink_call sinks p q) (shown_plan w)
       → Carries (bench_call tells a x) (sink_call sinks p q) (Left a) w (refused output_fault)
-  ends_in_plan q is part = ends_early tells a x (sink_call sinks p q) (Left a) w (refused output_fault) surveyed
-      (inl (record { job = same ∙ whole; cells = is; prints = part })) refl pairs cells
+  ends_in_plan q is idle part = ends_early tells a x (sink_call sinks p q) (Left a) w (refused output_fault) surveyed
+      (inl (record { job = same ∙ whole; cells = is; idle = idle; prints = part })) refl pairs cells
 
 -- the pairs up to the survey
 pub opened : {a b : BenchState} (body : List ℕ) → PairsLeave a b (Left a) → PairsLeave a b (λ f c. Left a f c ⊎ IsWhole body f)
@@ -84,18 +84,18 @@ looked {a} {b} {m} body whole only one two = pairs_then (λ f c. Left a f c ⊎ 
 -- The plan is printed, and then the rest.
 
 module _ (sinks : Bool) (p q r : SinkState) (text : List ℕ) (one : TookAll (sink_call sinks p q) text) where
-  all_then : (rest : List ℕ) → TookAll (sink_call sinks q r) rest → TookAll (sink_call sinks p r) (text ++ rest)
+  pub all_then : (rest : List ℕ) → TookAll (sink_call sinks q r) rest → TookAll (sink_call sinks p r) (text ++ rest)
   all_then rest two = record {
     taken = λ t. two.taken t ∙ ap (λ (l : List ℕ). l ++ rest) (one.taken t) ∙ append_assoc p.taken text rest;
     faults = two.faults ∙ one.faults;
   }
 
-  nothing_then : TookNothing (sink_call sinks q r) → TookAll (sink_call sinks p r) text
+  pub nothing_then : TookNothing (sink_call sinks q r) → TookAll (sink_call sinks p r) text
   nothing_then two = record { taken = λ t. two.taken ∙ one.taken t; faults = two.faults ∙ one.faults }
 
-  part_then : (rest : List ℕ) → TookPart (sink_call sinks q r) rest → TookPart (sink_call sinks p r) (text ++ rest)
+  pub part_then : (rest : List ℕ) → TookPart (sink_call sinks q r) rest → TookPartBehind (sink_call sinks p r) text rest
   part_then rest two = record {
-    taken = λ t. AppendsPart-second p.taken q.taken r.taken text rest (one.taken t) (two.taken t);
+    taken = λ t. subst (λ (l : List ℕ). AppendsPart rest l r.taken) (one.taken t) (two.taken t);
     later = subst (λ (n : ℕ). n ≤ r.faults) one.faults two.later;
     rose = subst (λ (n : ℕ). Rose n r.faults) one.faults two.rose;
   }
@@ -106,11 +106,11 @@ module _ (tells sinks : Bool) (a m d : BenchState) (p q r : SinkState) (w : Work
   comes_then : (broken : Broken) (answer : Answer) → FinishComes (bench_call tells m d) (sink_call sinks q r) w broken answer
       → Comes (bench_call tells a d) (sink_call sinks p r) w broken answer
   comes_then b done rest = (rest.0, all_then sinks p q r (shown_plan w) plan done_text rest.1)
-  comes_then b (refused store_fault) rest = inr (⊎_elim
+  comes_then b (refused store_fault) rest = inr (inr (⊎_elim
       (λ (breaks : HasJob d w × Breaks w b d). inl (record { job = breaks.0; prints = nothing_then sinks p q r (shown_plan w) plan rest.1; way = breaks.1 }))
       (λ (closes : (HasJob d w ⊎ IsFree d.file) × HasReached d w b). inr (record { file = closes.0; reached = closes.1; prints = nothing_then sinks p q r (shown_plan w) plan rest.1 }))
-      rest.0)
-  comes_then b (refused device_fault) rest = inr (record { job = rest.0; prints = nothing_then sinks p q r (shown_plan w) plan rest.2; way = rest.1 })
+      rest.0))
+  comes_then b (refused device_fault) rest = inr (inr (record { job = rest.0; prints = nothing_then sinks p q r (shown_plan w) plan rest.2; way = rest.1 }))
   comes_then b (refused output_fault) rest = inr (rest.0, part_then sinks p q r (shown_plan w) plan done_text rest.1)
   comes_then b (refused (call_failed number call end)) rest =
       record { job = rest.0; prints = nothing_then sinks p q r (shown_plan w) plan rest.2; way = rest.1 }

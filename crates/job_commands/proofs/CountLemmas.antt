@@ -9,26 +9,27 @@ use Rattle.flash_session.specs.declared.fault.SurveyFault.{SurveyFault}
 use Rattle.flash_session.specs.declared.fault.SurveyFault.TheVariants as survey
 use Rattle.flash_session.specs.Surveys.{is_survey_store, is_survey_device}
 use Rattle.report_text.specs.Refusal.{Refusal, input_fault, no_job}
-use Rattle.command_files.specs.Inputs.{InputsCall}
+use Rattle.command_files.specs.Inputs.{InputsCall, NoneFailed}
 use Rattle.command_answers.specs.Call.{BenchCall, SinkCall, Answer, done, refused, bench_call, sink_call}
-use Rattle.command_answers.specs.Answered.{Fault, input, store, device, output, fault_in, IsCounted, OnlyLooked, StandsEarly, IsOf, EndsLawfully}
+use Rattle.command_answers.specs.Answered.{Fault, input, store, device, output, fault_in, IsCounted, StandsEarly, IsOf, EndsLawfully, on_job_file}
 use Rattle.command_answers.proofs.AnswerLemmas.{unraised, never_input}
 use Rattle.job_commands.specs.Steps.{BenchCounted, begun, of_survey}
 
 -- the work after the files, of a command that may take some
 pub worked_lawful : (bench : BenchCall) (inputs : InputsCall) (out : SinkCall) (has its : Refusal → Bool) (names : List (List ℕ)) (answer : Answer)
-    → IsOf has answer → IsOf its answer → ((name : List ℕ) → its (input_fault name) ≡ false) → inputs.after.faults ≡ inputs.before.faults
-    → BenchCounted bench out answer → StandsEarly OnlyLooked bench out answer → EndsLawfully OnlyLooked bench inputs out has names answer
+    → IsOf has answer → IsOf its answer → ((name : List ℕ) → its (input_fault name) ≡ false) → NoneFailed inputs
+    → BenchCounted bench out answer → StandsEarly on_job_file bench out answer → EndsLawfully on_job_file bench inputs out has names answer
 worked_lawful bench inputs out has its names answer kind one none same counts stands = record {
   kind = kind;
   counts = record {
-    inputs_count = unraised inputs.before.faults inputs.after.faults input answer same (never_input its none answer one);
+    inputs_count = unraised inputs.before.faults inputs.after.faults input answer same.faults (never_input its none answer one);
     store_count = counts.store_count;
     device_count = counts.device_count;
     out_count = counts.out_count;
   };
   stands = stands;
   untaken = λ name is. absurd (never_input its none answer one (ap fault_in is));
+  none_failed = λ told no. same.failed told;
 }
 
 same_fault : (answer : Answer) → fault_in (begun answer) ≡ fault_in answer

@@ -18,6 +18,7 @@ use Rattle.command_answers.specs.Call.{Answer, refused, bench_call, sink_call}
 use Rattle.command_answers.specs.Answered.{yields}
 use Rattle.command_answers.proofs.AnswerLemmas.{only_looked}
 use Rattle.job_commands.specs.Work.{Work, body}
+use Rattle.job_commands.specs.Answers.{is_of_free}
 use Rattle.job_commands.specs.Carry.{Comes}
 use Rattle.job_commands.specs.GoOn.{work_to, GoesOnFrom}
 use Rattle.job_commands.specs.Program.{job_for, BeginsOn}
@@ -51,10 +52,11 @@ module _ (tells sinks : Bool) (b : BenchState) (o : SinkState) (many : length b.
     );
   }
 
-  begins_on : (raw_at : Option ℕ) (files : FilesGiven) (aim : Aim) (answer : Answer) → IsAim raw_at files aim → yields answer ≡ true
+  begins_on : (raw_at : Option ℕ) (files : FilesGiven) (aim : Aim) (answer : Answer) → IsAim raw_at files aim → yields answer ≡ true → (is_of_free answer ≡ true → ⊥)
       → ((w : Work) → Comes (bench_call tells b b) (sink_call sinks o o) w nothing_broken answer)
       → BeginsOn (bench_call tells b b) (sink_call sinks o o) answer files aim
-  begins_on raw_at files aim answer is yield comes = record {
+  begins_on raw_at files aim answer is yield other comes = record {
+    free = λ its. absurd (other its);
     some_job = λ some. inr (yield, only_looked tells sinks b o);
     not_job = λ at no. inr (yield, only_looked tells sinks b o);
     other_size = λ is_free unequal. inr (yield, only_looked tells sinks b o);
@@ -69,9 +71,9 @@ module _ (tells sinks : Bool) (b : BenchState) (o : SinkState) (many : length b.
 
   pub begins_untaken : (raw_at : Option ℕ) (files : FilesGiven) (aim : Aim) (name : List ℕ) → IsAim raw_at files aim
       → BeginsOn (bench_call tells b b) (sink_call sinks o o) (refused (input_fault name)) files aim
-  begins_untaken raw_at files aim name is = begins_on raw_at files aim (refused (input_fault name)) is refl (λ w. tt)
+  begins_untaken raw_at files aim name is = begins_on raw_at files aim (refused (input_fault name)) is refl (λ its. cc) (λ w. tt)
 
   pub begins_unread : (raw_at : Option ℕ) (files : FilesGiven) (aim : Aim) → IsAim raw_at files aim
       → BeginsOn (bench_call tells b b) (sink_call sinks o o) (refused out_of_memory) files aim
-  begins_unread raw_at files aim is = begins_on raw_at files aim (refused out_of_memory) is refl
+  begins_unread raw_at files aim is = begins_on raw_at files aim (refused out_of_memory) is refl (λ its. cc)
       (λ w. record { file = inr refl; cells = same_here b.operation b.cells; prints = record { taken = refl; faults = refl } })

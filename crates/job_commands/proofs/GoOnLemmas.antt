@@ -8,8 +8,8 @@ use Rattle.flash_session.specs.declared.goal.Goal.{Goal}
 use Rattle.report_text.specs.Refusal.{out_of_memory}
 use Rattle.command_files.specs.Inputs.{InputsCall, TakesNothing}
 use Rattle.command_answers.specs.Call.{refused, bench_call, sink_call}
-use Rattle.command_answers.specs.Answered.{has_resume, OnlyLooked}
-use Rattle.command_answers.proofs.AnswerLemmas.{only_looked, plain_lawful}
+use Rattle.command_answers.specs.Answered.{has_resume, on_job_file}
+use Rattle.command_answers.proofs.AnswerLemmas.{only_looked, plain_lawful, took_none}
 use Rattle.job_commands.specs.GoOn.{GoOnEnds}
 use Rattle.job_commands.proofs.EntryLemmas.{goes_on_unread}
 
@@ -18,7 +18,9 @@ pub ends_unread : (tells sinks : Bool) (b : BenchState) (o : SinkState) (inputs 
     → (IsTrue tells → (x : List ℕ) → left (cells_half b) x → SameOutside b.operation b.cells x) → TakesNothing inputs
     → GoOnEnds goal (bench_call tells b b) inputs (sink_call sinks o o) (refused out_of_memory)
 ends_unread tells sinks b o inputs goal many exact takes = record {
-  lawful = plain_lawful tells sinks b o inputs OnlyLooked has_resume [] out_of_memory (only_looked tells sinks b o) refl takes.faults refl;
+  lawful = plain_lawful tells sinks b o inputs on_job_file has_resume [] out_of_memory (only_looked tells sinks b o) refl (took_none inputs takes) refl;
   takes = takes;
+  sound = tt;
+  prints = record { taken = refl; faults = refl };
   told = λ told. goes_on_unread tells sinks b o (many told) (exact told) goal;
 }

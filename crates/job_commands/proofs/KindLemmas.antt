@@ -1,5 +1,5 @@
 -- Which refusals a step has.
-use Rattle.std.proofs.Common.{refl}
+use Rattle.std.proofs.Common.{◌≡◌, refl, true}
 use Rattle.job_file.specs.declared.fault.OpenFault.TheVariants as opening
 use Rattle.job_file.specs.declared.fault.BeginFault.{BeginFault}
 use Rattle.job_file.specs.declared.fault.BeginFault.TheVariants as beginning
@@ -9,7 +9,8 @@ use Rattle.flash_session.specs.declared.fault.SurveyFault.{SurveyFault}
 use Rattle.flash_session.specs.declared.fault.SurveyFault.TheVariants as survey
 use Rattle.report_text.specs.Refusal.{out_of_memory, no_job, not_a_job, cells_differ, store_fault, device_fault, output_fault, call_failed, mismatch}
 use Rattle.command_answers.specs.Call.{BenchCall, SinkCall, Answer, done, refused}
-use Rattle.command_answers.specs.Answered.{has_resume, OnlyLooked, StandsEarly, IsOf}
+use Rattle.command_answers.specs.Answered.{has_resume, StandsEarly, IsOf, on_job_file}
+use Rattle.job_commands.specs.Answers.{is_of_work, IsSound}
 use Rattle.job_commands.specs.Steps.{of_session, of_survey, of_begin, has_script, has_begin, begun}
 
 -- an answer of the script is one of the whole work
@@ -23,7 +24,7 @@ script_kind (refused (mismatch at wanted found)) kind = refl
 script_kind (refused r) kind = absurd (cc)
 
 -- and comes late
-pub script_stands : (bench : BenchCall) (out : SinkCall) (answer : Answer) → IsOf has_script answer → StandsEarly OnlyLooked bench out answer
+pub script_stands : (bench : BenchCall) (out : SinkCall) (answer : Answer) → IsOf has_script answer → StandsEarly on_job_file bench out answer
 script_stands bench out done kind = tt
 script_stands bench out (refused store_fault) kind = tt
 script_stands bench out (refused device_fault) kind = tt
@@ -31,6 +32,43 @@ script_stands bench out (refused output_fault) kind = tt
 script_stands bench out (refused (call_failed number call end)) kind = tt
 script_stands bench out (refused (mismatch at wanted found)) kind = tt
 script_stands bench out (refused r) kind = absurd (cc)
+
+-- a refusal before the script names no bytes
+pub session_sound : (fault : SessionFault) → IsSound (refused (of_session fault))
+session_sound session.OutOfMemory = tt
+session_sound (session.Open opening.OutOfMemory) = tt
+session_sound (session.Open opening.NoJob) = tt
+session_sound (session.Open (opening.NotAJob at)) = tt
+session_sound (session.Open opening.StoreFault) = tt
+session_sound (session.Open (opening.CellsDiffer said found)) = tt
+session_sound session.DeviceFault = tt
+
+pub survey_sound : (fault : SurveyFault) → IsSound (refused (of_survey fault))
+survey_sound survey.OutOfMemory = tt
+survey_sound survey.DeviceFault = tt
+survey_sound survey.StoreFault = tt
+
+pub begin_sound : (fault : BeginFault) → IsSound (refused (of_begin fault))
+begin_sound beginning.OutOfMemory = tt
+begin_sound beginning.JobOpen = tt
+begin_sound beginning.StoreFault = tt
+begin_sound beginning.DeviceFault = tt
+begin_sound (beginning.CellsDiffer said found) = tt
+begin_sound (beginning.NotAJob at) = tt
+
+-- no refusal of `begin` comes after a job was begun
+pub begin_before : (fault : BeginFault) → is_of_work (refused (of_begin fault)) ≡ true → ⊥
+begin_before beginning.OutOfMemory its = cc
+begin_before beginning.JobOpen its = cc
+begin_before beginning.StoreFault its = cc
+begin_before beginning.DeviceFault its = cc
+begin_before (beginning.CellsDiffer said found) its = cc
+begin_before (beginning.NotAJob at) its = cc
+
+pub begun_sound : (answer : Answer) → IsSound answer → IsSound (begun answer)
+begun_sound done sound = tt
+begun_sound (refused no_job) sound = tt
+begun_sound (refused r) sound = sound
 
 pub session_kind : (fault : SessionFault) → IsOf has_resume (refused (of_session fault))
 session_kind session.OutOfMemory = refl

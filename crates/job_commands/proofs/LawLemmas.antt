@@ -16,7 +16,7 @@ use Rattle.flash_session.specs.declared.goal.Goal.TheVariants.{New, Old}
 use Rattle.report_text.specs.Refusal.{Refusal, no_job, cells_differ}
 use Rattle.command_words.specs.Files.{FilesAsked}
 use Rattle.command_answers.specs.Call.{BenchCall, SinkCall, Call, Answer, done, refused}
-use Rattle.command_answers.specs.Answered.{yields, Refuses, OnlyLooked, StandsEarly}
+use Rattle.command_answers.specs.Answered.{yields, Refuses, OnlyLooked, StandsEarly, on_job_file}
 use Rattle.job_commands.specs.Work.{Work, body}
 use Rattle.job_commands.specs.Carry.{Comes, Carries}
 use Rattle.job_commands.specs.GoOn.{goal_cells, work_to, GoOnAnswers}
@@ -26,10 +26,10 @@ use Rattle.job_commands.proofs.OpenLemmas.{not_free}
 use Rattle.job_commands.proofs.RegionLemmas.{aim_job}
 
 -- A refusal of a job file only looks at it, whether it is answered or yields.
-looks : (bench : BenchCall) (out : SinkCall) (answer : Answer) (refusal : Refusal) → (StandsEarly OnlyLooked bench out (refused refusal) → OnlyLooked bench out)
-    → StandsEarly OnlyLooked bench out answer → Refuses (OnlyLooked bench out) answer refusal → OnlyLooked bench out
+looks : (bench : BenchCall) (out : SinkCall) (answer : Answer) (refusal : Refusal) → (StandsEarly on_job_file bench out (refused refusal) → OnlyLooked bench out)
+    → StandsEarly on_job_file bench out answer → Refuses (OnlyLooked bench out) answer refusal → OnlyLooked bench out
 looks bench out answer refusal early stands either = ⊎_elim
-    (λ (is : answer ≡ refused refusal). early (subst (λ (a : Answer). StandsEarly OnlyLooked bench out a) is stands))
+    (λ (is : answer ≡ refused refusal). early (subst (λ (a : Answer). StandsEarly on_job_file bench out a) is stands))
     (λ (yield : (yields answer ≡ true) × OnlyLooked bench out). yield.1)
     either
 

@@ -12,3 +12,4 @@ pub mod GoOnLemmas
 pub mod ProgramLemmas
 pub mod LawLemmas
 pub mod FollowLemmas
+pub mod PrintLemmas

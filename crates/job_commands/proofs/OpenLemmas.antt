@@ -23,7 +23,7 @@ use Rattle.flash_session.specs.declared.goal.Goal.{Goal}
 use Rattle.flash_session.specs.Opened.{IsSessionFault, ReadsIfRefused}
 use Rattle.report_text.specs.Refusal.{not_a_job}
 use Rattle.command_answers.specs.Call.{BenchCall, SinkCall, TookNothing, Answer, refused, bench_call, sink_call}
-use Rattle.command_answers.specs.Answered.{OnlyLooked, StandsEarly}
+use Rattle.command_answers.specs.Answered.{OnlyLooked, StandsEarly, on_job_file}
 use Rattle.job_commands.specs.Work.{Work, body}
 use Rattle.job_commands.specs.Carry.{Carries}
 use Rattle.job_commands.specs.GoOn.{work_to, GoesOnFrom}
@@ -79,9 +79,9 @@ module _ (tells sinks : Bool) (a b : BenchState) (p : SinkState) (goal : Goal) w
   only_looked reads = record { reads = λ told. reads; prints = nothing }
 
   pub open_stands : (fault : SessionFault) → ReadsIfRefused {T = Session} tells a b (Err fault)
-      → StandsEarly OnlyLooked (bench_call tells a b) (sink_call sinks p p) (refused (of_session fault))
-  open_stands session.OutOfMemory reads = tt
-  open_stands (session.Open opening.OutOfMemory) reads = tt
+      → StandsEarly on_job_file (bench_call tells a b) (sink_call sinks p p) (refused (of_session fault))
+  open_stands session.OutOfMemory reads = nothing
+  open_stands (session.Open opening.OutOfMemory) reads = nothing
   open_stands (session.Open opening.NoJob) reads = only_looked reads
   open_stands (session.Open (opening.NotAJob at)) reads = only_looked reads
   open_stands (session.Open opening.StoreFault) reads = tt
@@ -145,7 +145,7 @@ refuses_survey tells sinks a m p w whole surveyed same outside pairs cells surve
 refuses_survey tells sinks a m p w whole surveyed same outside pairs cells survey.DeviceFault = no_device tells sinks a m p w whole surveyed same outside pairs cells
 refuses_survey tells sinks a m p w whole surveyed same outside pairs cells survey.StoreFault = no_store tells sinks a m p w whole surveyed same outside pairs cells
 
-pub survey_stands : (bench : BenchCall) (out : SinkCall) (fault : SurveyFault) → StandsEarly OnlyLooked bench out (refused (of_survey fault))
-survey_stands bench out survey.OutOfMemory = tt
-survey_stands bench out survey.DeviceFault = tt
-survey_stands bench out survey.StoreFault = tt
+pub survey_stands : (bench : BenchCall) (out : SinkCall) (fault : SurveyFault) → TookNothing out → StandsEarly on_job_file bench out (refused (of_survey fault))
+survey_stands bench out survey.OutOfMemory none = none
+survey_stands bench out survey.DeviceFault none = tt
+survey_stands bench out survey.StoreFault none = tt

@@ -1,5 +1,5 @@
 -- From the steps of `program` to its end.
-use Rattle.std.proofs.Common.{◌≡◌, ◌≢◌, ◌⊎◌, ⊎_elim, ◌∙◌, inr, refl, sym, subst, ℕ, Bool, true, IsTrue, List, length, Some, None}
+use Rattle.std.proofs.Common.{◌≡◌, ◌≢◌, ◌⊎◌, ⊎_elim, ◌∙◌, inl, inr, refl, sym, subst, ℕ, Bool, true, IsTrue, List, length, Some, None}
 use Rattle.bench_model.specs.History.{left}
 use Rattle.bench_model.specs.State.{BenchState, cells_half}
 use Rattle.bench_model.specs.Calls.{SameOutside}
@@ -13,11 +13,11 @@ use Rattle.campaign.specs.Stops.{IsUntouched}
 use Rattle.flash_session.specs.declared.goal.Goal.TheVariants.{New}
 use Rattle.report_text.specs.Refusal.{Refusal, out_of_memory, input_fault, flm_refused, other_device, no_room, board_refused, image_refused, image_misplaced, job_open, not_a_job, cells_differ, store_fault, device_fault, output_fault, call_failed, mismatch}
 use Rattle.command_words.specs.Files.{FilesAsked, names_in}
-use Rattle.command_files.specs.Inputs.{InputsCall, FilesGiven, AreFiles}
+use Rattle.command_files.specs.Inputs.{InputsCall, FilesGiven, AreFiles, NoneFailed, Given}
 use Rattle.command_files.specs.Files.{Aim, IsAim, IsRefused}
 use Rattle.command_files.specs.Steps.{IsTakeFault, IsFilesRefusal, TookFiles}
 use Rattle.command_answers.specs.Call.{BenchCall, SinkCall, Answer, done, refused, bench_call, sink_call}
-use Rattle.command_answers.specs.Answered.{fault_in, has_program, Refuses, OnlyLooked, StandsEarly, IsOf}
+use Rattle.command_answers.specs.Answered.{fault_in, has_program, Refuses, OnlyLooked, StandsEarly, IsOf, on_job_file}
 use Rattle.command_answers.specs.Reading.{ShowsFiles}
 use Rattle.command_answers.proofs.AnswerLemmas.{did_nothing, only_looked, plain_lawful, untaken_lawful}
 use Rattle.command_answers.proofs.ReadingLemmas.{answers_refused, answers_worked}
@@ -40,30 +40,33 @@ module _ (tells sinks : Bool) (b : BenchState) (o : SinkState) (inputs : InputsC
 
   pub ends_untaken : (r : Refusal) → IsTakeFault inputs (names_in asked) r → ProgramEnds asked Bench inputs Out (refused r)
   ends_untaken out_of_memory is = record {
-    lawful = untaken_lawful tells sinks b o inputs OnlyLooked has_program (names_in asked) out_of_memory (only_looked tells sinks b o) refl (λ name. refl) is;
+    lawful = untaken_lawful tells sinks b o inputs on_job_file has_program (names_in asked) out_of_memory (only_looked tells sinks b o) refl (λ name. refl) is;
     files = record {
       shows = tt;
       refuses = λ files refusal told are refused'. inr (refl, did_nothing tells sinks b o);
       goes = λ files aim told are is_aim its. begins_unread tells sinks b o (many its) (exact its) asked.raw_at files aim is_aim;
     };
+    memory = λ its. inl (did_nothing tells sinks b o);
   }
   ends_untaken (input_fault name) is = record {
-    lawful = untaken_lawful tells sinks b o inputs OnlyLooked has_program (names_in asked) (input_fault name) (only_looked tells sinks b o) refl (λ other. refl) is;
+    lawful = untaken_lawful tells sinks b o inputs on_job_file has_program (names_in asked) (input_fault name) (only_looked tells sinks b o) refl (λ other. refl) is;
     files = record {
       shows = tt;
       refuses = λ files refusal told are refused'. inr (refl, did_nothing tells sinks b o);
       goes = λ files aim told are is_aim its. begins_untaken tells sinks b o (many its) (exact its) asked.raw_at files aim name is_aim;
     };
+    memory = λ its. inl (did_nothing tells sinks b o);
   }
   ends_untaken r is = absurd is
 
-  module _ (files : FilesGiven) (are : AreFiles inputs asked files) (same : inputs.after.faults ≡ inputs.before.faults) where
+  module _ (files : FilesGiven) (are : AreFiles inputs asked files) (same : NoneFailed inputs) where
     -- the files are refused
     ends_refused : (r : Refusal) → has_program r ≡ true → fault_in (refused r) ≡ None → IsRefused asked files r
         → ShowsFiles inputs asked (ShowsWork Bench Out (refused r)) (refused r) → ProgramEnds asked Bench inputs Out (refused r)
     ends_refused r has no_fault is shows = record {
-      lawful = plain_lawful tells sinks b o inputs OnlyLooked has_program (names_in asked) r (only_looked tells sinks b o) has same no_fault;
+      lawful = plain_lawful tells sinks b o inputs on_job_file has_program (names_in asked) r (only_looked tells sinks b o) has same no_fault;
       files = answers_refused Bench inputs Out asked (ShowsWork Bench Out (refused r)) (WorksOn Bench Out (refused r)) r files are is shows;
+      memory = λ its. inl (did_nothing tells sinks b o);
     }
 
     ends_unread : (r : Refusal) → IsFilesRefusal asked files r → ProgramEnds asked Bench inputs Out (refused r)
@@ -79,7 +82,7 @@ module _ (tells sinks : Bool) (b : BenchState) (o : SinkState) (inputs : InputsC
   -- the files can't be taken, or are refused
   pub ends_early : (r : Refusal) → IsTakeFault inputs (names_in asked) r ⊎ TookFiles inputs asked (λ files. IsFilesRefusal asked files r)
       → ProgramEnds asked Bench inputs Out (refused r)
-  ends_early r is = ⊎_elim (λ untaken. ends_untaken r untaken) (λ took. ends_unread took.given.files took.given.are_files took.faults r took.given.holds) is
+  ends_early r is = ⊎_elim (λ untaken. ends_untaken r untaken) (λ took. ends_unread took.given.files took.given.are_files took.none_failed r took.given.holds) is
 
 -- What began with the parts of a task began with its files.
 module _ (bench : BenchCall) (out : SinkCall) (answer : Answer) (files : FilesGiven) (aim : Aim) (parts : JobParts) (are : AreParts parts)
@@ -107,6 +110,7 @@ module _ (bench : BenchCall) (out : SinkCall) (answer : Answer) (files : FilesGi
 
   pub begins_on_parts : BeginsOn bench out answer files aim
   begins_on_parts = record {
+    free = begins.free;
     some_job = begins.some_job;
     not_job = begins.not_job;
     other_size = λ is_free unequal.
@@ -146,9 +150,10 @@ module _ (bench : BenchCall) (inputs : InputsCall) (out : SinkCall) (asked : Fil
   its_kind (refused (mismatch at wanted found)) kind = refl
   its_kind (refused r) kind = absurd (cc)
 
-  pub ends_worked : inputs.after.faults ≡ inputs.before.faults → (answer : Answer) → IsOf has_begin answer → BenchCounted bench out answer
-      → StandsEarly OnlyLooked bench out answer → HasAlgorithm files aim → WorksOn bench out answer files aim → ProgramEnds asked bench inputs out answer
-  ends_worked same answer kind counts stands has works = record {
+  pub ends_worked : NoneFailed inputs → (answer : Answer) → IsOf has_begin answer → BenchCounted bench out answer
+      → StandsEarly on_job_file bench out answer → ShowsWork bench out answer files aim → ProgramEnds asked bench inputs out answer
+  ends_worked same answer kind counts stands shows = record {
     lawful = worked_lawful bench inputs out has_program has_begin (names_in asked) answer (its_kind answer kind) kind (λ name. refl) same counts stands;
-    files = answers_worked bench inputs out asked (ShowsWork bench out answer) (WorksOn bench out answer) answer files aim are is (works_show answer kind (has, works)) works;
+    files = answers_worked bench inputs out asked (ShowsWork bench out answer) (WorksOn bench out answer) answer files aim are is (works_show answer kind shows) shows.works;
+    memory = λ its. inr (record { files = files; are_files = are; holds = record { aim = aim; is_aim = is; holds = subst (λ (a : Answer). ShowsWork bench out a files aim) its shows } });
   }

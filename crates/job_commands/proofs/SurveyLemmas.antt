@@ -90,10 +90,10 @@ module _ (tells sinks : Bool) (told : IsTrue tells) (a b m : BenchState) (goal :
       text_is : plan_text geometry base made ≡ shown_plan w
       text_is = ap (λ (n : ℕ). plan_text geometry n made) base_is ∙ shown_from o found_here geometry lays made plans
 
-      pub cut_in_plan : (p q : SinkState) → TookPart (sink_call sinks p q) (plan_text geometry base made)
+      pub cut_in_plan : (p q : SinkState) → m.operation ≡ None → TookPart (sink_call sinks p q) (plan_text geometry base made)
           → GoesOnFrom goal (bench_call tells a m) (sink_call sinks p q) (refused output_fault)
-      cut_in_plan p q part = only_stands tells a m (sink_call sinks p q) goal (refused output_fault) (some_job j a.file stands) sized m.cells
-          (ends_in_plan tells sinks a m p w stands.whole outside file_is outside its_pairs still q refl
+      cut_in_plan p q idle part = only_stands tells a m (sink_call sinks p q) goal (refused output_fault) (some_job j a.file stands) sized m.cells
+          (ends_in_plan tells sinks a m p w stands.whole outside file_is outside its_pairs still q refl idle
           (subst (λ (text : List ℕ). TookPart (sink_call sinks p q) text) text_is part))
 
       -- what follows is of the same job

@@ -1,16 +1,17 @@
 -- What `program`, `resume` and `revert` have in common: a job is carried to its goal.
 use Rattle.std.specs.Prelude.{◌≡◌, ◌⊎◌, ◌≤◌, ◌<◌, ◌++◌, ℕ, List, ◌∷◌, None}
-use Rattle.bench_model.specs.History.{GoesOn}
-use Rattle.bench_model.specs.State.{BenchState, cells_half}
+use Rattle.bench_model.specs.History.{GoesOn, Leaves}
+use Rattle.bench_model.specs.State.{BenchState, file_half, cells_half}
 use Rattle.bench_model.specs.Calls.{SameOutside}
 use Rattle.bench_model.specs.Pairs.{PairsInTurn}
 use Rattle.job_text.specs.Files.{IsFree, IsWhole}
+use Rattle.job_file.specs.Stops.{IsUnopened}
 use Rattle.campaign.specs.Stops.{IsAtClose}
 use Rattle.flash_session.specs.Script.{Broken}
 use Rattle.report_text.specs.End.{end_text}
 use Rattle.report_text.specs.declared.end.End.TheVariants.{Done}
 use Rattle.report_text.specs.Refusal.{out_of_memory, input_fault, store_fault, device_fault, output_fault, call_failed, mismatch}
-use Rattle.command_answers.specs.Call.{BenchCall, SinkCall, TookNothing, TookAll, TookPart, Answer, done, refused}
+use Rattle.command_answers.specs.Call.{BenchCall, SinkCall, TookNothing, TookAll, TookPart, TookPartBehind, Answer, done, refused}
 use Rattle.command_answers.specs.Answered.{IsUnless}
 use Rattle.job_commands.specs.Work.{Work, body, shown_plan, Ends, Fails, Misses, Breaks, IsOnPath, KeepsDuties, IsOutsidePlanAsSurveyed}
 
@@ -28,9 +29,20 @@ HasJob now w = IsWhole (body w) now.file
 abbrev pub done_text : List ℕ
 done_text = end_text Done
 
--- Before the plan: the file stands for the job, or it was free and still is.
+-- While the job was being begun over a free file: the file is free, or stands for the job.
+pub record EndsInBegin (bench : BenchCall) (out : SinkCall) (w : Work) : Type 0 where
+  pub free : IsFree bench.before.file
+  pub file : HasJob bench.after w ⊎ IsFree bench.after.file
+  pub cells : IsAsEntered bench bench.after.cells
+  pub prints : TookNothing out
+
+-- No stop leaves the job: its gate was never opened.
+abbrev pub NeverBegun : BenchCall → Type 0
+NeverBegun bench = Leaves (file_half bench.before) (file_half bench.after) (IsUnopened (file_half bench.before))
+
+-- Behind that, and before the plan: the file stands for the job.
 pub record EndsBeforePlan (bench : BenchCall) (out : SinkCall) (w : Work) : Type 0 where
-  pub file : HasJob bench.after w ⊎ (IsFree bench.before.file × IsFree bench.after.file)
+  pub job : HasJob bench.after w
   pub cells : IsAsEntered bench bench.after.cells
   pub prints : TookNothing out
 
@@ -40,10 +52,11 @@ pub record EndsWithoutMemory (bench : BenchCall) (out : SinkCall) (w : Work) : T
   pub cells : IsAsEntered bench bench.after.cells
   pub prints : TookNothing out
 
--- In the plan's text: a beginning of it went out, and the cells are as surveyed.
+-- In the plan's text: a beginning of it went out, the cells are as surveyed, and no operation is open.
 pub record EndsInPlan (bench : BenchCall) (out : SinkCall) (w : Work) : Type 0 where
   pub job : HasJob bench.after w
   pub cells : bench.after.cells ≡ w.surveyed
+  pub idle : bench.after.operation ≡ None
   pub prints : TookPart out (shown_plan w)
 
 -- In the script or at its end, in this way. The plan was printed.
@@ -75,9 +88,11 @@ abbrev pub Comes : BenchCall → SinkCall → Work → Broken → Answer → Typ
 Comes bench out w broken done = HasClosed bench.after w broken × TookAll out (shown_plan w ++ done_text)
 Comes bench out w broken (refused out_of_memory) = EndsWithoutMemory bench out w
 Comes bench out w broken (refused (input_fault name)) = Unit {0}
-Comes bench out w broken (refused store_fault) = EndsBeforePlan bench out w ⊎ (EndsInScript bench out w (Breaks w broken bench.after) ⊎ EndsInClose bench out w broken)
-Comes bench out w broken (refused device_fault) = EndsBeforePlan bench out w ⊎ EndsInScript bench out w (Breaks w broken bench.after)
-Comes bench out w broken (refused output_fault) = EndsInPlan bench out w ⊎ (HasClosed bench.after w broken × TookPart out (shown_plan w ++ done_text))
+Comes bench out w broken (refused store_fault) =
+    EndsInBegin bench out w ⊎ (EndsBeforePlan bench out w ⊎ (EndsInScript bench out w (Breaks w broken bench.after) ⊎ EndsInClose bench out w broken))
+Comes bench out w broken (refused device_fault) =
+    (EndsInBegin bench out w × NeverBegun bench) ⊎ (EndsBeforePlan bench out w ⊎ EndsInScript bench out w (Breaks w broken bench.after))
+Comes bench out w broken (refused output_fault) = EndsInPlan bench out w ⊎ (HasClosed bench.after w broken × TookPartBehind out (shown_plan w) done_text)
 Comes bench out w broken (refused (call_failed number call end)) = EndsInScript bench out w (Fails w broken number call end bench.after.cells)
 Comes bench out w broken (refused (mismatch at wanted found)) = EndsInScript bench out w (Misses w broken at wanted found bench.after.cells)
 Comes bench out w broken (refused _) = ⊥

@@ -12,9 +12,11 @@ use Rattle.flash_session.specs.declared.goal.Goal.TheVariants.{New, Old}
 use Rattle.report_text.specs.Refusal.{no_job, not_a_job, cells_differ}
 use Rattle.command_files.specs.Inputs.{InputsCall, TakesNothing}
 use Rattle.command_answers.specs.Call.{BenchCall, SinkCall, Call, Answer}
-use Rattle.command_answers.specs.Answered.{has_resume, AnswersBy, EndsLawfully, Refuses, OnlyLooked}
+use Rattle.command_answers.specs.Answered.{has_resume, AnswersBy, EndsLawfully, Refuses, OnlyLooked, on_job_file}
 use Rattle.job_commands.specs.Work.{Work, work_on}
 use Rattle.job_commands.specs.Carry.{Carries}
+use Rattle.job_commands.specs.Answers.{IsSound}
+use Rattle.job_commands.specs.Printed.{PrintsWork}
 
 -- the cells that a job is to leave: its image laid over its snapshot, or the snapshot
 abbrev pub goal_cells : Goal → Job → flm.Shown → List ℕ
@@ -38,8 +40,10 @@ pub record GoesOnFrom (goal : Goal) (bench : BenchCall) (out : SinkCall) (answer
 
 -- The work of `resume`, to the image, and of `revert`, to the snapshot: all but the status and the line on `err`.
 pub record GoOnEnds (goal : Goal) (bench : BenchCall) (inputs : InputsCall) (out : SinkCall) (answer : Answer) : Type 0 where
-  pub lawful : EndsLawfully OnlyLooked bench inputs out has_resume [] answer
+  pub lawful : EndsLawfully on_job_file bench inputs out has_resume [] answer
   pub takes : TakesNothing inputs
+  pub sound : IsSound answer
+  pub prints : PrintsWork bench.before.cell_count out answer
   pub told : IsTrue bench.tells → GoesOnFrom goal bench out answer
 
 -- a call of `resume` or `revert`

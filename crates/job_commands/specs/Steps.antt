@@ -28,6 +28,7 @@ use Rattle.command_answers.specs.Answered.{store, device, output, IsCounted, IsU
 use Rattle.job_commands.specs.Work.{Work, body, Fails, Misses, Breaks, IsOnPath, KeepsDuties, IsOutsidePlanAsSurveyed}
 use Rattle.job_commands.specs.Carry.{HasJob, HasReached, HasClosed, Carries, done_text}
 use Rattle.job_commands.specs.GoOn.{work_to}
+use Rattle.job_commands.specs.Answers.{is_of_free}
 
 -- The faults of the layers below, as refusals of the program.
 
@@ -116,6 +117,7 @@ pub record Finishes (bench : BenchCall) (out : SinkCall) (w : Work) (answer : An
 
 -- A job of these parts is begun, and carried to its image: by what the file is.
 pub record BeginsParts (bench : BenchCall) (out : SinkCall) (parts : JobParts) (answer : Answer) : Type 0 where
+  pub free : is_of_free answer ≡ true → IsFree bench.before.file
   pub some_job : IsSomeJob bench.before.file → Refuses (OnlyLooked bench out) answer job_open
   pub not_job : (at : ℕ) → IsNotAJob at bench.before.file → Refuses (OnlyLooked bench out) answer (not_a_job at)
   pub other_size : IsFree bench.before.file → parts.size ≢ bench.before.cell_count

@@ -1,10 +1,13 @@
 //! `program`, once its files are read.
-ghost use Rattle.std.specs.Prelude.{◌≡◌, IsTrue};
+ghost use Rattle.std.specs.Prelude.{◌≡◌, true, IsTrue};
 ghost use Rattle.job_text.specs.Parts.{AreParts};
-ghost use Rattle.command_answers.specs.Answered.{IsOf, OnlyLooked, StandsEarly};
+ghost use Rattle.job_file.specs.First.{SyncsFirst};
+ghost use Rattle.command_answers.specs.Answered.{IsOf, StandsEarly, on_job_file};
 ghost use Rattle.command_answers.specs.Call.{bench_call, sink_call};
 ghost use Rattle.command_answers.specs.Shown.{answer_of};
 ghost use Rattle.job_commands.specs.Steps.{has_begin, begun, BenchCounted, BeginsParts};
+ghost use Rattle.job_commands.specs.Answers.{is_of_work, IsSound};
+ghost use Rattle.job_commands.specs.Printed.{PrintsWork};
 
 use crate::carrying::carry;
 use crate::refusals::begin_refusal;
@@ -26,8 +29,12 @@ pub fn begin_job<'a, B: Bench, O: Sink>(
     requires { AreParts parts.now }
     ensures told { IsTrue B.tells → BeginsParts (bench_call B.tells (B.state bench.old) (B.state bench.new))
         (sink_call O.tells (O.state out.old) (O.state out.new)) parts.now (answer_of result) }
-    ensures early { StandsEarly OnlyLooked (bench_call B.tells (B.state bench.old) (B.state bench.new)) (sink_call O.tells (O.state out.old) (O.state out.new)) (answer_of result) }
+    ensures early { StandsEarly on_job_file (bench_call B.tells (B.state bench.old) (B.state bench.new)) (sink_call O.tells (O.state out.old) (O.state out.new)) (answer_of result) }
     ensures kind { IsOf has_begin (answer_of result) }
+    ensures prints { PrintsWork (B.state bench.old).cell_count (sink_call O.tells (O.state out.old) (O.state out.new)) (answer_of result) }
+    ensures sized { is_of_work (answer_of result) ≡ true → parts.now.size ≡ (B.state bench.old).cell_count }
+    ensures sound { IsSound (answer_of result) }
+    ensures first { SyncsFirst B.acts bench.old }
     ensures counts { BenchCounted (bench_call B.tells (B.state bench.old) (B.state bench.new)) (sink_call O.tells (O.state out.old) (O.state out.new)) (answer_of result) }
 {
     match begin(alloc, bench, parts) {

@@ -6,10 +6,12 @@ ghost use Rattle.job_text.specs.Stands.{StandsFor};
 ghost use Rattle.flash_session.specs.declared.goal.Goal as goals;
 ghost use Rattle.flash_session.specs.Sessions.{job_in, surveyed};
 ghost use Rattle.flash_session.specs.Surveys.{HasSurveyed};
-ghost use Rattle.command_answers.specs.Answered.{has_resume, IsOf, OnlyLooked, StandsEarly};
+ghost use Rattle.command_answers.specs.Answered.{has_resume, IsOf, StandsEarly, on_job_file};
 ghost use Rattle.command_answers.specs.Call.{bench_call, sink_call};
 ghost use Rattle.command_answers.specs.Shown.{answer_of};
 ghost use Rattle.job_commands.specs.GoOn.{GoesOnFrom};
+ghost use Rattle.job_commands.specs.Answers.{IsSound};
+ghost use Rattle.job_commands.specs.Printed.{PrintsEnd, PrintsWork};
 ghost use Rattle.job_commands.specs.Steps.{has_script, BenchCounted, session_work, Finishes};
 
 use crate::refusals::{session_refusal, survey_refusal};
@@ -35,6 +37,8 @@ fn finish<'a, B: Bench, O: Sink>(
         → Finishes (bench_call B.tells (B.state bench.old) (B.state bench.new)) (sink_call O.tells (O.state out.old) (O.state out.new))
         (session_work goal (job_in session.old) stands.text (B.state bench.old).cells) (answer_of result) }
     ensures kind { IsOf has_script (answer_of result) }
+    ensures prints { PrintsEnd (sink_call O.tells (O.state out.old) (O.state out.new)) (answer_of result) }
+    ensures sound { IsSound (answer_of result) }
     ensures goes_on { IsTrue B.tells → GoesOn (file_half (B.state bench.old)) (file_half (B.state bench.new)) }
     ensures counts { BenchCounted (bench_call B.tells (B.state bench.old) (B.state bench.new)) (sink_call O.tells (O.state out.old) (O.state out.new)) (answer_of result) }
 {
@@ -68,8 +72,10 @@ pub(crate) fn carry<'a, B: Bench, O: Sink>(
 ) -> Result<(), Refusal<'a>>
     ensures told { IsTrue B.tells → GoesOnFrom goal (bench_call B.tells (B.state bench.old) (B.state bench.new))
         (sink_call O.tells (O.state out.old) (O.state out.new)) (answer_of result) }
-    ensures early { StandsEarly OnlyLooked (bench_call B.tells (B.state bench.old) (B.state bench.new)) (sink_call O.tells (O.state out.old) (O.state out.new)) (answer_of result) }
+    ensures early { StandsEarly on_job_file (bench_call B.tells (B.state bench.old) (B.state bench.new)) (sink_call O.tells (O.state out.old) (O.state out.new)) (answer_of result) }
     ensures kind { IsOf has_resume (answer_of result) }
+    ensures prints { PrintsWork (B.state bench.old).cell_count (sink_call O.tells (O.state out.old) (O.state out.new)) (answer_of result) }
+    ensures sound { IsSound (answer_of result) }
     ensures goes_on { IsTrue B.tells → GoesOn (file_half (B.state bench.old)) (file_half (B.state bench.new)) }
     ensures counts { BenchCounted (bench_call B.tells (B.state bench.old) (B.state bench.new)) (sink_call O.tells (O.state out.old) (O.state out.new)) (answer_of result) }
 {

@@ -3,14 +3,17 @@ use Rattle.job_text.specs.declared.job.Job as code
 use Rattle.job_text.specs.Stands.{StandsFor}
 use Rattle.flash_session.specs.Sessions.{job_in, surveyed}
 use Rattle.report_text.specs.Refusal.{Refusal}
-use Rattle.command_answers.specs.Answered.{has_resume, OnlyLooked, StandsEarly, IsOf}
+use Rattle.command_answers.specs.Answered.{has_resume, StandsEarly, IsOf, on_job_file}
 use Rattle.command_answers.specs.Call.{bench_call, sink_call, refused}
 use Rattle.command_answers.specs.Shown.{answer_of}
+use Rattle.job_commands.specs.Answers.{IsSound}
 use Rattle.job_commands.specs.GoOn.{GoesOnFrom}
+use Rattle.job_commands.specs.Printed.{PrintsWork}
 use Rattle.job_commands.specs.Steps.{BenchCounted}
 use Rattle.job_commands.proofs.CarryLemmas.{entered}
 use Rattle.job_commands.proofs.CountLemmas.{survey_counted}
-use Rattle.job_commands.proofs.KindLemmas.{script_kind, script_stands, session_kind, survey_kind}
+use Rattle.job_commands.proofs.KindLemmas.{script_kind, script_stands, session_kind, survey_kind, session_sound, survey_sound}
+use Rattle.job_commands.proofs.PrintLemmas.{session_prints, survey_prints, surveyed_for, cut_prints, end_prints}
 use Rattle.job_commands.proofs.OpenLemmas.{refuses_open, open_stands, survey_stands}
 use Rattle.job_commands.proofs.SurveyLemmas.{fits_memory, still_stands, still_left, unsurveyed, cut_in_plan, finished}
 use Rattle.job_commands.proofs.carrying.carry.Goals as goal
@@ -30,11 +33,17 @@ returns-in-Err-clause-early g c =
     let a = g.B.Bench.state c.args.bench.now in
     let b = g.B.Bench.state c.open.new.bench in
     let o = g.O.Sink.state c.args.out.now in
-    subst (λ (r : Refusal). StandsEarly OnlyLooked (bench_call g.B.Bench.tells a b) (sink_call g.O.Sink.tells o o) (refused r)) (sym c.session_refusal.ensures)
+    subst (λ (r : Refusal). StandsEarly on_job_file (bench_call g.B.Bench.tells a b) (sink_call g.O.Sink.tells o o) (refused r)) (sym c.session_refusal.ensures)
     (open_stands g.B.Bench.tells g.O.Sink.tells a b o c.args.goal c.in-Err.fault c.in-Err.ensures.reads)
 
 pub returns-in-Err-clause-kind : goal.returns-in-Err-clause-kind
 returns-in-Err-clause-kind g c = subst (λ (r : Refusal). IsOf has_resume (refused r)) (sym c.session_refusal.ensures) (session_kind c.in-Err.fault)
+
+pub returns-in-Err-clause-sound : goal.returns-in-Err-clause-sound
+returns-in-Err-clause-sound g c = subst (λ (r : Refusal). IsSound (refused r)) (sym c.session_refusal.ensures) (session_sound c.in-Err.fault)
+
+pub returns-in-Err-survey-clause-sound : goal.returns-in-Err-survey-clause-sound
+returns-in-Err-survey-clause-sound g c = subst (λ (r : Refusal). IsSound (refused r)) (sym c.survey_refusal.ensures) (survey_sound c.in-Err-survey.fault)
 
 pub returns-in-Err-survey-clause-told : goal.returns-in-Err-survey-clause-told
 returns-in-Err-survey-clause-told g c = λ told.
@@ -51,7 +60,7 @@ pub returns-in-Err-survey-clause-early : goal.returns-in-Err-survey-clause-early
 returns-in-Err-survey-clause-early g c =
     let bench = bench_call g.B.Bench.tells (g.B.Bench.state c.args.bench.now) (g.B.Bench.state c.survey.new.bench) in
     let out = sink_call g.O.Sink.tells (g.O.Sink.state c.args.out.now) (g.O.Sink.state c.args.out.now) in
-    subst (λ (r : Refusal). StandsEarly OnlyLooked bench out (refused r)) (sym c.survey_refusal.ensures) (survey_stands bench out c.in-Err-survey.fault)
+    subst (λ (r : Refusal). StandsEarly on_job_file bench out (refused r)) (sym c.survey_refusal.ensures) (survey_stands bench out c.in-Err-survey.fault (record { taken = refl; faults = refl }))
 
 pub returns-in-Err-survey-clause-counts : goal.returns-in-Err-survey-clause-counts
 returns-in-Err-survey-clause-counts g c =
@@ -76,7 +85,7 @@ returns-in-Err-put_plan-clause-told g c = λ told.
     (λ x at. (g.met.B.Bench.as_told c.args.bench.now x told).0 at) c.survey.ensures.reads c.survey.ensures.pairs
     (surveyed c.survey.new.self) c.in-Ok-survey.ensures.ok c.geometry.result.now c.geometry.ensures c.plan.result.now.made c.plan.ensures
     c.job.result.now.algorithm.device.base (ap (λ (j : code.Job). j.algorithm.device.base) (c.job.ensures ∙ c.survey.ensures.job))
-    (g.O.Sink.state c.args.out.now) (g.O.Sink.state c.put_plan.new.out) (record { taken = puts.err; later = puts.cause.later; rose = puts.cause.on_fault refl })
+    (g.O.Sink.state c.args.out.now) (g.O.Sink.state c.put_plan.new.out) (c.survey.ensures.reads.cells.operation told ∙ c.in-Ok.ensures.idle told) (record { taken = puts.err; later = puts.cause.later; rose = puts.cause.on_fault refl })
 
 pub put_plan-requires : goal.put_plan-requires
 put_plan-requires g c =
@@ -126,3 +135,37 @@ finish-requires-clause-idle g c = λ told. c.survey.ensures.reads.cells.operatio
 
 pub survey-requires-clause-stands : goal.survey-requires-clause-stands
 survey-requires-clause-stands g c = λ told. subst (λ (f : List ℕ). StandsFor (job_in c.in-Ok.session) f) (sym (c.open.ensures.file told)) (c.in-Ok.ensures.ok told)
+
+pub returns-in-Err-clause-prints : goal.returns-in-Err-clause-prints
+returns-in-Err-clause-prints g c =
+    let n = (g.B.Bench.state c.args.bench.now).cell_count in
+    let out = sink_call g.O.Sink.tells (g.O.Sink.state c.args.out.now) (g.O.Sink.state c.args.out.now) in
+    subst (λ (r : Refusal). PrintsWork n out (refused r)) (sym c.session_refusal.ensures) (session_prints n out c.in-Err.fault (record { taken = refl; faults = refl }))
+
+pub returns-in-Err-survey-clause-prints : goal.returns-in-Err-survey-clause-prints
+returns-in-Err-survey-clause-prints g c =
+    let n = (g.B.Bench.state c.args.bench.now).cell_count in
+    let out = sink_call g.O.Sink.tells (g.O.Sink.state c.args.out.now) (g.O.Sink.state c.args.out.now) in
+    subst (λ (r : Refusal). PrintsWork n out (refused r)) (sym c.survey_refusal.ensures) (survey_prints n out c.in-Err-survey.fault (record { taken = refl; faults = refl }))
+
+pub returns-in-Err-put_plan-clause-prints : goal.returns-in-Err-put_plan-clause-prints
+returns-in-Err-put_plan-clause-prints g c =
+    let n = (g.B.Bench.state c.args.bench.now).cell_count in
+    let b = g.B.Bench.state c.open.new.bench in
+    let puts = c.in-Err-put_plan.ensures in
+    cut_prints g.O.Sink.tells n c.job.result.now.algorithm.device.base c.geometry.result.now
+    (surveyed_for g.B.Bench.tells (job_in c.in-Ok.session) c.args.goal b.file b.cells (surveyed c.survey.new.self) c.in-Ok-survey.ensures.ok c.geometry.result.now c.geometry.ensures n
+    (c.in-Ok.ensures.sized ∙ c.open.ensures.count))
+    c.plan.result.now.made (g.O.Sink.state c.args.out.now) (g.O.Sink.state c.put_plan.new.out)
+    (record { taken = puts.err; later = puts.cause.later; rose = puts.cause.on_fault refl })
+
+pub returns-clause-prints : goal.returns-clause-prints
+returns-clause-prints g c =
+    let n = (g.B.Bench.state c.args.bench.now).cell_count in
+    let b = g.B.Bench.state c.open.new.bench in
+    let puts = c.in-Ok-put_plan.ensures in
+    end_prints g.O.Sink.tells n c.job.result.now.algorithm.device.base c.geometry.result.now
+    (surveyed_for g.B.Bench.tells (job_in c.in-Ok.session) c.args.goal b.file b.cells (surveyed c.survey.new.self) c.in-Ok-survey.ensures.ok c.geometry.result.now c.geometry.ensures n
+    (c.in-Ok.ensures.sized ∙ c.open.ensures.count))
+    c.plan.result.now.made (g.O.Sink.state c.args.out.now) (g.O.Sink.state c.put_plan.new.out) (g.O.Sink.state c.finish.new.out)
+    (record { taken = puts.ok; faults = puts.cause.on_ok refl }) (answer_of c.finish.result) c.finish.ensures.kind c.finish.ensures.prints

@@ -9,6 +9,18 @@ use Rattle.flash_session.specs.Sessions.{job_in, surveyed}
 use Rattle.job_commands.proofs.FinishLemmas.{closed_as, ends_mismatch, ends_failed, ends_at_fault, ends_unread, ends_done, ends_cut, ends_unclosed}
 use Rattle.job_commands.proofs.carrying.finish.Goals as goal
 
+pub returns-in-Mismatch-clause-sound : goal.returns-in-Mismatch-clause-sound
+returns-in-Mismatch-clause-sound g c = c.in-Mismatch.ensures.sound.1
+
+pub returns-in-Ok-put_end-clause-prints : goal.returns-in-Ok-put_end-clause-prints
+returns-in-Ok-put_end-clause-prints g c = record { taken = c.in-Ok-put_end.ensures.ok; faults = c.in-Ok-put_end.ensures.cause.on_ok refl }
+
+pub returns-in-Err-put_end-clause-prints : goal.returns-in-Err-put_end-clause-prints
+returns-in-Err-put_end-clause-prints g c = record { taken = c.in-Err-put_end.ensures.err; later = c.in-Err-put_end.ensures.cause.later; rose = c.in-Err-put_end.ensures.cause.on_fault refl }
+
+pub returns-in-CallFailed-clause-sound : goal.returns-in-CallFailed-clause-sound
+returns-in-CallFailed-clause-sound g c = c.in-CallFailed.ensures.sound
+
 pub returns-in-Mismatch-clause-told : goal.returns-in-Mismatch-clause-told
 returns-in-Mismatch-clause-told g c = λ told goal stands has.
     ends_mismatch g.B.Bench.tells g.O.Sink.tells told (job_in c.args.session.now) goal (g.B.Bench.state c.args.bench.now) (g.B.Bench.state c.go.new.bench)

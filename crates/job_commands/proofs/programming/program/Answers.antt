@@ -35,8 +35,13 @@ returns g c =
     let is = took.given.holds in
     let aim = task_aim task is.region in
     let are = task_parts c.args.names.now.raw_at took.given.files task _ is c.in_ok-task.ensures.short_board c.in_ok-task.ensures.short_flm c.bytes.ensures c.bytes-2.ensures refl refl in
-    ends_worked bench inputs out asked took.given.files aim took.given.are_files is.is_aim took.faults (answer_of c.begin_job.result)
+    ends_worked bench inputs out asked took.given.files aim took.given.are_files is.is_aim took.none_failed (answer_of c.begin_job.result)
     c.begin_job.ensures.kind c.begin_job.ensures.counts c.begin_job.ensures.early
-    (task_algorithm c.args.names.now.raw_at took.given.files task is c.in_ok-task.ensures.short_board c.in_ok-task.ensures.short_flm)
-    (λ told. begins_on_parts bench out (answer_of c.begin_job.result) took.given.files aim _ are
-    (is.board_text ∙ sym c.bytes.ensures) (is.flm ∙ ap (λ (l : List ℕ). Some l) (sym c.bytes-2.ensures)) refl (sym is.size_is) refl refl (c.begin_job.ensures.told told))
+    (record {
+      has_algorithm = task_algorithm c.args.names.now.raw_at took.given.files task is c.in_ok-task.ensures.short_board c.in_ok-task.ensures.short_flm;
+      sized = λ its. sym is.size_is ∙ c.begin_job.ensures.sized its;
+      sound = c.begin_job.ensures.sound;
+      prints = c.begin_job.ensures.prints;
+      works = λ told. begins_on_parts bench out (answer_of c.begin_job.result) took.given.files aim _ are
+    (is.board_text ∙ sym c.bytes.ensures) (is.flm ∙ ap (λ (l : List ℕ). Some l) (sym c.bytes-2.ensures)) refl (sym is.size_is) refl refl (c.begin_job.ensures.told told);
+    })

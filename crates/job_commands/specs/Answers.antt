@@ -1,0 +1,29 @@
+-- What an answer of the work on a job says by itself.
+use Rattle.std.specs.Prelude.{◌≢◌, Bool, true, false}
+use Rattle.flash_session.specs.Plays.{IsNotDone}
+use Rattle.report_text.specs.Refusal.{output_fault, cells_differ, call_failed, mismatch}
+use Rattle.command_answers.specs.Call.{Answer, done, refused}
+
+-- the answers that come only after a job was begun
+abbrev pub is_of_work : Answer → Bool
+is_of_work done = true
+is_of_work (refused output_fault) = true
+is_of_work (refused (call_failed number call end)) = true
+is_of_work (refused (mismatch at wanted found)) = true
+is_of_work (refused _) = false
+
+-- the two bytes of a mismatch differ, and the call that failed isn't done
+abbrev pub IsSound : Answer → Type 0
+IsSound done = Unit {0}
+IsSound (refused (call_failed number call end)) = IsNotDone number end
+IsSound (refused (mismatch at wanted found)) = wanted ≢ found
+IsSound (refused _) = Unit {0}
+
+-- those that come only where the file was free: the job was begun, or there were other cells than it is for
+abbrev pub is_of_free : Answer → Bool
+is_of_free done = true
+is_of_free (refused output_fault) = true
+is_of_free (refused (cells_differ wanted found)) = true
+is_of_free (refused (call_failed number call end)) = true
+is_of_free (refused (mismatch at wanted found)) = true
+is_of_free (refused _) = false
