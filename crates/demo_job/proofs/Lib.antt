@@ -4,3 +4,4 @@ pub mod PlanLemmas
 pub mod TargetLemmas
 pub mod RunLemmas
 pub mod ShowLemmas
+pub mod EndLemmas

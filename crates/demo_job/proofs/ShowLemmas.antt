@@ -21,11 +21,11 @@ same_as either left right = ((λ told. sym left ∙ either.0 told ∙ right), (�
 
 -- inputs of which nothing is taken
 pub no_inputs : InputsCall
-no_inputs = inputs_call false (record { faults = 0; stands = λ name. None }) (record { faults = 0; stands = λ name. None })
+no_inputs = inputs_call false (record { faults = 0; failed = []; stands = λ name. None }) (record { faults = 0; failed = []; stands = λ name. None })
 
 pub takes_none : TakesNothing no_inputs
 unfolding no_inputs
-takes_none = record { stands = λ name. refl; faults = refl }
+takes_none = record { stands = λ name. refl; faults = refl; failed = refl }
 
 -- a bench as it is made is fresh
 pub fresh_of : (seed : ℕ) (bench : MemoryBench) {cells file : List ℕ} {file_room call_room : ℕ} {store_fails device_fails garbage : List ℕ}

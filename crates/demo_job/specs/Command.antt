@@ -1,11 +1,13 @@
 -- What `demo N` answers.
-use Rattle.std.specs.Prelude.{◌≡◌, ◌⊎◌, ℕ, []}
+use Rattle.std.specs.Prelude.{◌≡◌, ◌⊎◌, ℕ, true, []}
+use Rattle.std.proofs.Common.{inl, inr}
 use Rattle.bench_model.specs.Shown.{Memory, made_bench, bench_of}
 use Rattle.bench_model.specs.Shown as bench
 use Rattle.bench_model.specs.declared.memory.MemoryBench.{MemoryBench}
 use Rattle.report_text.specs.Refusal.{out_of_memory, output_fault}
 use Rattle.command_files.specs.Inputs.{InputsCall, TakesNothing}
-use Rattle.command_answers.specs.Call.{BenchCall, SinkCall, TookNothing, TookAll, TookPart, IsUntouched, Answer, refused}
+use Rattle.command_answers.specs.Call.{BenchCall, bench_call, SinkCall, TookNothing, TookAll, TookPart, IsUntouched, Answer, refused}
+use Rattle.command_answers.specs.Answered.{has_resume, on_own_bench, EndsLawfully}
 use Rattle.demo_job.specs.Made.{cells_of}
 use Rattle.demo_job.specs.Run.{IsFresh, answer_in}
 use Rattle.demo_job.specs.Lines.{demo_text}
@@ -44,9 +46,25 @@ pub record Tells (seed : ℕ) (out : SinkCall) (answer : Answer) : Type 0 where
 abbrev pub DemoSays : ℕ → SinkCall → Answer → Type 0
 DemoSays seed out answer = EndsUnbegun out answer ⊎ Tells seed out answer
 
+-- The bench of the demonstration, as the resume found and left it.
+abbrev pub resumed_in : {seed : ℕ} {out : SinkCall} {answer : Answer} → Tells seed out answer → BenchCall
+resumed_in tells = bench_call true (bench_of tells.is_shown.shows.lost) (bench_of tells.demo.bench)
+
+-- The rows of the answers are read of the demonstration's own bench where its lines went out, and else of the bench that was handed in.
+
+abbrev pub TellsLawfully : (seed : ℕ) (bench : BenchCall) (inputs : InputsCall) (out : SinkCall) (answer : Answer) (tells : Tells seed out answer)
+    → Prints out tells.demo answer → Type 0
+TellsLawfully seed bench inputs out answer tells (inl whole) = EndsLawfully on_own_bench (resumed_in tells) inputs out has_resume [] answer
+TellsLawfully seed bench inputs out answer tells (inr cut) = EndsLawfully on_own_bench bench inputs out has_resume [] answer
+
+abbrev pub SaysLawfully : (seed : ℕ) (bench : BenchCall) (inputs : InputsCall) (out : SinkCall) (answer : Answer) → DemoSays seed out answer → Type 0
+SaysLawfully seed bench inputs out answer (inl unbegun) = EndsLawfully on_own_bench bench inputs out has_resume [] answer
+SaysLawfully seed bench inputs out answer (inr tells) = TellsLawfully seed bench inputs out answer tells tells.prints
+
 -- The work of `demo`: all but the status and the line on `err`. It works on a bench of its own: the one that was handed in is as it was,
 -- and no input is taken. The output fault is answered only where the count of `out` rose.
 pub record DemoEnds (seed : ℕ) (bench : BenchCall) (inputs : InputsCall) (out : SinkCall) (answer : Answer) : Type 0 where
   pub untouched : IsUntouched bench
   pub takes : TakesNothing inputs
   pub says : DemoSays seed out answer
+  pub lawful : SaysLawfully seed bench inputs out answer says

@@ -1,11 +1,13 @@
 -- The run of a demonstration: the job of a seed is begun, stopped, and resumed on what the loss of the power left.
-use Rattle.std.specs.Prelude.{◌≡◌, ◌≢◌, ℕ, true, false, [], Option, Some, None}
+use Rattle.std.specs.Prelude.{◌≡◌, ◌≢◌, ℕ, Bool, true, false, IsTrue, [], Option, Some, None}
 use Rattle.outside_io.specs.State.{SinkState}
 use Rattle.bench_model.specs.State.{BenchState, Left}
 use Rattle.bench_model.specs.Loss.{IsAtRest, IsPicked, after_loss}
 use Rattle.bench_model.specs.Shown as bench
 use Rattle.bench_model.specs.Shown.{bench_of}
-use Rattle.bench_model.specs.Stopped.{stopped, IsSameBench}
+use Rattle.bench_model.specs.Act.{Act}
+use Rattle.bench_model.specs.MemoryActs.{memory_acts}
+use Rattle.bench_model.specs.Stopped.{stopped, IsSameBench, StopActs}
 use Rattle.bench_model.specs.declared.memory.MemoryBench.{MemoryBench}
 use Rattle.bench_model.specs.declared.pick.Pick.TheVariants.{Filled}
 use Rattle.bench_model.specs.declared.stop.StopBench.{StopBench}
@@ -21,7 +23,9 @@ use Rattle.command_answers.specs.Answered.{IsOf}
 use Rattle.job_commands.specs.Work.{Work}
 use Rattle.job_commands.specs.Carry.{Carries}
 use Rattle.job_commands.specs.GoOn.{work_to, GoOnEnds}
-use Rattle.job_commands.specs.Steps.{has_begin, BenchCounted}
+use Rattle.job_text.specs.declared.parts.JobParts.{JobParts}
+use Rattle.job_file.specs.First.{SyncsFirst}
+use Rattle.job_commands.specs.Steps.{has_begin, BenchCounted, BeginsParts}
 use Rattle.demo_job.specs.Made.{cells_of, image_of, stop_of}
 use Rattle.demo_job.specs.Target.{board_text, Target}
 
@@ -54,6 +58,28 @@ work_of seed t = work_to New (job_of seed t) t.board t.algorithm (cells_of seed)
 abbrev pub stopping_of : StopBench MemoryBench → BenchState
 stopping_of s = stopped bench_of s
 
+-- The parts of the job of a seed, on a target.
+pub record ArePartsOf (seed : ℕ) (t : Target) (parts : JobParts) : Type 0 where
+  pub board : parts.board.now ≡ board_text
+  pub flm : parts.flm.now ≡ t.file
+  pub image : parts.image.now ≡ image_of seed
+  pub size : t.algorithm.device.size ≡ parts.size
+  pub all : parts.size ≡ 65536
+
+-- The job of a seed was begun over a bench round this one that lets as many calls through as the seed says. The first call on it is the
+-- job's: it syncs the job file.
+pub record BeginsOver {B : Type 0} (tells : Bool) (acts : B → Act → B → Type 0) (state : B → BenchState) (seed : ℕ) (t : Target) (fresh : B) (begun : StopBench B) (answer : Answer) : Type 0 where
+  pub first : StopBench B
+  pub inner : first.inner ≡ fresh
+  pub calls : first.calls ≡ stop_of seed
+  pub same : IsSameBench (state fresh) (stopped state first)
+  pub syncs : SyncsFirst (StopActs acts) first
+  pub parts : JobParts
+  pub its_parts : ArePartsOf seed t parts
+  pub begins : IsTrue tells → BeginsParts (bench_call tells (stopped state first) (stopped state begun)) silence parts answer
+  pub kind : IsOf has_begin answer
+  pub counts : BenchCounted (bench_call tells (stopped state first) (stopped state begun)) silence answer
+
 -- The job was begun over a bench that lets as many calls through as the seed says, with no fault of its own yet, and carried on until it
 -- ended or was stopped, by a fault that this bench counted, but not for want of memory. Then the power was lost.
 pub record IsLost (seed : ℕ) (t : Target) (fresh lost : MemoryBench) : Type 0 where
@@ -61,6 +87,8 @@ pub record IsLost (seed : ℕ) (t : Target) (fresh lost : MemoryBench) : Type 0 
   pub inner : first.inner ≡ fresh
   pub calls : first.calls ≡ stop_of seed
   pub same : IsSameBench (bench_of fresh) (stopping_of first)
+  -- no call was made before the job's own, the first of which syncs the job file
+  pub syncs : SyncsFirst (StopActs memory_acts) first
   pub begun : StopBench MemoryBench
   pub answer : Answer
   pub is_job : IsJob (job_of seed t) t.board t.algorithm

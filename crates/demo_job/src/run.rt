@@ -4,7 +4,7 @@ ghost use Rattle.bench_model.specs.Shown.{bench_of};
 ghost use Rattle.job_commands.specs.Work.{layout_of, plan_of};
 ghost use Rattle.demo_job.specs.Demo.{Shows};
 ghost use Rattle.command_answers.specs.Shown.{answer_of};
-ghost use Rattle.demo_job.specs.Run.{IsFresh, IsLost, answer_in, status_in, work_of};
+ghost use Rattle.demo_job.specs.Run.{BeginsOver, IsFresh, IsLost, answer_in, status_in, work_of};
 ghost use Rattle.demo_job.specs.Scene.{IsScene, IsCounted, target_of};
 ghost use Rattle.bench_model.specs.declared.memory.MemoryBench.{MemoryBench};
 
@@ -12,7 +12,7 @@ use crate::first_plan::{Counts, first_plan};
 use crate::lines::DemoLines;
 use crate::nowhere::Nowhere;
 use crate::scene::{Scene, set_scene};
-use bench_model::{MemoryBench, Pick, StopBench};
+use bench_model::{Bench, MemoryBench, Pick, StopBench};
 use faults::OutOfMemory;
 use flash_session::Goal;
 use job_commands::{begin_job, go_on};
@@ -45,6 +45,26 @@ pub fn demo_run(alloc: Global, seed: u32, bench: MemoryBench) -> Result<Demo, Ou
     Ok(resume(alloc, seed, &scene, counts, lost))
 }
 
+/// A bench that stops, as the job on it left it, and the refusal of the job.
+#[derive(Drop)]
+pub(crate) struct Stopped<B> {
+    bench: StopBench<B>,
+    refusal: Option<Refusal<'static>>,
+}
+
+/// Begins the job over a bench that stops. The calls that go through are all the job's own.
+fn begin_stopped<B: Bench>(alloc: Global, seed: u32, scene: &Scene, bench: B) -> Stopped<B>
+    requires { IsScene seed scene.now }
+    ensures { BeginsOver B.tells B.acts B.state seed (target_of scene.now.target) bench result.bench (answer_in result.refusal) }
+{
+    let mut stopping = StopBench::new(bench, scene.made.calls);
+    let refusal = refusal_of(begin_job(alloc, &scene.parts(), &mut stopping, &mut Nowhere));
+    Stopped {
+        bench: stopping,
+        refusal,
+    }
+}
+
 /// Begins the job over a bench that stops, and loses the power.
 fn lose(
     alloc: Global,
@@ -56,12 +76,12 @@ fn lose(
     requires fresh { IsFresh seed (bench_of bench) }
     ensures { IfOk result (IsLost seed (target_of scene.now.target) bench) }
 {
-    let mut stopping = StopBench::new(bench, scene.made.calls);
-    let refusal = refusal_of(begin_job(alloc, &scene.parts(), &mut stopping, &mut Nowhere));
+    let stopped = begin_stopped(alloc, seed, scene, bench);
+    let Stopped { bench, refusal } = stopped;
     if status(&refusal) == NO_MEMORY {
         return Err(OutOfMemory);
     }
-    let mut bench = stopping.into_inner();
+    let mut bench = bench.into_inner();
     bench.power_loss(Pick::Filled { value: LOST });
     Ok(bench)
 }

@@ -1,0 +1,42 @@
+use Rattle.std.proofs.Common.{◌∙◌, sym, subst, List, IsTrue}
+use Rattle.bench_model.specs.Stopped.{stopped}
+use Rattle.byte_map.specs.Image.{Run}
+use Rattle.job_text.specs.Fits.{Suits}
+use Rattle.command_answers.specs.Answered.{IsOf}
+use Rattle.command_answers.specs.Call.{bench_call, Answer}
+use Rattle.job_commands.specs.Steps.{BeginsParts, BenchCounted, has_begin}
+use Rattle.demo_job.specs.Run.{silence, answer_in}
+use Rattle.demo_job.specs.Scene.{target_of}
+use Rattle.demo_job.proofs.RunLemmas.{parts_of}
+use Rattle.demo_job.proofs.run.begin_stopped.Goals as goal
+
+pub begin_job-requires : goal.begin_job-requires
+begin_job-requires g c =
+    let t = target_of c.args.scene.now.target in
+    let scene = c.requires in
+    parts_of t c.parts.result scene.target (subst (λ (i : List Run). Suits t.board t.algorithm i) (sym c.parts.ensures.image) scene.suits)
+    c.parts.ensures.board c.parts.ensures.flm (sym c.parts.ensures.size)
+
+pub returns : goal.returns
+returns g c =
+    let scene = c.requires in
+    let first = stopped g.B.Bench.state c.new-stopping.result in
+    let begun = stopped g.B.Bench.state c.begin_job.new.bench in
+    record {
+      first = c.new-stopping.result;
+      inner = c.new-stopping.ensures.inner;
+      calls = c.new-stopping.ensures.calls ∙ scene.calls;
+      same = c.new-stopping.ensures.same;
+      syncs = c.begin_job.ensures.first;
+      parts = c.parts.result;
+      its_parts = record {
+        board = c.parts.ensures.board;
+        flm = c.parts.ensures.flm;
+        image = c.parts.ensures.image ∙ scene.image;
+        size = sym c.parts.ensures.size;
+        all = c.parts.ensures.size ∙ scene.size;
+      };
+      begins = λ told. subst (λ (a : Answer). BeginsParts (bench_call g.B.Bench.tells first begun) silence c.parts.result a) (sym c.refusal_of-refusal.ensures) (c.begin_job.ensures.told told);
+      kind = subst (λ (a : Answer). IsOf has_begin a) (sym c.refusal_of-refusal.ensures) c.begin_job.ensures.kind;
+      counts = subst (λ (a : Answer). BenchCounted (bench_call g.B.Bench.tells first begun) silence a) (sym c.refusal_of-refusal.ensures) c.begin_job.ensures.counts;
+    }
