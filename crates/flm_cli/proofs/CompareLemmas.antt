@@ -7,10 +7,10 @@ use Rattle.bench_model.specs.State.{BenchState}
 use Rattle.outside_io.specs.State.{SinkState}
 use Rattle.report_text.specs.Refusal.{Refusal, out_of_memory, input_fault, image_too_long, differs}
 use Rattle.readback.specs.Difference.{IsFirstDifference}
-use Rattle.command_files.specs.Inputs.{InputsCall, IsFile}
+use Rattle.command_files.specs.Inputs.{InputsCall, IsFile, NoneFailed}
 use Rattle.command_files.specs.Steps.{IsTakeFault}
 use Rattle.command_answers.specs.Call.{BenchCall, SinkCall, Answer, refused, bench_call, sink_call}
-use Rattle.command_answers.specs.Answered.{has_compare, yields, DidNothing, IsOf}
+use Rattle.command_answers.specs.Answered.{has_compare, yields, DidNothing, IsOf, on_files}
 use Rattle.flm_cli.specs.Comparison.{Compares}
 use Rattle.flm_cli.specs.Comparison as comparison
 use Rattle.flm_cli.specs.Compare.{CellsAre, DiffersFrom, IsComparedWithFile, OfFile, ComesOfFile, IsDueForFile, CompareEnds}
@@ -72,23 +72,23 @@ due_yielding_for bench out answer bytes yields did complete = record {
 module _ (tells told : Bool) (b : BenchState) (o : SinkState) (inputs : InputsCall) (image : List ℕ) where
   pub ends_untaken : (r : Refusal) → IsTakeFault inputs (image ∷ []) r → CompareEnds image (bench_call tells b b) inputs (sink_call told o o) (refused r)
   ends_untaken out_of_memory is = record {
-    lawful = untaken_lawful tells told b o inputs DidNothing has_compare (image ∷ []) out_of_memory (did_nothing tells told b o) refl (λ name. refl) is;
+    lawful = untaken_lawful tells told b o inputs on_files has_compare (image ∷ []) out_of_memory (did_nothing tells told b o) refl (λ name. refl) is;
     leaves = leaves_early tells told b o out_of_memory refl;
     comes = tt;
     due = λ bytes tells' stands. due_yielding_for _ _ (refused out_of_memory) bytes refl (did_nothing tells told b o) refl;
   }
   ends_untaken (input_fault name) is = record {
-    lawful = untaken_lawful tells told b o inputs DidNothing has_compare (image ∷ []) (input_fault name) (did_nothing tells told b o) refl (λ name. refl) is;
+    lawful = untaken_lawful tells told b o inputs on_files has_compare (image ∷ []) (input_fault name) (did_nothing tells told b o) refl (λ name. refl) is;
     leaves = leaves_early tells told b o (input_fault name) refl;
     comes = tt;
     due = λ bytes tells' stands. due_yielding_for _ _ (refused (input_fault name)) bytes refl (did_nothing tells told b o) refl;
   }
   ends_untaken r is = absurd is
 
-  pub ends_too_long : (bytes : List ℕ) → IsFile inputs image bytes → inputs.after.faults ≡ inputs.before.faults → b.cell_count < length bytes
+  pub ends_too_long : (bytes : List ℕ) → IsFile inputs image bytes → NoneFailed inputs → b.cell_count < length bytes
       → CompareEnds image (bench_call tells b b) inputs (sink_call told o o) (refused (image_too_long (length bytes) b.cell_count))
   ends_too_long bytes file same more = record {
-    lawful = plain_lawful tells told b o inputs DidNothing has_compare (image ∷ []) (image_too_long (length bytes) b.cell_count) (did_nothing tells told b o) refl same refl;
+    lawful = plain_lawful tells told b o inputs on_files has_compare (image ∷ []) (image_too_long (length bytes) b.cell_count) (did_nothing tells told b o) refl same refl;
     leaves = leaves_early tells told b o (image_too_long (length bytes) b.cell_count) refl;
     comes = record { bytes = bytes; file = file; holds = record { count_is = refl; cells_are = refl; more = more } };
     due = λ other tells' stands.
@@ -107,7 +107,7 @@ comes_compared bench inputs image (refused (image_too_long count cells)) given =
 comes_compared bench inputs image answer given = given
 
 pub ends_compared : (bench : BenchCall) (inputs : InputsCall) (out : SinkCall) (image bytes : List ℕ) → IsFile inputs image bytes
-    → inputs.after.faults ≡ inputs.before.faults → length bytes ≤ bench.before.cell_count → (answer : Answer)
+    → NoneFailed inputs → length bytes ≤ bench.before.cell_count → (answer : Answer)
     → Compares bench out (CellsAre bench bytes) (DiffersFrom bench bytes) answer → CompareEnds image bench inputs out answer
 ends_compared bench inputs out image bytes file same fits answer compares = record {
   lawful = compared_lawful bench inputs out has_compare (image ∷ []) (CellsAre bench bytes) (DiffersFrom bench bytes) answer refl

@@ -4,9 +4,9 @@ use Rattle.bench_model.specs.State.{BenchState, cells_half}
 use Rattle.bench_model.proofs.Moments.{adds_nothing_here, file_stays_here, cells_stay_here}
 use Rattle.outside_io.specs.State.{SinkState}
 use Rattle.report_text.specs.Refusal.{Refusal, store_fault, device_fault, output_fault, differs}
-use Rattle.command_files.specs.Inputs.{InputsCall}
+use Rattle.command_files.specs.Inputs.{InputsCall, NoneFailed}
 use Rattle.command_answers.specs.Call.{BenchCall, SinkCall, Answer, done, refused, bench_call, sink_call}
-use Rattle.command_answers.specs.Answered.{input, store, device, output, fault_in, yields, DidNothing, StandsEarly, IsOf, EndsLawfully}
+use Rattle.command_answers.specs.Answered.{input, store, device, output, fault_in, yields, StandsEarly, IsOf, EndsLawfully, on_files}
 use Rattle.command_answers.proofs.AnswerLemmas.{unraised, never_store}
 use Rattle.flm_cli.specs.Comparison.{ComparisonLeaves, Found, Compares, IsCompared, IsDue}
 
@@ -45,18 +45,19 @@ never_input A D answer found = found_cases A D (λ a. fault_in a ≡ Some input 
     (λ is. let same : output ≡ input = cc in cc) (λ at wanted byte is. cc) answer found
 
 pub compared_lawful : (bench : BenchCall) (inputs : InputsCall) (out : SinkCall) (has : Refusal → Bool) (names : List (List ℕ)) (Agrees : Type 0)
-    (Differs : ℕ → ℕ → ℕ → Type 0) (answer : Answer) → has store_fault ≡ false → IsOf has answer → inputs.after.faults ≡ inputs.before.faults → Compares bench out Agrees Differs answer
-    → EndsLawfully DidNothing bench inputs out has names answer
+    (Differs : ℕ → ℕ → ℕ → Type 0) (answer : Answer) → has store_fault ≡ false → IsOf has answer → NoneFailed inputs → Compares bench out Agrees Differs answer
+    → EndsLawfully on_files bench inputs out has names answer
 compared_lawful bench inputs out has names A D answer none kind same compares = record {
   kind = kind;
   counts = record {
-    inputs_count = unraised inputs.before.faults inputs.after.faults input answer same (never_input A D answer compares.found);
+    inputs_count = unraised inputs.before.faults inputs.after.faults input answer same.faults (never_input A D answer compares.found);
     store_count = unraised bench.before.store_faults bench.after.store_faults store answer compares.leaves.file.faults (never_store has none answer kind);
     device_count = compares.device_count;
     out_count = compares.out_count;
   };
-  stands = found_cases A D (λ a. StandsEarly DidNothing bench out a) tt tt tt (λ at wanted byte. tt) answer compares.found;
+  stands = found_cases A D (λ a. StandsEarly on_files bench out a) tt tt tt (λ at wanted byte. tt) answer compares.found;
   untaken = λ name is. absurd (never_input A D answer compares.found (ap fault_in is));
+  none_failed = λ told no. same.failed told;
 }
 
 -- each answer comes where it is due, since the cells don't both agree and differ, and differ first at one place

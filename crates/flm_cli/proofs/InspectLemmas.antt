@@ -7,10 +7,10 @@ use Rattle.flm_descriptor.specs.Shown.{Shown}
 use Rattle.flm_descriptor.specs.declared.fault.FlmFault.{FlmFault}
 use Rattle.report_text.specs.Inspection.{inspection_text}
 use Rattle.report_text.specs.Refusal.{Refusal, out_of_memory, input_fault, flm_refused, output_fault}
-use Rattle.command_files.specs.Inputs.{InputsCall, IsFile}
+use Rattle.command_files.specs.Inputs.{InputsCall, IsFile, NoneFailed}
 use Rattle.command_files.specs.Steps.{IsTakeFault}
 use Rattle.command_answers.specs.Call.{BenchCall, SinkCall, Answer, done, refused, bench_call, sink_call, TookAll, TookPart}
-use Rattle.command_answers.specs.Answered.{input, store, device, output, has_inspect, yields, DidNothing}
+use Rattle.command_answers.specs.Answered.{input, store, device, output, has_inspect, yields, DidNothing, on_files}
 use Rattle.flm_cli.specs.Inspect.{IsDueForFlm, InspectEnds}
 use Rattle.command_answers.proofs.AnswerLemmas.{did_nothing, untouched_here, plain_lawful, untaken_lawful, unraised, one_file}
 
@@ -20,26 +20,26 @@ due_yielding bench out answer bytes yields did = record { inspected = λ algorit
 module _ (tells told : Bool) (b : BenchState) (o : SinkState) (inputs : InputsCall) (flm : List ℕ) where
   pub ends_untaken : (r : Refusal) → IsTakeFault inputs (flm ∷ []) r → InspectEnds flm (bench_call tells b b) inputs (sink_call told o o) (refused r)
   ends_untaken out_of_memory is = record {
-    lawful = untaken_lawful tells told b o inputs DidNothing has_inspect (flm ∷ []) out_of_memory (did_nothing tells told b o) refl (λ name. refl) is;
+    lawful = untaken_lawful tells told b o inputs on_files has_inspect (flm ∷ []) out_of_memory (did_nothing tells told b o) refl (λ name. refl) is;
     untouched = untouched_here tells b;
     comes = record { taken = refl; faults = refl };
     due = λ bytes tells' stands. due_yielding _ _ (refused out_of_memory) bytes refl (did_nothing tells told b o);
   }
   ends_untaken (input_fault name) is = record {
-    lawful = untaken_lawful tells told b o inputs DidNothing has_inspect (flm ∷ []) (input_fault name) (did_nothing tells told b o) refl (λ name. refl) is;
+    lawful = untaken_lawful tells told b o inputs on_files has_inspect (flm ∷ []) (input_fault name) (did_nothing tells told b o) refl (λ name. refl) is;
     untouched = untouched_here tells b;
     comes = record { taken = refl; faults = refl };
     due = λ bytes tells' stands. due_yielding _ _ (refused (input_fault name)) bytes refl (did_nothing tells told b o);
   }
   ends_untaken r is = absurd is
 
-  pub ends_unread : inputs.after.faults ≡ inputs.before.faults → InspectEnds flm (bench_call tells b b) inputs (sink_call told o o) (refused out_of_memory)
+  pub ends_unread : NoneFailed inputs → InspectEnds flm (bench_call tells b b) inputs (sink_call told o o) (refused out_of_memory)
   ends_unread same = ends_untaken out_of_memory same
 
-  module _ (bytes : List ℕ) (file : IsFile inputs flm bytes) (same : inputs.after.faults ≡ inputs.before.faults) where
+  module _ (bytes : List ℕ) (file : IsFile inputs flm bytes) (same : NoneFailed inputs) where
     pub ends_refused : (fault : FlmFault) → flm_of bytes ≡ Err fault → InspectEnds flm (bench_call tells b b) inputs (sink_call told o o) (refused (flm_refused fault))
     ends_refused fault is = record {
-      lawful = plain_lawful tells told b o inputs DidNothing has_inspect (flm ∷ []) (flm_refused fault) (did_nothing tells told b o) refl same refl;
+      lawful = plain_lawful tells told b o inputs on_files has_inspect (flm ∷ []) (flm_refused fault) (did_nothing tells told b o) refl same refl;
       untouched = untouched_here tells b;
       comes = (record { bytes = bytes; file = file; refuses = is }, record { taken = refl; faults = refl });
       due = λ other tells' stands.
@@ -51,7 +51,7 @@ module _ (tells told : Bool) (b : BenchState) (o : SinkState) (inputs : InputsCa
 
 -- the algorithm's text was put, or a beginning of it
 module _ (tells : Bool) (b : BenchState) (inputs : InputsCall) (out : SinkCall) (flm bytes : List ℕ) (algorithm : Shown) (file : IsFile inputs flm bytes)
-    (same : inputs.after.faults ≡ inputs.before.faults) (is : IsFlm bytes algorithm) where
+    (same : NoneFailed inputs) (is : IsFlm bytes algorithm) where
   says_so : (answer : Answer) → ((fault : FlmFault) → flm_of bytes ≡ Err fault → ⊥) → (answer ≡ done) ⊎ (yields answer ≡ true)
       → (other : List ℕ) → IsTrue inputs.tells → inputs.before.stands flm ≡ Some other → IsDueForFlm (bench_call tells b b) out answer other
   says_so answer none due other tells' stands =
@@ -69,13 +69,14 @@ module _ (tells : Bool) (b : BenchState) (inputs : InputsCall) (out : SinkCall) 
     lawful = record {
       kind = tt;
       counts = record {
-        inputs_count = unraised inputs.before.faults inputs.after.faults input done same (λ its. cc);
+        inputs_count = unraised inputs.before.faults inputs.after.faults input done same.faults (λ its. cc);
         store_count = unraised b.store_faults b.store_faults store done refl (λ its. cc);
         device_count = unraised b.device_faults b.device_faults device done refl (λ its. cc);
         out_count = unraised out.before.faults out.after.faults output done prints.faults (λ its. cc);
       };
       stands = tt;
       untaken = λ name wrong. absurd (cc);
+      none_failed = λ told no. same.failed told;
     };
     untouched = untouched_here tells b;
     comes = record { algorithm = algorithm; is_algorithm = record { bytes = bytes; file = file; says = is }; prints = prints };
@@ -87,13 +88,14 @@ module _ (tells : Bool) (b : BenchState) (inputs : InputsCall) (out : SinkCall) 
     lawful = record {
       kind = refl;
       counts = record {
-        inputs_count = unraised inputs.before.faults inputs.after.faults input (refused output_fault) same (λ its. let wrong : output ≡ input = cc in cc);
+        inputs_count = unraised inputs.before.faults inputs.after.faults input (refused output_fault) same.faults (λ its. let wrong : output ≡ input = cc in cc);
         store_count = unraised b.store_faults b.store_faults store (refused output_fault) refl (λ its. let wrong : output ≡ store = cc in cc);
         device_count = unraised b.device_faults b.device_faults device (refused output_fault) refl (λ its. let wrong : output ≡ device = cc in cc);
         out_count = record { later = prints.later; only = λ its. prints.rose; answered = λ more. refl };
       };
       stands = tt;
       untaken = λ name wrong. absurd (cc);
+      none_failed = λ told no. same.failed told;
     };
     untouched = untouched_here tells b;
     comes = record { algorithm = algorithm; is_algorithm = record { bytes = bytes; file = file; says = is }; prints = prints };

@@ -15,12 +15,12 @@ use Rattle.report_text.specs.Plan.{plan_text}
 use Rattle.report_text.specs.Puts.{Puts}
 use Rattle.report_text.specs.Refusal.{Refusal, out_of_memory, input_fault, flm_refused, other_device, no_room, board_refused, image_refused, image_misplaced, cells_differ, device_fault, output_fault, differs}
 use Rattle.command_words.specs.Files.{FilesAsked, names_in}
-use Rattle.command_files.specs.Inputs.{InputsCall, FilesGiven, AreFiles}
+use Rattle.command_files.specs.Inputs.{InputsCall, FilesGiven, AreFiles, NoneFailed}
 use Rattle.command_files.specs.Files.{Aim, IsRefused}
 use Rattle.command_files.specs.Steps.{IsTakeFault, IsFilesRefusal, TookFiles, task_aim, IsTask}
 use Rattle.command_files.specs.declared.task.Task.{Task}
 use Rattle.command_answers.specs.Call.{BenchCall, SinkCall, Answer, done, refused, bench_call, sink_call}
-use Rattle.command_answers.specs.Answered.{input, store, device, output, fault_in, has_plan, yields, IsUnless, DidNothing, StandsEarly, IsOf, EndsLawfully}
+use Rattle.command_answers.specs.Answered.{input, store, device, output, fault_in, has_plan, yields, IsUnless, StandsEarly, IsOf, EndsLawfully, on_files}
 use Rattle.command_answers.specs.Reading.{ShowsFiles}
 use Rattle.job_commands.specs.Work.{layout_of}
 use Rattle.flm_cli.specs.Plan.{plan_for, text_for, text_of, PrintsText, PrintsNothing, PlanLeaves, IsPlanned, ShowsPlan, IsDueForPlan, PlanEnds}
@@ -44,18 +44,19 @@ module _ (bench : BenchCall) (out : SinkCall) (text : List ℕ → List ℕ) whe
   never_input answer printed = plan_cases (λ a. fault_in a ≡ Some input → ⊥) (λ is. cc) (λ is. cc) (λ is. let same : device ≡ input = cc in cc)
       (λ is. let same : output ≡ input = cc in cc) answer printed
 
-  planned_lawful : (inputs : InputsCall) (names : List (List ℕ)) (answer : Answer) → inputs.after.faults ≡ inputs.before.faults
-      → PlansCells bench out text answer → EndsLawfully DidNothing bench inputs out has_plan names answer
+  planned_lawful : (inputs : InputsCall) (names : List (List ℕ)) (answer : Answer) → NoneFailed inputs
+      → PlansCells bench out text answer → EndsLawfully on_files bench inputs out has_plan names answer
   planned_lawful inputs names answer same plans = record {
     kind = plan_cases (λ a. IsOf has_plan a) tt refl refl refl answer plans.printed;
     counts = record {
-      inputs_count = unraised inputs.before.faults inputs.after.faults input answer same (never_input answer plans.printed);
+      inputs_count = unraised inputs.before.faults inputs.after.faults input answer same.faults (never_input answer plans.printed);
       store_count = unraised bench.before.store_faults bench.after.store_faults store answer plans.leaves.file.faults (never_store has_plan refl answer (plan_cases (λ a. IsOf has_plan a) tt refl refl refl answer plans.printed));
       device_count = plans.device_count;
       out_count = plans.out_count;
     };
-    stands = plan_cases (λ a. StandsEarly DidNothing bench out a) tt tt tt tt answer plans.printed;
+    stands = plan_cases (λ a. PrintsNothing out a → StandsEarly on_files bench out a) (λ nothing. tt) (λ nothing. nothing) (λ nothing. tt) (λ nothing. tt) answer plans.printed plans.leaves.prints;
     untaken = λ name is. absurd (never_input answer plans.printed (ap fault_in is));
+    none_failed = λ told no. same.failed told;
   }
 
   -- with every answer that which is to be printed is
@@ -184,25 +185,25 @@ module _ (tells told : Bool) (b : BenchState) (o : SinkState) (inputs : InputsCa
 
   ends_untaken : (r : Refusal) → IsTakeFault inputs (names_in asked) r → Ends r
   ends_untaken out_of_memory is = record {
-    lawful = untaken_lawful tells told b o inputs DidNothing has_plan (names_in asked) out_of_memory (did_nothing tells told b o) refl (λ name. refl) is;
+    lawful = untaken_lawful tells told b o inputs on_files has_plan (names_in asked) out_of_memory (did_nothing tells told b o) refl (λ name. refl) is;
     leaves = leaves out_of_memory refl;
     files = answers_yielding Bench inputs Out asked (Holds out_of_memory) (Goes out_of_memory) (refused out_of_memory) refl (did_nothing tells told b o)
         (due_yielding out_of_memory refl refl) tt;
   }
   ends_untaken (input_fault name) is = record {
-    lawful = untaken_lawful tells told b o inputs DidNothing has_plan (names_in asked) (input_fault name) (did_nothing tells told b o) refl (λ name. refl) is;
+    lawful = untaken_lawful tells told b o inputs on_files has_plan (names_in asked) (input_fault name) (did_nothing tells told b o) refl (λ name. refl) is;
     leaves = leaves (input_fault name) refl;
     files = answers_yielding Bench inputs Out asked (Holds (input_fault name)) (Goes (input_fault name)) (refused (input_fault name)) refl
         (did_nothing tells told b o) (due_yielding (input_fault name) refl refl) tt;
   }
   ends_untaken r is = absurd is
 
-  module _ (files : FilesGiven) (are : AreFiles inputs asked files) (same : inputs.after.faults ≡ inputs.before.faults) where
+  module _ (files : FilesGiven) (are : AreFiles inputs asked files) (same : NoneFailed inputs) where
     -- the files are refused
     ends_refused : (r : Refusal) → has_plan r ≡ true → is_early r ≡ true → fault_in (refused r) ≡ None → IsRefused asked files r
         → ShowsFiles inputs asked (Holds r) (refused r) → Ends r
     ends_refused r has early no_fault is shows = record {
-      lawful = plain_lawful tells told b o inputs DidNothing has_plan (names_in asked) r (did_nothing tells told b o) has same no_fault;
+      lawful = plain_lawful tells told b o inputs on_files has_plan (names_in asked) r (did_nothing tells told b o) has same no_fault;
       leaves = leaves r early;
       files = answers_refused Bench inputs Out asked (Holds r) (Goes r) r files are is shows;
     }
@@ -229,7 +230,7 @@ module _ (tells told : Bool) (b : BenchState) (o : SinkState) (inputs : InputsCa
         let r = cells_differ task.device.size b.cell_count in
         let aim = task_aim task is.region in
         record {
-          lawful = plain_lawful tells told b o inputs DidNothing has_plan (names_in asked) r (did_nothing tells told b o) refl same refl;
+          lawful = plain_lawful tells told b o inputs on_files has_plan (names_in asked) r (did_nothing tells told b o) refl same refl;
           leaves = leaves r refl;
           files = answers_worked Bench inputs Out asked (Holds r) (Goes r) (refused r) files aim are is.is_aim
               (record {
@@ -246,7 +247,7 @@ module _ (tells told : Bool) (b : BenchState) (o : SinkState) (inputs : InputsCa
 
   -- the files can't be taken, or are refused
   pub ends_early : (r : Refusal) → IsTakeFault inputs (names_in asked) r ⊎ TookFiles inputs asked (λ files. IsFilesRefusal asked files r) → Ends r
-  ends_early r is = ⊎_elim (λ untaken. ends_untaken r untaken) (λ took. ends_unread took.given.files took.given.are_files took.faults r took.given.holds) is
+  ends_early r is = ⊎_elim (λ untaken. ends_untaken r untaken) (λ took. ends_unread took.given.files took.given.are_files took.none_failed r took.given.holds) is
 
 -- The end of the work on the cells.
 
@@ -288,7 +289,7 @@ module _ (bench : BenchCall) (inputs : InputsCall) (out : SinkCall) (asked : Fil
         subst (λ (a : flm.Shown). PrintsText out (text_of aim a bench.after.cells) answer) same (prints_due bench out text answer nothing printed told);
   }
 
-  pub ends_planned : inputs.after.faults ≡ inputs.before.faults → (answer : Answer)
+  pub ends_planned : NoneFailed inputs → (answer : Answer)
       → PlansCells bench out (text_for task.board.weights (flm.shown task.algorithm) task.image task.device.base) answer → PlanEnds asked bench inputs out answer
   ends_planned same answer plans =
       let its = subst (λ (n : ℕ). PlansCells bench out (text_for task.board.weights (flm.shown task.algorithm) task.image n) answer) is.base_is plans in

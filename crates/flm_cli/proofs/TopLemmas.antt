@@ -10,7 +10,7 @@ use Rattle.report_text.specs.Refusal.{Refusal, out_of_memory}
 use Rattle.report_text.specs.Refusal as refusal
 use Rattle.command_words.specs.Words.{Command, program, resume, revert, plan, verify, compare, status, inspect, demo, Asked}
 use Rattle.command_words.proofs.WordsLemmas.{one_asked}
-use Rattle.command_files.specs.Inputs.{InputsCall, TakesNothing, inputs_call}
+use Rattle.command_files.specs.Inputs.{InputsCall, TakesNothing, NoneFailed, inputs_call}
 use Rattle.command_answers.specs.Call.{BenchCall, SinkCall, Answer, refused, bench_call, sink_call}
 use Rattle.command_answers.proofs.AnswerLemmas.{did_nothing}
 use Rattle.job_commands.proofs.GoOnLemmas as go_on
@@ -19,6 +19,7 @@ use Rattle.job_file.specs.declared.fault.OpenFault.TheVariants as opening
 use Rattle.job_status.specs.Status.{StatusEnds}
 use Rattle.job_status.proofs.StatusLemmas.{ends_refused}
 use Rattle.demo_job.specs.Command.{DemoEnds}
+use Rattle.demo_job.proofs.EndLemmas.{demo_ends}
 use Rattle.flm_cli.specs.Answers.{EndsUnfit, EndsOf}
 use Rattle.flm_cli.proofs.CompareLemmas as comparison
 use Rattle.flm_cli.proofs.InspectLemmas as inspection
@@ -43,7 +44,10 @@ module _ (tells given told : Bool) (b : BenchState) (i : InputsState) (o : SinkS
   Out = sink_call told o o
 
   took_nothing : TakesNothing Inputs
-  took_nothing = record { stands = λ name. refl; faults = refl }
+  took_nothing = record { stands = λ name. refl; faults = refl; failed = refl }
+
+  none_failed : NoneFailed Inputs
+  none_failed = record { faults = refl; failed = λ told. refl }
 
   pub unfit : EndsUnfit Bench Inputs Out (refused refusal.usage)
   unfit = record { answer_is = inl refl; did = did_nothing tells told b o; takes = took_nothing }
@@ -58,18 +62,18 @@ module _ (tells given told : Bool) (b : BenchState) (i : InputsState) (o : SinkS
   demo_unbegun : (seed : ℕ) → DemoEnds seed Bench Inputs Out (refused out_of_memory)
   demo_unbegun seed =
       let did = did_nothing tells told b o in
-      record { untouched = did.untouched; takes = took_nothing; says = inl (record { answer_is = refl; prints = did.prints }) }
+      demo_ends Bench Inputs Out did.untouched took_nothing seed (refused out_of_memory) (inl (record { answer_is = refl; prints = did.prints }))
 
   -- want of memory for the words, whatever they ask for
   pub ends_unread : (IsTrue tells → length b.cells ≡ b.cell_count) → (IsTrue tells → (x : List ℕ) → left (cells_half b) x → SameOutside b.operation b.cells x)
       → (words : List (List ℕ)) → (asked : Option Command) → Asked words asked → EndsOf asked Bench Inputs Out (refused out_of_memory)
   ends_unread many exact words None given = record { answer_is = inr refl; did = did_nothing tells told b o; takes = took_nothing }
-  ends_unread many exact words (Some (program files)) given = begin.ends_untaken tells told b o Inputs files many exact out_of_memory refl
+  ends_unread many exact words (Some (program files)) given = begin.ends_untaken tells told b o Inputs files many exact out_of_memory none_failed
   ends_unread many exact words (Some resume) given = go_on.ends_unread tells told b o Inputs New many exact took_nothing
   ends_unread many exact words (Some revert) given = go_on.ends_unread tells told b o Inputs Old many exact took_nothing
-  ends_unread many exact words (Some (plan files)) given = planning.ends_early tells told b o Inputs files out_of_memory (inl refl)
-  ends_unread many exact words (Some (verify files)) given = verification.ends_untaken tells told b o Inputs files out_of_memory refl
-  ends_unread many exact words (Some (compare image)) given = comparison.ends_untaken tells told b o Inputs image out_of_memory refl
+  ends_unread many exact words (Some (plan files)) given = planning.ends_early tells told b o Inputs files out_of_memory (inl none_failed)
+  ends_unread many exact words (Some (verify files)) given = verification.ends_untaken tells told b o Inputs files out_of_memory none_failed
+  ends_unread many exact words (Some (compare image)) given = comparison.ends_untaken tells told b o Inputs image out_of_memory none_failed
   ends_unread many exact words (Some status) given = status_unread
-  ends_unread many exact words (Some (inspect flm)) given = inspection.ends_untaken tells told b o Inputs flm out_of_memory refl
+  ends_unread many exact words (Some (inspect flm)) given = inspection.ends_untaken tells told b o Inputs flm out_of_memory none_failed
   ends_unread many exact words (Some (demo seed)) given = demo_unbegun seed

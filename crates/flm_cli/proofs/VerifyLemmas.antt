@@ -8,14 +8,14 @@ use Rattle.flm_descriptor.specs.Shown as flm
 use Rattle.flm_descriptor.specs.declared.fault.FlmFault.{FlmFault}
 use Rattle.report_text.specs.Refusal.{Refusal, out_of_memory, input_fault, flm_refused, other_device, no_room, board_refused, image_refused, image_misplaced, cells_differ, device_fault, output_fault, differs}
 use Rattle.command_words.specs.Files.{FilesAsked, names_in}
-use Rattle.command_files.specs.Inputs.{InputsCall, FilesGiven, AreFiles}
+use Rattle.command_files.specs.Inputs.{InputsCall, FilesGiven, AreFiles, NoneFailed}
 use Rattle.command_files.specs.Files.{algorithm_of, Aim, IsAim, IsRefused}
 use Rattle.command_files.specs.Steps.{IsTakeFault, IsWanted, IsFilesRefusal, aim_of}
 use Rattle.command_files.specs.declared.wanted.Wanted.{Wanted}
 use Rattle.image_set.proofs.UnionLemmas.{below_end}
 use Rattle.command_files.proofs.ImageLemmas.{maximal_union}
 use Rattle.command_answers.specs.Call.{BenchCall, SinkCall, Answer, done, refused, bench_call, sink_call}
-use Rattle.command_answers.specs.Answered.{has_verify, yields, DidNothing, IsOf}
+use Rattle.command_answers.specs.Answered.{has_verify, yields, DidNothing, IsOf, on_files}
 use Rattle.flm_cli.specs.Comparison as comparison
 use Rattle.flm_cli.specs.Comparison.{Compares}
 use Rattle.command_answers.specs.Reading.{ShowsFiles, AnswersFiles}
@@ -140,22 +140,22 @@ module _ (tells told : Bool) (b : BenchState) (o : SinkState) (inputs : InputsCa
 
   pub ends_untaken : (r : Refusal) → IsTakeFault inputs (names_in asked) r → Ends r
   ends_untaken out_of_memory is = record {
-    lawful = untaken_lawful tells told b o inputs DidNothing has_verify (names_in asked) out_of_memory (did_nothing tells told b o) refl (λ name. refl) is;
+    lawful = untaken_lawful tells told b o inputs on_files has_verify (names_in asked) out_of_memory (did_nothing tells told b o) refl (λ name. refl) is;
     leaves = leaves_early tells told b o out_of_memory refl;
     files = files_yielding (bench_call tells b b) inputs (sink_call told o o) asked (refused out_of_memory) refl (did_nothing tells told b o) refl tt;
   }
   ends_untaken (input_fault name) is = record {
-    lawful = untaken_lawful tells told b o inputs DidNothing has_verify (names_in asked) (input_fault name) (did_nothing tells told b o) refl (λ name. refl) is;
+    lawful = untaken_lawful tells told b o inputs on_files has_verify (names_in asked) (input_fault name) (did_nothing tells told b o) refl (λ name. refl) is;
     leaves = leaves_early tells told b o (input_fault name) refl;
     files = files_yielding (bench_call tells b b) inputs (sink_call told o o) asked (refused (input_fault name)) refl (did_nothing tells told b o) refl tt;
   }
   ends_untaken r is = absurd is
 
-  module _ (files : FilesGiven) (none : asked.flm ≡ None) (are : AreFiles inputs asked files) (same : inputs.after.faults ≡ inputs.before.faults) where
+  module _ (files : FilesGiven) (none : asked.flm ≡ None) (are : AreFiles inputs asked files) (same : NoneFailed inputs) where
     pub ends_unread : (r : Refusal) → IsFilesRefusal asked files r → Ends r
     ends_unread out_of_memory is = ends_untaken out_of_memory same
     ends_unread (board_refused fault) is = record {
-      lawful = plain_lawful tells told b o inputs DidNothing has_verify (names_in asked) (board_refused fault) (did_nothing tells told b o) refl same refl;
+      lawful = plain_lawful tells told b o inputs on_files has_verify (names_in asked) (board_refused fault) (did_nothing tells told b o) refl same refl;
       leaves = leaves_early tells told b o (board_refused fault) refl;
       files = files_refused _ inputs _ asked (board_refused fault) files are is (record { files = files; are_files = are; holds = is });
     }
@@ -163,12 +163,12 @@ module _ (tells told : Bool) (b : BenchState) (o : SinkState) (inputs : InputsCa
     ends_unread (other_device base size) is = absurd (no_flm_unfit files.flm is.algorithm (no_flm inputs asked files none are) is.is_algorithm)
     ends_unread (no_room need have) is = absurd (no_flm_unfit files.flm is.algorithm (no_flm inputs asked files none are) is.is_algorithm)
     ends_unread (image_refused name fault) is = record {
-      lawful = plain_lawful tells told b o inputs DidNothing has_verify (names_in asked) (image_refused name fault) (did_nothing tells told b o) refl same refl;
+      lawful = plain_lawful tells told b o inputs on_files has_verify (names_in asked) (image_refused name fault) (did_nothing tells told b o) refl same refl;
       leaves = leaves_early tells told b o (image_refused name fault) refl;
       files = files_refused _ inputs _ asked (image_refused name fault) files are is (record { files = files; are_files = are; holds = is });
     }
     ends_unread (image_misplaced fault) is = record {
-      lawful = plain_lawful tells told b o inputs DidNothing has_verify (names_in asked) (image_misplaced fault) (did_nothing tells told b o) refl same refl;
+      lawful = plain_lawful tells told b o inputs on_files has_verify (names_in asked) (image_misplaced fault) (did_nothing tells told b o) refl same refl;
       leaves = leaves_early tells told b o (image_misplaced fault) refl;
       files = files_refused _ inputs _ asked (image_misplaced fault) files are is (record { files = files; are_files = are; holds = is });
     }
@@ -179,7 +179,7 @@ module _ (tells told : Bool) (b : BenchState) (o : SinkState) (inputs : InputsCa
     ends_other_size wanted is unequal =
         let aim = aim_of wanted is.region in
         record {
-          lawful = plain_lawful tells told b o inputs DidNothing has_verify (names_in asked) (cells_differ wanted.device.size b.cell_count) (did_nothing tells told b o) refl same refl;
+          lawful = plain_lawful tells told b o inputs on_files has_verify (names_in asked) (cells_differ wanted.device.size b.cell_count) (did_nothing tells told b o) refl same refl;
           leaves = leaves_early tells told b o (cells_differ wanted.device.size b.cell_count) refl;
           files = files_worked _ inputs _ asked (refused (cells_differ wanted.device.size b.cell_count)) files aim are is.is_aim
               (record {
@@ -205,7 +205,7 @@ worked_shows bench inputs asked files aim are is (refused (differs at wanted fou
 worked_shows bench inputs asked files aim are is (refused r) compared = absurd compared.found
 
 pub ends_compared : (bench : BenchCall) (inputs : InputsCall) (out : SinkCall) (asked : FilesAsked) (files : FilesGiven) (wanted : Wanted) → AreFiles inputs asked files
-    → inputs.after.faults ≡ inputs.before.faults → IsWanted asked.raw_at files wanted → wanted.device.size ≡ bench.before.cell_count → (answer : Answer)
+    → NoneFailed inputs → IsWanted asked.raw_at files wanted → wanted.device.size ≡ bench.before.cell_count → (answer : Answer)
     → Compares bench out (AgreesWith bench wanted.device.base wanted.image) (DiffersAt bench wanted.device.base wanted.image) answer
     → VerifyEnds asked bench inputs out answer
 ends_compared bench inputs out asked files wanted are same is size answer compares =

@@ -4,7 +4,7 @@ use Rattle.report_text.specs.Refusal.{out_of_memory, input_fault, image_too_long
 use Rattle.readback.specs.Difference.{IsFirstDifference}
 use Rattle.command_files.specs.Inputs.{InputsCall, IsFile}
 use Rattle.command_answers.specs.Call.{BenchCall, SinkCall, Answer, refused}
-use Rattle.command_answers.specs.Answered.{has_compare, Refuses, DidNothing, EndsLawfully}
+use Rattle.command_answers.specs.Answered.{has_compare, Refuses, DidNothing, EndsLawfully, on_files}
 use Rattle.flm_cli.specs.Comparison.{ComparisonLeaves, Found, IsDue}
 
 -- each byte of the file is the cell at its place, from place 0 on
@@ -47,7 +47,7 @@ pub record IsDueForFile (bench : BenchCall) (out : SinkCall) (answer : Answer) (
 
 -- The work of `compare`: all but the status and the line on `err`.
 pub record CompareEnds (image : List ℕ) (bench : BenchCall) (inputs : InputsCall) (out : SinkCall) (answer : Answer) : Type 0 where
-  pub lawful : EndsLawfully DidNothing bench inputs out has_compare (image ∷ []) answer
+  pub lawful : EndsLawfully on_files bench inputs out has_compare (image ∷ []) answer
   pub leaves : ComparisonLeaves bench out answer
   pub comes : ComesOfFile bench inputs image answer
   pub due : (bytes : List ℕ) → IsTrue inputs.tells → inputs.before.stands image ≡ Some bytes → IsDueForFile bench out answer bytes

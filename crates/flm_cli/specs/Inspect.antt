@@ -7,7 +7,7 @@ use Rattle.report_text.specs.Inspection.{inspection_text}
 use Rattle.report_text.specs.Refusal.{out_of_memory, input_fault, flm_refused, output_fault}
 use Rattle.command_files.specs.Inputs.{InputsCall, IsFile}
 use Rattle.command_answers.specs.Call.{BenchCall, SinkCall, Answer, done, refused, TookNothing, TookAll, TookPart, IsUntouched}
-use Rattle.command_answers.specs.Answered.{has_inspect, IsUnless, Refuses, DidNothing, EndsLawfully}
+use Rattle.command_answers.specs.Answered.{has_inspect, IsUnless, Refuses, DidNothing, EndsLawfully, on_files}
 
 -- The bytes under the name are the FLM file of this algorithm.
 pub record IsAlgorithm (inputs : InputsCall) (flm : List ℕ) (algorithm : Shown) : Type 0 where
@@ -49,7 +49,7 @@ pub record IsDueForFlm (bench : BenchCall) (out : SinkCall) (answer : Answer) (b
 
 -- The work of `inspect`: all but the status and the line on `err`. The bench is as it was.
 pub record InspectEnds (flm : List ℕ) (bench : BenchCall) (inputs : InputsCall) (out : SinkCall) (answer : Answer) : Type 0 where
-  pub lawful : EndsLawfully DidNothing bench inputs out has_inspect (flm ∷ []) answer
+  pub lawful : EndsLawfully on_files bench inputs out has_inspect (flm ∷ []) answer
   pub untouched : IsUntouched bench
   pub comes : ComesOfFlm inputs out flm answer
   pub due : (bytes : List ℕ) → IsTrue inputs.tells → inputs.before.stands flm ≡ Some bytes → IsDueForFlm bench out answer bytes

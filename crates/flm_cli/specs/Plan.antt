@@ -13,7 +13,7 @@ use Rattle.command_words.specs.Files.{FilesAsked, names_in}
 use Rattle.command_files.specs.Inputs.{InputsCall}
 use Rattle.command_files.specs.Files.{Aim}
 use Rattle.command_answers.specs.Call.{BenchCall, SinkCall, Answer, done, refused, TookNothing, TookAll, TookPart}
-use Rattle.command_answers.specs.Answered.{has_plan, IsUnless, Refuses, DidNothing, EndsLawfully}
+use Rattle.command_answers.specs.Answered.{has_plan, IsUnless, Refuses, DidNothing, EndsLawfully, on_files}
 use Rattle.job_commands.specs.Work.{layout_of}
 use Rattle.flm_cli.specs.Comparison.{Stands}
 use Rattle.command_answers.specs.Reading.{AnswersFiles}
@@ -85,6 +85,6 @@ pub record IsDueForPlan (bench : BenchCall) (out : SinkCall) (answer : Answer) (
 
 -- The work of `plan`: all but the status and the line on `err`.
 pub record PlanEnds (asked : FilesAsked) (bench : BenchCall) (inputs : InputsCall) (out : SinkCall) (answer : Answer) : Type 0 where
-  pub lawful : EndsLawfully DidNothing bench inputs out has_plan (names_in asked) answer
+  pub lawful : EndsLawfully on_files bench inputs out has_plan (names_in asked) answer
   pub leaves : PlanLeaves bench out answer
   pub files : AnswersFiles bench inputs out asked answer (λ files. ShowsPlan bench out answer) (λ files. IsDueForPlan bench out answer)

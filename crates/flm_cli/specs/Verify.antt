@@ -6,7 +6,7 @@ use Rattle.command_words.specs.Files.{FilesAsked, names_in}
 use Rattle.command_files.specs.Inputs.{InputsCall}
 use Rattle.command_files.specs.Files.{Aim}
 use Rattle.command_answers.specs.Call.{BenchCall, SinkCall, Answer, refused}
-use Rattle.command_answers.specs.Answered.{has_verify, Refuses, DidNothing, EndsLawfully}
+use Rattle.command_answers.specs.Answered.{has_verify, Refuses, DidNothing, EndsLawfully, on_files}
 use Rattle.flm_cli.specs.Comparison.{ComparisonLeaves, Found, IsDue}
 use Rattle.command_answers.specs.Reading.{AnswersFiles}
 
@@ -65,6 +65,6 @@ pub record IsDueForImage (bench : BenchCall) (out : SinkCall) (answer : Answer) 
 
 -- The work of `verify`: all but the status and the line on `err`.
 pub record VerifyEnds (asked : FilesAsked) (bench : BenchCall) (inputs : InputsCall) (out : SinkCall) (answer : Answer) : Type 0 where
-  pub lawful : EndsLawfully DidNothing bench inputs out has_verify (names_in asked) answer
+  pub lawful : EndsLawfully on_files bench inputs out has_verify (names_in asked) answer
   pub leaves : ComparisonLeaves bench out answer
   pub files : AnswersFiles bench inputs out asked answer (λ files. Shows bench answer) (λ files. IsDueForImage bench out answer)

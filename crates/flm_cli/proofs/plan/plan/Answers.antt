@@ -35,7 +35,7 @@ returns-then-cells-task g c =
     let o = g.O.Sink.state c.args.out.now in
     let took = c.in_ok-task.ensures.reads in
     let size = c.in_ok-task.task.device.size in
-    let ends = ends_other_size g.B.Bench.tells g.O.Sink.tells b o inputs asked took.given.files took.given.are_files took.faults c.in_ok-task.task took.given.holds
+    let ends = ends_other_size g.B.Bench.tells g.O.Sink.tells b o inputs asked took.given.files took.given.are_files took.none_failed c.in_ok-task.task took.given.holds
     (λ same. c.if-cells-task.true (c.cells_len-cells.ensures ∙ sym same)) in
     subst (λ (n : ℕ). PlanEnds asked (bench_call g.B.Bench.tells b b) inputs (sink_call g.O.Sink.tells o o) (refused (cells_differ size n)))
     (sym c.cells_len-cells.ensures) ends
@@ -47,4 +47,4 @@ returns g c =
     let out = sink_call g.O.Sink.tells (g.O.Sink.state c.args.out.now) (g.O.Sink.state c.print_plan.new.out) in
     let took = c.in_ok-task.ensures.reads in
     ends_planned bench inputs out (files_of c.args.names.now) took.given.files took.given.are_files c.in_ok-task.task took.given.holds
-    (sym took.given.holds.size_is ∙ (sym c.if-cells-task.false ∙ c.cells_len-cells.ensures)) took.faults (answer_of c.print_plan.result) c.print_plan.ensures
+    (sym took.given.holds.size_is ∙ (sym c.if-cells-task.false ∙ c.cells_len-cells.ensures)) took.none_failed (answer_of c.print_plan.result) c.print_plan.ensures

@@ -7,6 +7,7 @@ use Rattle.command_files.specs.Inputs.{inputs_call}
 use Rattle.command_answers.specs.Call.{bench_call, sink_call}
 use Rattle.command_answers.specs.Shown.{answer_of}
 use Rattle.command_answers.proofs.AnswerLemmas.{untouched_here}
+use Rattle.demo_job.proofs.EndLemmas.{demo_ends}
 use Rattle.flm_cli.specs.Answers.{EndsOf}
 use Rattle.flm_cli.proofs.TopLemmas.{ends_as, unfit}
 use Rattle.flm_cli.proofs.top.run.Goals as goal
@@ -32,24 +33,27 @@ pub returns-in-Some-Resume : goal.returns-in-Some-Resume
 returns-in-Some-Resume g c = λ asked given.
     let i = g.I.Inputs.state c.args.inputs.now in
     ends_as c.args.words.now (Some resume) asked _ _ _ _ (rw c.in-Some-Resume.field-0-is at (c.in-Some-Resume.ensures c.args.words.now c.requires.read)) given
-    (c.go_on.ensures (inputs_call g.I.Inputs.tells i i) (record { stands = λ name. refl; faults = refl }))
+    (c.go_on.ensures (inputs_call g.I.Inputs.tells i i) (record { stands = λ name. refl; faults = refl; failed = refl }))
 
 pub returns-in-Some-Revert : goal.returns-in-Some-Revert
 returns-in-Some-Revert g c = λ asked given.
     let i = g.I.Inputs.state c.args.inputs.now in
     ends_as c.args.words.now (Some revert) asked _ _ _ _ (rw c.in-Some-Revert.field-0-is at (c.in-Some-Revert.ensures c.args.words.now c.requires.read)) given
-    (c.go_on-in-Some-Revert.ensures (inputs_call g.I.Inputs.tells i i) (record { stands = λ name. refl; faults = refl }))
+    (c.go_on-in-Some-Revert.ensures (inputs_call g.I.Inputs.tells i i) (record { stands = λ name. refl; faults = refl; failed = refl }))
 
 pub returns-in-Some-Status : goal.returns-in-Some-Status
 returns-in-Some-Status g c = λ asked given.
     let i = g.I.Inputs.state c.args.inputs.now in
     ends_as c.args.words.now (Some status) asked _ _ _ _ (rw c.in-Some-Status.field-0-is at (c.in-Some-Status.ensures c.args.words.now c.requires.read)) given
-    (c.status.ensures (inputs_call g.I.Inputs.tells i i) (record { stands = λ name. refl; faults = refl }))
+    (c.status.ensures (inputs_call g.I.Inputs.tells i i) (record { stands = λ name. refl; faults = refl; failed = refl }))
 
 pub returns-in-Some-Demo : goal.returns-in-Some-Demo
 returns-in-Some-Demo g c = λ asked given.
     ends_as c.args.words.now (Some (demo c.in-Some-Demo.seed)) asked _ _ _ _ (rw c.in-Some-Demo.field-0-is at (c.in-Some-Demo.ensures c.args.words.now c.requires.read)) given
-    (record { untouched = untouched_here g.B.Bench.tells (g.B.Bench.state c.args.bench.now); takes = record { stands = λ name. refl; faults = refl }; says = c.demo.ensures })
+    (demo_ends (bench_call g.B.Bench.tells (g.B.Bench.state c.args.bench.now) (g.B.Bench.state c.args.bench.now))
+    (inputs_call g.I.Inputs.tells (g.I.Inputs.state c.args.inputs.now) (g.I.Inputs.state c.args.inputs.now))
+    (sink_call g.O.Sink.tells (g.O.Sink.state c.args.out.now) (g.O.Sink.state c.demo.new.out))
+    (untouched_here g.B.Bench.tells (g.B.Bench.state c.args.bench.now)) (record { stands = λ name. refl; faults = refl; failed = refl }) c.in-Some-Demo.seed (answer_of c.demo.result) c.demo.ensures)
 
 pub plan-requires-clause-has_flm : goal.plan-requires-clause-has_flm
 plan-requires-clause-has_flm g c =
