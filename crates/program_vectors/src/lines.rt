@@ -4,7 +4,8 @@
 //! - `text NAME LINE|LINE..` or `file NAME PATH`: what stands under a name. `forge NAME KIND BOARD PAGE TIME`: the FLM file of an algorithm A1
 //!   to A7 for the board under a name, with pages of so many bytes and as many milliseconds for a sector's erasure.
 //! - `cells COUNT`: so many blank cells. `count LEN` sets each of the first to its place modulo 256. `job BYTES`: the job file.
-//! - `fail cells N`, `fail put N`: the call on the cells or the put on standard output of this number fails.
+//! - `fail file N`, `fail cells N`, `fail put N`: the call on the job file, the call on the cells or the put on standard output of this number
+//!   fails.
 //! - `run WORDS`: a call on the row's bench. It prints what was put, the status, the cells that aren't as the row began, and the job file.
 //! - `stop CALLS PICK WORDS`: a call on a new bench, which is stopped after so many of its calls that can fail. PICK is `written`, `old` or
 //!   the byte that the stop leaves wherever it may leave any.
@@ -100,6 +101,7 @@ fn change(rt: &HostRuntime, trial: &mut Trial, line: &str) -> Result<()> {
         ["cells", count] => trial.blank(rt.alloc(), count.parse::<usize>()?)?,
         ["count", len] => trial.count(len.parse::<usize>()?),
         ["job", bytes] => trial.job = bytes_of(rt.alloc(), bytes)?,
+        ["fail", "file", number] => trial.store = number.parse::<u64>()?,
         ["fail", "cells", number] => trial.call = number.parse::<u64>()?,
         ["fail", "put", number] => trial.put = number.parse::<u64>()?,
         _ => bail!("{line}: no such line"),

@@ -6,13 +6,14 @@ use bench_model::MemoryBench;
 use octets::hex_pair;
 use std::alloc::Global;
 
-/// The files; the bytes of the job file and the cells with which a bench begins; and the call on the cells and the put on standard output
-/// that are to fail, by their numbers from 1.
+/// The files; the bytes of the job file and the cells with which a bench begins; and the calls on the job file and on the cells and the put
+/// on standard output that are to fail, by their numbers from 1.
 #[derive(Drop)]
 pub struct Trial {
     pub files: Files,
     pub job: Vec<u8>,
     pub cells: Vec<u8>,
+    pub store: u64,
     pub call: u64,
     pub put: u64,
 }
@@ -30,6 +31,7 @@ impl Trial {
             files: Files::new(alloc),
             job: Vec::new(alloc),
             cells: Vec::new(alloc),
+            store: 0,
             call: 0,
             put: 0,
         }
@@ -39,6 +41,7 @@ impl Trial {
     pub fn begin(&mut self, alloc: Global) -> Result<()> {
         self.job = Vec::new(alloc);
         self.cells = vec![in alloc; 0xFF; 1024]?;
+        self.store = 0;
         self.call = 0;
         self.put = 0;
         Ok(())
@@ -68,7 +71,7 @@ impl Trial {
             &self.job,
             ROOM,
             ROOM,
-            &[],
+            &[self.store],
             &[self.call],
             &[0x5A],
         )?)
