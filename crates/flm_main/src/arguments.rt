@@ -1,4 +1,6 @@
 //! The words of the command line.
+ghost use Rattle.std.specs.Prelude.{◌≡◌, ◌<◌, ◌++◌, ◌∷◌, [], OnOk};
+
 use faults::OutOfMemory;
 use octets::Word;
 use std::alloc::Global;
@@ -15,7 +17,7 @@ pub struct Arguments {
 
 impl Arguments {
     /// Empty names, and no words.
-    fn new(alloc: Global) -> Result<Arguments, OutOfMemory> {
+    pub fn new(alloc: Global) -> Result<Arguments, OutOfMemory> {
         let job = Word::copy(alloc, "")?;
         let cells = Word::copy(alloc, "")?;
         Ok(Arguments {
@@ -25,13 +27,18 @@ impl Arguments {
         })
     }
 
-    /// Takes the argument at this place. The first is the program's own name.
-    fn take(&mut self, place: usize, word: Word) -> Result<(), OutOfMemory> {
+    /// Takes the argument at this place: at 0 the program's own name, at 1 the job file's, at 2 the cells file's, and then the command
+    /// and its words in turn.
+    pub fn take(&mut self, place: usize, argument: Word) -> Result<(), OutOfMemory>
+        ensures job { OnOk result (place ≡ 1 → self.new.job ≡ argument) }
+        ensures cells { OnOk result (place ≡ 2 → self.new.cells ≡ argument) }
+        ensures words { OnOk result (2 < place → self.new.words.items ≡ self.old.words.items ++ argument ∷ []) }
+    {
         match place {
             0 => {}
-            1 => self.job = word,
-            2 => self.cells = word,
-            _ => self.words.push(word)?,
+            1 => self.job = argument,
+            2 => self.cells = argument,
+            _ => self.words.push(argument)?,
         }
         Ok(())
     }

@@ -1,0 +1,48 @@
+//! The files of the jobs.
+
+use anyhow::{Context, Result, bail};
+use octets::hex_pair;
+use std::alloc::Global;
+use std::fs::{self, OpenOptions};
+use std::os::unix::fs::FileExt;
+
+/// The most bytes that a line fills.
+const MOST: usize = 1 << 21;
+
+/// Makes a file of so many bytes of this value.
+pub fn fill(rt: &HostRuntime, name: &str, count: usize, byte: &str) -> Result<()> {
+    let byte = bytes_of(rt.alloc(), byte)?.pop().context("no byte")?;
+    let bytes = vec![in rt.alloc(); byte; count.min(MOST)]?;
+    fs::write(rt, name, bytes.as_slice())?;
+    Ok(())
+}
+
+/// Lays bytes over those of a file, from a place on.
+pub fn put(rt: &HostRuntime, name: &str, at: u64, bytes: &str) -> Result<()> {
+    let file = OpenOptions::new().write(true).open(rt, name)?;
+    file.write_all_at(&bytes_of(rt.alloc(), bytes)?, at)?;
+    Ok(())
+}
+
+/// Prints how many bytes a file has.
+pub fn length(rt: &HostRuntime, name: &str) -> Result<()> {
+    let len = fs::metadata(rt, name)?.len();
+    println!(rt; "{name} has {len} bytes")?;
+    Ok(())
+}
+
+/// The bytes of pairs of digits.
+fn bytes_of(alloc: Global, word: &str) -> Result<Vec<u8>> {
+    let mut bytes = Vec::new(alloc);
+    for pair in word.as_bytes().chunks(2) {
+        let value = match pair {
+            [high, low] => hex_pair(*high, *low),
+            _ => None,
+        };
+        match value {
+            Some(byte) => bytes.push(byte)?,
+            None => bail!("{word}: no bytes"),
+        }
+    }
+    Ok(bytes)
+}

@@ -1,0 +1,55 @@
+//! The lines, with numbers in decimal digits and bytes in pairs of hexadecimal ones.
+//!
+//! - `# TEXT` is printed.
+//! - `fill NAME COUNT BYTE` makes a file of so many bytes. `put NAME AT BYTES` lays bytes over those of a file, from the place AT on.
+//!   `copy FROM TO`.
+//! - `length NAME` prints how many bytes a file has.
+//! - `call JOB CELLS COMMAND WORDS`: a call with these arguments. Its words are printed, and then its status.
+
+use crate::files::{fill, length, put};
+use anyhow::{Result, bail};
+use flm_main::{Arguments, call};
+use octets::Word;
+use std::fs;
+
+/// Goes through the lines of a file.
+pub fn go_through(rt: &HostRuntime, name: &str) -> Result<()> {
+    let text = fs::read_to_string(rt, name)?;
+    for line in text.lines() {
+        step(rt, line)?;
+    }
+    Ok(())
+}
+
+/// Does what a line says.
+fn step(rt: &HostRuntime, line: &str) -> Result<()> {
+    let words = line.split_whitespace().collect::<Vec<&str>>(rt.alloc())?;
+    match words.as_slice() {
+        [] => Ok(()),
+        ["#", ..] => {
+            println!(rt; "{line}")?;
+            Ok(())
+        }
+        ["fill", name, count, byte] => fill(rt, name, count.parse::<usize>()?, byte),
+        ["put", name, at, bytes] => put(rt, name, at.parse::<u64>()?, bytes),
+        ["copy", from, to] => {
+            fs::copy(rt, *from, *to)?;
+            Ok(())
+        }
+        ["length", name] => length(rt, name),
+        ["call", ..] => run_line(rt, line),
+        _ => bail!("{line}: no such line"),
+    }
+}
+
+/// Makes the call of a line, of which the first word stands where the program's own name does. It prints the line and the status.
+fn run_line(rt: &HostRuntime, line: &str) -> Result<()> {
+    println!(rt; "{line}")?;
+    let mut arguments = Arguments::new(rt.alloc())?;
+    for (place, word) in line.split_whitespace().enumerate() {
+        arguments.take(place, Word::copy(rt.alloc(), word)?)?;
+    }
+    let status = call(*rt, arguments);
+    println!(rt; "status {status}")?;
+    Ok(())
+}

@@ -1,0 +1,44 @@
+//! A call on files.
+
+use crate::arguments::{Arguments, read_arguments};
+use flm_cli::flmprog;
+use host_files::{FileBench, FileInputs, StdSink, hold_streams};
+use outside_io::Sink;
+use std::process::ExitCode;
+
+/// The status where there is no memory for the words.
+const NO_MEMORY: u8 = 1;
+
+/// The status where the standard streams can't be held.
+const NO_STREAMS: u8 = 10;
+
+/// Runs the program's own arguments, `JOB CELLS COMMAND [WORDS]`: the status that it is to end with. Where there is no memory for the
+/// arguments that is 1. Where the standard streams can't be held no file is opened, and it is 10, as where standard output failed.
+pub fn run(rt: HostRuntime) -> ExitCode {
+    if hold_streams(rt).is_err() {
+        let _put = StdSink::new(rt.stderr()).put(b"flmprog: output fault\n");
+        return ExitCode::from(NO_STREAMS);
+    }
+    match read_arguments(rt) {
+        Ok(arguments) => ExitCode::from(call(rt, arguments)),
+        Err(_) => ExitCode::from(NO_MEMORY),
+    }
+}
+
+/// Runs the command of these arguments on the files of their names, with its text on standard output and its refusal on standard error:
+/// the status of the call. The standard streams must be held.
+pub fn call(rt: HostRuntime, arguments: Arguments) -> u8 {
+    let Arguments { job, cells, words } = arguments;
+    let mut out = StdSink::new(rt.stdout());
+    let mut err = StdSink::new(rt.stderr());
+    let mut bench = FileBench::new(rt, job, cells.text());
+    let mut inputs = FileInputs::new(rt);
+    flmprog(
+        rt.alloc(),
+        words.as_slice(),
+        &mut bench,
+        &mut inputs,
+        &mut out,
+        &mut err,
+    )
+}
