@@ -2,7 +2,7 @@
 
 use crate::arguments::{Arguments, read_arguments};
 use flm_cli::flmprog;
-use host_files::{FileBench, FileInputs, StdSink, hold_streams};
+use host_files::{FileBench, FileInputs, ProgressLine, StdSink, hold_streams};
 use outside_io::Sink;
 use std::process::ExitCode;
 
@@ -26,19 +26,26 @@ pub fn run(rt: HostRuntime) -> ExitCode {
 }
 
 /// Runs the command of these arguments on the files of their names, with its text on standard output and its refusal on standard error:
-/// the status of the call. The standard streams must be held.
+/// the status of the call. The standard streams must be held. Where standard error is a terminal, a line there says meanwhile how far
+/// the cells have come.
 pub fn call(rt: HostRuntime, arguments: Arguments) -> u8 {
     let Arguments { job, cells, words } = arguments;
+    let line = ProgressLine::on_terminal(rt);
     let mut out = StdSink::new(rt.stdout());
     let mut err = StdSink::new(rt.stderr());
     let mut bench = FileBench::new(rt, job, cells.text());
+    out.wipe_first(line.share());
+    err.wipe_first(line.share());
+    bench.show_on(line.share());
     let mut inputs = FileInputs::new(rt);
-    flmprog(
+    let status = flmprog(
         rt.alloc(),
         words.as_slice(),
         &mut bench,
         &mut inputs,
         &mut out,
         &mut err,
-    )
+    );
+    line.wipe();
+    status
 }

@@ -1,0 +1,58 @@
+#!/bin/bash
+# The sign of life: where standard error is a terminal, a line there counts cells while a device is programmed. It is rewritten at most ten
+# times a second, and wiped before anything else is put and at the end. Where standard error is no terminal, nothing of it is put. It wants
+# `script` of the package bsdutils for the terminal.
+#   bash tests/on_a_terminal.sh [PROGRAM]        (from crates/flm_tool; else out/flm_tool)
+set -u
+program=$(realpath "${1:-out/flm_tool}") || exit 1
+data=$(realpath ../call_vectors/data) || exit 1
+tests=$(realpath tests) || exit 1
+folder=$(mktemp -d) || exit 1
+trap 'rm -rf "$folder"' EXIT
+cd "$folder" || exit 1
+. "$tests/device.sh"
+wrong=0
+clear=$(printf '\r\033[K')
+
+# Says a row is wrong where it is: NAME STATUS.
+row() { [ "$2" = 0 ] || { wrong=$((wrong + 1)); echo "wrong: $1"; }; }
+
+# New cells and a new image.
+begin() {
+    rm -f job
+    random_bytes 1048576 > cells
+    random_bytes 1048576 > image
+}
+
+board board.toml 1024 1024 && algorithm a1.flm 1024 1024 1024 || exit 1
+words=(program --raw-at 0x08000000 board.toml a1.flm image)
+
+begin
+"$program" job cells "${words[@]}" > out 2> err
+row 'a pipe: status' $?
+row 'a pipe: the cells' "$(cmp -s cells image; echo $?)"
+row 'a pipe: nothing on standard error' "$([ ! -s err ]; echo $?)"
+grep -q $'\033' out err
+row 'a pipe: no line' "$([ $? = 1 ]; echo $?)"
+
+begin
+start=$(date +%s%N)
+script -qec "$program job cells ${words[*]} > out_there" seen > shown < /dev/null
+row 'a terminal: status' $?
+tenths=$((($(date +%s%N) - start) / 100000000))
+row 'a terminal: the cells' "$(cmp -s cells image; echo $?)"
+row 'a terminal: standard output as on a pipe' "$(cmp -s out out_there; echo $?)"
+lines=$(grep -ao 'cells erased, [0-9]* programmed' shown | wc -l)
+row 'a terminal: a line' "$([ "$lines" -gt 0 ]; echo $?)"
+row "a terminal: at most ten a second ($lines in $tenths tenths)" "$([ "$lines" -le $((tenths + 2)) ]; echo $?)"
+row 'a terminal: wiped at the end' "$([ "$(tail -c 4 shown)" = "$clear" ]; echo $?)"
+
+# Standard output and error on one terminal: each text stands behind a wiped line.
+begin
+script -qec "$program job cells ${words[*]}" seen > shown < /dev/null
+row 'one terminal: status' $?
+tr -d '\r' < shown | sed 's/.*\x1b\[K//' > texts
+row 'one terminal: the texts as on a pipe' "$(cmp -s out texts; echo $?)"
+
+[ $wrong = 0 ] && echo 'all as wanted'
+[ $wrong = 0 ]
