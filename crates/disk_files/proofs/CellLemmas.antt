@@ -97,8 +97,8 @@ pub put_all : (tells : Bool) (old new : DiskState) (at : ℕ) (bytes : List ℕ)
     → IsTrue tells → new.bytes ≡ written at bytes old.bytes
 put_all tells old new at bytes done so_far is told =
     let whole : take (at + length bytes) new.bytes ≡ take at old.bytes ++ bytes
-            = ap (λ (m : ℕ). take (at + m) new.bytes) (sym is) ∙ so_far.some told
-            ∙ ap (λ (l : List ℕ). take at old.bytes ++ l) (take_all done bytes (omega (arith, is))) in
+    = ap (λ (m : ℕ). take (at + m) new.bytes) (sym is) ∙ so_far.some told
+    ∙ ap (λ (l : List ℕ). take at old.bytes ++ l) (take_all done bytes (omega (arith, is))) in
     sym (take-append-drop (at + length bytes) new.bytes)
     ∙ ap (λ (l : List ℕ). l ++ drop (at + length bytes) new.bytes) whole
     ∙ ap (λ (l : List ℕ). (take at old.bytes ++ bytes) ++ l) (so_far.torn told).after
@@ -113,14 +113,14 @@ filled_more at done size value place piece mid old here_is inside is so_far =
     let whole : mid ≡ head ++ drop (at + length (replicate done value)) old = so_far in
     let front : take (at + done) mid ≡ head = ap (λ (l : List ℕ). take (at + done) l) whole ∙ take_at head (drop (at + length (replicate done value)) old) (at + done) here in
     let rest : drop (at + done) mid ≡ drop (at + done) old
-            = ap (λ (l : List ℕ). drop (at + done) l) whole ∙ drop_at head (drop (at + length (replicate done value)) old) (at + done) here
-            ∙ ap (λ (m : ℕ). drop (at + m) old) (length-replicate done value) in
+    = ap (λ (l : List ℕ). drop (at + done) l) whole ∙ drop_at head (drop (at + length (replicate done value)) old) (at + done) here
+    ∙ ap (λ (m : ℕ). drop (at + m) old) (length-replicate done value) in
     let back : drop (at + done + length piece) mid ≡ drop (at + length (replicate (done + size) value)) old
-            = sym (drop-drop (length piece) (at + done) mid) ∙ ap (λ (l : List ℕ). drop (length piece) l) rest ∙ drop-drop (length piece) (at + done) old
-            ∙ (let e : at + done + length piece ≡ at + length (replicate (done + size) value) = omega (arith, ap length is, length-replicate size value, length-replicate (done + size) value) in ap (λ (m : ℕ). drop m old) e) in
+    = sym (drop-drop (length piece) (at + done) mid) ∙ ap (λ (l : List ℕ). drop (length piece) l) rest ∙ drop-drop (length piece) (at + done) old
+    ∙ (let e : at + done + length piece ≡ at + length (replicate (done + size) value) = omega (arith, ap length is, length-replicate size value, length-replicate (done + size) value) in ap (λ (m : ℕ). drop m old) e) in
     ap (λ (n : ℕ). written n piece mid) here_is
     ∙ ap (λ (l : List ℕ). l ++ piece ++ drop (at + done + length piece) mid) front
     ∙ ap (λ (l : List ℕ). head ++ l ++ drop (at + done + length piece) mid) is
     ∙ ap (λ (l : List ℕ). head ++ replicate size value ++ l) back
     ∙ ap (λ (l : List ℕ). l ++ drop (at + length (replicate (done + size) value)) old)
-        (append_assoc (take at old) (replicate done value) (replicate size value) ∙ ap (λ (l : List ℕ). take at old ++ l) (replicate-append-replicate done size value))
+    (append_assoc (take at old) (replicate done value) (replicate size value) ∙ ap (λ (l : List ℕ). take at old ++ l) (replicate-append-replicate done size value))

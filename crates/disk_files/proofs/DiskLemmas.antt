@@ -49,7 +49,7 @@ outside_then (Some range) cells x y at n inside out torn long =
       long ∙ out.0,
       sym (take-take range.0 at y inside.0) ∙ ap (λ (l : List ℕ). take range.0 l) torn.before ∙ take-take range.0 at x inside.0 ∙ out.1,
       ap (λ (m : ℕ). drop m y) (sym rest) ∙ sym (drop-drop more (at + n) y) ∙ ap (λ (l : List ℕ). drop more l) torn.after ∙ drop-drop more (at + n) x
-      ∙ ap (λ (m : ℕ). drop m x) rest ∙ out.2,
+          ∙ ap (λ (m : ℕ). drop m x) rest ∙ out.2,
     )
 
 -- the bytes of a range, laid over cells that are the same outside it, are all the bytes

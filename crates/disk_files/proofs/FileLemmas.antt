@@ -13,7 +13,7 @@ pub adds_nothing_then_follows : {a b c : Half} (step : List ℕ → List ℕ →
     → Leaves a c (Follows step a)
 adds_nothing_then_follows {a} {b} step none one two =
     leaves_then (Follows step a) (adds_nothing_follows step none one)
-        (leaves_as (Follows step b) (Follows step a) (λ y (x, is, steps). (x, leaves_left (left a) one x is, steps)) two)
+    (leaves_as (Follows step b) (Follows step a) (λ y (x, is, steps). (x, leaves_left (left a) one x is, steps)) two)
 
 pub adds_nothing_then_stays : {a b c : Half} → AddsNothing a b → Stays b c → AddsNothing a c
 adds_nothing_then_stays one two = adds_nothing_then one (stays_adds_nothing two)

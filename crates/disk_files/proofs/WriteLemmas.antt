@@ -111,8 +111,8 @@ pub written_all : (tells : Bool) (old new : DiskState) (at : ℕ) (bytes : List 
     → IsTrue tells → new.file ≡ written at bytes old.file
 written_all tells old new at bytes done so_far is told =
     let whole : take (at + length bytes) new.file ≡ take at old.file ++ bytes
-            = ap (λ (m : ℕ). take (at + m) new.file) (sym is) ∙ so_far.some told
-            ∙ ap (λ (l : List ℕ). take at old.file ++ l) (take_all done bytes (omega (arith, is))) in
+    = ap (λ (m : ℕ). take (at + m) new.file) (sym is) ∙ so_far.some told
+    ∙ ap (λ (l : List ℕ). take at old.file ++ l) (take_all done bytes (omega (arith, is))) in
     sym (take-append-drop (at + length bytes) new.file)
     ∙ ap (λ (l : List ℕ). l ++ drop (at + length bytes) new.file) whole
     ∙ ap (λ (l : List ℕ). (take at old.file ++ bytes) ++ l) (so_far.torn told).after

@@ -18,6 +18,7 @@ const LINES: &str = "calls.txt";
 
 /// The number of standard input, and the greatest of the standard streams.
 const INPUT: i32 = 0;
+
 const LAST_STREAM: i32 = 2;
 
 /// The status where a line can't be followed, which no call has.

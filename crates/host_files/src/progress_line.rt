@@ -42,9 +42,9 @@ impl Shared {
         }
         let erased = self.erased.get();
         let programmed = self.programmed.get();
-        if let Ok(text) =
-            format!(in self.rt.alloc(); "{erased} cells erased, {programmed} programmed")
-        {
+        if let Ok(text) = format!(in self.rt.alloc();
+            "{erased} cells erased, {programmed} programmed"
+        ) {
             self.is_shown.set(true);
             let _cleared = self.rt.stderr().write_all(CLEAR).is_ok();
             let _shown = self.rt.stderr().write_all(text.as_bytes()).is_ok();

@@ -110,10 +110,12 @@ fn a_cut_keeps_the_job_file_too(rt: HostRuntime) -> Result<(), Fail> {
 fn is_the_cells_file(cells: &Temporary, name: &Temporary) -> Result<bool, Fail> {
     let word = Word::copy(cells.rt.alloc(), name.name.text())?;
     let mut bench = FileBench::new(cells.rt, word, cells.name.text());
-    Ok(bench.file_len().is_err()
-        && bench.file_write(0, b"x").is_err()
-        && bench.file_cut(0).is_err()
-        && cells.holds(&CELLS))
+    Ok(
+        bench.file_len().is_err()
+            && bench.file_write(0, b"x").is_err()
+            && bench.file_cut(0).is_err()
+            && cells.holds(&CELLS),
+    )
 }
 
 #[test]

@@ -14,8 +14,18 @@ loop-preserved g c =
     let long : length c.job_read_at.new.out ≡ length c.loop.out - c.loop.done = omega (arith, c.job_read_at.auto.out, rest) in
     let known = c.loop.invariant in
     elim c.match-job_read_at.branch [
-        in-Ok w ↦ (subst I (sym w.done-is) (read_more g.F.Disk.tells (S c.args.disk.now) (S c.loop.disk) (S c.job_read_at.new.self) c.args.at c.args.out.now c.loop.out c.loop.done known.0
-            c.job_read_at.new.out long c.job_read_at.ensures.entry c.job_read_at.ensures.does w.in-Ok.count _ (omega (arith, w.in-Ok.ensures.reads.count, rest)) known.2 w.in-Ok.ensures.reads.ok), known.1, known.2, known.3)
-      | in-Err w ↦ (subst I (sym w.done-is) (read_no_more g.F.Disk.tells (S c.args.disk.now) (S c.loop.disk) (S c.job_read_at.new.self) c.args.at c.args.out.now c.loop.out c.loop.done known.0
-            c.job_read_at.new.out long c.job_read_at.ensures.entry c.job_read_at.ensures.does), known.1, known.2, known.3)
+      | in-Ok w ↦ (
+        subst I (sym w.done-is) (read_more g.F.Disk.tells (S c.args.disk.now) (S c.loop.disk) (S c.job_read_at.new.self) c.args.at c.args.out.now c.loop.out c.loop.done known.0
+            c.job_read_at.new.out long c.job_read_at.ensures.entry c.job_read_at.ensures.does w.in-Ok.count _ (omega (arith, w.in-Ok.ensures.reads.count, rest)) known.2 w.in-Ok.ensures.reads.ok),
+        known.1,
+        known.2,
+        known.3,
+      )
+      | in-Err w ↦ (
+        subst I (sym w.done-is) (read_no_more g.F.Disk.tells (S c.args.disk.now) (S c.loop.disk) (S c.job_read_at.new.self) c.args.at c.args.out.now c.loop.out c.loop.done known.0
+            c.job_read_at.new.out long c.job_read_at.ensures.entry c.job_read_at.ensures.does),
+        known.1,
+        known.2,
+        known.3,
+      )
     ]

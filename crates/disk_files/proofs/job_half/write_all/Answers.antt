@@ -34,8 +34,20 @@ loop-preserved g c =
     let I = λ (n : ℕ). IsWrittenTo g.F.Disk.tells (S c.args.disk.now) (S c.job_write_at.new.self) c.args.at c.args.bytes.now n in
     let known = c.loop.invariant in
     elim c.match-job_write_at.branch [
-        in-Ok w ↦ (subst I (sym w.done-is) (written_more g.F.Disk.tells (S c.args.disk.now) (S c.loop.disk) (S c.job_write_at.new.self) c.args.at c.args.bytes.now c.loop.done c.loop.invariant.0
-    _ (take_rest c.args.bytes.now c.loop.done) c.job_write_at.ensures.does c.job_write_at.ensures.writes.torn w.in-Ok.count w.in-Ok.ensures.writes.count w.in-Ok.ensures.writes.some), known.1, known.2, known.3, known.4)
-      | in-Err w ↦ (subst I (sym w.done-is) (written_no_more g.F.Disk.tells (S c.args.disk.now) (S c.loop.disk) (S c.job_write_at.new.self) c.args.at c.args.bytes.now c.loop.done c.loop.invariant.0
-    _ (take_rest c.args.bytes.now c.loop.done) c.job_write_at.ensures.does c.job_write_at.ensures.writes.torn), known.1, known.2, known.3, known.4)
+      | in-Ok w ↦ (
+        subst I (sym w.done-is) (written_more g.F.Disk.tells (S c.args.disk.now) (S c.loop.disk) (S c.job_write_at.new.self) c.args.at c.args.bytes.now c.loop.done c.loop.invariant.0
+            _ (take_rest c.args.bytes.now c.loop.done) c.job_write_at.ensures.does c.job_write_at.ensures.writes.torn w.in-Ok.count w.in-Ok.ensures.writes.count w.in-Ok.ensures.writes.some),
+        known.1,
+        known.2,
+        known.3,
+        known.4,
+      )
+      | in-Err w ↦ (
+        subst I (sym w.done-is) (written_no_more g.F.Disk.tells (S c.args.disk.now) (S c.loop.disk) (S c.job_write_at.new.self) c.args.at c.args.bytes.now c.loop.done c.loop.invariant.0
+            _ (take_rest c.args.bytes.now c.loop.done) c.job_write_at.ensures.does c.job_write_at.ensures.writes.torn),
+        known.1,
+        known.2,
+        known.3,
+        known.4,
+      )
     ]

@@ -43,5 +43,5 @@ returns g c =
       sound = c.begin_job.ensures.sound;
       prints = c.begin_job.ensures.prints;
       works = λ told. begins_on_parts bench out (answer_of c.begin_job.result) took.given.files aim _ are
-    (is.board_text ∙ sym c.bytes.ensures) (is.flm ∙ ap (λ (l : List ℕ). Some l) (sym c.bytes-2.ensures)) refl (sym is.size_is) refl refl (c.begin_job.ensures.told told);
+          (is.board_text ∙ sym c.bytes.ensures) (is.flm ∙ ap (λ (l : List ℕ). Some l) (sym c.bytes-2.ensures)) refl (sym is.size_is) refl refl (c.begin_job.ensures.told told);
     })
