@@ -8,21 +8,22 @@
 
 use crate::files::{fill, length, put};
 use anyhow::{Result, bail};
-use flm_main::{Arguments, call};
+use flm_main::{Arguments, HeldStreams, call};
 use octets::Word;
 use std::fs;
 
 /// Goes through the lines of a file.
-pub fn go_through(rt: &HostRuntime, name: &str) -> Result<()> {
-    let text = fs::read_to_string(rt, name)?;
+pub fn go_through(streams: HeldStreams, name: &str) -> Result<()> {
+    let text = fs::read_to_string(&streams.host(), name)?;
     for line in text.lines() {
-        step(rt, line)?;
+        step(streams, line)?;
     }
     Ok(())
 }
 
 /// Does what a line says.
-fn step(rt: &HostRuntime, line: &str) -> Result<()> {
+fn step(streams: HeldStreams, line: &str) -> Result<()> {
+    let rt = &streams.host();
     let words = line.split_whitespace().collect::<Vec<&str>>(rt.alloc())?;
     match words.as_slice() {
         [] => Ok(()),
@@ -37,19 +38,20 @@ fn step(rt: &HostRuntime, line: &str) -> Result<()> {
             Ok(())
         }
         ["length", name] => length(rt, name),
-        ["call", ..] => run_line(rt, line),
+        ["call", ..] => run_line(streams, line),
         _ => bail!("{line}: no such line"),
     }
 }
 
 /// Makes the call of a line, of which the first word stands where the program's own name does. It prints the line and the status.
-fn run_line(rt: &HostRuntime, line: &str) -> Result<()> {
+fn run_line(streams: HeldStreams, line: &str) -> Result<()> {
+    let rt = &streams.host();
     println!(rt; "{line}")?;
     let mut arguments = Arguments::new(rt.alloc())?;
     for (place, word) in line.split_whitespace().enumerate() {
         arguments.take(place, Word::copy(rt.alloc(), word)?)?;
     }
-    let status = call(*rt, arguments);
+    let status = call(streams, arguments);
     println!(rt; "status {status}")?;
     Ok(())
 }

@@ -1,6 +1,6 @@
 //! Carries whole jobs through the flash programmer on real files, as `flm_tool` would in one run after the other: it goes through the
-//! lines of the file `calls.txt` (`lines`), and then runs its own arguments with standard input closed. What the calls put on standard
-//! output stands between the lines that it prints of them, and it ends with the status of the last.
+//! lines of the file `calls.txt` (`lines`), and then runs its own arguments. What the calls put on standard output stands between the lines
+//! that it prints of them, and it ends with the status of the last.
 #![tactic(auto)]
 
 mod files;
@@ -8,18 +8,11 @@ mod lines;
 
 use crate::lines::go_through;
 use anyhow::Result;
-use flm_main::run;
-use std::fs::File;
-use std::os::fd::AsRawFd;
+use flm_main::{hold_streams, run};
 use std::process::ExitCode;
 
 /// The file of the lines.
 const LINES: &str = "calls.txt";
-
-/// The number of standard input, and the greatest of the standard streams.
-const INPUT: i32 = 0;
-
-const LAST_STREAM: i32 = 2;
 
 /// The status where a line can't be followed, which no call has.
 const NOT_FOLLOWED: u8 = 99;
@@ -36,19 +29,6 @@ fn main(rt: HostRuntime) -> ExitCode {
 
 /// Goes through the lines, and runs the program's own arguments: what that ends with.
 fn follow(rt: &HostRuntime) -> Result<ExitCode> {
-    go_through(rt, LINES)?;
-    let _closed = libc::close(INPUT);
-    let end = run(*rt);
-    println!(rt; "{}", held(rt)?)?;
-    Ok(end)
-}
-
-/// Whether the numbers of the standard streams are taken, so that no file gets one.
-fn held(rt: &HostRuntime) -> Result<&'static str> {
-    let next = File::open(rt, LINES)?.as_raw_fd();
-    Ok(if next > LAST_STREAM {
-        "the streams are held"
-    } else {
-        "the streams are not held"
-    })
+    go_through(hold_streams(*rt)?, LINES)?;
+    Ok(run(*rt))
 }

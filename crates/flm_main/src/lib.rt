@@ -6,3 +6,4 @@ mod call;
 
 pub use arguments::Arguments;
 pub use call::{call, run};
+pub use host_files::{HeldStreams, hold_streams};

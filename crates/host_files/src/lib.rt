@@ -20,4 +20,4 @@ pub use file_bench::FileBench;
 pub use file_inputs::FileInputs;
 pub use progress_line::ProgressLine;
 pub use std_sink::StdSink;
-pub use streams::hold_streams;
+pub use streams::{HeldStreams, hold_streams};

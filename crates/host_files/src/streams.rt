@@ -1,4 +1,6 @@
 //! The numbers of the standard streams, which no file of the program's may get.
+ghost use Rattle.std.specs.Prelude.{◌≡◌};
+
 use std::fs::File;
 use std::io;
 use std::os::fd::{AsRawFd, IntoRawFd};
@@ -9,10 +11,26 @@ const NULL_DEVICE: &str = "/dev/null";
 /// The numbers of standard input, output and error are 0 to this.
 const LAST_STREAM: i32 = 2;
 
+/// The host, once the numbers of the standard streams are taken. `hold_streams` alone gives one out, so whoever asks for one opens no file
+/// before that.
+#[derive(Clone, Copy)]
+pub struct HeldStreams {
+    rt: HostRuntime,
+}
+
+impl HeldStreams {
+    /// The host.
+    pub fn host(self) -> HostRuntime
+        ensures { result ≡ self.rt }
+    {
+        self.rt
+    }
+}
+
 /// Takes those of the standard streams' numbers that are free, so that no file which is opened later stands under one
 /// of them and is printed over. The system gives a file the lowest free number. They are taken for reading only, so
 /// whatever is put on a stream that was closed still fails.
-pub fn hold_streams(rt: HostRuntime) -> io::Result<()> {
+pub fn hold_streams(rt: HostRuntime) -> io::Result<HeldStreams> {
     for _ in 0..=LAST_STREAM {
         let held = File::open(&rt, NULL_DEVICE)?;
         if held.as_raw_fd() > LAST_STREAM {
@@ -20,5 +38,5 @@ pub fn hold_streams(rt: HostRuntime) -> io::Result<()> {
         }
         let _number = held.into_raw_fd();
     }
-    Ok(())
+    Ok(HeldStreams { rt })
 }
