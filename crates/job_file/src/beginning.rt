@@ -1,33 +1,36 @@
 //! The call that begins a job.
-ghost use Rattle.std.specs.Prelude.{◌≡◌, ◌++◌, ◌∷◌, length, false, IsTrue, IsOk, OnOk, IfOk, IfErr, None};
+ghost use Rattle.std.specs.Prelude.{◌≡◌, ◌++◌, ◌∷◌, ℕ, List, length, false, IsTrue, IsOk, OnOk, IfOk, IfErr, None};
 ghost use Rattle.bench_model.specs.History.{LeftOnly, Leaves, AddsNothing};
 ghost use Rattle.bench_model.specs.State.{file_half, cells_half};
 ghost use Rattle.bench_model.specs.Calls.{SameOutside, OnlyReads};
 ghost use Rattle.job_text.specs.Body.{body_of};
 ghost use Rattle.job_text.specs.Files.{IsFree, open_gate};
 ghost use Rattle.job_text.specs.Parts.{job_of, AreParts, head_of_parts, front_of};
+ghost use Rattle.job_text.specs.Stands.{IsClassOf};
 ghost use Rattle.job_file.specs.Counted.{IsCounted, is_store_fault, is_device_fault, IsFault, ReadsUnlessFault};
 ghost use Rattle.job_file.specs.Faults.{IsBeginFault, IsSoundBegin};
 ghost use Rattle.job_file.specs.Stops.{IsFreeOrWhole, IsOfBegin};
 ghost use Rattle.job_file.specs.First.{SyncsFirst};
 ghost use Rattle.job_file.specs.Unopened.{UnopenedAtDeviceFault};
 
+use crate::class::look;
 use crate::fault::BeginFault;
 use crate::gate::put_job;
-use crate::reading::{PIECE, look};
+use crate::reading::PIECE;
 use bench_model::Bench;
-use job_text::{Class, JobParts, class_of_file, head_text};
+use job_text::{Class, JobParts, head_text};
 use std::alloc::Global;
 
-/// Whether a job for so many cells may be begun over this file.
-fn admit(alloc: Global, file: &[u8], said: u32, found: u32) -> Result<(), BeginFault>
-    ensures ok { OnOk result (IsFree file.now × (said ≡ found)) }
-    ensures refused { IfErr result (IsBeginFault file.now said found) }
+/// Whether a job for so many cells may be begun over a file of this class.
+fn admit(class: Class, said: u32, found: u32) -> Result<(), BeginFault>
+    ensures free { (file : List ℕ) → IsClassOf class file → OnOk result (IsFree file) }
+    ensures sized { OnOk result (said ≡ found) }
+    ensures refused { (file : List ℕ) → IsClassOf class file → IfErr result (IsBeginFault file said found) }
     ensures sound { IfErr result (IsSoundBegin said found) }
     ensures no_store { is_store_fault result ≡ false }
     ensures no_device { is_device_fault result ≡ false }
 {
-    match class_of_file(alloc, file)? {
+    match class {
         Class::Stands(_) => Err(BeginFault::JobOpen),
         Class::NotAJob { at } => Err(BeginFault::NotAJob { at }),
         Class::Free if said != found => Err(BeginFault::CellsDiffer { said, found }),
@@ -49,9 +52,8 @@ fn prepare<B: Bench>(alloc: Global, bench: &mut B, parts: &JobParts) -> Result<V
     ensures no_device { is_device_fault result ≡ false }
     ensures first { SyncsFirst B.acts bench.old }
 {
-    let bytes = look(alloc, bench)?;
-    let found = bench.cells_len();
-    admit(alloc, &bytes, parts.size, found)?;
+    let class = look(alloc, bench)?;
+    admit(class, parts.size, bench.cells_len())?;
     Ok(head_text(alloc, parts)?)
 }
 

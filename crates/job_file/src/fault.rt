@@ -4,6 +4,37 @@ use bench_model::{DeviceFault, StoreFault};
 use faults::OutOfMemory;
 use thiserror::Error;
 
+/// Why no job was read from a file.
+#[derive(Clone, Copy, Debug, PartialEq, Eq)]
+pub enum ReadFault {
+    OutOfMemory,
+    StoreFault,
+    /// The offset that shows the first check that fails.
+    NotAJob { at: u64 },
+}
+
+impl From<OutOfMemory> for ReadFault {
+    ghost use Rattle.std.specs.Prelude.{◌≡◌};
+    ghost use Rattle.job_file.specs.declared.fault.ReadFault.TheVariants as fault;
+
+    ghost from_gives = { λ _ e. e ≡ fault.OutOfMemory };
+
+    fn from(_fault: OutOfMemory) -> ReadFault {
+        ReadFault::OutOfMemory
+    }
+}
+
+impl From<StoreFault> for ReadFault {
+    ghost use Rattle.std.specs.Prelude.{◌≡◌};
+    ghost use Rattle.job_file.specs.declared.fault.ReadFault.TheVariants as fault;
+
+    ghost from_gives = { λ _ e. e ≡ fault.StoreFault };
+
+    fn from(_fault: StoreFault) -> ReadFault {
+        ReadFault::StoreFault
+    }
+}
+
 /// Why a file was not read.
 #[derive(Clone, Copy, Debug, PartialEq, Eq)]
 pub enum LookFault {
@@ -64,17 +95,6 @@ impl From<LookFault> for OpenFault {
             LookFault::OutOfMemory => OpenFault::OutOfMemory,
             LookFault::StoreFault => OpenFault::StoreFault,
         }
-    }
-}
-
-impl From<OutOfMemory> for OpenFault {
-    ghost use Rattle.std.specs.Prelude.{◌≡◌};
-    ghost use Rattle.job_file.specs.declared.fault.OpenFault.TheVariants as fault;
-
-    ghost from_gives = { λ _ e. e ≡ fault.OutOfMemory };
-
-    fn from(_fault: OutOfMemory) -> OpenFault {
-        OpenFault::OutOfMemory
     }
 }
 

@@ -1,27 +1,27 @@
 //! The call that opens a job.
-ghost use Rattle.std.specs.Prelude.{◌≡◌, IsTrue, IsErrOf, OnOk, IfOk, IfErr};
+ghost use Rattle.std.specs.Prelude.{◌≡◌, ℕ, List, false, IsTrue, OnOk, IfOk, IfErr};
 ghost use Rattle.bench_model.specs.History.{LeftOnly};
 ghost use Rattle.bench_model.specs.State.{file_half};
 ghost use Rattle.bench_model.specs.Calls.{OnlyReads};
-ghost use Rattle.job_text.specs.Stands.{StandsFor};
+ghost use Rattle.job_text.specs.Stands.{StandsFor, IsClassOf};
 ghost use Rattle.job_file.specs.Counted.{IsCounted, is_open_fault};
 ghost use Rattle.job_file.specs.Faults.{IsOpenFault, IsSoundOpen};
 
+use crate::class::look;
 use crate::fault::OpenFault;
-use crate::reading::look;
 use bench_model::Bench;
-use job_text::{Class, Job, class_of_file};
+use job_text::{Class, Job};
 use std::alloc::Global;
 
-/// The job of a file, for so many cells.
-fn judge(alloc: Global, file: &[u8], found: u32) -> Result<Job, OpenFault>
-    ensures ok { IfOk result (λ job. StandsFor job file.now) }
+/// The job of a file of this class, for so many cells.
+fn judge(class: Class, found: u32) -> Result<Job, OpenFault>
+    ensures ok { (file : List ℕ) → IsClassOf class file → IfOk result (λ job. StandsFor job file) }
     ensures sized { IfOk result (λ job. job.algorithm.device.size ≡ found) }
-    ensures refused { IfErr result (IsOpenFault file.now found) }
+    ensures refused { (file : List ℕ) → IsClassOf class file → IfErr result (IsOpenFault file found) }
     ensures sound { IfErr result (IsSoundOpen found) }
-    ensures no_fault { IsErrOf result OpenFault.StoreFault → ⊥ }
+    ensures no_fault { is_open_fault result ≡ false }
 {
-    match class_of_file(alloc, file)? {
+    match class {
         Class::Free => Err(OpenFault::NoJob),
         Class::NotAJob { at } => Err(OpenFault::NotAJob { at }),
         Class::Stands(job) => {
@@ -52,7 +52,6 @@ pub fn open<B: Bench>(alloc: Global, bench: &mut B) -> Result<Job, OpenFault>
     ensures reads { OnlyReads B.tells (B.state bench.old) (B.state bench.new) }
     ensures counted { IsCounted (B.state bench.old).store_faults (B.state bench.new).store_faults (is_open_fault result) }
 {
-    let bytes = look(alloc, bench)?;
-    let found = bench.cells_len();
-    judge(alloc, &bytes, found)
+    let class = look(alloc, bench)?;
+    judge(class, bench.cells_len())
 }

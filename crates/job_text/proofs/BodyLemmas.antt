@@ -25,10 +25,10 @@ pub record HeadFits (h : Head) : Type 0 where
   pub runs : h.runs < 2 ^ 32
   pub cells : h.cells < 2 ^ 32
 
-abbrev head_text : Head → List ℕ
+abbrev pub head_text : Head → List ℕ
 head_text h = mark ++ (field h.board ++ (field h.flm ++ (field h.runs ++ field h.cells)))
 
-head_takes : (d : ℕ) (bytes : List ℕ) (x : Head × List ℕ) → IsBytes bytes → head_at d bytes ≡ Ok x → Takes bytes (head_text x.0) x.1 × HeadFits x.0
+pub head_takes : (d : ℕ) (bytes : List ℕ) (x : Head × List ℕ) → IsBytes bytes → head_at d bytes ≡ Ok x → Takes bytes (head_text x.0) x.1 × HeadFits x.0
 unfolding head_at
 head_takes d bytes x fits e =
     let m = bind_ok (mark_at bytes) (λ marked. number_at d marked >>= λ b. number_at d b.1 >>= λ f. number_at d f.1 >>= λ r. number_at d r.1 >>= λ n. Ok (record { board = b.0; flm = f.0; runs = r.0; cells = n.0 }, n.1)) x e in

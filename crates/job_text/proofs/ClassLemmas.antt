@@ -127,6 +127,16 @@ stands_as (gate ∷ next ∷ rest) s long open_ is =
     let (x, found, same) = was_seen (length (gate ∷ next ∷ rest)) (job_at (length (gate ∷ next ∷ rest)) (next ∷ rest)) s is in
     (x, ap (λ (b : Bool). cond b (class_from (job_at (length rest + 2) (next ∷ rest))) free) (eq-eqb gate 165 open_) ∙ ap (λ (n : ℕ). class_from (job_at n (next ∷ rest))) len ∙ ap class_from found, same)
 
+-- a file behind whose open gate no job is read
+pub not_as : (file : List ℕ) (at : ℕ) → 1 < length file → get_or file 0 0 ≡ 165 → job_at (length file) (drop 1 file) ≡ Err at → IsNotAJob at file
+unfolding class_of
+not_as [] at long open_ is = absurd (omega arith)
+not_as (gate ∷ []) at long open_ is = absurd (omega arith)
+not_as (gate ∷ next ∷ rest) at long open_ is =
+    let len : length rest + 2 ≡ length (gate ∷ next ∷ rest) = omega arith in
+    not_class (gate ∷ next ∷ rest) at
+    (ap (λ (b : Bool). cond b (class_from (job_at (length rest + 2) (next ∷ rest))) free) (eq-eqb gate 165 open_) ∙ ap (λ (n : ℕ). class_from (job_at n (next ∷ rest))) len ∙ ap class_from is)
+
 -- a file that stands for a job in memory stands for a job
 abbrev pub some_job : (job : code.Job) (file : List ℕ) → StandsFor job file → IsSomeJob file
 some_job job file stands_for = record {

@@ -1,5 +1,5 @@
-mod Steps
-mod FlmLemmas
+pub mod Steps
+pub mod FlmLemmas
 pub mod RunLemmas
 pub mod TakeLemmas
 pub mod RunTextLemmas

@@ -17,7 +17,10 @@ mod texts;
 
 pub use class::class_of_file;
 pub use fault::JobFault;
-pub use fitting::suits;
+pub use fitting::{fits, suits};
+pub use head::{Head, take_head};
 pub use job::{Class, Job};
 pub use law::{bodies_have_one_job, files_have_one_class, jobs_have_one_region, parts_make_a_job};
 pub use parts::{JobParts, head_text, run_head};
+pub use runs::add_piece;
+pub use texts::{algorithm_in, board_in};

@@ -1,8 +1,9 @@
 //! The runs of an image in a body.
 ghost use Rattle.std.specs.Prelude.{◌≡◌, ◌≤◌, ◌<◌, ◌+◌, ◌-◌, ◌*◌, ◌^◌, ◌++◌, [], ◌∷◌, IfOk, OnOk, length};
 ghost use Rattle.byte_map.specs.Image.{AreMaximal};
+ghost use Rattle.byte_map.specs.Laying.{Lays};
 ghost use Rattle.job_text.specs.Reading.{run_at, runs_at};
-ghost use Rattle.job_text.specs.Runs.{EndBelow, run_of};
+ghost use Rattle.job_text.specs.Runs.{EndBelow, EndBy, run_of};
 ghost use Rattle.job_text.specs.Shown.{Gives};
 
 use crate::fault::JobFault;
@@ -35,6 +36,20 @@ fn take_run(whole: u64, low: u64, end: u64, bytes: &[u8]) -> Result<(u32, &[u8],
     }
 }
 
+/// Adds bytes that lie behind all others. They go on with the run that ends where they begin, or else are a run.
+pub fn add_piece(image: &mut ByteMap, at: u32, bytes: &[u8]) -> Result<(), OutOfMemory>
+    requires fits { at + length bytes.now ≤ 2 ^ 32 }
+    requires behind { EndBy at image.old }
+    ensures { OnOk result (Lays (run_of at bytes.now) image.old image.new) }
+{
+    match image.lay(at, bytes) {
+        Ok(()) => Ok(()),
+        Err(LayFault::OutOfMemory) => Err(OutOfMemory),
+        Err(LayFault::Conflict { .. }) => unreachable!(),
+        Err(LayFault::PastEnd { .. }) => unreachable!(),
+    }
+}
+
 /// Adds a run that begins behind all others and touches none.
 fn add_run(image: &mut ByteMap, at: u32, bytes: &[u8]) -> Result<(), OutOfMemory>
     requires some { 1 ≤ length bytes.now }
@@ -43,12 +58,7 @@ fn add_run(image: &mut ByteMap, at: u32, bytes: &[u8]) -> Result<(), OutOfMemory
     requires behind { EndBelow at image.old }
     ensures { OnOk result (image.new ≡ image.old ++ run_of at bytes.now ∷ []) }
 {
-    match image.lay(at, bytes) {
-        Ok(()) => Ok(()),
-        Err(LayFault::OutOfMemory) => Err(OutOfMemory),
-        Err(LayFault::Conflict { .. }) => unreachable!(),
-        Err(LayFault::PastEnd { .. }) => unreachable!(),
-    }
+    add_piece(image, at, bytes)
 }
 
 /// Takes so many runs, of which none touches the one before it: the image that they are.

@@ -31,7 +31,7 @@ pub struct Said<'a> {
 }
 
 /// The board that a text describes.
-fn board_in(alloc: Global, text: &[u8]) -> Result<Board, JobFault>
+pub fn board_in(alloc: Global, text: &[u8]) -> Result<Board, JobFault>
     ensures { Gives board_shown result (read_or 24 (reading text.now)) }
 {
     match read_board(alloc, text) {
@@ -42,7 +42,7 @@ fn board_in(alloc: Global, text: &[u8]) -> Result<Board, JobFault>
 }
 
 /// The algorithm of an FLM file that begins at an offset.
-fn algorithm_in(alloc: Global, at: u64, file: &[u8]) -> Result<Algorithm, JobFault>
+pub fn algorithm_in(alloc: Global, at: u64, file: &[u8]) -> Result<Algorithm, JobFault>
     ensures { Gives flm_shown result (read_or at (flm_of file.now)) }
 {
     match read_flm(alloc, file) {

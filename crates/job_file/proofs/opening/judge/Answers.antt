@@ -5,8 +5,7 @@ use Rattle.job_text.proofs.ClassLemmas.{some_job}
 use Rattle.job_file.proofs.opening.judge.Goals as goal
 
 pub returns-then-said-found-clause-refused : goal.returns-then-said-found-clause-refused
-returns-then-said-found-clause-refused c =
-    let file = c.args.file.now in
+returns-then-said-found-clause-refused c = λ file is.
     let job = c.in-Stands.job in
-    let s : StandsFor job file = subst (λ (k : Class). IsClassOf k file) c.in-Stands.is c.in_ok-class_of_file.ensures in
+    let s : StandsFor job file = subst (λ (k : Class). IsClassOf k file) c.in-Stands.is is in
     record { some = some_job job file s; said_is = refl; found_is = refl; differ = c.if-said-found.true }
