@@ -103,7 +103,7 @@ pub fn open_refused(rt: &HostRuntime, job: &[u8]) -> Result<()> {
     ] {
         put_open(rt, cells, file, 0)?;
     }
-    for call in 1..=4 {
+    for call in 1..=9 {
         put_open(rt, 1024, job, call)?;
     }
     Ok(())
