@@ -103,3 +103,79 @@ page:   push    {r4, r5, lr}
         str     r5, [r3, #4]
         pop     {r4, r5, pc}
         .pool
+
+@ mixed instructions with calls
+        .section mix, "ax"
+        push    {r4, r5, r6, lr}
+        sub     sp, #8
+        mov     r1, sp
+1:      ldr     r2, [r1, #0]
+        adds    r2, r2, r0
+        lsrs    r3, r2, #3
+        eors    r2, r3
+        str     r2, [r1, #0]
+        ldrb    r3, [r1, #1]
+        strb    r3, [r1, #4]
+        ldrh    r4, [r1, #2]
+        muls    r4, r2
+        cmp     r4, r3
+        bcc     2f
+        adds    r5, #1
+2:      bl      rotate
+        subs    r0, #1
+        bne     1b
+        add     sp, #8
+        pop     {r4, r5, r6, pc}
+rotate: push    {r6, lr}
+        movs    r6, #5
+        rors    r2, r6
+        adcs    r5, r2
+        pop     {r6, pc}
+
+@ a word of the RAM loaded and stored
+        .section word, "ax"
+        sub     sp, #8
+        mov     r1, sp
+1:      ldr     r2, [r1, #0]
+        str     r2, [r1, #4]
+        subs    r0, #1
+        bne     1b
+        add     sp, #8
+        bx      lr
+
+@ a halfword of the flash
+        .section flash_half, "ax"
+        movs    r1, #1
+        lsls    r1, r1, #27
+1:      ldrh    r2, [r1, #2]
+        subs    r0, #1
+        bne     1b
+        bx      lr
+
+@ a word of the flash
+        .section flash_word, "ax"
+        movs    r1, #1
+        lsls    r1, r1, #27
+1:      ldr     r2, [r1, #4]
+        subs    r0, #1
+        bne     1b
+        bx      lr
+
+@ the chip is erased, and the wait for its end is the most of it
+        .section wait, "ax"
+        ldr     r3, =0x40022000
+        ldr     r1, =0x45670123
+        str     r1, [r3, #0]
+        ldr     r1, =0xCDEF89AB
+        str     r1, [r3, #0]
+        movs    r1, #1
+        movs    r2, #3
+        str     r2, [r3, #8]
+1:      str     r1, [r3, #16]
+2:      ldr     r2, [r3, #4]
+        tst     r2, r1
+        bne     2b
+        subs    r0, #1
+        bne     1b
+        bx      lr
+        .pool

@@ -1,11 +1,9 @@
-//! A target of a small board over a bench in memory, which runs code.
-ghost use Rattle.std.specs.Prelude.{◌≡◌, true};
-ghost use Rattle.bench_model.specs.Shown.{bench_of};
+//! A target of a small board over a bench, which runs code.
 ghost use Rattle.target_core.specs.Units.{UnitAgrees};
 
-use anyhow::{Result, ensure};
+use anyhow::{Result, bail, ensure};
 use armv6m_decode::registers::{LR, PC, SP};
-use bench_model::MemoryBench;
+use bench_model::{Bench, DeviceFault};
 use board_file::read_board;
 use std::alloc::Global;
 use target_core::{Frame, SliceEnd, Target};
@@ -15,6 +13,9 @@ const BOARD: &str = "ram = { base = 0x20000000, size = 4096 }
 region = [{ base = 0x08000000, sectors = [[4, 256]] }]
 controller.base = 0x40022000";
 
+/// The cells of the flash.
+pub const CELLS: usize = 1024;
+
 /// Where the code stands, from the beginning of the RAM on. The return point is the beginning.
 const CODE: u32 = 32;
 
@@ -23,16 +24,16 @@ const FUEL: u64 = 1 << 40;
 
 /// A target and its bench, whose open operation is the controller's.
 #[derive(Drop)]
-pub struct Bed {
+pub struct Bed<B: Bench + Drop> {
     target: Target,
-    bench: MemoryBench,
+    bench: B,
 
-    ghost agrees: { UnitAgrees true target.unit (bench_of bench) },
+    ghost agrees: { UnitAgrees B.tells target.unit (B.state bench) },
 }
 
-impl Bed {
-    /// A target with this code, over blank cells, with room for so many units of recorded calls.
-    pub fn new(alloc: Global, code: &[u8], room: u64) -> Result<Bed> {
+impl<B: Bench + Drop> Bed<B> {
+    /// A target with this code over a bench of as many cells as the flash has.
+    pub fn new(alloc: Global, code: &[u8], mut bench: B) -> Result<Bed<B>> {
         let mut target = Target::new(alloc, &read_board(alloc, BOARD.as_bytes())?)?;
         ensure!(
             target.ram.len() == 4096 && code.len() <= 2048,
@@ -43,9 +44,15 @@ impl Bed {
             at - target.ram_base == CODE,
             "the RAM is at the end of all addresses"
         );
+        ensure!(
+            bench.cells_len() == target.unit.cells(),
+            "the bench has other cells than the board"
+        );
+        match target.reset(&mut bench) {
+            Ok(()) => {}
+            Err(DeviceFault) => bail!("the device failed"),
+        }
         target.write_ram(at, code);
-        let cells = vec![in alloc; 0xFF; target.unit.cells() as usize]?;
-        let bench = MemoryBench::new(alloc, &cells, &[], 0, room, &[], &[], &[])?;
         Ok(Bed { target, bench })
     }
 

@@ -15,8 +15,9 @@
 //!   It prints how the run ended, and how many steps were made.
 //! - `measure ROUNDS`: the same of a loop of mixed instructions, which the core runs over the bus in memory.
 //!
-//! `target_vectors measure ROUNDS FILE..` and `target_vectors measure ROUNDS` do only this. The time that they take is to be measured from
-//! outside: of a whole target with a tick for each step, and of the core alone.
+//! `target_vectors measure ROUNDS FILE..` and `target_vectors measure ROUNDS` do only this, and `target_vectors files CELLS ROUNDS FILE..`
+//! does it over the file CELLS of 1,024 cells. The time that they take is to be measured from outside: of a whole target with a tick for
+//! each step, over a bench in memory or over files, and of the core alone. `tests/speed.sh` does so.
 #![tactic(auto)]
 
 mod bed;
@@ -26,7 +27,7 @@ mod put;
 mod steps;
 mod trial;
 
-use crate::measured::measure;
+use crate::measured::{measure, measure_files};
 use anyhow::Result;
 use std::{env, fs};
 
@@ -38,6 +39,9 @@ fn main(rt: HostRuntime) -> Result<()> {
         .collect::<Vec<&str>>(rt.alloc())?;
     if let ["measure", words @ ..] = words.as_slice() {
         return measure(&rt, words);
+    }
+    if let ["files", words @ ..] = words.as_slice() {
+        return measure_files(&rt, words);
     }
     for name in words.iter() {
         let text = fs::read_to_string(&rt, *name)?;
