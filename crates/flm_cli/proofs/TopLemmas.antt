@@ -56,7 +56,7 @@ module _ (tells given told : Bool) (b : BenchState) (i : InputsState) (o : SinkS
   status_unread : StatusEnds Bench Inputs Out (refused out_of_memory)
   status_unread =
       ends_refused tells b b Inputs took_nothing (only_reads_here tells b) told o opening.OutOfMemory (λ is. cc)
-      (record { later = omega arith; on_fault = λ is. cc; on_other = λ is. refl }) (λ its. tt)
+      (record { later = omega arith; on_fault = λ is. cc; on_other = λ is. refl }) (λ its. tt) tt
 
   -- `demo`, for want of memory before it ran
   demo_unbegun : (seed : ℕ) → DemoEnds seed Bench Inputs Out (refused out_of_memory)

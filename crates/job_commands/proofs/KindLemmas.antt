@@ -1,8 +1,10 @@
 -- Which refusals a step has.
-use Rattle.std.proofs.Common.{◌≡◌, refl, true}
+use Rattle.std.proofs.Common.{◌≡◌, refl, true, ℕ}
 use Rattle.job_file.specs.declared.fault.OpenFault.TheVariants as opening
 use Rattle.job_file.specs.declared.fault.BeginFault.{BeginFault}
 use Rattle.job_file.specs.declared.fault.BeginFault.TheVariants as beginning
+use Rattle.job_file.specs.Faults.{IsSoundBegin}
+use Rattle.flash_session.specs.Opened.{IsSoundSession}
 use Rattle.flash_session.specs.declared.fault.SessionFault.{SessionFault}
 use Rattle.flash_session.specs.declared.fault.SessionFault.TheVariants as session
 use Rattle.flash_session.specs.declared.fault.SurveyFault.{SurveyFault}
@@ -33,28 +35,28 @@ script_stands bench out (refused (call_failed number call end)) kind = tt
 script_stands bench out (refused (mismatch at wanted found)) kind = tt
 script_stands bench out (refused r) kind = absurd (cc)
 
--- a refusal before the script names no bytes
-pub session_sound : (fault : SessionFault) → IsSound (refused (of_session fault))
-session_sound session.OutOfMemory = tt
-session_sound (session.Open opening.OutOfMemory) = tt
-session_sound (session.Open opening.NoJob) = tt
-session_sound (session.Open (opening.NotAJob at)) = tt
-session_sound (session.Open opening.StoreFault) = tt
-session_sound (session.Open (opening.CellsDiffer said found)) = tt
-session_sound session.DeviceFault = tt
+-- a refusal before the script names no bytes, and numbers of cells that differ
+pub session_sound : (count : ℕ) (fault : SessionFault) → IsSoundSession count fault → IsSound (refused (of_session fault))
+session_sound count session.OutOfMemory sound = tt
+session_sound count (session.Open opening.OutOfMemory) sound = tt
+session_sound count (session.Open opening.NoJob) sound = tt
+session_sound count (session.Open (opening.NotAJob at)) sound = tt
+session_sound count (session.Open opening.StoreFault) sound = tt
+session_sound count (session.Open (opening.CellsDiffer said found)) sound = sound.1
+session_sound count session.DeviceFault sound = tt
 
 pub survey_sound : (fault : SurveyFault) → IsSound (refused (of_survey fault))
 survey_sound survey.OutOfMemory = tt
 survey_sound survey.DeviceFault = tt
 survey_sound survey.StoreFault = tt
 
-pub begin_sound : (fault : BeginFault) → IsSound (refused (of_begin fault))
-begin_sound beginning.OutOfMemory = tt
-begin_sound beginning.JobOpen = tt
-begin_sound beginning.StoreFault = tt
-begin_sound beginning.DeviceFault = tt
-begin_sound (beginning.CellsDiffer said found) = tt
-begin_sound (beginning.NotAJob at) = tt
+pub begin_sound : (size count : ℕ) (fault : BeginFault) → IsSoundBegin size count fault → IsSound (refused (of_begin fault))
+begin_sound size count beginning.OutOfMemory sound = tt
+begin_sound size count beginning.JobOpen sound = tt
+begin_sound size count beginning.StoreFault sound = tt
+begin_sound size count beginning.DeviceFault sound = tt
+begin_sound size count (beginning.CellsDiffer said found) sound = sound.2
+begin_sound size count (beginning.NotAJob at) sound = tt
 
 -- no refusal of `begin` comes after a job was begun
 pub begin_before : (fault : BeginFault) → is_of_work (refused (of_begin fault)) ≡ true → ⊥

@@ -12,11 +12,12 @@ is_of_work (refused (call_failed number call end)) = true
 is_of_work (refused (mismatch at wanted found)) = true
 is_of_work (refused _) = false
 
--- the two bytes of a mismatch differ, and the call that failed isn't done
+-- the two bytes of a mismatch and the two numbers of cells differ, and the call that failed isn't done
 abbrev pub IsSound : Answer → Type 0
 IsSound done = Unit {0}
 IsSound (refused (call_failed number call end)) = IsNotDone number end
 IsSound (refused (mismatch at wanted found)) = wanted ≢ found
+IsSound (refused (cells_differ wanted found)) = wanted ≢ found
 IsSound (refused _) = Unit {0}
 
 -- those that come only where the file was free: the job was begun, or there were other cells than it is for

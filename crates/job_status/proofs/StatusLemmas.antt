@@ -11,7 +11,7 @@ use Rattle.job_text.specs.Reading as reading
 use Rattle.job_text.specs.Stands.{IsSomeJob, IsNotAJob}
 use Rattle.job_text.proofs.BodyLemmas.{same_job}
 use Rattle.job_file.specs.Counted as counted
-use Rattle.job_file.specs.Faults.{IsOpenFault, IsOtherSize}
+use Rattle.job_file.specs.Faults.{IsOpenFault, IsSoundOpen, IsOtherSize}
 use Rattle.job_file.specs.declared.fault.OpenFault.{OpenFault}
 use Rattle.job_file.specs.declared.fault.OpenFault.TheVariants as opening
 use Rattle.report_text.specs.Job.{job_text, no_job_text}
@@ -96,7 +96,7 @@ module _ (bench : BenchCall) (out : SinkCall) (told : IsTrue bench.tells) where
         stands = λ some same. absurd (is.no_job some.job some.board some.algorithm some.is some.whole);
       }
   is_due (refused (cells_differ wanted found)) comes =
-      let is : IsOtherSize bench.before.file bench.before.cell_count wanted found = comes.0 told in
+      let is : IsOtherSize bench.before.file bench.before.cell_count wanted found = comes.1.0 told in
       let sized : (some : IsSomeJob bench.before.file) → wanted ≡ some.algorithm.device.size =
       λ some. is.said_is ∙ ap (λ (a : flm.Shown). a.device.size) (one_algorithm bench.before.file is.some some) in record {
         free = λ free. absurd (not_free bench.before.file is.some free);
@@ -187,23 +187,23 @@ module _ (tells : Bool) (b after : BenchState) (inputs : InputsCall) (takes : Ta
     }
 
     pub ends_refused : (fault : OpenFault) → fault ≢ opening.NoJob → counted.IsCounted b.store_faults after.store_faults (counted.is_open_fault {T = Unit {0}} (Err fault))
-        → (IsTrue tells → IsOpenFault b.file b.cell_count fault) → StatusEnds (bench_call tells b after) inputs (sink_call told o o) (refused (refusal_of fault))
-    ends_refused opening.OutOfMemory some counted is = refused_ends out_of_memory (record {
+        → (IsTrue tells → IsOpenFault b.file b.cell_count fault) → IsSoundOpen b.cell_count fault → StatusEnds (bench_call tells b after) inputs (sink_call told o o) (refused (refusal_of fault))
+    ends_refused opening.OutOfMemory some counted is sound = refused_ends out_of_memory (record {
       kind = refl;
       counts = plain_counts out_of_memory (counted.on_other refl) refl;
       stands = record { taken = refl; faults = refl };
       untaken = λ name wrong. absurd (cc);
       none_failed = λ its no. takes.failed;
     }) (record { taken = refl; faults = refl })
-    ends_refused opening.NoJob some counted is = absurd (some refl)
-    ends_refused (opening.NotAJob at) some counted is = refused_ends (not_a_job at) (record {
+    ends_refused opening.NoJob some counted is sound = absurd (some refl)
+    ends_refused (opening.NotAJob at) some counted is sound = refused_ends (not_a_job at) (record {
       kind = refl;
       counts = plain_counts (not_a_job at) (counted.on_other refl) refl;
       stands = record { reads = λ its. reads; prints = record { taken = refl; faults = refl } };
       untaken = λ name wrong. absurd (cc);
       none_failed = λ its no. takes.failed;
     }) (is, record { taken = refl; faults = refl })
-    ends_refused opening.StoreFault some counted is = refused_ends store_fault (record {
+    ends_refused opening.StoreFault some counted is sound = refused_ends store_fault (record {
       kind = refl;
       counts = record {
         inputs_count = unraised inputs.before.faults inputs.after.faults input (refused store_fault) takes.faults (λ its. let wrong : store ≡ input = cc in cc);
@@ -215,10 +215,10 @@ module _ (tells : Bool) (b after : BenchState) (inputs : InputsCall) (takes : Ta
       untaken = λ name wrong. absurd (cc);
       none_failed = λ its no. takes.failed;
     }) (record { taken = refl; faults = refl })
-    ends_refused (opening.CellsDiffer said found) some counted is = refused_ends (cells_differ said found) (record {
+    ends_refused (opening.CellsDiffer said found) some counted is sound = refused_ends (cells_differ said found) (record {
       kind = refl;
       counts = plain_counts (cells_differ said found) (counted.on_other refl) refl;
       stands = record { reads = λ its. reads; prints = record { taken = refl; faults = refl } };
       untaken = λ name wrong. absurd (cc);
       none_failed = λ its no. takes.failed;
-    }) (is, record { taken = refl; faults = refl })
+    }) (sound.1, (is, record { taken = refl; faults = refl }))

@@ -52,7 +52,7 @@ ComesOfJobFile bench out (refused out_of_memory) = TookNothing out
 ComesOfJobFile bench out (refused store_fault) = TookNothing out
 ComesOfJobFile bench out (refused (not_a_job at)) = (IsTrue bench.tells → IsNotAJob at bench.before.file) × TookNothing out
 ComesOfJobFile bench out (refused (cells_differ wanted found)) =
-    (IsTrue bench.tells → IsOtherSize bench.before.file bench.before.cell_count wanted found) × TookNothing out
+    (wanted ≢ found) × ((IsTrue bench.tells → IsOtherSize bench.before.file bench.before.cell_count wanted found) × TookNothing out)
 ComesOfJobFile bench out (refused output_fault) = SaysNone bench out (refused output_fault) ⊎ SaysJob bench out (refused output_fault)
 ComesOfJobFile bench out (refused _) = ⊥
 ComesOfJobFile bench out done = SaysNone bench out done ⊎ SaysJob bench out done

@@ -40,7 +40,7 @@ pub returns-in-Err-clause-kind : goal.returns-in-Err-clause-kind
 returns-in-Err-clause-kind g c = subst (λ (r : Refusal). IsOf has_resume (refused r)) (sym c.session_refusal.ensures) (session_kind c.in-Err.fault)
 
 pub returns-in-Err-clause-sound : goal.returns-in-Err-clause-sound
-returns-in-Err-clause-sound g c = subst (λ (r : Refusal). IsSound (refused r)) (sym c.session_refusal.ensures) (session_sound c.in-Err.fault)
+returns-in-Err-clause-sound g c = subst (λ (r : Refusal). IsSound (refused r)) (sym c.session_refusal.ensures) (session_sound (g.B.Bench.state c.args.bench.now).cell_count c.in-Err.fault c.in-Err.ensures.sound)
 
 pub returns-in-Err-survey-clause-sound : goal.returns-in-Err-survey-clause-sound
 returns-in-Err-survey-clause-sound g c = subst (λ (r : Refusal). IsSound (refused r)) (sym c.survey_refusal.ensures) (survey_sound c.in-Err-survey.fault)
