@@ -14,17 +14,17 @@ const SECTIONS: u32 = 0xFEFF;
 const MOST: u32 = 1 << 26;
 
 /// The bytes of the ELF header, and of a section header.
-const HEADER_LEN: u32 = 52;
+pub const HEADER_LEN: u32 = 52;
 
-const SECTION_LEN: u32 = 40;
+pub const SECTION_LEN: u32 = 40;
 
 /// An ELF header with its magic bytes, class, data, version, type and machine.
-const BEGIN: [u8; 20] = [
+pub const BEGIN: [u8; 20] = [
     0x7F, b'E', b'L', b'F', 1, 1, 1, 0, 0, 0, 0, 0, 0, 0, 0, 0, 1, 0, 40, 0,
 ];
 
 /// The words of a section header or of a part of one.
-fn push_words(file: &mut Vec<u8>, words: &[u32]) -> Result<(), AllocError> {
+pub fn push_words(file: &mut Vec<u8>, words: &[u32]) -> Result<(), AllocError> {
     for word in words {
         file.extend_from_slice(&word.to_le_bytes())?;
     }
