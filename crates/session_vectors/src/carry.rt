@@ -18,6 +18,7 @@ pub enum Carried {
     Unsurveyed(SurveyFault),
     Closed,
     Unclosed,
+    Reached,
     Mismatch(Difference),
     CallFailed {
         number: u32,
@@ -57,5 +58,31 @@ pub fn carry<B: Bench>(alloc: Global, bench: &mut B, goal: Goal) -> Carried {
     match session.survey(alloc, bench, goal) {
         Ok(()) => finish(&mut session, bench),
         Err(fault) => Carried::Unsurveyed(fault),
+    }
+}
+
+/// Opens the job of one bench, surveys another, and goes over a third, which have the same file and as many cells. The job stays open.
+pub fn carry_apart<B: Bench>(alloc: Global, first: &mut B, second: &mut B, third: &mut B) -> Carried
+    requires second_file { IsTrue B.tells → (B.state second.old).file ≡ (B.state first.old).file }
+    requires second_count { (B.state second.old).cell_count ≡ (B.state first.old).cell_count }
+    requires second_idle { IsTrue B.tells → (B.state second.old).operation ≡ None }
+    requires third_file { IsTrue B.tells → (B.state third.old).file ≡ (B.state first.old).file }
+    requires third_count { (B.state third.old).cell_count ≡ (B.state first.old).cell_count }
+    requires third_idle { IsTrue B.tells → (B.state third.old).operation ≡ None }
+{
+    let mut session = match Session::open(alloc, first) {
+        Ok(session) => session,
+        Err(fault) => return Carried::Refused(fault),
+    };
+    match session.survey(alloc, second, Goal::New) {
+        Ok(()) => {}
+        Err(fault) => return Carried::Unsurveyed(fault),
+    }
+    match session.go(third) {
+        SessionEnd::Reached(_) => Carried::Reached,
+        SessionEnd::Mismatch(difference) => Carried::Mismatch(difference),
+        SessionEnd::CallFailed { number, call, end } => Carried::CallFailed { number, call, end },
+        SessionEnd::DeviceFault => Carried::DeviceFault,
+        SessionEnd::StoreFault => Carried::StoreFault,
     }
 }

@@ -40,7 +40,7 @@ impl Job {
     }
 
     /// The file that stands for it.
-    fn file(&self, rt: &HostRuntime) -> Result<Vec<u8>> {
+    pub fn file(&self, rt: &HostRuntime) -> Result<Vec<u8>> {
         let mut file = Vec::from_slice(rt.alloc(), b"\xA5FLMJOB1")?;
         for len in [self.board.len(), self.flm.len(), 1, self.cells.len()] {
             put_length(&mut file, len)?;

@@ -13,11 +13,17 @@
 //! - `cells CELLS..`: the bench holds these cells. `file open` or `file closed`: its file stands for the job, or is free.
 //! - `stops BOARD FLM AT IMAGE CELLS..`: sessions to the new goal that are stopped at each of their calls in turn, with each pick; a session
 //!   after it comes to the goal. It prints how many stops there were.
+//! - `apart SURVEY GO BOARD FLM AT IMAGE CELLS..`: a session that opens the job over one bench, surveys a second and goes over a third with the
+//!   same file and cells, and a session on the third after it. The file call SURVEY of the second fails, and GO of the third, in decimal.
+//!
+//! `a1_windows.flm` and `a2_windows.flm` have a device of 13 sectors of 768 cells and pages of 12, which are written over those of `a1.flm` and
+//! `a2.flm`: a page of it lies across the place 4,096, and its cells are read in three windows.
 //!
 //! The algorithms A1 to A7 are made as `call_vectors` makes them: A3 with an erase time-out of one millisecond, A2 and A4 with
 //! `arm-none-eabi-objcopy --strip-symbol=Verify` behind it, so that they have no Verify. `picky.s` says how its own file is made.
 #![tactic(auto)]
 
+mod apart;
 mod carry;
 mod hex;
 mod job;

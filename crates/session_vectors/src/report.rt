@@ -53,6 +53,7 @@ pub fn print(rt: &HostRuntime, carried: Carried) -> Result<()> {
         Carried::Unsurveyed(fault) => println!(rt; "not surveyed: {fault}")?,
         Carried::Closed => println!(rt; "closed")?,
         Carried::Unclosed => println!(rt; "not closed")?,
+        Carried::Reached => println!(rt; "reached")?,
         Carried::Mismatch(found) => {
             let (at, want, got) = (found.at, found.want, found.got);
             println!(rt; "mismatch at {at:08X} wanted {want:02X} found {got:02X}")?;

@@ -1,5 +1,6 @@
 //! The steps of the cases.
 
+use crate::apart::step_apart;
 use crate::carry::carry;
 use crate::hex::{all_bytes, byte};
 use crate::job::Job;
@@ -41,6 +42,10 @@ fn step(rt: &HostRuntime, bench: &mut Option<MemoryBench>, words: &[&str]) -> Re
         ["job", fail, job @ ..] => {
             let fail = fail.parse::<u64>()?;
             *bench = Some(Job::read(rt, job)?.bench(rt, fail)?);
+            return Ok(true);
+        }
+        ["apart", survey, go, job @ ..] => {
+            step_apart(rt, &Job::read(rt, job)?, survey, go)?;
             return Ok(true);
         }
         ["stops", job @ ..] => {

@@ -1,0 +1,12 @@
+use Rattle.std.proofs.Common.{ap}
+use Rattle.bench_model.specs.Shown.{Memory}
+use Rattle.session_vectors.proofs.apart.bench.Goals as goal
+
+pub returns-clause-file : goal.returns-clause-file
+returns-clause-file c = ap (λ (m : Memory). m.file) c.in_ok-bench.ensures.made
+
+pub returns-clause-cells : goal.returns-clause-cells
+returns-clause-cells c = ap (λ (m : Memory). m.cells) c.in_ok-bench.ensures.made
+
+pub returns-clause-idle : goal.returns-clause-idle
+returns-clause-idle c = ap (λ (m : Memory). m.operation) c.in_ok-bench.ensures.made
