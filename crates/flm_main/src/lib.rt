@@ -2,8 +2,8 @@
 #![tactic(auto)]
 
 mod arguments;
-mod call;
+mod runs;
 
 pub use arguments::Arguments;
-pub use call::{call, run};
 pub use host_files::{HeldStreams, hold_streams};
+pub use runs::{call, run};
