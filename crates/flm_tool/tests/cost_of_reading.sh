@@ -112,7 +112,7 @@ over 64 '[1,1],' > input && dear 'a board of 64 MiB of [1,1],' 1 verify input on
 (awk 'BEGIN { for (n = 0; n < 110000; n++) print "k" n "=1" }' | head -c 1048575) > input && dear 'a board of 1 MiB of kN=1' 6 verify input one
 board board.toml 65536 256
 hex_of_bytes 4700000 > input && dear 'Intel HEX of 4,700,000 bytes apart' 13 verify board.toml input
-srec_of_bytes 4000000 > input && dear 'S-records of 4,000,000 bytes apart' 13 verify board.toml input
+srec_of_bytes 3900000 > input && dear 'S-records of 3,900,000 bytes apart' 13 verify board.toml input
 elf_of_bytes 65000 > input && dear 'ELF of 65,000 segments of a byte' 13 verify board.toml input
 (elf_of_bytes 65000; head -c 64000000 /dev/zero) > input && dear 'an FLM file of 64 MB with no sections' 5 inspect input
 yes ':00000001FF' | head -c 67108864 > input && dear 'Intel HEX of 64 MiB of end records' 4 verify board.toml input
