@@ -1,8 +1,8 @@
 -- A job is begun (a to b), and carried (b to d).
-use Rattle.std.proofs.Common.{◌≡◌, ◌⊎◌, ⊎_elim, inl, inr, refl, ◌∙◌, ◌++◌, ℕ, Bool, true, List, ◌∷◌, length, IsTrue, Option, None, Err, sym, ap, subst}
+use Rattle.std.proofs.Common.{arith, ◌≡◌, ◌⊎◌, ⊎_elim, inl, inr, refl, ◌∙◌, ℕ, Bool, true, List, ◌∷◌, length, IsTrue, Option, None, Err, sym, ap, subst}
 use Rattle.outside_io.specs.State.{SinkState}
 use Rattle.bench_model.specs.History.{left, GoesOn, Leaves, LeftOnly}
-use Rattle.bench_model.specs.State.{BenchState, file_half, Left}
+use Rattle.bench_model.specs.State.{BenchState, file_half, cells_half, Left}
 use Rattle.bench_model.specs.Calls.{SameOutside, OnlyReads}
 use Rattle.bench_model.specs.Pairs.{PairsLeave}
 use Rattle.bench_model.proofs.Moments.{pairs_of}
@@ -24,12 +24,12 @@ use Rattle.report_text.specs.Refusal.{out_of_memory, input_fault, no_job, not_a_
 use Rattle.command_answers.specs.Call.{BenchCall, SinkCall, TookNothing, TookPartBehind, Answer, done, refused, bench_call, sink_call}
 use Rattle.command_answers.specs.Answered.{has_resume, yields, OnlyLooked, StandsEarly, IsOf, on_job_file}
 use Rattle.job_commands.specs.Work.{Work, body, shown_plan, Breaks, IsOnPath, IsOutsidePlanAsSurveyed}
-use Rattle.job_commands.specs.Carry.{EndsInBegin, NeverBegun, EndsBeforePlan, EndsInPlan, EndsInScript, EndsInClose, HasClosed, Comes, Carries, done_text}
+use Rattle.job_commands.specs.Carry.{EndsInBegin, NeverBegun, EndsBeforePlan, EndsInPlan, EndsInScript, EndsInClose, HasClosed, Comes, CellsInTurn, Carries, done_text}
 use Rattle.job_commands.specs.GoOn.{work_to, GoesOnFrom}
 use Rattle.job_commands.specs.Steps.{of_begin, begun, BeginsParts}
-use Rattle.job_commands.proofs.TurnLemmas.{turn_then, cells_turn_then}
+use Rattle.job_commands.proofs.TurnLemmas.{Off, turn_then, off_then, settled_then, ended_then}
 use Rattle.job_commands.proofs.FinishLemmas.{nothing_broken}
-use Rattle.job_commands.proofs.CarryLemmas.{AsEntered, ends_early}
+use Rattle.job_commands.proofs.CarryLemmas.{AsEntered, ends_early, starts_on_path, starts_outside}
 use Rattle.job_commands.proofs.OpenLemmas.{not_free, one_reason}
 
 -- the pairs of `begin`
@@ -63,7 +63,7 @@ module _ (tells sinks : Bool) (a b : BenchState) (p : SinkState) (parts : JobPar
 
   module _ (told : IsTrue tells) (looks : (IsFree a.file × (parts.size ≡ a.cell_count) → ⊥) → OnlyReads tells a b) (same : SameOutside a.operation a.cells b.cells)
       (after : IsFree a.file → IsFreeOrWhole (body_of (job_of parts b.cells)) b.file)
-      (stops : Leaves (file_half a) (file_half b) (IsOfBegin (file_half a) (body_of (job_of parts b.cells)))) (cells : AsEntered a b)
+      (stops : Leaves (file_half a) (file_half b) (IsOfBegin (file_half a) (body_of (job_of parts b.cells)))) (cells : AsEntered a b) (off : Off a b b.cells)
       (many : length b.cells ≡ a.cell_count) where
     abbrev its_work : AreParts parts → Work
     its_work are = work_to New (job_of parts b.cells) are.board are.algorithm b.cells
@@ -78,7 +78,7 @@ module _ (tells sinks : Bool) (a b : BenchState) (p : SinkState) (parts : JobPar
       b.cells,
       job_of_parts parts are b.cells (many ∙ sym size),
       ends_early tells a b (sink_call sinks p p) (IsUntouched a) (its_work are) answer same (comes are is_free) yield
-          (begun_pairs (body_of (job_of parts b.cells)) stops cells) cells,
+          (begun_pairs (body_of (job_of parts b.cells)) stops cells) off,
     )
 
     in_begin : (are : AreParts parts) → IsFree a.file → EndsInBegin (bench_call tells a b) (sink_call sinks p p) (its_work are)
@@ -190,26 +190,32 @@ module _ (tells : Bool) (a b d : BenchState) (out : SinkCall) (w : Work) (idle :
   begun_comes k (refused (input_fault name)) comes = tt
   begun_comes k (refused other) comes = absurd comes
 
+  -- what holds from its turn on, which is at b
+  from_there : {turn : ℕ} {First : List ℕ → Type 0} (P : List ℕ → Type 0) → turn ≡ b.moment → CellsInTurn b d turn First P → Leaves (cells_half b) (cells_half d) P
+  from_there {turn} {First} P is one = record { goes_on = one.goes_on; each = λ k c from to at. one.from k c (omega (arith, from, is)) to at }
+
   begun_carries : (answer : Answer) → LeftOnly (165 ∷ body w) (file_half b) → w.surveyed ≡ b.cells
-      → PairsLeave a b (λ f c. IsUntouched a f c ⊎ IsWhole (body w) f) → AsEntered a b → GoesOn (file_half b) (file_half d)
+      → PairsLeave a b (λ f c. IsUntouched a f c ⊎ IsWhole (body w) f) → Off a b w.surveyed → GoesOn (file_half b) (file_half d)
       → Carries (bench_call tells b d) out (Left b) w answer → Carries (bench_call tells a d) out (IsUntouched a) w answer
-  begun_carries answer only surveyed pairs cells on rest = record {
-    surveyed = subst (λ (x : List ℕ). SameOutside a.operation a.cells x) (sym surveyed) same;
-    broken = rest.broken;
-    comes = begun_comes rest.broken answer rest.comes;
-    stops = record {
-      turn = rest.stops.turn;
-      pairs = turn_then (λ f c. IsUntouched a f c ⊎ IsWhole (body w) f) (λ f c. Left b f c ⊎ IsWhole (body w) f) (IsAtClose (body w) w.goal)
-          (λ f c either. ⊎_elim (λ (at : Left b f c). inr (only f at.0)) (λ (is : IsWhole (body w) f). inr is) either)
-          pairs rest.stops.pairs (λ k f le at. (on.past k f le).0 at) (λ k x le at. (rest.stops.path.goes_on.past k x le).0 at);
-      survey = rest.stops.survey;
-      path = cells_turn_then (λ c. SameOutside a.operation a.cells c) (λ c. SameOutside b.operation b.cells c) (IsOnPath w rest.broken)
-          entered_before cells rest.stops.path;
-      local = λ keeps. cells_turn_then (λ c. SameOutside a.operation a.cells c) (λ c. SameOutside b.operation b.cells c) (IsOutsidePlanAsSurveyed w)
-          entered_before cells (rest.stops.local keeps);
-    };
-    complete = rest.complete;
-  }
+  begun_carries answer only surveyed pairs off on rest =
+      let path = from_there (IsOnPath w rest.broken) (rest.stops.at_entry idle) rest.stops.path in record {
+        surveyed = subst (λ (x : List ℕ). SameOutside a.operation a.cells x) (sym surveyed) same;
+        broken = rest.broken;
+        comes = begun_comes rest.broken answer rest.comes;
+        stops = record {
+          turn = rest.stops.turn;
+          pairs = turn_then (λ f c. IsUntouched a f c ⊎ IsWhole (body w) f) (λ f c. Left b f c ⊎ IsWhole (body w) f) (IsAtClose (body w) w.goal)
+              (λ f c either. ⊎_elim (λ (at : Left b f c). inr (only f at.0)) (λ (is : IsWhole (body w) f). inr is) either)
+              pairs rest.stops.pairs (λ k f le at. (on.past k f le).0 at) (λ k x le at. (rest.stops.path.goes_on.past k x le).0 at);
+          broken_off = off.turn;
+          at_entry = off.at_entry;
+          settled = λ c le at. settled_then a b d off idle (IsOnPath w rest.broken) path c at;
+          ended = λ is. ended_then a b d off idle (IsOnPath w rest.broken) path;
+          path = off_then a b d off idle (IsOnPath w rest.broken) path (starts_on_path w rest.broken);
+          local = λ keeps. off_then a b d off idle (IsOutsidePlanAsSurveyed w) (from_there (IsOutsidePlanAsSurveyed w) (rest.stops.at_entry idle) (rest.stops.local keeps)) (starts_outside w);
+        };
+        complete = rest.complete;
+      }
 
 -- no answer of a job's work is changed once it was begun
 pub begun_is : {bench : BenchCall} {out : SinkCall} {First : List ℕ → List ℕ → Type 0} {w : Work} (answer : Answer) → Carries bench out First w answer → begun answer ≡ answer
@@ -252,8 +258,8 @@ module _ (tells sinks : Bool) (a b d : BenchState) (p r : SinkState) (parts : Jo
       (exactly tells a b d (sink_call sinks p r) (works are) idle same whole its.0 its.1.surveyed) its.1
 
   pub begins_whole : AreParts parts → Leaves (file_half a) (file_half b) (IsOfBegin (file_half a) (body_of (job_of parts b.cells))) → AsEntered a b
-      → GoesOn (file_half b) (file_half d) → BeginsParts (bench_call tells a d) (sink_call sinks p r) parts (begun answer)
-  begins_whole one stops cells on =
+      → Off a b b.cells → GoesOn (file_half b) (file_half d) → BeginsParts (bench_call tells a d) (sink_call sinks p r) parts (begun answer)
+  begins_whole one stops cells off on =
       subst (λ (x : Answer). BeginsParts (bench_call tells a d) (sink_call sinks p r) parts x) (sym (begun_is answer (carried one))) (record {
         free = λ its. is_free;
         some_job = λ some. absurd (not_free some.job a.file some.whole is_free);
@@ -263,6 +269,6 @@ module _ (tells sinks : Bool) (a b d : BenchState) (p r : SinkState) (parts : Jo
           b.cells,
           is_job are,
           begun_carries tells a b d (sink_call sinks p r) (works are) idle same whole answer only refl
-              (begun_pairs (body_of (job_of parts b.cells)) stops cells) cells on (carried are),
+              (begun_pairs (body_of (job_of parts b.cells)) stops cells) off on (carried are),
         );
       })

@@ -1,5 +1,5 @@
 -- A job is carried: entered (a), opened (b), surveyed (m), finished (d).
-use Rattle.std.proofs.Common.{◌≡◌, ◌⊎◌, ⊎_elim, inl, inr, refl, ◌≤◌, ◌+◌, ◌++◌, ◌∙◌, ℕ, Bool, true, List, Option, None, ap, subst, append_assoc}
+use Rattle.std.proofs.Common.{◌≡◌, ◌⊎◌, ⊎_elim, inl, inr, refl, ◌≤◌, ◌+◌, arith, ◌++◌, ◌∙◌, ℕ, Bool, true, List, None, ap, subst, append_assoc}
 use Rattle.faults.specs.Counts.{Rose}
 use Rattle.outside_io.specs.State.{SinkState}
 use Rattle.outside_io.specs.Appends.{AppendsPart}
@@ -11,13 +11,14 @@ use Rattle.bench_model.proofs.Moments.{leaves_as, pairs_as, pairs_then, never}
 use Rattle.job_text.specs.Files.{IsWhole, IsFree}
 use Rattle.campaign.specs.Stops.{IsAtClose}
 use Rattle.flash_session.specs.Script.{Broken}
+use Rattle.flash_session.specs.Starts.{start_of}
 use Rattle.report_text.specs.Refusal.{out_of_memory, store_fault, device_fault, output_fault, call_failed, mismatch}
 use Rattle.command_answers.specs.Call.{SinkCall, TookNothing, TookAll, TookPart, TookPartBehind, Answer, done, refused, bench_call, sink_call}
 use Rattle.command_answers.specs.Answered.{yields}
 use Rattle.job_commands.specs.Work.{Work, body, shown_plan, Breaks, IsOnPath, IsOutsidePlanAsSurveyed}
 use Rattle.job_commands.specs.Carry.{EndsBeforePlan, HasJob, HasReached, Comes, Carries, done_text}
 use Rattle.job_commands.specs.Steps.{FinishComes, Finishes}
-use Rattle.job_commands.proofs.TurnLemmas.{turn_then, cells_never, cells_in_turn}
+use Rattle.job_commands.proofs.TurnLemmas.{Off, turn_then, off_as, off_then, settled_then, ended_then}
 use Rattle.job_commands.proofs.FinishLemmas.{nothing_broken}
 
 -- cells that only an operation open at entry may have changed
@@ -27,21 +28,31 @@ AsEntered a x = Leaves (cells_half a) (cells_half x) (λ c. SameOutside a.operat
 pub entered : (a b : BenchState) → ((x : List ℕ) → left (cells_half a) x → SameOutside a.operation a.cells x) → AddsNothing (cells_half a) (cells_half b) → AsEntered a b
 entered a b exact adds = leaves_as (left (cells_half a)) (λ c. SameOutside a.operation a.cells c) exact adds
 
+-- the script begins with the cells as surveyed
+pub starts_on_path : (w : Work) (broken : Broken) → IsOnPath w broken w.surveyed
+starts_on_path w broken = record { at = start_of w.board w.surveyed; on = inl refl; left = refl }
+
+pub starts_outside : (w : Work) → IsOutsidePlanAsSurveyed w w.surveyed
+starts_outside w = record { long = refl; same = λ i out. refl }
+
 -- An end before the script.
 pub ends_early : (tells : Bool) (a x : BenchState) (out : SinkCall) (First : List ℕ → List ℕ → Type 0) (w : Work) (answer : Answer)
     → SameOutside a.operation a.cells w.surveyed → Comes (bench_call tells a x) out w nothing_broken answer → yields answer ≡ true
-    → PairsLeave a x (λ f c. First f c ⊎ IsWhole (body w) f) → AsEntered a x
+    → PairsLeave a x (λ f c. First f c ⊎ IsWhole (body w) f) → Off a x w.surveyed
     → Carries (bench_call tells a x) out First w answer
-ends_early tells a x out First w answer surveyed comes yield pairs cells = record {
+ends_early tells a x out First w answer surveyed comes yield pairs off = record {
   surveyed = surveyed;
   broken = nothing_broken;
   comes = comes;
   stops = record {
     turn = x.moment + 1;
     pairs = never (λ f c. First f c ⊎ IsWhole (body w) f) (IsAtClose (body w) w.goal) pairs;
-    survey = x.moment + 1;
-    path = cells_never (λ c. SameOutside a.operation a.cells c) (IsOnPath w nothing_broken) cells;
-    local = λ keeps. cells_never (λ c. SameOutside a.operation a.cells c) (IsOutsidePlanAsSurveyed w) cells;
+    broken_off = off.turn;
+    at_entry = off.at_entry;
+    settled = λ c le at. off.moments.from off.turn c (omega arith) le at;
+    ended = off.ended;
+    path = off_as off (IsOnPath w nothing_broken) (starts_on_path w nothing_broken);
+    local = λ keeps. off_as off (IsOutsidePlanAsSurveyed w) (starts_outside w);
   };
   complete = λ keeps. inr yield;
 }
@@ -49,7 +60,7 @@ ends_early tells a x out First w answer surveyed comes yield pairs cells = recor
 -- An end before the plan, of a job that the file at entry stands for.
 module _ (tells sinks : Bool) (a x : BenchState) (p : SinkState) (w : Work) (whole : IsWhole (body w) a.file) (surveyed : SameOutside a.operation a.cells w.surveyed)
     (same : x.file ≡ a.file) (outside : SameOutside a.operation a.cells x.cells) (pairs : PairsLeave a x (λ f c. Left a f c ⊎ IsWhole (body w) f))
-    (cells : AsEntered a x) where
+    (off : Off a x w.surveyed) where
   nothing : TookNothing (sink_call sinks p p)
   nothing = record { taken = refl; faults = refl }
 
@@ -58,19 +69,19 @@ module _ (tells sinks : Bool) (a x : BenchState) (p : SinkState) (w : Work) (who
 
   pub no_memory : Carries (bench_call tells a x) (sink_call sinks p p) (Left a) w (refused out_of_memory)
   no_memory = ends_early tells a x (sink_call sinks p p) (Left a) w (refused out_of_memory) surveyed
-      (record { file = inl (same ∙ whole); cells = outside; prints = nothing }) refl pairs cells
+      (record { file = inl (same ∙ whole); cells = outside; prints = nothing }) refl pairs off
 
   pub no_store : Carries (bench_call tells a x) (sink_call sinks p p) (Left a) w (refused store_fault)
-  no_store = ends_early tells a x (sink_call sinks p p) (Left a) w (refused store_fault) surveyed (inr (inl before_plan)) refl pairs cells
+  no_store = ends_early tells a x (sink_call sinks p p) (Left a) w (refused store_fault) surveyed (inr (inl before_plan)) refl pairs off
 
   pub no_device : Carries (bench_call tells a x) (sink_call sinks p p) (Left a) w (refused device_fault)
-  no_device = ends_early tells a x (sink_call sinks p p) (Left a) w (refused device_fault) surveyed (inr (inl before_plan)) refl pairs cells
+  no_device = ends_early tells a x (sink_call sinks p p) (Left a) w (refused device_fault) surveyed (inr (inl before_plan)) refl pairs off
 
   -- in the plan's text
   pub ends_in_plan : (q : SinkState) → x.cells ≡ w.surveyed → x.operation ≡ None → TookPart (sink_call sinks p q) (shown_plan w)
       → Carries (bench_call tells a x) (sink_call sinks p q) (Left a) w (refused output_fault)
   ends_in_plan q is idle part = ends_early tells a x (sink_call sinks p q) (Left a) w (refused output_fault) surveyed
-      (inl (record { job = same ∙ whole; cells = is; idle = idle; prints = part })) refl pairs cells
+      (inl (record { job = same ∙ whole; cells = is; idle = idle; prints = part })) refl pairs off
 
 -- the pairs up to the survey
 pub opened : {a b : BenchState} (body : List ℕ) → PairsLeave a b (Left a) → PairsLeave a b (λ f c. Left a f c ⊎ IsWhole body f)
@@ -118,9 +129,9 @@ module _ (tells sinks : Bool) (a m d : BenchState) (p q r : SinkState) (w : Work
       record { job = rest.0; prints = nothing_then sinks p q r (shown_plan w) plan rest.2; way = rest.1 }
   comes_then b (refused other) rest = absurd rest
 
-  pub ends_finished : (First : List ℕ → List ℕ → Type 0) (answer : Answer) → PairsLeave a m (λ f c. First f c ⊎ IsWhole (body w) f) → AsEntered a m
+  pub ends_finished : (First : List ℕ → List ℕ → Type 0) (answer : Answer) → PairsLeave a m (λ f c. First f c ⊎ IsWhole (body w) f) → Off a m w.surveyed → m.operation ≡ None
       → Finishes (bench_call tells m d) (sink_call sinks q r) w answer → Carries (bench_call tells a d) (sink_call sinks p r) First w answer
-  ends_finished First answer pairs cells rest = record {
+  ends_finished First answer pairs off idle rest = record {
     surveyed = surveyed;
     broken = rest.broken;
     comes = comes_then rest.broken answer rest.comes;
@@ -128,9 +139,12 @@ module _ (tells sinks : Bool) (a m d : BenchState) (p q r : SinkState) (w : Work
       turn = rest.turn;
       pairs = turn_then (λ f c. First f c ⊎ IsWhole (body w) f) (λ f c. IsWhole (body w) f) (IsAtClose (body w) w.goal) (λ f c whole. inr whole)
           pairs rest.pairs (λ k f le at. (rest.files_past k f le).0 at) (λ k x le at. (rest.path.goes_on.past k x le).0 at);
-      survey = m.moment;
-      path = cells_in_turn a m d (λ c. SameOutside a.operation a.cells c) (IsOnPath w rest.broken) cells rest.path;
-      local = λ keeps. cells_in_turn a m d (λ c. SameOutside a.operation a.cells c) (IsOutsidePlanAsSurveyed w) cells (rest.local keeps);
+      broken_off = off.turn;
+      at_entry = off.at_entry;
+      settled = λ c le at. settled_then a m d off idle (IsOnPath w rest.broken) rest.path c at;
+      ended = λ is. ended_then a m d off idle (IsOnPath w rest.broken) rest.path;
+      path = off_then a m d off idle (IsOnPath w rest.broken) rest.path (starts_on_path w rest.broken);
+      local = λ keeps. off_then a m d off idle (IsOutsidePlanAsSurveyed w) (rest.local keeps) (starts_outside w);
     };
     complete = rest.complete;
   }

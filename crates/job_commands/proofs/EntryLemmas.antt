@@ -22,6 +22,7 @@ use Rattle.job_commands.specs.Answers.{is_of_free}
 use Rattle.job_commands.specs.Carry.{Comes}
 use Rattle.job_commands.specs.GoOn.{work_to, GoesOnFrom}
 use Rattle.job_commands.specs.Program.{job_for, BeginsOn}
+use Rattle.job_commands.proofs.TurnLemmas.{Off, off_at_end}
 use Rattle.job_commands.proofs.CarryLemmas.{AsEntered, entered, ends_early, no_memory}
 use Rattle.job_commands.proofs.FinishLemmas.{nothing_broken}
 use Rattle.job_commands.proofs.RegionLemmas.{aim_job}
@@ -34,6 +35,10 @@ module _ (tells sinks : Bool) (b : BenchState) (o : SinkState) (many : length b.
     (exact : (x : List ℕ) → left (cells_half b) x → SameOutside b.operation b.cells x) where
   still : AsEntered b b
   still = entered b b exact (adds_nothing_here (cells_half b))
+
+  -- no call was made
+  off : Off b b b.cells
+  off = off_at_end b b b.cells (same_here b.operation b.cells) still refl exact
 
   pairs_here : (text : List ℕ) → PairsLeave b b (λ f c. IsUntouched b f c ⊎ IsWhole text f)
   pairs_here text = pairs_of (left (file_half b)) (λ c. SameOutside b.operation b.cells c) (λ f c. IsUntouched b f c ⊎ IsWhole text f)
@@ -48,7 +53,7 @@ module _ (tells sinks : Bool) (b : BenchState) (o : SinkState) (many : length b.
       b.cells,
       no_memory tells sinks b b o (work_to goal job c x b.cells) whole (same_here b.operation b.cells) refl (same_here b.operation b.cells)
           (pairs_of (left (file_half b)) (left (cells_half b)) (λ f c. Left b f c ⊎ IsWhole (body_of job) f) (adds_nothing_here (file_half b))
-          (adds_nothing_here (cells_half b)) (λ f c at exactly. inl (at, exactly))) still,
+          (adds_nothing_here (cells_half b)) (λ f c at exactly. inl (at, exactly))) off,
     );
   }
 
@@ -65,7 +70,7 @@ module _ (tells sinks : Bool) (b : BenchState) (o : SinkState) (many : length b.
         record {
           snapshot = b.cells;
           is_job = aim_job raw_at files aim has b.cells is (many ∙ sym size);
-          carries = ends_early tells b b (sink_call sinks o o) (IsUntouched b) w answer (same_here b.operation b.cells) (comes w) yield (pairs_here (body w)) still;
+          carries = ends_early tells b b (sink_call sinks o o) (IsUntouched b) w answer (same_here b.operation b.cells) (comes w) yield (pairs_here (body w)) off;
         };
   }
 

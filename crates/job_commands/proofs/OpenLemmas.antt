@@ -28,7 +28,8 @@ use Rattle.job_commands.specs.Work.{Work, body}
 use Rattle.job_commands.specs.Carry.{Carries}
 use Rattle.job_commands.specs.GoOn.{work_to, GoesOnFrom}
 use Rattle.job_commands.specs.Steps.{of_session, of_survey}
-use Rattle.job_commands.proofs.CarryLemmas.{AsEntered, no_memory, no_store, no_device, opened}
+use Rattle.job_commands.proofs.TurnLemmas.{Off}
+use Rattle.job_commands.proofs.CarryLemmas.{no_memory, no_store, no_device, opened}
 
 -- a file that stands for a job isn't free
 pub not_free : (job : Job) (file : List ℕ) → IsWhole (body_of job) file → IsFree file → ⊥
@@ -88,21 +89,21 @@ module _ (tells sinks : Bool) (a b : BenchState) (p : SinkState) (goal : Goal) w
   open_stands (session.Open (opening.CellsDiffer said found)) reads = only_looked reads
   open_stands session.DeviceFault reads = tt
 
-  module _ (file : b.file ≡ a.file) (same : SameOutside a.operation a.cells b.cells) (pairs : PairsLeave a b (Left a)) (cells : AsEntered a b) where
+  module _ (file : b.file ≡ a.file) (same : SameOutside a.operation a.cells b.cells) (pairs : PairsLeave a b (Left a)) (off : Off a b b.cells) where
     pub refuses_open : (fault : SessionFault) → IsSessionFault a.file a.cell_count fault → ReadsIfRefused {T = Session} tells a b (Err fault)
         → GoesOnFrom goal (bench_call tells a b) (sink_call sinks p p) (refused (of_session fault))
     refuses_open session.OutOfMemory is reads = record {
       free = λ is_free. inr (refl, only_looked reads);
       not_job = λ at no. inr (refl, only_looked reads);
       other_size = λ some unequal. inr (refl, only_looked reads);
-      stands = λ job c x is_job whole size. (b.cells, no_memory tells sinks a b p (work_to goal job c x b.cells) whole same file same (opened (body_of job) pairs) cells);
+      stands = λ job c x is_job whole size. (b.cells, no_memory tells sinks a b p (work_to goal job c x b.cells) whole same file same (opened (body_of job) pairs) off);
     }
     refuses_open (session.Open opening.OutOfMemory) is reads = absurd is
     refuses_open (session.Open opening.StoreFault) is reads = record {
       free = λ is_free. inr (refl, only_looked reads);
       not_job = λ at no. inr (refl, only_looked reads);
       other_size = λ some unequal. inr (refl, only_looked reads);
-      stands = λ job c x is_job whole size. (b.cells, no_store tells sinks a b p (work_to goal job c x b.cells) whole same file same (opened (body_of job) pairs) cells);
+      stands = λ job c x is_job whole size. (b.cells, no_store tells sinks a b p (work_to goal job c x b.cells) whole same file same (opened (body_of job) pairs) off);
     }
     refuses_open (session.Open opening.NoJob) is reads = record {
       free = λ is_free. inl refl;
@@ -134,16 +135,16 @@ module _ (tells sinks : Bool) (a b : BenchState) (p : SinkState) (goal : Goal) w
       other_size = λ some unequal.
           let one = one_job a.file some.is is.some.is some.whole is.some.whole in
           absurd (unequal (ap (λ (y : flm.Shown). y.device.size) one.algorithm ∙ is.size));
-      stands = λ job c x is_job whole size. (b.cells, no_device tells sinks a b p (work_to goal job c x b.cells) whole same file same (opened (body_of job) pairs) cells);
+      stands = λ job c x is_job whole size. (b.cells, no_device tells sinks a b p (work_to goal job c x b.cells) whole same file same (opened (body_of job) pairs) off);
     }
 
 -- a survey that could not be made
 pub refuses_survey : (tells sinks : Bool) (a m : BenchState) (p : SinkState) (w : Work) → IsWhole (body w) a.file → SameOutside a.operation a.cells w.surveyed → m.file ≡ a.file
-    → SameOutside a.operation a.cells m.cells → PairsLeave a m (λ f c. Left a f c ⊎ IsWhole (body w) f) → AsEntered a m
+    → SameOutside a.operation a.cells m.cells → PairsLeave a m (λ f c. Left a f c ⊎ IsWhole (body w) f) → Off a m w.surveyed
     → (fault : SurveyFault) → Carries (bench_call tells a m) (sink_call sinks p p) (Left a) w (refused (of_survey fault))
-refuses_survey tells sinks a m p w whole surveyed same outside pairs cells survey.OutOfMemory = no_memory tells sinks a m p w whole surveyed same outside pairs cells
-refuses_survey tells sinks a m p w whole surveyed same outside pairs cells survey.DeviceFault = no_device tells sinks a m p w whole surveyed same outside pairs cells
-refuses_survey tells sinks a m p w whole surveyed same outside pairs cells survey.StoreFault = no_store tells sinks a m p w whole surveyed same outside pairs cells
+refuses_survey tells sinks a m p w whole surveyed same outside pairs off survey.OutOfMemory = no_memory tells sinks a m p w whole surveyed same outside pairs off
+refuses_survey tells sinks a m p w whole surveyed same outside pairs off survey.DeviceFault = no_device tells sinks a m p w whole surveyed same outside pairs off
+refuses_survey tells sinks a m p w whole surveyed same outside pairs off survey.StoreFault = no_store tells sinks a m p w whole surveyed same outside pairs off
 
 pub survey_stands : (bench : BenchCall) (out : SinkCall) (fault : SurveyFault) → TookNothing out → StandsEarly on_job_file bench out (refused (of_survey fault))
 survey_stands bench out survey.OutOfMemory none = none

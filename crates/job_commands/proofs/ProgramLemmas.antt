@@ -13,7 +13,7 @@ use Rattle.campaign.specs.Stops.{IsUntouched}
 use Rattle.flash_session.specs.declared.goal.Goal.TheVariants.{New}
 use Rattle.report_text.specs.Refusal.{Refusal, out_of_memory, input_fault, flm_refused, other_device, no_room, board_refused, image_refused, image_misplaced, job_open, not_a_job, cells_differ, store_fault, device_fault, output_fault, call_failed, mismatch}
 use Rattle.command_words.specs.Files.{FilesAsked, names_in}
-use Rattle.command_files.specs.Inputs.{InputsCall, FilesGiven, AreFiles, NoneFailed, Given}
+use Rattle.command_files.specs.Inputs.{InputsCall, FilesGiven, AreFiles, NoneFailed}
 use Rattle.command_files.specs.Files.{Aim, IsAim, IsRefused}
 use Rattle.command_files.specs.Steps.{IsTakeFault, IsFilesRefusal, TookFiles}
 use Rattle.command_answers.specs.Call.{BenchCall, SinkCall, Answer, done, refused, bench_call, sink_call}

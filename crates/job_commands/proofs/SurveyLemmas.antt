@@ -5,7 +5,7 @@ use Rattle.bench_model.specs.History.{left, AddsNothing, LeftOnly}
 use Rattle.bench_model.specs.State.{BenchState, file_half, cells_half, Left}
 use Rattle.bench_model.specs.Calls.{SameOutside, IsRead}
 use Rattle.bench_model.specs.Pairs.{PairsLeave}
-use Rattle.bench_model.proofs.Moments.{adds_nothing_then, still_only}
+use Rattle.bench_model.proofs.Moments.{adds_nothing_then, leaves_as, still_only}
 use Rattle.page_geometry.specs.Layout.{Layout}
 use Rattle.erase_planner.specs.Plans.{Chosen}
 use Rattle.flm_descriptor.specs.Shown as flm
@@ -22,7 +22,8 @@ use Rattle.command_answers.specs.Call.{SinkCall, TookAll, TookPart, Answer, refu
 use Rattle.job_commands.specs.Work.{Work, body, layout_of, plan_of, shown_plan}
 use Rattle.job_commands.specs.GoOn.{GoesOnFrom}
 use Rattle.job_commands.specs.Steps.{of_survey, session_work, Finishes}
-use Rattle.job_commands.proofs.CarryLemmas.{AsEntered, entered, looked, ends_in_plan, ends_finished}
+use Rattle.job_commands.proofs.TurnLemmas.{Off, off_from}
+use Rattle.job_commands.proofs.CarryLemmas.{entered, looked, ends_in_plan, ends_finished}
 use Rattle.job_commands.proofs.FinishLemmas.{plan_is}
 use Rattle.job_commands.proofs.OpenLemmas.{only_stands, refuses_survey}
 
@@ -42,6 +43,7 @@ module _ (tells sinks : Bool) (told : IsTrue tells) (a b m : BenchState) (goal :
     (sized : j.algorithm.device.size ≡ a.cell_count) (file : b.file ≡ a.file) (same : SameOutside a.operation a.cells b.cells)
     (only : LeftOnly a.file (file_half b)) (open_pairs : PairsLeave a b (Left a)) (halves : AddsNothing (cells_half a) (cells_half b))
     (exact : (x : List ℕ) → left (cells_half a) x → SameOutside a.operation a.cells x)
+    (idle : b.operation ≡ None) (alone : (x : List ℕ) → left (cells_half b) x → SameOutside b.operation b.cells x)
     (reads : IsRead tells b m) (pairs : PairsLeave b m (Left b)) where
   abbrev w : Work
   w = session_work goal j stands.text m.cells
@@ -55,8 +57,14 @@ module _ (tells sinks : Bool) (told : IsTrue tells) (a b m : BenchState) (goal :
   its_pairs : PairsLeave a m (λ f c. Left a f c ⊎ IsWhole (body w) f)
   its_pairs = looked (body w) stands.whole only open_pairs pairs
 
-  still : AsEntered a m
-  still = entered a m exact (adds_nothing_then halves reads.cells.moments)
+  -- from b on the cells stand still
+  off : Off a m m.cells
+  off = off_from a m m.cells outside (entered a m exact (adds_nothing_then halves reads.cells.moments)) b (entered a b exact halves)
+      (leaves_as (left (cells_half b)) (λ c. c ≡ m.cells)
+      (λ c at. subst (λ (o : Option (ℕ × ℕ)). SameOutside o b.cells c) idle (alone c at) ∙ sym (reads.cells.cells told)) reads.cells.moments)
+
+  still_idle : m.operation ≡ None
+  still_idle = reads.cells.operation told ∙ idle
 
   pub still_stands : StandsFor j m.file
   still_stands = subst (λ (f : List ℕ). StandsFor j f) (sym file_is) stands
@@ -67,7 +75,7 @@ module _ (tells sinks : Bool) (told : IsTrue tells) (a b m : BenchState) (goal :
   -- the survey failed
   pub unsurveyed : (p : SinkState) (fault : SurveyFault) → GoesOnFrom goal (bench_call tells a m) (sink_call sinks p p) (refused (of_survey fault))
   unsurveyed p fault = only_stands tells a m (sink_call sinks p p) goal (refused (of_survey fault)) (some_job j a.file stands) sized m.cells
-      (refuses_survey tells sinks a m p w stands.whole outside file_is outside its_pairs still fault)
+      (refuses_survey tells sinks a m p w stands.whole outside file_is outside its_pairs off fault)
 
   -- It found this.
   module _ (o : Option Surveyed) (found : IsSomeAnd o (λ v. HasSurveyed tells j goal b.file b.cells v)) where
@@ -90,10 +98,10 @@ module _ (tells sinks : Bool) (told : IsTrue tells) (a b m : BenchState) (goal :
       text_is : plan_text geometry base made ≡ shown_plan w
       text_is = ap (λ (n : ℕ). plan_text geometry n made) base_is ∙ shown_from o found_here geometry lays made plans
 
-      pub cut_in_plan : (p q : SinkState) → m.operation ≡ None → TookPart (sink_call sinks p q) (plan_text geometry base made)
+      pub cut_in_plan : (p q : SinkState) → TookPart (sink_call sinks p q) (plan_text geometry base made)
           → GoesOnFrom goal (bench_call tells a m) (sink_call sinks p q) (refused output_fault)
-      cut_in_plan p q idle part = only_stands tells a m (sink_call sinks p q) goal (refused output_fault) (some_job j a.file stands) sized m.cells
-          (ends_in_plan tells sinks a m p w stands.whole outside file_is outside its_pairs still q refl idle
+      cut_in_plan p q part = only_stands tells a m (sink_call sinks p q) goal (refused output_fault) (some_job j a.file stands) sized m.cells
+          (ends_in_plan tells sinks a m p w stands.whole outside file_is outside its_pairs off q refl still_idle
           (subst (λ (text : List ℕ). TookPart (sink_call sinks p q) text) text_is part))
 
       -- what follows is of the same job
@@ -111,5 +119,5 @@ module _ (tells sinks : Bool) (told : IsTrue tells) (a b m : BenchState) (goal :
           → Finishes (bench_call tells m d) (sink_call sinks q r) (session_work goal k s.text m.cells) answer)
           → GoesOnFrom goal (bench_call tells a d) (sink_call sinks p r) answer
       finished k d p q r answer is took finishes = only_stands tells a d (sink_call sinks p r) goal answer (some_job j a.file stands) sized m.cells
-          (ends_finished tells sinks a m d p q r w outside (subst (λ (text : List ℕ). TookAll (sink_call sinks p q) text) text_is took) (Left a) answer its_pairs still
+          (ends_finished tells sinks a m d p q r w outside (subst (λ (text : List ℕ). TookAll (sink_call sinks p q) text) text_is took) (Left a) answer its_pairs off still_idle
           (finished_as k d (sink_call sinks q r) answer is finishes))

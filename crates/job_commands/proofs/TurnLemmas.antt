@@ -1,10 +1,11 @@
 -- A stretch of moments before pairs, or cells, in turn.
-use Rattle.std.proofs.Common.{⊎_elim, ◌≤◌, ◌<◌, ◌+◌, ℕ, List, arith}
+use Rattle.std.proofs.Common.{◌≡◌, ◌∙◌, ⊎_elim, refl, sym, subst, ◌≤◌, ◌<◌, ◌+◌, ℕ, List, Option, Some, None, arith}
 use Rattle.std.proofs.lemmas.Bool.{cases_lt}
-use Rattle.bench_model.specs.History.{Leaves}
+use Rattle.bench_model.specs.History.{left, Leaves}
 use Rattle.bench_model.specs.State.{BenchState, cells_half}
+use Rattle.bench_model.specs.Calls.{SameOutside}
 use Rattle.bench_model.specs.Pairs.{PairsLeave, PairsInTurn}
-use Rattle.bench_model.proofs.Moments.{goes_then}
+use Rattle.bench_model.proofs.Moments.{goes_then, leaves_here}
 use Rattle.job_commands.specs.Carry.{CellsInTurn}
 
 pub turn_then : {a b c : BenchState} {turn : ℕ} (First Before Second : List ℕ → List ℕ → Type 0) → ((f x : List ℕ) → Before f x → First f x)
@@ -40,14 +41,105 @@ cells_in_turn a b c First Second one two = record {
   from = λ k x from to x_at. two.each k x from to x_at;
 }
 
-pub cells_turn_then : {a b c : BenchState} {turn : ℕ} (First Before Second : List ℕ → Type 0) → ((x : List ℕ) → Before x → First x)
-    → Leaves (cells_half a) (cells_half b) First → CellsInTurn b c turn Before Second → CellsInTurn a c turn First Second
-cells_turn_then {a} {b} {c} {turn} First Before Second to_first one two = record {
-  started = omega (arith, one.goes_on.later, two.started);
-  goes_on = goes_then one.goes_on two.goes_on;
-  before = λ k x from to less x_at. ⊎_elim
-      (λ (early : k < b.moment). one.each k x from (omega (arith, early)) ((two.goes_on.past k x (omega (arith, early))).0 x_at))
-      (λ (late : b.moment ≤ k). to_first x (two.before k x late to less x_at))
-      (cases_lt k b.moment);
-  from = λ k x from to x_at. two.from k x from to x_at;
+-- The operation that was open at entry is broken off (a to x) at this moment: before it only its range changed, and from it on the cells are
+-- as surveyed.
+pub record Off (a x : BenchState) (surveyed : List ℕ) : Type 0 where
+  pub turn : ℕ
+  pub at_entry : a.operation ≡ None → turn ≡ a.moment
+  pub ended : x.operation ≡ None → turn ≤ x.moment
+  pub moments : CellsInTurn a x turn (λ c. SameOutside a.operation a.cells c) (λ c. c ≡ surveyed)
+
+module _ (a x : BenchState) (surveyed : List ℕ) (same : SameOutside a.operation a.cells surveyed)
+    (one : Leaves (cells_half a) (cells_half x) (λ c. SameOutside a.operation a.cells c)) where
+  -- none was open
+  off_idle : a.operation ≡ None → Off a x surveyed
+  off_idle idle = record {
+    turn = a.moment;
+    at_entry = λ is. refl;
+    ended = λ is. one.goes_on.later;
+    moments = record {
+      started = omega arith;
+      goes_on = one.goes_on;
+      before = λ k c from to less at. absurd (omega (arith, from, less));
+      from = λ k c from to at.
+          let before : c ≡ a.cells = subst (λ (o : Option (ℕ × ℕ)). SameOutside o a.cells c) idle (one.each k c from to at) in
+          let found : surveyed ≡ a.cells = subst (λ (o : Option (ℕ × ℕ)). SameOutside o a.cells surveyed) idle same in
+          before ∙ sym found;
+    };
+  }
+
+  other : {r : ℕ × ℕ} → a.operation ≡ Some r → a.operation ≡ None → ⊥
+  other {r} some none = let e : Some r ≡ None = sym some ∙ none in cc
+
+  -- one was open up to b, where it was broken off
+  off_open : (r : ℕ × ℕ) (b : BenchState) → a.operation ≡ Some r → Leaves (cells_half a) (cells_half b) (λ c. SameOutside a.operation a.cells c)
+      → Leaves (cells_half b) (cells_half x) (λ c. c ≡ surveyed) → Off a x surveyed
+  off_open r b some first later = record {
+    turn = b.moment;
+    at_entry = λ none. absurd (other some none);
+    ended = λ is. later.goes_on.later;
+    moments = cells_in_turn a b x (λ c. SameOutside a.operation a.cells c) (λ c. c ≡ surveyed) first later;
+  }
+
+  off_by : (b : BenchState) → Leaves (cells_half a) (cells_half b) (λ c. SameOutside a.operation a.cells c)
+      → Leaves (cells_half b) (cells_half x) (λ c. c ≡ surveyed) → (o : Option (ℕ × ℕ)) → a.operation ≡ o → Off a x surveyed
+  off_by b first later None is = off_idle is
+  off_by b first later (Some r) is = off_open r b is first later
+
+  -- it was broken off at b, or none was open
+  pub off_from : (b : BenchState) → Leaves (cells_half a) (cells_half b) (λ c. SameOutside a.operation a.cells c)
+      → Leaves (cells_half b) (cells_half x) (λ c. c ≡ surveyed) → Off a x surveyed
+  off_from b first later = off_by b first later a.operation refl
+
+  module _ (here : x.cells ≡ surveyed) (exact : (c : List ℕ) → left (cells_half x) c → SameOutside x.operation x.cells c) where
+    off_late : (r : ℕ × ℕ) → a.operation ≡ Some r → (q : Option (ℕ × ℕ)) → x.operation ≡ q → Off a x surveyed
+    off_late r some None is = off_open r x some one
+        (leaves_here (cells_half x) (λ c. c ≡ surveyed) (λ c at. subst (λ (o : Option (ℕ × ℕ)). SameOutside o x.cells c) is (exact c at) ∙ here))
+    off_late r some (Some q) is = record {
+      turn = x.moment + 1;
+      at_entry = λ none. absurd (other some none);
+      ended = λ none. absurd (let e : Some q ≡ None = sym is ∙ none in cc);
+      moments = cells_never (λ c. SameOutside a.operation a.cells c) (λ c. c ≡ surveyed) one;
+    }
+
+    off_of : (o : Option (ℕ × ℕ)) → a.operation ≡ o → Off a x surveyed
+    off_of None is = off_idle is
+    off_of (Some r) is = off_late r is x.operation refl
+
+    -- at x it is broken off, or still open
+    pub off_at_end : Off a x surveyed
+    off_at_end = off_of a.operation refl
+
+-- the cells from there on, where they were as surveyed up to m
+pub off_as : {a x : BenchState} {surveyed : List ℕ} (off : Off a x surveyed) (P : List ℕ → Type 0) → P surveyed
+    → CellsInTurn a x off.turn (λ c. SameOutside a.operation a.cells c) P
+off_as {a} {x} {surveyed} off P start = record {
+  started = off.moments.started;
+  goes_on = off.moments.goes_on;
+  before = off.moments.before;
+  from = λ k c from to at. subst (λ (l : List ℕ). P l) (sym (off.moments.from k c from to at)) start;
 }
+
+module _ (a m d : BenchState) {surveyed : List ℕ} (off : Off a m surveyed) (idle : m.operation ≡ None) (P : List ℕ → Type 0)
+    (two : Leaves (cells_half m) (cells_half d) P) where
+  pub off_then : P surveyed → CellsInTurn a d off.turn (λ c. SameOutside a.operation a.cells c) P
+  off_then start =
+      let le : off.turn ≤ m.moment = off.ended idle in
+      record {
+        started = off.moments.started;
+        goes_on = goes_then off.moments.goes_on two.goes_on;
+        before = λ k c from to less at. off.moments.before k c from (omega (arith, less, le)) less ((two.goes_on.past k c (omega (arith, less, le))).0 at);
+        from = λ k c from to at. ⊎_elim
+            (λ (early : k < m.moment).
+            subst (λ (l : List ℕ). P l) (sym (off.moments.from k c from (omega (arith, early)) ((two.goes_on.past k c (omega (arith, early))).0 at))) start)
+            (λ (late : m.moment ≤ k). two.each k c late to at)
+            (cases_lt k m.moment);
+      }
+
+  pub settled_then : (c : List ℕ) → d.cells_at off.turn c → c ≡ surveyed
+  settled_then c at =
+      let le : off.turn ≤ m.moment = off.ended idle in
+      off.moments.from off.turn c (omega arith) le ((two.goes_on.past off.turn c le).0 at)
+
+  pub ended_then : off.turn ≤ d.moment
+  ended_then = let le : off.turn ≤ m.moment = off.ended idle in omega (arith, le, two.goes_on.later)

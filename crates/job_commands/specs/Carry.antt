@@ -109,11 +109,16 @@ pub record Stops (bench : BenchCall) (First : List ℕ → List ℕ → Type 0) 
   -- before the close the pair is one of First's, or its file is whole; from there on the file is whole or closed, and the cells are the goal
   pub turn : ℕ
   pub pairs : PairsInTurn bench.before bench.after turn (λ f c. First f c ⊎ IsWhole (body w) f) (IsAtClose (body w) w.goal)
-  -- up to the end of the survey no cell changes but by the breaking off at entry, and from there on the script alone changes cells
-  pub survey : ℕ
-  pub path : CellsInTurn bench.before bench.after survey (IsAsEntered bench) (IsOnPath w broken)
-  -- with an algorithm that keeps its duties, what lies outside the plan stays as the survey found it
-  pub local : KeepsDuties w → CellsInTurn bench.before bench.after survey (IsAsEntered bench) (IsOutsidePlanAsSurveyed w)
+  -- The moment at which the operation that was open at entry is broken off: a stop leaves the cells as surveyed, and nothing else. It is the
+  -- entry where none was open, and it came where none is open at exit.
+  pub broken_off : ℕ
+  pub at_entry : bench.before.operation ≡ None → broken_off ≡ bench.before.moment
+  pub settled : (c : List ℕ) → broken_off ≤ bench.after.moment → bench.after.cells_at broken_off c → c ≡ w.surveyed
+  pub ended : bench.after.operation ≡ None → broken_off ≤ bench.after.moment
+  -- up to it no cell changes but by the breaking off, and from it on the script alone changes cells
+  pub path : CellsInTurn bench.before bench.after broken_off (IsAsEntered bench) (IsOnPath w broken)
+  -- with an algorithm that keeps its duties, what lies outside the plan stays from it on as the survey found it
+  pub local : KeepsDuties w → CellsInTurn bench.before bench.after broken_off (IsAsEntered bench) (IsOutsidePlanAsSurveyed w)
 
 -- What the three commands share, from entry to exit: the cells as surveyed are those of the entry, and with one choice of what
 -- broken-off operations leave, the answer, what it left and each stop's pair are those of the script.

@@ -9,6 +9,7 @@ use Rattle.command_answers.specs.Shown.{answer_of}
 use Rattle.job_commands.specs.Answers.{is_of_work, IsSound}
 use Rattle.job_commands.specs.GoOn.{work_to}
 use Rattle.job_commands.specs.Steps.{has_begin, BenchCounted, BeginsParts}
+use Rattle.job_commands.proofs.TurnLemmas.{off_at_end}
 use Rattle.job_commands.proofs.CarryLemmas.{entered}
 use Rattle.job_commands.proofs.KindLemmas.{begin_kind, begun_kind, begin_sound, begin_before, begun_sound}
 use Rattle.job_commands.specs.Printed.{PrintsWork}
@@ -25,7 +26,9 @@ returns-in-Err-clause-told g c = λ told.
     let many : length b.cells ≡ a.cell_count = g.met.B.Bench.all_told c.begin.new.bench told ∙ c.begin.ensures.count in
     subst (λ (r : Refusal). BeginsParts (bench_call g.B.Bench.tells a b) (sink_call g.O.Sink.tells o o) c.args.parts.now (refused r)) (sym c.begin_refusal.ensures)
     (refuses_begin g.B.Bench.tells g.O.Sink.tells a b o c.args.parts.now told (c.begin.ensures.looked told) (c.begin.ensures.same told) (c.begin.ensures.after told)
-    (c.begin.ensures.stops told) (entered a b (λ x at. (g.met.B.Bench.as_told c.args.bench.now x told).0 at) c.begin.ensures.cells) many
+    (c.begin.ensures.stops told) (entered a b (λ x at. (g.met.B.Bench.as_told c.args.bench.now x told).0 at) c.begin.ensures.cells)
+    (off_at_end a b b.cells (c.begin.ensures.same told) (entered a b (λ x at. (g.met.B.Bench.as_told c.args.bench.now x told).0 at) c.begin.ensures.cells) refl
+    (λ x at. (g.met.B.Bench.as_told c.begin.new.bench x told).0 at)) many
     c.in-Err.fault (c.in-Err.ensures.refused told) c.in-Err.ensures.reads (c.in-Err.ensures.unopened told))
 
 pub returns-in-Err-clause-early : goal.returns-in-Err-clause-early
@@ -63,7 +66,9 @@ returns-clause-told g c = λ told.
     subst (λ (x : Answer). BeginsParts (bench_call g.B.Bench.tells a d) (sink_call g.O.Sink.tells p r) c.args.parts.now x) (sym c.after_begin.ensures)
     (begins_whole g.B.Bench.tells g.O.Sink.tells a b d p r c.args.parts.now (answer_of c.carry.result) (c.in-Ok.ensures.free told) (c.in-Ok.ensures.sized refl)
     c.begin.ensures.count (g.met.B.Bench.all_told c.begin.new.bench told) (c.begin.ensures.same told) ok.0 ok.1 ok.2 (c.carry.ensures.told told) c.requires
-    (c.begin.ensures.stops told) (entered a b (λ x at. (g.met.B.Bench.as_told c.args.bench.now x told).0 at) c.begin.ensures.cells) (c.carry.ensures.goes_on told))
+    (c.begin.ensures.stops told) (entered a b (λ x at. (g.met.B.Bench.as_told c.args.bench.now x told).0 at) c.begin.ensures.cells)
+    (off_at_end a b b.cells (c.begin.ensures.same told) (entered a b (λ x at. (g.met.B.Bench.as_told c.args.bench.now x told).0 at) c.begin.ensures.cells) refl
+    (λ x at. (g.met.B.Bench.as_told c.begin.new.bench x told).0 at)) (c.carry.ensures.goes_on told))
 
 pub returns-clause-early : goal.returns-clause-early
 returns-clause-early g c =

@@ -10,6 +10,7 @@ use Rattle.job_commands.specs.Answers.{IsSound}
 use Rattle.job_commands.specs.GoOn.{GoesOnFrom}
 use Rattle.job_commands.specs.Printed.{PrintsWork}
 use Rattle.job_commands.specs.Steps.{BenchCounted}
+use Rattle.job_commands.proofs.TurnLemmas.{off_at_end}
 use Rattle.job_commands.proofs.CarryLemmas.{entered}
 use Rattle.job_commands.proofs.CountLemmas.{survey_counted}
 use Rattle.job_commands.proofs.KindLemmas.{script_kind, script_stands, session_kind, survey_kind, session_sound, survey_sound}
@@ -25,7 +26,8 @@ returns-in-Err-clause-told g c = λ told.
     let o = g.O.Sink.state c.args.out.now in
     subst (λ (r : Refusal). GoesOnFrom c.args.goal (bench_call g.B.Bench.tells a b) (sink_call g.O.Sink.tells o o) (refused r)) (sym c.session_refusal.ensures)
     (refuses_open g.B.Bench.tells g.O.Sink.tells a b o c.args.goal (c.open.ensures.file told) (c.open.ensures.same told) c.open.ensures.pairs
-    (entered a b (λ x at. (g.met.B.Bench.as_told c.args.bench.now x told).0 at) c.open.ensures.halves)
+    (off_at_end a b b.cells (c.open.ensures.same told) (entered a b (λ x at. (g.met.B.Bench.as_told c.args.bench.now x told).0 at) c.open.ensures.halves) refl
+    (λ x at. (g.met.B.Bench.as_told c.open.new.bench x told).0 at))
     c.in-Err.fault (c.in-Err.ensures.refused told) c.in-Err.ensures.reads)
 
 pub returns-in-Err-clause-early : goal.returns-in-Err-clause-early
@@ -54,7 +56,8 @@ returns-in-Err-survey-clause-told g c = λ told.
     subst (λ (r : Refusal). GoesOnFrom c.args.goal (bench_call g.B.Bench.tells a m) (sink_call g.O.Sink.tells o o) (refused r)) (sym c.survey_refusal.ensures)
     (unsurveyed g.B.Bench.tells g.O.Sink.tells told a b m c.args.goal (job_in c.in-Ok.session) (c.in-Ok.ensures.ok told) (c.in-Ok.ensures.sized ∙ c.open.ensures.count)
     (c.open.ensures.file told) (c.open.ensures.same told) (c.in-Ok.ensures.only told) c.open.ensures.pairs c.open.ensures.halves
-    (λ x at. (g.met.B.Bench.as_told c.args.bench.now x told).0 at) c.survey.ensures.reads c.survey.ensures.pairs o c.in-Err-survey.fault)
+    (λ x at. (g.met.B.Bench.as_told c.args.bench.now x told).0 at) (c.in-Ok.ensures.idle told)
+    (λ x at. (g.met.B.Bench.as_told c.open.new.bench x told).0 at) c.survey.ensures.reads c.survey.ensures.pairs o c.in-Err-survey.fault)
 
 pub returns-in-Err-survey-clause-early : goal.returns-in-Err-survey-clause-early
 returns-in-Err-survey-clause-early g c =
@@ -82,10 +85,11 @@ returns-in-Err-put_plan-clause-told g c = λ told.
     let puts = c.in-Err-put_plan.ensures in
     cut_in_plan g.B.Bench.tells g.O.Sink.tells told a b m c.args.goal (job_in c.in-Ok.session) (c.in-Ok.ensures.ok told) (c.in-Ok.ensures.sized ∙ c.open.ensures.count)
     (c.open.ensures.file told) (c.open.ensures.same told) (c.in-Ok.ensures.only told) c.open.ensures.pairs c.open.ensures.halves
-    (λ x at. (g.met.B.Bench.as_told c.args.bench.now x told).0 at) c.survey.ensures.reads c.survey.ensures.pairs
+    (λ x at. (g.met.B.Bench.as_told c.args.bench.now x told).0 at) (c.in-Ok.ensures.idle told)
+    (λ x at. (g.met.B.Bench.as_told c.open.new.bench x told).0 at) c.survey.ensures.reads c.survey.ensures.pairs
     (surveyed c.survey.new.self) c.in-Ok-survey.ensures.ok c.geometry.result.now c.geometry.ensures c.plan.result.now.made c.plan.ensures
     c.job.result.now.algorithm.device.base (ap (λ (j : code.Job). j.algorithm.device.base) (c.job.ensures ∙ c.survey.ensures.job))
-    (g.O.Sink.state c.args.out.now) (g.O.Sink.state c.put_plan.new.out) (c.survey.ensures.reads.cells.operation told ∙ c.in-Ok.ensures.idle told) (record { taken = puts.err; later = puts.cause.later; rose = puts.cause.on_fault refl })
+    (g.O.Sink.state c.args.out.now) (g.O.Sink.state c.put_plan.new.out) (record { taken = puts.err; later = puts.cause.later; rose = puts.cause.on_fault refl })
 
 pub put_plan-requires : goal.put_plan-requires
 put_plan-requires g c =
@@ -101,7 +105,8 @@ returns-clause-told g c = λ told.
     let puts = c.in-Ok-put_plan.ensures in
     finished g.B.Bench.tells g.O.Sink.tells told a b m c.args.goal (job_in c.in-Ok.session) (c.in-Ok.ensures.ok told) (c.in-Ok.ensures.sized ∙ c.open.ensures.count)
     (c.open.ensures.file told) (c.open.ensures.same told) (c.in-Ok.ensures.only told) c.open.ensures.pairs c.open.ensures.halves
-    (λ x at. (g.met.B.Bench.as_told c.args.bench.now x told).0 at) c.survey.ensures.reads c.survey.ensures.pairs
+    (λ x at. (g.met.B.Bench.as_told c.args.bench.now x told).0 at) (c.in-Ok.ensures.idle told)
+    (λ x at. (g.met.B.Bench.as_told c.open.new.bench x told).0 at) c.survey.ensures.reads c.survey.ensures.pairs
     (surveyed c.survey.new.self) c.in-Ok-survey.ensures.ok c.geometry.result.now c.geometry.ensures c.plan.result.now.made c.plan.ensures
     c.job.result.now.algorithm.device.base (ap (λ (j : code.Job). j.algorithm.device.base) (c.job.ensures ∙ c.survey.ensures.job))
     (job_in c.survey.new.self) (g.B.Bench.state c.finish.new.bench) (g.O.Sink.state c.args.out.now) (g.O.Sink.state c.put_plan.new.out) (g.O.Sink.state c.finish.new.out)
@@ -121,14 +126,16 @@ finish-requires-clause-stands g c = λ told.
     (still_stands g.B.Bench.tells g.O.Sink.tells told (g.B.Bench.state c.args.bench.now) (g.B.Bench.state c.open.new.bench) (g.B.Bench.state c.survey.new.bench) c.args.goal
     (job_in c.in-Ok.session) (c.in-Ok.ensures.ok told) (c.in-Ok.ensures.sized ∙ c.open.ensures.count)
     (c.open.ensures.file told) (c.open.ensures.same told) (c.in-Ok.ensures.only told) c.open.ensures.pairs c.open.ensures.halves
-    (λ x at. (g.met.B.Bench.as_told c.args.bench.now x told).0 at) c.survey.ensures.reads c.survey.ensures.pairs)
+    (λ x at. (g.met.B.Bench.as_told c.args.bench.now x told).0 at) (c.in-Ok.ensures.idle told)
+    (λ x at. (g.met.B.Bench.as_told c.open.new.bench x told).0 at) c.survey.ensures.reads c.survey.ensures.pairs)
 
 pub finish-requires-clause-only : goal.finish-requires-clause-only
 finish-requires-clause-only g c = λ told.
     still_left g.B.Bench.tells g.O.Sink.tells told (g.B.Bench.state c.args.bench.now) (g.B.Bench.state c.open.new.bench) (g.B.Bench.state c.survey.new.bench) c.args.goal
     (job_in c.in-Ok.session) (c.in-Ok.ensures.ok told) (c.in-Ok.ensures.sized ∙ c.open.ensures.count)
     (c.open.ensures.file told) (c.open.ensures.same told) (c.in-Ok.ensures.only told) c.open.ensures.pairs c.open.ensures.halves
-    (λ x at. (g.met.B.Bench.as_told c.args.bench.now x told).0 at) c.survey.ensures.reads c.survey.ensures.pairs
+    (λ x at. (g.met.B.Bench.as_told c.args.bench.now x told).0 at) (c.in-Ok.ensures.idle told)
+    (λ x at. (g.met.B.Bench.as_told c.open.new.bench x told).0 at) c.survey.ensures.reads c.survey.ensures.pairs
 
 pub finish-requires-clause-idle : goal.finish-requires-clause-idle
 finish-requires-clause-idle g c = λ told. c.survey.ensures.reads.cells.operation told ∙ c.in-Ok.ensures.idle told
