@@ -1,0 +1,11 @@
+pub mod Uf2Lemmas
+pub mod PutLemmas
+pub mod RowLemmas
+pub mod DigitLemmas
+pub mod ReadLemmas
+pub mod StandLemmas
+pub mod MapLemmas
+pub mod HexLemmas
+pub mod SrecLemmas
+pub mod LawLemmas
+pub mod Uf2Laws

@@ -1,0 +1,56 @@
+//! Why a file is refused.
+use byte_map::LayFault;
+use image_set::ImageFault;
+use thiserror::Error;
+
+/// Why a file is no UF2 image. Blocks count from 1.
+#[derive(Clone, Copy, Debug, PartialEq, Eq, Error)]
+pub enum Uf2Fault {
+    /// The file is empty, or so many bytes are no whole number of blocks of 512 bytes.
+    #[error("BadLength {len}")]
+    BadLength { len: u64 },
+    /// One of the three magic numbers of this block is another.
+    #[error("BadMagic {block}")]
+    BadMagic { block: u64 },
+    /// This block says that its payload has so many bytes, more than 476.
+    #[error("BadSize {block} {size}")]
+    BadSize { block: u64, size: u32 },
+    /// A block before has another byte at this address.
+    #[error("Conflict {at:08X} {old:02X} {new:02X}")]
+    Conflict { at: u32, old: u8, new: u8 },
+    /// The payload from this address on goes past the last address, 0xFFFF_FFFF.
+    #[error("PastEnd {at:08X}")]
+    PastEnd { at: u32 },
+    /// No memory was left.
+    #[error("OutOfMemory")]
+    OutOfMemory,
+}
+
+impl From<LayFault> for Uf2Fault {
+    ghost use Rattle.std.specs.Prelude.{◌≡◌};
+    ghost use Rattle.image_more.specs.Fault.{fault_of};
+
+    ghost from_gives = { λ fault e. e ≡ fault_of fault };
+
+    fn from(fault: LayFault) -> Uf2Fault {
+        match fault {
+            LayFault::Conflict { at, old, new } => Uf2Fault::Conflict { at, old, new },
+            LayFault::PastEnd { at } => Uf2Fault::PastEnd { at },
+            LayFault::OutOfMemory => Uf2Fault::OutOfMemory,
+        }
+    }
+}
+
+/// Why a file of any form is refused. Want of memory is this type's own variant, and never stands within another.
+#[derive(Clone, Copy, Debug, PartialEq, Eq, Error)]
+pub enum AnyFault {
+    /// The file, which isn't UF2, stands for no image.
+    #[error("{0}")]
+    Image(ImageFault),
+    /// The file is no UF2 image.
+    #[error("Uf2 {0}")]
+    Uf2(Uf2Fault),
+    /// No memory was left.
+    #[error("OutOfMemory")]
+    OutOfMemory,
+}

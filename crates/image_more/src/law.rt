@@ -1,0 +1,35 @@
+//! Laws of files and texts, which no body is needed for.
+ghost use Rattle.std.specs.Prelude.{◌≡◌, ℕ, List, None};
+ghost use Rattle.octets.specs.Lines.{lines_of};
+ghost use Rattle.byte_map.specs.Image.{Run};
+ghost use Rattle.record_lines.specs.Format.{IsImageOfText};
+ghost use Rattle.image_hex.specs.Hex.{hex};
+ghost use Rattle.image_srec.specs.Srec.{srec};
+ghost use Rattle.image_more.specs.Maps.{IsByteMap};
+ghost use Rattle.image_more.specs.Texts.{hex_text, srec_text};
+ghost use Rattle.image_more.specs.Any.{IsAnyImage};
+ghost use Rattle.image_more.specs.Uf2.{IsUf2Image, IsUf2Fault};
+ghost use Rattle.image_more.specs.declared.fault.Uf2Fault.{Uf2Fault};
+
+/// The text of a map is read as that map and as no other, by the relation that the readers keep.
+pub fn texts_are_read_back()
+    ensures hex { (map : List Run) → IsByteMap map → IsImageOfText hex (lines_of (hex_text map)) map }
+    ensures hex_alone { (map other : List Run) → IsByteMap map → IsImageOfText hex (lines_of (hex_text map)) other → other ≡ map }
+    ensures srec { (map : List Run) → IsByteMap map → IsImageOfText srec (lines_of (srec_text map)) map }
+    ensures srec_alone { (map other : List Run) → IsByteMap map → IsImageOfText srec (lines_of (srec_text map)) other → other ≡ map }
+{}
+
+/// A file that is the text of a map stands for that map and for no other, without an address for raw bytes: its first byte tells its
+/// form.
+pub fn files_of_texts_are_their_maps()
+    ensures hex { (map : List Run) → IsByteMap map → IsAnyImage None (hex_text map) map }
+    ensures hex_alone { (map other : List Run) → IsByteMap map → IsAnyImage None (hex_text map) other → other ≡ map }
+    ensures srec { (map : List Run) → IsByteMap map → IsAnyImage None (srec_text map) map }
+    ensures srec_alone { (map other : List Run) → IsByteMap map → IsAnyImage None (srec_text map) other → other ≡ map }
+{}
+
+/// A UF2 file stands for one image at most, and one that stands for an image has no fault but want of memory.
+pub fn uf2_files_have_one_image()
+    ensures image { (bytes : List ℕ) (one two : List Run) → IsUf2Image bytes one → IsUf2Image bytes two → one ≡ two }
+    ensures alone { (bytes : List ℕ) (image : List Run) (fault : Uf2Fault) → IsUf2Image bytes image → IsUf2Fault bytes fault → fault ≡ Uf2Fault.OutOfMemory }
+{}
