@@ -11,3 +11,7 @@ mod map;
 mod set;
 #[cfg(test)]
 mod srec;
+#[cfg(test)]
+mod texts;
+#[cfg(test)]
+mod uf2;

@@ -1,0 +1,82 @@
+//! Images as texts of records. The longer ones are the data records of GNU objcopy 2.40 (`-I binary -O ihex`, `-O srec
+//! --srec-forceS3`) of the same bytes.
+
+use byte_map::ByteMap;
+use image_hex::read_hex;
+use image_more::{write_hex, write_srec};
+use outside_io::MemorySink;
+use std::test::Fail;
+
+const EMPTY: &[u8] = b":00000001FF\n";
+
+const FOUR_HEX: &[u8] = b":020000040800F2\n:0400000001020304F2\n:00000001FF\n";
+
+const FOUR_SREC: &[u8] = b"S0030000FC\nS3090800000001020304E4\nS70500000000FA\n";
+
+const HEX: &[u8] =
+    b":020000040800F2\n:10FFF0000B30557A9FC4E90E33587DA2C7EC1136F9\n:020000040801F1\n:100000005B80A5CAEF14395E83A8CDF2173C6186E8\n:03001000ABD0F57D\n:00000001FF\n";
+
+const SREC: &[u8] =
+    b"S0030000FC\nS3150800FFF00B30557A9FC4E90E33587DA2C7EC1136EB\nS315080100005B80A5CAEF14395E83A8CDF2173C6186D9\nS30808010010ABD0F56E\nS70500000000FA\n";
+
+/// 35 bytes from 0x0800FFF0 on.
+fn fill(map: &mut ByteMap) -> bool {
+    for index in 0..35_u32 {
+        if map
+            .lay(0x0800_FFF0 + index, &[((index * 37 + 11) % 256) as u8])
+            .is_err()
+        {
+            return false;
+        }
+    }
+    true
+}
+
+#[test]
+fn rows_as_objcopy_writes_them(rt: HostRuntime) -> Result<(), Fail> {
+    let mut map = ByteMap::new(rt.alloc());
+    assert!(rt; fill(&mut map));
+    let mut out = MemorySink::new(rt.alloc(), 4096, &[])?;
+    assert!(rt; write_hex(&map, &mut out).is_ok());
+    assert!(rt; out.bytes() == HEX);
+    let mut out = MemorySink::new(rt.alloc(), 4096, &[])?;
+    assert!(rt; write_srec(&map, &mut out).is_ok());
+    assert!(rt; out.bytes() == SREC);
+    Ok(())
+}
+
+/// Four bytes, by hand; and no byte at all.
+#[test]
+fn short_texts(rt: HostRuntime) -> Result<(), Fail> {
+    let mut map = ByteMap::new(rt.alloc());
+    let mut out = MemorySink::new(rt.alloc(), 256, &[])?;
+    assert!(rt; write_hex(&map, &mut out).is_ok());
+    assert!(rt; out.bytes() == EMPTY);
+    map.lay(0x0800_0000, b"\x01\x02\x03\x04")?;
+    let mut out = MemorySink::new(rt.alloc(), 256, &[])?;
+    assert!(rt; write_hex(&map, &mut out).is_ok());
+    assert!(rt; out.bytes() == FOUR_HEX);
+    let mut out = MemorySink::new(rt.alloc(), 256, &[])?;
+    assert!(rt; write_srec(&map, &mut out).is_ok());
+    assert!(rt; out.bytes() == FOUR_SREC);
+    Ok(())
+}
+
+/// A put that fails leaves a beginning of the text; one that doesn't leaves a text that is read back.
+#[test]
+fn each_put_fails_in_turn(rt: HostRuntime) -> Result<(), Fail> {
+    let mut map = ByteMap::new(rt.alloc());
+    assert!(rt; fill(&mut map));
+    for put in 1..=6 {
+        let mut out = MemorySink::new(rt.alloc(), 4096, &[put])?;
+        assert!(rt; write_hex(&map, &mut out).is_err());
+        assert!(rt; HEX.starts_with(out.bytes()));
+    }
+    let mut out = MemorySink::new(rt.alloc(), 4096, &[7])?;
+    assert!(rt; write_hex(&map, &mut out).is_ok());
+    let read = read_hex(rt.alloc(), out.bytes())?;
+    assert!(rt; read.runs() == 1);
+    assert!(rt; map.runs() == 1);
+    assert!(rt; read.run(0) == map.run(0));
+    Ok(())
+}
