@@ -12,7 +12,7 @@ use readback::Difference;
 use report_text::{End, Refusal, put_end};
 
 /// How many cells are read at a time.
-pub const WINDOW: usize = 256;
+pub const WINDOW: usize = 16_384;
 
 /// Ends a comparison of the cells, of which the first has the address `base`: `same` is printed where none differs, and else
 /// the difference is told by its address.
