@@ -1,4 +1,4 @@
-//! The halfwords C000 to EFFF: loads and stores of several registers, and branches (A5.2.6).
+//! The halfwords C000 to FFFF: loads and stores of several registers, branches, and halfwords that begin a pair (A5.2.6, A5.3).
 
 ghost use Rattle.std.specs.Prelude.{◌≡◌, ◌/◌, ◌%◌, ◌^◌};
 ghost use Rattle.armv6m_decode.specs.Table.{decoded};
@@ -8,7 +8,8 @@ use crate::instr::{Branch, Decoded, Instr, Many, Other};
 
 /// C000 to CFFF: STM and LDM.
 #[tactic(auto, using(crate::proofs::Near::lists, crate::proofs::Masks::masks), unfolding(crate::specs::Table::rows))]
-pub(crate) fn lists(half: u16) -> Decoded
+#[inline(always)]
+pub fn lists(half: u16) -> Decoded
     requires { half / 4096 ≡ 12 }
     ensures { result ≡ decoded half }
 {
@@ -22,7 +23,8 @@ pub(crate) fn lists(half: u16) -> Decoded
 
 /// D000 to DFFF: conditional branches, UDF and SVC.
 #[tactic(auto, using(crate::proofs::Near::conditional, crate::proofs::Masks::masks), unfolding(crate::specs::Table::rows))]
-pub(crate) fn conditional(half: u16) -> Decoded
+#[inline(always)]
+pub fn conditional(half: u16) -> Decoded
     requires { half / 4096 ≡ 13 }
     ensures { result ≡ decoded half }
 {
@@ -39,7 +41,8 @@ pub(crate) fn conditional(half: u16) -> Decoded
 
 /// E000 to EFFF: the unconditional branch, and halfwords that begin a pair.
 #[tactic(auto, using(crate::proofs::Near::branch, crate::proofs::TableLemmas::begins_pair, crate::proofs::Masks::masks), unfolding(crate::specs::Table::rows))]
-pub(crate) fn last(half: u16) -> Decoded
+#[inline(always)]
+pub fn last(half: u16) -> Decoded
     requires { half / 4096 ≡ 14 }
     ensures { result ≡ decoded half }
 {
@@ -49,4 +52,14 @@ pub(crate) fn last(half: u16) -> Decoded
         })),
         _ => Decoded::NeedsSecond,
     }
+}
+
+/// F000 to FFFF: halfwords that begin a pair.
+#[tactic(auto, using(crate::proofs::TableLemmas::begins_pair))]
+#[inline(always)]
+pub fn first_of_pair(half: u16) -> Decoded
+    requires { half / 4096 ≡ 15 }
+    ensures { result ≡ decoded half }
+{
+    Decoded::NeedsSecond
 }

@@ -8,7 +8,8 @@ use crate::instr::{Alu, Branch, Decoded, Instr};
 
 /// 0000 to 0FFF: LSL and LSR (immediate).
 #[tactic(auto, using(crate::proofs::Near::shifts, crate::proofs::Masks::masks), unfolding(crate::specs::Table::rows))]
-pub(crate) fn shifts(half: u16) -> Decoded
+#[inline(always)]
+pub fn shifts(half: u16) -> Decoded
     requires { half / 4096 ≡ 0 }
     ensures { result ≡ decoded half }
 {
@@ -23,7 +24,8 @@ pub(crate) fn shifts(half: u16) -> Decoded
 
 /// 1000 to 1FFF: ASR (immediate), ADD and SUB of three registers or a small immediate.
 #[tactic(auto, using(crate::proofs::Near::shift_or_add, crate::proofs::Masks::masks), unfolding(crate::specs::Table::rows))]
-pub(crate) fn shift_or_add(half: u16) -> Decoded
+#[inline(always)]
+pub fn shift_or_add(half: u16) -> Decoded
     requires { half / 4096 ≡ 1 }
     ensures { result ≡ decoded half }
 {
@@ -45,7 +47,8 @@ pub(crate) fn shift_or_add(half: u16) -> Decoded
 
 /// 2000 to 2FFF: MOV and CMP (immediate).
 #[tactic(auto, using(crate::proofs::Near::move_or_compare, crate::proofs::Masks::masks), unfolding(crate::specs::Table::rows))]
-pub(crate) fn move_or_compare(half: u16) -> Decoded
+#[inline(always)]
+pub fn move_or_compare(half: u16) -> Decoded
     requires { half / 4096 ≡ 2 }
     ensures { result ≡ decoded half }
 {
@@ -59,7 +62,8 @@ pub(crate) fn move_or_compare(half: u16) -> Decoded
 
 /// 3000 to 3FFF: ADD and SUB of an immediate of eight bits.
 #[tactic(auto, using(crate::proofs::Near::add_or_subtract, crate::proofs::Masks::masks), unfolding(crate::specs::Table::rows))]
-pub(crate) fn add_or_subtract(half: u16) -> Decoded
+#[inline(always)]
+pub fn add_or_subtract(half: u16) -> Decoded
     requires { half / 4096 ≡ 3 }
     ensures { result ≡ decoded half }
 {
@@ -73,7 +77,8 @@ pub(crate) fn add_or_subtract(half: u16) -> Decoded
 
 /// 4000 to 43FF: data processing on two low registers.
 #[tactic(auto, using(crate::proofs::Near::data_processing, crate::proofs::Masks::masks), unfolding(crate::specs::Table::rows))]
-pub(crate) fn data_processing(half: u16) -> Decoded
+#[inline(always)]
+pub fn data_processing(half: u16) -> Decoded
     requires { half / 1024 ≡ 16 }
     ensures { result ≡ decoded half }
 {

@@ -3,7 +3,7 @@
 ghost use Rattle.std.specs.Prelude.{◌≡◌, ◌/◌};
 ghost use Rattle.armv6m_decode.specs.Table.{decoded, OneRowForEach, OneRowForEachPair, NoRowBeginsPair};
 
-use crate::branches::{conditional, last, lists};
+use crate::branches::{conditional, first_of_pair, last, lists};
 use crate::data::{
     add_or_subtract, data_processing, high_registers, move_or_compare, shift_or_add, shifts,
 };
@@ -45,7 +45,7 @@ pub fn decode16(half: u16) -> Decoded
         0xC => lists(half),
         0xD => conditional(half),
         0xE => last(half),
-        _ => Decoded::NeedsSecond,
+        _ => first_of_pair(half),
     }
 }
 

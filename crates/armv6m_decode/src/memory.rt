@@ -7,7 +7,8 @@ use crate::instr::{Decoded, Instr, Memory};
 
 /// 4800 to 4FFF: LDR (literal).
 #[tactic(auto, using(crate::proofs::Near::literal, crate::proofs::Masks::masks), unfolding(crate::specs::Table::rows))]
-pub(crate) fn literal(half: u16) -> Decoded
+#[inline(always)]
+pub fn literal(half: u16) -> Decoded
     requires { half / 2048 ≡ 9 }
     ensures { result ≡ decoded half }
 {
@@ -19,7 +20,8 @@ pub(crate) fn literal(half: u16) -> Decoded
 
 /// 5000 to 5FFF: loads and stores at the sum of two registers.
 #[tactic(auto, using(crate::proofs::Near::by_register, crate::proofs::Masks::masks), unfolding(crate::specs::Table::rows))]
-pub(crate) fn by_register(half: u16) -> Decoded
+#[inline(always)]
+pub fn by_register(half: u16) -> Decoded
     requires { half / 4096 ≡ 5 }
     ensures { result ≡ decoded half }
 {
@@ -40,7 +42,8 @@ pub(crate) fn by_register(half: u16) -> Decoded
 
 /// 6000 to 6FFF: words at a register and an immediate.
 #[tactic(auto, using(crate::proofs::Near::words, crate::proofs::Masks::masks), unfolding(crate::specs::Table::rows))]
-pub(crate) fn words(half: u16) -> Decoded
+#[inline(always)]
+pub fn words(half: u16) -> Decoded
     requires { half / 4096 ≡ 6 }
     ensures { result ≡ decoded half }
 {
@@ -55,7 +58,8 @@ pub(crate) fn words(half: u16) -> Decoded
 
 /// 7000 to 7FFF: bytes at a register and an immediate.
 #[tactic(auto, using(crate::proofs::Near::bytes, crate::proofs::Masks::masks), unfolding(crate::specs::Table::rows))]
-pub(crate) fn bytes(half: u16) -> Decoded
+#[inline(always)]
+pub fn bytes(half: u16) -> Decoded
     requires { half / 4096 ≡ 7 }
     ensures { result ≡ decoded half }
 {
@@ -70,7 +74,8 @@ pub(crate) fn bytes(half: u16) -> Decoded
 
 /// 8000 to 8FFF: halfwords at a register and an immediate.
 #[tactic(auto, using(crate::proofs::Near::halfwords, crate::proofs::Masks::masks), unfolding(crate::specs::Table::rows))]
-pub(crate) fn halfwords(half: u16) -> Decoded
+#[inline(always)]
+pub fn halfwords(half: u16) -> Decoded
     requires { half / 4096 ≡ 8 }
     ensures { result ≡ decoded half }
 {
@@ -85,7 +90,8 @@ pub(crate) fn halfwords(half: u16) -> Decoded
 
 /// 9000 to 9FFF: words at SP and an immediate.
 #[tactic(auto, using(crate::proofs::Near::on_stack, crate::proofs::Masks::masks), unfolding(crate::specs::Table::rows))]
-pub(crate) fn on_stack(half: u16) -> Decoded
+#[inline(always)]
+pub fn on_stack(half: u16) -> Decoded
     requires { half / 4096 ≡ 9 }
     ensures { result ≡ decoded half }
 {

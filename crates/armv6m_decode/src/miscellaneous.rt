@@ -70,7 +70,8 @@ fn extends(half: u16) -> Decoded
 
 /// B400 to B5FF: PUSH.
 #[tactic(auto, using(crate::proofs::Near::push, crate::proofs::Masks::masks), unfolding(crate::specs::Table::rows))]
-fn push(half: u16) -> Decoded
+#[inline(always)]
+pub fn push(half: u16) -> Decoded
     requires { half / 512 ≡ 90 }
     ensures { result ≡ decoded half }
 {
@@ -111,7 +112,8 @@ fn reverses(half: u16) -> Decoded
 
 /// BC00 to BDFF: POP.
 #[tactic(auto, using(crate::proofs::Near::pop, crate::proofs::Masks::masks), unfolding(crate::specs::Table::rows))]
-fn pop(half: u16) -> Decoded
+#[inline(always)]
+pub fn pop(half: u16) -> Decoded
     requires { half / 512 ≡ 94 }
     ensures { result ≡ decoded half }
 {

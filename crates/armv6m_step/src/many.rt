@@ -61,6 +61,7 @@ fn load_list<B: Bus>(core: &Core, bus: &mut B, at: u32, list: u8) -> Result<Core
 }
 
 /// Does the instruction, where the next one is at `next`.
+#[inline(always)]
 #[tactic(auto, using(crate::proofs::RunLemmas::asks))]
 pub(crate) fn run<B: Bus>(core: &mut Core, bus: &mut B, next: u32, op: Many) -> Result<(), Stop>
     ensures { Runs B.acts (many core.old next op) core.old bus.old (end_of result) core.new bus.new }
