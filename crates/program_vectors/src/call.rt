@@ -1,7 +1,7 @@
 //! A call.
 
 use crate::files::Files;
-use crate::trial::Trial;
+use crate::trial::{Fails, Trial};
 use anyhow::Result;
 use bench_model::{Bench, MemoryBench};
 use flm_cli::flmprog;
@@ -19,21 +19,16 @@ pub struct Outside {
 }
 
 impl Outside {
-    /// The inputs that have these files, and room for so many bytes of standard output, whose put of this number fails.
-    pub fn new(alloc: Global, files: &Files, room: usize, put: u64) -> Result<Outside> {
-        let out = MemorySink::new(alloc, room, &[put])?;
-        let err = MemorySink::new(alloc, 256, &[])?;
+    /// The inputs that have these files, and room for so many bytes of standard output. The calls of these numbers fail.
+    pub fn new(alloc: Global, files: &Files, room: usize, fails: Fails) -> Result<Outside> {
+        let out = MemorySink::new(alloc, room, &[fails.out])?;
+        let err = MemorySink::new(alloc, 256, &[fails.err])?;
         Ok(Outside {
-            inputs: files.inputs(alloc)?,
+            inputs: files.inputs(alloc, fails.take)?,
             out,
             err,
         })
     }
-}
-
-/// What there is for a call, beside its bench.
-pub fn outside_of(alloc: Global, trial: &Trial) -> Result<Outside> {
-    Outside::new(alloc, &trial.files, 4096, trial.put)
 }
 
 /// The words of a line.
@@ -57,10 +52,32 @@ pub fn answer<B: Bench>(alloc: Global, words: &[Word], bench: &mut B, outside: &
     )
 }
 
+/// A status, and what is put on standard error with it.
+#[derive(Drop)]
+pub struct Said {
+    pub status: u8,
+    pub line: Vec<u8>,
+}
+
+/// The answer of a call with the words of a line. The calls of these numbers on its inputs and streams fail.
+pub fn call<B: Bench>(
+    alloc: Global,
+    trial: &Trial,
+    fails: Fails,
+    bench: &mut B,
+    line: &str,
+) -> Result<Said> {
+    let words = words_of(alloc, line)?;
+    let mut outside = Outside::new(alloc, &trial.files, 4096, fails)?;
+    let status = answer(alloc, &words, bench, &mut outside);
+    let line = Vec::from_slice(alloc, outside.err.bytes())?;
+    Ok(Said { status, line })
+}
+
 /// Makes a call, and prints what comes of it.
 pub fn run(rt: &HostRuntime, trial: &Trial, bench: &mut MemoryBench, line: &str) -> Result<()> {
     let words = words_of(rt.alloc(), line)?;
-    let mut outside = outside_of(rt.alloc(), trial)?;
+    let mut outside = Outside::new(rt.alloc(), &trial.files, 4096, trial.fails)?;
     let before = Vec::from_slice(rt.alloc(), bench.file())?;
     let status = answer(rt.alloc(), &words, bench, &mut outside);
     print_streams(rt, &outside)?;

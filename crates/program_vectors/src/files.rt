@@ -51,9 +51,9 @@ impl Files {
         Ok(())
     }
 
-    /// The inputs that have these files.
-    pub fn inputs(&self, alloc: Global) -> Result<MemoryInputs> {
-        let mut inputs = MemoryInputs::new(alloc, &[])?;
+    /// The inputs that have these files, whose taking of this number fails.
+    pub fn inputs(&self, alloc: Global, take: u64) -> Result<MemoryInputs> {
+        let mut inputs = MemoryInputs::new(alloc, &[take])?;
         for file in self.files.iter() {
             inputs.add(alloc, &file.name, &file.bytes)?;
         }

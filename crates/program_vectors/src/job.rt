@@ -2,6 +2,7 @@
 
 use crate::call::{Outside, answer, words_of};
 use crate::files::{Files, put_file};
+use crate::trial::Fails;
 use anyhow::{Context, Result, ensure};
 use bench_model::MemoryBench;
 use std::alloc::Global;
@@ -57,7 +58,7 @@ impl Job {
     /// Runs the job on a bench: the status.
     fn run(&self, alloc: Global, bench: &mut MemoryBench) -> Result<u8> {
         let words = words_of(alloc, CALL)?;
-        let mut outside = Outside::new(alloc, &self.files, PRINTED, 0)?;
+        let mut outside = Outside::new(alloc, &self.files, PRINTED, Fails::none())?;
         Ok(answer(alloc, &words, bench, &mut outside))
     }
 }

@@ -9,13 +9,21 @@
 //! - `run WORDS`: a call on the row's bench. It prints what was put, the status, the cells that aren't as the row began, and the job file.
 //! - `stop CALLS PICK WORDS`: a call on a new bench, which is stopped after so many of its calls that can fail. PICK is `written`, `old` or
 //!   the byte that the stop leaves wherever it may leave any.
+//! - `keep CALLS PICK WORDS`: the row begins with the cells and the job file that such a stop leaves.
 //! - `random SECTORS SIZE`: the job of random bytes on a device of so many sectors of so many bytes (`job`).
-//! - `stops resume WORDS` or `stops revert WORDS`: calls of `program` that are stopped at each of their calls in turn, with each pick, and then
-//!   `resume` or `revert`.
+//! - `stops PICK WORDS`: calls of `program` that are stopped at each of their calls in turn. A job that is left is carried on by `resume`, and
+//!   from the same stop back by `revert`.
+//! - `tenths PICK WORDS`: the same at every tenth call, with an algorithm that breaks its duties. A job that is left is resumed as it is, and
+//!   with the algorithm A1 in it.
+//! - `faults WORDS`: calls of which each call on the job file, on the cells, each put on either stream and each taking of a file fails in its
+//!   turn. A job that is left is resumed.
+//! - `pairs COUNT WORDS`: calls of `program` of which every pair of the first so many calls on the job file fails; each job is gone on with to
+//!   its end.
 
 use crate::call::run;
+use crate::failing::{fail_all, fail_pairs};
 use crate::job::run_random;
-use crate::stops::{stop, stop_all};
+use crate::stops::{keep, stop, stop_all, stop_tenths};
 use crate::trial::{Trial, bytes_of};
 use anyhow::{Result, bail};
 use bench_model::MemoryBench;
@@ -54,13 +62,23 @@ fn step(
             *bench = Some(stop(rt, trial, calls.parse::<u64>()?, pick, words)?);
             Ok(())
         }
-        ["stops", later, ..] => {
-            let words = line.strip_prefix("stops ").unwrap_or(line);
-            let words = words.strip_prefix(*later).unwrap_or(words);
-            stop_all(rt, trial, later, words)
+        ["keep", calls, pick, words] => {
+            keep(rt.alloc(), trial, calls.parse::<u64>()?, pick, words)
         }
         ["random", sectors, size] => run_random(rt, sectors, size),
         ["forge", name, kind, rest] => forge(rt, trial, name, kind, rest),
+        _ => sweep(rt, trial, line),
+    }
+}
+
+/// Makes calls that are stopped, or of which some fail, one after the other.
+fn sweep(rt: &HostRuntime, trial: &mut Trial, line: &str) -> Result<()> {
+    let words = line.splitn(3, ' ').collect::<Vec<&str>>(rt.alloc())?;
+    match words.as_slice() {
+        ["stops", pick, words] => stop_all(rt, trial, pick, words),
+        ["tenths", pick, words] => stop_tenths(rt, trial, pick, words),
+        ["pairs", count, words] => fail_pairs(rt, trial, count.parse::<u64>()?, words),
+        ["faults", ..] => fail_all(rt, trial, line.strip_prefix("faults ").unwrap_or(line)),
         _ => change(rt, trial, line),
     }
 }
@@ -101,9 +119,9 @@ fn change(rt: &HostRuntime, trial: &mut Trial, line: &str) -> Result<()> {
         ["cells", count] => trial.blank(rt.alloc(), count.parse::<usize>()?)?,
         ["count", len] => trial.count(len.parse::<usize>()?),
         ["job", bytes] => trial.job = bytes_of(rt.alloc(), bytes)?,
-        ["fail", "file", number] => trial.store = number.parse::<u64>()?,
-        ["fail", "cells", number] => trial.call = number.parse::<u64>()?,
-        ["fail", "put", number] => trial.put = number.parse::<u64>()?,
+        ["fail", "file", number] => trial.fails.files = [number.parse::<u64>()?, 0],
+        ["fail", "cells", number] => trial.fails.cell = number.parse::<u64>()?,
+        ["fail", "put", number] => trial.fails.out = number.parse::<u64>()?,
         _ => bail!("{line}: no such line"),
     }
     Ok(())

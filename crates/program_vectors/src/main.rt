@@ -9,8 +9,10 @@
 #![tactic(auto)]
 
 mod call;
+mod failing;
 mod files;
 mod job;
+mod left;
 mod lines;
 mod stops;
 mod trial;

@@ -6,23 +6,44 @@ use bench_model::MemoryBench;
 use octets::hex_pair;
 use std::alloc::Global;
 
-/// The files; the bytes of the job file and the cells with which a bench begins; and the calls on the job file and on the cells and the put
-/// on standard output that are to fail, by their numbers from 1.
+/// The calls that are to fail, by their numbers from 1, and 0 for none: two on the job file, one on the cells, a put on standard output, a put
+/// on standard error, and a file that is taken.
+#[derive(Clone, Copy)]
+pub struct Fails {
+    pub files: [u64; 2],
+    pub cell: u64,
+    pub out: u64,
+    pub err: u64,
+    pub take: u64,
+}
+
+impl Fails {
+    /// None.
+    pub fn none() -> Fails {
+        Fails {
+            files: [0, 0],
+            cell: 0,
+            out: 0,
+            err: 0,
+            take: 0,
+        }
+    }
+}
+
+/// The files; the bytes of the job file and the cells with which a bench begins; and the calls that are to fail.
 #[derive(Drop)]
 pub struct Trial {
     pub files: Files,
     pub job: Vec<u8>,
     pub cells: Vec<u8>,
-    pub store: u64,
-    pub call: u64,
-    pub put: u64,
+    pub fails: Fails,
 }
 
 /// The most cells.
 const MOST: usize = 1 << 20;
 
 /// The room for the job file, and for the record of the calls.
-const ROOM: u64 = 1 << 22;
+const ROOM: u64 = 1 << 18;
 
 impl Trial {
     /// No files, no job, no cells.
@@ -31,9 +52,7 @@ impl Trial {
             files: Files::new(alloc),
             job: Vec::new(alloc),
             cells: Vec::new(alloc),
-            store: 0,
-            call: 0,
-            put: 0,
+            fails: Fails::none(),
         }
     }
 
@@ -41,9 +60,7 @@ impl Trial {
     pub fn begin(&mut self, alloc: Global) -> Result<()> {
         self.job = Vec::new(alloc);
         self.cells = vec![in alloc; 0xFF; 1024]?;
-        self.store = 0;
-        self.call = 0;
-        self.put = 0;
+        self.fails = Fails::none();
         Ok(())
     }
 
@@ -62,20 +79,25 @@ impl Trial {
         }
     }
 
-    /// A bench as the row begins. What is broken off leaves 5A.
+    /// A bench as the row begins.
     pub fn bench(&self, alloc: Global) -> Result<MemoryBench> {
-        let cells = &self.cells[..self.cells.len().min(MOST)];
-        Ok(MemoryBench::new(
-            alloc,
-            cells,
-            &self.job,
-            ROOM,
-            ROOM,
-            &[self.store],
-            &[self.call],
-            &[0x5A],
-        )?)
+        bench_with(alloc, &self.cells, &self.job, self.fails)
     }
+}
+
+/// A bench with these cells and this job file. What is broken off first leaves 5A.
+pub fn bench_with(alloc: Global, cells: &[u8], job: &[u8], fails: Fails) -> Result<MemoryBench> {
+    let cells = &cells[..cells.len().min(MOST)];
+    Ok(MemoryBench::new(
+        alloc,
+        cells,
+        job,
+        ROOM,
+        ROOM,
+        &fails.files,
+        &[fails.cell],
+        &[0x5A],
+    )?)
 }
 
 /// The bytes of pairs of digits.
