@@ -1,5 +1,5 @@
 -- Whole writes of cells, in as many calls as they take.
-use Rattle.std.proofs.Common.{replicate, ◌≡◌, ◌<◌, ◌≤◌, ◌+◌, ◌-◌, ◌∙◌, ap, sym, subst, refl, ℕ, List, Bool, IsTrue, ◌++◌, length, take, drop, arith, append_assoc, append-nil, length-take, length-drop, length-append, Option, Some, None}
+use Rattle.std.proofs.Common.{replicate, ◌≡◌, ◌≤◌, ◌+◌, ◌∙◌, ap, sym, subst, refl, ℕ, List, Bool, IsTrue, ◌++◌, length, take, drop, arith, append_assoc, append-nil, length-take, length-drop, length-append, Option, Some, None}
 use Rattle.std.proofs.lemmas.List.{take-append-drop, take_all, take_at, drop_at, drop-drop, length-replicate, replicate-append-replicate}
 use Rattle.bench_model.specs.Calls.{written, Torn}
 use Rattle.bench_model.proofs.Moments.{adds_nothing_here, adds_nothing_then, stays_here, stays_then}
@@ -8,10 +8,10 @@ use Rattle.disk_files.specs.DiskDoes.{WritesBytes, ReadsBytes, InRange}
 use Rattle.disk_files.proofs.WriteLemmas.{torn_here, torn_then, take_split}
 
 pub job_as_was_here : (d : DiskState) → JobAsWas d d
-job_as_was_here d = record { file = refl; entry = refl; half = stays_here (job_half d) }
+job_as_was_here d = record { file = refl; entry = refl; whole = refl; half = stays_here (job_half d) }
 
 pub job_as_was_then : {a b c : DiskState} → JobAsWas a b → JobAsWas b c → JobAsWas a c
-job_as_was_then one two = record { file = two.file ∙ one.file; entry = two.entry ∙ one.entry; half = stays_then one.half two.half }
+job_as_was_then one two = record { file = two.file ∙ one.file; entry = two.entry ∙ one.entry; whole = two.whole ∙ one.whole; half = stays_then one.half two.half }
 
 pub writes_here : (tells : Bool) (d : DiskState) → WritesBytes tells d d
 writes_here tells d = record { cells = λ told. refl; operation = λ told. refl; earlier = λ told. refl; moments = adds_nothing_here (range_half d); job = job_as_was_here d }

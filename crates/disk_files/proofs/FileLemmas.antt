@@ -1,9 +1,8 @@
 -- A call after one that only read or synced.
-use Rattle.std.proofs.Common.{◌≡◌, ◌∙◌, refl, ℕ, List, Bool, IsTrue, true, false, arith}
+use Rattle.std.proofs.Common.{refl, ℕ, List, arith}
 use Rattle.bench_model.specs.History.{Half, left, Leaves, AddsNothing, Stays}
 use Rattle.bench_model.specs.Calls.{Follows, Cut}
-use Rattle.bench_model.proofs.Moments.{leaves_then, leaves_as, leaves_left, adds_nothing_then, stays_adds_nothing, stays_then}
-use Rattle.disk_files.specs.DiskState.{DiskState, job_half, range_half}
+use Rattle.bench_model.proofs.Moments.{leaves_then, leaves_as, leaves_left, adds_nothing_then, stays_adds_nothing}
 
 -- a step that may come to nothing
 pub adds_nothing_follows : {a b : Half} (step : List ℕ → List ℕ → Type 0) → ((x : List ℕ) → step x x) → AddsNothing a b → Leaves a b (Follows step a)

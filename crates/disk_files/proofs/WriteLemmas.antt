@@ -1,7 +1,7 @@
 -- Whole writes, in as many calls as they take.
-use Rattle.std.proofs.Common.{◌≡◌, ◌<◌, ◌≤◌, ◌+◌, ◌-◌, ◌∙◌, ap, sym, subst, refl, ℕ, List, Bool, false, IsTrue, ◌++◌, length, take, drop, arith, append-nil, append_assoc, length-take, length-drop, length-append}
-use Rattle.std.proofs.lemmas.List.{take-take, drop-drop, drop-take, take-append-drop, take_all, take_at}
-use Rattle.bench_model.specs.History.{Half, left, Leaves}
+use Rattle.std.proofs.Common.{◌≡◌, ◌≤◌, ◌+◌, ◌-◌, ◌∙◌, ap, sym, subst, refl, ℕ, List, Bool, IsTrue, ◌++◌, length, take, drop, arith, append-nil, append_assoc, length-take, length-drop, length-append}
+use Rattle.std.proofs.lemmas.List.{take-take, drop-drop, drop-take, take-append-drop, take_all}
+use Rattle.bench_model.specs.History.{Leaves}
 use Rattle.bench_model.specs.Calls.{written, Torn, Follows}
 use Rattle.bench_model.proofs.Moments.{leaves_then, leaves_as, leaves_here, leaves_left, stays_here, stays_then}
 use Rattle.disk_files.specs.DiskState.{DiskState, job_half, range_half, CellsAsWere}
@@ -31,7 +31,7 @@ take_split n m xs =
     ∙ ap (λ (l : List ℕ). take n xs ++ l) (drop-take n m xs)
 
 pub cells_as_were_here : (d : DiskState) → CellsAsWere d d
-cells_as_were_here d = record { bytes = refl; cells = refl; operation = refl; unsynced = refl; earlier = refl; half = stays_here (range_half d) }
+cells_as_were_here d = record { bytes = refl; cells = refl; operation = refl; unsynced = refl; earlier = refl; whole = refl; half = stays_here (range_half d) }
 
 pub cells_as_were_then : {a b c : DiskState} → CellsAsWere a b → CellsAsWere b c → CellsAsWere a c
 cells_as_were_then one two = record {
@@ -40,6 +40,7 @@ cells_as_were_then one two = record {
   operation = two.operation ∙ one.operation;
   unsynced = two.unsynced ∙ one.unsynced;
   earlier = two.earlier ∙ one.earlier;
+  whole = two.whole ∙ one.whole;
   half = stays_then one.half two.half;
 }
 

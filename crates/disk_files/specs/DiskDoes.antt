@@ -1,7 +1,7 @@
 -- What each call on a host's files does.
-use Rattle.std.specs.Prelude.{◌≡◌, ◌≤◌, ◌+◌, ℕ, List, Bool, true, false, length, take, drop, ◌++◌, IsTrue, Result, IfOk, OnOk, OnErr, Some, None, Option}
+use Rattle.std.specs.Prelude.{◌≡◌, ◌≤◌, ◌<◌, ◌+◌, ℕ, List, Bool, true, false, length, take, drop, ◌++◌, IsTrue, Result, IfOk, OnOk, OnErr, Some, None, Option}
 use Rattle.bench_model.specs.History.{left, Leaves, AddsNothing, LeftOnly, Stays}
-use Rattle.bench_model.specs.Calls.{Torn, Cut, Shortened, Follows, SameOutside}
+use Rattle.bench_model.specs.Calls.{Torn, Cut, Shortened, Follows}
 use Rattle.disk_files.specs.DiskState.{DiskState, job_half, range_half, JobAsWas, CellsAsWere}
 
 -- The job file.
@@ -12,15 +12,18 @@ pub record OnlyReadsJob (tells : Bool) (old new : DiskState) : Type 0 where
   pub moments : AddsNothing (job_half old) (job_half new)
   pub cells : CellsAsWere old new
 
--- a read gives some of the bytes, and none only at the end
+-- a read gives some of the bytes, and at least one where all that it asks for are there
 pub record ReadsSome {E : Type 0} (tells : Bool) (held : List ℕ) (at : ℕ) (before after : List ℕ) (result : Result ℕ E) : Type 0 where
   pub count : IfOk result (λ n. n ≤ length before)
   pub ok : IsTrue tells → IfOk result (λ n. after ≡ take n (drop at held) ++ drop n before)
+  pub some : IsTrue tells → IfOk result (λ n. at + length before ≤ length held → 0 < length before → 0 < n)
 
--- A write puts as many of the bytes as it says; in the rest of the range, and on an error in all of it, any may stand.
+-- A write puts as many of the bytes as it says, at least one where there are any; in the rest of the range, and on an error in all of it,
+-- any may stand.
 pub record WritesSome {E : Type 0} (tells : Bool) (old new : List ℕ) (at : ℕ) (bytes : List ℕ) (result : Result ℕ E) : Type 0 where
   pub count : IfOk result (λ n. n ≤ length bytes)
   pub some : IsTrue tells → IfOk result (λ n. take (at + n) new ≡ take at old ++ take n bytes)
+  pub more : IsTrue tells → IfOk result (λ n. 0 < length bytes → 0 < n)
   pub torn : IsTrue tells → Torn at (length bytes) old new
 
 -- a write changes no entry
@@ -36,14 +39,15 @@ pub record SetsJobLength {E : Type 0} (tells : Bool) (old new : DiskState) (len 
   pub moments : Leaves (job_half old) (job_half new) (Follows (Cut len) (job_half old))
   pub cells : CellsAsWere old new
 
--- after a sync of a file whose entry is on the disk a stop leaves nothing else
+-- After a sync of a file whose entry is on the disk a stop leaves nothing else. That isn't so after an earlier sync that failed: the system
+-- may have dropped what that one didn't write.
 pub record SyncsJob {E : Type 0} (tells : Bool) (old new : DiskState) (result : Result (Unit {0}) E) : Type 0 where
-  pub ok : IsTrue tells → OnOk result (LeftOnly old.file (job_half new))
+  pub ok : IsTrue tells → old.file_whole ≡ true → OnOk result (LeftOnly old.file (job_half new))
   pub entry : IsTrue tells → new.entry ≡ old.entry
   pub reads : OnlyReadsJob tells old new
 
 pub record SyncsFolder {E : Type 0} (tells : Bool) (old new : DiskState) (result : Result (Unit {0}) E) : Type 0 where
-  pub ok : IsTrue tells → OnOk result (new.entry ≡ true)
+  pub ok : IsTrue tells → old.file_whole ≡ true → OnOk result (new.entry ≡ true)
   pub reads : OnlyReadsJob tells old new
 
 -- A call on the job file may go on: its entry is on the disk. Nothing that a read gives has changed.
@@ -75,7 +79,7 @@ pub record IsSynced (tells : Bool) (old new : DiskState) : Type 0 where
   pub job : JobAsWas old new
 
 pub record SyncsBytes {E : Type 0} (tells : Bool) (old new : DiskState) (result : Result (Unit {0}) E) : Type 0 where
-  pub ok : IsTrue tells → OnOk result ((new.unsynced ≡ false) × (new.earlier ≡ false))
+  pub ok : IsTrue tells → old.cells_whole ≡ true → OnOk result ((new.unsynced ≡ false) × (new.earlier ≡ false))
   pub does : IsSynced tells old new
 
 -- only the bytes of the range may change, which a stop may leave as any before and after

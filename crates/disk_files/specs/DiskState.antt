@@ -1,5 +1,5 @@
 -- What a host's two files mean: the job file and the cells file.
-use Rattle.std.specs.Prelude.{◌≡◌, ℕ, List, Bool, Option}
+use Rattle.std.specs.Prelude.{◌≡◌, ℕ, List, Bool, true, Option}
 use Rattle.bench_model.specs.History.{Half, Stays}
 use Rattle.bench_model.specs.State.{BenchState}
 
@@ -15,6 +15,12 @@ pub record DiskState : Type 1 where
   -- whether cells may have been written and not synced, and whether that may be since an earlier run
   pub unsynced : Bool
   pub earlier : Bool
+  -- how many calls have failed, and how many more did nothing but be interrupted by a signal
+  pub errors : ℕ
+  pub interrupted : ℕ
+  -- whether each sync of the job file and of its folder so far went through, and each of the cells
+  pub file_whole : Bool
+  pub cells_whole : Bool
   -- the moment, and what a stop may leave at each moment up to it
   pub moment : ℕ
   pub files_at : ℕ → List ℕ → Type 0
@@ -30,6 +36,7 @@ range_half d = record { now = d.moment; at = d.cells_at }
 pub record JobAsWas (old new : DiskState) : Type 0 where
   pub file : new.file ≡ old.file
   pub entry : new.entry ≡ old.entry
+  pub whole : new.file_whole ≡ old.file_whole
   pub half : Stays (job_half old) (job_half new)
 
 -- the cells' half is as it was, at each moment
@@ -39,6 +46,7 @@ pub record CellsAsWere (old new : DiskState) : Type 0 where
   pub operation : new.operation ≡ old.operation
   pub unsynced : new.unsynced ≡ old.unsynced
   pub earlier : new.earlier ≡ old.earlier
+  pub whole : new.cells_whole ≡ old.cells_whole
   pub half : Stays (range_half old) (range_half new)
 
 -- what a bench over these files means
@@ -55,9 +63,10 @@ over d cell_count store_faults device_faults = record {
   cells_at = d.cells_at;
 }
 
--- what a disk means whose job file and cells are those of a bench, with the bytes that a read of the cells gives
-abbrev pub disk_over : BenchState → Bool → List ℕ → Bool → Bool → DiskState
-disk_over b entry bytes unsynced earlier = record {
+-- What a disk means whose job file and cells are those of a bench, with the bytes that a read of the cells gives and a count of its errors.
+-- None of its calls is interrupted, and no sync of its cells fails.
+abbrev pub disk_over : BenchState → Bool → List ℕ → Bool → Bool → ℕ → Bool → DiskState
+disk_over b entry bytes unsynced earlier errors file_whole = record {
   file = b.file;
   entry = entry;
   bytes = bytes;
@@ -65,6 +74,10 @@ disk_over b entry bytes unsynced earlier = record {
   operation = b.operation;
   unsynced = unsynced;
   earlier = earlier;
+  errors = errors;
+  interrupted = 0;
+  file_whole = file_whole;
+  cells_whole = true;
   moment = b.moment;
   files_at = b.files_at;
   cells_at = b.cells_at;

@@ -1,5 +1,5 @@
 -- What files mean that tell nothing.
-use Rattle.std.specs.Prelude.{ℕ, List, [], None, false}
+use Rattle.std.specs.Prelude.{[], None, true, false}
 use Rattle.disk_files.specs.DiskState.{DiskState}
 
 abbrev pub untold_disk : DiskState
@@ -11,6 +11,10 @@ untold_disk = record {
   operation = None;
   unsynced = false;
   earlier = false;
+  errors = 0;
+  interrupted = 0;
+  file_whole = true;
+  cells_whole = true;
   moment = 0;
   files_at = λ k file. ⊥;
   cells_at = λ k cells. ⊥;

@@ -4,13 +4,15 @@ ghost use Rattle.std.specs.Option.{ForSome};
 ghost use Rattle.bench_model.specs.History.{left};
 ghost use Rattle.bench_model.specs.Calls.{SameOutside};
 ghost use Rattle.disk_files.specs.DiskState.{DiskState, job_half, range_half};
+ghost use Rattle.disk_files.specs.Fails.{CallEnds, CallMayStop, FileSyncEnds, CellsSyncEnds};
 ghost use Rattle.disk_files.specs.DiskDoes.{OnlyReadsJob, ReadsSome, WritesSome, WritesJob, SetsJobLength, SyncsJob, SyncsFolder, SyncsBytes, WritesBytes, ReadsBytes, OpensRange, ClosesRange, InRange};
 
 use std::io;
 
 /// A job file and a cells file. Offsets and lengths are in bytes, of which one is a cell.
 ///
-/// Each call may fail. What it may leave then is said by its clauses as well. The job file's entry in its folder has to be
+/// Each call may fail, and counts that. What it may leave then is said by its clauses as well. A read or a write that a signal interrupted is
+/// no error: it can be made again. Once a sync has failed no later one of the same file brings anything to the disk for sure. The job file's entry in its folder has to be
 /// on the disk before any other call on it than `job_open` and `folder_sync`.
 pub trait Disk {
     /// Whether it tells its contents.
@@ -22,25 +24,29 @@ pub trait Disk {
     /// Opens the job file, or makes it where it is missing.
     fn job_open(&mut self) -> io::Result<()>
         ensures entry { IsTrue tells → (state self.new).entry ≡ (state self.old).entry }
-        ensures does { OnlyReadsJob tells (state self.old) (state self.new) };
+        ensures does { OnlyReadsJob tells (state self.old) (state self.new) }
+        ensures fails { IsTrue tells → CallEnds (state self.old) (state self.new) result };
 
     /// Brings the entry of the job file to the disk, in the folder in which it stands.
     fn folder_sync(&mut self) -> io::Result<()>
-        ensures does { SyncsFolder tells (state self.old) (state self.new) result };
+        ensures does { SyncsFolder tells (state self.old) (state self.new) result }
+        ensures fails { IsTrue tells → FileSyncEnds (state self.old) (state self.new) result };
 
     /// The job file's length.
     fn job_len(&mut self) -> io::Result<u64>
         requires { IsTrue tells → (state self.old).entry ≡ true }
         ensures ok { IsTrue tells → IfOk result (λ len. len ≡ length (state self.old).file) }
         ensures entry { IsTrue tells → (state self.new).entry ≡ (state self.old).entry }
-        ensures does { OnlyReadsJob tells (state self.old) (state self.new) };
+        ensures does { OnlyReadsJob tells (state self.old) (state self.new) }
+        ensures fails { IsTrue tells → CallEnds (state self.old) (state self.new) result };
 
     /// Reads some bytes of the job file.
     fn job_read_at(&mut self, at: u64, out: &mut [u8]) -> io::Result<usize>
         requires { IsTrue tells → (state self.old).entry ≡ true }
         ensures reads { ReadsSome tells (state self.old).file at out.old out.new result }
         ensures entry { IsTrue tells → (state self.new).entry ≡ (state self.old).entry }
-        ensures does { OnlyReadsJob tells (state self.old) (state self.new) };
+        ensures does { OnlyReadsJob tells (state self.old) (state self.new) }
+        ensures fails { IsTrue tells → CallMayStop (state self.old) (state self.new) result };
 
     /// Writes some bytes of the job file, while no cell is written and not synced.
     fn job_write_at(&mut self, at: u64, bytes: &[u8]) -> io::Result<usize>
@@ -48,50 +54,59 @@ pub trait Disk {
         requires at { IsTrue tells → at ≤ length (state self.old).file }
         requires synced { IsTrue tells → (state self.old).unsynced ≡ false }
         ensures writes { WritesSome tells (state self.old).file (state self.new).file at bytes.now result }
-        ensures does { WritesJob tells (state self.old) (state self.new) at (length bytes.now) };
+        ensures does { WritesJob tells (state self.old) (state self.new) at (length bytes.now) }
+        ensures fails { IsTrue tells → CallMayStop (state self.old) (state self.new) result };
 
     /// Cuts the job file, while no cell is written and not synced.
     fn job_set_len(&mut self, len: u64) -> io::Result<()>
         requires entry { IsTrue tells → (state self.old).entry ≡ true }
         requires len { IsTrue tells → len ≤ length (state self.old).file }
         requires synced { IsTrue tells → (state self.old).unsynced ≡ false }
-        ensures does { SetsJobLength tells (state self.old) (state self.new) len result };
+        ensures does { SetsJobLength tells (state self.old) (state self.new) len result }
+        ensures fails { IsTrue tells → CallEnds (state self.old) (state self.new) result };
 
     /// Brings the job file's bytes to the disk.
     fn job_sync(&mut self) -> io::Result<()>
         requires { IsTrue tells → (state self.old).entry ≡ true }
-        ensures does { SyncsJob tells (state self.old) (state self.new) result };
+        ensures does { SyncsJob tells (state self.old) (state self.new) result }
+        ensures fails { IsTrue tells → FileSyncEnds (state self.old) (state self.new) result };
 
     /// Brings the cells to the disk.
     fn cells_sync(&mut self) -> io::Result<()>
-        ensures does { SyncsBytes tells (state self.old) (state self.new) result };
+        ensures does { SyncsBytes tells (state self.old) (state self.new) result }
+        ensures fails { IsTrue tells → CellsSyncEnds (state self.old) (state self.new) result };
 
     /// Reads some of the cells.
     fn cells_read_at(&mut self, at: u64, out: &mut [u8]) -> io::Result<usize>
         ensures reads { ReadsSome tells (state self.old).bytes at out.old out.new result }
-        ensures does { ReadsBytes tells (state self.old) (state self.new) };
+        ensures does { ReadsBytes tells (state self.old) (state self.new) }
+        ensures fails { IsTrue tells → CallMayStop (state self.old) (state self.new) result };
 
     /// Writes some of the cells, in the open range.
     fn cells_write_at(&mut self, at: u64, bytes: &[u8]) -> io::Result<usize>
         requires { IsTrue tells → InRange at (length bytes.now) (state self.old).operation }
         ensures writes { WritesSome tells (state self.old).bytes (state self.new).bytes at bytes.now result }
-        ensures does { WritesBytes tells (state self.old) (state self.new) };
+        ensures does { WritesBytes tells (state self.old) (state self.new) }
+        ensures fails { IsTrue tells → CallMayStop (state self.old) (state self.new) result };
 
     /// Says that the cells of a range may be written from now on.
     fn open_range(&mut self, at: u32, len: u32) -> io::Result<()>
         requires idle { IsTrue tells → (state self.old).operation ≡ None }
         requires some { 0 < len }
         requires range { IsTrue tells → at + len ≤ length (state self.old).cells }
-        ensures does { OpensRange tells (state self.old) (state self.new) at len result };
+        ensures does { OpensRange tells (state self.old) (state self.new) at len result }
+        ensures fails { IsTrue tells → CallEnds (state self.old) (state self.new) result };
 
     /// Says that the range is written, and that no cell is from now on until another is opened.
     fn close_range(&mut self) -> io::Result<()>
-        ensures does { ClosesRange tells (state self.old) (state self.new) result };
+        ensures does { ClosesRange tells (state self.old) (state self.new) result }
+        ensures fails { IsTrue tells → CallEnds (state self.old) (state self.new) result };
 
     /// Says the same of a range that may be written in part, or of none. What an earlier run left is on the disk by then.
     fn break_range(&mut self) -> io::Result<()>
         requires { IsTrue tells → (state self.old).earlier ≡ false }
-        ensures does { ClosesRange tells (state self.old) (state self.new) result };
+        ensures does { ClosesRange tells (state self.old) (state self.new) result }
+        ensures fails { IsTrue tells → CallEnds (state self.old) (state self.new) result };
 
     /// The job file as read is among those that a stop may leave.
     ghost as_read: { (disk : Self) → IsTrue tells → left (job_half (state disk)) (state disk).file };
@@ -106,4 +121,7 @@ pub trait Disk {
     /// The open range has at least one cell, and lies in the cells.
     ghost inside: { (disk : Self) → IsTrue tells
         → ForSome (state disk).operation (λ range. (0 < range.1) × (range.0 + range.1 ≤ length (state disk).cells)) };
+
+    /// Fewer than 2^63 of its calls are ever interrupted.
+    ghost few_signals: { (disk : Self) → IsTrue tells → (state disk).interrupted < 2 ^ 63 };
 }

@@ -4,6 +4,7 @@ ghost use Rattle.std.specs.Prelude.{◌≡◌, ◌<◌, ◌^◌, length, IsTrue,
 use crate::Disk;
 use crate::cells_half::{fill_range, read_cells, ready_to_change, sync_earlier, write_range};
 use crate::job_half::{measure, read_job, sync_job, write_all};
+use crate::syncs::{CellsSyncs, JobSyncs};
 use bench_model::{Bench, DeviceFault, StoreFault};
 use faults::FaultCount;
 
@@ -11,15 +12,13 @@ use faults::FaultCount;
 ///
 /// The job file's entry is brought to the disk before anything else is asked of the file. Before the job file is changed
 /// the cells that may have been written are synced: so a host that loses power never has the later job file with the
-/// earlier cells. The cells that an earlier run left are synced at the first break-off.
+/// earlier cells. The cells that an earlier run left are synced at the first break-off. Once a sync has failed none of the same file goes
+/// through, and a call fails only where a call of the files failed, or a sync of them had.
 #[derive(Drop)]
 pub struct DiskBench<F: Disk> {
     disk: F,
-    // whether the job file is open, with its entry on the disk
-    entry: bool,
-    // whether cells may have been written since they were last synced, and whether they never were in this run
-    pending: bool,
-    fresh: bool,
+    job: JobSyncs,
+    cells: CellsSyncs,
     operation: Option<(u32, u32)>,
     cell_count: u32,
     store_faults: FaultCount,
@@ -27,9 +26,13 @@ pub struct DiskBench<F: Disk> {
     ghost few: { cell_count < 2 ^ 32 },
     ghost many: { IsTrue F.tells → length (F.state disk).cells ≡ cell_count },
     ghost open: { IsTrue F.tells → (F.state disk).operation ≡ operation },
-    ghost durable: { IsTrue F.tells → entry ≡ true → (F.state disk).entry ≡ true },
-    ghost written: { IsTrue F.tells → pending ≡ false → (F.state disk).unsynced ≡ false },
-    ghost left: { IsTrue F.tells → fresh ≡ false → (F.state disk).earlier ≡ false },
+    ghost durable: { IsTrue F.tells → job.entry ≡ true → (F.state disk).entry ≡ true },
+    ghost whole: { IsTrue F.tells → job.failed ≡ false → (F.state disk).file_whole ≡ true },
+    ghost broken: { IsTrue F.tells → job.failed ≡ true → (F.state disk).file_whole ≡ false },
+    ghost written: { IsTrue F.tells → cells.pending ≡ false → (F.state disk).unsynced ≡ false },
+    ghost left: { IsTrue F.tells → cells.fresh ≡ false → (F.state disk).earlier ≡ false },
+    ghost safe: { IsTrue F.tells → cells.failed ≡ false → (F.state disk).cells_whole ≡ true },
+    ghost spoilt: { IsTrue F.tells → cells.failed ≡ true → (F.state disk).cells_whole ≡ false },
 }
 
 impl<F: Disk> DiskBench<F> {
@@ -39,6 +42,8 @@ impl<F: Disk> DiskBench<F> {
     pub fn new(disk: F, cell_count: u32) -> DiskBench<F>
         requires many { IsTrue F.tells → length (F.state disk).cells ≡ cell_count }
         requires idle { IsTrue F.tells → (F.state disk).operation ≡ None }
+        requires file { IsTrue F.tells → (F.state disk).file_whole ≡ true }
+        requires cells { IsTrue F.tells → (F.state disk).cells_whole ≡ true }
         ensures disk { result.disk ≡ disk }
         ensures count { result.cell_count ≡ cell_count }
         ensures store { result.store_faults ≡ 0 }
@@ -46,9 +51,15 @@ impl<F: Disk> DiskBench<F> {
     {
         DiskBench {
             disk,
-            entry: false,
-            pending: true,
-            fresh: true,
+            job: JobSyncs {
+                entry: false,
+                failed: false,
+            },
+            cells: CellsSyncs {
+                pending: true,
+                fresh: true,
+                failed: false,
+            },
             operation: None,
             cell_count,
             store_faults: FaultCount::new(),
@@ -58,14 +69,16 @@ impl<F: Disk> DiskBench<F> {
 }
 
 impl<F: Disk + Drop> Bench for DiskBench<F> {
+    ghost use Rattle.std.specs.Prelude.{IsTrue};
     ghost use Rattle.disk_files.specs.DiskState.{over};
+    ghost use Rattle.disk_files.specs.Fails.{FailsAsFiles};
     ghost use Rattle.disk_files.specs.Laws.{bench_inside};
 
     ghost tells = { F.tells };
 
     ghost state = { λ b. over (F.state b.disk) b.cell_count b.store_faults b.device_faults };
 
-    ghost acts = { λ before act after. Unit {0} };
+    ghost acts = { λ before act after. IsTrue F.tells → FailsAsFiles (F.state before.disk) (F.state after.disk) act };
 
     ghost as_read = { λ b told. F.as_read b.disk told };
 
@@ -78,7 +91,7 @@ impl<F: Disk + Drop> Bench for DiskBench<F> {
     ghost inside = { λ b told. bench_inside (F.state b.disk).cells (F.inside b.disk told) (b.many told) };
 
     fn file_len(&mut self) -> Result<u64, StoreFault> {
-        match measure(&mut self.disk, &mut self.entry) {
+        match measure(&mut self.disk, &mut self.job) {
             Ok(len) => Ok(len),
             Err(_) => {
                 self.store_faults.raise();
@@ -88,7 +101,7 @@ impl<F: Disk + Drop> Bench for DiskBench<F> {
     }
 
     fn file_read(&mut self, at: u64, out: &mut [u8]) -> Result<(), StoreFault> {
-        match read_job(&mut self.disk, &mut self.entry, at, out) {
+        match read_job(&mut self.disk, &mut self.job, at, out) {
             Ok(()) => Ok(()),
             Err(_) => {
                 self.store_faults.raise();
@@ -98,14 +111,7 @@ impl<F: Disk + Drop> Bench for DiskBench<F> {
     }
 
     fn file_write(&mut self, at: u64, bytes: &[u8]) -> Result<(), StoreFault> {
-        if ready_to_change(
-            &mut self.disk,
-            &mut self.entry,
-            &mut self.pending,
-            &mut self.fresh,
-        )
-        .is_err()
-        {
+        if ready_to_change(&mut self.disk, &mut self.job, &mut self.cells).is_err() {
             self.store_faults.raise();
             return Err(StoreFault);
         }
@@ -119,14 +125,7 @@ impl<F: Disk + Drop> Bench for DiskBench<F> {
     }
 
     fn file_cut(&mut self, len: u64) -> Result<(), StoreFault> {
-        if ready_to_change(
-            &mut self.disk,
-            &mut self.entry,
-            &mut self.pending,
-            &mut self.fresh,
-        )
-        .is_err()
-        {
+        if ready_to_change(&mut self.disk, &mut self.job, &mut self.cells).is_err() {
             self.store_faults.raise();
             return Err(StoreFault);
         }
@@ -140,7 +139,7 @@ impl<F: Disk + Drop> Bench for DiskBench<F> {
     }
 
     fn file_sync(&mut self) -> Result<(), StoreFault> {
-        match sync_job(&mut self.disk, &mut self.entry) {
+        match sync_job(&mut self.disk, &mut self.job) {
             Ok(()) => Ok(()),
             Err(_) => {
                 self.store_faults.raise();
@@ -185,7 +184,7 @@ impl<F: Disk + Drop> Bench for DiskBench<F> {
             self.device_faults.raise();
             return Err(DeviceFault);
         };
-        self.pending = true;
+        self.cells.pending = true;
         if bytes.len() != len as usize
             || write_range(&mut self.disk, u64::from(at), bytes).is_err()
         {
@@ -209,7 +208,7 @@ impl<F: Disk + Drop> Bench for DiskBench<F> {
             self.device_faults.raise();
             return Err(DeviceFault);
         };
-        self.pending = true;
+        self.cells.pending = true;
         if fill_range(&mut self.disk, at, len, value).is_err() {
             self.device_faults.raise();
             return Err(DeviceFault);
@@ -227,7 +226,7 @@ impl<F: Disk + Drop> Bench for DiskBench<F> {
     }
 
     fn cells_drop(&mut self) -> Result<(), DeviceFault> {
-        if sync_earlier(&mut self.disk, &mut self.pending, &mut self.fresh).is_err() {
+        if sync_earlier(&mut self.disk, &mut self.cells).is_err() {
             self.device_faults.raise();
             return Err(DeviceFault);
         }

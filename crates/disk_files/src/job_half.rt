@@ -1,48 +1,75 @@
 //! The job file: opened with its entry on the disk, read and written whole in as many calls as it takes.
-ghost use Rattle.std.specs.Prelude.{◌≡◌, ◌≤◌, ◌+◌, length, take, drop, IsTrue, true, false, OnOk, OnErr, IfOk};
+ghost use Rattle.std.specs.Prelude.{◌≡◌, ◌≤◌, ◌<◌, ◌+◌, ◌^◌, length, take, drop, IsTrue, true, false, OnOk, IfOk};
 ghost use Rattle.bench_model.specs.History.{Leaves, AddsNothing, LeftOnly};
 ghost use Rattle.bench_model.specs.Calls.{written, Torn, Follows};
 ghost use Rattle.disk_files.specs.DiskState.{job_half, CellsAsWere};
 ghost use Rattle.disk_files.specs.DiskDoes.{OnlyReadsJob, IsReady};
+ghost use Rattle.disk_files.specs.Fails.{Fails};
 
 use crate::Disk;
+use crate::syncs::JobSyncs;
 use std::io;
 use std::io::ErrorKind;
 
-/// Opens the job file, and brings its entry to the disk, where that wasn't done yet.
-pub fn open_job<F: Disk>(disk: &mut F, entry: &mut bool) -> io::Result<()>
-    requires { IsTrue F.tells → entry.old ≡ true → (F.state disk.old).entry ≡ true }
-    ensures durable { IsTrue F.tells → entry.new ≡ true → (F.state disk.new).entry ≡ true }
+/// Opens the job file, and brings its entry to the disk, where that wasn't done yet. Once a sync of either has failed, it can't.
+pub fn open_job<F: Disk>(disk: &mut F, job: &mut JobSyncs) -> io::Result<()>
+    requires durable { IsTrue F.tells → job.old.entry ≡ true → (F.state disk.old).entry ≡ true }
+    requires whole { IsTrue F.tells → job.old.failed ≡ false → (F.state disk.old).file_whole ≡ true }
+    requires broken { IsTrue F.tells → job.old.failed ≡ true → (F.state disk.old).file_whole ≡ false }
+    ensures durable { IsTrue F.tells → job.new.entry ≡ true → (F.state disk.new).entry ≡ true }
+    ensures whole { IsTrue F.tells → job.new.failed ≡ false → (F.state disk.new).file_whole ≡ true }
+    ensures broken { IsTrue F.tells → job.new.failed ≡ true → (F.state disk.new).file_whole ≡ false }
     ensures does { IsReady F.tells (F.state disk.old) (F.state disk.new) result }
+    ensures fails { IsTrue F.tells → Fails (F.state disk.old) (F.state disk.new) result }
 {
-    if !*entry {
+    if !job.entry {
         disk.job_open()?;
+        if job.failed {
+            return Err(io::Error::from(ErrorKind::Other));
+        }
+        job.failed = true;
         disk.folder_sync()?;
-        *entry = true;
+        job.failed = false;
+        job.entry = true;
     }
     Ok(())
 }
 
 /// The job file's length.
-pub fn measure<F: Disk>(disk: &mut F, entry: &mut bool) -> io::Result<u64>
-    requires { IsTrue F.tells → entry.old ≡ true → (F.state disk.old).entry ≡ true }
+pub fn measure<F: Disk>(disk: &mut F, job: &mut JobSyncs) -> io::Result<u64>
+    requires durable { IsTrue F.tells → job.old.entry ≡ true → (F.state disk.old).entry ≡ true }
+    requires whole { IsTrue F.tells → job.old.failed ≡ false → (F.state disk.old).file_whole ≡ true }
+    requires broken { IsTrue F.tells → job.old.failed ≡ true → (F.state disk.old).file_whole ≡ false }
     ensures ok { IsTrue F.tells → IfOk result (λ len. len ≡ length (F.state disk.old).file) }
-    ensures durable { IsTrue F.tells → entry.new ≡ true → (F.state disk.new).entry ≡ true }
+    ensures durable { IsTrue F.tells → job.new.entry ≡ true → (F.state disk.new).entry ≡ true }
+    ensures whole { IsTrue F.tells → job.new.failed ≡ false → (F.state disk.new).file_whole ≡ true }
+    ensures broken { IsTrue F.tells → job.new.failed ≡ true → (F.state disk.new).file_whole ≡ false }
     ensures does { OnlyReadsJob F.tells (F.state disk.old) (F.state disk.new) }
+    ensures fails { IsTrue F.tells → Fails (F.state disk.old) (F.state disk.new) result }
 {
-    open_job(disk, entry)?;
+    open_job(disk, job)?;
     disk.job_len()
 }
 
 /// Fills the buffer with bytes of the job file.
-pub fn read_job<F: Disk>(disk: &mut F, entry: &mut bool, at: u64, out: &mut [u8]) -> io::Result<()>
-    requires entry { IsTrue F.tells → entry.old ≡ true → (F.state disk.old).entry ≡ true }
+pub fn read_job<F: Disk>(
+    disk: &mut F,
+    job: &mut JobSyncs,
+    at: u64,
+    out: &mut [u8],
+) -> io::Result<()>
+    requires durable { IsTrue F.tells → job.old.entry ≡ true → (F.state disk.old).entry ≡ true }
+    requires whole { IsTrue F.tells → job.old.failed ≡ false → (F.state disk.old).file_whole ≡ true }
+    requires broken { IsTrue F.tells → job.old.failed ≡ true → (F.state disk.old).file_whole ≡ false }
     requires at { IsTrue F.tells → at + length out.old ≤ length (F.state disk.old).file }
     ensures ok { IsTrue F.tells → OnOk result (out.new ≡ take (length out.old) (drop at (F.state disk.old).file)) }
-    ensures durable { IsTrue F.tells → entry.new ≡ true → (F.state disk.new).entry ≡ true }
+    ensures durable { IsTrue F.tells → job.new.entry ≡ true → (F.state disk.new).entry ≡ true }
+    ensures whole { IsTrue F.tells → job.new.failed ≡ false → (F.state disk.new).file_whole ≡ true }
+    ensures broken { IsTrue F.tells → job.new.failed ≡ true → (F.state disk.new).file_whole ≡ false }
     ensures does { OnlyReadsJob F.tells (F.state disk.old) (F.state disk.new) }
+    ensures fails { IsTrue F.tells → at + length out.old < 2 ^ 64 → Fails (F.state disk.old) (F.state disk.new) result }
 {
-    open_job(disk, entry)?;
+    open_job(disk, job)?;
     read_all(disk, at, out)
 }
 
@@ -54,25 +81,25 @@ pub fn write_all<F: Disk>(disk: &mut F, at: u64, bytes: &[u8]) -> io::Result<()>
     ensures ok { IsTrue F.tells → OnOk result ((F.state disk.new).file ≡ written at bytes.now (F.state disk.old).file) }
     ensures torn { IsTrue F.tells → Torn at (length bytes.now) (F.state disk.old).file (F.state disk.new).file }
     ensures entry { IsTrue F.tells → (F.state disk.new).entry ≡ (F.state disk.old).entry }
+    ensures whole { IsTrue F.tells → (F.state disk.new).file_whole ≡ (F.state disk.old).file_whole }
     ensures moments { Leaves (job_half (F.state disk.old)) (job_half (F.state disk.new)) (Follows (Torn at (length bytes.now)) (job_half (F.state disk.old))) }
     ensures cells { CellsAsWere (F.state disk.old) (F.state disk.new) }
+    ensures fails { IsTrue F.tells → at + length bytes.now < 2 ^ 64 → Fails (F.state disk.old) (F.state disk.new) result }
 {
     if at.checked_add(bytes.len() as u64).is_none() {
         return Err(io::Error::from(ErrorKind::InvalidInput));
     }
     let mut done = 0;
-    for _ in 0..u64::MAX {
-        if done == bytes.len() {
-            return Ok(());
-        }
+    let mut stops = 0u64;
+    while done < bytes.len() {
         match disk.job_write_at(at + done as u64, &bytes[done..]) {
             Ok(0) => return Err(io::Error::from(ErrorKind::WriteZero)),
             Ok(count) => done += count,
-            Err(fault) if fault.kind() == ErrorKind::Interrupted => {}
+            Err(fault) if fault.kind() == ErrorKind::Interrupted && stops < u64::MAX => stops += 1,
             Err(fault) => return Err(fault),
         }
     }
-    Err(io::Error::from(ErrorKind::Other))
+    Ok(())
 }
 
 /// Fills the buffer.
@@ -81,33 +108,44 @@ pub fn read_all<F: Disk>(disk: &mut F, at: u64, out: &mut [u8]) -> io::Result<()
     requires at { IsTrue F.tells → at + length out.old ≤ length (F.state disk.old).file }
     ensures ok { IsTrue F.tells → OnOk result (out.new ≡ take (length out.old) (drop at (F.state disk.old).file)) }
     ensures entry { IsTrue F.tells → (F.state disk.new).entry ≡ (F.state disk.old).entry }
+    ensures whole { IsTrue F.tells → (F.state disk.new).file_whole ≡ (F.state disk.old).file_whole }
     ensures does { OnlyReadsJob F.tells (F.state disk.old) (F.state disk.new) }
+    ensures fails { IsTrue F.tells → at + length out.old < 2 ^ 64 → Fails (F.state disk.old) (F.state disk.new) result }
 {
     if at.checked_add(out.len() as u64).is_none() {
         return Err(io::Error::from(ErrorKind::InvalidInput));
     }
     let mut done = 0;
-    for _ in 0..u64::MAX {
-        if done == out.len() {
-            return Ok(());
-        }
+    let mut stops = 0u64;
+    while done < out.len() {
         match disk.job_read_at(at + done as u64, &mut out[done..]) {
             Ok(0) => return Err(io::Error::from(ErrorKind::UnexpectedEof)),
             Ok(count) => done += count,
-            Err(fault) if fault.kind() == ErrorKind::Interrupted => {}
+            Err(fault) if fault.kind() == ErrorKind::Interrupted && stops < u64::MAX => stops += 1,
             Err(fault) => return Err(fault),
         }
     }
-    Err(io::Error::from(ErrorKind::Other))
+    Ok(())
 }
 
-/// Brings the job file and its entry to the disk.
-pub fn sync_job<F: Disk>(disk: &mut F, entry: &mut bool) -> io::Result<()>
-    requires { IsTrue F.tells → entry.old ≡ true → (F.state disk.old).entry ≡ true }
+/// Brings the job file and its entry to the disk. Once a sync of either has failed, it always does.
+pub fn sync_job<F: Disk>(disk: &mut F, job: &mut JobSyncs) -> io::Result<()>
+    requires durable { IsTrue F.tells → job.old.entry ≡ true → (F.state disk.old).entry ≡ true }
+    requires whole { IsTrue F.tells → job.old.failed ≡ false → (F.state disk.old).file_whole ≡ true }
+    requires broken { IsTrue F.tells → job.old.failed ≡ true → (F.state disk.old).file_whole ≡ false }
     ensures ok { IsTrue F.tells → OnOk result (LeftOnly (F.state disk.old).file (job_half (F.state disk.new))) }
-    ensures durable { IsTrue F.tells → entry.new ≡ true → (F.state disk.new).entry ≡ true }
+    ensures durable { IsTrue F.tells → job.new.entry ≡ true → (F.state disk.new).entry ≡ true }
+    ensures whole { IsTrue F.tells → job.new.failed ≡ false → (F.state disk.new).file_whole ≡ true }
+    ensures broken { IsTrue F.tells → job.new.failed ≡ true → (F.state disk.new).file_whole ≡ false }
     ensures does { OnlyReadsJob F.tells (F.state disk.old) (F.state disk.new) }
+    ensures fails { IsTrue F.tells → Fails (F.state disk.old) (F.state disk.new) result }
 {
-    open_job(disk, entry)?;
-    disk.job_sync()
+    open_job(disk, job)?;
+    if job.failed {
+        return Err(io::Error::from(ErrorKind::Other));
+    }
+    job.failed = true;
+    disk.job_sync()?;
+    job.failed = false;
+    Ok(())
 }

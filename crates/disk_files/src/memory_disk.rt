@@ -1,13 +1,15 @@
 //! A disk in memory, over a bench.
 ghost use Rattle.std.specs.Prelude.{◌≡◌, ◌≤◌, ◌+◌, ◌<◌, ◌^◌, length, IsTrue, vec_len, false, None};
 ghost use Rattle.std.specs.Option.{ForSome};
-ghost use Rattle.bench_model.specs.Calls.{written};
 ghost use Rattle.disk_files.specs.DiskDoes.{ClosesRange};
 ghost use Rattle.disk_files.specs.DiskState.{disk_over};
+ghost use Rattle.disk_files.specs.Fails.{CallEnds};
 ghost use Rattle.disk_files.specs.Memory.{DiffersInside};
 
 use crate::Disk;
+use crate::lay::settle;
 use bench_model::Bench;
+use faults::FaultCount;
 use std::io;
 use std::io::ErrorKind;
 
@@ -23,26 +25,12 @@ pub struct MemoryDisk<B: Bench> {
     entry: bool,
     unsynced: bool,
     earlier: bool,
+    errors: FaultCount,
+    file_whole: bool,
     ghost same: { IsTrue B.tells → (B.state bench).operation ≡ operation },
     ghost apart: { IsTrue B.tells → DiffersInside operation (B.state bench).cells bytes.items },
     ghost long: { vec_len bytes ≡ (B.state bench).cell_count },
     ghost fits: { ForSome operation (λ range. range.0 + range.1 ≤ vec_len bytes) },
-}
-
-/// Lays bytes over others.
-fn overlay(old: &mut [u8], at: usize, bytes: &[u8])
-    requires { at + length bytes.now ≤ length old.old }
-    ensures { old.new ≡ written at bytes.now old.old }
-{
-    old[at..at + bytes.len()].copy_from_slice(bytes);
-}
-
-/// Lays bytes over cells.
-fn settle(cells: &mut Vec<u8>, at: usize, bytes: &[u8])
-    requires { at + length bytes.now ≤ vec_len cells.old }
-    ensures items { cells.new.items ≡ written at bytes.now cells.old.items }
-{
-    overlay(cells, at, bytes);
 }
 
 impl<B: Bench> MemoryDisk<B> {
@@ -61,6 +49,8 @@ impl<B: Bench> MemoryDisk<B> {
             entry: false,
             unsynced: true,
             earlier: true,
+            errors: FaultCount::new(),
+            file_whole: true,
         }
     }
 
@@ -75,14 +65,18 @@ impl<B: Bench> MemoryDisk<B> {
             entry: _,
             unsynced: _,
             earlier: _,
+            errors: _,
+            file_whole: _,
         } = self;
         bench
     }
 
     /// Puts the bytes of an open range into the bench.
     fn end_range(&mut self) -> io::Result<()>
-        ensures does { ClosesRange B.tells (disk_over (B.state self.old.bench) self.old.entry self.old.bytes.items self.old.unsynced self.old.earlier)
-            (disk_over (B.state self.new.bench) self.new.entry self.new.bytes.items self.new.unsynced self.new.earlier) result }
+        ensures does { ClosesRange B.tells (disk_over (B.state self.old.bench) self.old.entry self.old.bytes.items self.old.unsynced self.old.earlier self.old.errors self.old.file_whole)
+            (disk_over (B.state self.new.bench) self.new.entry self.new.bytes.items self.new.unsynced self.new.earlier self.new.errors self.new.file_whole) result }
+        ensures fails { CallEnds (disk_over (B.state self.old.bench) self.old.entry self.old.bytes.items self.old.unsynced self.old.earlier self.old.errors self.old.file_whole)
+            (disk_over (B.state self.new.bench) self.new.entry self.new.bytes.items self.new.unsynced self.new.earlier self.new.errors self.new.file_whole) result }
     {
         let Some((at, len)) = self.operation else {
             return Ok(());
@@ -94,25 +88,30 @@ impl<B: Bench> MemoryDisk<B> {
                 self.operation = None;
                 Ok(())
             }
-            Err(_) => Err(io::Error::from(ErrorKind::Other)),
+            Err(_) => {
+                self.errors.raise();
+                Err(io::Error::from(ErrorKind::Other))
+            }
         }
     }
 }
 
 impl<B: Bench + Drop> Disk for MemoryDisk<B> {
     ghost use Rattle.disk_files.specs.DiskState.{disk_over};
-    ghost use Rattle.disk_files.specs.Laws.{disk_inside};
+    ghost use Rattle.disk_files.specs.Laws.{disk_inside, no_signals};
     ghost use Rattle.disk_files.specs.Memory.{same_outside};
 
     ghost tells = { B.tells };
 
-    ghost state = { λ d. disk_over (B.state d.bench) d.entry d.bytes.items d.unsynced d.earlier };
+    ghost state = { λ d. disk_over (B.state d.bench) d.entry d.bytes.items d.unsynced d.earlier d.errors d.file_whole };
 
     ghost as_read = { λ d told. B.as_read d.bench told };
 
     ghost as_told = { λ d cells told. B.as_told d.bench cells told };
 
     ghost outside = { λ d told. same_outside (d.same told) (d.apart told) };
+
+    ghost few_signals = { λ d told. no_signals };
 
     ghost inside = { λ d told. disk_inside (B.state d.bench).cells (B.inside d.bench told) (B.all_told d.bench told) };
 
@@ -128,7 +127,10 @@ impl<B: Bench + Drop> Disk for MemoryDisk<B> {
     fn job_len(&mut self) -> io::Result<u64> {
         match self.bench.file_len() {
             Ok(len) => Ok(len),
-            Err(_) => Err(io::Error::from(ErrorKind::Other)),
+            Err(_) => {
+                self.errors.raise();
+                Err(io::Error::from(ErrorKind::Other))
+            }
         }
     }
 
@@ -137,32 +139,48 @@ impl<B: Bench + Drop> Disk for MemoryDisk<B> {
         match self.bench.file_len() {
             Ok(len) if wanted <= len && at <= len - wanted => {}
             Ok(_) => return Ok(0),
-            Err(_) => return Err(io::Error::from(ErrorKind::Other)),
+            Err(_) => {
+                self.errors.raise();
+                return Err(io::Error::from(ErrorKind::Other));
+            }
         }
         match self.bench.file_read(at, out) {
             Ok(()) => Ok(out.len()),
-            Err(_) => Err(io::Error::from(ErrorKind::Other)),
+            Err(_) => {
+                self.errors.raise();
+                Err(io::Error::from(ErrorKind::Other))
+            }
         }
     }
 
     fn job_write_at(&mut self, at: u64, bytes: &[u8]) -> io::Result<usize> {
         match self.bench.file_write(at, bytes) {
             Ok(()) => Ok(bytes.len()),
-            Err(_) => Err(io::Error::from(ErrorKind::Other)),
+            Err(_) => {
+                self.errors.raise();
+                Err(io::Error::from(ErrorKind::Other))
+            }
         }
     }
 
     fn job_set_len(&mut self, len: u64) -> io::Result<()> {
         match self.bench.file_cut(len) {
             Ok(()) => Ok(()),
-            Err(_) => Err(io::Error::from(ErrorKind::Other)),
+            Err(_) => {
+                self.errors.raise();
+                Err(io::Error::from(ErrorKind::Other))
+            }
         }
     }
 
     fn job_sync(&mut self) -> io::Result<()> {
         match self.bench.file_sync() {
             Ok(()) => Ok(()),
-            Err(_) => Err(io::Error::from(ErrorKind::Other)),
+            Err(_) => {
+                self.file_whole = false;
+                self.errors.raise();
+                Err(io::Error::from(ErrorKind::Other))
+            }
         }
     }
 
@@ -186,6 +204,7 @@ impl<B: Bench + Drop> Disk for MemoryDisk<B> {
         let len = self.bytes.len();
         let from = at as usize;
         if self.operation.is_none() || bytes.len() > len || from > len - bytes.len() {
+            self.errors.raise();
             return Err(io::Error::from(ErrorKind::InvalidInput));
         }
         self.unsynced = true;
@@ -196,6 +215,7 @@ impl<B: Bench + Drop> Disk for MemoryDisk<B> {
     fn open_range(&mut self, at: u32, len: u32) -> io::Result<()> {
         let count = self.bench.cells_len();
         if len > count || at > count - len {
+            self.errors.raise();
             return Err(io::Error::from(ErrorKind::InvalidInput));
         }
         match self.bench.cells_open(at, len) {
@@ -205,6 +225,7 @@ impl<B: Bench + Drop> Disk for MemoryDisk<B> {
             }
             Err(_) => {
                 self.operation = None;
+                self.errors.raise();
                 Err(io::Error::from(ErrorKind::Other))
             }
         }

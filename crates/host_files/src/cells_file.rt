@@ -1,10 +1,8 @@
 //! The cells of the device as a file with one byte a cell.
 ghost use Rattle.std.specs.Prelude.{◌≤◌, length, IfOk};
 
-use crate::cells_window::CellsWindow;
 use crate::file_id::FileId;
 use crate::file_lock::FileLock;
-use crate::sync_guard::SyncGuard;
 use std::fs::{File, OpenOptions};
 use std::io;
 use std::io::ErrorKind;
@@ -13,17 +11,12 @@ use std::os::unix::fs::FileExt;
 /// A cells file. One that can't be opened fails at every call but a sync, and one that can only be read at each call that
 /// begins an operation. So does a call where another program has the file locked, and one that begins an operation where
 /// another looks at it.
-///
-/// Cells are read through a window of those that were read last, so that few loads of a single cell call the system. Each
-/// write goes to the file at once. The window is dropped on each fault, at each break-off and at each sync.
 #[derive(Drop)]
 pub struct CellsFile {
     file: Option<File>,
     writable: bool,
     count: u32,
     lock: FileLock,
-    guard: SyncGuard,
-    window: CellsWindow,
 }
 
 impl CellsFile {
@@ -38,8 +31,6 @@ impl CellsFile {
             writable,
             count,
             lock: FileLock::new(),
-            guard: SyncGuard::new(),
-            window: CellsWindow::new(rt.alloc()),
         }
     }
 
@@ -56,48 +47,18 @@ impl CellsFile {
         }
     }
 
-    /// Reads some cells from place `at` on. Those that have room in the window are read through it.
+    /// Reads some cells from place `at` on.
     pub fn read_at(&mut self, at: u64, out: &mut [u8]) -> io::Result<usize>
         ensures { IfOk result (λ count. count ≤ length out.old) }
     {
-        let file = shared(&self.file, &mut self.lock)?;
-        if self.window.copy(at, out) {
-            return Ok(out.len());
-        }
-        if self.window.holds(out.len()) {
-            self.window.fill(file, at, out.len());
-            if self.window.copy(at, out) {
-                return Ok(out.len());
-            }
-        }
-        match file.read_at(out, at) {
-            Ok(count) => {
-                if count < out.len() {
-                    self.window.clear();
-                }
-                Ok(count)
-            }
-            Err(fault) => {
-                self.window.clear();
-                Err(fault)
-            }
-        }
+        shared(&self.file, &mut self.lock)?.read_at(out, at)
     }
 
     /// Writes some of these cells from place `at` on.
     pub fn write_at(&mut self, at: u64, bytes: &[u8]) -> io::Result<usize>
         ensures { IfOk result (λ count. count ≤ length bytes.now) }
     {
-        match owned(&self.file, &mut self.lock)?.write_at(bytes, at) {
-            Ok(count) => {
-                self.window.follow(at, &bytes[..count]);
-                Ok(count)
-            }
-            Err(fault) => {
-                self.window.clear();
-                Err(fault)
-            }
-        }
+        owned(&self.file, &mut self.lock)?.write_at(bytes, at)
     }
 
     /// Begins an operation.
@@ -112,16 +73,14 @@ impl CellsFile {
 
     /// Breaks off an operation, whose range keeps what stands there.
     pub fn break_off(&mut self) -> io::Result<()> {
-        self.window.clear();
         shared(&self.file, &mut self.lock)?;
         Ok(())
     }
 
-    /// Brings the cells to the disk, if there are any. Once that has failed it always does.
+    /// Brings the cells to the disk, if there are any.
     pub fn sync(&mut self) -> io::Result<()> {
-        self.window.clear();
         match &self.file {
-            Some(file) => self.guard.sync(file),
+            Some(file) => file.sync_all(),
             None => Ok(()),
         }
     }

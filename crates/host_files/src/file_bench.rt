@@ -6,13 +6,13 @@ use crate::host_disk::HostDisk;
 use crate::job_store::JobFile;
 use crate::progress_line::ProgressLine;
 use bench_model::{Bench, DeviceFault, StoreFault};
-use disk_files::DiskBench;
+use disk_files::{DiskBench, WindowedDisk};
 use octets::Word;
 
 /// A bench over two files of the system. It tells no contents.
 #[derive(Drop)]
 pub struct FileBench {
-    bench: DiskBench<HostDisk>,
+    bench: DiskBench<WindowedDisk<HostDisk>>,
     line: ProgressLine,
     // the length of the operation that was opened last
     open_len: u32,
@@ -31,7 +31,10 @@ impl FileBench {
         let count = cells.count();
         let job = JobFile::new(rt, job_name, cells.id());
         FileBench {
-            bench: DiskBench::new(HostDisk::new(job, cells), count),
+            bench: DiskBench::new(
+                WindowedDisk::new(rt.alloc(), HostDisk::new(job, cells)),
+                count,
+            ),
             line: ProgressLine::none(),
             open_len: 0,
         }

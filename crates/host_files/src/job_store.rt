@@ -3,7 +3,6 @@ ghost use Rattle.std.specs.Prelude.{◌≤◌, length, IfOk};
 
 use crate::file_id::FileId;
 use crate::file_lock::FileLock;
-use crate::sync_guard::SyncGuard;
 use octets::Word;
 use std::fs::{File, OpenOptions};
 use std::io::ErrorKind;
@@ -27,7 +26,6 @@ pub struct JobFile {
     cells: Option<FileId>,
     opened: Option<Opened>,
     lock: FileLock,
-    guard: SyncGuard,
 }
 
 impl JobFile {
@@ -39,7 +37,6 @@ impl JobFile {
             cells,
             opened: None,
             lock: FileLock::new(),
-            guard: SyncGuard::new(),
         }
     }
 
@@ -98,12 +95,12 @@ impl JobFile {
         self.owned()?.set_len(len)
     }
 
-    /// Brings the file to the disk. Once that has failed, or the sync of its folder, it always does.
+    /// Brings the file to the disk.
     pub fn sync(&mut self) -> io::Result<()> {
         match &self.opened {
             Some(Opened { file, folder: _ }) => {
                 self.lock.share(file)?;
-                self.guard.sync(file)
+                file.sync_all()
             }
             None => Err(io::Error::from(ErrorKind::NotFound)),
         }
@@ -113,7 +110,7 @@ impl JobFile {
     /// so a host that loses power still finds the file under its name.
     pub fn sync_folder(&mut self) -> io::Result<()> {
         match &self.opened {
-            Some(Opened { file: _, folder }) => self.guard.sync(folder),
+            Some(Opened { file: _, folder }) => folder.sync_all(),
             None => Err(io::Error::from(ErrorKind::NotFound)),
         }
     }

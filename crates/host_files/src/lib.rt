@@ -2,7 +2,6 @@
 #![tactic(auto)]
 
 mod cells_file;
-mod cells_window;
 mod file_bench;
 mod file_id;
 mod file_inputs;
@@ -12,7 +11,6 @@ mod job_store;
 mod progress_line;
 mod std_sink;
 mod streams;
-mod sync_guard;
 #[cfg(test)]
 mod tests;
 

@@ -2,14 +2,15 @@
 
 use super::{Temporary, pattern};
 use crate::cells_file::CellsFile;
-use crate::cells_window::CellsWindow;
 use crate::file_bench::FileBench;
+use crate::host_disk::HostDisk;
+use crate::job_store::JobFile;
 use bench_model::Bench;
+use disk_files::{Disk, WindowedDisk};
+use faults::OutOfMemory;
 use octets::Word;
-use std::io::ErrorKind;
-use std::os::unix::fs::FileExt;
+use std::fs;
 use std::test::Fail;
-use std::{fs, io};
 
 /// A window of cells, and some of the next.
 const CELLS: usize = 5000;
@@ -65,10 +66,17 @@ impl Trial {
     }
 }
 
+/// The cells of a file through a window, beside a job file with no name.
+fn windowed(rt: HostRuntime, name: &str) -> Result<WindowedDisk<HostDisk>, OutOfMemory> {
+    let cells = CellsFile::open(rt, name);
+    let job = JobFile::new(rt, Word::copy(rt.alloc(), "")?, cells.id());
+    Ok(WindowedDisk::new(rt.alloc(), HostDisk::new(job, cells)))
+}
+
 /// Whether these four cells are read in one call.
-fn reads(cells: &mut CellsFile, at: u64, bytes: [u8; 4]) -> bool {
+fn reads(cells: &mut WindowedDisk<HostDisk>, at: u64, bytes: [u8; 4]) -> bool {
     let mut found = [0; 4];
-    matches!(cells.read_at(at, &mut found), Ok(4)) && found == bytes
+    matches!(cells.cells_read_at(at, &mut found), Ok(4)) && found == bytes
 }
 
 #[test]
@@ -136,14 +144,17 @@ fn nothing_is_read_past_the_last_cell(rt: HostRuntime) -> Result<(), Fail> {
     let wanted = pattern(rt.alloc(), CELLS)?;
     let file = Temporary::holding(rt, "ended", &wanted)?;
     let mut many = [0; 4500];
-    let mut cells = CellsFile::open(rt, file.name.text());
+    let mut cells = windowed(rt, file.name.text())?;
     assert!(rt; reads(&mut cells, 0, [0, 1, 2, 3]));
     assert!(rt; reads(&mut cells, 4996, [227, 228, 229, 230]));
     for at in [4997, 5000, 9000, 4294967295] {
-        assert!(rt; !matches!(cells.read_at(at, &mut [0; 4]), Ok(4)), "{at}");
+        assert!(rt;
+            !matches!(cells.cells_read_at(at, &mut [0; 4]), Ok(4)),
+            "{at}"
+        );
         assert!(rt; reads(&mut cells, 4996, [227, 228, 229, 230]));
     }
-    assert!(rt; matches!(cells.read_at(400, &mut many), Ok(4500)));
+    assert!(rt; matches!(cells.cells_read_at(400, &mut many), Ok(4500)));
     assert!(rt; many.as_slice() == &wanted[400..4900]);
     assert!(rt; file.remove());
     Ok(())
@@ -153,17 +164,17 @@ fn nothing_is_read_past_the_last_cell(rt: HostRuntime) -> Result<(), Fail> {
 fn a_window_is_kept_until_it_is_dropped(rt: HostRuntime) -> Result<(), Fail> {
     let bytes = pattern(rt.alloc(), CELLS)?;
     let file = Temporary::holding(rt, "outside", &bytes)?;
-    let mut cells = CellsFile::open(rt, file.name.text());
+    let mut cells = windowed(rt, file.name.text())?;
     assert!(rt; reads(&mut cells, 0, [0, 1, 2, 3]));
     assert!(rt; file.write(&[211; CELLS]));
     assert!(rt; reads(&mut cells, 96, [96, 97, 98, 99]));
-    assert!(rt; cells.break_off().is_ok());
+    assert!(rt; cells.break_range().is_ok());
     assert!(rt; reads(&mut cells, 0, [211; 4]));
     assert!(rt; file.write(&[212; CELLS]));
-    assert!(rt; cells.sync().is_ok());
+    assert!(rt; cells.cells_sync().is_ok());
     assert!(rt; reads(&mut cells, 0, [212; 4]));
     assert!(rt; file.write(&[213; CELLS]));
-    assert!(rt; !matches!(cells.read_at(1000, &mut [0; 4500]), Ok(4500)));
+    assert!(rt; !matches!(cells.cells_read_at(1000, &mut [0; 4500]), Ok(4500)));
     assert!(rt; reads(&mut cells, 0, [213; 4]));
     assert!(rt; file.remove());
     Ok(())
@@ -171,59 +182,13 @@ fn a_window_is_kept_until_it_is_dropped(rt: HostRuntime) -> Result<(), Fail> {
 
 /// The system's `/dev/full` is read as zeros, and no write of it succeeds.
 #[test]
-fn a_write_that_failed_is_not_seen(rt: HostRuntime) {
-    let mut cells = CellsFile::open(rt, "/dev/full");
-    assert_eq!(rt; cells.count(), 0);
+fn a_write_that_failed_is_not_seen(rt: HostRuntime) -> Result<(), Fail> {
+    let mut cells = windowed(rt, "/dev/full")?;
     let mut found = [1; 2];
-    assert!(rt; matches!(cells.read_at(0, &mut found), Ok(2)));
-    assert!(rt; cells.begin().is_ok());
-    assert!(rt; cells.write_at(0, &[1, 2]).is_err());
-    assert!(rt; matches!(cells.read_at(0, &mut found), Ok(2)));
+    assert!(rt; matches!(cells.cells_read_at(0, &mut found), Ok(2)));
+    assert!(rt; cells.open_range(0, 2).is_ok());
+    assert!(rt; cells.cells_write_at(0, &[1, 2]).is_err());
+    assert!(rt; matches!(cells.cells_read_at(0, &mut found), Ok(2)));
     assert_eq!(rt; found, [0, 0]);
-}
-
-/// A file that gives these bytes, or fails after it gave some.
-struct Faulty {
-    value: u8,
-    fails: bool,
-}
-
-impl FileExt for Faulty {
-    fn read_at(&self, buf: &mut [u8], _offset: u64) -> io::Result<usize> {
-        buf.fill(self.value);
-        if self.fails {
-            return Err(io::Error::from(ErrorKind::Other));
-        }
-        Ok(buf.len())
-    }
-
-    fn write_at(&self, _buf: &[u8], _offset: u64) -> io::Result<usize> {
-        Err(io::Error::from(ErrorKind::Other))
-    }
-}
-
-#[test]
-fn a_read_that_failed_leaves_no_window(rt: HostRuntime) {
-    let mut window = CellsWindow::new(rt.alloc());
-    let mut found = [1; 2];
-    window.fill(
-        &Faulty {
-            value: 5,
-            fails: false,
-        },
-        0,
-        2,
-    );
-    assert!(rt; window.copy(0, &mut found));
-    assert_eq!(rt; found, [5, 5]);
-    window.fill(
-        &Faulty {
-            value: 6,
-            fails: true,
-        },
-        0,
-        2,
-    );
-    assert!(rt; !window.copy(0, &mut found));
-    assert_eq!(rt; found, [5, 5]);
+    Ok(())
 }

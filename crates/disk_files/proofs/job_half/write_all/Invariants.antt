@@ -1,10 +1,15 @@
-use Rattle.std.proofs.Common.{◌≡◌, ◌≤◌, ◌<◌, ◌^◌, ◌+◌, length, IsTrue, true, false}
+use Rattle.std.proofs.Common.{◌≡◌, ◌≤◌, ◌<◌, ◌^◌, ◌+◌, ◌-◌, length, IsTrue, true, false}
 use Rattle.disk_files.proofs.WriteLemmas.{IsWrittenTo}
+use Rattle.disk_files.proofs.FailLemmas.{GoesSo}
 use Rattle.disk_files.proofs.job_half.write_all.Given as goal
 
-abbrev pub invariant-loop : goal.invariant-loop
-invariant-loop g l = IsWrittenTo g.F.Disk.tells (g.F.Disk.state l.fn.disk) (g.F.Disk.state l.disk) l.at l.bytes l.done
+abbrev pub invariant-loop-done : goal.invariant-loop-done
+invariant-loop-done g l = IsWrittenTo g.F.Disk.tells (g.F.Disk.state l.fn.disk) (g.F.Disk.state l.disk) l.at l.bytes l.done
     × (l.at + length l.bytes < 2 ^ 64)
     × (IsTrue g.F.Disk.tells → l.at ≤ length (g.F.Disk.state l.fn.disk).file)
     × (IsTrue g.F.Disk.tells → (g.F.Disk.state l.fn.disk).unsynced ≡ false)
     × (IsTrue g.F.Disk.tells → (g.F.Disk.state l.fn.disk).entry ≡ true)
+    × GoesSo g.F.Disk.tells (g.F.Disk.state l.fn.disk) (g.F.Disk.state l.disk) l.stops
+
+abbrev pub decreases-loop-done : goal.decreases-loop-done
+decreases-loop-done g l = length l.bytes - l.done + (2 ^ 64 - l.stops)

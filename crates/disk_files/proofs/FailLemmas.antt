@@ -1,0 +1,68 @@
+-- When several calls of the files fail.
+use Rattle.std.proofs.Common.{◌≡◌, ◌≤◌, ◌+◌, ◌∙◌, inl, inr, ⊎_elim, sym, refl, ℕ, Bool, IsTrue, arith, Result, Ok, Err, IsOk, IsErr}
+use Rattle.std.proofs.lemmas.Bool.{false≢true}
+use Rattle.faults.specs.Counts.{Rose}
+use Rattle.disk_files.specs.DiskState.{DiskState}
+use Rattle.disk_files.specs.Fails.{KeepsSyncs, IsBroken, Fails}
+
+-- no call has failed so far, and so many were interrupted
+pub record GoesSo (tells : Bool) (old now : DiskState) (count : ℕ) : Type 0 where
+  pub errors : IsTrue tells → now.errors ≡ old.errors
+  pub stops : IsTrue tells → count ≤ now.interrupted
+  pub syncs : IsTrue tells → KeepsSyncs old now
+
+pub goes_here : (tells : Bool) (d : DiskState) → GoesSo tells d d 0
+goes_here tells d = record { errors = λ told. refl; stops = λ told. omega arith; syncs = λ told. record { file_whole = refl; cells_whole = refl } }
+
+pub keeps_then : {a b c : DiskState} → KeepsSyncs a b → KeepsSyncs b c → KeepsSyncs a c
+keeps_then one two = record { file_whole = two.file_whole ∙ one.file_whole; cells_whole = two.cells_whole ∙ one.cells_whole }
+
+-- a call that went through
+pub goes_ok : {tells : Bool} {old mid new : DiskState} {stops : ℕ} → GoesSo tells old mid stops
+    → (IsTrue tells → (new.errors ≡ mid.errors) × (new.interrupted ≡ mid.interrupted)) → (IsTrue tells → KeepsSyncs mid new) → GoesSo tells old new stops
+goes_ok so_far call syncs = record {
+  errors = λ told. (call told).0 ∙ so_far.errors told;
+  stops = λ told. omega (arith, so_far.stops told, (call told).1);
+  syncs = λ told. keeps_then (so_far.syncs told) (syncs told);
+}
+
+-- a call that was interrupted
+pub goes_stopped : {tells : Bool} {old mid new : DiskState} {stops : ℕ}
+    → GoesSo tells old mid stops → (IsTrue tells → (new.errors ≡ mid.errors) × (new.interrupted ≡ mid.interrupted + 1)) → (IsTrue tells → KeepsSyncs mid new)
+    → GoesSo tells old new (stops + 1)
+goes_stopped so_far call syncs = record {
+  errors = λ told. (call told).0 ∙ so_far.errors told;
+  stops = λ told. omega (arith, so_far.stops told, (call told).1);
+  syncs = λ told. keeps_then (so_far.syncs told) (syncs told);
+}
+
+-- the same of several calls
+pub goes_whole : {T E : Type 0} {tells : Bool} {old mid new : DiskState} (result : Result T E) → GoesSo tells old mid 0 → (IsTrue tells → Fails mid new result) → IsOk result
+    → GoesSo tells old new 0
+goes_whole result so_far calls ok = record {
+  errors = λ told. ((calls told).on_ok ok).0 ∙ so_far.errors told;
+  stops = λ told. omega arith;
+  syncs = λ told. keeps_then (so_far.syncs told) ((calls told).on_ok ok).1;
+}
+
+rose_from : (x y z : ℕ) → y ≡ x → Rose y z → Rose x z
+rose_from x y z is rose = ⊎_elim (λ less. inl (omega (arith, less, is))) (λ full. inr full) rose
+
+broken_before : {x y : DiskState} → KeepsSyncs x y → IsBroken y → IsBroken x
+broken_before k broken = ⊎_elim (λ file. inl (sym k.file_whole ∙ file)) (λ cells. inr (sym k.cells_whole ∙ cells)) broken
+
+not_both : {T E : Type 0} (r : Result T E) → IsErr r → IsOk r → ⊥
+not_both (Ok x) failed went = false≢true failed
+not_both (Err e) failed went = false≢true went
+
+-- calls of which the last fails, and the answer made of that
+pub fails_then : {T E U G : Type 0} {tells : Bool} {a b c : DiskState} {count : ℕ} → IsTrue tells → GoesSo tells a b count → (result : Result T E) → Fails b c result
+    → IsErr result → (answer : Result U G) → IsErr answer → Fails a c answer
+fails_then {a = a} {b = b} {c = c} told so_far result two is_err answer failed = record {
+  later = omega (arith, so_far.errors told, two.later);
+  on_fault = λ fault. ⊎_elim
+      (λ rose. inl (rose_from a.errors b.errors c.errors (so_far.errors told) rose))
+      (λ broken. inr (broken_before (so_far.syncs told) broken))
+      (two.on_fault is_err);
+  on_ok = λ went. absurd (not_both answer failed went);
+}

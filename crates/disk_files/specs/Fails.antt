@@ -1,0 +1,64 @@
+-- When calls on a host's files fail.
+use Rattle.std.specs.Prelude.{◌≡◌, ◌≤◌, ◌<◌, ◌^◌, ◌+◌, ◌⊎◌, false, length, Result, IsOk, IsErr, IfErr, OnOk, OnErr}
+use Rattle.std.specs.IoError.{error_kind}
+use Rattle.std.specs.declared.io.Error.{Error}
+use Rattle.std.specs.declared.io.ErrorKind.TheVariants.{Interrupted}
+use Rattle.faults.specs.Counts.{Rose, HasCause}
+use Rattle.bench_model.specs.Act.{Act, FileLen, FileRead, FileWrite, FileCut, FileSync, CellsRead, CellsOpen, CellsSettle, CellsSettleFill, CellsDrop}
+use Rattle.disk_files.specs.DiskState.{DiskState}
+
+-- no sync failed
+pub record KeepsSyncs (old new : DiskState) : Type 0 where
+  pub file_whole : new.file_whole ≡ old.file_whole
+  pub cells_whole : new.cells_whole ≡ old.cells_whole
+
+-- a call fails only where the count of errors rose
+pub record CallEnds {T E : Type 0} (old new : DiskState) (result : Result T E) : Type 0 where
+  pub cause : HasCause old.errors new.errors result
+  pub interrupted : new.interrupted ≡ old.interrupted
+  pub syncs : KeepsSyncs old new
+
+-- the same of a call that can be made again where a signal interrupted it, which is no error
+pub record CallMayStop {T : Type 0} (old new : DiskState) (result : Result T Error) : Type 0 where
+  pub later : old.errors ≤ new.errors
+  pub on_ok : IsOk result → (new.errors ≡ old.errors) × (new.interrupted ≡ old.interrupted)
+  pub stopped : IfErr result (λ fault. error_kind fault ≡ Interrupted → (new.errors ≡ old.errors) × (new.interrupted ≡ old.interrupted + 1))
+  pub failed : IfErr result (λ fault. (error_kind fault ≡ Interrupted → ⊥) → Rose old.errors new.errors)
+  pub syncs : KeepsSyncs old new
+
+-- the same of a sync of the job file, or of its folder, and of one of the cells: it is remembered that it failed
+pub record FileSyncEnds {T E : Type 0} (old new : DiskState) (result : Result T E) : Type 0 where
+  pub cause : HasCause old.errors new.errors result
+  pub interrupted : new.interrupted ≡ old.interrupted
+  pub kept : OnOk result (new.file_whole ≡ old.file_whole)
+  pub lost : OnErr result (new.file_whole ≡ false)
+
+pub record CellsSyncEnds {T E : Type 0} (old new : DiskState) (result : Result T E) : Type 0 where
+  pub cause : HasCause old.errors new.errors result
+  pub interrupted : new.interrupted ≡ old.interrupted
+  pub kept : OnOk result (new.cells_whole ≡ old.cells_whole)
+  pub lost : OnErr result (new.cells_whole ≡ false)
+
+-- a sync of one of the files failed before
+abbrev pub IsBroken : DiskState → Type 0
+IsBroken d = (d.file_whole ≡ false) ⊎ (d.cells_whole ≡ false)
+
+-- Calls of the files, one after the other up to the first that fails: they fail only where the count of errors rose, or a sync failed before.
+-- Where they go through, no error came in between.
+pub record Fails {T E : Type 0} (old new : DiskState) (result : Result T E) : Type 0 where
+  pub later : old.errors ≤ new.errors
+  pub on_fault : IsErr result → Rose old.errors new.errors ⊎ IsBroken old
+  pub on_ok : IsOk result → (new.errors ≡ old.errors) × KeepsSyncs old new
+
+-- A call of the bench fails only where its files did. A range of the file that ends past each place that there is fails too.
+abbrev pub FailsAsFiles : DiskState → DiskState → Act → Type 0
+FailsAsFiles old new (FileLen result) = Fails old new result
+FailsAsFiles old new (FileRead at before after result) = at + length before < 2 ^ 64 → Fails old new result
+FailsAsFiles old new (FileWrite at bytes result) = at + length bytes < 2 ^ 64 → Fails old new result
+FailsAsFiles old new (FileCut len result) = Fails old new result
+FailsAsFiles old new (FileSync result) = Fails old new result
+FailsAsFiles old new (CellsRead at before after result) = Fails old new result
+FailsAsFiles old new (CellsOpen at len result) = Fails old new result
+FailsAsFiles old new (CellsSettle bytes result) = Fails old new result
+FailsAsFiles old new (CellsSettleFill value result) = Fails old new result
+FailsAsFiles old new (CellsDrop result) = Fails old new result
