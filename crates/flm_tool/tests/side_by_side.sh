@@ -97,13 +97,10 @@ run 9 '' 'flmprog: device fault' flock -x cells -- job cells compare image
 run 0 same '' flock -s cells -- job cells compare image
 flock -s cells "$program" job cells program --raw-at 0x08000000 small.toml a1.flm first > out 2> err
 status=$?
-# The job is whole in its file by then, and no cell was written: it is resumed or reverted once the cells are free.
-same 'program, cells that another program reads' 9 "$status" 'flmprog: device fault' "$(cat err)"
+# Nothing is changed: the job isn't begun either.
+same 'program, cells that another program reads' 8 "$status" 'flmprog: store fault' "$(cat err)"
 same 'locked files: the cells' 0 "$(cmp -s cells old; echo $?)"
-"$program" job cells status > out
-same 'locked files: the job' 'job open' "$(head -n 1 out)"
-"$program" job cells revert > out
-same 'locked files: reverted' 0 $? 0 "$(cmp -s cells old; echo $?)" 'job none' "$("$program" job cells status)"
+same 'locked files: the job' 'job none' "$("$program" job cells status)"
 
 # JOB and CELLS are one file, by the same name, a hard link or a symbolic one: nothing is changed.
 ln cells hard

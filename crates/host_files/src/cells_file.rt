@@ -61,6 +61,14 @@ impl CellsFile {
         owned(&self.file, &mut self.lock)?.write_at(bytes, at)
     }
 
+    /// Keeps other programs from reading and writing the cells, if there are any. Where one does, it is an error.
+    pub fn keep(&mut self) -> io::Result<()> {
+        match &self.file {
+            Some(file) => self.lock.own(file),
+            None => Ok(()),
+        }
+    }
+
     /// Begins an operation.
     pub fn begin(&mut self) -> io::Result<()> {
         shared(&self.file, &mut self.lock)?;

@@ -53,11 +53,14 @@ impl Disk for HostDisk {
         self.job.read_at(at, out)
     }
 
+    // a job is changed only where its cells can be changed too: else it would be begun, and then fail
     fn job_write_at(&mut self, at: u64, bytes: &[u8]) -> io::Result<usize> {
+        self.cells.keep()?;
         self.job.write_at(at, bytes)
     }
 
     fn job_set_len(&mut self, len: u64) -> io::Result<()> {
+        self.cells.keep()?;
         self.job.cut(len)
     }
 

@@ -50,17 +50,41 @@ fn files_that_another_program_writes_are_faults(rt: HostRuntime) -> Result<(), F
 }
 
 #[test]
-fn files_that_another_program_reads_are_not_changed(rt: HostRuntime) -> Result<(), Fail> {
-    let (mut files, job, cells) = both(rt, "read_job", "read_cells")?;
-    assert!(rt; job.try_lock_shared().is_ok() && cells.try_lock_shared().is_ok());
+fn a_job_file_that_another_program_reads_is_not_changed(rt: HostRuntime) -> Result<(), Fail> {
+    let (mut files, job, _cells) = both(rt, "read_job", "its_cells")?;
+    assert!(rt; job.try_lock_shared().is_ok());
     assert!(rt; files.reads(0, *b"abc"));
-    assert!(rt; files.reads_cells(CELLS));
     assert!(rt; files.bench.file_write(0, b"x").is_err());
+    assert!(rt; files.hold(b"abc", &CELLS));
+    assert!(rt; job.unlock().is_ok());
+    assert!(rt; job_is_kept(&mut files));
+    assert!(rt; files.remove());
+    Ok(())
+}
+
+#[test]
+fn cells_that_another_program_reads_are_not_changed(rt: HostRuntime) -> Result<(), Fail> {
+    let (mut files, _job, cells) = both(rt, "its_job", "read_cells")?;
+    assert!(rt; cells.try_lock_shared().is_ok());
+    assert!(rt; files.reads_cells(CELLS));
     assert!(rt; !files.open(0, 2));
     assert!(rt; files.hold(b"abc", &CELLS));
-    assert!(rt; job.unlock().is_ok() && cells.unlock().is_ok());
-    assert!(rt; job_is_kept(&mut files));
+    assert!(rt; cells.unlock().is_ok());
     assert!(rt; cells_are_kept(&mut files));
+    assert!(rt; files.remove());
+    Ok(())
+}
+
+#[test]
+fn a_job_is_not_changed_while_another_program_reads_the_cells(rt: HostRuntime) -> Result<(), Fail> {
+    let (mut files, job, cells) = both(rt, "whole_job", "seen_cells_of_it")?;
+    assert!(rt; cells.try_lock_shared().is_ok());
+    assert!(rt; files.reads(0, *b"abc"));
+    assert!(rt; files.bench.cells_drop().is_ok());
+    assert!(rt; files.bench.file_write(0, b"x").is_err());
+    assert!(rt; files.bench.file_cut(0).is_err());
+    assert!(rt; job.try_lock_shared().is_ok() && job.unlock().is_ok());
+    assert!(rt; files.hold(b"abc", &CELLS));
     assert!(rt; files.remove());
     Ok(())
 }
