@@ -11,7 +11,7 @@ use std::io::{ErrorKind, Read};
 use std::marker::Model;
 
 /// How many bytes are read at a time.
-const CHUNK: usize = 4096;
+const CHUNK: usize = 65_536;
 
 /// The system's files by their paths. They don't tell what stands under a name. A contract sees how often they have failed.
 #[derive(Drop)]
