@@ -21,7 +21,9 @@ mod written;
 pub use board::{Board, Weights};
 pub use fault::BoardFault;
 pub use key::{Key, Part};
-pub use law::{each_place_has_a_sector, each_region_has_its_facts, parts_are_apart};
+pub use law::{
+    boards_have_few_regions, each_place_has_a_sector, each_region_has_its_facts, parts_are_apart,
+};
 pub use read::read_board;
 pub use region::{Region, Regions};
 pub use sectors::{SectorRun, Sectors};

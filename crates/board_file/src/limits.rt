@@ -1,12 +1,11 @@
 //! The limits on what the keys of a text say together.
-ghost use Rattle.std.specs.Prelude.{◌≡◌, ◌<◌, ◌≤◌, ◌+◌, List, None, map, option_map, length, sum_by, IsTrue, IfOk, IfSome};
+ghost use Rattle.std.specs.Prelude.{◌≡◌, ◌<◌, ◌≤◌, ◌+◌, List, None, map, option_map, length, IsTrue, IfOk, IfSome};
 ghost use Rattle.std.specs.List.{list_all};
-ghost use Rattle.board_file.specs.declared.region.Region.{Region};
 ghost use Rattle.board_file.specs.Answer.{Gives};
-ghost use Rattle.board_file.specs.Limits.{run_fits, region_fits, parts_of, overlap, most_ram, most_cells};
+ghost use Rattle.board_file.specs.Limits.{run_fits, region_fits, cells_of, sectors_of, size_of, sectors_in, parts_of, overlap, most_ram, most_regions, most_cells, most_sectors};
 ghost use Rattle.board_file.specs.Table.{addresses};
 ghost use Rattle.board_file.specs.Written.{runs_shown, region_shown};
-ghost use Rattle.board_file.specs.Small.{small, small_region};
+ghost use Rattle.board_file.specs.Small.{small, small_region, small_regions, unless_too_big};
 ghost use Rattle.board_file.specs.Text.{limited};
 
 use crate::fault::BoardFault;
@@ -21,21 +20,27 @@ use std::alloc::{AllocError, Global};
 /// The most bytes of RAM.
 const MOST_RAM: u64 = 1_048_576;
 
+/// The most regions.
+const MOST_REGIONS: usize = 2;
+
 /// How many addresses there are.
 const ADDRESSES: u64 = 0x1_0000_0000;
 
 /// The bytes of the flash controller's registers.
 const CONTROLLER_SIZE: u32 = 32;
 
-/// The runs and the bytes that they have together, unless these or the sectors are too many.
+/// The runs, and what there is of cells and sectors with them, unless these are too many.
 fn sectors(
     alloc: Global,
+    before: Sum,
     written: &[WrittenRun],
-) -> Result<Option<(u32, Vec<SectorRun>)>, AllocError>
-    ensures said { IfOk result (λ o. option_map (λ p. (p.0, p.1.items)) o ≡ small (runs_shown written.now)) }
+) -> Result<Option<(Sum, Vec<SectorRun>)>, AllocError>
+    ensures said { IfOk result (λ o. option_map (λ p. p.1.items) o ≡ small before.cells before.sectors (runs_shown written.now)) }
+    ensures cells { IfOk result (λ o. IfSome o (λ p. p.0.cells ≡ before.cells + cells_of (runs_shown written.now))) }
+    ensures sectors { IfOk result (λ o. IfSome o (λ p. p.0.sectors ≡ before.sectors + sectors_of (runs_shown written.now))) }
     ensures fit { IfOk result (λ o. IfSome o (λ p. IsTrue (list_all run_fits p.1.items))) }
 {
-    let mut sum = Sum::new();
+    let mut sum = before;
     let mut runs = Vec::new(alloc);
     'written: for run in written {
         let Some(more) = sum.with(*run) else {
@@ -47,28 +52,98 @@ fn sectors(
             size: run.size as u32,
         })?;
     }
-    Ok(Some((sum.cells as u32, runs)))
+    Ok(Some((sum, runs)))
 }
 
-/// The region that a text writes, unless it is too big.
-fn small_region(alloc: Global, written: &WrittenRegion) -> Result<Region, BoardFault>
-    ensures said { Gives (λ r. r) result (small_region (region_shown written.now)) }
-    ensures fits { IfOk result (λ r. IsTrue (region_fits r)) }
+/// The region that a text writes behind others, unless it is too big.
+fn small_region(
+    alloc: Global,
+    before: Sum,
+    written: &WrittenRegion,
+) -> Result<(Sum, Region), BoardFault>
+    ensures said { Gives (λ x. x.1) result (small_region before.cells before.sectors (region_shown written.now)) }
+    ensures cells { IfOk result (λ x. x.0.cells ≡ before.cells + x.1.size) }
+    ensures sectors { IfOk result (λ x. x.0.sectors ≡ before.sectors + sectors_of x.1.sectors) }
+    ensures fits { IfOk result (λ x. IsTrue (region_fits x.1)) }
 {
     let fault = BoardFault::TooBig {
         key: Key::RegionSectors,
     };
-    let (size, runs) = sectors(alloc, &written.sectors)?.ok_or(fault)?;
+    let (sum, runs) = sectors(alloc, before, &written.sectors)?.ok_or(fault)?;
+    let size = (sum.cells - before.cells) as u32;
     if u64::from(written.base) + u64::from(size) > ADDRESSES {
         return Err(fault);
     }
-    Ok(Region {
+    let region = Region {
         base: written.base,
         size,
         empty: written.empty,
         unit: written.unit,
         sectors: Sectors::from_vec(runs),
-    })
+    };
+    Ok((sum, region))
+}
+
+/// The regions that a text writes, each counted with those before it.
+fn counted_regions(alloc: Global, written: &[WrittenRegion]) -> Result<Vec<Region>, BoardFault>
+    ensures said { Gives (λ v. v.items) result (small_regions 0 0 (map region_shown written.now)) }
+    ensures length { IfOk result (λ v. length v.items ≡ length written.now) }
+    ensures fit { IfOk result (λ v. IsTrue (list_all region_fits v.items)) }
+    ensures few_cells { IfOk result (λ v. size_of v.items ≤ most_cells) }
+    ensures few_sectors { IfOk result (λ v. sectors_in v.items ≤ most_sectors) }
+{
+    let mut sum = Sum::new();
+    let mut found = Vec::new(alloc);
+    'written: for one in written {
+        let (next, region) = small_region(alloc, sum, one)?;
+        sum = next;
+        found.push(region)?;
+    }
+    Ok(found)
+}
+
+/// The regions that a text writes, unless they are too big.
+fn small_regions(alloc: Global, written: &[WrittenRegion]) -> Result<Vec<Region>, BoardFault>
+    ensures said { Gives (λ v. v.items) result (unless_too_big (map region_shown written.now)) }
+    ensures length { IfOk result (λ v. length v.items ≡ length written.now) }
+    ensures fit { IfOk result (λ v. IsTrue (list_all region_fits v.items)) }
+    ensures few_cells { IfOk result (λ v. size_of v.items ≤ most_cells) }
+    ensures few_sectors { IfOk result (λ v. sectors_in v.items ≤ most_sectors) }
+{
+    counted_regions(alloc, written)
+}
+
+/// The parts of a board, in the order in which an overlap is looked for.
+fn parts(
+    alloc: Global,
+    ram_base: u32,
+    ram_size: u32,
+    regions: &[Region],
+    controller_base: u32,
+) -> Result<Vec<Placed>, AllocError>
+    ensures { IfOk result (λ v. v.items ≡ parts_of ram_base ram_size regions.now controller_base) }
+{
+    let mut found = Vec::new(alloc);
+    found.push(Placed {
+        part: Part::Ram,
+        base: ram_base,
+        size: ram_size,
+    })?;
+    let mut part = Part::Region;
+    'regions: for region in regions {
+        found.push(Placed {
+            part,
+            base: region.base,
+            size: region.size,
+        })?;
+        part = Part::Region2;
+    }
+    found.push(Placed {
+        part: Part::Controller,
+        base: controller_base,
+        size: CONTROLLER_SIZE,
+    })?;
+    Ok(found)
 }
 
 /// The regions that a text writes, if the limits hold.
@@ -86,37 +161,21 @@ pub(crate) fn limited(
     ensures ram_ends { IfOk result (λ _. ram_base + ram_size ≤ addresses) }
     ensures some_region { IfOk result (λ rs. 0 < length rs) }
     ensures regions_fit { IfOk result (λ rs. IsTrue (list_all region_fits rs)) }
-    ensures few_cells { IfOk result (λ rs. sum_by (λ (r : Region). r.size) rs ≤ most_cells) }
+    ensures few_regions { IfOk result (λ rs. length rs ≤ most_regions) }
+    ensures few_cells { IfOk result (λ rs. size_of rs ≤ most_cells) }
+    ensures few_sectors { IfOk result (λ rs. sectors_in rs ≤ most_sectors) }
     ensures apart { IfOk result (λ rs. overlap (parts_of ram_base ram_size rs controller_base) ≡ None) }
 {
-    if written.len() > 1 {
+    if written.len() > MOST_REGIONS {
         return Err(BoardFault::ManyRegions);
     }
     if ram_size > MOST_RAM || u64::from(ram_base) + ram_size > ADDRESSES {
         return Err(BoardFault::TooBig { key: Key::RamSize });
     }
-    let region = small_region(alloc, &written[0])?;
-    let parts = [
-        Placed {
-            part: Part::Ram,
-            base: ram_base,
-            size: ram_size as u32,
-        },
-        Placed {
-            part: Part::Region,
-            base: region.base,
-            size: region.size,
-        },
-        Placed {
-            part: Part::Controller,
-            base: controller_base,
-            size: CONTROLLER_SIZE,
-        },
-    ];
+    let regions = small_regions(alloc, written)?;
+    let parts = parts(alloc, ram_base, ram_size as u32, &regions, controller_base)?;
     if let Some((a, b)) = overlap(&parts) {
         return Err(BoardFault::Overlap { a, b });
     }
-    let mut regions = Vec::new(alloc);
-    regions.push(region)?;
     Ok(Regions::from_vec(regions))
 }
