@@ -1,23 +1,24 @@
 -- The table of the controller FC1: for a state and an access, what the access answers and the state after it; a tick; and
 -- the state after a reset. No access changes a cell: it opens an operation, which a tick settles.
-use Rattle.std.specs.Prelude.{ℕ, zero, suc, Bool, true, false, not, ◌&&◌, nat_eq, ◌==◌, nat_le, if◌then◌else◌, ◌+◌, ◌*◌, ◌/◌, ◌%◌, List, [], ◌∷◌, take, drop, replicate, Option, Some, None, is_some, Result, Ok, Err}
+use Rattle.std.specs.Prelude.{ℕ, Bool, true, false, not, ◌&&◌, nat_eq, ◌==◌, nat_le, if◌then◌else◌, ◌+◌, List, [], ◌∷◌, Option, Some, None, is_some, Result, Ok, Err}
 use Rattle.std.specs.List.{list_all}
 use Rattle.bench_model.specs.declared.bench_fault.BusEnd.{BusEnd}
 use Rattle.bench_model.specs.declared.bench_fault.BusEnd.TheVariants as bus
-use Rattle.bench_model.specs.Calls.{written}
 use Rattle.flash_layout.specs.declared.area.Area.{Area}
 use Rattle.flash_layout.specs.declared.area.Found.{Found}
 use Rattle.flash_layout.specs.declared.area.SectorCells.{SectorCells}
+use Rattle.flash_layout.specs.declared.lock.Lock.TheVariants as lock
+use Rattle.flash_layout.specs.declared.work.Work.{Work}
+use Rattle.flash_layout.specs.declared.work.Work.TheVariants as work
+use Rattle.flash_layout.specs.declared.work.Operation.{Operation}
 use Rattle.flash_layout.specs.Areas.{sector_of}
+use Rattle.flash_layout.specs.Cells.{value_of, cells_at}
+use Rattle.flash_layout.specs.Lock.{is_unlocked, next_lock, flag_value, kept}
 use Rattle.flash_layout.specs.Maps.{Map}
+use Rattle.flash_layout.specs.Work.{unit_work, tick_at}
 use Rattle.flash_controller.specs.declared.place.Place.{Place}
 use Rattle.flash_controller.specs.declared.place.Place.TheVariants as place
-use Rattle.flash_controller.specs.declared.state.Lock.{Lock}
-use Rattle.flash_controller.specs.declared.state.Lock.TheVariants as lock
 use Rattle.flash_controller.specs.declared.state.State.{State}
-use Rattle.flash_controller.specs.declared.work.Work.{Work}
-use Rattle.flash_controller.specs.declared.work.Work.TheVariants as work
-use Rattle.flash_controller.specs.declared.work.Operation.{Operation}
 use Rattle.flash_controller.specs.Places.{place_of}
 
 -- After a reset: locked, no flag, no operation.
@@ -35,36 +36,19 @@ after_reset = record {
 
 -- The registers.
 
-abbrev pub is_unlocked : Lock → Bool
-is_unlocked lock.Unlocked = true
-is_unlocked _ = false
-
 abbrev pub is_running : State → Bool
 is_running s = is_some s.operation
 
 abbrev pub is_ready : State → Bool
 is_ready s = is_unlocked s.lock && not (is_running s)
 
-abbrev pub flag_value : Bool → ℕ → ℕ
-flag_value set bit = if set then bit else 0
-
 -- STATUS: bit 0 an operation runs, 1 DONE, 2 SEQ, 3 RANGE, 4 NOTEMPTY, 5 not unlocked
 abbrev pub status : State → ℕ
 status s = flag_value (is_running s) 1 + flag_value s.done 2 + flag_value s.sequence 4 + flag_value s.range 8
     + flag_value s.not_empty 16 + flag_value (not (is_unlocked s.lock)) 32
 
--- the two keys unlock, one after the other; any other value bars
-abbrev pub next_lock : Lock → ℕ → Lock
-next_lock lock.Locked value = if nat_eq value 0x45670123 then lock.FirstKey else lock.Barred
-next_lock lock.FirstKey value = if nat_eq value 0xCDEF89AB then lock.Unlocked else lock.Barred
-next_lock _ value = lock.Barred
-
 abbrev pub key_stored : State → ℕ → State
 key_stored s value = record s { lock = next_lock s.lock value }
-
--- a flag stays unless its bit is set in the stored value
-abbrev pub kept : Bool → ℕ → ℕ → Bool
-kept flag bit value = flag && nat_eq (value / bit % 2) 0
 
 abbrev pub status_stored : State → ℕ → State
 status_stored s value = record s {
@@ -84,22 +68,6 @@ abbrev pub address_stored : State → ℕ → State
 address_stored s value = if is_ready s then record s { address = value } else with_sequence s
 
 -- The operations.
-
--- how many cells an operation covers, and what it leaves there
-abbrev pub work_len : Work → ℕ
-work_len (work.Half value) = 2
-work_len (work.Word value) = 4
-work_len (work.Fill len value) = len
-
-abbrev pub work_bytes : Work → List ℕ
-work_bytes (work.Half value) = value % 0x100 ∷ value / 0x100 % 0x100 ∷ []
-work_bytes (work.Word value) = value % 0x100 ∷ value / 0x100 % 0x100 ∷ value / 0x10000 % 0x100 ∷ value / 0x1000000 % 0x100 ∷ []
-work_bytes (work.Fill len value) = replicate len value
-
--- the range of cells of the operation that runs
-abbrev pub range_of : Option Operation → Option (ℕ × ℕ)
-range_of None = None
-range_of (Some o) = Some (o.place, work_len o.work)
 
 abbrev pub runs : State → Work → ℕ → ℕ → State
 runs s w at ticks = record s { operation = Some (record { work = w; place = at; ticks = ticks }) }
@@ -123,19 +91,8 @@ started map s value =
 
 -- The flash.
 
--- the number whose bytes these are, the lowest first
-abbrev pub value_of : List ℕ → ℕ
-value_of [] = 0
-value_of (b ∷ rest) = b + 0x100 * value_of rest
-
-abbrev pub cells_at : List ℕ → ℕ → ℕ → List ℕ
-cells_at cells at width = take width (drop at cells)
-
 abbrev pub all_are : ℕ → List ℕ → Bool
 all_are empty bytes = list_all (λ b. b == empty) bytes
-
-abbrev pub unit_work : ℕ → ℕ → Work
-unit_work width value = if nat_eq width 2 then work.Half value else work.Word value
 
 abbrev pub may_program : State → Area → ℕ → Bool
 may_program s a width = is_unlocked s.lock && nat_eq s.command 1 && nat_eq width a.unit
@@ -194,24 +151,16 @@ asks map s width value _ = false
 
 -- The tick.
 
--- this tick settles the operation
-abbrev pub settles : Option Operation → Bool
-settles None = false
-settles (Some o) = nat_le o.ticks 1
+-- the operation ends, and DONE is set; or another one is left to run
+abbrev pub done : State → State
+done s = record s { operation = None; done = true }
 
--- the operation ends with its bytes in its cells
-abbrev pub settled : State → List ℕ → Operation → State × List ℕ
-settled s cells o = (record s { operation = None; done = true }, written o.place (work_bytes o.work) cells)
-
--- with its last tick the operation settles, and else a tick less is left
-abbrev pub tick_at : State → List ℕ → Operation → ℕ → State × List ℕ
-tick_at s cells o zero = settled s cells o
-tick_at s cells o (suc zero) = settled s cells o
-tick_at s cells o (suc (suc left)) = (record s { operation = Some (record o { ticks = suc left }) }, cells)
+abbrev pub running : State → Operation → State
+running s o = record s { operation = Some o }
 
 abbrev pub tick_on : State → List ℕ → Option Operation → State × List ℕ
 tick_on s cells None = (s, cells)
-tick_on s cells (Some o) = tick_at s cells o o.ticks
+tick_on s cells (Some o) = tick_at (done s) (running s) cells o o.ticks
 
 -- the state and the cells after a tick
 unfoldable pub tick_row : State → List ℕ → State × List ℕ

@@ -10,16 +10,15 @@ ghost use Rattle.flash_layout.specs.Bench.{Agrees, Settles, Ticks, Touches, IsWi
 ghost use Rattle.flash_layout.specs.Maps.{board_map, map_of};
 ghost use Rattle.flash_controller.specs.Calls.{LoadIs, StoreIs};
 ghost use Rattle.flash_controller.specs.Places.{place_of};
-ghost use Rattle.flash_controller.specs.Table.{load_row, tick_at, tick_row, after_reset, range_of, reads, asks, settles};
+ghost use Rattle.flash_layout.specs.Work.{range_of, settles, tick_at};
+ghost use Rattle.flash_controller.specs.Table.{load_row, tick_row, after_reset, done, running, reads, asks};
 
-use crate::flash::{read, settle};
 use crate::place::{Place, place_of};
 use crate::state::State;
-use crate::work::Operation;
 use bench_model::{Bench, BusEnd, DeviceFault};
 use board_file::Board;
 use faults::OutOfMemory;
-use flash_layout::Layout;
+use flash_layout::{Layout, Operation, read, settle};
 use std::alloc::Global;
 
 /// The controller of a board: where its flash lies, and what it holds.
@@ -136,7 +135,7 @@ impl Controller {
     }
 
     /// A tick while this operation runs.
-    #[tactic(auto, using(crate::proofs::TickLemmas::tick_more, crate::proofs::TickLemmas::tick_last))]
+    #[tactic(auto, using(flash_layout::proofs::WorkLemmas::tick_more, flash_layout::proofs::WorkLemmas::tick_last))]
     fn tick_running<B: Bench>(
         &mut self,
         bench: &mut B,
@@ -144,8 +143,8 @@ impl Controller {
     ) -> Result<(), DeviceFault>
         requires agrees { Agrees B.tells (map_of self.old.layout) (range_of (Some operation)) (B.state bench.old) }
         requires runs { self.old.state.operation ≡ Some operation }
-        ensures ok { IsTrue B.tells → OnOk result ((self.new.state, (B.state bench.new).cells) ≡ tick_at self.old.state (B.state bench.old).cells operation operation.ticks) }
-        ensures state { OnOk result (self.new.state ≡ (tick_at self.old.state [] operation operation.ticks).0) }
+        ensures ok { IsTrue B.tells → OnOk result ((self.new.state, (B.state bench.new).cells) ≡ tick_at (done self.old.state) (running self.old.state) (B.state bench.old).cells operation operation.ticks) }
+        ensures state { OnOk result (self.new.state ≡ (tick_at (done self.old.state) (running self.old.state) [] operation operation.ticks).0) }
         ensures quiet { 1 < operation.ticks → result ≡ Ok tt }
         ensures err { OnErr result (self.new.state ≡ self.old.state) }
         ensures layout { self.new.layout ≡ self.old.layout }

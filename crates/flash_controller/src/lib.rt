@@ -10,9 +10,7 @@ mod flash;
 mod place;
 mod start;
 mod state;
-mod work;
 
 pub use controller::Controller;
 pub use place::Place;
-pub use state::{Lock, State};
-pub use work::{Operation, Work};
+pub use state::State;

@@ -6,13 +6,13 @@ ghost use Rattle.flash_layout.specs.Bench.{Agrees, Touches};
 ghost use Rattle.flash_layout.specs.Maps.{map_of};
 ghost use Rattle.flash_controller.specs.Calls.{Leads};
 ghost use Rattle.flash_controller.specs.declared.place.Place.TheVariants as place;
-ghost use Rattle.flash_controller.specs.Table.{work_len, may_program, erases_sector, erases_chip, range_of, programmed, started, asks, is_running};
+ghost use Rattle.flash_layout.specs.Work.{work_len, range_of};
+ghost use Rattle.flash_controller.specs.Table.{may_program, erases_sector, erases_chip, programmed, started, asks, is_running};
 
 use crate::controller::Controller;
 use crate::flash::is_empty;
-use crate::work::{Operation, Work, unit_work};
 use bench_model::{Bench, BusEnd, DeviceFault};
-use flash_layout::Found;
+use flash_layout::{Found, Operation, Work, unit_work};
 
 /// CMD that erases a sector.
 const ERASE_SECTOR: u32 = 2;

@@ -1,22 +1,8 @@
 //! The registers, and the operation that runs.
 ghost use Rattle.std.specs.Prelude.{◌≡◌};
-ghost use Rattle.flash_controller.specs.Table.{is_ready, is_running, status, key_stored, status_stored, command_stored, address_stored, with_sequence, after_reset, flag_value, is_unlocked, may_program};
+ghost use Rattle.flash_controller.specs.Table.{is_ready, is_running, status, key_stored, status_stored, command_stored, address_stored, with_sequence, after_reset, may_program};
 
-use crate::work::Operation;
-use flash_layout::Area;
-
-/// How far the two keys have unlocked the controller.
-#[derive(Clone, Copy, Debug, PartialEq, Eq)]
-pub enum Lock {
-    /// No key was seen.
-    Locked,
-    /// The first key was seen.
-    FirstKey,
-    /// Both keys were seen, one after the other.
-    Unlocked,
-    /// A wrong key was seen: only a reset helps.
-    Barred,
-}
+use flash_layout::{Area, Lock, Operation, flag_value};
 
 /// What the controller holds.
 #[derive(Clone, Copy, Debug, PartialEq, Eq)]
@@ -45,16 +31,6 @@ const PROGRAM: u32 = 1;
 /// The last command.
 const LAST_COMMAND: u32 = 3;
 
-/// The keys, in their order.
-const KEYS: (u32, u32) = (0x4567_0123, 0xCDEF_89AB);
-
-/// The value of a flag's bit where the flag is set.
-fn flag_value(set: bool, bit: u32) -> u32
-    ensures { result ≡ flag_value set bit }
-{
-    if set { bit } else { 0 }
-}
-
 impl State {
     /// As after a reset.
     pub fn reset() -> State
@@ -72,13 +48,6 @@ impl State {
         }
     }
 
-    /// Whether both keys were seen.
-    pub fn is_unlocked(&self) -> bool
-        ensures { result ≡ is_unlocked self.now.lock }
-    {
-        matches!(self.lock, Lock::Unlocked)
-    }
-
     /// Whether an operation runs.
     pub fn is_running(&self) -> bool
         ensures { result ≡ is_running self.now }
@@ -90,7 +59,7 @@ impl State {
     pub fn is_ready(&self) -> bool
         ensures { result ≡ is_ready self.now }
     {
-        self.is_unlocked() && !self.is_running()
+        self.lock.is_unlocked() && !self.is_running()
     }
 
     /// STATUS.
@@ -102,26 +71,24 @@ impl State {
             + flag_value(self.sequence, 4)
             + flag_value(self.range, 8)
             + flag_value(self.not_empty, 16)
-            + flag_value(!self.is_unlocked(), 32)
+            + flag_value(!self.lock.is_unlocked(), 32)
     }
 
     /// Whether a store of so many bytes programs a unit of the area, where no operation runs.
     pub fn may_program(&self, area: &Area, width: u32) -> bool
         ensures { result ≡ may_program self.now area.now width }
     {
-        self.is_unlocked() && self.command == PROGRAM && width == area.unit
+        self.lock.is_unlocked() && self.command == PROGRAM && width == area.unit
     }
 
     /// After a store to KEY.
     pub fn key_stored(self, value: u32) -> State
         ensures { result ≡ key_stored self value }
     {
-        let lock = match self.lock {
-            Lock::Locked if value == KEYS.0 => Lock::FirstKey,
-            Lock::FirstKey if value == KEYS.1 => Lock::Unlocked,
-            _ => Lock::Barred,
-        };
-        State { lock, ..self }
+        State {
+            lock: self.lock.after_key(value),
+            ..self
+        }
     }
 
     /// After a store to STATUS: the flags whose bits are set in the value are cleared.

@@ -1,3 +1,4 @@
 pub mod FindLemmas
 pub mod SectorLemmas
 pub mod BoardLemmas
+pub mod WorkLemmas

@@ -1,15 +1,22 @@
 //! Where the flash of a board lies for the controller that changes it: the areas in order, whose cells are numbered through,
 //! the sectors of all of them, and the controller's registers.
 //!
-//! It is what every kind of flash controller shares: which cell an address names, which sector holds it, and in which way a
-//! load, a store, a tick or a reset may touch the bench.
+//! It is what every kind of flash controller shares: which cell an address names, which sector holds it, the lock with its
+//! two keys, the operation that runs and the ticks that it takes, and in which way a load, a store, a tick or a reset may
+//! touch the bench.
 #![tactic(auto)]
 
 mod area;
+mod cells;
 mod law;
 mod layout;
+mod lock;
 mod of_board;
+mod work;
 
 pub use area::{Area, Found, SectorCells};
+pub use cells::{read, settle};
 pub use law::address_has_sector;
 pub use layout::Layout;
+pub use lock::{Lock, flag_value};
+pub use work::{Operation, Work, unit_work};

@@ -1,6 +1,6 @@
 //! The operation that runs, and what it leaves in its cells.
 ghost use Rattle.std.specs.Prelude.{◌≡◌};
-ghost use Rattle.flash_controller.specs.Table.{work_len, unit_work};
+ghost use Rattle.flash_layout.specs.Work.{work_len, unit_work};
 
 /// What an operation leaves in its cells.
 #[derive(Clone, Copy, Debug, PartialEq, Eq)]
