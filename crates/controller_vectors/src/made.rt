@@ -1,9 +1,11 @@
 //! The controllers that are driven.
 
+use crate::driven::Driven;
 use anyhow::Result;
 use board_file::{SectorRun, read_board};
-use flash_controller::{Controller, Lock, State};
+use flash_controller::{Controller, State};
 use flash_layout::{Area, Layout};
+use fpec_controller::{Fpec, State as FpecState};
 use std::alloc::Global;
 use std::fs;
 
@@ -32,27 +34,34 @@ fn layout(alloc: Global) -> Result<Layout> {
     })
 }
 
-/// A controller over two areas, which no text of a board has: locked, and nothing runs.
+/// The controller FC1 over two areas: locked, and nothing runs.
 fn over_areas(alloc: Global) -> Result<Controller> {
-    let state = State {
-        lock: Lock::Locked,
-        done: false,
-        sequence: false,
-        range: false,
-        not_empty: false,
-        command: 0,
-        address: 0,
-        operation: None,
-    };
     let layout = layout(alloc)?;
+    let state = State::reset();
     Ok(Controller { layout, state })
 }
 
-/// The controller of a board's file, or that over two areas.
-pub fn controller(rt: &HostRuntime, name: &str) -> Result<Controller> {
+/// The controller FPEC over the same.
+fn fpec_over_areas(alloc: Global) -> Result<Fpec> {
+    let layout = layout(alloc)?;
+    let state = FpecState::reset();
+    Ok(Fpec { layout, state })
+}
+
+/// The controller FC1 of a board's file, or that over two areas.
+pub fn controller(rt: &HostRuntime, name: &str) -> Result<Driven> {
     if name == "areas" {
-        return over_areas(rt.alloc());
+        return Ok(Driven::Fc1(over_areas(rt.alloc())?));
     }
     let board = read_board(rt.alloc(), &fs::read(rt, name)?)?;
-    Ok(Controller::new(rt.alloc(), &board)?)
+    Ok(Driven::Fc1(Controller::new(rt.alloc(), &board)?))
+}
+
+/// The controller FPEC of a board's file, or that over two areas.
+pub fn fpec(rt: &HostRuntime, name: &str) -> Result<Driven> {
+    if name == "areas" {
+        return Ok(Driven::Fpec(fpec_over_areas(rt.alloc())?));
+    }
+    let board = read_board(rt.alloc(), &fs::read(rt, name)?)?;
+    Ok(Driven::Fpec(Fpec::new(rt.alloc(), &board)?))
 }

@@ -1,22 +1,29 @@
-//! Drives the controller of a board row by row of its table: `controller_vectors ROWS`, a file of steps and of what each has
+//! Drives the controllers row by row of their tables: `controller_vectors FILES`, each a file of steps and of what each step has
 //! to answer. It prints the name of each row that holds, and ends with an error at the first step that answers otherwise.
 //!
-//! A line is `row NAME`, or one of these, with numbers in hexadecimal digits: `new BOARD CELLS FAIL` (a file with a board, or
-//! `areas`; the number of the cell call that fails, or 0), `store AT WIDTH VALUE END`, `load AT WIDTH END`, `tick COUNT END`,
-//! `reset END`, `cells CELLS`. An end is `ok`, a number, `fault` or `device`.
+//! A line is `row NAME`, or one of these, with numbers in hexadecimal digits: `new BOARD CELLS FAIL` (FC1 for a file with a board,
+//! or for `areas`; the number of the cell call that fails, or 0), `fpec BOARD CELLS FAIL` (the same with FPEC),
+//! `store AT WIDTH VALUE END`, `load AT WIDTH END`, `tick COUNT END`, `reset END`, `cells CELLS`. An end is `ok`, a number, `fault` or
+//! `device`.
 #![tactic(auto)]
 
+mod driven;
 mod hex;
 mod made;
 mod steps;
 mod trial;
 
-use anyhow::{Context, Result};
+use anyhow::{Result, bail};
 use std::{env, fs};
 
 fn main(rt: HostRuntime) -> Result<()> {
     let names = env::args(&rt)?.skip(1).collect::<Vec<String>>(rt.alloc())?;
-    let name = names.get(0).context("a file is missing")?;
-    let text = fs::read_to_string(&rt, name.as_str())?;
-    steps::check(&rt, text.as_str())
+    if names.is_empty() {
+        bail!("a file is missing");
+    }
+    for name in &names {
+        let text = fs::read_to_string(&rt, name.as_str())?;
+        steps::check(&rt, text.as_str())?;
+    }
+    Ok(())
 }

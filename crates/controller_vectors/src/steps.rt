@@ -1,7 +1,7 @@
 //! The steps of the rows.
 
 use crate::hex::{bytes, number};
-use crate::made::controller;
+use crate::made::{controller, fpec};
 use crate::trial::Trial;
 use anyhow::{Result, bail};
 use bench_model::BusEnd;
@@ -50,13 +50,15 @@ fn holds(trial: &mut Trial, words: &[&str], alloc: Global) -> Result<bool> {
     }
 }
 
-/// The trial of a line `new`.
+/// The trial of a line `new` or `fpec`.
 fn made(rt: &HostRuntime, words: &[&str]) -> Result<Option<Trial>> {
-    let ["new", board, cells, fail] = words else {
-        return Ok(None);
+    let (driven, cells, fail) = match words {
+        ["new", board, cells, fail] => (controller(rt, board)?, cells, fail),
+        ["fpec", board, cells, fail] => (fpec(rt, board)?, cells, fail),
+        _ => return Ok(None),
     };
     let cells = bytes(cells, rt.alloc())?;
-    let trial = Trial::new(rt.alloc(), controller(rt, board)?, &cells, number(fail)?)?;
+    let trial = Trial::new(rt.alloc(), driven, &cells, number(fail)?)?;
     Ok(Some(trial))
 }
 

@@ -1,0 +1,17 @@
+//! The flash controller FPEC, in the manner of the unit of that name in the STM32F0 and STM32F1 families: two keys unlock CR, whose
+//! bits program halfwords, erase a sector or erase all, and operations take a number of ticks.
+//!
+//! It is a controller of this project's own. Its table is its whole behaviour, and nothing is claimed of what those parts do.
+//! It stands between the core's loads and stores and the bench that holds the cells. Nothing else opens, settles or breaks off an
+//! operation on the cells.
+#![tactic(auto)]
+
+mod control;
+mod flash;
+mod fpec;
+mod place;
+mod state;
+
+pub use fpec::Fpec;
+pub use place::Place;
+pub use state::State;

@@ -1,0 +1,155 @@
+//! The registers, and the operation that runs.
+ghost use Rattle.std.specs.Prelude.{◌≡◌, ◌<◌};
+ghost use Rattle.fpec_controller.specs.Table.{is_running, is_erasure, status, control, access_control_stored, key_stored, status_stored, address_stored, with_bits, after_reset, has_bit, may_program};
+
+use flash_layout::{Lock, Operation, Work, flag_value};
+
+/// What the controller holds.
+#[derive(Clone, Copy, Debug, PartialEq, Eq)]
+pub struct State {
+    /// How far it is unlocked.
+    pub lock: Lock,
+    /// PG: stores to the flash program halfwords.
+    pub programs: bool,
+    /// PER: an erasure is that of a sector.
+    pub erases_sector: bool,
+    /// MER: an erasure is that of all cells.
+    pub erases_all: bool,
+    /// PGERR: a halfword was to be programmed that isn't erased.
+    pub program_error: bool,
+    /// EOP: an operation has ended.
+    pub ended: bool,
+    /// ACR.
+    pub access_control: u32,
+    /// AR.
+    pub address: u32,
+    /// The operation that runs.
+    pub operation: Option<Operation>,
+}
+
+/// Whether a bit, given by its value, is set.
+pub fn has_bit(value: u32, bit: u32) -> bool
+    requires { 0 < bit }
+    ensures { result ≡ has_bit value bit }
+{
+    value / bit % 2 == 1
+}
+
+impl State {
+    /// As after a reset.
+    pub fn reset() -> State
+        ensures { result ≡ after_reset }
+    {
+        State {
+            lock: Lock::Locked,
+            programs: false,
+            erases_sector: false,
+            erases_all: false,
+            program_error: false,
+            ended: false,
+            access_control: 0,
+            address: 0,
+            operation: None,
+        }
+    }
+
+    /// Whether an operation runs.
+    pub fn is_running(&self) -> bool
+        ensures { result ≡ is_running self.now }
+    {
+        self.operation.is_some()
+    }
+
+    /// Whether an erasure runs.
+    fn is_erasing(&self) -> bool
+        ensures { result ≡ is_erasure self.now.operation }
+    {
+        match self.operation {
+            Some(operation) => matches!(operation.work, Work::Fill { .. }),
+            None => false,
+        }
+    }
+
+    /// SR.
+    pub fn status(&self) -> u32
+        ensures { result ≡ status self.now }
+    {
+        flag_value(self.is_running(), 1)
+            + flag_value(self.program_error, 4)
+            + flag_value(self.ended, 32)
+    }
+
+    /// CR.
+    pub fn control(&self) -> u32
+        ensures { result ≡ control self.now }
+    {
+        flag_value(self.programs, 1)
+            + flag_value(self.erases_sector, 2)
+            + flag_value(self.erases_all, 4)
+            + flag_value(self.is_erasing(), 64)
+            + flag_value(!self.lock.is_unlocked(), 128)
+    }
+
+    /// Whether the store of a halfword programs it, where no operation runs.
+    pub fn may_program(&self) -> bool
+        ensures { result ≡ may_program self.now }
+    {
+        self.lock.is_unlocked() && self.programs
+    }
+
+    /// After a store to ACR.
+    pub fn access_control_stored(self, value: u32) -> State
+        ensures { result ≡ access_control_stored self value }
+    {
+        State {
+            access_control: value,
+            ..self
+        }
+    }
+
+    /// After a store to KEYR.
+    pub fn key_stored(self, value: u32) -> State
+        ensures { result ≡ key_stored self value }
+    {
+        State {
+            lock: self.lock.after_key(value),
+            ..self
+        }
+    }
+
+    /// After a store to SR: the flags whose bits are set in the value are cleared.
+    pub fn status_stored(self, value: u32) -> State
+        ensures { result ≡ status_stored self value }
+    {
+        State {
+            program_error: self.program_error && (value / 4) % 2 == 0,
+            ended: self.ended && (value / 32) % 2 == 0,
+            ..self
+        }
+    }
+
+    /// After a store to AR.
+    pub fn address_stored(self, value: u32) -> State
+        ensures { result ≡ address_stored self value }
+    {
+        if self.is_running() {
+            return self;
+        }
+        State {
+            address: value,
+            ..self
+        }
+    }
+
+    /// With PG, PER and MER of a value.
+    pub fn with_bits(self, value: u32) -> State
+        ensures { result ≡ with_bits self value }
+    {
+        State {
+            programs: has_bit(value, 1),
+            erases_sector: has_bit(value, 2),
+            erases_all: has_bit(value, 4),
+            ..self
+        }
+    }
+}
