@@ -7,13 +7,12 @@ use Rattle.bench_model.proofs.Moments.{leaves_as}
 use Rattle.armv6m_step.specs.declared.ends.StepEnd.{StepEnd}
 use Rattle.armv6m_step.specs.Ends.{is_device_end as is_device_step}
 use Rattle.armv6m_step.specs.Registers.{pc_of}
-use Rattle.target_core.specs.declared.target.Target.{Target}
 use Rattle.target_core.specs.declared.run.RunEnd.{RunEnd}
 use Rattle.target_core.specs.declared.run.RunEnd.TheVariants as run
 use Rattle.target_core.specs.declared.run.SliceEnd.TheVariants as slice
 use Rattle.target_core.specs.Path.{Point, whole, point, run_end, step_end, end_at, last_number, GoesTo, RunsTo, FailsInStep, FailsInTick, BrokeOff, EndsWith, EndIs, IsLeftOnPath}
 use Rattle.target_core.specs.Runs.{steps_made, run_end_of, run_last, run_path, IsLeftOn, BreaksOffOn, RunGives}
-use Rattle.target_core.specs.Targets.{point_in, SliceGives}
+use Rattle.target_core.specs.Targets.{SliceFrom}
 use Rattle.target_core.proofs.PathLemmas.{away, longer, last_fine, point_even}
 use Rattle.target_core.proofs.RunLemmas.{last_from, run_end_is, run_last_is, run_last_from, steps_made_least}
 use Rattle.target_core.proofs.SliceLemmas.{run_has_end}
@@ -89,5 +88,5 @@ run_gives return_at fuel steps first made start run.DeviceFault last end runs en
     }
 
 -- a slice that ended, ended as the run with the fuel that was left to it
-pub run_of_slice : (from : Target) (start : BenchState) (left left' steps : ℕ) (e : RunEnd) (to : Target) (end : BenchState) → SliceGives from start left left' steps (slice.Ended e) to end → RunGives from.return_at left (point_in from start.cells) start e (point_in to end.cells) end
-run_of_slice from start left left' steps e to end is = run_gives from.return_at left steps (point_in from start.cells) (left - left') start e (point_in to end.cells) end is.runs is.ends.0
+pub run_of_slice : (return_at : ℕ) (first last : Point) (start end : BenchState) (left left' steps : ℕ) (e : RunEnd) → SliceFrom return_at first start left left' steps (slice.Ended e) last end → RunGives return_at left first start e last end
+run_of_slice return_at first last start end left left' steps e is = run_gives return_at left steps first (left - left') start e last end is.runs is.ends.0

@@ -1,17 +1,17 @@
 -- Runs and slices as wholes: one start has one end, and a run that is cut into slices ends as the run that it is.
-use Rattle.std.proofs.Common.{◌≡◌, ◌≤◌, ◌+◌, ◌-◌, ◌*◌, ◌/◌, ◌%◌, ℕ, false, List, refl, sym, ap, subst, arith, ◌∙◌}
+use Rattle.std.proofs.Common.{◌≡◌, ◌≤◌, ◌+◌, ◌-◌, ◌*◌, ◌/◌, ◌%◌, ◌⊎◌, ℕ, false, List, [], ◌∷◌, ⊎_elim, refl, sym, ap, subst, arith, ◌∙◌}
 use Rattle.bench_model.specs.History.{Leaves}
 use Rattle.bench_model.specs.State.{BenchState, cells_half}
 use Rattle.bench_model.proofs.Moments.{leaves_as, leaves_then}
 use Rattle.target_core.specs.declared.run.RunEnd.{RunEnd}
 use Rattle.target_core.specs.declared.run.RunEnd.TheVariants as run
 use Rattle.target_core.specs.declared.run.SliceEnd.TheVariants as slice
-use Rattle.target_core.specs.declared.target.Target.{Target}
 use Rattle.target_core.specs.Units.{state_op}
 use Rattle.target_core.specs.Path.{Point, whole, point, is_device_end, GoesTo, IsLeftOnPath, LeftAt}
 use Rattle.target_core.specs.Runs.{steps_made, run_end_of, run_last, run_path, last_point, BreaksOffOn, RunEndsAs, RunGives, HasOneEnd, GoesOnAs}
-use Rattle.target_core.specs.Targets.{point_in, SliceGives}
+use Rattle.target_core.specs.Targets.{SliceFrom, Sliced}
 use Rattle.target_core.proofs.PathLemmas.{point_even, longer}
+use Rattle.target_core.proofs.EndLemmas.{run_of_slice}
 use Rattle.target_core.proofs.RunLemmas.{steps_made_is, steps_made_within, run_end_is, run_last_is, run_last_from}
 use Rattle.target_core.proofs.FineLemmas.{run_is_fine}
 use Rattle.target_core.proofs.SliceLemmas.{run_goes, run_has_end, whole_add, run_end_add, run_last_add}
@@ -27,7 +27,7 @@ has_one_end return_at fuel p = record {
 }
 
 -- the points of a run, numbered from one of its whole steps on
-point_add : (p : Point) (m n : ℕ) → point p (2 * m + n) ≡ point (whole p m) n
+pub point_add : (p : Point) (m n : ℕ) → point p (2 * m + n) ≡ point (whole p m) n
 unfolding point
 point_add p m n =
     let same : (2 * m + n) % 2 ≡ n % 2 = omega arith in
@@ -104,9 +104,21 @@ module _ (return_at fuel : ℕ) (first : Point) (made : ℕ) (le : made ≤ fuel
   }
 
 -- a slice that ended with more to do, and a run with the fuel that was left
-pub slice_then_run : (from mid to : Target) (start m end : BenchState) (fuel left steps : ℕ) (e : RunEnd) → left ≤ fuel → SliceGives from start fuel left steps slice.More mid m
-    → RunGives from.return_at left (point_in mid m.cells) m e (point_in to end.cells) end → RunGives from.return_at fuel (point_in from start.cells) start e (point_in to end.cells) end
-slice_then_run from mid to start m end fuel left steps e le is gives =
+pub slice_then_run : (return_at : ℕ) (first between last : Point) (start turn end : BenchState) (fuel left steps : ℕ) (e : RunEnd) → left ≤ fuel → SliceFrom return_at first start fuel left steps slice.More between turn
+    → RunGives return_at left between turn e last end → RunGives return_at fuel first start e last end
+slice_then_run return_at first between last start turn end fuel left steps e le is gives =
     let made : ℕ = fuel - left in
-    let here : point_in mid m.cells ≡ whole (point_in from start.cells) made = is.ends.1.leaves ∙ point_even (point_in from start.cells) made in
-    rest_gives from.return_at fuel (point_in from start.cells) made is.runs.within is.runs.goes (point_in mid m.cells) here left (omega (arith, le)) start m end e (point_in to end.cells) is.runs.moments gives
+    let here : between ≡ whole first made = is.ends.1.leaves ∙ point_even first made in
+    rest_gives return_at fuel first made is.runs.within is.runs.goes between here left (omega (arith, le)) start turn end e last is.runs.moments gives
+
+-- slices of a run, however it is cut
+pub sliced_is_run : {B : Type 0} (state : B → BenchState) (return_at : ℕ) (cuts : List ℕ) (first : Point) (start : B) (fuel : ℕ) (e : RunEnd) (last : Point) (end : B) → Sliced state return_at cuts first start fuel e last end
+    → RunGives return_at fuel first (state start) e last (state end)
+sliced_is_run state return_at [] first start fuel e last end is = absurd is
+sliced_is_run {B} state return_at (steps ∷ more) first start fuel e last end is = ⊎_elim
+    (λ (ended : (left : ℕ) × SliceFrom return_at first (state start) fuel left steps (slice.Ended e) last (state end)).
+    run_of_slice return_at first last (state start) (state end) fuel ended.0 steps e ended.1)
+    (λ (on : (left : ℕ) × (between : Point) × (turn : B) × (left ≤ fuel) × SliceFrom return_at first (state start) fuel left steps slice.More between (state turn) × Sliced state return_at more between turn left e last end).
+    slice_then_run return_at first on.1 last (state start) (state on.2) (state end) fuel on.0 steps e on.3 on.4
+    (sliced_is_run state return_at more on.1 on.2 on.0 e last end on.5))
+    is

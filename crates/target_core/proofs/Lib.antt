@@ -2,6 +2,7 @@ pub mod StepLemmas
 pub mod PathLemmas
 pub mod LoopLemmas
 pub mod TargetLemmas
+pub mod RamLemmas
 pub mod RunLemmas
 pub mod SliceLemmas
 pub mod FineLemmas

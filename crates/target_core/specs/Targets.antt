@@ -1,10 +1,15 @@
 -- A run of the target as a whole.
-use Rattle.std.specs.Prelude.{◌-◌, ℕ, false, List, replicate}
+use Rattle.std.specs.Prelude.{◌≡◌, ◌≤◌, ◌+◌, ◌-◌, ◌⊎◌, ℕ, false, List, [], ◌∷◌, replicate}
 use Rattle.bench_model.specs.State.{BenchState}
 use Rattle.armv6m_step.specs.declared.core_state.Core.{Core}
+use Rattle.target_core.specs.declared.machine.Machine.{Machine}
+use Rattle.target_core.specs.declared.machine.Frame.{Frame}
 use Rattle.target_core.specs.declared.target.Target.{Target}
-use Rattle.target_core.specs.declared.target.Frame.{Frame}
+use Rattle.target_core.specs.declared.run.RunEnd.{RunEnd}
 use Rattle.target_core.specs.declared.run.SliceEnd.{SliceEnd}
+use Rattle.target_core.specs.declared.run.SliceEnd.TheVariants as slice
+use Rattle.target_core.specs.declared.unit.Unit.{Unit}
+use Rattle.target_core.specs.Windows.{window_of}
 use Rattle.target_core.specs.Units.{unit_map, unit_state}
 use Rattle.target_core.specs.Path.{Point, RunsTo, SliceIs, last_of_slice}
 
@@ -16,14 +21,50 @@ core_at regs = record { regs = regs; n = false; z = false; c = false; v = false;
 abbrev pub fresh_core : Core
 fresh_core = core_at (replicate 16 0)
 
-abbrev pub after_start : Target → Frame → Target
+-- a target: the core, the RAM from its base on, the controller, and where the run returns to that was started last
+pub record Standing : Type 0 where
+  pub core : Core
+  pub ram_base : ℕ
+  pub ram : List ℕ
+  pub unit : Unit
+  pub return_at : ℕ
+
+-- a machine with this RAM
+abbrev pub with_ram : Machine → List ℕ → Standing
+with_ram m ram = record { core = m.core; ram_base = m.ram_base; ram = ram; unit = m.unit; return_at = m.return_at }
+
+-- a machine with a window as its RAM
+abbrev pub over : Machine → List (List ℕ) → ℕ → Standing
+over m windows i = with_ram m (window_of windows i)
+
+-- a target with its own RAM
+abbrev pub stands : Target → Standing
+stands t = over t.machine t.arena 0
+
+abbrev pub after_start : Standing → Frame → Standing
 after_start t f = record t { core = core_at f.regs; return_at = f.return_at }
 
 -- the point at which a target over these cells stands
-abbrev pub point_in : Target → List ℕ → Point
-point_in t cells = record { core = t.core; world = record { ram_base = t.ram_base; ram = t.ram.items; map = unit_map t.unit; state = unit_state t.unit; cells = cells } }
+abbrev pub point_in : Standing → List ℕ → Point
+point_in t cells = record { core = t.core; world = record { ram_base = t.ram_base; ram = t.ram; map = unit_map t.unit; state = unit_state t.unit; cells = cells } }
 
--- a slice from here ends so, and the fuel that is left fell by the steps that went
-pub record SliceGives (from : Target) (start : BenchState) (left left' steps : ℕ) (e : SliceEnd) (to : Target) (end : BenchState) : Type 0 where
-  pub runs : RunsTo from.return_at left (point_in from start.cells) (left - left') (last_of_slice e (left - left')) start end
-  pub ends : SliceIs from.return_at left steps (point_in from start.cells) (left - left') e (point_in to end.cells) end
+-- A slice of a run goes from one point to another and ends so, and the fuel that is left fell by the steps that went.
+pub record SliceFrom (return_at : ℕ) (first : Point) (start : BenchState) (left left' steps : ℕ) (e : SliceEnd) (last : Point) (end : BenchState) : Type 0 where
+  pub runs : RunsTo return_at left first (left - left') (last_of_slice e (left - left')) start end
+  pub ends : SliceIs return_at left steps first (left - left') e last end
+
+-- a slice from one target to another
+abbrev pub SliceGives : Standing → BenchState → ℕ → ℕ → ℕ → SliceEnd → Standing → BenchState → Type 0
+SliceGives from start left left' steps e to end = SliceFrom from.return_at (point_in from start.cells) start left left' steps e (point_in to end.cells) end
+
+-- A run in slices of so many steps, one after the other, up to the one that ends it: each goes on from the point where the one before it
+-- ended, on the bench and with the fuel that it left.
+abbrev pub Sliced : {B : Type 0} → (B → BenchState) → ℕ → List ℕ → Point → B → ℕ → RunEnd → Point → B → Type 0
+Sliced state return_at [] first start fuel e last end = ⊥
+Sliced {B} state return_at (steps ∷ more) first start fuel e last end =
+    ((left : ℕ) × SliceFrom return_at first (state start) fuel left steps (slice.Ended e) last (state end))
+    ⊎ ((left : ℕ) × (between : Point) × (turn : B) × (left ≤ fuel) × SliceFrom return_at first (state start) fuel left steps slice.More between (state turn) × Sliced state return_at more between turn left e last end)
+
+-- A slice that ended with more to do made all its steps, and left fuel: so it went on, where it was to make any.
+abbrev pub GoesOn : SliceEnd → ℕ → ℕ → ℕ → Type 0
+GoesOn e left left' steps = e ≡ slice.More → (1 ≤ left') × (left' + steps ≡ left)

@@ -3,11 +3,10 @@ ghost use Rattle.std.specs.Prelude.{◌≡◌, ◌≤◌, ◌+◌, ◌*◌, ℕ,
 ghost use Rattle.bench_model.specs.Calls.{SameOutside};
 ghost use Rattle.target_core.specs.declared.run.RunEnd.{RunEnd};
 ghost use Rattle.target_core.specs.declared.run.SliceEnd.TheVariants.{More, Ended};
-ghost use Rattle.target_core.specs.declared.target.Target.{Target};
 ghost use Rattle.target_core.specs.Local.{LieIn};
 ghost use Rattle.target_core.specs.Path.{Point, GoesTo, IsLeftOnPath, is_device_end};
 ghost use Rattle.target_core.specs.Runs.{HasOneEnd, GoesOnAs, RunGives, run_last};
-ghost use Rattle.target_core.specs.Targets.{point_in, SliceGives};
+ghost use Rattle.target_core.specs.Targets.{SliceFrom, Sliced};
 
 use bench_model::Bench;
 
@@ -22,17 +21,17 @@ pub fn runs_have_one_end<B: Bench>()
 {}
 
 /// A run goes on from each of its whole steps as itself. So do slices of it: the slice that ends is the run with the fuel that was
-/// left to it, and a slice before a run is one run. By these two, slices end as the run, at its last point, and a stop of the power
-/// within them leaves what one at a point of its path leaves.
+/// left to it, and a slice before a run is one run. By these two, slices, however cut, end as the run, at its last point, and a stop of
+/// the power within them leaves what one at a point of its path leaves.
 pub fn slices_are_one_run<B: Bench>()
     ensures on { (return_at fuel : ℕ) (first : Point) (made : ℕ) → made ≤ fuel → GoesTo return_at fuel first made → GoesOnAs return_at fuel first made }
-    ensures last { (from to : Target) (start end : B) (fuel left steps : ℕ) (e : RunEnd)
-        → SliceGives from (B.state start) fuel left steps (Ended e) to (B.state end)
-        → RunGives from.return_at fuel (point_in from (B.state start).cells) (B.state start) e (point_in to (B.state end).cells) (B.state end) }
-    ensures first { (from between to : Target) (start turn end : B) (fuel left steps : ℕ) (e : RunEnd) → left ≤ fuel
-        → SliceGives from (B.state start) fuel left steps More between (B.state turn)
-        → RunGives from.return_at left (point_in between (B.state turn).cells) (B.state turn) e (point_in to (B.state end).cells) (B.state end)
-        → RunGives from.return_at fuel (point_in from (B.state start).cells) (B.state start) e (point_in to (B.state end).cells) (B.state end) }
+    ensures last { (return_at : ℕ) (first last : Point) (start end : B) (fuel left steps : ℕ) (e : RunEnd)
+        → SliceFrom return_at first (B.state start) fuel left steps (Ended e) last (B.state end) → RunGives return_at fuel first (B.state start) e last (B.state end) }
+    ensures first { (return_at : ℕ) (first between last : Point) (start turn end : B) (fuel left steps : ℕ) (e : RunEnd) → left ≤ fuel
+        → SliceFrom return_at first (B.state start) fuel left steps More between (B.state turn) → RunGives return_at left between (B.state turn) e last (B.state end)
+        → RunGives return_at fuel first (B.state start) e last (B.state end) }
+    ensures cuts { (return_at : ℕ) (cuts : List ℕ) (first last : Point) (start end : B) (fuel : ℕ) (e : RunEnd)
+        → Sliced B.state return_at cuts first start fuel e last end → RunGives return_at fuel first (B.state start) e last (B.state end) }
 {}
 
 /// While the operations of a path lie in a range of the cells, all other cells stay: a stop of the power at any of its points leaves them

@@ -1,20 +1,29 @@
 //! What the core sees: the RAM, and the controller with its flash.
 ghost use Rattle.std.specs.Prelude.{◌≡◌, true, IsTrue};
+ghost use Rattle.ram_arena.specs.Windows.{begin_of};
+ghost use Rattle.target_core.specs.Windows.{IsRam};
 ghost use Rattle.target_core.specs.Units.{UnitAgrees};
 
+use crate::place::place;
 use crate::unit::Unit;
-use armv6m_step::{Bus, ram};
+use armv6m_step::Bus;
 use bench_model::{Bench, BusEnd};
+use ram_arena::Arena;
 
-/// The bus of the target, for as long as a slice runs. The bench has the controller's cells, and its open operation is the
-/// controller's.
+/// The bus of the target, for as long as a slice runs. The RAM is a window of an arena. The bench has the controller's cells, and its open
+/// operation is the controller's.
 #[derive(Drop)]
 pub(crate) struct Line<'a, B: Bench> {
     pub ram_base: u32,
-    pub ram: &'a mut Vec<u8>,
+    pub ram_size: u32,
+    pub from: usize,
+    pub window: usize,
+    pub arena: &'a mut Arena,
     pub unit: &'a mut Unit,
     pub bench: &'a mut B,
 
+    ghost begins: { from ≡ begin_of arena.now window },
+    ghost ram: { IsRam arena.now window ram_size },
     ghost agrees: { UnitAgrees B.tells unit.now (B.state bench.now) },
 }
 
@@ -29,8 +38,8 @@ impl<'a, B: Bench> Bus for Line<'a, B> {
     ghost counted = { λ before access answer after act. act.cause };
 
     fn load8(&mut self, at: u32) -> Result<u32, BusEnd> {
-        match ram::load8(self.ram_base, self.ram.as_slice(), at) {
-            Some(value) => Ok(value),
+        match place(self.ram_base, self.ram_size, at, 1) {
+            Some(offset) => Ok(self.arena.load8_from(self.from, self.window, offset)),
             None => self.unit.load(self.bench, at, 1),
         }
     }
@@ -38,40 +47,49 @@ impl<'a, B: Bench> Bus for Line<'a, B> {
     // a fetch is one of these
     #[inline(always)]
     fn load16(&mut self, at: u32) -> Result<u32, BusEnd> {
-        match ram::load16(self.ram_base, self.ram.as_slice(), at) {
-            Some(value) => Ok(value),
+        match place(self.ram_base, self.ram_size, at, 2) {
+            Some(offset) => Ok(self.arena.load16_from(self.from, self.window, offset)),
             None => self.unit.load(self.bench, at, 2),
         }
     }
 
     fn load32(&mut self, at: u32) -> Result<u32, BusEnd> {
-        match ram::load32(self.ram_base, self.ram.as_slice(), at) {
-            Some(value) => Ok(value),
+        match place(self.ram_base, self.ram_size, at, 4) {
+            Some(offset) => Ok(self.arena.load32_from(self.from, self.window, offset)),
             None => self.unit.load(self.bench, at, 4),
         }
     }
 
     fn store8(&mut self, at: u32, value: u32) -> Result<(), BusEnd> {
-        if ram::store8(self.ram_base, self.ram.as_mut_slice(), at, value) {
-            Ok(())
-        } else {
-            self.unit.store(self.bench, at, 1, value)
+        match place(self.ram_base, self.ram_size, at, 1) {
+            Some(offset) => {
+                self.arena
+                    .store8_from(self.from, self.window, offset, value);
+                Ok(())
+            }
+            None => self.unit.store(self.bench, at, 1, value),
         }
     }
 
     fn store16(&mut self, at: u32, value: u32) -> Result<(), BusEnd> {
-        if ram::store16(self.ram_base, self.ram.as_mut_slice(), at, value) {
-            Ok(())
-        } else {
-            self.unit.store(self.bench, at, 2, value)
+        match place(self.ram_base, self.ram_size, at, 2) {
+            Some(offset) => {
+                self.arena
+                    .store16_from(self.from, self.window, offset, value);
+                Ok(())
+            }
+            None => self.unit.store(self.bench, at, 2, value),
         }
     }
 
     fn store32(&mut self, at: u32, value: u32) -> Result<(), BusEnd> {
-        if ram::store32(self.ram_base, self.ram.as_mut_slice(), at, value) {
-            Ok(())
-        } else {
-            self.unit.store(self.bench, at, 4, value)
+        match place(self.ram_base, self.ram_size, at, 4) {
+            Some(offset) => {
+                self.arena
+                    .store32_from(self.from, self.window, offset, value);
+                Ok(())
+            }
+            None => self.unit.store(self.bench, at, 4, value),
         }
     }
 }

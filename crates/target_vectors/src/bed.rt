@@ -1,4 +1,5 @@
 //! A target of a small board over a bench, which runs code.
+ghost use Rattle.target_core.specs.Targets.{stands};
 ghost use Rattle.target_core.specs.Units.{UnitAgrees};
 
 use anyhow::{Result, bail, ensure};
@@ -28,7 +29,7 @@ pub struct Bed<B: Bench + Drop> {
     target: Target,
     bench: B,
 
-    ghost agrees: { UnitAgrees B.tells target.unit (B.state bench) },
+    ghost agrees: { UnitAgrees B.tells (stands target).unit (B.state bench) },
 }
 
 impl<B: Bench + Drop> Bed<B> {
@@ -36,16 +37,16 @@ impl<B: Bench + Drop> Bed<B> {
     pub fn new(alloc: Global, code: &[u8], mut bench: B) -> Result<Bed<B>> {
         let mut target = Target::new(alloc, &read_board(alloc, BOARD.as_bytes())?)?;
         ensure!(
-            target.ram.len() == 4096 && code.len() <= 2048,
+            target.machine.ram_size == 4096 && code.len() <= 2048,
             "the code is too long"
         );
-        let at = target.ram_base.saturating_add(CODE);
+        let at = target.machine.ram_base.saturating_add(CODE);
         ensure!(
-            at - target.ram_base == CODE,
+            at - target.machine.ram_base == CODE,
             "the RAM is at the end of all addresses"
         );
         ensure!(
-            bench.cells_len() == target.unit.cells(),
+            bench.cells_len() == target.machine.unit.cells(),
             "the bench has other cells than the board"
         );
         match target.reset(&mut bench) {
@@ -58,7 +59,7 @@ impl<B: Bench + Drop> Bed<B> {
 
     /// Runs the code with the number of rounds in R0: how the run ended, and how many steps were made.
     pub fn run(&mut self, rounds: u32) -> (SliceEnd, u64) {
-        let base = self.target.ram_base;
+        let base = self.target.machine.ram_base;
         let mut regs = [0; 16];
         regs[0] = rounds;
         regs[SP as usize] = base.wrapping_add(4096);

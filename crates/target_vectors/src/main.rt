@@ -10,6 +10,8 @@
 //! - `run PC R0 R1 FUEL`: the code is run from the place PC on, and returns to 0x20000040. It prints how the run ended.
 //! - `slices PC R0 R1 FUEL STEPS`: the same in slices of so many steps. It prints also what is left of the fuel, and whether the registers are
 //!   then those that the last run left.
+//! - `turns FUEL STEPS CODE PC R0 R1 CODE PC R0 R1`: two machines, whose RAM stands in one arena, run their code by turns of so many steps. It
+//!   prints how each ended, and whether it left what a target that is alone leaves: registers, RAM and cells.
 //! - `cells`: it prints the cells.
 //! - `measure ROUNDS FILE..`: each file, which is code for address 0x20000020, is run on a target of its own with the number of rounds in R0.
 //!   It prints how the run ended, and how many steps were made.
@@ -23,6 +25,7 @@
 mod bed;
 mod core_loop;
 mod measured;
+mod pair;
 mod put;
 mod steps;
 mod trial;

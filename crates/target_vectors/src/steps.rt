@@ -1,9 +1,10 @@
 //! The steps of the cases.
 
 use crate::measured::measure;
+use crate::pair::{Left, Pair, alone};
 use crate::put::{put_cells, put_end};
 use crate::trial::{Trial, frame};
-use anyhow::{Context, Result, bail};
+use anyhow::{Context, Result, bail, ensure};
 use std::alloc::Global;
 use std::str;
 use target_core::Frame;
@@ -62,6 +63,55 @@ fn slices(
     Ok(())
 }
 
+/// Code for one of two machines: its bytes, and how it begins.
+#[derive(Drop)]
+struct Code {
+    bytes: Vec<u8>,
+    frame: Frame,
+}
+
+/// The code of some words.
+fn code_of(alloc: Global, words: &[&str]) -> Result<Code> {
+    let [code, pc, r0, r1] = words else {
+        bail!("code is CODE PC R0 R1");
+    };
+    let bytes = bytes(alloc, code)?;
+    let frame = frame_of(pc, r0, r1)?;
+    Ok(Code { bytes, frame })
+}
+
+/// Prints how one of two machines ended, and whether it left what a target leaves that is alone.
+fn put_turned(rt: &HostRuntime, code: &Code, fuel: u64, left: &Left) -> Result<()> {
+    put_end(rt, left.end)?;
+    let alone = alone(rt.alloc(), code.bytes.as_slice(), &code.frame, fuel)?;
+    let same = if left.same_as(&alone) {
+        "as alone"
+    } else {
+        "not as alone"
+    };
+    println!(rt; ", {same}")?;
+    Ok(())
+}
+
+/// Runs two machines by turns.
+fn turns(rt: &HostRuntime, fuel: &str, steps: &str, one: &[&str], other: &[&str]) -> Result<()> {
+    let fuel = fuel.parse::<u64>()?;
+    let steps = steps.parse::<u64>()?;
+    let one = code_of(rt.alloc(), one)?;
+    let other = code_of(rt.alloc(), other)?;
+    ensure!(
+        one.bytes.len() <= 256 && other.bytes.len() <= 256,
+        "no room"
+    );
+    let mut pair = Pair::new(rt.alloc())?;
+    pair.start_one(one.bytes.as_slice(), &one.frame, fuel);
+    pair.start_other(other.bytes.as_slice(), &other.frame, fuel);
+    let (first, second) = pair.by_turns(fuel, steps)?;
+    put_turned(rt, &one, fuel, &first)?;
+    put_turned(rt, &other, fuel, &second)?;
+    Ok(())
+}
+
 /// Does a step on a target.
 fn go(rt: &HostRuntime, trial: &mut Trial, words: &[&str]) -> Result<()> {
     match words {
@@ -69,6 +119,9 @@ fn go(rt: &HostRuntime, trial: &mut Trial, words: &[&str]) -> Result<()> {
         ["run", pc, r0, r1, fuel] => run(rt, trial, &frame_of(pc, r0, r1)?, fuel),
         ["slices", pc, r0, r1, fuel, steps] => {
             slices(rt, trial, &frame_of(pc, r0, r1)?, fuel, steps)
+        }
+        ["turns", fuel, steps, words @ ..] if words.len() == 8 => {
+            turns(rt, fuel, steps, &words[..4], &words[4..])
         }
         ["cells"] => put_cells(rt, trial.cells()),
         ["measure", words @ ..] => measure(rt, words),

@@ -1,6 +1,7 @@
 //! A target over a bench in memory.
 ghost use Rattle.std.specs.Prelude.{true};
 ghost use Rattle.bench_model.specs.Shown.{bench_of};
+ghost use Rattle.target_core.specs.Targets.{stands};
 ghost use Rattle.target_core.specs.Units.{UnitAgrees};
 
 use anyhow::{Result, bail};
@@ -20,7 +21,7 @@ controller.base = 0x40022000";
 const BACK: u32 = 0x2000_0040;
 
 /// The number of cells.
-const CELLS: usize = 8;
+pub const CELLS: usize = 8;
 
 /// A target and its bench, whose open operation is the controller's.
 #[derive(Drop)]
@@ -29,11 +30,11 @@ pub struct Trial {
     bench: MemoryBench,
     last: [u32; 16],
 
-    ghost agrees: { UnitAgrees true target.unit (bench_of bench) },
+    ghost agrees: { UnitAgrees true (stands target).unit (bench_of bench) },
 }
 
 /// The board.
-fn board(alloc: Global) -> Result<Board> {
+pub fn board(alloc: Global) -> Result<Board> {
     Ok(read_board(alloc, BOARD.as_bytes())?)
 }
 
@@ -41,10 +42,12 @@ impl Trial {
     /// A target with this code at the beginning of its RAM, over blank cells. The cell call of this number fails.
     pub fn new(alloc: Global, code: &[u8], fail: u64) -> Result<Trial> {
         let mut target = Target::new(alloc, &board(alloc)?)?;
-        if target.unit.cells() as usize != CELLS || code.len() > target.ram.len() {
+        if target.machine.unit.cells() as usize != CELLS
+            || code.len() > target.machine.ram_size as usize
+        {
             bail!("no room");
         }
-        let base = target.ram_base;
+        let base = target.machine.ram_base;
         target.write_ram(base, code);
         let bench = MemoryBench::new(alloc, &[0xFF; CELLS], &[], 0, 0x100, &[], &[fail], &[])?;
         Ok(Trial {
@@ -59,13 +62,16 @@ impl Trial {
         if at % 4 != 0 {
             return Err(BusEnd::Fault);
         }
-        self.target.unit.store(&mut self.bench, at, 4, value)
+        self.target
+            .machine
+            .unit
+            .store(&mut self.bench, at, 4, value)
     }
 
     /// Runs the code.
     pub fn run(&mut self, frame: &Frame, fuel: u64) -> RunEnd {
         let end = self.target.run(&mut self.bench, frame, fuel);
-        self.last = self.target.core.regs;
+        self.last = self.target.machine.core.regs;
         end
     }
 
@@ -84,7 +90,7 @@ impl Trial {
 
     /// Whether the core's registers are those that the last run left.
     pub fn as_last(&self) -> bool {
-        self.target.core.regs == self.last
+        self.target.machine.core.regs == self.last
     }
 
     /// The cells.

@@ -69,3 +69,9 @@ steps-preserved g c =
       faults = c.in-Ok.ensures.cause.on_ok refl ∙ c.instruction.ensures.cause.on_other (ap is_device_step went) ∙ c.steps.invariant.faults;
       same = same_then _ _ _ (same_then _ _ _ c.steps.invariant.same c.instruction.ensures.same) c.in-Ok.ensures.same;
     }
+
+pub returns-in-Some-clause-same : goal.returns-in-Some-clause-same
+returns-in-Some-clause-same g c = same_then _ _ _ c.steps.invariant.same c.instruction.ensures.same
+
+pub returns-in-Err-clause-same : goal.returns-in-Err-clause-same
+returns-in-Err-clause-same g c = same_then _ _ _ (same_then _ _ _ c.steps.invariant.same c.instruction.ensures.same) c.in-Err.ensures.same
