@@ -1,17 +1,20 @@
 //! The laws on calls and resets.
-ghost use Rattle.std.specs.Prelude.{◌≡◌, ◌≤◌, ◌+◌, ◌-◌, ◌*◌, ℕ, false, length, List, Option, None};
+ghost use Rattle.std.specs.Prelude.{◌≡◌, ◌≤◌, ◌+◌, ◌-◌, ◌*◌, ℕ, false, length, List, Option, Some, None};
 ghost use Rattle.bench_model.specs.Calls.{SameOutside, written};
 ghost use Rattle.bench_model.specs.History.{Leaves};
 ghost use Rattle.bench_model.specs.State.{cells_half};
-ghost use Rattle.page_geometry.specs.Layout.{IsLayout, Layout};
+ghost use Rattle.page_geometry.specs.Layout.{IsLayout};
+ghost use Rattle.target_core.specs.declared.run.RunEnd.{RunEnd};
+ghost use Rattle.target_core.specs.Path.{Point};
 ghost use Rattle.target_core.specs.Runs.{BreaksOffOn, IsLeftOn, Piece, StandsOn};
+ghost use Rattle.target_core.specs.Targets.{Sliced};
 ghost use Rattle.target_core.specs.Units.{state_op};
 ghost use Rattle.target_core.specs.World.{World};
 ghost use Rattle.algo_calls.specs.declared.call.CallEnd.{CallEnd};
 ghost use Rattle.algo_calls.specs.Calls.{after_reset, broken_off, CallGives};
-ghost use Rattle.algo_calls.specs.Duties.{place_of, request_of, Does, Duty, Keeps};
-ghost use Rattle.algo_calls.specs.Ends.{is_device_call, success_of, IsFromCode};
-ghost use Rattle.algo_calls.specs.Frames.{after, end_of, fuel_of, most_fuel, path_of, run_end_in, Request};
+ghost use Rattle.algo_calls.specs.Duties.{place_of, request_of, Does, Duty, Keeps, Site};
+ghost use Rattle.algo_calls.specs.Ends.{is_device_call, call_end_of, success_of, IsFromCode};
+ghost use Rattle.algo_calls.specs.Frames.{after, end_of, first_point, fuel_of, most_fuel, path_of, run_end_in, Request};
 ghost use Rattle.algo_calls.specs.Laws.{EndsExactly, InTurn};
 ghost use Rattle.algo_calls.specs.Setups.{Setup};
 
@@ -29,6 +32,13 @@ pub fn calls_have_one_end<B: Bench>()
     ensures alike { (s : Setup) (w w' other : World) (r : Request) (start t end u : B) (e f : CallEnd)
         → CallGives s w r (B.state start) e w' (B.state end) → CallGives s w r (B.state t) f other (B.state u)
         → is_device_call e ≡ false → is_device_call f ≡ false → (e ≡ f) × (w' ≡ other) }
+{}
+
+/// The slices of a prepared call, however the steps are cut, end as its run does, on the same path.
+pub fn slices_end_as_the_call<B: Bench>()
+    ensures { (s : Setup) (w : World) (r : Request) (cuts : List ℕ) (start end : B) (e : RunEnd) (last : Point)
+        → Sliced B.state s.layout.return_at cuts (first_point s w r) start (fuel_of s r.call) e last end
+        → CallGives s w r (B.state start) (call_end_of (success_of r.call (length r.bytes)) e) last.world (B.state end) }
 {}
 
 /// Two calls in turn are one piece of work: the first leaves the target from which the second is computed, and a stop of the power at any
@@ -53,10 +63,12 @@ pub fn resets_break_off<B: Bench>()
 {}
 
 /// A call that keeps its duty leaves each cell outside its sector or page as it was, wherever a stop of the power comes; one that is to
-/// change nothing leaves them all so. What a duty leaves of a contents is one contents. No call changes the board.
+/// change nothing leaves them all so. What a duty leaves of a contents is one contents, with the cells of every other region as they were.
+/// No call changes the board.
 pub fn kept_calls_stay_in_their_place()
-    ensures local { (s : Setup) (l : Layout) (w : World) (d : Duty) → IsLayout l → length w.cells ≡ l.size → Keeps s l w d
-        → (c : List ℕ) → IsLeftOn (path_of s w (request_of s l d)) c → SameOutside (place_of l d) w.cells c }
-    ensures exact { (s : Setup) (l : Layout) (d : Duty) (before x y : List ℕ) → Does s l before d x → Does s l before d y → x ≡ y }
+    ensures local { (s : Setup) (site : Site) (w : World) (d : Duty) → IsLayout site.layout → site.start + site.layout.size ≤ length w.cells → Keeps s site w d
+        → (c : List ℕ) → IsLeftOn (path_of s w (request_of s site.layout d)) c → SameOutside (place_of site d) w.cells c }
+    ensures exact { (s : Setup) (site : Site) (d : Duty) (before x y : List ℕ) → Does s site before d x → Does s site before d y → x ≡ y }
+    ensures others { (s : Setup) (site : Site) (d : Duty) (before x : List ℕ) → Does s site before d x → SameOutside (Some (site.start, site.layout.size)) before x }
     ensures board { (s : Setup) (w : World) (r : Request) → ((after s w r).ram_base ≡ w.ram_base) × ((after s w r).map ≡ w.map) }
 {}

@@ -8,6 +8,7 @@
 //!   or it is `no room NEED HAVE`. Need and what there is are decimal.
 //! - `new BOARD FLM FAIL BYTES..`: a target with these cells. The cell call of the decimal number FAIL fails, or none at 0.
 //! - `load`, and `reset ok` or `reset device fault`.
+//! - `slices STEPS`: the calls to come are made in slices of so many steps, or in one piece at 0. STEPS is decimal.
 //! - `Init KIND END`, `UnInit KIND END`, `EraseSector AT END`, `EraseChip END`, `ProgramPage AT BYTES END` and `Verify AT BYTES END`, where
 //!   an end is `done`, `answered R0`, `no fuel at PC`, `stray break at PC`, `undefined at PC`, `bus fault at PC address AT`, `unaligned
 //!   at PC address AT`, `bad state at PC` or `device fault`, and no bytes are `-`.

@@ -109,6 +109,10 @@ fn holds(trial: &mut Trial, words: &[&str], alloc: Global) -> Result<bool> {
             Ok(true)
         }
         ["reset", due @ ..] => reset(trial, due),
+        ["slices", steps] => {
+            trial.cut(steps.parse::<u64>()?);
+            Ok(true)
+        }
         ["EraseChip", due @ ..] => called(trial, Call::EraseChip, due),
         ["cells", words @ ..] => holds_cells(trial, words, alloc),
         [name, word, rest @ ..] => numbered(trial, name, word, rest, alloc),

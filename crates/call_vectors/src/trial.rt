@@ -1,56 +1,61 @@
-//! The calls of an algorithm, over a bench in memory that is watched.
-ghost use Rattle.std.specs.Prelude.{◌≡◌, true, vec_len, IfOk};
+//! The calls of an algorithm on a machine in an arena, over a bench in memory that is watched.
+ghost use Rattle.std.specs.Prelude.{◌≡◌, ◌≤◌, true, length, IfOk};
 ghost use Rattle.bench_model.specs.Shown.{bench_of};
 ghost use Rattle.board_file.specs.Shown.{shown as board_of};
 ghost use Rattle.flash_controller.specs.Table.{after_reset};
 ghost use Rattle.flash_layout.specs.Maps.{board_map};
 ghost use Rattle.target_core.specs.Units.{OfFc1, unit_cells, unit_map, unit_state};
-ghost use Rattle.algo_calls.specs.Shows.{unit_in, Agrees};
+ghost use Rattle.algo_calls.specs.Shows.{setup_at, AgreesAt, Fits, MayAsk};
 
 use crate::watch::{Area, Watch};
-use algo_calls::{Call, CallEnd, Calls};
+use algo_calls::{Call, CallEnd, CallsIn};
 use algo_loader::place;
 use anyhow::{Result, bail};
 use bench_model::{DeviceFault, MemoryBench};
 use board_file::Board;
 use flm_descriptor::Algorithm;
+use ram_arena::Arena;
 use std::alloc::Global;
 use std::result;
-use target_core::Target;
+use target_core::{Machine, SliceEnd};
 
-/// A target with an algorithm, and the bench, whose open operation is the controller's.
+/// A machine with an algorithm, the arena whose second window is its RAM, and the bench, whose open operation is the controller's.
 #[derive(Drop)]
 pub struct Trial {
-    calls: Calls,
+    calls: CallsIn,
+    arena: Arena,
+    steps: u64,
     pub bench: Watch<MemoryBench>,
 
-    ghost agrees: { Agrees true calls (bench_of bench.inner) },
+    ghost fits: { Fits calls arena 1 },
+    ghost agrees: { AgreesAt true calls (bench_of bench.inner) },
 }
 
-/// The target of a board, which has so many cells.
-fn target_of(alloc: Global, board: &Board, cells: usize) -> Result<Target>
-    ensures base { IfOk result (λ t. t.ram_base ≡ (board_of board.now).ram_base) }
-    ensures len { IfOk result (λ t. vec_len t.ram ≡ (board_of board.now).ram_size) }
-    ensures map { IfOk result (λ t. unit_map t.unit ≡ board_map (board_of board.now)) }
-    ensures cells { IfOk result (λ t. unit_cells t.unit ≡ cells) }
-    ensures fresh { IfOk result (λ t. unit_state t.unit ≡ OfFc1 after_reset) }
+/// The machine of a board, which has so many cells.
+fn machine_of(alloc: Global, board: &Board, cells: usize) -> Result<Machine>
+    ensures base { IfOk result (λ m. m.ram_base ≡ (board_of board.now).ram_base) }
+    ensures size { IfOk result (λ m. m.ram_size ≡ (board_of board.now).ram_size) }
+    ensures map { IfOk result (λ m. unit_map m.unit ≡ board_map (board_of board.now)) }
+    ensures cells { IfOk result (λ m. unit_cells m.unit ≡ cells) }
+    ensures fresh { IfOk result (λ m. unit_state m.unit ≡ OfFc1 after_reset) }
 {
-    let target = Target::new(alloc, board)?;
-    if target.unit.cells() as usize != cells {
+    let machine = Machine::new(alloc, board)?;
+    if machine.unit.cells() as usize != cells {
         bail!("another number of cells");
     }
-    Ok(target)
+    Ok(machine)
 }
 
-/// The calls of an algorithm on this target, which was made for the board.
-fn calls_on(target: Target, algorithm: Algorithm, board: &Board) -> Result<Calls>
-    requires base { target.ram_base ≡ (board_of board.now).ram_base }
-    requires len { vec_len target.ram ≡ (board_of board.now).ram_size }
-    requires map { unit_map target.unit ≡ board_map (board_of board.now) }
-    ensures { IfOk result (λ calls. unit_in calls ≡ target.unit) }
+/// The calls of an algorithm on this machine, which was made for the board.
+fn calls_on(machine: Machine, algorithm: Algorithm, board: &Board) -> Result<CallsIn>
+    requires base { machine.ram_base ≡ (board_of board.now).ram_base }
+    requires size { machine.ram_size ≡ (board_of board.now).ram_size }
+    requires map { unit_map machine.unit ≡ board_map (board_of board.now) }
+    ensures unit { IfOk result (λ calls. calls.machine.unit ≡ machine.unit) }
+    ensures size { IfOk result (λ calls. calls.machine.ram_size ≡ machine.ram_size) }
 {
     let layout = place(&algorithm, board)?;
-    Ok(Calls::new(target, layout, algorithm, board))
+    Ok(CallsIn::new(machine, layout, algorithm, board))
 }
 
 impl Trial {
@@ -62,42 +67,105 @@ impl Trial {
         cells: &[u8],
         fail: u64,
     ) -> Result<Trial> {
-        let target = target_of(alloc, board, cells.len())?;
-        let calls = calls_on(target, algorithm, board)?;
+        let machine = machine_of(alloc, board, cells.len())?;
+        let calls = calls_on(machine, algorithm, board)?;
+        let arena = Arena::new(alloc, &[8, board.ram_size])?;
         let bench = MemoryBench::new(alloc, cells, &[], 0, 0x10000, &[], &[fail], &[0x5A])?;
         Ok(Trial {
             calls,
+            arena,
+            steps: 0,
             bench: Watch::new(bench),
         })
     }
 
     /// Puts the algorithm into the RAM.
     pub fn load(&mut self) {
-        self.calls.load();
+        self.calls.load(&mut self.arena, 1);
     }
 
     /// Resets the target.
     pub fn reset(&mut self) -> result::Result<(), DeviceFault> {
-        self.calls.reset(&mut self.bench)
+        self.calls.reset(&mut self.arena, 1, &mut self.bench)
+    }
+
+    /// Makes each call from now on in slices of so many steps, or in one piece at 0.
+    pub fn cut(&mut self, steps: u64) {
+        self.steps = steps;
     }
 
     /// Calls a function of the algorithm.
     pub fn call(&mut self, call: Call, bytes: &[u8]) -> Result<CallEnd> {
-        let algorithm = self.calls.algorithm();
-        let entries = algorithm.entries;
-        if bytes.len() > algorithm.device.page as usize {
+        if bytes.len() > self.calls.algorithm().device.page as usize {
             bail!("more bytes than a page has");
         }
+        if self.steps == 0 {
+            self.in_one_piece(call, bytes)
+        } else {
+            self.in_pieces(call, bytes)
+        }
+    }
+
+    /// Makes a call in one piece.
+    fn in_one_piece(&mut self, call: Call, bytes: &[u8]) -> Result<CallEnd>
+        requires { length bytes.now ≤ (setup_at self.old.calls).algorithm.device.page }
+    {
+        let entries = self.calls.algorithm().entries;
         let bench = &mut self.bench;
         Ok(match call {
-            Call::Init { kind } => self.calls.init(bench, kind),
-            Call::UnInit { kind } => self.calls.uninit(bench, kind),
-            Call::EraseSector { at } => self.calls.erase_sector(bench, at),
-            Call::EraseChip if entries.erase_chip.is_some() => self.calls.erase_chip(bench),
-            Call::ProgramPage { at } => self.calls.program_page(bench, at, bytes),
-            Call::Verify { at } if entries.verify.is_some() => self.calls.verify(bench, at, bytes),
+            Call::Init { kind } => self.calls.init(&mut self.arena, 1, bench, kind),
+            Call::UnInit { kind } => self.calls.uninit(&mut self.arena, 1, bench, kind),
+            Call::EraseSector { at } => self.calls.erase_sector(&mut self.arena, 1, bench, at),
+            Call::EraseChip if entries.erase_chip.is_some() => {
+                self.calls.erase_chip(&mut self.arena, 1, bench)
+            }
+            Call::ProgramPage { at } => {
+                self.calls
+                    .program_page(&mut self.arena, 1, bench, at, bytes)
+            }
+            Call::Verify { at } if entries.verify.is_some() => {
+                self.calls.verify(&mut self.arena, 1, bench, at, bytes)
+            }
             _ => bail!("the algorithm has no such function"),
         })
+    }
+
+    /// Makes a call in slices.
+    fn in_pieces(&mut self, call: Call, bytes: &[u8]) -> Result<CallEnd>
+        requires { length bytes.now ≤ (setup_at self.old.calls).algorithm.device.page }
+    {
+        let entries = self.calls.algorithm().entries;
+        match call {
+            Call::Init { kind } => self.sliced(Call::Init { kind }, &[]),
+            Call::UnInit { kind } => self.sliced(Call::UnInit { kind }, &[]),
+            Call::EraseSector { at } => self.sliced(Call::EraseSector { at }, &[]),
+            Call::EraseChip if entries.erase_chip.is_some() => self.sliced(Call::EraseChip, &[]),
+            Call::ProgramPage { at } => self.sliced(Call::ProgramPage { at }, bytes),
+            Call::Verify { at } if entries.verify.is_some() => {
+                self.sliced(Call::Verify { at }, bytes)
+            }
+            _ => bail!("the algorithm has no such function"),
+        }
+    }
+
+    /// Prepares a call, and makes slices up to its end.
+    fn sliced(&mut self, call: Call, bytes: &[u8]) -> Result<CallEnd>
+        requires { MayAsk (setup_at self.old.calls) call bytes.now }
+    {
+        let fuel = self.calls.prepare(&mut self.arena, 1, &call, bytes);
+        let mut left = fuel;
+        for _slice in 0..fuel {
+            match self
+                .calls
+                .slice(&mut self.arena, 1, &mut self.bench, &mut left, self.steps)
+            {
+                SliceEnd::Ended(end) => {
+                    return Ok(self.calls.end_of(&call, bytes.len() as u32, end));
+                }
+                SliceEnd::More => {}
+            }
+        }
+        bail!("the slices have no end")
     }
 
     /// Counts the operations anew, in and out of an area.
