@@ -6,15 +6,17 @@ use Rattle.flm_descriptor.specs.Shape.{Range, range}
 use Rattle.flash_layout.specs.declared.area.SectorCells.{SectorCells}
 use Rattle.flash_layout.specs.Areas.{sector_of}
 use Rattle.flash_controller.specs.declared.state.State.{State}
-use Rattle.flash_controller.specs.declared.work.Work.{Work}
-use Rattle.flash_controller.specs.declared.work.Work.TheVariants as work
-use Rattle.flash_controller.specs.Table.{work_len, work_bytes, erases_sector, tick_row}
+use Rattle.flash_layout.specs.declared.work.Work.{Work}
+use Rattle.flash_layout.specs.declared.work.Work.TheVariants as work
+use Rattle.flash_layout.specs.Work.{work_len, work_bytes}
+use Rattle.flash_controller.specs.Table.{erases_sector, tick_row}
 use Rattle.target_core.specs.Units.{state_op}
 use Rattle.target_core.specs.World.{World, world_tick}
 use Rattle.target_core.specs.Path.{Point}
 use Rattle.algo_calls.specs.declared.call.Call.TheVariants as a_call
 use Rattle.algo_calls.specs.Frames.{Request, asked, first_point, fuel_of}
-use Rattle.algo_calls.specs.Duties.{OpensIn, span}
+use Rattle.algo_calls.specs.Duties.{OpensIn}
+use Rattle.serve_law.proofs.Ranges.{span}
 use Rattle.serve_law.proofs.Computed.{computed, after_in}
 use Rattle.serve_law.proofs.HomeLemmas.{IsHome}
 use Rattle.serve_law.proofs.GoesLemmas.{Goes, goes_then, all_idle, idle_goes, run_goes, step_goes, AllIn}

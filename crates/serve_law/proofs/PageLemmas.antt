@@ -13,13 +13,15 @@ use Rattle.armv6m_step.specs.Ram.{value_at}
 use Rattle.armv6m_step.specs.Registers.{pc_of, moved}
 use Rattle.flm_descriptor.specs.Shape.{Range}
 use Rattle.flash_controller.specs.declared.state.State.{State}
-use Rattle.flash_controller.specs.declared.work.Work.TheVariants as work
-use Rattle.flash_controller.specs.Table.{all_are, cells_at, programmed, store_row, store_at, tick_row}
+use Rattle.flash_layout.specs.declared.work.Work.TheVariants as work
+use Rattle.flash_layout.specs.Cells.{cells_at}
+use Rattle.flash_controller.specs.Table.{all_are, programmed, store_row, store_at, tick_row}
 use Rattle.target_core.specs.World.{World, store_answer, world_answer, world_tick}
 use Rattle.target_core.specs.Path.{Point}
 use Rattle.algo_calls.specs.declared.call.Call.TheVariants as a_call
 use Rattle.algo_calls.specs.Frames.{Request, asked, first_point, fuel_of}
-use Rattle.algo_calls.specs.Duties.{OpensIn, span}
+use Rattle.algo_calls.specs.Duties.{OpensIn}
+use Rattle.serve_law.proofs.Ranges.{span}
 use Rattle.serve_law.proofs.Computed.{computed}
 use Rattle.serve_law.proofs.GoesLemmas.{Goes, goes_then, all_idle, idle_goes, run_goes, AllIn}
 use Rattle.serve_law.proofs.StepLemmas.{word_at, gone, meaning_at, outcome_load, outcome_store, step_by, ram_loads, stored_here, stored_len, unit_stores, with_word}
