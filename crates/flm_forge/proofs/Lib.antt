@@ -13,3 +13,4 @@ mod DescriptionLemmas
 mod EntryLemmas
 mod ReadLemmas
 mod ForgeLemmas
+mod RegionLemmas

@@ -1,9 +1,9 @@
 -- The listings of the algorithms A1 to A7 for a region of a board.
-use Rattle.std.specs.Prelude.{ℕ, ◌+◌, ◌*◌, List, [], ◌∷◌, codes}
+use Rattle.std.specs.Prelude.{ℕ, ◌+◌, ◌*◌, nat_eq, List, [], ◌∷◌, ◌++◌, codes, if◌then◌else◌}
 use Rattle.board_file.specs.declared.region.Region.{Region}
 use Rattle.board_file.specs.declared.sectors.SectorRun.{SectorRun}
 use Rattle.flm_descriptor.specs.declared.fault.Name.{Name}
-use Rattle.flm_descriptor.specs.declared.fault.Name.TheVariants.{Verify}
+use Rattle.flm_descriptor.specs.declared.fault.Name.TheVariants.{EraseChip, Verify}
 use Rattle.flm_descriptor.specs.declared.items.SectorItem.{SectorItem}
 use Rattle.flm_forge.specs.declared.kind.Kind.{Kind}
 use Rattle.flm_forge.specs.declared.kind.Kind.TheVariants.{A2, A4}
@@ -15,6 +15,10 @@ abbrev pub hidden_names : Kind → List Name
 hidden_names A2 = Verify ∷ []
 hidden_names A4 = Verify ∷ []
 hidden_names _ = []
+
+-- for a region of this number: the controller erases the chip by the first region alone, so a later one has no symbol of EraseChip
+abbrev pub hidden_in : ℕ → Kind → List Name
+hidden_in number kind = if nat_eq number 0 then hidden_names kind else hidden_names kind ++ EraseChip ∷ []
 
 -- one item for each run of sectors, from an offset on
 unfoldable pub items_from : ℕ → List SectorRun → List SectorItem
@@ -37,3 +41,11 @@ listing_of kind base region page = record {
   items = items_from 0 region.sectors;
   hidden = hidden_names kind;
 }
+
+-- a listing with other names hidden
+abbrev pub hiding : Listing → List Name → Listing
+hiding l names = record l { hidden = names }
+
+-- that of region number `number` of a board
+abbrev pub listing_in : ℕ → Kind → ℕ → Region → ℕ → Listing
+listing_in number kind base region page = hiding (listing_of kind base region page) (hidden_in number kind)

@@ -1,7 +1,7 @@
 //! The listings of the algorithms for a board.
-ghost use Rattle.std.specs.Prelude.{◌≡◌, ◌≤◌, slice_get, IfOk, IsSomeAnd};
+ghost use Rattle.std.specs.Prelude.{◌≡◌, ◌≤◌, ◌<◌, length, slice_get, IfOk, IsSomeAnd};
 ghost use Rattle.board_file.specs.Limits.{cells_of, most_cells};
-ghost use Rattle.flm_forge.specs.Listed.{hidden_names, items_from, listing_of};
+ghost use Rattle.flm_forge.specs.Listed.{hidden_in, hidden_names, items_from, listing_in, listing_of};
 ghost use Rattle.flm_forge.specs.Texts.{lines, text_of};
 
 use crate::kind::{Kind, put_text};
@@ -23,7 +23,24 @@ const TO_ERASE: u32 = 500;
 pub fn listing(alloc: Global, kind: Kind, board: &Board, page: u32) -> Result<Listing, OutOfMemory>
     ensures { IfOk result (λ l. IsSomeAnd (slice_get board.now.regions 0) (λ region. l ≡ listing_of kind board.now.controller_base region page)) }
 {
-    let region = &board.regions.as_slice()[0];
+    listing_at(alloc, kind, board, 0, page)
+}
+
+/// The listing of an algorithm for a region of a board, with pages of `page` bytes. The regions count from 0. The listing for a
+/// later region than the first hides EraseChip, by which the controller erases the first one.
+#[tactic(auto, using(crate::proofs::RegionLemmas::sectors_small))]
+pub fn listing_at(
+    alloc: Global,
+    kind: Kind,
+    board: &Board,
+    region: usize,
+    page: u32,
+) -> Result<Listing, OutOfMemory>
+    requires { region < length board.now.regions }
+    ensures { IfOk result (λ l. IsSomeAnd (slice_get board.now.regions region) (λ r. l ≡ listing_in region kind board.now.controller_base r page)) }
+{
+    let hidden = hidden_in(alloc, kind, region)?;
+    let region = &board.regions.as_slice()[region];
     Ok(Listing {
         text: text(alloc, kind, board.controller_base)?,
         init_data: Bytes::from_vec(Vec::new(alloc)),
@@ -36,7 +53,7 @@ pub fn listing(alloc: Global, kind: Kind, board: &Board, page: u32) -> Result<Li
         to_prog: TO_PROG,
         to_erase: TO_ERASE,
         items: items(alloc, region.sectors.as_slice())?,
-        hidden: hidden_names(alloc, kind)?,
+        hidden,
     })
 }
 
@@ -66,13 +83,24 @@ fn items(alloc: Global, runs: &[SectorRun]) -> Result<Items, OutOfMemory>
     Ok(Items::from_vec(items))
 }
 
-/// The entries that an algorithm hides.
-fn hidden_names(alloc: Global, kind: Kind) -> Result<Names, OutOfMemory>
-    ensures { IfOk result (λ names. names ≡ hidden_names kind) }
+/// The entries that an algorithm hides for a region of this number.
+fn hidden_in(alloc: Global, kind: Kind, number: usize) -> Result<Names, OutOfMemory>
+    ensures { IfOk result (λ names. names ≡ hidden_in number kind) }
+{
+    let mut names = hidden_names(alloc, kind)?;
+    if number != 0 {
+        names.push(Name::EraseChip)?;
+    }
+    Ok(Names::from_vec(names))
+}
+
+/// The entries that an algorithm hides for any region.
+fn hidden_names(alloc: Global, kind: Kind) -> Result<Vec<Name>, OutOfMemory>
+    ensures { IfOk result (λ names. names.items ≡ hidden_names kind) }
 {
     let mut names = Vec::new(alloc);
     if kind == Kind::A2 || kind == Kind::A4 {
         names.push(Name::Verify)?;
     }
-    Ok(Names::from_vec(names))
+    Ok(names)
 }

@@ -13,7 +13,7 @@ mod source;
 mod symbol;
 mod write;
 
-pub use algorithm::listing;
+pub use algorithm::{listing, listing_at};
 pub use fault::ForgeFault;
 pub use file::forge;
 pub use kind::Kind;

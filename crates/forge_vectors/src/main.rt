@@ -1,5 +1,5 @@
-//! Makes FLM files and inspects them: A1 to A7 for the board of one file, A1 for that of another, and a listing with data and zeroed
-//! data. It prints what each file says, and its bytes.
+//! Makes FLM files and inspects them: A1 to A7 for the board of one file, A1 for that of another, A1 and A2 for the second region of a
+//! third, and a listing with data and zeroed data. It prints what each file says, and its bytes.
 #![tactic(auto)]
 
 mod data;
@@ -8,7 +8,7 @@ mod put;
 use anyhow::Result;
 use board_file::{Board, read_board};
 use data::with_data;
-use flm_forge::{Kind, listing};
+use flm_forge::{Kind, listing, listing_at};
 use put::put;
 use std::fs::File;
 use std::io::Read;
@@ -43,8 +43,26 @@ fn put_kinds(rt: &HostRuntime, board: &Board, page: u32) -> Result<()> {
     put_kind(rt, "A7", Kind::A7, board, page)
 }
 
+/// Puts the algorithms for the second region of a board.
+fn put_second(rt: &HostRuntime, board: &Board, page: u32) -> Result<()> {
+    if board.regions.as_slice().len() == 2 {
+        put(
+            rt,
+            "A1 second",
+            &listing_at(rt.alloc(), Kind::A1, board, 1, page)?,
+        )?;
+        put(
+            rt,
+            "A2 second",
+            &listing_at(rt.alloc(), Kind::A2, board, 1, page)?,
+        )?;
+    }
+    Ok(())
+}
+
 fn main(rt: HostRuntime) -> Result<()> {
     put_kinds(&rt, &board(&rt, "board.toml")?, 64)?;
     put_kind(&rt, "wide", Kind::A1, &board(&rt, "wide.toml")?, 1024)?;
+    put_second(&rt, &board(&rt, "two.toml")?, 64)?;
     put(&rt, "data", &with_data(&rt, read_file(&rt, "data.s")?)?)
 }
