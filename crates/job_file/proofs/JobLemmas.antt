@@ -6,17 +6,17 @@ use Rattle.std.proofs.lemmas.List.{length-take, length-drop, drop-drop, take-app
 use Rattle.faults.specs.Results.{◌>>=◌}
 use Rattle.byte_map.specs.Image.{Run}
 use Rattle.board_file.specs.Shown as board
-use Rattle.board_file.specs.Text.{reading}
 use Rattle.flm_descriptor.specs.Shown as flm
 use Rattle.flm_descriptor.specs.Flm.{flm_of}
 use Rattle.job_text.specs.Fits.{fits}
 use Rattle.job_text.specs.Body.{Job, mark, field, run_text, body_of, IsJob}
 use Rattle.job_text.specs.Stands.{snapshot_in, StandsFor}
 use Rattle.job_text.specs.declared.job.Job as code
-use Rattle.job_text.specs.Reading.{text_at, read_or, holds_or, Head, Texts, texts_at, runs_at, Found, rest_at, job_at, head_at}
+use Rattle.job_text.specs.Reading.{text_at, one_board, read_or, holds_or, Head, Texts, texts_at, runs_at, Found, rest_at, job_at, head_at}
 use Rattle.job_text.proofs.Steps.{bind_is, holds, was_read}
 use Rattle.job_text.proofs.TakeLemmas.{IsBytes}
 use Rattle.job_text.proofs.BodyLemmas.{head_takes}
+use Rattle.job_text.proofs.RegionLemmas.{read_of_one}
 use Rattle.job_file.specs.declared.fault.ReadFault.{ReadFault}
 use Rattle.job_file.specs.declared.fault.ReadFault.TheVariants.{OutOfMemory, StoreFault, NotAJob}
 use Rattle.job_file.specs.Readers.{Fails, head_read, Counts, IsGate, head_bytes, SayTexts, IsJobRest, IsJobBody}
@@ -34,25 +34,25 @@ abbrev algorithm_behind : ℕ → Head → List ℕ → board.Shown → List ℕ
 algorithm_behind d h board_text said rest =
     text_at d h.flm rest >>= λ f. read_or (24 + h.board) (flm_of f.0) >>= λ algorithm. holds_or (24 + h.board) (fits said algorithm) >>= λ fit. Ok (record { board_text = board_text; flm_text = f.0; board = said; algorithm = algorithm }, f.1)
 
-texts_from : (d : ℕ) (h : Head) (bytes : List ℕ) → texts_at d h bytes ≡ (text_at d h.board bytes >>= λ b. read_or 24 (reading b.0) >>= λ said. algorithm_behind d h b.0 said b.1)
+texts_from : (d : ℕ) (h : Head) (bytes : List ℕ) → texts_at d h bytes ≡ (text_at d h.board bytes >>= λ b. read_or 24 (one_board b.0) >>= λ said. algorithm_behind d h b.0 said b.1)
 unfolding texts_at
 texts_from d h bytes = refl
 
-pub texts_board : (d : ℕ) (h : Head) (bytes : List ℕ) (e : ReadFault) → Fails e (text_at d h.board bytes >>= λ b. read_or 24 (reading b.0)) → Fails e (texts_at d h bytes)
-texts_board d h bytes e = fails_within e (text_at d h.board bytes >>= λ b. read_or 24 (reading b.0)) (texts_at d h bytes)
-    (λ at is. texts_from d h bytes ∙ err_through (text_at d h.board bytes) (λ b. read_or 24 (reading b.0)) (λ b said. algorithm_behind d h b.0 said b.1) at is)
+pub texts_board : (d : ℕ) (h : Head) (bytes : List ℕ) (e : ReadFault) → Fails e (text_at d h.board bytes >>= λ b. read_or 24 (one_board b.0)) → Fails e (texts_at d h bytes)
+texts_board d h bytes e = fails_within e (text_at d h.board bytes >>= λ b. read_or 24 (one_board b.0)) (texts_at d h bytes)
+    (λ at is. texts_from d h bytes ∙ err_through (text_at d h.board bytes) (λ b. read_or 24 (one_board b.0)) (λ b said. algorithm_behind d h b.0 said b.1) at is)
 
 -- the board was read
 pub record IsBoardRead (d : ℕ) (h : Head) (file : List ℕ) (said : board.Shown) : Type 0 where
   pub long : length file ≡ d
   pub inside : 24 + h.board ≤ d
-  pub read : (text_at d h.board (drop 24 file) >>= λ b. read_or 24 (reading b.0)) ≡ Ok said
+  pub read : (text_at d h.board (drop 24 file) >>= λ b. read_or 24 (one_board b.0)) ≡ Ok said
 
 board_here : (d : ℕ) (h : Head) (file : List ℕ) (said : board.Shown) → IsBoardRead d h file said → text_at d h.board (drop 24 file) ≡ Ok (take h.board (drop 24 file), drop h.board (drop 24 file))
 board_here d h file said b = text_here d h.board (drop 24 file) (omega (arith, b.long, b.inside, length-drop 24 file))
 
-board_said : (d : ℕ) (h : Head) (file : List ℕ) (said : board.Shown) → IsBoardRead d h file said → read_or 24 (reading (take h.board (drop 24 file))) ≡ Ok said
-board_said d h file said b = sym (bind_is (text_at d h.board (drop 24 file)) (λ b. read_or 24 (reading b.0)) (take h.board (drop 24 file), drop h.board (drop 24 file)) (board_here d h file said b)) ∙ b.read
+board_said : (d : ℕ) (h : Head) (file : List ℕ) (said : board.Shown) → IsBoardRead d h file said → read_or 24 (one_board (take h.board (drop 24 file))) ≡ Ok said
+board_said d h file said b = sym (bind_is (text_at d h.board (drop 24 file)) (λ b. read_or 24 (one_board b.0)) (take h.board (drop 24 file), drop h.board (drop 24 file)) (board_here d h file said b)) ∙ b.read
 
 board_behind : (d : ℕ) (h : Head) (file : List ℕ) (said : board.Shown) → IsBoardRead d h file said → texts_at d h (drop 24 file) ≡ algorithm_behind d h (take h.board (drop 24 file)) said (drop (24 + h.board) file)
 board_behind d h file said b =
@@ -60,8 +60,8 @@ board_behind d h file said b =
     let here = board_here d h file said b in
     let says = board_said d h file said b in
     texts_from d h (drop 24 file)
-    ∙ bind_is (text_at d h.board (drop 24 file)) (λ b. read_or 24 (reading b.0) >>= λ said. algorithm_behind d h b.0 said b.1) (text, drop h.board (drop 24 file)) here
-    ∙ bind_is (read_or 24 (reading text)) (λ said. algorithm_behind d h text said (drop h.board (drop 24 file))) said says
+    ∙ bind_is (text_at d h.board (drop 24 file)) (λ b. read_or 24 (one_board b.0) >>= λ said. algorithm_behind d h b.0 said b.1) (text, drop h.board (drop 24 file)) here
+    ∙ bind_is (read_or 24 (one_board text)) (λ said. algorithm_behind d h text said (drop h.board (drop 24 file))) said says
     ∙ ap (algorithm_behind d h text said) (drop-drop h.board 24 file)
 
 pub texts_algorithm : (d : ℕ) (h : Head) (file : List ℕ) (said : board.Shown) (e : ReadFault) → IsBoardRead d h file said → Fails e (text_at d h.flm (drop (24 + h.board) file) >>= λ f. read_or (24 + h.board) (flm_of f.0)) → Fails e (texts_at d h (drop 24 file))
@@ -114,7 +114,7 @@ texts_say d h file said algorithm b a fit = record {
       (holds (24 + h.board) (fits said algorithm) fit);
   parts = sym (take-append-drop h.board (drop 24 file)) ∙ ap (λ (l : List ℕ). take h.board (drop 24 file) ++ l)
       (drop-drop h.board 24 file ∙ sym (take-append-drop h.flm (drop (24 + h.board) file)) ∙ ap (λ (l : List ℕ). take h.flm (drop (24 + h.board) file) ++ l) (drop-drop h.flm (24 + h.board) file));
-  is_board = was_read 24 (reading (take h.board (drop 24 file))) said (board_said d h file said b);
+  is_board = read_of_one (take h.board (drop 24 file)) said (was_read 24 (one_board (take h.board (drop 24 file))) said (board_said d h file said b));
   is_algorithm = was_read (24 + h.board) (flm_of (take h.flm (drop (24 + h.board) file))) algorithm (algorithm_said d h file algorithm b.long a);
   board_len = omega (arith, b.long, b.inside, length-take h.board (drop 24 file), length-drop 24 file);
   flm_len = omega (arith, b.long, a.inside, length-take h.flm (drop (24 + h.board) file), length-drop (24 + h.board) file);

@@ -4,7 +4,7 @@ use Rattle.std.specs.List.{flat_map}
 use Rattle.faults.specs.Results.{◌>>=◌}
 use Rattle.byte_map.specs.Image.{Run}
 use Rattle.board_file.specs.Shown as board
-use Rattle.board_file.specs.Text.{reading, IsBoard}
+use Rattle.board_file.specs.Text.{IsBoard}
 use Rattle.flm_descriptor.specs.Shown as flm
 use Rattle.flm_descriptor.specs.Flm.{flm_of, IsFlm}
 use Rattle.job_text.specs.Body.{Job, mark, field, run_text, body_of, IsJob}
@@ -12,7 +12,7 @@ use Rattle.job_text.specs.Stands.{snapshot_in}
 use Rattle.job_text.specs.declared.job.Job as code
 use Rattle.job_text.specs.Runs.{run_of}
 use Rattle.job_text.specs.Files.{open_gate, IsFree}
-use Rattle.job_text.specs.Reading.{Head, holds_or, read_or, text_at, head_at, texts_at, run_at}
+use Rattle.job_text.specs.Reading.{Head, holds_or, one_board, read_or, text_at, head_at, texts_at, run_at}
 use Rattle.job_file.specs.declared.fault.ReadFault.{ReadFault}
 use Rattle.job_file.specs.declared.fault.ReadFault.TheVariants.{OutOfMemory, StoreFault, NotAJob}
 
@@ -45,7 +45,7 @@ head_read whole body = holds_or whole (nat_le 24 whole) >>= λ long. head_at who
 
 -- the board of a text of so many bytes, and the algorithm of an FLM file that begins at an offset
 abbrev pub board_read : ℕ → ℕ → List ℕ → Result board.Shown ℕ
-board_read whole len bytes = text_at whole len bytes >>= λ b. read_or 24 (reading b.0)
+board_read whole len bytes = text_at whole len bytes >>= λ b. read_or 24 (one_board b.0)
 
 abbrev pub algorithm_read : ℕ → ℕ → ℕ → List ℕ → Result flm.Shown ℕ
 algorithm_read whole at len bytes = text_at whole len bytes >>= λ f. read_or at (flm_of f.0)

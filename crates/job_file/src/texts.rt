@@ -2,13 +2,12 @@
 ghost use Rattle.std.specs.Prelude.{◌≡◌, ◌≤◌, ◌+◌, length, drop, false, IsTrue, IsOk, IfOk, IfErr};
 ghost use Rattle.bench_model.specs.Calls.{OnlyReads};
 ghost use Rattle.board_file.specs.Shown.{shown as board_shown};
-ghost use Rattle.board_file.specs.Text.{reading};
 ghost use Rattle.flm_descriptor.specs.Shown.{shown as flm_shown};
 ghost use Rattle.flm_descriptor.specs.Flm.{flm_of};
 ghost use Rattle.algo_loader.specs.Places.{has_room};
 ghost use Rattle.job_text.specs.Fits.{is_only_region};
 ghost use Rattle.job_text.specs.Heads.{head_of};
-ghost use Rattle.job_text.specs.Reading.{read_or, texts_at};
+ghost use Rattle.job_text.specs.Reading.{one_board, read_or, texts_at};
 ghost use Rattle.job_file.specs.Counted.{IsCounted};
 ghost use Rattle.job_file.specs.Readers.{Fails, Gives, SayTexts, is_read_fault, board_read, algorithm_read};
 
@@ -31,9 +30,9 @@ pub(crate) struct Said {
     pub end: u64,
 }
 
-/// The board that a text describes.
+/// The board with one region that a text describes.
 fn board_of(alloc: Global, text: Vec<u8>) -> Result<Board, ReadFault>
-    ensures gives { Gives board_shown result (read_or 24 (reading text.items)) }
+    ensures gives { Gives board_shown result (read_or 24 (one_board text.items)) }
     ensures no_store { is_read_fault result ≡ false }
 {
     match board_in(alloc, &text) {
@@ -55,7 +54,7 @@ fn algorithm_of(alloc: Global, at: u64, file: Vec<u8>) -> Result<Algorithm, Read
     }
 }
 
-/// The board that the text behind the head describes.
+/// The board with one region that the text behind the head describes.
 fn read_board<B: Bench>(
     alloc: Global,
     bench: &mut B,

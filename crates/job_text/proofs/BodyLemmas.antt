@@ -5,14 +5,15 @@ use Rattle.std.proofs.lemmas.Bool.{ltb-true, le-leb, lt-ltb, eqb-true, eq-eqb, a
 use Rattle.faults.specs.Results.{◌>>=◌}
 use Rattle.byte_map.proofs.Runs.{few_runs}
 use Rattle.board_file.specs.Shown as board
-use Rattle.board_file.specs.Text.{reading, IsBoard}
+use Rattle.board_file.specs.Text.{IsBoard}
 use Rattle.flm_descriptor.specs.Shown as flm
 use Rattle.flm_descriptor.specs.Flm.{flm_of, IsFlm}
 use Rattle.algo_loader.specs.Places.{has_room}
 use Rattle.job_text.specs.Fits.{is_only_region, fits, Suits}
 use Rattle.job_text.specs.Body.{Job, mark, field, run_text, body_of, IsJob}
-use Rattle.job_text.specs.Reading.{number_at, text_at, mark_at, read_or, holds_or, Head, head_at, runs_at, Texts, texts_at, Found, rest_at, job_at}
+use Rattle.job_text.specs.Reading.{number_at, text_at, mark_at, read_or, holds_or, Head, head_at, runs_at, one_board, Texts, texts_at, Found, rest_at, job_at}
 use Rattle.job_text.proofs.Steps.{bind_ok, bind_is, ok_is, held, holds, was_read, is_read}
+use Rattle.job_text.proofs.RegionLemmas.{read_of_one, one_of_read}
 use Rattle.job_text.proofs.FlmLemmas.{IsInMemory, device_in_memory}
 use Rattle.job_text.proofs.TakeLemmas.{IsBytes, Takes, Takes-then, number_takes, number_again, text_takes, text_again, mark_takes, mark_again}
 use Rattle.job_text.proofs.RunTextLemmas.{runs_take, runs_again}
@@ -74,8 +75,8 @@ record TextsAre (h : Head) (t : Texts) : Type 0 where
 texts_take : (d : ℕ) (h : Head) (bytes : List ℕ) (x : Texts × List ℕ) → IsBytes bytes → texts_at d h bytes ≡ Ok x → Takes bytes (x.0.board_text ++ x.0.flm_text) x.1 × TextsAre h x.0
 unfolding texts_at
 texts_take d h bytes x fits_bytes e =
-    let b = bind_ok (text_at d h.board bytes) (λ b. read_or 24 (reading b.0) >>= λ said. text_at d h.flm b.1 >>= λ f. read_or (24 + h.board) (flm_of f.0) >>= λ algorithm. holds_or (24 + h.board) (fits said algorithm) >>= λ fit. Ok (record { board_text = b.0; flm_text = f.0; board = said; algorithm = algorithm }, f.1)) x e in
-    let s = bind_ok (read_or 24 (reading b.0.0)) (λ said. text_at d h.flm b.0.1 >>= λ f. read_or (24 + h.board) (flm_of f.0) >>= λ algorithm. holds_or (24 + h.board) (fits said algorithm) >>= λ fit. Ok (record { board_text = b.0.0; flm_text = f.0; board = said; algorithm = algorithm }, f.1)) x b.2 in
+    let b = bind_ok (text_at d h.board bytes) (λ b. read_or 24 (one_board b.0) >>= λ said. text_at d h.flm b.1 >>= λ f. read_or (24 + h.board) (flm_of f.0) >>= λ algorithm. holds_or (24 + h.board) (fits said algorithm) >>= λ fit. Ok (record { board_text = b.0; flm_text = f.0; board = said; algorithm = algorithm }, f.1)) x e in
+    let s = bind_ok (read_or 24 (one_board b.0.0)) (λ said. text_at d h.flm b.0.1 >>= λ f. read_or (24 + h.board) (flm_of f.0) >>= λ algorithm. holds_or (24 + h.board) (fits said algorithm) >>= λ fit. Ok (record { board_text = b.0.0; flm_text = f.0; board = said; algorithm = algorithm }, f.1)) x b.2 in
     let f = bind_ok (text_at d h.flm b.0.1) (λ f. read_or (24 + h.board) (flm_of f.0) >>= λ algorithm. holds_or (24 + h.board) (fits s.0 algorithm) >>= λ fit. Ok (record { board_text = b.0.0; flm_text = f.0; board = s.0; algorithm = algorithm }, f.1)) x s.2 in
     let a = bind_ok (read_or (24 + h.board) (flm_of f.0.0)) (λ algorithm. holds_or (24 + h.board) (fits s.0 algorithm) >>= λ fit. Ok (record { board_text = b.0.0; flm_text = f.0.0; board = s.0; algorithm = algorithm }, f.0.1)) x f.2 in
     let t = bind_ok (holds_or (24 + h.board) (fits s.0 a.0)) (λ fit. Ok (record { board_text = b.0.0; flm_text = f.0.0; board = s.0; algorithm = a.0 }, f.0.1)) x a.2 in
@@ -85,7 +86,7 @@ texts_take d h bytes x fits_bytes e =
     subst (λ (y : Texts × List ℕ). Takes bytes (y.0.board_text ++ y.0.flm_text) y.1 × TextsAre h y.0) (ok_is {E = ℕ} made x t.2) (
       Takes-then bytes b.0.0 b.0.1 f.0.0 f.0.1 t0.0 t1.0,
       record {
-        board = was_read 24 (reading b.0.0) s.0 s.1;
+        board = read_of_one b.0.0 s.0 (was_read 24 (one_board b.0.0) s.0 s.1);
         algorithm = was_read (24 + h.board) (flm_of f.0.0) a.0 a.1;
         fit = held (24 + h.board) (fits s.0 a.0) t.0 t.1;
         board_len = t0.1;
@@ -143,10 +144,10 @@ head_for j = record { board = length j.board; flm = length j.flm; runs = length 
 texts_again : (d : ℕ) (j : Job) (b : board.Shown) (a : flm.Shown) (rest : List ℕ) → IsJob j b a → texts_at d (head_for j) (j.board ++ (j.flm ++ rest)) ≡ Ok (record { board_text = j.board; flm_text = j.flm; board = b; algorithm = a }, rest)
 unfolding texts_at
 texts_again d j b a rest is =
-    bind_is (text_at d (length j.board) (j.board ++ (j.flm ++ rest))) (λ t. read_or 24 (reading t.0) >>= λ said. text_at d (length j.flm) t.1 >>= λ f. read_or (24 + length j.board) (flm_of f.0) >>= λ algorithm. holds_or (24 + length j.board) (fits said algorithm) >>= λ fit. Ok (record { board_text = t.0; flm_text = f.0; board = said; algorithm = algorithm }, f.1))
+    bind_is (text_at d (length j.board) (j.board ++ (j.flm ++ rest))) (λ t. read_or 24 (one_board t.0) >>= λ said. text_at d (length j.flm) t.1 >>= λ f. read_or (24 + length j.board) (flm_of f.0) >>= λ algorithm. holds_or (24 + length j.board) (fits said algorithm) >>= λ fit. Ok (record { board_text = t.0; flm_text = f.0; board = said; algorithm = algorithm }, f.1))
     (j.board, j.flm ++ rest) (text_again d j.board (j.flm ++ rest))
-    ∙ bind_is (read_or 24 (reading j.board)) (λ said. text_at d (length j.flm) (j.flm ++ rest) >>= λ f. read_or (24 + length j.board) (flm_of f.0) >>= λ algorithm. holds_or (24 + length j.board) (fits said algorithm) >>= λ fit. Ok (record { board_text = j.board; flm_text = f.0; board = said; algorithm = algorithm }, f.1))
-    b (is_read 24 (reading j.board) b is.board)
+    ∙ bind_is (read_or 24 (one_board j.board)) (λ said. text_at d (length j.flm) (j.flm ++ rest) >>= λ f. read_or (24 + length j.board) (flm_of f.0) >>= λ algorithm. holds_or (24 + length j.board) (fits said algorithm) >>= λ fit. Ok (record { board_text = j.board; flm_text = f.0; board = said; algorithm = algorithm }, f.1))
+    b (is_read 24 (one_board j.board) b (one_of_read j.board b a.device is.board is.suits.region))
     ∙ bind_is (text_at d (length j.flm) (j.flm ++ rest)) (λ f. read_or (24 + length j.board) (flm_of f.0) >>= λ algorithm. holds_or (24 + length j.board) (fits b algorithm) >>= λ fit. Ok (record { board_text = j.board; flm_text = f.0; board = b; algorithm = algorithm }, f.1))
     (j.flm, rest) (text_again d j.flm rest)
     ∙ bind_is (read_or (24 + length j.board) (flm_of j.flm)) (λ algorithm. holds_or (24 + length j.board) (fits b algorithm) >>= λ fit. Ok (record { board_text = j.board; flm_text = j.flm; board = b; algorithm = algorithm }, rest))

@@ -8,4 +8,4 @@ pub mod BodyLemmas
 pub mod ClassLemmas
 mod OneClassLemmas
 pub mod PartLemmas
-mod RegionLemmas
+pub mod RegionLemmas

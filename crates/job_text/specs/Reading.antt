@@ -6,6 +6,8 @@ use Rattle.faults.specs.Results.{◌>>=◌}
 use Rattle.byte_map.specs.Image.{Run}
 use Rattle.board_file.specs.Shown as board
 use Rattle.board_file.specs.Text as board_text
+use Rattle.board_file.specs.declared.fault.BoardFault.{BoardFault}
+use Rattle.board_file.specs.declared.fault.BoardFault.TheVariants as fault
 use Rattle.flm_descriptor.specs.Shown as flm
 use Rattle.flm_descriptor.specs.Flm.{flm_of}
 use Rattle.job_text.specs.Files.{open_gate}
@@ -73,6 +75,14 @@ runs_at whole (suc n) low end bytes = do
   others ← runs_at whole n (first.0.at + length first.0.bytes + 1) end first.1
   Ok (first.0 ∷ others.0, others.1)
 
+-- the board of a text, where it has one region: the format has no other
+abbrev pub of_one_region : Result board.Shown BoardFault → Result board.Shown BoardFault
+of_one_region (Ok b) = if length b.regions == 1 then Ok b else Err fault.ManyRegions
+of_one_region (Err e) = Err e
+
+unfoldable pub one_board : List ℕ → Result board.Shown BoardFault
+one_board text = of_one_region (board_text.reading text)
+
 -- the texts of the board and of the FLM file, and what they say
 pub record Texts : Type 0 where
   pub board_text : List ℕ
@@ -83,7 +93,7 @@ pub record Texts : Type 0 where
 unfoldable pub texts_at : ℕ → Head → List ℕ → Result (Texts × List ℕ) ℕ
 texts_at whole head bytes = do
   b ← text_at whole head.board bytes
-  said ← read_or 24 (board_text.reading b.0)
+  said ← read_or 24 (one_board b.0)
   f ← text_at whole head.flm b.1
   algorithm ← read_or (24 + head.board) (flm_of f.0)
   fit ← holds_or (24 + head.board) (fits said algorithm)

@@ -1,13 +1,12 @@
 //! The texts of a board and of an FLM file in a body, and what they say.
 ghost use Rattle.std.specs.Prelude.{◌≡◌, ◌≤◌, ◌+◌, length, IfOk, IsTrue};
 ghost use Rattle.board_file.specs.Shown.{shown as board_shown};
-ghost use Rattle.board_file.specs.Text.{reading};
 ghost use Rattle.flm_descriptor.specs.Shown.{shown as flm_shown};
 ghost use Rattle.flm_descriptor.specs.Flm.{flm_of};
 ghost use Rattle.algo_loader.specs.Places.{has_room};
 ghost use Rattle.job_text.specs.Fits.{is_only_region};
 ghost use Rattle.job_text.specs.Heads.{head_of, texts_of};
-ghost use Rattle.job_text.specs.Reading.{read_or, texts_at};
+ghost use Rattle.job_text.specs.Reading.{one_board, read_or, texts_at};
 ghost use Rattle.job_text.specs.Shown.{Gives};
 
 use crate::fault::JobFault;
@@ -30,15 +29,20 @@ pub struct Said<'a> {
     pub algorithm: Algorithm,
 }
 
-/// The board that a text describes.
+/// The board with one region that a text describes.
+#[tactic(auto, unfolding(crate::specs::Reading::one_board))]
 pub fn board_in(alloc: Global, text: &[u8]) -> Result<Board, JobFault>
-    ensures { Gives board_shown result (read_or 24 (reading text.now)) }
+    ensures { Gives board_shown result (read_or 24 (one_board text.now)) }
 {
-    match read_board(alloc, text) {
-        Ok(board) => Ok(board),
-        Err(BoardFault::OutOfMemory) => Err(JobFault::OutOfMemory),
-        Err(_) => Err(JobFault::NotAJob { at: BOARD_AT }),
+    let board = match read_board(alloc, text) {
+        Ok(board) => board,
+        Err(BoardFault::OutOfMemory) => return Err(JobFault::OutOfMemory),
+        Err(_) => return Err(JobFault::NotAJob { at: BOARD_AT }),
+    };
+    if board.regions.as_slice().len() != 1 {
+        return Err(JobFault::NotAJob { at: BOARD_AT });
     }
+    Ok(board)
 }
 
 /// The algorithm of an FLM file that begins at an offset.

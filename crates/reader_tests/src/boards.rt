@@ -59,3 +59,23 @@ fn refuses_what_is_no_toml(rt: HostRuntime) {
     let fault = read_board(rt.alloc(), b"ram").err();
     assert_eq!(rt; fault, Some(BoardFault::NotToml));
 }
+
+#[test]
+fn reads_two_regions(rt: HostRuntime) -> Result<(), Fail> {
+    let regions = "{ base = 1024, sectors = [[2, 64]] }, { base = 768, sectors = [[1, 256]] }";
+    let text = board(rt.alloc(), regions, "")?;
+    let board = read_board(rt.alloc(), text.as_bytes())?;
+    let regions = board.regions.as_slice();
+    assert!(rt; regions.len() == 2);
+    assert_eq!(rt; regions[1].base, 768);
+    Ok(())
+}
+
+#[test]
+fn names_the_region_that_is_in_the_way(rt: HostRuntime) -> Result<(), Fail> {
+    let regions = "{ base = 1024, sectors = [[1, 64]] }, { base = 1084, sectors = [[1, 4]] }";
+    let fault = fault_of(rt.alloc(), regions, "")?;
+    let (a, b) = (Part::Region, Part::Region2);
+    assert_eq!(rt; fault, Some(BoardFault::Overlap { a, b }));
+    Ok(())
+}
