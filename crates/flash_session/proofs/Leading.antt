@@ -1,6 +1,8 @@
 -- Duties as the ideal device does them: from one contents to another.
-use Rattle.std.proofs.Common.{◌≡◌, ◌<◌, ◌+◌, ◌^◌, ◌∙◌, ⊎_elim, ℕ, Bool, true, false, cond, All, List, [], ◌∷◌, ◌++◌, map, length, slice_index, refl, sym, ap, subst, arith}
+use Rattle.std.proofs.Common.{◌≡◌, ◌<◌, ◌≤◌, ◌+◌, ◌-◌, ◌^◌, ◌∙◌, ⊎_elim, ℕ, Bool, true, false, cond, All, List, [], ◌∷◌, ◌++◌, map, length, take, drop, get_or, slice_index, Some, refl, sym, ap, subst, append_assoc, length-append, length-take, length-drop, arith}
 use Rattle.std.proofs.lemmas.Grind.{get_or_default_zero}
+use Rattle.std.proofs.lemmas.List.{take_at, drop_at, get_or-take, get_or-drop}
+use Rattle.std.proofs.lemmas.Bool.{cases_lt}
 use Rattle.flm_descriptor.specs.Shape.{range_at}
 use Rattle.page_geometry.specs.Layout.{In, Layout}
 use Rattle.page_geometry.specs.Ideal.{Action, EraseSector, EraseChip, ProgramPage, Acts, erasures}
@@ -8,51 +10,109 @@ use Rattle.page_geometry.proofs.TestLemmas.{cases_in}
 use Rattle.erase_planner.specs.Plans.{Leads}
 use Rattle.algo_calls.specs.Setups.{Setup}
 use Rattle.algo_calls.specs.Frames.{Request}
-use Rattle.algo_calls.specs.Duties.{Duty, Acting, Quiet, IsReady, Does, AreReady, checks, works_of, Verifies}
-use Rattle.algo_calls.proofs.IdealLemmas.{acts_length, does_same}
+use Rattle.bench_model.specs.Calls.{SameOutside}
+use Rattle.algo_calls.specs.Duties.{Site, part, Duty, Acting, Quiet, IsReady, Does, AreReady, checks, works_of, Verifies}
+use Rattle.algo_calls.proofs.IdealLemmas.{acts_length, does_same, in_three}
 
--- in turn, each with what it may count on
-unfoldable pub Led : Setup → Layout → List ℕ → List Duty → List ℕ → Type 0
-Led s l cells [] want = cells ≡ want
-Led s l cells (d ∷ rest) want = (mid : List ℕ) × Does s l cells d mid × IsReady s l cells d × Led s l mid rest want
+-- ---- other cells in a region
 
-pub led_ready : (s : Setup) (l : Layout) (ds : List Duty) (cells want : List ℕ) → Led s l cells ds want → AreReady s l cells ds
+-- these cells with other ones in the region
+abbrev pub put : Site → List ℕ → List ℕ → List ℕ
+put site x cells = take site.start cells ++ (x ++ drop (site.start + site.layout.size) cells)
+
+-- the region lies among the cells
+abbrev pub IsAmong : Site → List ℕ → Type 0
+IsAmong site cells = site.start + site.layout.size ≤ length cells
+
+pub part_long : (site : Site) (cells : List ℕ) → IsAmong site cells → length (part site cells) ≡ site.layout.size
+part_long site cells among = omega (arith, among, length-take site.layout.size (drop site.start cells), length-drop site.start cells)
+
+front_long : (site : Site) (cells : List ℕ) → IsAmong site cells → length (take site.start cells) ≡ site.start
+front_long site cells among = omega (arith, among, length-take site.start cells)
+
+pub put_part : (site : Site) (x cells : List ℕ) → IsAmong site cells → length x ≡ site.layout.size → part site (put site x cells) ≡ x
+put_part site x cells among long =
+    let rest = drop (site.start + site.layout.size) cells in
+    ap (λ (l : List ℕ). take site.layout.size l) (drop_at (take site.start cells) (x ++ rest) site.start (front_long site cells among))
+    ∙ take_at x rest site.layout.size long
+
+pub put_outside : (site : Site) (x cells : List ℕ) → IsAmong site cells → length x ≡ site.layout.size → SameOutside (Some (site.start, site.layout.size)) cells (put site x cells)
+put_outside site x cells among long =
+    let front = take site.start cells in
+    let rest = drop (site.start + site.layout.size) cells in
+    let front_is = front_long site cells among in
+    let ends : length (front ++ x) ≡ site.start + site.layout.size = omega (arith, length-append front x, front_is, long) in (
+      omega (arith, length-append front (x ++ rest), length-append x rest, front_is, long, length-drop (site.start + site.layout.size) cells, among),
+      take_at front (x ++ rest) site.start front_is,
+      ap (drop (site.start + site.layout.size)) (sym (append_assoc front x rest)) ∙ drop_at (front ++ x) rest (site.start + site.layout.size) ends,
+    )
+
+pub put_long : (site : Site) (x cells : List ℕ) → IsAmong site cells → length x ≡ site.layout.size → length (put site x cells) ≡ length cells
+put_long site x cells among long = (put_outside site x cells among long).0
+
+pub put_again : (site : Site) (x y cells : List ℕ) → IsAmong site cells → length y ≡ site.layout.size → put site x (put site y cells) ≡ put site x cells
+put_again site x y cells among long =
+    let same = put_outside site y cells among long in
+    ap (λ (l : List ℕ). l ++ (x ++ drop (site.start + site.layout.size) (put site y cells))) same.1
+    ∙ ap (λ (l : List ℕ). take site.start cells ++ (x ++ l)) same.2
+
+put_self : (site : Site) (x cells : List ℕ) → part site cells ≡ x → cells ≡ put site x cells
+put_self site x cells is = in_three site cells ∙ ap (λ (l : List ℕ). put site l cells) is
+
+-- ---- in turn, each with what it may count on
+unfoldable pub Led : Setup → Site → List ℕ → List Duty → List ℕ → Type 0
+Led s site cells [] want = cells ≡ want
+Led s site cells (d ∷ rest) want = (mid : List ℕ) × Does s site cells d mid × IsReady s site cells d × Led s site mid rest want
+
+pub led_ready : (s : Setup) (site : Site) (ds : List Duty) (cells want : List ℕ) → Led s site cells ds want → AreReady s site cells ds
 unfolding Led AreReady
-led_ready s l [] cells want led = tt
-led_ready s l (d ∷ rest) cells want led =
-    (led.2, λ x does. led_ready s l rest x want (subst (λ (c : List ℕ). Led s l c rest want) (does_same s l d cells led.0 x led.1 does) led.3))
+led_ready s site [] cells want led = tt
+led_ready s site (d ∷ rest) cells want led =
+    (led.2, λ x does. led_ready s site rest x want (subst (λ (c : List ℕ). Led s site c rest want) (does_same s site d cells led.0 x led.1 does) led.3))
 
-pub led_then : (s : Setup) (l : Layout) (xs ys : List Duty) (cells mid want : List ℕ) → Led s l cells xs mid → Led s l mid ys want → Led s l cells (xs ++ ys) want
+pub led_then : (s : Setup) (site : Site) (xs ys : List Duty) (cells mid want : List ℕ) → Led s site cells xs mid → Led s site mid ys want → Led s site cells (xs ++ ys) want
 unfolding Led
-led_then s l [] ys cells mid want one two = subst (λ (c : List ℕ). Led s l c ys want) (sym one) two
-led_then s l (d ∷ xs) ys cells mid want one two = (one.0, one.1, one.2, led_then s l xs ys one.0 mid want one.3 two)
+led_then s site [] ys cells mid want one two = subst (λ (c : List ℕ). Led s site c ys want) (sym one) two
+led_then s site (d ∷ xs) ys cells mid want one two = (one.0, one.1, one.2, led_then s site xs ys one.0 mid want one.3 two)
 
 -- one call that changes nothing
-pub led_quiet : (s : Setup) (l : Layout) (r : Request) (cells : List ℕ) → Led s l cells (Quiet r ∷ []) cells
+pub led_quiet : (s : Setup) (site : Site) (r : Request) (cells : List ℕ) → Led s site cells (Quiet r ∷ []) cells
 unfolding Led
-led_quiet s l r cells = (cells, refl, tt, refl)
+led_quiet s site r cells = (cells, refl, tt, refl)
 
-ready_action : (s : Setup) (l : Layout) (a : Action) (before x : List ℕ) → Acts l s.algorithm.device.empty before a x → IsReady s l before (Acting a)
+ready_action : (s : Setup) (site : Site) (a : Action) (before x : List ℕ) → Acts site.layout s.algorithm.device.empty (part site before) a x → IsReady s site before (Acting a)
 unfolding Acts
-ready_action s l (EraseSector k) before x acts = tt
-ready_action s l EraseChip before x acts = tt
-ready_action s l (ProgramPage k bytes) before x acts = acts.2
+ready_action s site (EraseSector k) before x acts = tt
+ready_action s site EraseChip before x acts = tt
+ready_action s site (ProgramPage k bytes) before x acts = acts.2
 
--- a plan's actions are such
-pub led_actions : (s : Setup) (l : Layout) (actions : List Action) (cells want : List ℕ) → Leads l s.algorithm.device.empty cells actions want → Led s l cells (map Acting actions) want
+-- a plan's actions are such, with the other regions' cells as they were
+pub led_actions : (s : Setup) (site : Site) (actions : List Action) (cells want : List ℕ) → IsAmong site cells → Leads site.layout s.algorithm.device.empty (part site cells) actions want
+    → Led s site cells (map Acting actions) (put site want cells)
 unfolding Leads Led
-led_actions s l [] cells want leads = leads
-led_actions s l (a ∷ rest) cells want leads = (leads.0, leads.1, ready_action s l a cells leads.0 leads.1, led_actions s l rest leads.0 want leads.2)
+led_actions s site [] cells want among leads = put_self site want cells leads
+led_actions s site (a ∷ rest) cells want among leads =
+    let long : length leads.0 ≡ site.layout.size = acts_length site.layout s.algorithm.device.empty a (part site cells) leads.0 leads.1 ∙ part_long site cells among in
+    let mid : List ℕ = put site leads.0 cells in
+    let is : part site mid ≡ leads.0 = put_part site leads.0 cells among long in
+    let does : Does s site cells (Acting a) mid = record {
+      leads = subst (λ (y : List ℕ). Acts site.layout s.algorithm.device.empty (part site cells) a y) (sym is) leads.1;
+      others = put_outside site leads.0 cells among long;
+    } in
+    let mid_among : IsAmong site mid = omega (arith, among, put_long site leads.0 cells among long) in
+    let others : Led s site mid (map Acting rest) (put site want mid) =
+    led_actions s site rest mid want mid_among (subst (λ (y : List ℕ). Leads site.layout s.algorithm.device.empty y rest want) (sym is) leads.2) in
+    (mid, does, ready_action s site a cells leads.0 leads.1, subst (λ (c : List ℕ). Led s site mid (map Acting rest) c) (put_again site want leads.0 cells among long) others)
 
-led_checks : (s : Setup) (l : Layout) (held cells : List ℕ) (bs : List Bool) (k : ℕ) → Led s l cells (checks s l held k bs) cells
+led_checks : (s : Setup) (site : Site) (held cells : List ℕ) (bs : List Bool) (k : ℕ) → Led s site cells (checks s site.layout held k bs) cells
 unfolding checks Led
-led_checks s l held cells [] k = refl
-led_checks s l held cells (true ∷ bs) k = (cells, refl, tt, led_checks s l held cells bs (k + 1))
-led_checks s l held cells (false ∷ bs) k = led_checks s l held cells bs (k + 1)
+led_checks s site held cells [] k = refl
+led_checks s site held cells (true ∷ bs) k = (cells, refl, tt, led_checks s site held cells bs (k + 1))
+led_checks s site held cells (false ∷ bs) k = led_checks s site held cells bs (k + 1)
 
-pub led_verifies : (s : Setup) (l : Layout) (held cells : List ℕ) (set : List Bool) → Led s l cells (works_of s l held (Verifies set)) cells
+pub led_verifies : (s : Setup) (site : Site) (held cells : List ℕ) (set : List Bool) → Led s site cells (works_of s site.layout held (Verifies set)) cells
 unfolding works_of
-led_verifies s l held cells set = led_checks s l held cells set 0
+led_verifies s site held cells set = led_checks s site held cells set 0
 
 -- ---- the contents between two phases
 
@@ -99,3 +159,42 @@ chip_bytes l empty cells want small leads = subst (λ (c : List ℕ). AreBytes c
 pub erased_bytes : (l : Layout) (empty : ℕ) (chip : Bool) (set : List Bool) (cells want : List ℕ) → empty < 2 ^ 8 → AreBytes cells → Leads l empty cells (cond chip (EraseChip ∷ []) (erasures 0 set)) want → AreBytes want
 erased_bytes l empty true set cells want small bytes leads = chip_bytes l empty cells want small leads
 erased_bytes l empty false set cells want small bytes leads = erasures_bytes l empty set 0 cells want small bytes leads
+
+-- ---- bytes of a region among bytes
+
+part_at : (site : Site) (cells : List ℕ) (i : ℕ) → i < site.layout.size → slice_index (part site cells) i ≡ slice_index cells (site.start + i)
+part_at site cells i less = get_or-take site.layout.size (drop site.start cells) i 0 less ∙ get_or-drop site.start cells i 0
+
+pub part_bytes : (site : Site) (cells : List ℕ) → IsAmong site cells → AreBytes cells → AreBytes (part site cells)
+part_bytes site cells among bytes = bytes_from (part site cells) (λ i less.
+    let long = part_long site cells among in
+    omega (arith, part_at site cells i (omega (arith, less, long)), byte_at cells (site.start + i) bytes (omega (arith, less, long, among))))
+
+pub put_bytes : (site : Site) (x cells : List ℕ) → IsAmong site cells → length x ≡ site.layout.size → AreBytes cells → AreBytes x → AreBytes (put site x cells)
+put_bytes site x cells among long bytes these = bytes_from y (λ i less. ⊎_elim
+    (λ (before : i < site.start).
+    omega (arith, front i before, byte_at cells i bytes (omega (arith, before, among))))
+    (λ (from : site.start ≤ i). ⊎_elim
+    (λ (under : i < site.start + site.layout.size).
+    let j : ℕ = i - site.start in
+    let at : site.start + j ≡ i = omega (arith, from) in
+    let is : slice_index x j ≡ slice_index y i = ap (λ (l : List ℕ). slice_index l j) (sym (put_part site x cells among long)) ∙ part_at site y j (omega (arith, under, from)) ∙ ap (λ (k : ℕ). slice_index y k) at in
+    omega (arith, is, byte_at x j these (omega (arith, under, from, long))))
+    (λ (past : site.start + site.layout.size ≤ i). omega (arith, behind i past, byte_at cells i bytes (omega (arith, less, put_long site x cells among long))))
+    (cases_lt i (site.start + site.layout.size)))
+    (cases_lt i site.start))
+  where
+    y : List ℕ
+    y = put site x cells
+
+    front : (i : ℕ) → i < site.start → slice_index y i ≡ slice_index cells i
+    front i before =
+        sym (get_or-take site.start y i 0 before) ∙ ap (λ (l : List ℕ). get_or l i 0) (put_outside site x cells among long).1 ∙ get_or-take site.start cells i 0 before
+
+    behind : (i : ℕ) → site.start + site.layout.size ≤ i → slice_index y i ≡ slice_index cells i
+    behind i past =
+        let n = site.start + site.layout.size in
+        let j : ℕ = i - n in
+        let e : n + j ≡ i = omega (arith, past) in
+        ap (λ (k : ℕ). slice_index y k) (sym e) ∙ sym (get_or-drop n y j 0) ∙ ap (λ (l : List ℕ). get_or l j 0) (put_outside site x cells among long).2
+        ∙ get_or-drop n cells j 0 ∙ ap (λ (k : ℕ). slice_index cells k) e

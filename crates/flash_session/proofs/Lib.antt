@@ -1,6 +1,6 @@
-mod Runs
-mod Lists
-mod Playing
+pub mod Runs
+pub mod Lists
+pub mod Playing
 mod PhaseLemmas
 mod ScriptLemmas
 mod OutcomeLemmas

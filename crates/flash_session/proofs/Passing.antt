@@ -15,7 +15,7 @@ use Rattle.algo_calls.specs.Ends.{is_done}
 use Rattle.algo_calls.specs.Setups.{Setup}
 use Rattle.algo_calls.specs.Frames.{asked, loaded, after_load, path_of, end_of, after}
 use Rattle.algo_calls.specs.Calls.{after_reset, broken_off}
-use Rattle.algo_calls.specs.Duties.{Duty, Quiet, request_of, place_of, Keeps, KeepAll}
+use Rattle.algo_calls.specs.Duties.{Site, Duty, Quiet, request_of, place_of, Keeps, KeepAll}
 use Rattle.algo_calls.proofs.IdealLemmas.{does_same, does_length}
 use Rattle.algo_calls.proofs.KeptLemmas.{kept_local, board_in, after_board}
 use Rattle.flash_session.specs.Moves.{Move, Reset, Load, Make, Stand, stand_at, Failure, failure, run, IsPointOf, IsWithin, StopLeaves, reset_to}
@@ -26,7 +26,7 @@ use Rattle.flash_session.proofs.Runs.{run_none, run_one, run_then, within_split,
 use Rattle.flash_session.proofs.Playing.{done_run}
 use Rattle.flash_session.proofs.Lists.{phase_none, phase_is}
 use Rattle.flash_session.proofs.Members.{move_of}
-use Rattle.flash_session.proofs.Leading.{Led, led_then, led_quiet}
+use Rattle.flash_session.proofs.Leading.{IsAmong, Led, led_then, led_quiet}
 
 -- ---- contents that are the same but at some places
 
@@ -35,9 +35,9 @@ abbrev pub PlaceIn : (ℕ → Type 0) → Option (ℕ × ℕ) → Type 0
 PlaceIn P None = Unit {0}
 PlaceIn P (Some place) = (i : ℕ) → place.0 ≤ i → i < place.0 + place.1 → P i
 
-abbrev pub PlacesIn : (ℕ → Type 0) → Layout → List Duty → Type 0
-PlacesIn P l [] = Unit {0}
-PlacesIn P l (d ∷ rest) = PlaceIn P (place_of l d) × PlacesIn P l rest
+abbrev pub PlacesIn : (ℕ → Type 0) → Site → List Duty → Type 0
+PlacesIn P site [] = Unit {0}
+PlacesIn P site (d ∷ rest) = PlaceIn P (place_of site d) × PlacesIn P site rest
 
 but_outside : (P : ℕ → Type 0) (o : Option (ℕ × ℕ)) (x y : List ℕ) → PlaceIn P o → SameOutside o x y → SameBut P x y
 but_outside P None x y covers same = but_none P x y same
@@ -106,9 +106,9 @@ phase_list s l kind torn moves works some is =
     ∙ ap (λ (m : List Move). Reset s torn ∷ Load s ∷ Make s (Init kind) [] ∷ (m ++ (Make s (UnInit kind) [] ∷ []))) is
     ∙ ap (λ (m : List Move). Reset s torn ∷ Load s ∷ Make s (Init kind) [] ∷ m) (sym (map-append (move_of s l) works (Quiet (asked (UnInit kind) []) ∷ [])))
 
-places_then : (P : ℕ → Type 0) (l : Layout) (xs ys : List Duty) → PlacesIn P l xs → PlacesIn P l ys → PlacesIn P l (xs ++ ys)
-places_then P l [] ys one two = two
-places_then P l (d ∷ xs) ys one two = (one.0, places_then P l xs ys one.1 two)
+places_then : (P : ℕ → Type 0) (site : Site) (xs ys : List Duty) → PlacesIn P site xs → PlacesIn P site ys → PlacesIn P site (xs ++ ys)
+places_then P site [] ys one two = two
+places_then P site (d ∷ xs) ys one two = (one.0, places_then P site xs ys one.1 two)
 
 module _ (P : ℕ → Type 0) (old : List ℕ) where
   pub passes_none : (a : Stand) (moves : List Move) (cells : List ℕ) → moves ≡ [] → state_op a.world.state ≡ None → a.world.cells ≡ cells → SameBut P old cells → Passes P a moves cells old
@@ -143,42 +143,45 @@ module _ (P : ℕ → Type 0) (old : List ℕ) where
 
   -- ---- a call that keeps its duty
 
-  call_runs : (s : Setup) (l : Layout) (a : Stand) (d : Duty) → Keeps s l a.world d → run a (move_of s l d ∷ []) ≡ Ok (stand_at (a.calls + 1) (after s a.world (request_of s l d)))
-  call_runs s l a d keeps =
-      let r = request_of s l d in
+  still_among : (site : Site) (x y : List ℕ) → IsAmong site x → length y ≡ length x → IsAmong site y
+  still_among site x y among same = omega (arith, among, same)
+
+  call_runs : (s : Setup) (site : Site) (a : Stand) (d : Duty) → Keeps s site a.world d → run a (move_of s site.layout d ∷ []) ≡ Ok (stand_at (a.calls + 1) (after s a.world (request_of s site.layout d)))
+  call_runs s site a d keeps =
+      let r = request_of s site.layout d in
       let b = stand_at (a.calls + 1) (after s a.world r) in
-      run_one a (move_of s l d)
+      run_one a (move_of s site.layout d)
       ∙ done_run (is_done (end_of s a.world r)) b b (failure (a.calls + 1) r.call (end_of s a.world r) (after s a.world r)) (ap is_done keeps.done) refl
 
-  call_local : (s : Setup) (l : Layout) (a : Stand) (d : Duty) → IsLayout l → length a.world.cells ≡ l.size → PlaceIn P (place_of l d) → SameBut P old a.world.cells → Keeps s l a.world d → Local P a (move_of s l d ∷ []) old
-  call_local s l a d good long covers start keeps w at c left =
-      let r = request_of s l d in
-      let of : IsPointOf (path_of s a.world r) w = one_point a (move_of s l d) w at in
+  call_local : (s : Setup) (site : Site) (a : Stand) (d : Duty) → IsLayout site.layout → IsAmong site a.world.cells → PlaceIn P (place_of site d) → SameBut P old a.world.cells → Keeps s site a.world d → Local P a (move_of s site.layout d ∷ []) old
+  call_local s site a d good long covers start keeps w at c left =
+      let r = request_of s site.layout d in
+      let of : IsPointOf (path_of s a.world r) w = one_point a (move_of s site.layout d) w at in
       let on : IsLeftOn (path_of s a.world r) c = record { number = of.number; within = of.within; left = subst (λ (x : World). StopLeaves x c) of.is left } in
-      but_then P old a.world.cells c start (but_outside P (place_of l d) a.world.cells c covers (kept_local s l a.world d good long keeps c on))
+      but_then P old a.world.cells c start (but_outside P (place_of site d) a.world.cells c covers (kept_local s site a.world d good long keeps c on))
 
-  call_same : (s : Setup) (l : Layout) (a : Stand) (d : Duty) → IsLayout l → length a.world.cells ≡ l.size → PlaceIn P (place_of l d) → SameBut P old a.world.cells → Keeps s l a.world d
-      → SameBut P old (after s a.world (request_of s l d)).cells
+  call_same : (s : Setup) (site : Site) (a : Stand) (d : Duty) → IsLayout site.layout → IsAmong site a.world.cells → PlaceIn P (place_of site d) → SameBut P old a.world.cells → Keeps s site a.world d
+      → SameBut P old (after s a.world (request_of s site.layout d)).cells
   unfolding after
-  call_same s l a d good long covers start keeps =
-      let r = request_of s l d in
+  call_same s site a d good long covers start keeps =
+      let r = request_of s site.layout d in
       let last : World = (point (path_of s a.world r).first (path_of s a.world r).last).world in
       let on : IsLeftOn (path_of s a.world r) last.cells = record { number = (path_of s a.world r).last; within = omega arith; left = outside_here (state_op last.state) last.cells } in
-      but_then P old a.world.cells last.cells start (but_outside P (place_of l d) a.world.cells last.cells covers (kept_local s l a.world d good long keeps last.cells on))
+      but_then P old a.world.cells last.cells start (but_outside P (place_of site d) a.world.cells last.cells covers (kept_local s site a.world d good long keeps last.cells on))
 
   -- calls in turn that keep their duties, which lead the ideal device to some contents
-  pub passes_duties : (s : Setup) (l : Layout) (good : IsLayout l) (ds : List Duty) (a : Stand) (want : List ℕ) → length a.world.cells ≡ l.size → state_op a.world.state ≡ None → KeepAll s l a.world ds → Led s l a.world.cells ds want
-      → PlacesIn P l ds → SameBut P old a.world.cells → Passes P a (map (move_of s l) ds) want old
+  pub passes_duties : (s : Setup) (site : Site) (good : IsLayout site.layout) (ds : List Duty) (a : Stand) (want : List ℕ) → IsAmong site a.world.cells → state_op a.world.state ≡ None → KeepAll s site a.world ds → Led s site a.world.cells ds want
+      → PlacesIn P site ds → SameBut P old a.world.cells → Passes P a (map (move_of s site.layout) ds) want old
   unfolding KeepAll Led
-  passes_duties s l good [] a want long idle keep led covers start = passes_none a [] want refl idle led (subst (λ (c : List ℕ). SameBut P old c) led start)
-  passes_duties s l good (d ∷ rest) a want long idle keep led covers start =
-      let r = request_of s l d in
+  passes_duties s site good [] a want long idle keep led covers start = passes_none a [] want refl idle led (subst (λ (c : List ℕ). SameBut P old c) led start)
+  passes_duties s site good (d ∷ rest) a want long idle keep led covers start =
+      let r = request_of s site.layout d in
       let b = stand_at (a.calls + 1) (after s a.world r) in
-      let is : led.0 ≡ b.world.cells = does_same s l d a.world.cells led.0 b.world.cells led.1 keep.0.leaves in
-      passes_on a b (move_of s l d ∷ []) (map (move_of s l) rest) want (call_runs s l a d keep.0) (after_board s a.world r)
-      (call_local s l a d good long covers.0 start keep.0)
-      (passes_duties s l good rest b want (does_length s l d a.world.cells b.world.cells keep.0.leaves ∙ long) keep.0.idle keep.1 (subst (λ (c : List ℕ). Led s l c rest want) is led.3) covers.1
-      (call_same s l a d good long covers.0 start keep.0))
+      let is : led.0 ≡ b.world.cells = does_same s site d a.world.cells led.0 b.world.cells led.1 keep.0.leaves in
+      passes_on a b (move_of s site.layout d ∷ []) (map (move_of s site.layout) rest) want (call_runs s site a d keep.0) (after_board s a.world r)
+      (call_local s site a d good long covers.0 start keep.0)
+      (passes_duties s site good rest b want (still_among site a.world.cells b.world.cells long (does_length s site d a.world.cells b.world.cells keep.0.leaves)) keep.0.idle keep.1 (subst (λ (c : List ℕ). Led s site c rest want) is led.3) covers.1
+      (call_same s site a d good long covers.0 start keep.0))
 
   -- ---- resets and loads with no operation open
 
@@ -225,18 +228,18 @@ module _ (P : ℕ → Type 0) (old : List ℕ) where
       (passes_then a (Reset s torn ∷ []) (Load s ∷ []) a.world.cells a.world.cells (passes_reset s a torn idle start)
       (λ b quiet is board. subst (λ (c : List ℕ). Passes P b (Load s ∷ []) c old) is (passes_load s b quiet (subst (λ (c : List ℕ). SameBut P old c) (sym is) start)))).local
 
-  pub passes_phase : (s : Setup) (l : Layout) (good : IsLayout l) (kind : ℕ) (torn : List ℕ) (moves : List Move) (works : List Duty) (a : Stand) (want : List ℕ) → moves ≡ map (move_of s l) works
-      → length a.world.cells ≡ l.size → state_op a.world.state ≡ None → ((works ≡ [] → ⊥) → KeepAll s l (begun s a.world) (whole_phase kind works)) → Led s l a.world.cells works want
-      → PlacesIn P l works → SameBut P old a.world.cells → Passes P a (phase s kind torn moves) want old
+  pub passes_phase : (s : Setup) (site : Site) (good : IsLayout site.layout) (kind : ℕ) (torn : List ℕ) (moves : List Move) (works : List Duty) (a : Stand) (want : List ℕ) → moves ≡ map (move_of s site.layout) works
+      → IsAmong site a.world.cells → state_op a.world.state ≡ None → ((works ≡ [] → ⊥) → KeepAll s site (begun s a.world) (whole_phase kind works)) → Led s site a.world.cells works want
+      → PlacesIn P site works → SameBut P old a.world.cells → Passes P a (phase s kind torn moves) want old
   unfolding Led
-  passes_phase s l good kind torn moves [] a want is long idle keep led covers start =
+  passes_phase s site good kind torn moves [] a want is long idle keep led covers start =
       passes_none a (phase s kind torn moves) want (phase_none s kind torn moves is) idle led (subst (λ (c : List ℕ). SameBut P old c) led start)
-  passes_phase s l good kind torn moves (x ∷ rest) a want is long idle keep led covers start =
+  passes_phase s site good kind torn moves (x ∷ rest) a want is long idle keep led covers start =
       let works : List Duty = x ∷ rest in
       let some : moves ≡ [] → ⊥ = λ e. (cc) in
-      let all : Led s l a.world.cells (whole_phase kind works) want =
-      (a.world.cells, refl, tt, led_then s l works (Quiet (asked (UnInit kind) []) ∷ []) a.world.cells want want led (led_quiet s l (asked (UnInit kind) []) want)) in
-      subst (λ (m : List Move). Passes P a m want old) (sym (phase_list s l kind torn moves works some is))
-      (passes_on a (stand_at a.calls (begun s a.world)) (Reset s torn ∷ Load s ∷ []) (map (move_of s l) (whole_phase kind works)) want (opens s a torn idle) refl (opening_local s a torn idle start)
-      (passes_duties s l good (whole_phase kind works) (stand_at a.calls (begun s a.world)) want long refl (keep (λ e. cc)) all
-      (tt, places_then P l works (Quiet (asked (UnInit kind) []) ∷ []) covers (tt, tt)) start))
+      let all : Led s site a.world.cells (whole_phase kind works) want =
+      (a.world.cells, refl, tt, led_then s site works (Quiet (asked (UnInit kind) []) ∷ []) a.world.cells want want led (led_quiet s site (asked (UnInit kind) []) want)) in
+      subst (λ (m : List Move). Passes P a m want old) (sym (phase_list s site.layout kind torn moves works some is))
+      (passes_on a (stand_at a.calls (begun s a.world)) (Reset s torn ∷ Load s ∷ []) (map (move_of s site.layout) (whole_phase kind works)) want (opens s a torn idle) refl (opening_local s a torn idle start)
+      (passes_duties s site good (whole_phase kind works) (stand_at a.calls (begun s a.world)) want long refl (keep (λ e. cc)) all
+      (tt, places_then P site works (Quiet (asked (UnInit kind) []) ∷ []) covers (tt, tt)) start))

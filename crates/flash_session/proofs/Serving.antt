@@ -1,5 +1,7 @@
 -- Where the algorithm keeps its duties, a script goes to its goal, and leaves what lies outside its plan.
-use Rattle.std.proofs.Common.{◌≡◌, ◌<◌, ◌≤◌, ◌+◌, ◌^◌, ◌∙◌, ⊎_elim, inl, inr, ℕ, suc, Bool, true, false, cond, is_some, List, [], ◌∷◌, ◌++◌, map, length, get_or, None, refl, sym, ap, subst, arith}
+use Rattle.std.proofs.Common.{◌≡◌, ◌<◌, ◌≤◌, ◌+◌, ◌-◌, ◌^◌, ◌∙◌, ⊎_elim, inl, inr, ℕ, suc, Bool, true, false, cond, is_some, List, [], ◌∷◌, ◌++◌, map, length, get_or, None, refl, sym, ap, subst, append_assoc, arith}
+use Rattle.std.proofs.lemmas.Bool.{cases_lt}
+use Rattle.std.proofs.lemmas.List.{append-nil, drop_all, get_or_past}
 use Rattle.std.proofs.lemmas.List.FromFn.{length-map-range_with_len}
 use Rattle.bench_model.specs.State.{BenchState, cells_half}
 use Rattle.bench_model.specs.History.{Leaves}
@@ -19,7 +21,8 @@ use Rattle.target_core.specs.Units.{OfFc1, state_op}
 use Rattle.target_core.specs.World.{World}
 use Rattle.algo_calls.specs.Setups.{Setup, setup_of}
 use Rattle.algo_calls.specs.Frames.{loaded}
-use Rattle.algo_calls.specs.Duties.{Acting, span, KeepAll, Phase, Erases, ErasesChip, Programs, Verifies, kind_of, checks, works_of, MayAsk, device_of, ready, Serves}
+use Rattle.algo_calls.specs.Duties.{Site, part, Acting, span, KeepAll, Phase, Erases, ErasesChip, Programs, Verifies, kind_of, checks, works_of, MayAsk, device_of, ready, site_of, Serves}
+use Rattle.algo_calls.proofs.IdealLemmas.{part_whole}
 use Rattle.algo_calls.proofs.KeptLemmas.{board_in}
 use Rattle.flash_session.specs.declared.ending.SessionEnd.{SessionEnd}
 use Rattle.flash_session.specs.declared.ending.SessionEnd.TheVariants as end
@@ -31,7 +34,7 @@ use Rattle.flash_session.proofs.OutcomeLemmas.{differs_somewhere, one_cells, not
 use Rattle.flash_session.proofs.Lists.{phase_none}
 use Rattle.flash_session.proofs.LocalLemmas.{but_none}
 use Rattle.flash_session.proofs.Members.{move_of, erasing_phase, erase_list, program_list, check_list}
-use Rattle.flash_session.proofs.Leading.{Led, led_ready, led_actions, led_verifies, leads_split, leads_length, AreBytes, erased_bytes}
+use Rattle.flash_session.proofs.Leading.{IsAmong, put, part_long, put_part, put_long, put_again, Led, led_ready, led_actions, led_verifies, leads_split, leads_length, AreBytes, erased_bytes, part_bytes, put_bytes}
 use Rattle.flash_session.proofs.Passing.{PlacesIn, Passes, passes_none, passes_then, passes_reset, passes_phase, begun, whole_phase, idle_local}
 
 -- ---- the sets of a plan
@@ -62,60 +65,108 @@ chip_first l want plan is = rw is refl
 
 -- ---- where a phase works
 
-in_span : (r : Range) (i : ℕ) → (span r).0 ≤ i → i < (span r).0 + (span r).1 → In i r
-in_span r i from below = (from, omega (arith, from, below))
+-- a number in a set is one of the set's length
+below_length : (bs : List Bool) (k : ℕ) → get_or bs k false ≡ true → k < length bs
+below_length bs k is = ⊎_elim
+    (λ (less : k < length bs). less)
+    (λ (le : length bs ≤ k). let none : false ≡ true = sym (get_or_past bs k false le) ∙ is in absurd cc)
+    (cases_lt k (length bs))
 
-sector_places : (P : ℕ → Type 0) (l : Layout) (bs : List Bool) (k : ℕ) → ((j : ℕ) → get_or bs j false ≡ true → (i : ℕ) → In i (range_at l.sectors (k + j)) → P i) → PlacesIn P l (map Acting (erasures k bs))
+-- the place is one of a region whose cells begin at this one, and is in its plan
+pub record IsInRegionPlan (start : ℕ) (l : Layout) (plan : Chosen) (i : ℕ) : Type 0 where
+  pub at : ℕ
+  pub is : i ≡ start + at
+  pub inside : at < l.size
+  pub planned : IsInPlan l plan at
+
+-- these places are all of those of a plan of a region
+abbrev pub Covers : (ℕ → Type 0) → Site → Chosen → Type 0
+Covers P site plan = (i : ℕ) → IsInRegionPlan site.start site.layout plan i → P i
+
+in_span : (site : Site) (r : Range) (i : ℕ) → (span site r).0 ≤ i → i < (span site r).0 + (span site r).1 → In (i - site.start) r × (i ≡ site.start + (i - site.start))
+in_span site r i from below = ((omega (arith, from), omega (arith, from, below)), omega (arith, from))
+
+sector_places : (P : ℕ → Type 0) (site : Site) (bs : List Bool) (k : ℕ)
+    → ((j : ℕ) → get_or bs j false ≡ true → (i : ℕ) → In i (range_at site.layout.sectors (k + j)) → P (site.start + i)) → PlacesIn P site (map Acting (erasures k bs))
 unfolding erasures
-sector_places P l [] k all = tt
-sector_places P l (true ∷ bs) k all = (
-  (λ i from below. all 0 refl i (let z : k ≡ k + 0 = omega arith in subst (λ (n : ℕ). In i (range_at l.sectors n)) z (in_span (range_at l.sectors k) i from below))),
-  sector_places P l bs (k + 1) (λ j is i h. all (suc j) is i (let z : k + 1 + j ≡ k + suc j = omega arith in subst (λ (n : ℕ). In i (range_at l.sectors n)) z h)),
+sector_places P site [] k all = tt
+sector_places P site (true ∷ bs) k all = (
+  (λ i from below.
+      let in_ = in_span site (range_at site.layout.sectors k) i from below in
+      let z : k ≡ k + 0 = omega arith in
+      subst P (sym in_.1) (all 0 refl (i - site.start) (subst (λ (n : ℕ). In (i - site.start) (range_at site.layout.sectors n)) z in_.0))),
+  sector_places P site bs (k + 1) (λ j is i h. all (suc j) is i (let z : k + 1 + j ≡ k + suc j = omega arith in subst (λ (n : ℕ). In i (range_at site.layout.sectors n)) z h)),
 )
-sector_places P l (false ∷ bs) k all = sector_places P l bs (k + 1) (λ j is i h. all (suc j) is i (let z : k + 1 + j ≡ k + suc j = omega arith in subst (λ (n : ℕ). In i (range_at l.sectors n)) z h))
+sector_places P site (false ∷ bs) k all = sector_places P site bs (k + 1) (λ j is i h. all (suc j) is i (let z : k + 1 + j ≡ k + suc j = omega arith in subst (λ (n : ℕ). In i (range_at site.layout.sectors n)) z h))
 
-page_places : (P : ℕ → Type 0) (l : Layout) (goal : List ℕ) (bs : List Bool) (k : ℕ) → ((j : ℕ) → get_or bs j false ≡ true → (i : ℕ) → In i (range_at l.pages (k + j)) → P i) → PlacesIn P l (map Acting (writes l goal k bs))
+page_places : (P : ℕ → Type 0) (site : Site) (goal : List ℕ) (bs : List Bool) (k : ℕ)
+    → ((j : ℕ) → get_or bs j false ≡ true → (i : ℕ) → In i (range_at site.layout.pages (k + j)) → P (site.start + i)) → PlacesIn P site (map Acting (writes site.layout goal k bs))
 unfolding writes
-page_places P l goal [] k all = tt
-page_places P l goal (true ∷ bs) k all = (
-  (λ i from below. all 0 refl i (let z : k ≡ k + 0 = omega arith in subst (λ (n : ℕ). In i (range_at l.pages n)) z (in_span (range_at l.pages k) i from below))),
-  page_places P l goal bs (k + 1) (λ j is i h. all (suc j) is i (let z : k + 1 + j ≡ k + suc j = omega arith in subst (λ (n : ℕ). In i (range_at l.pages n)) z h)),
+page_places P site goal [] k all = tt
+page_places P site goal (true ∷ bs) k all = (
+  (λ i from below.
+      let in_ = in_span site (range_at site.layout.pages k) i from below in
+      let z : k ≡ k + 0 = omega arith in
+      subst P (sym in_.1) (all 0 refl (i - site.start) (subst (λ (n : ℕ). In (i - site.start) (range_at site.layout.pages n)) z in_.0))),
+  page_places P site goal bs (k + 1) (λ j is i h. all (suc j) is i (let z : k + 1 + j ≡ k + suc j = omega arith in subst (λ (n : ℕ). In i (range_at site.layout.pages n)) z h)),
 )
-page_places P l goal (false ∷ bs) k all = page_places P l goal bs (k + 1) (λ j is i h. all (suc j) is i (let z : k + 1 + j ≡ k + suc j = omega arith in subst (λ (n : ℕ). In i (range_at l.pages n)) z h))
+page_places P site goal (false ∷ bs) k all = page_places P site goal bs (k + 1) (λ j is i h. all (suc j) is i (let z : k + 1 + j ≡ k + suc j = omega arith in subst (λ (n : ℕ). In i (range_at site.layout.pages n)) z h))
 
-check_places : (P : ℕ → Type 0) (s : Setup) (l : Layout) (held : List ℕ) (bs : List Bool) (k : ℕ) → PlacesIn P l (checks s l held k bs)
+check_places : (P : ℕ → Type 0) (s : Setup) (site : Site) (held : List ℕ) (bs : List Bool) (k : ℕ) → PlacesIn P site (checks s site.layout held k bs)
 unfolding checks
-check_places P s l held [] k = tt
-check_places P s l held (true ∷ bs) k = (tt, check_places P s l held bs (k + 1))
-check_places P s l held (false ∷ bs) k = check_places P s l held bs (k + 1)
+check_places P s site held [] k = tt
+check_places P s site held (true ∷ bs) k = (tt, check_places P s site held bs (k + 1))
+check_places P s site held (false ∷ bs) k = check_places P s site held bs (k + 1)
 
-erasing_places : (s : Setup) (l : Layout) (plan : Chosen) (cells : List ℕ) (chip : Bool) → (chip ≡ true → plan.chip ≡ true)
-    → PlacesIn (IsInPlan l plan) l (works_of s l cells (cond chip ErasesChip (Erases plan.sectors)))
-unfolding works_of
-erasing_places s l plan cells true is = ((λ i from below. inl (is refl)), tt)
-erasing_places s l plan cells false is = sector_places (IsInPlan l plan) l plan.sectors 0
-    (λ k in_set i h. inr (inl (k, in_set, (let z : 0 + k ≡ k = omega arith in subst (λ (n : ℕ). In i (range_at l.sectors n)) z h))))
+-- a place of a sector or page that is in the plan
+in_sector : (P : ℕ → Type 0) (site : Site) (plan : Chosen) → IsLayout site.layout → length plan.sectors ≡ length site.layout.sectors → Covers P site plan
+    → (k : ℕ) → get_or plan.sectors k false ≡ true → (i : ℕ) → In i (range_at site.layout.sectors k) → P (site.start + i)
+in_sector P site plan good long covers k is i h =
+    let less : k < length site.layout.sectors = omega (arith, below_length plan.sectors k is, long) in
+    covers (site.start + i) (record { at = i; is = refl; inside = omega (arith, h.1, good.sectors_part.below k less); planned = inr (inl (k, is, h)) })
 
-programming_places : (s : Setup) (l : Layout) (plan : Chosen) (cells goal : List ℕ) → PlacesIn (IsInPlan l plan) l (works_of s l cells (Programs plan.pages goal))
-unfolding works_of
-programming_places s l plan cells goal = page_places (IsInPlan l plan) l goal plan.pages 0
-    (λ k in_set i h. inr (inr (k, in_set, (let z : 0 + k ≡ k = omega arith in subst (λ (n : ℕ). In i (range_at l.pages n)) z h))))
+in_page : (P : ℕ → Type 0) (site : Site) (plan : Chosen) → IsLayout site.layout → length plan.pages ≡ length site.layout.pages → Covers P site plan
+    → (k : ℕ) → get_or plan.pages k false ≡ true → (i : ℕ) → In i (range_at site.layout.pages k) → P (site.start + i)
+in_page P site plan good long covers k is i h =
+    let less : k < length site.layout.pages = omega (arith, below_length plan.pages k is, long) in
+    covers (site.start + i) (record { at = i; is = refl; inside = omega (arith, h.1, good.pages_part.below k less); planned = inr (inr (k, is, h)) })
 
-verifying_places : (P : ℕ → Type 0) (s : Setup) (l : Layout) (held : List ℕ) (set : List Bool) → PlacesIn P l (works_of s l held (Verifies set))
+from_zero : (rs : List Range) (i k : ℕ) → In i (range_at rs (0 + k)) → In i (range_at rs k)
+from_zero rs i k h = let z : 0 + k ≡ k = omega arith in subst (λ (n : ℕ). In i (range_at rs n)) z h
+
+erasing_places : (P : ℕ → Type 0) (s : Setup) (site : Site) (plan : Chosen) (held : List ℕ) (chip : Bool) → IsLayout site.layout → length plan.sectors ≡ length site.layout.sectors → Covers P site plan
+    → (chip ≡ true → plan.chip ≡ true) → PlacesIn P site (works_of s site.layout held (cond chip ErasesChip (Erases plan.sectors)))
 unfolding works_of
-verifying_places P s l held set = check_places P s l held set 0
+erasing_places P s site plan held true good long covers is = (
+  (λ i from below. covers i (record { at = i - site.start; is = omega (arith, from); inside = omega (arith, from, below); planned = inl (is refl) })),
+  tt,
+)
+erasing_places P s site plan held false good long covers is =
+    sector_places P site plan.sectors 0 (λ k in_set i h. in_sector P site plan good long covers k in_set i (from_zero site.layout.sectors i k h))
+
+programming_places : (P : ℕ → Type 0) (s : Setup) (site : Site) (plan : Chosen) (held goal : List ℕ) → IsLayout site.layout → length plan.pages ≡ length site.layout.pages → Covers P site plan
+    → PlacesIn P site (works_of s site.layout held (Programs plan.pages goal))
+unfolding works_of
+programming_places P s site plan held goal good long covers =
+    page_places P site goal plan.pages 0 (λ k in_set i h. in_page P site plan good long covers k in_set i (from_zero site.layout.pages i k h))
+
+verifying_places : (P : ℕ → Type 0) (s : Setup) (site : Site) (held : List ℕ) (set : List Bool) → PlacesIn P site (works_of s site.layout held (Verifies set))
+unfolding works_of
+verifying_places P s site held set = check_places P s site held set 0
 
 -- ---- what the phases of a plan lead to
 
-erasing_led : (s : Setup) (l : Layout) (cells mid : List ℕ) (chip : Bool) (set : List Bool) → Leads l s.algorithm.device.empty cells (cond chip (act.EraseChip ∷ []) (erasures 0 set)) mid
-    → Led s l cells (works_of s l cells (cond chip ErasesChip (Erases set))) mid
+erasing_led : (s : Setup) (site : Site) (cells mid : List ℕ) (chip : Bool) (set : List Bool) → IsAmong site cells
+    → Leads site.layout s.algorithm.device.empty (part site cells) (cond chip (act.EraseChip ∷ []) (erasures 0 set)) mid
+    → Led s site cells (works_of s site.layout (part site cells) (cond chip ErasesChip (Erases set))) (put site mid cells)
 unfolding works_of
-erasing_led s l cells mid true set leads = led_actions s l (act.EraseChip ∷ []) cells mid leads
-erasing_led s l cells mid false set leads = led_actions s l (erasures 0 set) cells mid leads
+erasing_led s site cells mid true set among leads = led_actions s site (act.EraseChip ∷ []) cells mid among leads
+erasing_led s site cells mid false set among leads = led_actions s site (erasures 0 set) cells mid among leads
 
-programming_led : (s : Setup) (l : Layout) (cells goal : List ℕ) (set : List Bool) → Leads l s.algorithm.device.empty cells (writes l goal 0 set) goal → Led s l cells (works_of s l cells (Programs set goal)) goal
+programming_led : (s : Setup) (site : Site) (cells goal : List ℕ) (set : List Bool) → IsAmong site cells → Leads site.layout s.algorithm.device.empty (part site cells) (writes site.layout goal 0 set) goal
+    → Led s site cells (works_of s site.layout (part site cells) (Programs set goal)) (put site goal cells)
 unfolding works_of
-programming_led s l cells goal set leads = led_actions s l (writes l goal 0 set) cells goal leads
+programming_led s site cells goal set among leads = led_actions s site (writes site.layout goal 0 set) cells goal among leads
 
 split_actions : (l : Layout) (goal : List ℕ) (plan : Chosen) → actions_of l goal plan ≡ cond plan.chip (act.EraseChip ∷ []) (erasures 0 plan.sectors) ++ writes l goal 0 plan.pages
 unfolding actions_of
@@ -129,14 +180,152 @@ erasing_kind : (chip : Bool) (set : List Bool) → kind_of (cond chip ErasesChip
 erasing_kind true set = refl
 erasing_kind false set = refl
 
-script_is : (s : Setup) (t : Errand) (b : Broken) → script s t b ≡ phase s 1 b.erase (erase_moves s t.planned) ++ (phase s 2 b.program (page_moves false s t) ++ (phase s 3 b.verify (verify_moves s t) ++ (Reset s b.last ∷ [])))
+-- the calls of a plan, without the last reset
+abbrev phases : Setup → Errand → Broken → List Move
+phases s t b = phase s 1 b.erase (erase_moves s t.planned) ++ (phase s 2 b.program (page_moves false s t) ++ phase s 3 b.verify (verify_moves s t))
+
+script_is : (s : Setup) (t : Errand) (b : Broken) → script s t b ≡ phases s t b ++ Reset s b.last ∷ []
 unfolding script
-script_is s t b = refl
+script_is s t b =
+    let first = phase s 1 b.erase (erase_moves s t.planned) in
+    let second = phase s 2 b.program (page_moves false s t) in
+    let third = phase s 3 b.verify (verify_moves s t) in
+    let last : List Move = Reset s b.last ∷ [] in
+    ap (λ (m : List Move). first ++ m) (sym (append_assoc second third last)) ∙ sym (append_assoc first (second ++ third) last)
 
--- ---- a plan on cells of which an algorithm keeps its duties
+-- ---- a region's plan on cells of which its algorithm keeps its duties
 
+-- the cells are those before the region's first call, and the goal is the region's
+pub record IsRegionServed (b : BoardShown) (region : ℕ) (a : AlgorithmShown) (w : Weights) (plan : Chosen) (goal cells : List ℕ) : Type 0 where
+  pub serves : Serves b a region
+  pub lawful : IsLayout (device_of a)
+  pub count : length cells ≡ cells_in (board_map b).areas
+  pub among : IsAmong (site_of b a region) cells
+  pub goal_size : length goal ≡ (device_of a).size
+  pub empty : a.device.empty < 2 ^ 8
+  pub bytes : AreBytes cells
+  pub goal_bytes : AreBytes goal
+  pub least : IsLeastPlan (device_of a) w (is_some a.entries.erase_chip) a.device.empty (part (site_of b a region) cells) goal plan
+
+module _ (P : ℕ → Type 0) (old : List ℕ) (b : BoardShown) (region : ℕ) (a : AlgorithmShown) (w : Weights) (plan : Chosen) (goal cells : List ℕ) (is : IsRegionServed b region a w plan goal cells)
+    (covers : Covers P (site_of b a region) plan) where
+  abbrev here : Site
+  here = site_of b a region
+
+  abbrev mine : List ℕ
+  mine = part here cells
+
+  begun_is : (x : World) → board_in x ≡ (b.ram_base, board_map b) → begun (setup_of a b) x ≡ ready b a x.cells
+  begun_is x same = ap (λ (p : ℕ × Map). let y : World = record { ram_base = p.0; ram = loaded (setup_of a b); map = p.1; state = OfFc1 idle_state; cells = x.cells } in y) same
+
+  -- a phase over these cells
+  work_here : (kind : Phase) (x : Stand) (torn : List ℕ) (moves : List Move) (want : List ℕ) → board_in x.world ≡ (b.ram_base, board_map b) → state_op x.world.state ≡ None
+      → moves ≡ map (move_of (setup_of a b) (device_of a)) (works_of (setup_of a b) (device_of a) (part here x.world.cells) kind) → length x.world.cells ≡ length cells → AreBytes x.world.cells
+      → MayAsk (setup_of a b) (device_of a) kind → Led (setup_of a b) here x.world.cells (works_of (setup_of a b) (device_of a) (part here x.world.cells) kind) want
+      → PlacesIn P here (works_of (setup_of a b) (device_of a) (part here x.world.cells) kind) → SameBut P old x.world.cells
+      → Passes P x (phase (setup_of a b) (kind_of kind) torn moves) want old
+  work_here kind x torn moves want board idle list long bytes may led places start =
+      let s = setup_of a b in
+      let works = works_of s (device_of a) (part here x.world.cells) kind in
+      passes_phase P old s here is.lawful (kind_of kind) torn moves works x want list (omega (arith, is.among, long)) idle
+      (λ some. subst (λ (v : World). KeepAll s here v (whole_phase (kind_of kind) works)) (sym (begun_is x.world board))
+      (is.serves.keeps x.world.cells kind (long ∙ is.count) bytes may some (led_ready s here works x.world.cells want led)))
+      led places start
+
+  work : (kind : Phase) (x : Stand) (torn : List ℕ) (moves : List Move) (want now held : List ℕ) → x.world.cells ≡ now → part here now ≡ held → board_in x.world ≡ (b.ram_base, board_map b) → state_op x.world.state ≡ None
+      → moves ≡ map (move_of (setup_of a b) (device_of a)) (works_of (setup_of a b) (device_of a) held kind) → length now ≡ length cells → AreBytes now
+      → MayAsk (setup_of a b) (device_of a) kind → Led (setup_of a b) here now (works_of (setup_of a b) (device_of a) held kind) want
+      → PlacesIn P here (works_of (setup_of a b) (device_of a) held kind) → SameBut P old now
+      → Passes P x (phase (setup_of a b) (kind_of kind) torn moves) want old
+  work kind x torn moves want now held same part_is board idle list long bytes may led places start =
+      let s = setup_of a b in
+      let l = device_of a in
+      let held_is : held ≡ part here x.world.cells = sym part_is ∙ ap (part here) (sym same) in
+      work_here kind x torn moves want board idle
+      (subst (λ (c : List ℕ). moves ≡ map (move_of s l) (works_of s l c kind)) held_is list)
+      (ap (λ (c : List ℕ). length c) same ∙ long)
+      (subst (λ (c : List ℕ). AreBytes c) (sym same) bytes) may
+      (subst (λ (c : List ℕ). Led s here x.world.cells (works_of s l c kind) want) held_is (subst (λ (c : List ℕ). Led s here c (works_of s l held kind) want) (sym same) led))
+      (subst (λ (c : List ℕ). PlacesIn P here (works_of s l c kind)) held_is places)
+      (subst (λ (c : List ℕ). SameBut P old c) (sym same) start)
+
+  pages_long : length plan.pages ≡ length (device_of a).pages
+  pages_long = ap (λ (p : Chosen). length p.pages) is.least.chosen ∙ chosen_pages (device_of a) w (is_some a.entries.erase_chip) a.device.empty mine goal
+
+  sectors_long : length plan.sectors ≡ length (device_of a).sectors
+  sectors_long = ap (λ (p : Chosen). length p.sectors) is.least.chosen ∙ chosen_sectors (device_of a) w (is_some a.entries.erase_chip) a.device.empty mine goal
+
+  abbrev region_errand : Errand
+  region_errand = errand (device_of a) a.device.base plan goal
+
+  abbrev reached : List ℕ
+  reached = put here goal cells
+
+  reached_long : length reached ≡ length cells
+  reached_long = put_long here goal cells is.among is.goal_size
+
+  check_passes : (d : Bool) (x : Stand) (torn : List ℕ) → d ≡ has_verify (setup_of a b) → x.world.cells ≡ reached → board_in x.world ≡ (b.ram_base, board_map b) → state_op x.world.state ≡ None → SameBut P old reached
+      → Passes P x (phase (setup_of a b) 3 torn (cond d (page_moves true (setup_of a b) region_errand) [])) reached old
+  check_passes true x torn entry same board idle start =
+      let s = setup_of a b in
+      let l = device_of a in
+      work (Verifies plan.pages) x torn (page_moves true s region_errand) reached reached goal same (put_part here goal cells is.among is.goal_size) board idle
+      (check_list s l plan goal is.lawful is.goal_size pages_long) reached_long (put_bytes here goal cells is.among is.goal_size is.bytes is.goal_bytes)
+      (pages_long, sym entry) (led_verifies s here goal reached plan.pages) (verifying_places P s here goal plan.pages) start
+  check_passes false x torn entry same board idle start = passes_none P old x (phase (setup_of a b) 3 torn []) reached (phase_none (setup_of a b) 3 torn [] refl) idle same start
+
+  -- the phases of the plan from these cells on, which leave the cells of the other regions
+  pub phases_pass : (x : Stand) (torn : Broken) → x.world.cells ≡ cells → board_in x.world ≡ (b.ram_base, board_map b) → state_op x.world.state ≡ None → SameBut P old cells
+      → Passes P x (phases (setup_of a b) region_errand torn) reached old
+  phases_pass x torn same board idle start =
+      let s = setup_of a b in
+      let l = device_of a in
+      let es : List Action = cond plan.chip (act.EraseChip ∷ []) (erasures 0 plan.sectors) in
+      let ws : List Action = writes l goal 0 plan.pages in
+      let parts : (mid : List ℕ) × Leads l a.device.empty mine es mid × Leads l a.device.empty mid ws goal =
+      leads_split l a.device.empty es ws mine goal (subst (λ (y : List Action). Leads l a.device.empty mine y goal) (split_actions l goal plan) is.least.leads.leads) in
+      let half : List ℕ = parts.0 in
+      let half_size : length half ≡ l.size = leads_length l a.device.empty es mine half parts.1 ∙ part_long here cells is.among in
+      let mid : List ℕ = put here half cells in
+      let mid_part : part here mid ≡ half = put_part here half cells is.among half_size in
+      let mid_long : length mid ≡ length cells = put_long here half cells is.among half_size in
+      let mid_among : IsAmong here mid = omega (arith, is.among, mid_long) in
+      let half_bytes : AreBytes half = erased_bytes l a.device.empty plan.chip plan.sectors mine half is.empty (part_bytes here cells is.among is.bytes) parts.1 in
+      let entry : plan.chip ≡ true → is_some a.entries.erase_chip ≡ true = λ chip. is.least.leads.lawful (chip_first l goal plan chip) in
+      let second : List Move = phase s 2 torn.program (page_moves false s region_errand) in
+      let third : List Move = phase s 3 torn.verify (verify_moves s region_errand) in
+      let one : Passes P x (phase s 1 torn.erase (erase_moves s region_errand.planned)) mid old =
+      subst (λ (n : ℕ). Passes P x (phase s n torn.erase (erase_moves s region_errand.planned)) mid old) (erasing_kind plan.chip plan.sectors)
+      (work (erasing_phase plan) x torn.erase (erase_moves s region_errand.planned) mid cells mine same refl board idle (erase_list s l plan goal mine sectors_long) refl is.bytes
+      (may_erase s l plan.chip plan.sectors entry sectors_long) (erasing_led s here cells half plan.chip plan.sectors is.among parts.1)
+      (erasing_places P s here plan mine plan.chip is.lawful sectors_long covers (λ chip. chip)) start) in
+      let written : Led s here mid (works_of s l half (Programs plan.pages goal)) reached =
+      subst (λ (c : List ℕ). Led s here mid (works_of s l half (Programs plan.pages goal)) c) (put_again here goal half cells is.among half_size)
+      (subst (λ (c : List ℕ). Led s here mid (works_of s l c (Programs plan.pages goal)) (put here goal mid)) mid_part
+      (programming_led s here mid goal plan.pages mid_among (subst (λ (c : List ℕ). Leads l a.device.empty c ws goal) (sym mid_part) parts.2))) in
+      passes_then P old x (phase s 1 torn.erase (erase_moves s region_errand.planned)) (second ++ third) mid reached one (λ y y_idle y_is y_board.
+      let two : Passes P y second reached old =
+      work (Programs plan.pages goal) y torn.program (page_moves false s region_errand) reached mid half y_is mid_part (y_board ∙ board) y_idle
+      (program_list s l plan goal is.lawful is.goal_size pages_long half) mid_long (put_bytes here half cells is.among half_size is.bytes half_bytes)
+      (pages_long, is.goal_size, is.goal_bytes) written (programming_places P s here plan half goal is.lawful pages_long covers) one.same in
+      passes_then P old y second third reached reached two (λ z z_idle z_is z_board.
+      check_passes (has_verify s) z torn.verify refl z_is (z_board ∙ y_board ∙ board) z_idle two.same))
+
+-- ---- a board whose one region is the whole of the cells
+
+-- the places of the plan are those of the region's plan
+covers_all : (l : Layout) (plan : Chosen) (i : ℕ) → IsInRegionPlan 0 l plan i → IsInPlan l plan i
+covers_all l plan i h = let same : h.at ≡ i = omega (arith, h.is) in subst (IsInPlan l plan) same h.planned
+
+put_whole : (l : Layout) (x cells : List ℕ) → length cells ≡ l.size → put (record { start = 0; layout = l }) x cells ≡ x
+put_whole l x cells long = ap (λ (rest : List ℕ). x ++ rest) (drop_all (0 + l.size) cells (omega (arith, long))) ∙ append-nil x
+
+all_among : (l : Layout) (cells : List ℕ) → length cells ≡ l.size → IsAmong (record { start = 0; layout = l }) cells
+all_among l cells long = omega (arith, long)
+
+-- the plan is the least one from the old contents to the goal
 pub record IsServed (b : BoardShown) (a : AlgorithmShown) (w : Weights) (plan : Chosen) (goal old : List ℕ) : Type 0 where
-  pub serves : Serves b a
+  pub serves : Serves b a 0
   pub lawful : IsLayout (device_of a)
   pub cells : cells_in (board_map b).areas ≡ a.device.size
   pub goal_size : length goal ≡ a.device.size
@@ -146,86 +335,37 @@ pub record IsServed (b : BoardShown) (a : AlgorithmShown) (w : Weights) (plan : 
   pub goal_bytes : AreBytes goal
   pub least : IsLeastPlan (device_of a) w (is_some a.entries.erase_chip) a.device.empty old goal plan
 
-module _ (b : BoardShown) (a : AlgorithmShown) (w : Weights) (plan : Chosen) (goal old : List ℕ) (is : IsServed b a w plan goal old) where
-  begun_is : (x : World) → board_in x ≡ (b.ram_base, board_map b) → begun (setup_of a b) x ≡ ready b a x.cells
-  begun_is x same = ap (λ (p : ℕ × Map). let y : World = record { ram_base = p.0; ram = loaded (setup_of a b); map = p.1; state = OfFc1 idle_state; cells = x.cells } in y) same
+served_region : (b : BoardShown) (a : AlgorithmShown) (w : Weights) (plan : Chosen) (goal old : List ℕ) → IsServed b a w plan goal old → IsRegionServed b 0 a w plan goal old
+served_region b a w plan goal old is = record {
+  serves = is.serves;
+  lawful = is.lawful;
+  count = is.old_size ∙ sym is.cells;
+  among = all_among (device_of a) old is.old_size;
+  goal_size = is.goal_size;
+  empty = is.empty;
+  bytes = is.old_bytes;
+  goal_bytes = is.goal_bytes;
+  least = subst (λ (c : List ℕ). IsLeastPlan (device_of a) w (is_some a.entries.erase_chip) a.device.empty c goal plan) (sym (part_whole (device_of a) old is.old_size)) is.least;
+}
 
+module _ (b : BoardShown) (a : AlgorithmShown) (w : Weights) (plan : Chosen) (goal old : List ℕ) (is : IsServed b a w plan goal old) where
   abbrev P : ℕ → Type 0
   P = IsInPlan (device_of a) plan
 
-  -- a phase over these cells
-  work_here : (kind : Phase) (x : Stand) (torn : List ℕ) (moves : List Move) (want : List ℕ) → board_in x.world ≡ (b.ram_base, board_map b) → state_op x.world.state ≡ None
-      → moves ≡ map (move_of (setup_of a b) (device_of a)) (works_of (setup_of a b) (device_of a) x.world.cells kind) → length x.world.cells ≡ a.device.size → AreBytes x.world.cells
-      → MayAsk (setup_of a b) (device_of a) kind → Led (setup_of a b) (device_of a) x.world.cells (works_of (setup_of a b) (device_of a) x.world.cells kind) want
-      → PlacesIn P (device_of a) (works_of (setup_of a b) (device_of a) x.world.cells kind) → SameBut P old x.world.cells
-      → Passes P x (phase (setup_of a b) (kind_of kind) torn moves) want old
-  work_here kind x torn moves want board idle list long bytes may led places start =
-      let s = setup_of a b in
-      let l = device_of a in
-      passes_phase P old s l is.lawful (kind_of kind) torn moves (works_of s l x.world.cells kind) x want list long idle
-      (λ some. subst (λ (v : World). KeepAll s l v (whole_phase (kind_of kind) (works_of s l x.world.cells kind))) (sym (begun_is x.world board))
-      (is.serves.keeps x.world.cells kind (long ∙ sym is.cells) bytes may some (led_ready s l (works_of s l x.world.cells kind) x.world.cells want led)))
-      led places start
-
-  work : (kind : Phase) (x : Stand) (torn : List ℕ) (moves : List Move) (want cells : List ℕ) → x.world.cells ≡ cells → board_in x.world ≡ (b.ram_base, board_map b) → state_op x.world.state ≡ None
-      → moves ≡ map (move_of (setup_of a b) (device_of a)) (works_of (setup_of a b) (device_of a) cells kind) → length cells ≡ a.device.size → AreBytes cells
-      → MayAsk (setup_of a b) (device_of a) kind → Led (setup_of a b) (device_of a) cells (works_of (setup_of a b) (device_of a) cells kind) want
-      → PlacesIn P (device_of a) (works_of (setup_of a b) (device_of a) cells kind) → SameBut P old cells
-      → Passes P x (phase (setup_of a b) (kind_of kind) torn moves) want old
-  work kind x torn moves want cells same board idle =
-      subst (λ (c : List ℕ). moves ≡ map (move_of (setup_of a b) (device_of a)) (works_of (setup_of a b) (device_of a) c kind) → length c ≡ a.device.size → AreBytes c
-      → MayAsk (setup_of a b) (device_of a) kind → Led (setup_of a b) (device_of a) c (works_of (setup_of a b) (device_of a) c kind) want
-      → PlacesIn P (device_of a) (works_of (setup_of a b) (device_of a) c kind) → SameBut P old c → Passes P x (phase (setup_of a b) (kind_of kind) torn moves) want old)
-      same (work_here kind x torn moves want board idle)
-
-  pages_long : length plan.pages ≡ length (device_of a).pages
-  pages_long = ap (λ (p : Chosen). length p.pages) is.least.chosen ∙ chosen_pages (device_of a) w (is_some a.entries.erase_chip) a.device.empty old goal
-
-  sectors_long : length plan.sectors ≡ length (device_of a).sectors
-  sectors_long = ap (λ (p : Chosen). length p.sectors) is.least.chosen ∙ chosen_sectors (device_of a) w (is_some a.entries.erase_chip) a.device.empty old goal
-
   abbrev whole_errand : Errand
   whole_errand = errand (device_of a) a.device.base plan goal
-
-  check_passes : (d : Bool) (x : Stand) (torn : List ℕ) → d ≡ has_verify (setup_of a b) → x.world.cells ≡ goal → board_in x.world ≡ (b.ram_base, board_map b) → state_op x.world.state ≡ None → SameBut P old goal
-      → Passes P x (phase (setup_of a b) 3 torn (cond d (page_moves true (setup_of a b) whole_errand) [])) goal old
-  check_passes true x torn entry same board idle start =
-      let s = setup_of a b in
-      let l = device_of a in
-      work (Verifies plan.pages) x torn (page_moves true s whole_errand) goal goal same board idle (check_list s l plan goal is.lawful is.goal_size pages_long) is.goal_size is.goal_bytes
-      (pages_long, sym entry) (led_verifies s l goal goal plan.pages) (verifying_places P s l goal plan.pages) start
-  check_passes false x torn entry same board idle start = passes_none P old x (phase (setup_of a b) 3 torn []) goal (phase_none (setup_of a b) 3 torn [] refl) idle same start
 
   -- the script of the plan from these cells
   pub script_passes : (x : Stand) (torn : Broken) → x.world.cells ≡ old → board_in x.world ≡ (b.ram_base, board_map b) → state_op x.world.state ≡ None
       → Passes P x (script (setup_of a b) whole_errand torn) goal old
   script_passes x torn same board idle =
       let s = setup_of a b in
-      let l = device_of a in
-      let es : List Action = cond plan.chip (act.EraseChip ∷ []) (erasures 0 plan.sectors) in
-      let ws : List Action = writes l goal 0 plan.pages in
-      let parts : (mid : List ℕ) × Leads l a.device.empty old es mid × Leads l a.device.empty mid ws goal =
-      leads_split l a.device.empty es ws old goal (subst (λ (x : List Action). Leads l a.device.empty old x goal) (split_actions l goal plan) is.least.leads.leads) in
-      let mid : List ℕ = parts.0 in
-      let entry : plan.chip ≡ true → is_some a.entries.erase_chip ≡ true = λ chip. is.least.leads.lawful (chip_first l goal plan chip) in
-      let second : List Move = phase s 2 torn.program (page_moves false s whole_errand) in
-      let third : List Move = phase s 3 torn.verify (verify_moves s whole_errand) in
-      let one : Passes P x (phase s 1 torn.erase (erase_moves s whole_errand.planned)) mid old =
-      subst (λ (n : ℕ). Passes P x (phase s n torn.erase (erase_moves s whole_errand.planned)) mid old) (erasing_kind plan.chip plan.sectors)
-      (work (erasing_phase plan) x torn.erase (erase_moves s whole_errand.planned) mid old same board idle (erase_list s l plan goal old sectors_long) is.old_size is.old_bytes
-      (may_erase s l plan.chip plan.sectors entry sectors_long) (erasing_led s l old mid plan.chip plan.sectors parts.1) (erasing_places s l plan old plan.chip (λ chip. chip)) (but_none P old old refl)) in
-      let mid_size : length mid ≡ a.device.size = leads_length l a.device.empty es old mid parts.1 ∙ is.old_size in
-      let all : Passes P x (phase s 1 torn.erase (erase_moves s whole_errand.planned) ++ (second ++ (third ++ (Reset s torn.last ∷ [])))) goal old =
-      passes_then P old x (phase s 1 torn.erase (erase_moves s whole_errand.planned)) (second ++ (third ++ (Reset s torn.last ∷ []))) mid goal one (λ y y_idle y_is y_board.
-      let two : Passes P y second goal old =
-      work (Programs plan.pages goal) y torn.program (page_moves false s whole_errand) goal mid y_is (y_board ∙ board) y_idle (program_list s l plan goal is.lawful is.goal_size pages_long mid) mid_size
-      (erased_bytes l a.device.empty plan.chip plan.sectors old mid is.empty is.old_bytes parts.1) (pages_long, is.goal_size, is.goal_bytes)
-      (programming_led s l mid goal plan.pages parts.2) (programming_places s l plan mid goal) one.same in
-      passes_then P old y second (third ++ (Reset s torn.last ∷ [])) goal goal two (λ z z_idle z_is z_board.
-      let three : Passes P z third goal old = check_passes (has_verify s) z torn.verify refl z_is (z_board ∙ y_board ∙ board) z_idle two.same in
-      passes_then P old z third (Reset s torn.last ∷ []) goal goal three (λ v v_idle v_is v_board.
-      subst (λ (c : List ℕ). Passes P v (Reset s torn.last ∷ []) c old) v_is (passes_reset P old s v torn.last v_idle (subst (λ (c : List ℕ). SameBut P old c) (sym v_is) three.same))))) in
-      subst (λ (m : List Move). Passes P x m goal old) (sym (script_is s whole_errand torn)) all
+      let through : Passes P x (phases s whole_errand torn) goal old =
+      subst (λ (c : List ℕ). Passes P x (phases s whole_errand torn) c old) (put_whole (device_of a) goal old is.old_size)
+      (phases_pass P old b 0 a w plan goal old (served_region b a w plan goal old is) (covers_all (device_of a) plan) x torn same board idle (but_none P old old refl)) in
+      subst (λ (m : List Move). Passes P x m goal old) (sym (script_is s whole_errand torn))
+      (passes_then P old x (phases s whole_errand torn) (Reset s torn.last ∷ []) goal goal through (λ v v_idle v_is v_board.
+      subst (λ (c : List ℕ). Passes P v (Reset s torn.last ∷ []) c old) v_is (passes_reset P old s v torn.last v_idle (subst (λ (c : List ℕ). SameBut P old c) (sym v_is) through.same))))
 
   module _ (x : Stand) (same : x.world.cells ≡ old) (board : board_in x.world ≡ (b.ram_base, board_map b)) (idle : state_op x.world.state ≡ None) (start now : BenchState) where
     -- so a session ends so, but for a device fault
