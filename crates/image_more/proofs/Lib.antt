@@ -1,5 +1,4 @@
 pub mod Uf2Lemmas
-pub mod PutLemmas
 pub mod RowLemmas
 pub mod DigitLemmas
 pub mod ReadLemmas
@@ -9,3 +8,5 @@ pub mod HexLemmas
 pub mod SrecLemmas
 pub mod LawLemmas
 pub mod Uf2Laws
+pub mod AnyLemmas
+pub mod FilesLemmas

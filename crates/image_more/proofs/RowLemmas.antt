@@ -13,8 +13,8 @@ use Rattle.image_more.specs.declared.form.RowForm.{RowForm}
 use Rattle.image_more.specs.Rows.{with_byte, run_rows, rows_of}
 use Rattle.image_more.specs.Texts.{row_lines, behind, rows_lines, text_of}
 use Rattle.image_more.specs.Behind.{form_behind}
-use Rattle.image_more.specs.Puts.{Puts}
-use Rattle.image_more.proofs.PutLemmas.{puts_nothing, puts_as, puts_then, puts_stops}
+use Rattle.outside_io.specs.Gathers.{Gathers}
+use Rattle.outside_io.proofs.GatherLemmas.{gathers_nothing, gathers_as, gathers_then, gathers_stops}
 
 -- The rows of a run: first as many bytes as there are up to a multiple of 16.
 
@@ -83,23 +83,23 @@ one_row form row = ap text_of (sym (append-nil (row_lines form row)))
 pub text-both : (xs ys : List (List ℕ)) → text_of xs ++ text_of ys ≡ text_of (xs ++ ys)
 text-both xs ys = sym (flat_map-append (λ (line : List ℕ). line ++ 10 ∷ []) xs ys)
 
--- of all rows, written from `first` on, some were put, and the rest are to be written from `form` on
-pub record HasPut (tells : Bool) (old now : SinkState) (first form : RowForm) (all rest : List Run) : Type 0 where
+-- of all rows, written from `first` on, some were gathered, and the rest are to be written from `form` on
+pub record HasGathered (tells : Bool) (old now : SinkState) (waited waits : List ℕ) (first form : RowForm) (all rest : List Run) : Type 0 where
   pub part : List ℕ
-  pub puts : Puts tells old now part (Ok tt)
+  pub gathers : Gathers tells old now waited waits part (Ok tt)
   pub text_is : part ++ text_of (rows_lines form rest) ≡ text_of (rows_lines first all)
   pub form_is : form_behind form rest ≡ form_behind first all
 
--- none was put
-pub rows_none : (tells : Bool) (a : SinkState) (first : RowForm) (all rest : List Run) → rest ≡ all → HasPut tells a a first first all rest
-rows_none tells a first all rest is = record {
+-- none was gathered
+pub rows_none : (tells : Bool) (a : SinkState) (w : List ℕ) (first : RowForm) (all rest : List Run) → rest ≡ all → HasGathered tells a a w w first first all rest
+rows_none tells a w first all rest is = record {
   part = [];
-  puts = puts_nothing tells a tt;
+  gathers = gathers_nothing tells a w tt;
   text_is = ap (λ (rows : List Run). text_of (rows_lines first rows)) is;
   form_is = ap (form_behind first) is;
 }
 
-module _ {tells : Bool} {a b : SinkState} {first form : RowForm} {all rest : List Run} (h : HasPut tells a b first form all rest) (rows later : List Run) (is : rest ≡ rows ++ later) where
+module _ {tells : Bool} {a b : SinkState} {v w : List ℕ} {first form : RowForm} {all rest : List Run} (h : HasGathered tells a b v w first form all rest) (rows later : List Run) (is : rest ≡ rows ++ later) where
   rest_text : text_of (rows_lines form rows) ++ text_of (rows_lines (form_behind form rows) later) ≡ text_of (rows_lines form rest)
   rest_text = sym (text-append form rows later) ∙ ap (λ (rs : List Run). text_of (rows_lines form rs)) (sym is)
 
@@ -109,22 +109,25 @@ module _ {tells : Bool} {a b : SinkState} {first form : RowForm} {all rest : Lis
       ∙ ap (λ (l : List ℕ). h.part ++ l) rest_text ∙ h.text_is
 
   -- more rows
-  pub rows_more : {c : SinkState} {u : Unit {0}} (next : RowForm) → next ≡ form_behind form rows → Puts tells b c (text_of (rows_lines form rows)) (Ok u) → HasPut tells a c first next all later
-  rows_more {c} {u} next next_is puts = record {
+  pub rows_more : {c : SinkState} {x : List ℕ} {u : Unit {0}} (next : RowForm) → next ≡ form_behind form rows → Gathers tells b c w x (text_of (rows_lines form rows)) (Ok u)
+      → HasGathered tells a c v x first next all later
+  rows_more {c} {x} {u} next next_is gathers = record {
     part = h.part ++ text_of (rows_lines form rows);
-    puts = puts_then (Ok u) h.puts puts;
+    gathers = gathers_then (Ok u) h.gathers gathers;
     text_is = ap (λ (f : RowForm). (h.part ++ text_of (rows_lines form rows)) ++ text_of (rows_lines f later)) next_is ∙ all_text;
     form_is = ap (λ (f : RowForm). form_behind f later) next_is ∙ sym (behind-append form rows later) ∙ ap (form_behind form) (sym is) ∙ h.form_is;
   }
 
   -- rows that a fault broke off
-  pub rows_break : {c : SinkState} {e : OutputFault} → Puts tells b c (text_of (rows_lines form rows)) (Err e) → Puts tells a c (text_of (rows_lines first all)) (Err e)
-  rows_break {c} {e} puts = puts_as all_text (puts_stops (text_of (rows_lines (form_behind form rows) later)) (puts_then (Err e) h.puts puts))
+  pub rows_break : {c : SinkState} {x : List ℕ} {e : OutputFault} → Gathers tells b c w x (text_of (rows_lines form rows)) (Err e)
+      → Gathers tells a c v x (text_of (rows_lines first all)) (Err e)
+  rows_break {c} {x} {e} gathers = gathers_as all_text (gathers_stops (text_of (rows_lines (form_behind form rows) later)) (gathers_then (Err e) h.gathers gathers))
 
 -- none are left
-pub rows_put : {tells : Bool} {a b : SinkState} {first form : RowForm} {all rest : List Run} → rest ≡ [] → HasPut tells a b first form all rest → Puts tells a b (text_of (rows_lines first all)) (Ok tt)
-rows_put {tells} {a} {b} {first} {form} {all} {rest} none h =
-    puts_as (sym (append-nil h.part) ∙ ap (λ (rows : List Run). h.part ++ text_of (rows_lines form rows)) (sym none) ∙ h.text_is) h.puts
+pub rows_gathered : {tells : Bool} {a b : SinkState} {v w : List ℕ} {first form : RowForm} {all rest : List Run} → rest ≡ [] → HasGathered tells a b v w first form all rest
+    → Gathers tells a b v w (text_of (rows_lines first all)) (Ok tt)
+rows_gathered {tells} {a} {b} {v} {w} {first} {form} {all} {rest} none h =
+    gathers_as (sym (append-nil h.part) ∙ ap (λ (rows : List Run). h.part ++ text_of (rows_lines form rows)) (sym none) ∙ h.text_is) h.gathers
 
 -- the rows of a map from one of its runs on
 pub rows_step : (map : List Run) (index : ℕ) (run : Run) → index < length map → slice_get map index ≡ Some run

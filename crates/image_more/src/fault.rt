@@ -54,3 +54,17 @@ pub enum AnyFault {
     #[error("OutOfMemory")]
     OutOfMemory,
 }
+
+impl From<ImageFault> for AnyFault {
+    ghost use Rattle.std.specs.Prelude.{◌≡◌};
+    ghost use Rattle.image_more.specs.Fault.{any_of};
+
+    ghost from_gives = { λ fault e. e ≡ any_of fault };
+
+    fn from(fault: ImageFault) -> AnyFault {
+        match fault {
+            ImageFault::OutOfMemory => AnyFault::OutOfMemory,
+            fault => AnyFault::Image(fault),
+        }
+    }
+}

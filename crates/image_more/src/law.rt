@@ -1,14 +1,16 @@
 //! Laws of files and texts, which no body is needed for.
-ghost use Rattle.std.specs.Prelude.{◌≡◌, ℕ, List, None};
+ghost use Rattle.std.specs.Prelude.{◌≡◌, ◌≢◌, ℕ, List, Option, None, Some};
 ghost use Rattle.octets.specs.Lines.{lines_of};
-ghost use Rattle.byte_map.specs.Image.{Run};
+ghost use Rattle.byte_map.specs.Image.{Run, byte_at};
 ghost use Rattle.record_lines.specs.Format.{IsImageOfText};
 ghost use Rattle.image_hex.specs.Hex.{hex};
 ghost use Rattle.image_srec.specs.Srec.{srec};
 ghost use Rattle.image_more.specs.Maps.{IsByteMap};
 ghost use Rattle.image_more.specs.Texts.{hex_text, srec_text};
-ghost use Rattle.image_more.specs.Any.{IsAnyImage};
+ghost use Rattle.image_more.specs.Any.{IsAnyImage, IsAnyFault};
+ghost use Rattle.image_more.specs.Files.{IsUnionBefore, HasByte};
 ghost use Rattle.image_more.specs.Uf2.{IsUf2Image, IsUf2Fault};
+ghost use Rattle.image_more.specs.declared.fault.AnyFault.{AnyFault};
 ghost use Rattle.image_more.specs.declared.fault.Uf2Fault.{Uf2Fault};
 
 /// The text of a map is read as that map and as no other, by the relation that the readers keep.
@@ -32,4 +34,20 @@ pub fn files_of_texts_are_their_maps()
 pub fn uf2_files_have_one_image()
     ensures image { (bytes : List ℕ) (one two : List Run) → IsUf2Image bytes one → IsUf2Image bytes two → one ≡ two }
     ensures alone { (bytes : List ℕ) (image : List Run) (fault : Uf2Fault) → IsUf2Image bytes image → IsUf2Fault bytes fault → fault ≡ Uf2Fault.OutOfMemory }
+{}
+
+/// A file of any form stands for one image at most, one that stands for an image has no fault but want of memory, and a file has one fault
+/// at most beside that.
+pub fn files_of_any_form_have_one_image()
+    ensures image { (raw_at : Option ℕ) (bytes : List ℕ) (one two : List Run) → IsAnyImage raw_at bytes one → IsAnyImage raw_at bytes two → one ≡ two }
+    ensures alone { (raw_at : Option ℕ) (bytes : List ℕ) (image : List Run) (fault : AnyFault) → IsAnyImage raw_at bytes image → IsAnyFault raw_at bytes fault → fault ≡ AnyFault.OutOfMemory }
+    ensures fault { (raw_at : Option ℕ) (bytes : List ℕ) (one two : AnyFault) → IsAnyFault raw_at bytes one → IsAnyFault raw_at bytes two
+        → one ≢ AnyFault.OutOfMemory → two ≢ AnyFault.OutOfMemory → one ≡ two }
+{}
+
+/// The union of the images of files has a byte at an address exactly where an image of one of them has it there,
+/// whatever the order of the files.
+pub fn unions_have_the_bytes_of_files()
+    ensures from { (raw_at : Option ℕ) (files : List (List ℕ)) (n : ℕ) (union : List Run) (a byte : ℕ) → IsUnionBefore raw_at files n union → byte_at union a ≡ Some byte → HasByte raw_at files n a byte }
+    ensures to { (raw_at : Option ℕ) (files : List (List ℕ)) (n : ℕ) (union : List Run) (a byte : ℕ) → IsUnionBefore raw_at files n union → HasByte raw_at files n a byte → byte_at union a ≡ Some byte }
 {}

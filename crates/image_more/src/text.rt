@@ -3,66 +3,85 @@ ghost use Rattle.std.specs.Prelude.{◌≡◌, ◌≤◌, ◌+◌, ◌^◌, [], 
 ghost use Rattle.image_more.specs.Rows.{run_rows, rows_of};
 ghost use Rattle.image_more.specs.Texts.{row_lines, rows_lines, upper_lines, text_of, hex_text, srec_text};
 ghost use Rattle.image_more.specs.Behind.{form_behind};
-ghost use Rattle.image_more.specs.Puts.{Puts};
+ghost use Rattle.outside_io.specs.Gathers.{Gathers};
+ghost use Rattle.outside_io.specs.Puts.{Puts};
 
 use crate::form::RowForm;
-use crate::line::{put_hex_line, put_srec_line};
+use crate::line::{gather_hex_line, gather_srec_line};
 use byte_map::ByteMap;
-use outside_io::{OutputFault, Sink};
+use outside_io::{Gathered, OutputFault, Sink};
 
 /// How many addresses a row has at most.
 const ROW: u32 = 16;
 
 /// Puts an image as Intel HEX: a data record for each of its runs, cut at every address that is a multiple of 16, in rising order;
 /// before it a record of type 04 where its upper half is the first or another than before; and the end record. Lines end with a line
-/// feed. A fault may leave a beginning of it. It takes no memory.
-#[tactic(auto, unfolding(crate::specs::Texts::hex_lines))]
+/// feed. A fault may leave a beginning of it. It goes out in pieces of up to 4,096 bytes, and takes no memory.
 pub fn write_hex<O: Sink>(map: &ByteMap, out: &mut O) -> Result<(), OutputFault>
     ensures { Puts O.tells (O.state out.old) (O.state out.new) (hex_text map.now) result }
 {
-    put_rows(out, RowForm::Hex { upper: None }, map)?;
-    put_piece(out, b":00000001FF\n")
+    let mut text = Gathered::new();
+    gather_hex(out, &mut text, map)?;
+    text.put(out)
 }
 
 /// Puts an image as S-records: an empty header, an S3 record for each of its runs, cut at every address that is a multiple of 16, in
-/// rising order, and the end record. Lines end with a line feed. A fault may leave a beginning of it. It takes no memory.
-#[tactic(auto, unfolding(crate::specs::Texts::srec_lines))]
+/// rising order, and the end record. Lines end with a line feed. A fault may leave a beginning of it. It goes out in pieces of up to
+/// 4,096 bytes, and takes no memory.
 pub fn write_srec<O: Sink>(map: &ByteMap, out: &mut O) -> Result<(), OutputFault>
     ensures { Puts O.tells (O.state out.old) (O.state out.new) (srec_text map.now) result }
 {
-    put_piece(out, b"S0030000FC\n")?;
-    put_rows(out, RowForm::Srec, map)?;
-    put_piece(out, b"S70500000000FA\n")
+    let mut text = Gathered::new();
+    gather_srec(out, &mut text, map)?;
+    text.put(out)
 }
 
-/// Puts a piece.
-fn put_piece<O: Sink>(out: &mut O, piece: &[u8]) -> Result<(), OutputFault>
-    ensures { Puts O.tells (O.state out.old) (O.state out.new) piece.now result }
+/// Gathers the whole text of an image as Intel HEX.
+#[tactic(auto, unfolding(crate::specs::Texts::hex_lines))]
+fn gather_hex<O: Sink>(out: &mut O, text: &mut Gathered, map: &ByteMap) -> Result<(), OutputFault>
+    ensures { Gathers O.tells (O.state out.old) (O.state out.new) text.old text.new (hex_text map.now) result }
 {
-    out.put(piece)
+    gather_rows(out, text, RowForm::Hex { upper: None }, map)?;
+    text.add(out, b":00000001FF\n")
 }
 
-/// Puts the lines of the rows of an image.
-fn put_rows<O: Sink>(out: &mut O, first: RowForm, map: &ByteMap) -> Result<(), OutputFault>
-    ensures { Puts O.tells (O.state out.old) (O.state out.new) (text_of (rows_lines first (rows_of map.now))) result }
+/// Gathers the whole text of an image as S-records.
+#[tactic(auto, unfolding(crate::specs::Texts::srec_lines))]
+fn gather_srec<O: Sink>(out: &mut O, text: &mut Gathered, map: &ByteMap) -> Result<(), OutputFault>
+    ensures { Gathers O.tells (O.state out.old) (O.state out.new) text.old text.new (srec_text map.now) result }
+{
+    text.add(out, b"S0030000FC\n")?;
+    gather_rows(out, text, RowForm::Srec, map)?;
+    text.add(out, b"S70500000000FA\n")
+}
+
+/// Gathers the lines of the rows of an image.
+fn gather_rows<O: Sink>(
+    out: &mut O,
+    text: &mut Gathered,
+    first: RowForm,
+    map: &ByteMap,
+) -> Result<(), OutputFault>
+    ensures { Gathers O.tells (O.state out.old) (O.state out.new) text.old text.new (text_of (rows_lines first (rows_of map.now))) result }
 {
     let mut form = first;
     for index in 0..map.runs() {
         let (at, bytes) = map.run(index);
-        put_run(out, &mut form, at, bytes)?;
+        gather_run(out, text, &mut form, at, bytes)?;
     }
     Ok(())
 }
 
-/// Puts the lines of the rows of one run.
-fn put_run<O: Sink>(
+/// Gathers the lines of the rows of one run.
+fn gather_run<O: Sink>(
     out: &mut O,
+    text: &mut Gathered,
     form: &mut RowForm,
     at: u32,
     bytes: &[u8],
 ) -> Result<(), OutputFault>
     requires { at + length bytes.now ≤ 2 ^ 32 }
-    ensures text { Puts O.tells (O.state out.old) (O.state out.new) (text_of (rows_lines form.old (run_rows at bytes.now))) result }
+    ensures text { Gathers O.tells (O.state out.old) (O.state out.new) text.old text.new (text_of (rows_lines form.old (run_rows at bytes.now))) result }
     ensures known { OnOk result (form.new ≡ form_behind form.old (run_rows at bytes.now)) }
 {
     let mut from = 0;
@@ -70,33 +89,44 @@ fn put_run<O: Sink>(
         let place = at + from as u32;
         let count = ((ROW - place % ROW) as usize).min(bytes.len() - from);
         let row = &bytes[from..from + count];
-        put_row(out, *form, place, row)?;
+        gather_row(out, text, *form, place, row)?;
         *form = form.behind(place, row);
         from += count;
     }
     Ok(())
 }
 
-/// Puts the lines of a row.
-fn put_row<O: Sink>(out: &mut O, form: RowForm, at: u32, bytes: &[u8]) -> Result<(), OutputFault>
+/// Gathers the lines of a row.
+fn gather_row<O: Sink>(
+    out: &mut O,
+    text: &mut Gathered,
+    form: RowForm,
+    at: u32,
+    bytes: &[u8],
+) -> Result<(), OutputFault>
     requires { length bytes.now ≤ 16 }
-    ensures { Puts O.tells (O.state out.old) (O.state out.new) (text_of (row_lines form (record { at = at; bytes = bytes.now }))) result }
+    ensures { Gathers O.tells (O.state out.old) (O.state out.new) text.old text.new (text_of (row_lines form (record { at = at; bytes = bytes.now }))) result }
 {
     match form {
         RowForm::Hex { upper } => {
-            put_upper(out, upper, (at / 65_536) as u16)?;
-            put_hex_line(out, 0, (at % 65_536) as u16, bytes)
+            gather_upper(out, text, upper, (at / 65_536) as u16)?;
+            gather_hex_line(out, text, 0, (at % 65_536) as u16, bytes)
         }
-        RowForm::Srec => put_srec_line(out, at, bytes),
+        RowForm::Srec => gather_srec_line(out, text, at, bytes),
     }
 }
 
-/// Puts the record of type 04 with an upper half where it is the first, or another than the one before.
-fn put_upper<O: Sink>(out: &mut O, before: Option<u16>, upper: u16) -> Result<(), OutputFault>
-    ensures { Puts O.tells (O.state out.old) (O.state out.new) (text_of (upper_lines before upper)) result }
+/// Gathers the record of type 04 with an upper half where it is the first, or another than the one before.
+fn gather_upper<O: Sink>(
+    out: &mut O,
+    text: &mut Gathered,
+    before: Option<u16>,
+    upper: u16,
+) -> Result<(), OutputFault>
+    ensures { Gathers O.tells (O.state out.old) (O.state out.new) text.old text.new (text_of (upper_lines before upper)) result }
 {
     match before {
         Some(before) if before == upper => Ok(()),
-        _ => put_hex_line(out, 4, 0, &[(upper / 256) as u8, (upper % 256) as u8]),
+        _ => gather_hex_line(out, text, 4, 0, &[(upper / 256) as u8, (upper % 256) as u8]),
     }
 }

@@ -3,4 +3,3 @@ pub mod UnionLemmas
 pub mod RangeLemmas
 pub mod SegmentLaws
 pub mod FileLemmas
-pub mod FilesLemmas

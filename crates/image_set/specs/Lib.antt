@@ -4,4 +4,3 @@ pub mod Segments
 pub mod Read
 pub mod Union
 pub mod Ranges
-pub mod Files

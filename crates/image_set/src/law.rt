@@ -1,9 +1,8 @@
-//! Laws of images and files, which no body is needed for.
-ghost use Rattle.std.specs.Prelude.{◌≡◌, ◌≢◌, ℕ, List, Option, Some};
-ghost use Rattle.byte_map.specs.Image.{Run, byte_at};
+//! Laws of image files, which no body is needed for.
+ghost use Rattle.std.specs.Prelude.{◌≡◌, ◌≢◌, ℕ, List, Option};
+ghost use Rattle.byte_map.specs.Image.{Run};
 ghost use Rattle.image_set.specs.declared.fault.ImageFault.{ImageFault};
 ghost use Rattle.image_set.specs.declared.fault.ImageFault.TheVariants.{OutOfMemory};
-ghost use Rattle.image_set.specs.Files.{IsUnionBefore, HasByte};
 ghost use Rattle.image_set.specs.Read.{IsImage, IsFault};
 
 /// A file stands for at most one image.
@@ -19,11 +18,4 @@ pub fn images_have_no_fault()
 /// A file has at most one fault, but for want of memory.
 pub fn files_have_one_fault()
     ensures { (raw_at : Option ℕ) (bytes : List ℕ) (one two : ImageFault) → IsFault raw_at bytes one → IsFault raw_at bytes two → one ≢ OutOfMemory → two ≢ OutOfMemory → one ≡ two }
-{}
-
-/// The union of the images of files has a byte at an address exactly where an image of one of them has it there,
-/// whatever the order of the files.
-pub fn unions_have_the_bytes_of_files()
-    ensures from { (raw_at : Option ℕ) (files : List (List ℕ)) (n : ℕ) (union : List Run) (a byte : ℕ) → IsUnionBefore raw_at files n union → byte_at union a ≡ Some byte → HasByte raw_at files n a byte }
-    ensures to { (raw_at : Option ℕ) (files : List (List ℕ)) (n : ℕ) (union : List Run) (a byte : ℕ) → IsUnionBefore raw_at files n union → HasByte raw_at files n a byte → byte_at union a ≡ Some byte }
 {}

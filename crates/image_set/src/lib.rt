@@ -10,10 +10,7 @@ mod segments;
 mod union;
 
 pub use fault::ImageFault;
-pub use law::{
-    files_have_one_fault, files_have_one_image, images_have_no_fault,
-    unions_have_the_bytes_of_files,
-};
+pub use law::{files_have_one_fault, files_have_one_image, images_have_no_fault};
 pub use ranges::{check, check_ranges};
 pub use read::read_image;
 pub use union::merge;

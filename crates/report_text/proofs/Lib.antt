@@ -1,4 +1,2 @@
-pub mod PutLemmas
 pub mod PlanLemmas
 mod JobLemmas
-pub mod GatherLemmas

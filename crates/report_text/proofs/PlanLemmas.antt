@@ -6,9 +6,9 @@ use Rattle.outside_io.specs.declared.sink.OutputFault.{OutputFault}
 use Rattle.flm_descriptor.specs.Shape.{Range, range_at}
 use Rattle.page_geometry.specs.Layout.{Layout, IsPartition, IsAt}
 use Rattle.erase_planner.specs.Plans.{Chosen, IsEmptyPlan}
-use Rattle.report_text.specs.Gathers.{Gathers}
+use Rattle.outside_io.specs.Gathers.{Gathers}
 use Rattle.report_text.specs.Plan.{is_none, asks_nothing, kind_text, texts_below, action_text, member_text, set_text, erase_text}
-use Rattle.report_text.proofs.GatherLemmas.{gathers_nothing, gathers_as, gathers_then, gathers_stops}
+use Rattle.outside_io.proofs.GatherLemmas.{gathers_nothing, gathers_as, gathers_then, gathers_stops}
 
 module _ (text : ℕ → List ℕ) where
   below_next : (n : ℕ) → texts_below n text ++ text n ≡ texts_below (n + 1) text

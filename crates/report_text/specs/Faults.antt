@@ -13,6 +13,10 @@ use Rattle.flm_descriptor.specs.declared.fault.FlmFault.{FlmFault}
 use Rattle.flm_descriptor.specs.declared.fault.FlmFault.TheVariants as flm
 use Rattle.image_hex.specs.declared.fault.HexKind.{HexKind}
 use Rattle.image_hex.specs.declared.fault.HexKind.TheVariants as hex
+use Rattle.image_more.specs.declared.fault.AnyFault.{AnyFault}
+use Rattle.image_more.specs.declared.fault.AnyFault.TheVariants as any
+use Rattle.image_more.specs.declared.fault.Uf2Fault.{Uf2Fault}
+use Rattle.image_more.specs.declared.fault.Uf2Fault.TheVariants as uf2
 use Rattle.image_set.specs.declared.fault.ImageFault.{ImageFault}
 use Rattle.image_set.specs.declared.fault.ImageFault.TheVariants as image
 use Rattle.image_srec.specs.declared.fault.SrecKind.{SrecKind}
@@ -116,10 +120,25 @@ image_text (image.OutsideDevice at) = concat (codes "OutsideDevice " ∷ hex_tex
 image_text image.EmptyImage = codes "EmptyImage"
 image_text image.OutOfMemory = codes "OutOfMemory"
 
+-- of a UF2 file
+unfoldable pub uf2_text : Uf2Fault → List ℕ
+uf2_text (uf2.BadLength len) = concat (codes "BadLength " ∷ decimal len ∷ [])
+uf2_text (uf2.BadMagic block) = concat (codes "BadMagic " ∷ decimal block ∷ [])
+uf2_text (uf2.BadSize block size) = concat (codes "BadSize " ∷ decimal block ∷ codes " " ∷ decimal size ∷ [])
+uf2_text (uf2.Conflict at old new) = conflict_text at old new
+uf2_text (uf2.PastEnd at) = concat (codes "PastEnd " ∷ hex_text 8 at ∷ [])
+uf2_text uf2.OutOfMemory = codes "OutOfMemory"
+
+-- of a file of any form; but for UF2 the form of the file isn't named first
+unfoldable pub any_text : AnyFault → List ℕ
+any_text (any.Image fault) = image_text fault
+any_text (any.Uf2 fault) = codes "Uf2 " ++ uf2_text fault
+any_text any.OutOfMemory = codes "OutOfMemory"
+
 -- the line that is at fault, in a file that is read by lines
-abbrev pub faulty_line : ImageFault → Option ℕ
-faulty_line (image.Hex fault) = Some fault.line
-faulty_line (image.Srec fault) = Some fault.line
+abbrev pub faulty_line : AnyFault → Option ℕ
+faulty_line (any.Image (image.Hex fault)) = Some fault.line
+faulty_line (any.Image (image.Srec fault)) = Some fault.line
 faulty_line other = None
 
 -- the file of an image, and the line where there is one
@@ -127,5 +146,5 @@ unfoldable pub place_text : List ℕ → Option ℕ → List ℕ
 place_text name None = concat (codes "image " ∷ name ∷ codes ": " ∷ [])
 place_text name (Some line) = concat (codes "image " ∷ name ∷ codes " line " ∷ decimal line ∷ codes ": " ∷ [])
 
-abbrev pub file_text : List ℕ → ImageFault → List ℕ
+abbrev pub file_text : List ℕ → AnyFault → List ℕ
 file_text name fault = place_text name (faulty_line fault)

@@ -1,4 +1,3 @@
-pub mod Puts
 pub mod End
 pub mod Inspection
 pub mod Faults
@@ -7,4 +6,4 @@ pub mod Refusal
 pub mod Shown
 pub mod Plan
 pub mod Job
-pub mod Gathers
+pub mod Region

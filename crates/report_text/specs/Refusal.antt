@@ -6,9 +6,10 @@ use Rattle.algo_calls.specs.declared.call.CallEnd.{CallEnd}
 use Rattle.board_file.specs.declared.fault.BoardFault.{BoardFault}
 use Rattle.flm_descriptor.specs.declared.fault.FlmFault.{FlmFault}
 use Rattle.image_set.specs.declared.fault.ImageFault.{ImageFault}
+use Rattle.image_more.specs.declared.fault.AnyFault.{AnyFault}
 use Rattle.octets.specs.Digit.{hex_text}
 use Rattle.report_text.specs.Calls.{failed_text}
-use Rattle.report_text.specs.Faults.{board_text, flm_text, image_text, file_text}
+use Rattle.report_text.specs.Faults.{board_text, flm_text, image_text, any_text, file_text}
 
 pub data Refusal : Type 0 where
   out_of_memory : Refusal
@@ -18,7 +19,7 @@ pub data Refusal : Type 0 where
   -- a raw image has more bytes than there are cells
   image_too_long : (bytes cells : ℕ) → Refusal
   -- a file of an image is refused
-  image_refused : (name : List ℕ) (fault : ImageFault) → Refusal
+  image_refused : (name : List ℕ) (fault : AnyFault) → Refusal
   -- the image has no byte, or one outside the device
   image_misplaced : (fault : ImageFault) → Refusal
   -- an input file is no FLM file
@@ -81,7 +82,7 @@ reason_of out_of_memory = codes "out of memory"
 reason_of usage = codes "usage: flm_tool JOB CELLS COMMAND [WORDS]"
 reason_of (input_fault name) = concat (codes "cannot read " ∷ name ∷ [])
 reason_of (image_too_long bytes cells) = concat (codes "image: " ∷ decimal bytes ∷ codes " bytes for " ∷ decimal cells ∷ codes " cells" ∷ [])
-reason_of (image_refused name fault) = file_text name fault ++ image_text fault
+reason_of (image_refused name fault) = file_text name fault ++ any_text fault
 reason_of (image_misplaced fault) = codes "image: " ++ image_text fault
 reason_of (flm_refused fault) = codes "flm: " ++ flm_text fault
 reason_of (other_device base size) = concat (codes "flm: other device " ∷ hex_text 8 base ∷ codes " " ∷ decimal size ∷ [])

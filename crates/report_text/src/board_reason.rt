@@ -1,6 +1,6 @@
 //! What the refusals of a board's text are called.
 ghost use Rattle.report_text.specs.Faults.{board_text};
-ghost use Rattle.report_text.specs.Puts.{Puts};
+ghost use Rattle.outside_io.specs.Puts.{Puts};
 
 use crate::pieces::put_pieces;
 use board_file::BoardFault;

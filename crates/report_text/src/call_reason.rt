@@ -1,7 +1,7 @@
 //! What is said of a call of an algorithm that ended otherwise than done.
 ghost use Rattle.std.specs.Prelude.{◌≡◌};
 ghost use Rattle.report_text.specs.Calls.{function_of, answer_text, place_text, access_text, fault_text, run_text, end_text, failed_text};
-ghost use Rattle.report_text.specs.Puts.{Puts};
+ghost use Rattle.outside_io.specs.Puts.{Puts};
 
 use crate::pieces::put_pieces;
 use algo_calls::{Call, CallEnd};

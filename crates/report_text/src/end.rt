@@ -1,6 +1,6 @@
 //! The line of an end.
 ghost use Rattle.report_text.specs.End.{end_text};
-ghost use Rattle.report_text.specs.Puts.{Puts};
+ghost use Rattle.outside_io.specs.Puts.{Puts};
 
 use crate::pieces::put_pieces;
 use outside_io::{OutputFault, Sink};

@@ -1,13 +1,14 @@
 //! What the refusals of images are called.
 ghost use Rattle.std.specs.Prelude.{◌≡◌, ◌++◌, [], ◌∷◌, decimal};
 ghost use Rattle.std.specs.List.{concat};
-ghost use Rattle.report_text.specs.Faults.{checksum_text, conflict_text, counts_text, faulty_line, file_text, hex_kind_text, image_text, place_text, srec_kind_text};
+ghost use Rattle.report_text.specs.Faults.{any_text, checksum_text, conflict_text, counts_text, faulty_line, file_text, hex_kind_text, image_text, place_text, srec_kind_text, uf2_text};
 ghost use Rattle.octets.specs.Digit.{hex_text};
-ghost use Rattle.report_text.specs.Puts.{Puts};
+ghost use Rattle.outside_io.specs.Puts.{Puts};
 
 use crate::pieces::put_pieces;
 use crate::reason::{put_elf_fault, put_number};
 use image_hex::HexKind;
+use image_more::{AnyFault, Uf2Fault};
 use image_set::ImageFault;
 use image_srec::SrecKind;
 use itoa::Buffer;
@@ -15,24 +16,20 @@ use octets::hex_digits;
 use outside_io::{OutputFault, Sink};
 
 /// Puts the name of an image file, the line that is at fault where there is one, and the refusal.
-pub fn put_image_file<E: Sink>(
-    err: &mut E,
-    name: &[u8],
-    fault: ImageFault,
-) -> Result<(), OutputFault>
-    ensures { Puts E.tells (E.state err.old) (E.state err.new) (file_text name.now fault ++ image_text fault) result }
+pub fn put_image_file<E: Sink>(err: &mut E, name: &[u8], fault: AnyFault) -> Result<(), OutputFault>
+    ensures { Puts E.tells (E.state err.old) (E.state err.new) (file_text name.now fault ++ any_text fault) result }
 {
     put_place(err, name, faulty_line(fault))?;
-    put_image_fault(err, fault)
+    put_any_fault(err, fault)
 }
 
 /// The line that is at fault, in a file that is read by lines.
-fn faulty_line(fault: ImageFault) -> Option<u32>
+fn faulty_line(fault: AnyFault) -> Option<u32>
     ensures { result ≡ faulty_line fault }
 {
     match fault {
-        ImageFault::Hex(fault) => Some(fault.line),
-        ImageFault::Srec(fault) => Some(fault.line),
+        AnyFault::Image(ImageFault::Hex(fault)) => Some(fault.line),
+        AnyFault::Image(ImageFault::Srec(fault)) => Some(fault.line),
         _ => None,
     }
 }
@@ -49,6 +46,46 @@ fn put_place<E: Sink>(err: &mut E, name: &[u8], line: Option<u32>) -> Result<(),
             let line = of_line.format(line).as_bytes();
             put_pieces(err, &[b"image ", name, b" line ", line, b": "])
         }
+    }
+}
+
+/// Puts the refusal of a file of any form, without a line.
+#[tactic(auto, unfolding(crate::specs::Faults::any_text))]
+fn put_any_fault<E: Sink>(err: &mut E, fault: AnyFault) -> Result<(), OutputFault>
+    ensures { Puts E.tells (E.state err.old) (E.state err.new) (any_text fault) result }
+{
+    match fault {
+        AnyFault::Image(fault) => put_image_fault(err, fault),
+        AnyFault::Uf2(fault) => {
+            put_pieces(err, &[b"Uf2 "])?;
+            put_uf2_fault(err, fault)
+        }
+        AnyFault::OutOfMemory => put_pieces(err, &[b"OutOfMemory"]),
+    }
+}
+
+/// Puts the refusal of a UF2 file.
+#[tactic(auto, unfolding(crate::specs::Faults::uf2_text))]
+fn put_uf2_fault<E: Sink>(err: &mut E, fault: Uf2Fault) -> Result<(), OutputFault>
+    ensures { Puts E.tells (E.state err.old) (E.state err.new) (uf2_text fault) result }
+{
+    let mut of_block = Buffer::new();
+    match fault {
+        Uf2Fault::BadLength { len } => {
+            put_pieces(err, &[b"BadLength ", of_block.format(len).as_bytes()])
+        }
+        Uf2Fault::BadMagic { block } => {
+            put_pieces(err, &[b"BadMagic ", of_block.format(block).as_bytes()])
+        }
+        Uf2Fault::BadSize { block, size } => {
+            let mut of_size = Buffer::new();
+            let block = of_block.format(block).as_bytes();
+            let size = of_size.format(size).as_bytes();
+            put_pieces(err, &[b"BadSize ", block, b" ", size])
+        }
+        Uf2Fault::Conflict { at, old, new } => put_conflict(err, at, old, new),
+        Uf2Fault::PastEnd { at } => put_address(err, b"PastEnd ", at),
+        Uf2Fault::OutOfMemory => put_pieces(err, &[b"OutOfMemory"]),
     }
 }
 

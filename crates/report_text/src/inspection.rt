@@ -4,7 +4,7 @@ ghost use Rattle.std.specs.List.{flat_map};
 ghost use Rattle.flm_descriptor.specs.Shape.{sectors, shape};
 ghost use Rattle.flm_descriptor.specs.Shown.{shown};
 ghost use Rattle.report_text.specs.Inspection.{printable, name_text, kind_text, values_text, device_text, count_text, item_text, parts_text, entry_text, optional_entry_text, entries_text, inspection_text};
-ghost use Rattle.report_text.specs.Puts.{Puts};
+ghost use Rattle.outside_io.specs.Puts.{Puts};
 
 use crate::pieces::put_pieces;
 use flm_descriptor::{Algorithm, Device, Entries, Name, SectorItem};

@@ -1,7 +1,7 @@
 //! The text of the job in a file.
 ghost use Rattle.std.specs.Prelude.{◌≡◌, option_map};
-ghost use Rattle.report_text.specs.Job.{bytes_in, job_text, status_text};
-ghost use Rattle.report_text.specs.Puts.{Puts};
+ghost use Rattle.report_text.specs.Job.{bytes_in, devices_of, job_text, status_text};
+ghost use Rattle.outside_io.specs.Puts.{Puts};
 
 use crate::pieces::put_pieces;
 use byte_map::ByteMap;
@@ -23,7 +23,7 @@ pub fn put_job<O: Sink>(out: &mut O, job: Option<&Job>) -> Result<(), OutputFaul
 /// Puts the lines of a job: its device, and how many bytes its image has in how many runs.
 #[tactic(auto, unfolding(crate::specs::Job::job_text))]
 fn put_open_job<O: Sink>(out: &mut O, job: &Job) -> Result<(), OutputFault>
-    ensures { Puts O.tells (O.state out.old) (O.state out.new) (job_text job.now.algorithm.device job.now.image) result }
+    ensures { Puts O.tells (O.state out.old) (O.state out.new) (job_text (devices_of job.now) job.now.image) result }
 {
     let mut of_size = Buffer::new();
     let mut of_bytes = Buffer::new();

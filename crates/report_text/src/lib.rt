@@ -1,11 +1,10 @@
-//! The texts that the flash programmer prints: a plan, a job, an inspection, an end and a refusal, each put on a sink. No call
+//! The texts that the flash programmer prints: a plan, the line of a region, a job, an inspection, an end and a refusal, each put on a sink. No call
 //! takes memory.
 #![tactic(auto)]
 
 mod board_reason;
 mod call_reason;
 mod end;
-mod gathered;
 mod image_reason;
 mod inspection;
 mod job;
@@ -13,9 +12,11 @@ mod pieces;
 mod plan;
 mod reason;
 mod refusal;
+mod region;
 
 pub use end::{End, put_end};
 pub use inspection::put_inspection;
 pub use job::put_job;
 pub use plan::put_plan;
 pub use refusal::{Refusal, put_refusal};
+pub use region::put_region;

@@ -1,6 +1,6 @@
 //! Texts in pieces.
 ghost use Rattle.std.specs.List.{flat_map};
-ghost use Rattle.report_text.specs.Puts.{Puts};
+ghost use Rattle.outside_io.specs.Puts.{Puts};
 
 use outside_io::{OutputFault, Sink, put_all};
 

@@ -3,14 +3,13 @@ ghost use Rattle.std.specs.Prelude.{◌≡◌, ◌≤◌, ◌<◌, ◌+◌, ◌-
 ghost use Rattle.flm_descriptor.specs.Shape.{range_at};
 ghost use Rattle.page_geometry.specs.Layout.{IsLayout};
 ghost use Rattle.report_text.specs.Plan.{kind_text, action_text, member_text, set_text, erase_text, cost_text, plan_text};
-ghost use Rattle.report_text.specs.Gathers.{Gathers};
-ghost use Rattle.report_text.specs.Puts.{Puts};
+ghost use Rattle.outside_io.specs.Gathers.{Gathers};
+ghost use Rattle.outside_io.specs.Puts.{Puts};
 
-use crate::gathered::Gathered;
 use erase_planner::Plan;
 use itoa::Buffer;
 use octets::hex_digits;
-use outside_io::{OutputFault, Sink};
+use outside_io::{Gathered, OutputFault, Sink};
 use page_geometry::Geometry;
 
 /// Puts what a plan erases, what it programs and what it costs, line by line, for the device of this geometry, whose first

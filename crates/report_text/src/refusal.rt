@@ -1,6 +1,6 @@
 //! The refusals of the top call, and the line of each on standard error.
 ghost use Rattle.std.specs.Prelude.{◌≡◌};
-ghost use Rattle.report_text.specs.Puts.{Puts};
+ghost use Rattle.outside_io.specs.Puts.{Puts};
 ghost use Rattle.report_text.specs.Refusal.{status_of, reason_of, line_of, image_too_long, other_device, no_room, not_a_job, cells_differ, difference_text};
 ghost use Rattle.report_text.specs.Shown.{shown};
 
@@ -12,6 +12,7 @@ use crate::reason::put_flm_fault;
 use algo_calls::{Call, CallEnd};
 use board_file::BoardFault;
 use flm_descriptor::FlmFault;
+use image_more::AnyFault;
 use image_set::ImageFault;
 use itoa::Buffer;
 use octets::{Word, hex_digits};
@@ -40,7 +41,7 @@ pub enum Refusal<'a> {
     /// The image file of this name is refused.
     ImageRefused {
         name: &'a Word,
-        fault: ImageFault,
+        fault: AnyFault,
     },
 
     /// The image has no byte, or one outside the device.

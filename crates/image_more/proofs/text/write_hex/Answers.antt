@@ -1,22 +1,8 @@
-use Rattle.std.proofs.Common.{List, ℕ, [], ◌∷◌, None}
-use Rattle.std.specs.Prelude.{codes}
-use Rattle.image_more.specs.declared.form.RowForm.TheVariants.{Hex}
-use Rattle.image_more.specs.Rows.{rows_of}
-use Rattle.image_more.specs.Texts.{rows_lines, hex_lines, text_of}
-use Rattle.image_more.proofs.PutLemmas.{puts_as, puts_then, puts_stops, puts_failed}
-use Rattle.image_more.proofs.RowLemmas.{text-both}
+use Rattle.std.proofs.Common.{append-nil}
+use Rattle.outside_io.proofs.PutTexts.{puts_as}
+use Rattle.outside_io.proofs.GatherLemmas.{gathers_alone, gathers_then, gathers_waiting}
 use Rattle.image_more.proofs.text.write_hex.Goals as goal
 
-pub returns-in_err-put_rows : goal.returns-in_err-put_rows
-unfolding hex_lines
-returns-in_err-put_rows g c =
-    let rows = rows_lines (Hex None) (rows_of c.args.map.now) in
-    let last : List (List ℕ) = codes ":00000001FF" ∷ [] in
-    puts_failed _ c.from_residual.ensures.0 (puts_as (text-both rows last) (puts_stops (text_of last) c.in_err-put_rows.ensures))
-
 pub returns : goal.returns
-unfolding hex_lines
-returns g c =
-    let rows = rows_lines (Hex None) (rows_of c.args.map.now) in
-    let last : List (List ℕ) = codes ":00000001FF" ∷ [] in
-    puts_as (text-both rows last) (puts_then _ c.in_ok-put_rows.ensures c.put_piece.ensures)
+returns g c = puts_as (append-nil _)
+    (gathers_alone _ c.new-text.ensures c.put.ensures.none (gathers_then _ c.in_ok-gather_hex.ensures (gathers_waiting _ c.put.ensures.none c.put.ensures.puts)))

@@ -1,5 +1,5 @@
 use Rattle.report_text.specs.Calls.{end_text, failed_text}
-use Rattle.report_text.proofs.PutLemmas.{puts_then, puts_stops, puts_failed}
+use Rattle.outside_io.proofs.PutTexts.{puts_then, puts_stops, puts_failed}
 use Rattle.report_text.proofs.call_reason.put_failed_call.Goals as goal
 
 pub returns-in_err-put_pieces : goal.returns-in_err-put_pieces

@@ -1,6 +1,6 @@
 use Rattle.std.proofs.Common.{ap, sym}
 use Rattle.report_text.specs.Faults.{image_text}
-use Rattle.report_text.proofs.PutLemmas.{puts_as, puts_stops, puts_failed}
+use Rattle.outside_io.proofs.PutTexts.{puts_as, puts_stops, puts_failed}
 use Rattle.report_text.proofs.image_reason.put_image_fault.Goals as goal
 
 pub returns-in_err-put_pieces-in-Hex : goal.returns-in_err-put_pieces-in-Hex

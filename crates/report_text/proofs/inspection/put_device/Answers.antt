@@ -1,6 +1,6 @@
 use Rattle.std.proofs.Common.{ap}
 use Rattle.report_text.specs.Inspection.{name_text, device_text}
-use Rattle.report_text.proofs.PutLemmas.{puts_then, puts_stops, puts_failed, puts_as}
+use Rattle.outside_io.proofs.PutTexts.{puts_then, puts_stops, puts_failed, puts_as}
 use Rattle.report_text.proofs.inspection.put_device.Goals as goal
 
 pub returns-in_err-put_name : goal.returns-in_err-put_name

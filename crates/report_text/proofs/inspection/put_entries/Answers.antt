@@ -1,5 +1,5 @@
 use Rattle.report_text.specs.Inspection.{entries_text}
-use Rattle.report_text.proofs.PutLemmas.{puts_then, puts_stops, puts_failed}
+use Rattle.outside_io.proofs.PutTexts.{puts_then, puts_stops, puts_failed}
 use Rattle.report_text.proofs.inspection.put_entries.Goals as goal
 
 pub returns-in_err-put_entry : goal.returns-in_err-put_entry

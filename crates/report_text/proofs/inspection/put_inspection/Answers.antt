@@ -1,7 +1,7 @@
 use Rattle.std.proofs.Common.{ap}
 use Rattle.std.specs.List.{flat_map}
 use Rattle.report_text.specs.Inspection.{item_text, inspection_text}
-use Rattle.report_text.proofs.PutLemmas.{puts_then, puts_stops, puts_failed, puts_as}
+use Rattle.outside_io.proofs.PutTexts.{puts_then, puts_stops, puts_failed, puts_as}
 use Rattle.report_text.proofs.inspection.put_inspection.Goals as goal
 
 pub returns-in_err-put_device : goal.returns-in_err-put_device

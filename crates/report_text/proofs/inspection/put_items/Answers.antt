@@ -1,5 +1,5 @@
 use Rattle.report_text.specs.Inspection.{item_text}
-use Rattle.report_text.proofs.PutLemmas.{puts_nothing, puts_more, puts_breaks, puts_failed}
+use Rattle.outside_io.proofs.PutTexts.{puts_nothing, puts_more, puts_breaks, puts_failed}
 use Rattle.report_text.proofs.inspection.put_items.Goals as goal
 
 pub loop-item-init : goal.loop-item-init

@@ -1,7 +1,7 @@
 use Rattle.std.proofs.Common.{take, Ok}
 use Rattle.std.specs.List.{flat_map}
 use Rattle.report_text.specs.Inspection.{item_text}
-use Rattle.report_text.specs.Puts.{Puts}
+use Rattle.outside_io.specs.Puts.{Puts}
 use Rattle.report_text.proofs.inspection.put_items.Given as goal
 
 abbrev pub invariant-loop-item : goal.invariant-loop-item

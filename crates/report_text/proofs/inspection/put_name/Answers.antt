@@ -2,7 +2,7 @@ use Rattle.std.proofs.Common.{map}
 use Rattle.std.specs.Prelude.{codes}
 use Rattle.std.proofs.lemmas.List.Concat.{flat_map_single}
 use Rattle.report_text.specs.Inspection.{printable, name_text}
-use Rattle.report_text.proofs.PutLemmas.{puts_then, puts_stops, puts_failed, puts_as}
+use Rattle.outside_io.proofs.PutTexts.{puts_then, puts_stops, puts_failed, puts_as}
 use Rattle.report_text.proofs.inspection.put_name.Goals as goal
 
 pub returns-in_err-put_pieces : goal.returns-in_err-put_pieces

@@ -1,6 +1,6 @@
 use Rattle.std.proofs.Common.{[], ◌∷◌}
 use Rattle.report_text.specs.Inspection.{printable}
-use Rattle.report_text.proofs.PutLemmas.{puts_nothing, puts_more, puts_breaks, puts_failed}
+use Rattle.outside_io.proofs.PutTexts.{puts_nothing, puts_more, puts_breaks, puts_failed}
 use Rattle.report_text.proofs.inspection.put_printable.Goals as goal
 
 pub loop-byte-init : goal.loop-byte-init

@@ -1,5 +1,5 @@
 use Rattle.std.proofs.Common.{◌∙◌, sym}
-use Rattle.report_text.proofs.GatherLemmas.{gathers_as}
+use Rattle.outside_io.proofs.GatherLemmas.{gathers_as}
 use Rattle.report_text.proofs.PlanLemmas.{erase_chip, erase_sectors}
 use Rattle.report_text.proofs.plan.gather_erasures.Goals as goal
 

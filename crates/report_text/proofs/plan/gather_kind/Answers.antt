@@ -1,6 +1,6 @@
 use Rattle.std.proofs.Common.{◌≡◌, ◌∙◌, sym, refl, false, true}
 use Rattle.erase_planner.specs.Plans.{IsEmptyPlan}
-use Rattle.report_text.proofs.GatherLemmas.{gathers_as}
+use Rattle.outside_io.proofs.GatherLemmas.{gathers_as}
 use Rattle.report_text.proofs.PlanLemmas.{kind_none, kind_chip, kind_sectors}
 use Rattle.report_text.proofs.plan.gather_kind.Goals as goal
 

@@ -1,5 +1,5 @@
 use Rattle.std.specs.Prelude.{codes}
-use Rattle.report_text.proofs.GatherLemmas.{gathers_nothing, gathers_as}
+use Rattle.outside_io.proofs.GatherLemmas.{gathers_nothing, gathers_as}
 use Rattle.report_text.proofs.PlanLemmas.{not_in, is_in}
 use Rattle.report_text.proofs.plan.gather_page.Goals as goal
 

@@ -1,5 +1,5 @@
 use Rattle.report_text.specs.Plan.{plan_text}
-use Rattle.report_text.proofs.GatherLemmas.{gathers_then, gathers_stops, gathers_failed}
+use Rattle.outside_io.proofs.GatherLemmas.{gathers_then, gathers_stops, gathers_failed}
 use Rattle.report_text.proofs.plan.gather_plan.Goals as goal
 
 pub returns-in_err-gather_kind : goal.returns-in_err-gather_kind

@@ -1,7 +1,7 @@
 use Rattle.std.proofs.Common.{arith, ap, ◌≡◌, ℕ}
 use Rattle.std.specs.Prelude.{codes, length}
 use Rattle.report_text.specs.Plan.{texts_below, member_text, set_text}
-use Rattle.report_text.proofs.GatherLemmas.{gathers_as, gathers_failed}
+use Rattle.outside_io.proofs.GatherLemmas.{gathers_as, gathers_failed}
 use Rattle.report_text.proofs.PlanLemmas.{gathers_none, gathers_next, gathers_broken}
 use Rattle.report_text.proofs.plan.gather_sectors.Goals as goal
 

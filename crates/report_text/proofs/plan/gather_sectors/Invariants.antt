@@ -1,7 +1,7 @@
 use Rattle.std.proofs.Common.{Ok}
 use Rattle.std.specs.Prelude.{codes}
 use Rattle.report_text.specs.Plan.{texts_below, member_text}
-use Rattle.report_text.specs.Gathers.{Gathers}
+use Rattle.outside_io.specs.Gathers.{Gathers}
 use Rattle.report_text.proofs.plan.gather_sectors.Given as goal
 
 abbrev pub invariant-loop-index : goal.invariant-loop-index

@@ -1,6 +1,6 @@
 use Rattle.std.proofs.Common.{append-nil}
-use Rattle.report_text.proofs.PutLemmas.{puts_as}
-use Rattle.report_text.proofs.GatherLemmas.{gathers_alone, gathers_then, gathers_waiting}
+use Rattle.outside_io.proofs.PutTexts.{puts_as}
+use Rattle.outside_io.proofs.GatherLemmas.{gathers_alone, gathers_then, gathers_waiting}
 use Rattle.report_text.proofs.plan.put_plan.Goals as goal
 
 pub returns : goal.returns

@@ -1,6 +1,6 @@
 use Rattle.std.proofs.Common.{ap, sym}
 use Rattle.report_text.specs.Faults.{elf_text}
-use Rattle.report_text.proofs.PutLemmas.{puts_as}
+use Rattle.outside_io.proofs.PutTexts.{puts_as}
 use Rattle.report_text.proofs.reason.put_elf_fault.Goals as goal
 
 pub returns-in-BadName : goal.returns-in-BadName

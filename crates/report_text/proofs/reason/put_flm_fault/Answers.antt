@@ -1,6 +1,6 @@
 use Rattle.std.proofs.Common.{ap, sym}
 use Rattle.report_text.specs.Faults.{elf_text, flm_text}
-use Rattle.report_text.proofs.PutLemmas.{puts_as, puts_stops, puts_failed}
+use Rattle.outside_io.proofs.PutTexts.{puts_as, puts_stops, puts_failed}
 use Rattle.report_text.proofs.reason.put_flm_fault.Goals as goal
 
 pub returns-in_err-put_pieces-in-Elf : goal.returns-in_err-put_pieces-in-Elf

@@ -2,7 +2,7 @@ use Rattle.std.proofs.Common.{◌≡◌, ap, sym}
 use Rattle.report_text.specs.Refusal.{reason_of}
 use Rattle.report_text.specs.Shown.{shown}
 use Rattle.report_text.specs.declared.refusal.Refusal.{Refusal}
-use Rattle.report_text.proofs.PutLemmas.{puts_as, puts_stops, puts_failed}
+use Rattle.outside_io.proofs.PutTexts.{puts_as, puts_stops, puts_failed}
 use Rattle.report_text.proofs.refusal.put_reason.Goals as goal
 
 says : {a b : Refusal} → a ≡ b → reason_of (shown a) ≡ reason_of (shown b)

@@ -1,7 +1,7 @@
 use Rattle.std.specs.Prelude.{codes}
 use Rattle.report_text.specs.Refusal.{reason_of, line_of}
 use Rattle.report_text.specs.Shown.{shown}
-use Rattle.report_text.proofs.PutLemmas.{puts_then, puts_stops, puts_failed}
+use Rattle.outside_io.proofs.PutTexts.{puts_then, puts_stops, puts_failed}
 use Rattle.report_text.proofs.refusal.put_refusal.Goals as goal
 
 pub returns-in_err-put_pieces : goal.returns-in_err-put_pieces

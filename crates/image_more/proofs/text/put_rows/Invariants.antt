@@ -1,7 +1,0 @@
-use Rattle.std.proofs.Common.{drop}
-use Rattle.image_more.specs.Rows.{rows_of}
-use Rattle.image_more.proofs.RowLemmas.{HasPut}
-use Rattle.image_more.proofs.text.put_rows.Given as goal
-
-abbrev pub invariant-loop-index : goal.invariant-loop-index
-invariant-loop-index g l = HasPut g.O.Sink.tells (g.O.Sink.state l.initial.out) (g.O.Sink.state l.out) l.fn.first l.form (rows_of l.map) (rows_of (drop l.index l.map))

@@ -1,0 +1,7 @@
+use Rattle.std.proofs.Common.{ap}
+use Rattle.report_text.specs.Faults.{place_text}
+use Rattle.outside_io.proofs.PutTexts.{puts_as, puts_then}
+use Rattle.report_text.proofs.image_reason.put_image_file.Goals as goal
+
+pub returns : goal.returns
+returns g c = puts_then _ (puts_as (ap (place_text c.args.name.now) c.faulty_line.ensures) c.in_ok-put_place.ensures) c.put_any_fault.ensures
