@@ -133,6 +133,10 @@ known_inspect : IsKnown (codes "inspect")
 unfolding defaults_fault
 known_inspect = (λ ws. rw (same_walk (codes "inspect") (walk_at false none []) ws) (or_else-nil (faults_from (walk_at false none []) ws)), λ ws. refl)
 
+known_dump : IsKnown (codes "dump")
+unfolding defaults_fault
+known_dump = (λ ws. rw (same_walk (codes "dump") (walk_at false none []) ws) (or_else-nil (faults_from (walk_at false none []) ws)), λ ws. refl)
+
 known_demo : IsKnown (codes "demo")
 unfolding defaults_fault
 known_demo = (λ ws. rw (same_walk (codes "demo") (walk_at false none []) ws) (or_else-nil (faults_from (walk_at false none []) ws)), λ ws. refl)
@@ -143,7 +147,7 @@ Each P [] = Unit {0}
 Each P (n ∷ ns) = P n × Each P ns
 
 all_known : Each IsKnown commands
-all_known = (known_program, (known_resume, (known_revert, (known_plan, (known_verify, (known_compare, (known_status, (known_inspect, (known_demo, tt)))))))))
+all_known = (known_program, (known_resume, (known_revert, (known_plan, (known_verify, (known_compare, (known_status, (known_inspect, (known_dump, (known_demo, tt))))))))))
 
 -- and so of the one that was found
 found_one : (P : Text → Type 0) (w c : Text) (ns : List Text) → Each P ns → find (λ n. bytes_eq n w) ns ≡ Some c → P c

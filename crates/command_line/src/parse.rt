@@ -75,6 +75,7 @@ fn made<'a>(alloc: Global) -> Result<Command<'a>, AllocError>
     let tool = with_command(alloc, tool, "compare")?;
     let tool = with_command(alloc, tool, "status")?;
     let tool = with_command(alloc, tool, "inspect")?;
+    let tool = with_command(alloc, tool, "dump")?;
     with_command(alloc, tool, "demo")
 }
 

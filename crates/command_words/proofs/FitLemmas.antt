@@ -112,6 +112,10 @@ module _ (others addresses names : Words) (spells : scan [] [] others ≡ Some (
   pub no_address : (given : Words) → Positional others given → length addresses ≡ 0
   no_address given positional = no_gift addresses (arguments_given others addresses names spells None given positional).gives
 
+  -- the names themselves
+  pub the_names : (given : Words) → Positional others given → names ≡ given
+  the_names given positional = (arguments_given others addresses names spells None given positional).names_are
+
   pub as_many : (given : Words) → Positional others given → length names ≡ length given
   as_many given positional = ap length (arguments_given others addresses names spells None given positional).names_are
 

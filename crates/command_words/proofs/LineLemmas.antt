@@ -8,9 +8,9 @@ use Rattle.command_line.specs.Scan.{Said, commands, command_of, scan, with_comma
 use Rattle.command_line.specs.declared.line.Line.{Line}
 use Rattle.command_words.specs.Fits.{Fitted}
 use Rattle.command_words.specs.Lines.{Spells, IsLineOf}
-use Rattle.command_words.specs.Words.{text_of, AreArguments, Command, program, resume, revert, plan, verify, compare, status, inspect, demo, AsksNothing, Asked}
+use Rattle.command_words.specs.Words.{text_of, form_text, AreArguments, Command, program, resume, revert, plan, verify, compare, status, inspect, dump, demo, AsksNothing, Asked}
 use Rattle.command_words.specs.declared.command.CommandName.{CommandName}
-use Rattle.command_words.specs.declared.command.CommandName.TheVariants.{Program, Resume, Revert, Plan, Verify, Compare, Status, Inspect, Demo}
+use Rattle.command_words.specs.declared.command.CommandName.TheVariants.{Program, Resume, Revert, Plan, Verify, Compare, Status, Inspect, Dump, Demo}
 use Rattle.command_words.proofs.ScanLemmas.{arguments_read}
 use Rattle.command_words.proofs.WordsLemmas.{AsksNothing-unknown, Asked-fitted}
 
@@ -61,6 +61,7 @@ named_known Verify = refl
 named_known Compare = refl
 named_known Status = refl
 named_known Inspect = refl
+named_known Dump = refl
 named_known Demo = refl
 
 -- Words that say no line ask for nothing.
@@ -82,6 +83,7 @@ module _ (words : Words) (none : says words ≡ None) where
   AsksNothing-unread (compare image) asked = no_arguments Compare asked.others None (image ∷ []) asked.begins asked.one
   AsksNothing-unread status asked = no_arguments Status asked.others None [] asked.begins asked.none
   AsksNothing-unread (inspect flm) asked = no_arguments Inspect asked.others None (flm ∷ []) asked.begins asked.one
+  AsksNothing-unread (dump form board) asked = no_arguments Dump asked.others None (form_text form ∷ board ∷ []) asked.begins asked.two
   AsksNothing-unread (demo seed) asked = no_arguments Demo asked.others None (asked.number.word ∷ []) asked.begins asked.number.one
 
 -- What the words of a line ask for.

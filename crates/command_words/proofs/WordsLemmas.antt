@@ -1,10 +1,12 @@
 -- Words and what they ask for.
 use Rattle.std.proofs.Common.{◌≡◌, ◌≢◌, ◌∙◌, sym, ap, subst, refl, ◌==◌, if◌then◌else◌, Bool, ℕ, List, [], ◌∷◌, ◌++◌, get_or, drop, Option, Some, None, IsSome, option_to_list}
-use Rattle.command_words.specs.Words.{text_of, Begins, Positional, HasOneName, IsDemo, HasBoardAndImages, IsVerify, HasTargetAndImages, IsOnTarget, Command, program, resume, revert, plan, verify, compare, status, inspect, demo, Asks, AsksNothing, Asked}
+use Rattle.command_words.specs.Words.{text_of, form_text, IsDump, Begins, Positional, HasOneName, IsDemo, HasBoardAndImages, IsVerify, HasTargetAndImages, IsOnTarget, Command, program, resume, revert, plan, verify, compare, status, inspect, dump, demo, Asks, AsksNothing, Asked}
 use Rattle.command_words.specs.Files.{FilesAsked, names_in}
 use Rattle.command_words.specs.Fits.{Fits, Fitted}
 use Rattle.command_words.specs.declared.command.CommandName.{CommandName}
-use Rattle.command_words.specs.declared.command.CommandName.TheVariants.{Program, Resume, Revert, Plan, Verify, Compare, Status, Inspect, Demo}
+use Rattle.command_words.specs.declared.command.CommandName.TheVariants.{Program, Resume, Revert, Plan, Verify, Compare, Status, Inspect, Dump, Demo}
+use Rattle.command_words.specs.declared.command.TextForm.{TextForm}
+use Rattle.command_words.specs.declared.command.TextForm.TheVariants.{Hex, Srec}
 use Rattle.command_words.proofs.ScanLemmas.{one_arguments}
 
 -- A first word names one command.
@@ -13,11 +15,11 @@ use Rattle.command_words.proofs.ScanLemmas.{one_arguments}
 abbrev byte_is : List ℕ → ℕ → ℕ → Bool
 byte_is word k byte = get_or word k 0 == byte
 
--- the command of a first word, by its bytes 0 and 2
+-- the command of a first word, by its bytes 0 to 2
 named : List ℕ → CommandName
 named word =
     if byte_is word 0 99 then Compare else if byte_is word 0 105 then Inspect else if byte_is word 0 118 then Verify
-    else if byte_is word 0 100 then Demo else if byte_is word 0 115 then Status
+    else if byte_is word 0 100 then (if byte_is word 1 101 then Demo else Dump) else if byte_is word 0 115 then Status
     else if byte_is word 0 112 then (if byte_is word 2 111 then Program else Plan)
     else (if byte_is word 2 115 then Resume else Revert)
 
@@ -31,6 +33,7 @@ named-text_of Verify = refl
 named-text_of Compare = refl
 named-text_of Status = refl
 named-text_of Inspect = refl
+named-text_of Dump = refl
 named-text_of Demo = refl
 
 -- the command that a first word names is the one that the words ask for
@@ -43,6 +46,7 @@ IsCalled (verify files) name = name ≡ Verify
 IsCalled (compare image) name = name ≡ Compare
 IsCalled status name = name ≡ Status
 IsCalled (inspect flm) name = name ≡ Inspect
+IsCalled (dump form board) name = name ≡ Dump
 IsCalled (demo seed) name = name ≡ Demo
 
 -- `other` is what stands in place of a first word, where there is none
@@ -63,6 +67,7 @@ module _ (words : List (List ℕ)) (other : List ℕ) where
   called (compare image) asked = first_is Compare asked.others asked.begins
   called status asked = first_is Status asked.others asked.begins
   called (inspect flm) asked = first_is Inspect asked.others asked.begins
+  called (dump form board) asked = first_is Dump asked.others asked.begins
   called (demo seed) asked = first_is Demo asked.others asked.begins
 
 -- a first word that names no command
@@ -79,6 +84,7 @@ module _ (words others : List (List ℕ)) (first : List ℕ) (is : words ≡ fir
   AsksNothing-unknown (compare image) asked = no_beginning Compare asked.others asked.begins
   AsksNothing-unknown status asked = no_beginning Status asked.others asked.begins
   AsksNothing-unknown (inspect flm) asked = no_beginning Inspect asked.others asked.begins
+  AsksNothing-unknown (dump form board) asked = no_beginning Dump asked.others asked.begins
   AsksNothing-unknown (demo seed) asked = no_beginning Demo asked.others asked.begins
 
 -- Words that begin with the name of a command ask for what the others make of it.
@@ -99,6 +105,7 @@ module _ (name : CommandName) (words others : List (List ℕ)) (is : words ≡ t
   fits (compare image) asked = same_beginning (λ n o. Fits n o (compare image)) Compare asked.others asked.begins asked.one
   fits status asked = same_beginning (λ n o. Fits n o status) Status asked.others asked.begins asked.none
   fits (inspect flm) asked = same_beginning (λ n o. Fits n o (inspect flm)) Inspect asked.others asked.begins asked.one
+  fits (dump form board) asked = same_beginning (λ n o. Fits n o (dump form board)) Dump asked.others asked.begins asked.two
   fits (demo seed) asked = same_beginning (λ n o. Fits n o (demo seed)) Demo asked.others asked.begins asked.number
 
   pub Asked-fitted : (asked : Option Command) → Fitted name others asked → Asked words asked
@@ -112,6 +119,7 @@ module _ (name : CommandName) (words others : List (List ℕ)) (is : words ≡ t
     asks Compare is (compare image) fits = record { others = others; begins = is; one = fits }
     asks Status is status fits = record { others = others; begins = is; none = fits }
     asks Inspect is (inspect flm) fits = record { others = others; begins = is; one = fits }
+    asks Dump is (dump form board) fits = record { others = others; begins = is; two = fits }
     asks Demo is (demo seed) fits = record { others = others; begins = is; number = fits }
     asks n is command fits = absurd fits
   Asked-fitted None none = λ command asked. none command (fits command asked)
@@ -137,6 +145,23 @@ same_seed words a b one two =
     let word : one.number.word ≡ two.number.word = one_name_alone two.others one.number.word two.number.word
     (subst (λ (w : List (List ℕ)). Positional w (one.number.word ∷ [])) same one.number.one) two.number.one in
     let x = one.number.decimal.value in let y = two.number.decimal.value in cc
+
+-- a word is of one form
+same_form : (f g : TextForm) → form_text f ≡ form_text g → f ≡ g
+same_form Hex Hex same = refl
+same_form Hex Srec same = absurd (cc)
+same_form Srec Hex same = absurd (cc)
+same_form Srec Srec same = refl
+
+same_dump : (words : List (List ℕ)) (f g : TextForm) (a b : List ℕ) → IsDump words f a → IsDump words g b → dump f a ≡ dump g b
+same_dump words f g a b one two =
+    let others = same_others Dump words one.others two.others one.begins two.begins in
+    let names = (one_arguments two.others None None (form_text f ∷ a ∷ []) (form_text g ∷ b ∷ [])
+    (subst (λ (w : List (List ℕ)). Positional w (form_text f ∷ a ∷ [])) others one.two) two.two).names in
+    let text : form_text f ≡ form_text g = cc in
+    let form = same_form f g text in
+    let board : a ≡ b = cc in
+    cc
 
 same_record : (r r' : Option ℕ) (b b' : List ℕ) (f f' : Option (List ℕ)) (i i' : List (List ℕ)) → r ≡ r' → b ≡ b' → f ≡ f' → i ≡ i'
     → ◌≡◌ {A = FilesAsked} (record { raw_at = r; board = b; flm = f; images = i }) (record { raw_at = r'; board = b'; flm = f'; images = i' })
@@ -191,6 +216,7 @@ one_command words (verify x) (verify y) one two = ap verify (same_verify words x
 one_command words (compare a) (compare b) one two = ap compare (same_name Compare words a b one two)
 one_command words status status one two = refl
 one_command words (inspect a) (inspect b) one two = ap inspect (same_name Inspect words a b one two)
+one_command words (dump f a) (dump g b) one two = same_dump words f g a b one two
 one_command words (demo a) (demo b) one two = ap demo (same_seed words a b one two)
 one_command words a b one two =
     absurd (let called_one = called words [] a one in let called_other = called words [] b two in let no : ⊥ = cc in no)

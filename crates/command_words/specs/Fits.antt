@@ -1,8 +1,8 @@
 -- The words behind the name of a command.
 use Rattle.std.specs.Prelude.{ℕ, List, [], ◌∷◌, Option, Some, None}
-use Rattle.command_words.specs.Words.{Positional, HasOneNumber, HasBoardAndImages, HasTargetAndImages, Command, program, resume, revert, plan, verify, compare, status, inspect, demo}
+use Rattle.command_words.specs.Words.{form_text, Positional, HasOneNumber, HasBoardAndImages, HasTargetAndImages, Command, program, resume, revert, plan, verify, compare, status, inspect, dump, demo}
 use Rattle.command_words.specs.declared.command.CommandName.{CommandName}
-use Rattle.command_words.specs.declared.command.CommandName.TheVariants.{Program, Resume, Revert, Plan, Verify, Compare, Status, Inspect, Demo}
+use Rattle.command_words.specs.declared.command.CommandName.TheVariants.{Program, Resume, Revert, Plan, Verify, Compare, Status, Inspect, Dump, Demo}
 
 -- words that make this command with such a name before them
 abbrev pub Fits : CommandName → List (List ℕ) → Command → Type 0
@@ -14,6 +14,7 @@ Fits Verify others (verify files) = HasBoardAndImages others files
 Fits Compare others (compare image) = Positional others (image ∷ [])
 Fits Status others status = Positional others []
 Fits Inspect others (inspect flm) = Positional others (flm ∷ [])
+Fits Dump others (dump form board) = Positional others (form_text form ∷ board ∷ [])
 Fits Demo others (demo seed) = HasOneNumber others seed
 Fits _ others _ = ⊥
 

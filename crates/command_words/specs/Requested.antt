@@ -1,11 +1,11 @@
 -- The command that a request is.
 use Rattle.std.specs.Prelude.{option_copied}
 use Rattle.command_words.specs.Files.{FilesAsked}
-use Rattle.command_words.specs.Words.{Command, program, resume, revert, plan, verify, compare, status, inspect, demo}
+use Rattle.command_words.specs.Words.{Command, program, resume, revert, plan, verify, compare, status, inspect, dump, demo}
 use Rattle.command_words.specs.Names.{names_of}
 use Rattle.command_words.specs.declared.command.FileNames.{FileNames}
 use Rattle.command_words.specs.declared.command.Request.{Request}
-use Rattle.command_words.specs.declared.command.Request.TheVariants.{Program, Resume, Revert, Plan, Verify, Compare, Status, Inspect, Demo}
+use Rattle.command_words.specs.declared.command.Request.TheVariants.{Program, Resume, Revert, Plan, Verify, Compare, Status, Inspect, Dump, Demo}
 
 abbrev pub files_of : FileNames → FilesAsked
 files_of files = record {
@@ -24,4 +24,5 @@ command_of (Verify files) = verify (files_of files)
 command_of (Compare image) = compare image.now
 command_of Status = status
 command_of (Inspect flm) = inspect flm.now
+command_of (Dump form board) = dump form board.now
 command_of (Demo seed) = demo seed

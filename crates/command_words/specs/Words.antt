@@ -3,7 +3,9 @@ use Rattle.std.specs.Prelude.{◌≡◌, ◌≤◌, ◌<◌, ◌^◌, ◌⊎◌,
 use Rattle.std.specs.Str.Parse.{IsNumeral, digits_value}
 use Rattle.command_words.specs.Files.{FilesAsked, names_in}
 use Rattle.command_words.specs.declared.command.CommandName.{CommandName}
-use Rattle.command_words.specs.declared.command.CommandName.TheVariants.{Program, Resume, Revert, Plan, Verify, Compare, Status, Inspect, Demo}
+use Rattle.command_words.specs.declared.command.CommandName.TheVariants.{Program, Resume, Revert, Plan, Verify, Compare, Status, Inspect, Dump, Demo}
+use Rattle.command_words.specs.declared.command.TextForm.{TextForm}
+use Rattle.command_words.specs.declared.command.TextForm.TheVariants.{Hex, Srec}
 
 -- the first word, which names the command
 abbrev pub text_of : CommandName → List ℕ
@@ -15,6 +17,7 @@ text_of Verify = codes "verify"
 text_of Compare = codes "compare"
 text_of Status = codes "status"
 text_of Inspect = codes "inspect"
+text_of Dump = codes "dump"
 text_of Demo = codes "demo"
 
 -- an option begins with `-` and is longer than one byte
@@ -68,6 +71,17 @@ IsCompare words image = HasOneName Compare words image
 -- `inspect FLM`
 abbrev pub IsInspect : List (List ℕ) → List ℕ → Type 0
 IsInspect words flm = HasOneName Inspect words flm
+
+-- the word for a form of text
+abbrev pub form_text : TextForm → List ℕ
+form_text Hex = codes "hex"
+form_text Srec = codes "srec"
+
+-- `dump FORM BOARD`
+pub record IsDump (words : List (List ℕ)) (form : TextForm) (board : List ℕ) : Type 0 where
+  pub others : List (List ℕ)
+  pub begins : Begins Dump words others
+  pub two : Positional others (form_text form ∷ board ∷ [])
 
 -- An address: `0x` with 1 to 8 hexadecimal digits, or decimal digits of a value below 2^32. It has no sign.
 
@@ -182,6 +196,7 @@ pub data Command : Type 0 where
   compare : (image : List ℕ) → Command
   status : Command
   inspect : (flm : List ℕ) → Command
+  dump : (form : TextForm) → (board : List ℕ) → Command
   demo : (seed : ℕ) → Command
 
 abbrev pub Asks : List (List ℕ) → Command → Type 0
@@ -193,6 +208,7 @@ Asks words (verify files) = IsVerify words files
 Asks words (compare image) = IsCompare words image
 Asks words status = HasNoName Status words
 Asks words (inspect flm) = IsInspect words flm
+Asks words (dump form board) = IsDump words form board
 Asks words (demo seed) = IsDemo words seed
 
 -- the names of the files that a command may take, in the order of the words
@@ -202,6 +218,7 @@ names_asked (plan files) = names_in files
 names_asked (verify files) = names_in files
 names_asked (compare image) = image ∷ []
 names_asked (inspect flm) = flm ∷ []
+names_asked (dump form board) = board ∷ []
 names_asked _ = []
 
 -- the words fit no command

@@ -1,7 +1,8 @@
 //! The commands, with what each is given.
 ghost use Rattle.std.specs.Prelude.{◌≡◌, ◌≢◌, IfSome, IfNone};
-ghost use Rattle.command_words.specs.Words.{text_of};
+ghost use Rattle.command_words.specs.Words.{text_of, form_text};
 ghost use Rattle.command_words.specs.declared.command.CommandName.{CommandName};
+ghost use Rattle.command_words.specs.declared.command.TextForm.{TextForm};
 
 use crate::names::Names;
 use octets::Word;
@@ -17,6 +18,7 @@ pub enum CommandName {
     Compare,
     Status,
     Inspect,
+    Dump,
     Demo,
 }
 
@@ -35,7 +37,32 @@ impl CommandName {
             b"compare" => Some(CommandName::Compare),
             b"status" => Some(CommandName::Status),
             b"inspect" => Some(CommandName::Inspect),
+            b"dump" => Some(CommandName::Dump),
             b"demo" => Some(CommandName::Demo),
+            _ => None,
+        }
+    }
+}
+
+/// How cells are written as a text.
+#[derive(Clone, Copy, Debug, PartialEq, Eq)]
+pub enum TextForm {
+    /// Intel HEX.
+    Hex,
+
+    /// Motorola S-records.
+    Srec,
+}
+
+impl TextForm {
+    /// The form that a word names.
+    pub fn read(word: &Word) -> Option<TextForm>
+        ensures some { IfSome result (λ form. word.now ≡ form_text form) }
+        ensures none { IfNone result ((form : TextForm) → word.now ≢ form_text form) }
+    {
+        match word.bytes() {
+            b"hex" => Some(TextForm::Hex),
+            b"srec" => Some(TextForm::Srec),
             _ => None,
         }
     }
@@ -77,6 +104,9 @@ pub enum Request<'a> {
 
     /// Prints what this FLM file says of itself.
     Inspect { flm: &'a Word },
+
+    /// Puts the cells as a text of this form, on a board.
+    Dump { form: TextForm, board: &'a Word },
 
     /// Runs the job in memory that is made of this number.
     Demo { seed: u32 },

@@ -4,10 +4,11 @@ ghost use Rattle.command_words.specs.Files.{FilesAsked};
 ghost use Rattle.command_words.specs.Fits.{Fitted};
 ghost use Rattle.command_words.specs.Lines.{Gives, Spells};
 ghost use Rattle.command_words.specs.Requested.{files_of, command_of};
-ghost use Rattle.command_words.specs.Words.{AreFew, Positional, HasOneNumber, HasBoardAndImages, HasTargetAndImages};
+ghost use Rattle.command_words.specs.declared.command.TextForm.{TextForm};
+ghost use Rattle.command_words.specs.Words.{form_text, AreFew, Positional, HasOneNumber, HasBoardAndImages, HasTargetAndImages};
 
 use crate::address::{read_address, read_number};
-use crate::command::{CommandName, FileNames, Request};
+use crate::command::{CommandName, FileNames, Request, TextForm};
 use crate::names::Names;
 use command_line::Line;
 use octets::Word;
@@ -29,6 +30,10 @@ pub fn read_command(name: CommandName, line: &Line) -> Option<Request<'_>>
         CommandName::Inspect => Some(Request::Inspect {
             flm: only_name(line)?,
         }),
+        CommandName::Dump => {
+            let (form, board) = form_and_board(line)?;
+            Some(Request::Dump { form, board })
+        }
         CommandName::Demo => Some(Request::Demo {
             seed: only_number(line)?,
         }),
@@ -116,6 +121,24 @@ fn only_name(line: &Line) -> Option<&Word>
         return None;
     }
     Some(name)
+}
+
+/// The form and the board of `dump`: the two positional words, where there are exactly two and no address.
+fn form_and_board(line: &Line) -> Option<(TextForm, &Word)>
+    ensures some { IfSome result (λ p. (others : List (List ℕ)) → Spells others line.now → Positional others (form_text p.0 ∷ p.1.now ∷ [])) }
+    ensures none { IfNone result ((others : List (List ℕ)) → Spells others line.now → (form : TextForm) (board : List ℕ) → Positional others (form_text form ∷ board ∷ []) → ⊥) }
+{
+    if !has_no_address(line) {
+        return None;
+    }
+    let [form, board, others @ ..] = line.names.as_slice() else {
+        return None;
+    };
+    if !others.is_empty() {
+        return None;
+    }
+    let form = TextForm::read(form)?;
+    Some((form, board))
 }
 
 /// The one positional word as a number in decimal digits, where there is exactly one and no address.

@@ -8,7 +8,7 @@ mod law;
 mod line;
 mod names;
 
-pub use command::{FileNames, Request};
+pub use command::{FileNames, Request, TextForm};
 pub use law::words_ask_for_one_command;
 pub use line::CommandLine;
 pub use names::Names;

@@ -1,7 +1,7 @@
 //! What words ask for, in text.
 
 use anyhow::Result;
-use command_words::{CommandLine, FileNames, Names, Request};
+use command_words::{CommandLine, FileNames, Names, Request, TextForm};
 use octets::Word;
 use std::alloc::Global;
 
@@ -40,7 +40,17 @@ fn show(rt: &HostRuntime, request: &Request<'_>) -> Result<()> {
         Request::Compare { image } => println!(rt; "  compare [{}]", image.text())?,
         Request::Status => println!(rt; "  status")?,
         Request::Inspect { flm } => println!(rt; "  inspect [{}]", flm.text())?,
+        Request::Dump { form, board } => show_dump(rt, *form, board.text())?,
         Request::Demo { seed } => println!(rt; "  demo {seed}")?,
+    }
+    Ok(())
+}
+
+/// Prints a dump with its form.
+fn show_dump(rt: &HostRuntime, form: TextForm, board: &str) -> Result<()> {
+    match form {
+        TextForm::Hex => println!(rt; "  dump hex board [{board}]")?,
+        TextForm::Srec => println!(rt; "  dump srec board [{board}]")?,
     }
     Ok(())
 }

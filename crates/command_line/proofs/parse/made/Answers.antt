@@ -13,4 +13,5 @@ returns c =
     let made_6 = c.in_ok-tool-6.ensures ∙ ap (λ (a : App). with_leaf a (codes "compare")) made_5 in
     let made_7 = c.in_ok-tool-7.ensures ∙ ap (λ (a : App). with_leaf a (codes "status")) made_6 in
     let made_8 = c.in_ok-tool-8.ensures ∙ ap (λ (a : App). with_leaf a (codes "inspect")) made_7 in
-    subst (λ (a : App). IfOk c.with_command-9.result (λ made. app_of made ≡ with_leaf a (codes "demo"))) made_8 c.with_command-9.ensures
+    let made_9 = c.in_ok-tool-9.ensures ∙ ap (λ (a : App). with_leaf a (codes "dump")) made_8 in
+    subst (λ (a : App). IfOk c.with_command-10.result (λ made. app_of made ≡ with_leaf a (codes "demo"))) made_9 c.with_command-10.ensures
