@@ -38,6 +38,7 @@ pub record AreCounted (bench : BenchCall) (inputs : InputsCall) (out : SinkCall)
 
 abbrev pub has_program : Refusal → Bool
 has_program out_of_memory = true
+has_program usage = true
 has_program (input_fault name) = true
 has_program (board_refused fault) = true
 has_program (flm_refused fault) = true
@@ -53,6 +54,7 @@ has_program device_fault = true
 has_program output_fault = true
 has_program (call_failed number call end) = true
 has_program (mismatch at wanted found) = true
+has_program not_built = true
 has_program _ = false
 
 -- `resume` and `revert`
@@ -70,6 +72,7 @@ has_resume _ = false
 
 abbrev pub has_plan : Refusal → Bool
 has_plan out_of_memory = true
+has_plan usage = true
 has_plan (input_fault name) = true
 has_plan (board_refused fault) = true
 has_plan (flm_refused fault) = true
@@ -117,6 +120,15 @@ has_inspect (input_fault name) = true
 has_inspect (flm_refused fault) = true
 has_inspect output_fault = true
 has_inspect _ = false
+
+abbrev pub has_dump : Refusal → Bool
+has_dump out_of_memory = true
+has_dump (input_fault name) = true
+has_dump (board_refused fault) = true
+has_dump (cells_differ wanted found) = true
+has_dump device_fault = true
+has_dump output_fault = true
+has_dump _ = false
 
 -- Yielding: want of memory may be answered in place of any answer, and so may a fault, by its count.
 

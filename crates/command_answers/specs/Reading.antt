@@ -1,7 +1,6 @@
--- What a command on files answers, as far as the files go: one form for each command that has a board, images, and an FLM file
--- or none.
+-- What a command on files answers, as far as the files go: one form for each command that has a board, images, and FLM files or none.
 use Rattle.std.specs.Prelude.{IsTrue}
-use Rattle.report_text.specs.Refusal.{Refusal, out_of_memory, input_fault, flm_refused, other_device, no_room, board_refused, image_refused, image_misplaced}
+use Rattle.report_text.specs.Refusal.{Refusal, out_of_memory, usage, input_fault, flm_refused, other_device, no_room, board_refused, image_refused, image_misplaced}
 use Rattle.command_words.specs.Files.{FilesAsked}
 use Rattle.command_files.specs.Inputs.{InputsCall, FilesGiven, AreFiles, Given}
 use Rattle.command_files.specs.Files.{Aim, IsAim, IsRefused}
@@ -20,6 +19,7 @@ abbrev pub ShowsFiles : InputsCall → FilesAsked → (FilesGiven → Aim → Ty
 ShowsFiles inputs asked Holds (refused out_of_memory) = Unit {0}
 ShowsFiles inputs asked Holds (refused (input_fault name)) = Unit {0}
 ShowsFiles inputs asked Holds (refused (board_refused fault)) = Given inputs asked (λ files. IsRefused asked files (board_refused fault))
+ShowsFiles inputs asked Holds (refused usage) = Given inputs asked (λ files. IsRefused asked files usage)
 ShowsFiles inputs asked Holds (refused (flm_refused fault)) = Given inputs asked (λ files. IsRefused asked files (flm_refused fault))
 ShowsFiles inputs asked Holds (refused (other_device base size)) = Given inputs asked (λ files. IsRefused asked files (other_device base size))
 ShowsFiles inputs asked Holds (refused (no_room need have)) = Given inputs asked (λ files. IsRefused asked files (no_room need have))

@@ -5,16 +5,17 @@ use Rattle.byte_map.specs.Image.{Run}
 use Rattle.board_file.specs.declared.fault.BoardFault.{BoardFault}
 use Rattle.board_file.specs.declared.region.Region.{Region}
 use Rattle.board_file.specs.Shown as board
-use Rattle.board_file.specs.Text.{reading}
+use Rattle.board_file.specs.Text.{reading, IsBoard}
 use Rattle.flm_descriptor.specs.Shown as flm
-use Rattle.flm_descriptor.specs.declared.fault.FlmFault.{FlmFault}
+use Rattle.flm_descriptor.specs.Flm.{flm_of}
 use Rattle.image_set.specs.declared.fault.ImageFault.{ImageFault}
+use Rattle.image_more.specs.declared.fault.AnyFault.{AnyFault}
 use Rattle.image_set.specs.Ranges.{IsPlaceFault}
-use Rattle.report_text.specs.Refusal.{Refusal, flm_refused, other_device, no_room, board_refused, image_refused, image_misplaced}
+use Rattle.report_text.specs.Refusal.{Refusal, usage, flm_refused, other_device, no_room, board_refused, image_refused, image_misplaced}
 use Rattle.command_words.specs.Files.{FilesAsked}
 use Rattle.command_files.specs.Inputs.{InputsCall, FilesGiven, AreEach, AreFiles, Given}
-use Rattle.image_set.specs.Files.{file_at}
-use Rattle.command_files.specs.Files.{IsBoardWith, algorithm_of, IsForBoard, Fits, IsOtherDevice, HasNoRoom, IsUnfit, HasBoard, HasTarget, HasUnfitAlgorithm, Aim, range_of, AreRead, IsAim, IsMisplaced, IsImageRefused, IsRefused}
+use Rattle.image_more.specs.Files.{file_at}
+use Rattle.command_files.specs.Files.{flm_files, image_files, LeavesNoImage, IsBoardOf, IsForBoard, IsOneFor, AreFor, IsOtherDevice, HasNoRoom, IsUnfit, IsUnread, IsNoneFor, AreNotFor, IsImageRefused, Aim, ranges_of, IsUnionOf, AreRead, IsAim, HasNoImage, HasNoTarget, HasWrongImage, IsMisplaced, IsRefused}
 use Rattle.command_files.proofs.ImageLemmas.{one_union, images_or_refused, one_image_refused, inside_or_fault, one_place_fault}
 
 -- The files that stand under the names.
@@ -49,37 +50,7 @@ pub holds_of : (inputs : InputsCall) (asked : FilesAsked) (files : FilesGiven) (
     → Given inputs asked Holds → Holds files
 holds_of inputs asked files Holds told are given = subst Holds (one_given inputs asked given.files files told given.are_files are) given.holds
 
--- What they say.
-
-pub record IsSameBoard (a b : board.Shown) (r s : Region) : Type 0 where
-  pub board : a ≡ b
-  pub region : r ≡ s
-
-one_board : (text : List ℕ) (a b : board.Shown) (r s : Region) → IsBoardWith text a r → IsBoardWith text b s → IsSameBoard a b r s
-one_board text a b r s one two =
-    let x = one.is_board in
-    let y = two.is_board in
-    let same : a ≡ b = cc in
-    let regions : r ∷ [] ≡ s ∷ [] = sym one.only ∙ ap (λ (b : board.Shown). b.regions) same ∙ two.only in
-    record { board = same; region = cc }
-
--- what is read is one
-pub one_read : (raw_at : Option ℕ) (files : FilesGiven) (a b : Aim) → AreRead raw_at files a → AreRead raw_at files b → a ≡ b
-one_read raw_at files a b one two =
-    let boards = one_board files.board a.board b.board a.region b.region one.board two.board in
-    let x = one.algorithm in
-    let y = two.algorithm in
-    let algorithm : a.algorithm ≡ b.algorithm = cc in
-    same_record a.board b.board a.region b.region a.algorithm b.algorithm a.image b.image boards.board boards.region algorithm
-    (one_union raw_at files.images (length files.images) a.image b.image one.union two.union) where
-      same_record : (x y : board.Shown) (r s : Region) (f g : Option flm.Shown) (i j : List Run) → x ≡ y → r ≡ s → f ≡ g → i ≡ j
-          → ◌≡◌ {A = Aim} (record { board = x; region = r; algorithm = f; image = i }) (record { board = y; region = s; algorithm = g; image = j })
-      same_record x y r s f g i j board region algorithm image = cc
-
-pub one_aim : (asked : FilesAsked) (files : FilesGiven) (a b : Aim) → IsAim asked.raw_at files a → IsAim asked.raw_at files b → a ≡ b
-one_aim asked files a b one two = one_read asked.raw_at files a b one.are_read two.are_read
-
--- An algorithm and a board.
+-- An algorithm and a region of a board.
 
 module _ (board : board.Shown) (base size : ℕ) (algorithm : flm.Shown) where
   -- an algorithm for the board isn't refused for it
@@ -110,125 +81,219 @@ module _ (board : board.Shown) (base size : ℕ) (algorithm : flm.Shown) where
   one_unfit (no_room need have) s one two = absurd two
   one_unfit r s one two = absurd one
 
+-- FLM files and the regions of a board.
+
+module _ (board : board.Shown) (region : Region) (file : List ℕ) where
+  one_for : (a b : flm.Shown) → IsOneFor board region file a → IsOneFor board region file b → a ≡ b
+  one_for a b one two = let x = one.says in let y = two.says in cc
+
+  read_or_unread : (algorithm : flm.Shown) (r : Refusal) → flm_of file ≡ Ok algorithm → IsUnread file r → ⊥
+  read_or_unread algorithm (flm_refused fault) says unread = cc
+  read_or_unread algorithm r says unread = unread
+
+  one_unread : (r s : Refusal) → IsUnread file r → IsUnread file s → r ≡ s
+  one_unread (flm_refused a) (flm_refused b) one two = let same : a ≡ b = cc in ap flm_refused same
+  one_unread (flm_refused a) s one two = absurd two
+  one_unread r s one two = absurd one
+
+  for_or_none : (a : flm.Shown) (r : Refusal) → IsOneFor board region file a → IsNoneFor board region file r → ⊥
+  for_or_none a r is = ⊎_elim (λ unread. read_or_unread a r is.says unread)
+      (λ unfit.
+      let x = is.says in
+      let y = unfit.says in
+      let same : unfit.algorithm ≡ a = cc in
+      fit_or_unfit board region.base region.size a r is.fits (subst (λ (x : flm.Shown). IsUnfit board region.base region.size x r) same unfit.unfit))
+
+  one_none : (r s : Refusal) → IsNoneFor board region file r → IsNoneFor board region file s → r ≡ s
+  one_none r s one two = ⊎_elim
+      (λ unread. ⊎_elim (λ other. one_unread r s unread other) (λ unfit. absurd (read_or_unread unfit.algorithm r unfit.says unread)) two)
+      (λ unfit. ⊎_elim (λ unread. absurd (read_or_unread unfit.algorithm s unfit.says unread))
+      (λ other.
+      let x = unfit.says in
+      let y = other.says in
+      let same : other.algorithm ≡ unfit.algorithm = cc in
+      one_unfit board region.base region.size unfit.algorithm r s unfit.unfit
+      (subst (λ (x : flm.Shown). IsUnfit board region.base region.size x s) same other.unfit))
+      two)
+      one
+
+module _ (board : board.Shown) where
+  one_target : (regions : List Region) (files : List (List ℕ)) (xs ys : List flm.Shown) → AreFor board regions files xs → AreFor board regions files ys → xs ≡ ys
+  one_target [] [] [] [] one two = refl
+  one_target [] [] [] (y ∷ ys) one two = absurd two
+  one_target [] [] (x ∷ xs) ys one two = absurd one
+  one_target (r ∷ rs) [] [] [] one two = refl
+  one_target (r ∷ rs) [] [] (y ∷ ys) one two = absurd two
+  one_target (r ∷ rs) [] (x ∷ xs) ys one two = absurd one
+  one_target [] (f ∷ fs) xs ys one two = absurd one
+  one_target (r ∷ rs) (f ∷ fs) [] ys one two = absurd one
+  one_target (r ∷ rs) (f ∷ fs) (x ∷ xs) [] one two = absurd two
+  one_target (r ∷ rs) (f ∷ fs) (x ∷ xs) (y ∷ ys) one two =
+      let first : x ≡ y = one_for board r f x y one.0 two.0 in
+      let rest : xs ≡ ys = one_target rs fs xs ys one.1 two.1 in
+      cc
+
+  target_or_none : (regions : List Region) (files : List (List ℕ)) (xs : List flm.Shown) (s : Refusal) → AreFor board regions files xs
+      → AreNotFor board regions files s → ⊥
+  target_or_none [] files xs s are are_not = are_not
+  target_or_none (r ∷ rs) [] xs s are are_not = are_not
+  target_or_none (r ∷ rs) (f ∷ fs) [] s are are_not = are
+  target_or_none (r ∷ rs) (f ∷ fs) (x ∷ xs) s are are_not =
+      ⊎_elim (λ none. for_or_none board r f x s are.0 none) (λ later. target_or_none rs fs xs s are.1 later.1) are_not
+
+  one_no_target : (regions : List Region) (files : List (List ℕ)) (s t : Refusal) → AreNotFor board regions files s → AreNotFor board regions files t → s ≡ t
+  one_no_target [] files s t one two = absurd one
+  one_no_target (r ∷ rs) [] s t one two = absurd one
+  one_no_target (r ∷ rs) (f ∷ fs) s t one two = ⊎_elim
+      (λ none. ⊎_elim (λ other. one_none board r f s t none other) (λ later. absurd (for_or_none board r f later.0.0 s later.0.1 none)) two)
+      (λ later. ⊎_elim (λ none. absurd (for_or_none board r f later.0.0 t later.0.1 none)) (λ other. one_no_target rs fs s t later.1 other.1) two)
+      one
+
+-- What files say.
+
+one_board : (text : List ℕ) (a b : board.Shown) → IsBoard text a → IsBoard text b → a ≡ b
+one_board text a b one two = cc
+
+-- what is read is one
+pub one_read : (raw_at : Option ℕ) (files : FilesGiven) (a b : Aim) → AreRead raw_at files a → AreRead raw_at files b → a ≡ b
+one_read raw_at files a b one two =
+    let boards = one_board files.board a.board b.board one.board.is_board two.board.is_board in
+    let their = subst (λ (x : board.Shown). AreFor x x.regions (flm_files files.flm files.images x) a.algorithms) boards one.algorithms in
+    let union = subst (λ (x : board.Shown). IsUnionOf raw_at (image_files files.flm files.images x) a.image) boards one.union in
+    same_record a.board b.board a.algorithms b.algorithms a.image b.image boards
+    (one_target b.board b.board.regions (flm_files files.flm files.images b.board) a.algorithms b.algorithms their two.algorithms)
+    (one_union raw_at (image_files files.flm files.images b.board) (length (image_files files.flm files.images b.board)) a.image b.image union two.union) where
+      same_record : (x y : board.Shown) (f g : List flm.Shown) (i j : List Run) → x ≡ y → f ≡ g → i ≡ j
+          → ◌≡◌ {A = Aim} (record { board = x; algorithms = f; image = i }) (record { board = y; algorithms = g; image = j })
+      same_record x y f g i j board algorithms image = cc
+
+pub one_aim : (asked : FilesAsked) (files : FilesGiven) (a b : Aim) → IsAim asked.raw_at files a → IsAim asked.raw_at files b → a ≡ b
+one_aim asked files a b one two = one_read asked.raw_at files a b one.are_read two.are_read
+
+-- How far files are right before they are refused.
+
+-- a refusal, by the stage at which it comes
+data Stage (asked : FilesAsked) (files : FilesGiven) (r : Refusal) : Type 0 where
+  at_board : (fault : BoardFault) → r ≡ board_refused fault → reading files.board ≡ Err fault → Stage asked files r
+  at_names : r ≡ usage → HasNoImage files → Stage asked files r
+  at_algorithms : HasNoTarget files r → Stage asked files r
+  at_images : (name : List ℕ) (fault : AnyFault) → r ≡ image_refused name fault → HasWrongImage asked files name fault → Stage asked files r
+  at_place : (fault : ImageFault) → r ≡ image_misplaced fault → IsMisplaced asked.raw_at files fault → Stage asked files r
+
 module _ (asked : FilesAsked) (files : FilesGiven) where
-  misplaced_again : (a b : Aim) (fault : ImageFault) → AreRead asked.raw_at files a → AreRead asked.raw_at files b → IsPlaceFault a.image (range_of a.region) fault
-      → IsPlaceFault b.image (range_of b.region) fault
-  misplaced_again a b fault one two is = subst (λ (x : Aim). IsPlaceFault x.image (range_of x.region) fault) (one_read asked.raw_at files a b one two) is
+  stage_of : (r : Refusal) → IsRefused asked files r → Stage asked files r
+  stage_of (board_refused fault) is = at_board fault refl is
+  stage_of usage is = at_names refl is
+  stage_of (flm_refused fault) is = at_algorithms is
+  stage_of (other_device base size) is = at_algorithms is
+  stage_of (no_room need have) is = at_algorithms is
+  stage_of (image_refused name fault) is = at_images name fault refl is
+  stage_of (image_misplaced fault) is = at_place fault refl is
+  stage_of r is = absurd is
 
-  -- the algorithm of the files is unfit for their board
-  unfit_again : (r : Refusal) (has : HasUnfitAlgorithm files r) (b : board.Shown) (region : Region) (algorithm : flm.Shown) → IsBoardWith files.board b region
-      → algorithm_of files.flm ≡ Ok (Some algorithm) → IsUnfit b region.base region.size algorithm r
-  unfit_again r has b region algorithm is_board is_algorithm =
-      let mine = has.has_board in
-      let same = one_board files.board mine.board b mine.region region mine.is_board is_board in
-      let its = has.is_algorithm in
-      let algorithms : has.algorithm ≡ algorithm = cc in
-      subst (λ (a : flm.Shown). IsUnfit b region.base region.size a r) algorithms
-      (subst (λ (g : Region). IsUnfit b g.base g.size has.algorithm r) same.region
-      (subst (λ (c : board.Shown). IsUnfit c mine.region.base mine.region.size has.algorithm r) same.board has.unfit))
+  board_or_refused : (b : board.Shown) (fault : BoardFault) → IsBoard files.board b → reading files.board ≡ Err fault → ⊥
+  board_or_refused b fault is isn't = cc
 
-  -- so it is not one for it
-  fits_or_unfit : (r : Refusal) (b : board.Shown) (region : Region) (algorithm : Option flm.Shown) → IsBoardWith files.board b region
-      → algorithm_of files.flm ≡ Ok algorithm → Fits b region algorithm → HasUnfitAlgorithm files r → ⊥
-  fits_or_unfit r b region None is_board is_algorithm fits has = let its = has.is_algorithm in cc
-  fits_or_unfit r b region (Some algorithm) is_board is_algorithm fits has =
-      fit_or_unfit b region.base region.size algorithm r fits (unfit_again r has b region algorithm is_board is_algorithm)
+  -- names enough
+  enough_or_not : (b : board.Shown) → IsBoardOf files b → HasNoImage files → ⊥
+  enough_or_not b is none =
+      let same = one_board files.board none.board b none.is_board is.is_board in
+      let leaves = subst (λ (x : board.Shown). LeavesNoImage files x) same none.leaves in
+      omega (arith, leaves.few, is.enough leaves.has_flm)
+
+  -- an algorithm for each region
+  target_or_refused : (b : board.Shown) (algorithms : List flm.Shown) (r : Refusal) → IsBoardOf files b
+      → AreFor b b.regions (flm_files files.flm files.images b) algorithms → HasNoTarget files r → ⊥
+  target_or_refused b algorithms r is are none =
+      let same = one_board files.board none.has_board.board b none.has_board.is_board.is_board is.is_board in
+      target_or_none b b.regions (flm_files files.flm files.images b) algorithms r are
+      (subst (λ (x : board.Shown). AreNotFor x x.regions (flm_files files.flm files.images x) r) same none.are_not)
+
+  one_no_target_of : (r s : Refusal) → HasNoTarget files r → HasNoTarget files s → r ≡ s
+  one_no_target_of r s one two =
+      let b = two.has_board.board in
+      let same = one_board files.board one.has_board.board b one.has_board.is_board.is_board two.has_board.is_board.is_board in
+      one_no_target b b.regions (flm_files files.flm files.images b) r s
+      (subst (λ (x : board.Shown). AreNotFor x x.regions (flm_files files.flm files.images x) r) same one.are_not) two.are_not
+
+  -- images
+  images_or_wrong : (aim : Aim) (name : List ℕ) (fault : AnyFault) → AreRead asked.raw_at files aim → HasWrongImage asked files name fault → ⊥
+  images_or_wrong aim name fault are wrong =
+      let mine = wrong.has_target.has_board in
+      let same = one_board files.board mine.board aim.board mine.is_board.is_board are.board.is_board in
+      images_or_refused asked.raw_at (image_files files.flm asked.images aim.board) (image_files files.flm files.images aim.board) name fault aim.image
+      (subst (λ (b : board.Shown). IsImageRefused asked.raw_at (image_files files.flm asked.images b) (image_files files.flm files.images b) name fault) same wrong.is_wrong)
+      are.union
+
+  one_wrong : (x y : List ℕ) (a b : AnyFault) → HasWrongImage asked files x a → HasWrongImage asked files y b → image_refused x a ≡ image_refused y b
+  one_wrong x y a b one two =
+      let mine = one.has_target.has_board in
+      let its = two.has_target.has_board in
+      let same = one_board files.board mine.board its.board mine.is_board.is_board its.is_board.is_board in
+      let equal = one_image_refused asked.raw_at (image_files files.flm asked.images its.board) (image_files files.flm files.images its.board) x y a b
+      (subst (λ (b : board.Shown). IsImageRefused asked.raw_at (image_files files.flm asked.images b) (image_files files.flm files.images b) x a) same one.is_wrong)
+      two.is_wrong in
+      let names_are = equal.name in
+      let faults_are = equal.fault in
+      cc
+
+  misplaced_again : (a b : Aim) (fault : ImageFault) → AreRead asked.raw_at files a → AreRead asked.raw_at files b → IsPlaceFault a.image (ranges_of a.board.regions) fault
+      → IsPlaceFault b.image (ranges_of b.board.regions) fault
+  misplaced_again a b fault one two is =
+      subst (λ (x : Aim). IsPlaceFault x.image (ranges_of x.board.regions) fault) (one_read asked.raw_at files a b one two) is
+
+  -- files that are read are refused for their place alone
+  read_or_refused : (aim : Aim) (r : Refusal) → AreRead asked.raw_at files aim → ((fault : ImageFault) → IsMisplaced asked.raw_at files fault → ⊥) → Stage asked files r → ⊥
+  read_or_refused aim r are place (at_board fault is isn't) = board_or_refused aim.board fault are.board.is_board isn't
+  read_or_refused aim r are place (at_names is none) = enough_or_not aim.board are.board none
+  read_or_refused aim r are place (at_algorithms none) = target_or_refused aim.board aim.algorithms r are.board are.algorithms none
+  read_or_refused aim r are place (at_images name fault is wrong) = images_or_wrong aim name fault are wrong
+  read_or_refused aim r are place (at_place fault is misplaced) = place fault misplaced
 
   -- files that are right aren't refused
   pub aim_or_refused : (aim : Aim) (r : Refusal) → IsAim asked.raw_at files aim → IsRefused asked files r → ⊥
-  aim_or_refused aim (board_refused fault) one two = let is = one.are_read.board.is_board in cc
-  aim_or_refused aim (flm_refused fault) one two = let is = one.are_read.algorithm in let isn't = two.1 in cc
-  aim_or_refused aim (other_device base size) one two =
-      let are = one.are_read in
-      fits_or_unfit (other_device base size) aim.board aim.region aim.algorithm are.board are.algorithm are.fits two
-  aim_or_refused aim (no_room need have) one two =
-      let are = one.are_read in
-      fits_or_unfit (no_room need have) aim.board aim.region aim.algorithm are.board are.algorithm are.fits two
-  aim_or_refused aim (image_refused name fault) one two =
-      images_or_refused asked.raw_at asked.images files.images name fault aim.image two.1 one.are_read.union
-  aim_or_refused aim (image_misplaced fault) one two = inside_or_fault aim.image (range_of aim.region) fault one.inside
-      (misplaced_again two.aim aim fault two.are_read one.are_read two.is_fault)
-  aim_or_refused aim r one two = two
+  aim_or_refused aim r is refused = read_or_refused aim r is.are_read
+      (λ fault misplaced. inside_or_fault aim.image (ranges_of aim.board.regions) fault is.inside
+      (misplaced_again misplaced.aim aim fault misplaced.are_read is.are_read misplaced.is_fault))
+      (stage_of r refused)
 
   -- nor are files refused in two ways
-  board_or_refused : (fault : BoardFault) → HasBoard files → reading files.board ≡ Err fault → ⊥
-  board_or_refused fault has isn't = let is = has.is_board.is_board in cc
-
-  algorithm_or_refused : (fault : FlmFault) (algorithm : Option flm.Shown) → algorithm_of files.flm ≡ Ok algorithm → IsRefused asked files (flm_refused fault) → ⊥
-  algorithm_or_refused fault algorithm is refused = let isn't = refused.1 in cc
-
-  target_or_unfit : (r : Refusal) → HasTarget files → HasUnfitAlgorithm files r → ⊥
-  target_or_unfit r has unfit =
-      fits_or_unfit r has.has_board.board has.has_board.region has.algorithm has.has_board.is_board has.is_algorithm has.fits unfit
-
-  one_unfit_target : (r s : Refusal) → HasUnfitAlgorithm files r → HasUnfitAlgorithm files s → r ≡ s
-  one_unfit_target r s one two =
-      let has = two.has_board in
-      one_unfit has.board has.region.base has.region.size two.algorithm r s
-      (unfit_again r one has.board has.region two.algorithm has.is_board two.is_algorithm) two.unfit
-
-  has_target : (aim : Aim) → AreRead asked.raw_at files aim → HasTarget files
-  has_target aim are = record {
-    has_board = record { board = aim.board; region = aim.region; is_board = are.board };
-    algorithm = aim.algorithm;
-    is_algorithm = are.algorithm;
-    fits = are.fits;
-  }
-
-  image_or_misplaced : (name : List ℕ) (a b : ImageFault) → IsImageRefused asked.raw_at asked.images files.images name a → IsMisplaced asked.raw_at files b → ⊥
-  image_or_misplaced name a b one two =
-      images_or_refused asked.raw_at asked.images files.images name a two.aim.image one two.are_read.union
+  one_stage : (r s : Refusal) → Stage asked files r → Stage asked files s → r ≡ s
+  one_stage r s (at_board a is one) (at_board b its two) = let same : a ≡ b = cc in is ∙ ap board_refused same ∙ sym its
+  one_stage r s (at_board a is one) (at_names its two) = absurd (board_or_refused two.board a two.is_board one)
+  one_stage r s (at_board a is one) (at_algorithms two) = absurd (board_or_refused two.has_board.board a two.has_board.is_board.is_board one)
+  one_stage r s (at_board a is one) (at_images name b its two) =
+      absurd (board_or_refused two.has_target.has_board.board a two.has_target.has_board.is_board.is_board one)
+  one_stage r s (at_board a is one) (at_place b its two) = absurd (board_or_refused two.aim.board a two.are_read.board.is_board one)
+  one_stage r s (at_names is one) (at_board b its two) = absurd (board_or_refused one.board b one.is_board two)
+  one_stage r s (at_names is one) (at_names its two) = is ∙ sym its
+  one_stage r s (at_names is one) (at_algorithms two) = absurd (enough_or_not two.has_board.board two.has_board.is_board one)
+  one_stage r s (at_names is one) (at_images name b its two) =
+      absurd (enough_or_not two.has_target.has_board.board two.has_target.has_board.is_board one)
+  one_stage r s (at_names is one) (at_place b its two) = absurd (enough_or_not two.aim.board two.are_read.board one)
+  one_stage r s (at_algorithms one) (at_board b its two) = absurd (board_or_refused one.has_board.board b one.has_board.is_board.is_board two)
+  one_stage r s (at_algorithms one) (at_names its two) = absurd (enough_or_not one.has_board.board one.has_board.is_board two)
+  one_stage r s (at_algorithms one) (at_algorithms two) = one_no_target_of r s one two
+  one_stage r s (at_algorithms one) (at_images name b its two) =
+      let has = two.has_target in absurd (target_or_refused has.has_board.board has.algorithms r has.has_board.is_board has.are_for one)
+  one_stage r s (at_algorithms one) (at_place b its two) =
+      absurd (target_or_refused two.aim.board two.aim.algorithms r two.are_read.board two.are_read.algorithms one)
+  one_stage r s (at_images name a is one) (at_board b its two) =
+      absurd (board_or_refused one.has_target.has_board.board b one.has_target.has_board.is_board.is_board two)
+  one_stage r s (at_images name a is one) (at_names its two) =
+      absurd (enough_or_not one.has_target.has_board.board one.has_target.has_board.is_board two)
+  one_stage r s (at_images name a is one) (at_algorithms two) =
+      let has = one.has_target in absurd (target_or_refused has.has_board.board has.algorithms s has.has_board.is_board has.are_for two)
+  one_stage r s (at_images x a is one) (at_images y b its two) = is ∙ one_wrong x y a b one two ∙ sym its
+  one_stage r s (at_images name a is one) (at_place b its two) = absurd (images_or_wrong two.aim name a two.are_read one)
+  one_stage r s (at_place a is one) (at_board b its two) = absurd (board_or_refused one.aim.board b one.are_read.board.is_board two)
+  one_stage r s (at_place a is one) (at_names its two) = absurd (enough_or_not one.aim.board one.are_read.board two)
+  one_stage r s (at_place a is one) (at_algorithms two) =
+      absurd (target_or_refused one.aim.board one.aim.algorithms s one.are_read.board one.are_read.algorithms two)
+  one_stage r s (at_place a is one) (at_images name b its two) = absurd (images_or_wrong one.aim name b one.are_read two)
+  one_stage r s (at_place a is one) (at_place b its two) =
+      is ∙ ap image_misplaced (one_place_fault two.aim.image (ranges_of two.aim.board.regions) a b
+      (misplaced_again one.aim two.aim a one.are_read two.are_read one.is_fault) two.is_fault) ∙ sym its
 
   pub one_refusal : (a b : Refusal) → IsRefused asked files a → IsRefused asked files b → a ≡ b
-  one_refusal (board_refused a) (board_refused b) one two = let same : a ≡ b = cc in ap board_refused same
-  one_refusal (board_refused a) (flm_refused b) one two = absurd (board_or_refused a two.0 one)
-  one_refusal (board_refused a) (other_device b d) one two = absurd (board_or_refused a two.has_board one)
-  one_refusal (board_refused a) (no_room b d) one two = absurd (board_or_refused a two.has_board one)
-  one_refusal (board_refused a) (image_refused other b) one two = absurd (board_or_refused a two.0.has_board one)
-  one_refusal (board_refused a) (image_misplaced b) one two = absurd (board_or_refused a (has_target two.aim two.are_read).has_board one)
-  one_refusal (board_refused a) s one two = absurd two
-  one_refusal (flm_refused a) (board_refused b) one two = absurd (board_or_refused b one.0 two)
-  one_refusal (flm_refused a) (flm_refused b) one two =
-      let x = one.1 in
-      let y = two.1 in
-      let same : a ≡ b = cc in
-      ap flm_refused same
-  one_refusal (flm_refused a) (other_device b d) one two = absurd (algorithm_or_refused a (Some two.algorithm) two.is_algorithm one)
-  one_refusal (flm_refused a) (no_room b d) one two = absurd (algorithm_or_refused a (Some two.algorithm) two.is_algorithm one)
-  one_refusal (flm_refused a) (image_refused other b) one two = absurd (algorithm_or_refused a two.0.algorithm two.0.is_algorithm one)
-  one_refusal (flm_refused a) (image_misplaced b) one two = absurd (algorithm_or_refused a two.aim.algorithm two.are_read.algorithm one)
-  one_refusal (flm_refused a) s one two = absurd two
-  one_refusal (other_device a c) (board_refused b) one two = absurd (board_or_refused b one.has_board two)
-  one_refusal (other_device a c) (flm_refused b) one two = absurd (algorithm_or_refused b (Some one.algorithm) one.is_algorithm two)
-  one_refusal (other_device a c) (other_device b d) one two = one_unfit_target (other_device a c) (other_device b d) one two
-  one_refusal (other_device a c) (no_room b d) one two = one_unfit_target (other_device a c) (no_room b d) one two
-  one_refusal (other_device a c) (image_refused other b) one two = absurd (target_or_unfit (other_device a c) two.0 one)
-  one_refusal (other_device a c) (image_misplaced b) one two = absurd (target_or_unfit (other_device a c) (has_target two.aim two.are_read) one)
-  one_refusal (other_device a c) s one two = absurd two
-  one_refusal (no_room a c) (board_refused b) one two = absurd (board_or_refused b one.has_board two)
-  one_refusal (no_room a c) (flm_refused b) one two = absurd (algorithm_or_refused b (Some one.algorithm) one.is_algorithm two)
-  one_refusal (no_room a c) (other_device b d) one two = one_unfit_target (no_room a c) (other_device b d) one two
-  one_refusal (no_room a c) (no_room b d) one two = one_unfit_target (no_room a c) (no_room b d) one two
-  one_refusal (no_room a c) (image_refused other b) one two = absurd (target_or_unfit (no_room a c) two.0 one)
-  one_refusal (no_room a c) (image_misplaced b) one two = absurd (target_or_unfit (no_room a c) (has_target two.aim two.are_read) one)
-  one_refusal (no_room a c) s one two = absurd two
-  one_refusal (image_refused name a) (board_refused b) one two = absurd (board_or_refused b one.0.has_board two)
-  one_refusal (image_refused name a) (flm_refused b) one two = absurd (algorithm_or_refused b one.0.algorithm one.0.is_algorithm two)
-  one_refusal (image_refused name a) (other_device b d) one two = absurd (target_or_unfit (other_device b d) one.0 two)
-  one_refusal (image_refused name a) (no_room b d) one two = absurd (target_or_unfit (no_room b d) one.0 two)
-  one_refusal (image_refused name a) (image_refused other b) one two =
-      let same = one_image_refused asked.raw_at asked.images files.images name other a b one.1 two.1 in
-      let names_are = same.name in
-      let faults_are = same.fault in
-      cc
-  one_refusal (image_refused name a) (image_misplaced b) one two = absurd (image_or_misplaced name a b one.1 two)
-  one_refusal (image_refused name a) s one two = absurd two
-  one_refusal (image_misplaced a) (board_refused b) one two = absurd (board_or_refused b (has_target one.aim one.are_read).has_board two)
-  one_refusal (image_misplaced a) (flm_refused b) one two = absurd (algorithm_or_refused b one.aim.algorithm one.are_read.algorithm two)
-  one_refusal (image_misplaced a) (other_device b d) one two = absurd (target_or_unfit (other_device b d) (has_target one.aim one.are_read) two)
-  one_refusal (image_misplaced a) (no_room b d) one two = absurd (target_or_unfit (no_room b d) (has_target one.aim one.are_read) two)
-  one_refusal (image_misplaced a) (image_refused other b) one two = absurd (image_or_misplaced other b a two.1 one)
-  one_refusal (image_misplaced a) (image_misplaced b) one two = ap image_misplaced (one_place_fault two.aim.image (range_of two.aim.region) a b
-      (misplaced_again one.aim two.aim a one.are_read two.are_read one.is_fault) two.is_fault)
-  one_refusal (image_misplaced a) s one two = absurd two
-  one_refusal r s one two = absurd one
+  one_refusal a b one two = one_stage a b (stage_of a one) (stage_of b two)

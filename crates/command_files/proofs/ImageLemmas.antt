@@ -5,11 +5,14 @@ use Rattle.byte_map.specs.Image.{Run, byte_at, AreMaximal}
 use Rattle.byte_map.proofs.OneList.{one_list}
 use Rattle.image_set.specs.declared.fault.ImageFault.{ImageFault}
 use Rattle.image_set.specs.declared.fault.ImageFault.TheVariants.{NoForm, Hex, Srec, Elf, Conflict, PastEnd, OutsideDevice, EmptyImage, OutOfMemory}
-use Rattle.image_set.specs.Read.{IsFault}
 use Rattle.image_set.specs.Union.{IsUnion, IsLeastClash, IsUnionFault}
 use Rattle.image_set.specs.Ranges.{LiesInside, IsLeastOutside, IsPlaceFault}
-use Rattle.image_set.specs.Files.{file_at, IsNextUnion, IsUnionBefore}
-use Rattle.image_set.proofs.FileLemmas.{one_image, image_or_fault, one_fault}
+use Rattle.image_more.specs.declared.fault.AnyFault.{AnyFault}
+use Rattle.image_more.specs.declared.fault.AnyFault.TheVariants as any
+use Rattle.image_more.specs.Any.{IsAnyFault}
+use Rattle.image_more.specs.Fault.{any_of}
+use Rattle.image_more.specs.Files.{file_at, IsNextUnion, IsUnionBefore}
+use Rattle.image_more.proofs.AnyLemmas.{one_any_image, any_image_or_fault, one_any_fault}
 use Rattle.image_set.proofs.UnionLemmas.{below_end}
 use Rattle.command_files.specs.Inputs.{name_at}
 use Rattle.command_files.specs.Files.{Clashes, IsImageRefused}
@@ -86,7 +89,7 @@ pub one_union : (raw_at : Option ℕ) (files : List (List ℕ)) (n : ℕ) (a b :
 one_union raw_at files zero a b one two = one ∙ sym two
 one_union raw_at files (suc n) a b one two =
     let before : one.before ≡ two.before = one_union raw_at files n one.before two.before one.is_before two.is_before in
-    let image : one.image ≡ two.image = one_image raw_at (file_at files n) one.image two.image one.is_image two.is_image in
+    let image : one.image ≡ two.image = one_any_image raw_at (file_at files n) one.image two.image one.is_image two.is_image in
     one_union_of two.before two.image a b
     (subst (λ (i : List Run). IsUnion two.before i a) image (subst (λ (b : List Run). IsUnion b one.image a) before one.union)) two.union
 
@@ -104,45 +107,50 @@ read_at raw_at files (suc n) k whole is less = ⊎_elim
     subst (λ (i : ℕ). IsReadAt raw_at files i) here (record { whole = whole; next = is }))
     (cases_lt k n)
 
+-- a clash that isn't want of memory as a fault of a file
+no_memory_of : (clash : ImageFault) (fault : AnyFault) → fault ≡ any_of clash → fault ≢ any.OutOfMemory → clash ≢ OutOfMemory
+no_memory_of clash fault is other = λ same. other (is ∙ ap any_of same)
+
 -- a file that was read isn't refused
-read_or_refused : (raw_at : Option ℕ) (names files : List (List ℕ)) (name : List ℕ) (fault : ImageFault) → (one : IsImageRefused raw_at names files name fault)
+read_or_refused : (raw_at : Option ℕ) (names files : List (List ℕ)) (name : List ℕ) (fault : AnyFault) → (one : IsImageRefused raw_at names files name fault)
     → IsReadAt raw_at files one.place → ⊥
 read_or_refused raw_at names files name fault one two =
     let k = one.place in
     let next = two.next in
     let before : next.before ≡ one.before = one_union raw_at files k next.before one.before next.is_before one.is_before in
     ⊎_elim
-    (λ (is : IsFault raw_at (file_at files k) fault). image_or_fault raw_at (file_at files k) next.image fault next.is_image is one.no_memory)
+    (λ (is : IsAnyFault raw_at (file_at files k) fault). any_image_or_fault raw_at (file_at files k) next.image fault next.is_image is one.no_memory)
     (λ (is : Clashes raw_at (file_at files k) one.before fault).
-    let image : is.image ≡ next.image = one_image raw_at (file_at files k) is.image next.image is.is_image next.is_image in
-    union_or_fault next.before next.image two.whole fault (maximal_union raw_at files k next.before next.is_before) next.union
-    (subst (λ (i : List Run). IsUnionFault next.before i fault) image
-    (subst (λ (b : List Run). IsUnionFault b is.image fault) (sym before) is.is_fault)) one.no_memory)
+    let image : is.image ≡ next.image = one_any_image raw_at (file_at files k) is.image next.image is.is_image next.is_image in
+    union_or_fault next.before next.image two.whole is.clash (maximal_union raw_at files k next.before next.is_before) next.union
+    (subst (λ (i : List Run). IsUnionFault next.before i is.clash) image
+    (subst (λ (b : List Run). IsUnionFault b is.image is.clash) (sym before) is.is_clash)) (no_memory_of is.clash fault is.fault_is one.no_memory))
     one.is_fault
 
-pub images_or_refused : (raw_at : Option ℕ) (names files : List (List ℕ)) (name : List ℕ) (fault : ImageFault) (image : List Run)
+pub images_or_refused : (raw_at : Option ℕ) (names files : List (List ℕ)) (name : List ℕ) (fault : AnyFault) (image : List Run)
     → IsImageRefused raw_at names files name fault → IsUnionBefore raw_at files (length files) image → ⊥
 images_or_refused raw_at names files name fault image one two =
     read_or_refused raw_at names files name fault one (read_at raw_at files (length files) one.place image two one.inside)
 
-pub record IsSameRefusal (x y : List ℕ) (a b : ImageFault) : Type 0 where
+pub record IsSameRefusal (x y : List ℕ) (a b : AnyFault) : Type 0 where
   pub name : x ≡ y
   pub fault : a ≡ b
 
-same_fault : (raw_at : Option ℕ) (file : List ℕ) (before : List Run) (a b : ImageFault) → IsFault raw_at file a ⊎ Clashes raw_at file before a
-    → IsFault raw_at file b ⊎ Clashes raw_at file before b → a ≢ OutOfMemory → b ≢ OutOfMemory → a ≡ b
+same_fault : (raw_at : Option ℕ) (file : List ℕ) (before : List Run) (a b : AnyFault) → IsAnyFault raw_at file a ⊎ Clashes raw_at file before a
+    → IsAnyFault raw_at file b ⊎ Clashes raw_at file before b → a ≢ any.OutOfMemory → b ≢ any.OutOfMemory → a ≡ b
 same_fault raw_at file before a b one two no_a no_b = ⊎_elim
-    (λ (one : IsFault raw_at file a). ⊎_elim
-    (λ (two : IsFault raw_at file b). one_fault raw_at file a b one two no_a no_b)
-    (λ (two : Clashes raw_at file before b). absurd (image_or_fault raw_at file two.image a two.is_image one no_a)) two)
+    (λ (one : IsAnyFault raw_at file a). ⊎_elim
+    (λ (two : IsAnyFault raw_at file b). one_any_fault raw_at file a b one two no_a no_b)
+    (λ (two : Clashes raw_at file before b). absurd (any_image_or_fault raw_at file two.image a two.is_image one no_a)) two)
     (λ (one : Clashes raw_at file before a). ⊎_elim
-    (λ (two : IsFault raw_at file b). absurd (image_or_fault raw_at file one.image b one.is_image two no_b))
+    (λ (two : IsAnyFault raw_at file b). absurd (any_image_or_fault raw_at file one.image b one.is_image two no_b))
     (λ (two : Clashes raw_at file before b).
-    let image : one.image ≡ two.image = one_image raw_at file one.image two.image one.is_image two.is_image in
-    one_union_fault before two.image a b (subst (λ (i : List Run). IsUnionFault before i a) image one.is_fault) two.is_fault no_a no_b) two)
+    let image : one.image ≡ two.image = one_any_image raw_at file one.image two.image one.is_image two.is_image in
+    one.fault_is ∙ ap any_of (one_union_fault before two.image one.clash two.clash (subst (λ (i : List Run). IsUnionFault before i one.clash) image one.is_clash) two.is_clash
+    (no_memory_of one.clash a one.fault_is no_a) (no_memory_of two.clash b two.fault_is no_b)) ∙ sym two.fault_is) two)
     one
 
-pub one_image_refused : (raw_at : Option ℕ) (names files : List (List ℕ)) (x y : List ℕ) (a b : ImageFault) → IsImageRefused raw_at names files x a
+pub one_image_refused : (raw_at : Option ℕ) (names files : List (List ℕ)) (x y : List ℕ) (a b : AnyFault) → IsImageRefused raw_at names files x a
     → IsImageRefused raw_at names files y b → IsSameRefusal x y a b
 one_image_refused raw_at names files x y a b one two =
     let place : one.place ≡ two.place = ⊎_elim
@@ -152,9 +160,9 @@ one_image_refused raw_at names files x y a b one two =
     (cases_lt one.place two.place) in
     let before : one.before ≡ two.before = one_union raw_at files two.place one.before two.before
     (subst (λ (k : ℕ). IsUnionBefore raw_at files k one.before) place one.is_before) two.is_before in
-    let first : IsFault raw_at (file_at files two.place) a ⊎ Clashes raw_at (file_at files two.place) two.before a =
-    subst (λ (s : List Run). IsFault raw_at (file_at files two.place) a ⊎ Clashes raw_at (file_at files two.place) s a) before
-    (subst (λ (k : ℕ). IsFault raw_at (file_at files k) a ⊎ Clashes raw_at (file_at files k) one.before a) place one.is_fault) in
+    let first : IsAnyFault raw_at (file_at files two.place) a ⊎ Clashes raw_at (file_at files two.place) two.before a =
+    subst (λ (s : List Run). IsAnyFault raw_at (file_at files two.place) a ⊎ Clashes raw_at (file_at files two.place) s a) before
+    (subst (λ (k : ℕ). IsAnyFault raw_at (file_at files k) a ⊎ Clashes raw_at (file_at files k) one.before a) place one.is_fault) in
     record {
       name = one.name_is ∙ ap (λ (k : ℕ). name_at names k) place ∙ sym two.name_is;
       fault = same_fault raw_at (file_at files two.place) two.before a b first two.is_fault one.no_memory two.no_memory;

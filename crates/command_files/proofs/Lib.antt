@@ -1,6 +1,5 @@
 pub mod FilesLemmas
 pub mod ImageLemmas
-pub mod RegionLemmas
 pub mod TakeLemmas
 pub mod WantedLemmas
 pub mod TaskLemmas

@@ -1,6 +1,6 @@
--- What a command's files say: an image, for a board and by an algorithm where the command has one; or why they are refused.
-use Rattle.std.specs.Prelude.{◌≡◌, ◌≢◌, ◌≤◌, ◌<◌, ◌⊎◌, ℕ, List, [], ◌∷◌, length, Option, Some, None, Result, Ok, Err}
-use Rattle.std.specs.Result.{result_map_both}
+-- What a command's files say: an image, for a board and by an algorithm for each of its regions where the command has FLM files; or why
+-- they are refused.
+use Rattle.std.specs.Prelude.{◌≡◌, ◌≢◌, ◌≤◌, ◌<◌, ◌-◌, ◌⊎◌, ℕ, List, [], ◌∷◌, ◌++◌, map, length, take, drop, Option, option_to_list, Some, None, IsSome, Ok, Err}
 use Rattle.byte_map.specs.Image.{Run}
 use Rattle.board_file.specs.declared.region.Region.{Region}
 use Rattle.board_file.specs.Shown as board
@@ -10,26 +10,44 @@ use Rattle.flm_descriptor.specs.Flm.{flm_of}
 use Rattle.flm_descriptor.specs.declared.fault.FlmFault.{FlmFault}
 use Rattle.algo_loader.specs.Places.{need_of}
 use Rattle.image_set.specs.declared.fault.ImageFault.{ImageFault}
-use Rattle.image_set.specs.declared.fault.ImageFault.TheVariants.{OutOfMemory}
-use Rattle.image_set.specs.Read.{IsImage, IsFault}
-use Rattle.image_set.specs.Files.{file_at, IsUnionBefore}
+use Rattle.image_more.specs.declared.fault.AnyFault.{AnyFault}
+use Rattle.image_more.specs.declared.fault.AnyFault.TheVariants.{OutOfMemory}
+use Rattle.image_more.specs.Any.{IsAnyImage, IsAnyFault}
+use Rattle.image_more.specs.Fault.{any_of}
+use Rattle.image_more.specs.Files.{file_at, IsUnionBefore}
 use Rattle.image_set.specs.Union.{IsUnionFault}
 use Rattle.image_set.specs.Ranges.{LiesInside, IsPlaceFault}
-use Rattle.report_text.specs.Refusal.{Refusal, board_refused, flm_refused, other_device, no_room, image_refused, image_misplaced}
+use Rattle.report_text.specs.Refusal.{Refusal, usage, board_refused, flm_refused, other_device, no_room, image_refused, image_misplaced}
 use Rattle.command_words.specs.Files.{FilesAsked}
 use Rattle.command_files.specs.Inputs.{FilesGiven, name_at}
 
--- The board and the algorithm.
+-- The names behind the board. Where a command has an FLM file it has one for each region of the board, which are the first of these
+-- names, and the others are images; else all are images.
 
--- the text is this board's, which has this region
-pub record IsBoardWith (text : List ℕ) (board : board.Shown) (region : Region) : Type 0 where
-  pub is_board : IsBoard text board
-  pub only : board.regions ≡ region ∷ []
+-- how many FLM files stand behind the first
+abbrev pub others_of : Option (List ℕ) → List Region → ℕ
+others_of None regions = 0
+others_of (Some first) regions = length regions - 1
 
--- what an FLM file says, where there is one
-abbrev pub algorithm_of : Option (List ℕ) → Result (Option flm.Shown) FlmFault
-algorithm_of None = Ok None
-algorithm_of (Some bytes) = result_map_both (λ algorithm. Some algorithm) (λ fault. fault) (flm_of bytes)
+-- the FLM files
+abbrev pub flm_files : Option (List ℕ) → List (List ℕ) → board.Shown → List (List ℕ)
+flm_files first others board = option_to_list first ++ take (others_of first board.regions) others
+
+-- the images
+abbrev pub image_files : Option (List ℕ) → List (List ℕ) → board.Shown → List (List ℕ)
+image_files first others board = drop (others_of first board.regions) others
+
+-- FLM files leave no name for an image
+pub record LeavesNoImage (files : FilesGiven) (board : board.Shown) : Type 0 where
+  pub has_flm : IsSome files.flm
+  pub few : length files.images < length board.regions
+
+-- The board and the algorithms.
+
+-- the text is this board's, and a name is left for an image
+pub record IsBoardOf (files : FilesGiven) (board : board.Shown) : Type 0 where
+  pub is_board : IsBoard files.board board
+  pub enough : IsSome files.flm → length board.regions ≤ length files.images
 
 -- the algorithm is one for a region of the board with this base and size: its device is the region, and the RAM has room for it
 pub record IsForBoard (board : board.Shown) (base size : ℕ) (algorithm : flm.Shown) : Type 0 where
@@ -37,12 +55,18 @@ pub record IsForBoard (board : board.Shown) (base size : ℕ) (algorithm : flm.S
   pub size_is : algorithm.device.size ≡ size
   pub room : need_of algorithm board ≤ board.ram_size
 
--- the same, where there is an algorithm
-abbrev pub Fits : board.Shown → Region → Option flm.Shown → Type 0
-Fits board region None = Unit {0}
-Fits board region (Some algorithm) = IsForBoard board region.base region.size algorithm
+-- an FLM file says an algorithm, which is one for a region
+pub record IsOneFor (board : board.Shown) (region : Region) (file : List ℕ) (algorithm : flm.Shown) : Type 0 where
+  pub says : flm_of file ≡ Ok algorithm
+  pub fits : IsForBoard board region.base region.size algorithm
 
--- Why it isn't one.
+-- FLM files say these algorithms, each for the region in its own place
+abbrev pub AreFor : board.Shown → List Region → List (List ℕ) → List flm.Shown → Type 0
+AreFor board regions [] [] = Unit {0}
+AreFor board (region ∷ regions) (file ∷ files) (algorithm ∷ algorithms) = IsOneFor board region file algorithm × AreFor board regions files algorithms
+AreFor board regions files algorithms = ⊥
+
+-- Why one isn't.
 
 -- its device, which is told, has another base or another size
 pub record IsOtherDevice (base size : ℕ) (algorithm : flm.Shown) (told_base told_size : ℕ) : Type 0 where
@@ -63,82 +87,115 @@ IsUnfit board base size algorithm (other_device told_base told_size) = IsOtherDe
 IsUnfit board base size algorithm (no_room need have) = HasNoRoom board base size algorithm need have
 IsUnfit board base size algorithm _ = ⊥
 
+-- an FLM file says no algorithm
+abbrev pub IsUnread : List ℕ → Refusal → Type 0
+IsUnread file (flm_refused fault) = flm_of file ≡ Err fault
+IsUnread file _ = ⊥
+
+-- or one that isn't for the region
+pub record IsReadUnfit (board : board.Shown) (region : Region) (file : List ℕ) (refusal : Refusal) : Type 0 where
+  pub algorithm : flm.Shown
+  pub says : flm_of file ≡ Ok algorithm
+  pub unfit : IsUnfit board region.base region.size algorithm refusal
+
+abbrev pub IsNoneFor : board.Shown → Region → List ℕ → Refusal → Type 0
+IsNoneFor board region file refusal = IsUnread file refusal ⊎ IsReadUnfit board region file refusal
+
+-- the first FLM file that isn't one for the region in its place
+abbrev pub AreNotFor : board.Shown → List Region → List (List ℕ) → Refusal → Type 0
+AreNotFor board (region ∷ regions) (file ∷ files) refusal =
+    IsNoneFor board region file refusal ⊎ (((algorithm : flm.Shown) × IsOneFor board region file algorithm) × AreNotFor board regions files refusal)
+AreNotFor board regions files refusal = ⊥
+
 -- The images, file after file.
 
 -- a file's image clashes with those before it
-pub record Clashes (raw_at : Option ℕ) (file : List ℕ) (before : List Run) (fault : ImageFault) : Type 0 where
+pub record Clashes (raw_at : Option ℕ) (file : List ℕ) (before : List Run) (fault : AnyFault) : Type 0 where
   pub image : List Run
-  pub is_image : IsImage raw_at file image
-  pub is_fault : IsUnionFault before image fault
+  pub is_image : IsAnyImage raw_at file image
+  pub clash : ImageFault
+  pub is_clash : IsUnionFault before image clash
+  pub fault_is : fault ≡ any_of clash
 
 -- the first file that stands for no image, or for one that clashes with those before it; it is named
-pub record IsImageRefused (raw_at : Option ℕ) (names files : List (List ℕ)) (name : List ℕ) (fault : ImageFault) : Type 0 where
+pub record IsImageRefused (raw_at : Option ℕ) (names files : List (List ℕ)) (name : List ℕ) (fault : AnyFault) : Type 0 where
   pub place : ℕ
   pub inside : place < length files
   pub name_is : name ≡ name_at names place
   pub before : List Run
   pub is_before : IsUnionBefore raw_at files place before
-  pub is_fault : IsFault raw_at (file_at files place) fault ⊎ Clashes raw_at (file_at files place) before fault
+  pub is_fault : IsAnyFault raw_at (file_at files place) fault ⊎ Clashes raw_at (file_at files place) before fault
   pub no_memory : fault ≢ OutOfMemory
 
--- What is wanted of the cells: an image, in the region of a board, by an algorithm where there is one.
+-- What is wanted of the cells: an image, in the regions of a board, by an algorithm for each where there are FLM files.
 pub record Aim : Type 0 where
   pub board : board.Shown
-  pub region : Region
-  pub algorithm : Option flm.Shown
+  pub algorithms : List flm.Shown
   pub image : List Run
 
--- the addresses of a region, as one range
-abbrev pub range_of : Region → List (ℕ × ℕ)
-range_of region = (region.base, region.size) ∷ []
+-- the addresses of regions, each as one range
+abbrev pub ranges_of : List Region → List (ℕ × ℕ)
+ranges_of regions = map (λ (region : Region). (region.base, region.size)) regions
+
+-- the images of files are united to one
+abbrev pub IsUnionOf : Option ℕ → List (List ℕ) → List Run → Type 0
+IsUnionOf raw_at files image = IsUnionBefore raw_at files (length files) image
 
 -- each file is right, and says this
 pub record AreRead (raw_at : Option ℕ) (files : FilesGiven) (aim : Aim) : Type 0 where
-  pub board : IsBoardWith files.board aim.board aim.region
-  pub algorithm : algorithm_of files.flm ≡ Ok aim.algorithm
-  pub fits : Fits aim.board aim.region aim.algorithm
-  pub union : IsUnionBefore raw_at files.images (length files.images) aim.image
+  pub board : IsBoardOf files aim.board
+  pub algorithms : AreFor aim.board aim.board.regions (flm_files files.flm files.images aim.board) aim.algorithms
+  pub union : IsUnionOf raw_at (image_files files.flm files.images aim.board) aim.image
 
--- nothing is refused: the image has a byte, and none outside the region
+-- nothing is refused: the image has a byte, and none outside the regions
 pub record IsAim (raw_at : Option ℕ) (files : FilesGiven) (aim : Aim) : Type 0 where
   pub are_read : AreRead raw_at files aim
-  pub inside : LiesInside aim.image (range_of aim.region)
+  pub inside : LiesInside aim.image (ranges_of aim.board.regions)
 
 -- Why the files are refused.
 
--- there is a board
+-- there is a board, and FLM files for its regions leave no name for an image
+pub record HasNoImage (files : FilesGiven) : Type 0 where
+  pub board : board.Shown
+  pub is_board : IsBoard files.board board
+  pub leaves : LeavesNoImage files board
+
+-- there is a board, and a name for an image
 pub record HasBoard (files : FilesGiven) : Type 0 where
   pub board : board.Shown
-  pub region : Region
-  pub is_board : IsBoardWith files.board board region
+  pub is_board : IsBoardOf files board
 
--- and an algorithm for it, where there is an FLM file
+-- and an algorithm for each of its regions, where there are FLM files
 pub record HasTarget (files : FilesGiven) : Type 0 where
   pub has_board : HasBoard files
-  pub algorithm : Option flm.Shown
-  pub is_algorithm : algorithm_of files.flm ≡ Ok algorithm
-  pub fits : Fits has_board.board has_board.region algorithm
+  pub algorithms : List flm.Shown
+  pub are_for : AreFor has_board.board has_board.board.regions (flm_files files.flm files.images has_board.board) algorithms
 
--- and an algorithm that isn't one for it
-pub record HasUnfitAlgorithm (files : FilesGiven) (refusal : Refusal) : Type 0 where
+-- and an FLM file that isn't one for its region
+pub record HasNoTarget (files : FilesGiven) (refusal : Refusal) : Type 0 where
   pub has_board : HasBoard files
-  pub algorithm : flm.Shown
-  pub is_algorithm : algorithm_of files.flm ≡ Ok (Some algorithm)
-  pub unfit : IsUnfit has_board.board has_board.region.base has_board.region.size algorithm refusal
+  pub are_not : AreNotFor has_board.board has_board.board.regions (flm_files files.flm files.images has_board.board) refusal
 
--- the image is empty, or has a byte outside the region
+-- there is all that, and an image file is wrong
+pub record HasWrongImage (asked : FilesAsked) (files : FilesGiven) (name : List ℕ) (fault : AnyFault) : Type 0 where
+  pub has_target : HasTarget files
+  pub is_wrong : IsImageRefused asked.raw_at (image_files files.flm asked.images has_target.has_board.board)
+      (image_files files.flm files.images has_target.has_board.board) name fault
+
+-- the image is empty, or has a byte outside the regions
 pub record IsMisplaced (raw_at : Option ℕ) (files : FilesGiven) (fault : ImageFault) : Type 0 where
   pub aim : Aim
   pub are_read : AreRead raw_at files aim
-  pub is_fault : IsPlaceFault aim.image (range_of aim.region) fault
+  pub is_fault : IsPlaceFault aim.image (ranges_of aim.board.regions) fault
 
--- Each of these says that the earlier ones aren't so: the board comes first, then the FLM file, then its device and its room, then
--- the images in their order, then the place of their union.
+-- Each of these says that the earlier ones aren't so: the board comes first, then whether a name is left for an image, then each FLM file
+-- in its turn with its device and its room, then the images in their order, then the place of their union.
 abbrev pub IsRefused : FilesAsked → FilesGiven → Refusal → Type 0
 IsRefused asked files (board_refused fault) = reading files.board ≡ Err fault
-IsRefused asked files (flm_refused fault) = HasBoard files × (algorithm_of files.flm ≡ Err fault)
-IsRefused asked files (other_device base size) = HasUnfitAlgorithm files (other_device base size)
-IsRefused asked files (no_room need have) = HasUnfitAlgorithm files (no_room need have)
-IsRefused asked files (image_refused name fault) = HasTarget files × IsImageRefused asked.raw_at asked.images files.images name fault
+IsRefused asked files usage = HasNoImage files
+IsRefused asked files (flm_refused fault) = HasNoTarget files (flm_refused fault)
+IsRefused asked files (other_device base size) = HasNoTarget files (other_device base size)
+IsRefused asked files (no_room need have) = HasNoTarget files (no_room need have)
+IsRefused asked files (image_refused name fault) = HasWrongImage asked files name fault
 IsRefused asked files (image_misplaced fault) = IsMisplaced asked.raw_at files fault
 IsRefused asked files _ = ⊥

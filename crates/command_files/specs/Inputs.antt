@@ -2,7 +2,7 @@
 use Rattle.std.specs.Prelude.{◌≡◌, ◌<◌, ℕ, Bool, IsTrue, List, [], ◌∷◌, ◌++◌, All, length, get_or, Option, option_to_list, Some}
 use Rattle.outside_io.specs.State.{InputsState}
 use Rattle.command_words.specs.Files.{FilesAsked}
-use Rattle.image_set.specs.Files.{file_at}
+use Rattle.image_more.specs.Files.{file_at}
 
 -- what the inputs mean at entry and at exit, and whether they tell what stands under their names
 pub record InputsCall : Type 0 where
@@ -36,7 +36,8 @@ pub record AreEach (inputs : InputsCall) (names files : List (List ℕ)) : Type 
   pub count : length files ≡ length names
   pub each : (k : ℕ) → k < length names → IsFile inputs (name_at names k) (file_at files k)
 
--- The bytes of a command's files.
+-- The bytes of a command's files. Those of the images are also of further FLM files, where a command has FLM files for a board of several
+-- regions.
 pub record FilesGiven : Type 0 where
   pub board : List ℕ
   pub flm : Option (List ℕ)

@@ -1,5 +1,5 @@
 -- What the steps answer that take and read a command's files.
-use Rattle.std.specs.Prelude.{◌≡◌, ◌≤◌, ◌+◌, ◌^◌, ◌⊎◌, ℕ, List, length, slice_get, Option, Some, None, Result, Ok, Err, option_map}
+use Rattle.std.specs.Prelude.{◌≡◌, ◌≤◌, ◌<◌, ◌⊎◌, ℕ, List, [], ◌∷◌, map, length, Option, Some, Result, Ok, Err}
 use Rattle.std.specs.Option.{ForSome}
 use Rattle.faults.specs.Counts.{Rose}
 use Rattle.byte_map.specs.Image.{Run}
@@ -9,19 +9,19 @@ use Rattle.board_file.specs.Shown as board
 use Rattle.board_file.specs.Text.{reading, IsBoard}
 use Rattle.flm_descriptor.specs.Shown as flm
 use Rattle.flm_descriptor.specs.declared.algorithm.Algorithm.{Algorithm}
-use Rattle.image_set.specs.declared.fault.ImageFault.{ImageFault}
-use Rattle.image_set.specs.Read.{IsImage, IsFault}
 use Rattle.image_set.specs.Union.{IsUnion}
+use Rattle.image_more.specs.declared.fault.AnyFault.{AnyFault}
+use Rattle.image_more.specs.Any.{IsAnyImage, IsAnyFault}
+use Rattle.image_more.specs.Files.{IsUnionBefore}
 use Rattle.report_text.specs.Refusal as refusal
 use Rattle.report_text.specs.Shown.{shown}
 use Rattle.report_text.specs.declared.refusal.Refusal.{Refusal}
 use Rattle.command_words.specs.Files.{FilesAsked, names_in}
 use Rattle.command_files.specs.Inputs.{InputsCall, FilesGiven, AreEach, AreFiles, Given, IsUntaken, NoneFailed}
-use Rattle.image_set.specs.Files.{IsUnionBefore}
-use Rattle.command_files.specs.Files.{algorithm_of, IsForBoard, IsUnfit, Clashes, IsImageRefused, Aim, IsAim, IsRefused}
+use Rattle.command_files.specs.Files.{IsForBoard, IsOneFor, AreFor, IsUnfit, IsNoneFor, AreNotFor, Clashes, IsImageRefused, IsUnionOf, Aim, IsAim, IsRefused}
 use Rattle.command_files.specs.declared.take.Files.{Files}
+use Rattle.command_files.specs.declared.task.Device.{Device}
 use Rattle.command_files.specs.declared.task.Task.{Task}
-use Rattle.command_files.specs.declared.wanted.Device.{Device}
 use Rattle.command_files.specs.declared.wanted.Wanted.{Wanted}
 
 -- Taking the files of some names.
@@ -52,14 +52,6 @@ TakesFiles inputs asked names (Err e) = IsTakeFault inputs names (shown e)
 
 -- Reading the files.
 
--- the device is the first of some regions
-pub record IsFirstRegion (regions : List Region) (device : Device) : Type 0 where
-  pub region : Region
-  pub first : slice_get regions 0 ≡ Some region
-  pub base_is : device.base ≡ region.base
-  pub size_is : device.size ≡ region.size
-  pub ends : device.base + device.size ≤ 2 ^ 32
-
 abbrev pub IsBoardRefusal : List ℕ → refusal.Refusal → Type 0
 IsBoardRefusal text refusal.out_of_memory = Unit {0}
 IsBoardRefusal text (refusal.board_refused fault) = reading text ≡ Err fault
@@ -69,31 +61,38 @@ abbrev pub ReadsBoard : List ℕ → Result Board Refusal → Type 0
 ReadsBoard text (Ok b) = IsBoard text (board.shown b)
 ReadsBoard text (Err e) = IsBoardRefusal text (shown e)
 
-abbrev pub IsFlmRefusal : Option (List ℕ) → refusal.Refusal → Type 0
-IsFlmRefusal file refusal.out_of_memory = Unit {0}
-IsFlmRefusal file (refusal.flm_refused fault) = algorithm_of file ≡ Err fault
-IsFlmRefusal file _ = ⊥
+abbrev pub IsFlmRefusal : board.Shown → Region → List ℕ → refusal.Refusal → Type 0
+IsFlmRefusal b region file refusal.out_of_memory = Unit {0}
+IsFlmRefusal b region file r = IsNoneFor b region file r
 
-abbrev pub ReadsAlgorithm : Option (List ℕ) → Result (Option Algorithm) Refusal → Type 0
-ReadsAlgorithm file (Ok algorithm) = algorithm_of file ≡ Ok (option_map flm.shown algorithm)
-ReadsAlgorithm file (Err e) = IsFlmRefusal file (shown e)
+-- an FLM file for a region
+abbrev pub ReadsOne : board.Shown → Region → List ℕ → Result Algorithm Refusal → Type 0
+ReadsOne b region file (Ok algorithm) = IsOneFor b region file (flm.shown algorithm)
+ReadsOne b region file (Err e) = IsFlmRefusal b region file (shown e)
 
--- whether an algorithm, where there is one, is for a region of the board with this base and size
-abbrev pub ChecksAlgorithm : board.Shown → ℕ → ℕ → Option flm.Shown → Result (Unit {0}) Refusal → Type 0
-ChecksAlgorithm b base size None (Ok _) = Unit {0}
-ChecksAlgorithm b base size None (Err e) = ⊥
-ChecksAlgorithm b base size (Some algorithm) (Ok _) = IsForBoard b base size algorithm
-ChecksAlgorithm b base size (Some algorithm) (Err e) = IsUnfit b base size algorithm (shown e)
+abbrev pub AreFlmRefusal : board.Shown → List (List ℕ) → refusal.Refusal → Type 0
+AreFlmRefusal b files refusal.out_of_memory = Unit {0}
+AreFlmRefusal b files r = AreNotFor b b.regions files r
+
+-- one for each region of the board
+abbrev pub ReadsAlgorithms : board.Shown → List (List ℕ) → Result (List Algorithm) Refusal → Type 0
+ReadsAlgorithms b files (Ok algorithms) = AreFor b b.regions files (map flm.shown algorithms)
+ReadsAlgorithms b files (Err e) = AreFlmRefusal b files (shown e)
+
+-- whether an algorithm is for a region of the board
+abbrev pub ChecksAlgorithm : board.Shown → Region → flm.Shown → Result (Unit {0}) Refusal → Type 0
+ChecksAlgorithm b region algorithm (Ok _) = IsForBoard b region.base region.size algorithm
+ChecksAlgorithm b region algorithm (Err e) = IsUnfit b region.base region.size algorithm (shown e)
 
 -- a file's image was added to those before it
 pub record Adds (raw_at : Option ℕ) (file : List ℕ) (before after : List Run) : Type 0 where
   pub image : List Run
-  pub is_image : IsImage raw_at file image
+  pub is_image : IsAnyImage raw_at file image
   pub union : IsUnion before image after
 
 -- why it was not
-abbrev pub IsAddFault : Option ℕ → List ℕ → List Run → ImageFault → Type 0
-IsAddFault raw_at file before fault = IsFault raw_at file fault ⊎ Clashes raw_at file before fault
+abbrev pub IsAddFault : Option ℕ → List ℕ → List Run → AnyFault → Type 0
+IsAddFault raw_at file before fault = IsAnyFault raw_at file fault ⊎ Clashes raw_at file before fault
 
 abbrev pub IsImagesRefusal : Option ℕ → List (List ℕ) → List (List ℕ) → refusal.Refusal → Type 0
 IsImagesRefusal raw_at names files refusal.out_of_memory = Unit {0}
@@ -101,61 +100,66 @@ IsImagesRefusal raw_at names files (refusal.image_refused name fault) = IsImageR
 IsImagesRefusal raw_at names files _ = ⊥
 
 abbrev pub ReadsImages : Option ℕ → List (List ℕ) → List (List ℕ) → Result (List Run) Refusal → Type 0
-ReadsImages raw_at names files (Ok image) = IsUnionBefore raw_at files (length files) image
+ReadsImages raw_at names files (Ok image) = IsUnionOf raw_at files image
 ReadsImages raw_at names files (Err e) = IsImagesRefusal raw_at names files (shown e)
 
--- what is wanted, with the region of its board
-abbrev pub aim_of : Wanted → Region → Aim
-aim_of wanted region = record {
+-- what is wanted
+abbrev pub aim_of : Wanted → Aim
+aim_of wanted = record {
   board = board.shown wanted.board;
-  region = region;
-  algorithm = option_map flm.shown wanted.algorithm;
+  algorithms = map flm.shown wanted.algorithms.items;
   image = wanted.image;
 }
-
-pub record IsWanted (raw_at : Option ℕ) (files : FilesGiven) (wanted : Wanted) : Type 0 where
-  pub region : Region
-  pub is_aim : IsAim raw_at files (aim_of wanted region)
-  pub base_is : wanted.device.base ≡ region.base
-  pub size_is : wanted.device.size ≡ region.size
-  pub ends : wanted.device.base + wanted.device.size ≤ 2 ^ 32
 
 abbrev pub IsFilesRefusal : FilesAsked → FilesGiven → refusal.Refusal → Type 0
 IsFilesRefusal asked files refusal.out_of_memory = Unit {0}
 IsFilesRefusal asked files r = IsRefused asked files r
 
 abbrev pub ReadsFiles : FilesAsked → FilesGiven → Result Wanted Refusal → Type 0
-ReadsFiles asked files (Ok wanted) = IsWanted asked.raw_at files wanted
+ReadsFiles asked files (Ok wanted) = IsAim asked.raw_at files (aim_of wanted)
 ReadsFiles asked files (Err e) = IsFilesRefusal asked files (shown e)
 
 -- Taking and reading the files of a command on a target.
 
--- what the task wants, with the region of its board
-abbrev pub task_aim : Task → Region → Aim
-task_aim task region = record {
+-- what the task wants
+abbrev pub task_aim : Task → Aim
+task_aim task = record {
   board = board.shown task.board;
-  region = region;
-  algorithm = Some (flm.shown task.algorithm);
+  algorithms = flm.shown task.algorithm ∷ [];
   image = task.image;
 }
 
--- the task is what the files say, and has the bytes of the board's text and of the FLM file
-pub record IsTask (raw_at : Option ℕ) (files : FilesGiven) (task : Task) : Type 0 where
+-- the device is the one of these regions
+pub record IsOnly (regions : List Region) (device : Device) : Type 0 where
   pub region : Region
-  pub is_aim : IsAim raw_at files (task_aim task region)
-  pub base_is : task.device.base ≡ region.base
-  pub size_is : task.device.size ≡ region.size
-  pub ends : task.device.base + task.device.size ≤ 2 ^ 32
+  pub only : regions ≡ region ∷ []
+  pub base_is : device.base ≡ region.base
+  pub size_is : device.size ≡ region.size
+
+-- the task is what the files say, for a board of one region, and has the bytes of the board's text and of the FLM file
+pub record IsTask (raw_at : Option ℕ) (files : FilesGiven) (task : Task) : Type 0 where
+  pub is_aim : IsAim raw_at files (task_aim task)
+  pub is_only : IsOnly task.board.regions task.device
   pub board_text : files.board ≡ task.board_text
   pub flm : files.flm ≡ Some task.flm
+
+-- nothing in the files is refused, and their board has more regions than one
+pub record IsTwofold (raw_at : Option ℕ) (files : FilesGiven) : Type 0 where
+  pub aim : Aim
+  pub is_aim : IsAim raw_at files aim
+  pub several : 1 < length aim.board.regions
+
+abbrev pub IsTaskRefusal : FilesAsked → FilesGiven → refusal.Refusal → Type 0
+IsTaskRefusal asked files refusal.not_built = IsTwofold asked.raw_at files
+IsTaskRefusal asked files r = IsFilesRefusal asked files r
 
 -- The files were taken, and no take failed.
 pub record TookFiles (inputs : InputsCall) (asked : FilesAsked) (Holds : FilesGiven → Type 0) : Type 0 where
   pub given : Given inputs asked Holds
   pub none_failed : NoneFailed inputs
 
--- a file can't be taken, or else the files are refused
+-- a file can't be taken, or else the files are refused, or their board has more regions than one
 abbrev pub ReadsTask : InputsCall → FilesAsked → Result Task Refusal → Type 0
 ReadsTask inputs asked (Ok task) = TookFiles inputs asked (λ files. IsTask asked.raw_at files task)
 ReadsTask inputs asked (Err e) =
-    IsTakeFault inputs (names_in asked) (shown e) ⊎ TookFiles inputs asked (λ files. IsFilesRefusal asked files (shown e))
+    IsTakeFault inputs (names_in asked) (shown e) ⊎ TookFiles inputs asked (λ files. IsTaskRefusal asked files (shown e))

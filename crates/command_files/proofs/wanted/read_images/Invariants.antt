@@ -1,4 +1,4 @@
-use Rattle.image_set.specs.Files.{IsUnionBefore}
+use Rattle.image_more.specs.Files.{IsUnionBefore}
 use Rattle.command_files.proofs.wanted.read_images.Given as goal
 
 abbrev pub invariant-loop-index : goal.invariant-loop-index

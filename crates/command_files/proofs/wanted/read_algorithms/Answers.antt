@@ -1,0 +1,30 @@
+use Rattle.std.proofs.Common.{◌≡◌, ◌∙◌, sym, ap, subst, arith, ℕ, List, [], ◌∷◌, length, Option, Some, Vec, Global}
+use Rattle.board_file.specs.declared.region.Region.{Region}
+use Rattle.board_file.specs.Shown as board_shown
+use Rattle.flm_descriptor.specs.Shown as flm_shown
+use Rattle.flm_descriptor.specs.declared.algorithm.Algorithm.{Algorithm}
+use Rattle.command_files.specs.Files.{others_of, IsOneFor}
+use Rattle.command_files.proofs.WantedLemmas.{gathered, two_are_for, exactly_one, exactly_two}
+use Rattle.command_files.proofs.wanted.read_algorithms.Goals as goal
+
+pub returns : goal.returns
+returns c =
+    let b = board_shown.shown c.args.board.now in
+    let one = c.index-regions-0.result in
+    let two = c.index-regions-1.result in
+    let second = c.index-others-0.result in
+    let many : length c.as_slice-regions.result.now ≡ 2 =
+    omega (arith, ap length c.as_slice-regions.ensures, c.args.board.now.some_region, c.args.board.now.few_regions, c.if-regions-eq1.false) in
+    let regions : c.args.board.now.regions ≡ one ∷ two ∷ [] =
+    sym c.as_slice-regions.ensures ∙ exactly_two c.as_slice-regions.result.now one two many c.index-regions-0.is c.index-regions-1.is in
+    let count : length c.args.others.now ≡ 1 =
+    c.requires ∙ ap (λ (o : Option (List ℕ)). others_of o c.args.board.now.regions) c.in-Some.is
+    ∙ ap (λ (rs : List Region). others_of (Some c.in-Some.first) rs) regions in
+    let others : c.args.others.now ≡ second ∷ [] = exactly_one c.args.others.now second count c.index-others-0.is in
+    let x = c.in_ok-one.one in
+    let y = c.in_ok-other.other in
+    let first_is = subst (λ (l : List ℕ). IsOneFor b one l (flm_shown.shown x)) c.bytes.ensures c.in_ok-one.ensures in
+    let second_is = subst (λ (l : List ℕ). IsOneFor b two l (flm_shown.shown y)) c.bytes-2.ensures c.in_ok-other.ensures in
+    rw c.in-Some.is (gathered (λ (v : Vec Algorithm Global). v.items) b (c.in-Some.first ∷ c.args.others.now) (x ∷ y ∷ []) c.gather-2.result
+    c.gather-2.ensures.ok c.gather-2.ensures.err
+    (two_are_for b one two c.in-Some.first c.args.others.now second (flm_shown.shown x) (flm_shown.shown y) regions others first_is second_is))
