@@ -1,0 +1,4 @@
+pub mod LooksLemmas
+pub mod CellLemmas
+pub mod DumpLemmas
+mod LawLemmas

@@ -1,0 +1,108 @@
+-- What `dump FORM BOARD` answers.
+use Rattle.std.specs.Prelude.{◌≡◌, ◌≢◌, ◌<◌, ◌⊎◌, ℕ, IsTrue, List, [], ◌∷◌, length, Some, Err}
+use Rattle.std.specs.List.{All}
+use Rattle.bench_model.specs.State.{cells_half}
+use Rattle.bench_model.specs.History.{AddsNothing}
+use Rattle.bench_model.specs.Calls.{FileStays, CellsStay}
+use Rattle.board_file.specs.declared.fault.BoardFault.{BoardFault}
+use Rattle.board_file.specs.declared.region.Region.{Region}
+use Rattle.board_file.specs.Shown as board
+use Rattle.board_file.specs.Text.{reading, IsBoard}
+use Rattle.byte_map.specs.Image.{Run}
+use Rattle.image_more.specs.Texts.{hex_text, srec_text}
+use Rattle.report_text.specs.Refusal.{out_of_memory, input_fault, board_refused, cells_differ, device_fault, output_fault}
+use Rattle.command_words.specs.declared.command.TextForm.{TextForm}
+use Rattle.command_words.specs.declared.command.TextForm.TheVariants.{Hex, Srec}
+use Rattle.command_files.specs.Inputs.{InputsCall, IsFile}
+use Rattle.command_answers.specs.Call.{BenchCall, SinkCall, Answer, done, refused}
+use Rattle.command_answers.specs.Answered.{has_dump, IsUnless, Refuses, DidNothing, EndsLawfully, on_files}
+use Rattle.device_dump.specs.CellMaps.{cells_in, IsMapOfCells}
+use Rattle.device_dump.specs.Looks.{IsBrokenOff, IsStillOpen, PrintsText, PrintsNothing}
+
+-- a map as a text of this form
+abbrev pub text_in : TextForm → List Run → List ℕ
+text_in Hex map = hex_text map
+text_in Srec map = srec_text map
+
+-- What stands of the cells. For want of memory the command may end before they are looked at, or when they were read.
+abbrev pub StandsBehind : BenchCall → Answer → Type 0
+StandsBehind bench done = IsBrokenOff bench
+StandsBehind bench (refused output_fault) = IsBrokenOff bench
+StandsBehind bench (refused device_fault) = IsBrokenOff bench ⊎ IsStillOpen bench
+StandsBehind bench (refused out_of_memory) = CellsStay bench.before bench.after ⊎ IsBrokenOff bench
+StandsBehind bench (refused _) = CellsStay bench.before bench.after
+
+-- What the command leaves with an answer.
+pub record DumpLeaves (bench : BenchCall) (out : SinkCall) (answer : Answer) : Type 0 where
+  pub prints : PrintsNothing out answer
+  pub stands : StandsBehind bench answer
+  -- the job file is as it was, and a stop at any moment leaves no cells that one at entry might not have left
+  pub file : FileStays bench.before bench.after
+  pub count : bench.after.cell_count ≡ bench.before.cell_count
+  pub stops : AddsNothing (cells_half bench.before) (cells_half bench.after)
+
+-- When each answer comes.
+
+-- The bytes under the name are the text of a board of which this holds.
+pub record OnBoard (inputs : InputsCall) (name : List ℕ) (Holds : board.Shown → Type 0) : Type 0 where
+  pub text : List ℕ
+  pub file : IsFile inputs name text
+  pub board : board.Shown
+  pub is_board : IsBoard text board
+  pub holds : Holds board
+
+-- The bytes under the name are the text of no board, for this reason.
+pub record IsNoBoard (inputs : InputsCall) (name : List ℕ) (fault : BoardFault) : Type 0 where
+  pub text : List ℕ
+  pub file : IsFile inputs name text
+  pub refuses : reading text ≡ Err fault
+
+-- there are other than the board's number of cells
+pub record HasOtherCount (bench : BenchCall) (regions : List Region) (wanted found : ℕ) : Type 0 where
+  pub wanted_is : wanted ≡ cells_in regions
+  pub found_is : found ≡ bench.before.cell_count
+  pub unequal : wanted ≢ found
+
+-- The text of the map of cells went to `out`. There are as many as the regions have, and where the bench tells its cells they are these.
+pub record IsDumped (form : TextForm) (regions : List Region) (bench : BenchCall) (out : SinkCall) (answer : Answer) : Type 0 where
+  pub cells : List ℕ
+  pub bytes : All (λ byte. byte < 256) cells
+  pub all : length cells ≡ cells_in regions
+  pub surveyed : IsTrue bench.tells → bench.after.cells ≡ cells
+  pub map : List Run
+  pub is_map : IsMapOfCells regions cells map
+  pub prints : PrintsText out (text_in form map) answer
+
+-- as many cells as the regions have, and this
+pub record WithCells (regions : List Region) (bench : BenchCall) (Holds : Type 0) : Type 0 where
+  pub count : cells_in regions ≡ bench.before.cell_count
+  pub holds : Holds
+
+abbrev pub ShowsDump : TextForm → BenchCall → SinkCall → Answer → board.Shown → Type 0
+ShowsDump form bench out done board = WithCells board.regions bench (IsDumped form board.regions bench out done)
+ShowsDump form bench out (refused output_fault) board = WithCells board.regions bench (IsDumped form board.regions bench out (refused output_fault))
+ShowsDump form bench out (refused device_fault) board = WithCells board.regions bench (Unit {0})
+ShowsDump form bench out (refused (cells_differ wanted found)) board = HasOtherCount bench board.regions wanted found
+ShowsDump form bench out (refused _) board = ⊥
+
+abbrev pub ComesOfBoard : TextForm → BenchCall → InputsCall → SinkCall → List ℕ → Answer → Type 0
+ComesOfBoard form bench inputs out name (refused out_of_memory) = Unit {0}
+ComesOfBoard form bench inputs out name (refused (input_fault other)) = Unit {0}
+ComesOfBoard form bench inputs out name (refused (board_refused fault)) = IsNoBoard inputs name fault
+ComesOfBoard form bench inputs out name answer = OnBoard inputs name (ShowsDump form bench out answer)
+
+-- The other direction: with this text under the name, each answer comes where it is due.
+pub record IsDueForBoard (form : TextForm) (bench : BenchCall) (out : SinkCall) (answer : Answer) (text : List ℕ) : Type 0 where
+  pub refuses : (fault : BoardFault) → reading text ≡ Err fault → Refuses (DidNothing bench out) answer (board_refused fault)
+  pub other_count : (board : board.Shown) → IsBoard text board → cells_in board.regions ≢ bench.before.cell_count
+      → Refuses (DidNothing bench out) answer (cells_differ (cells_in board.regions) bench.before.cell_count)
+  pub complete : (board : board.Shown) → IsBoard text board → cells_in board.regions ≡ bench.before.cell_count → IsUnless answer done
+  pub dumped : (board : board.Shown) (map : List Run) → IsBoard text board → cells_in board.regions ≡ bench.before.cell_count → IsTrue bench.tells
+      → IsMapOfCells board.regions bench.after.cells map → PrintsText out (text_in form map) answer
+
+-- The work of `dump`: all but the status and the line on `err`.
+pub record DumpEnds (form : TextForm) (name : List ℕ) (bench : BenchCall) (inputs : InputsCall) (out : SinkCall) (answer : Answer) : Type 0 where
+  pub lawful : EndsLawfully on_files bench inputs out has_dump (name ∷ []) answer
+  pub leaves : DumpLeaves bench out answer
+  pub comes : ComesOfBoard form bench inputs out name answer
+  pub due : (text : List ℕ) → IsTrue inputs.tells → inputs.before.stands name ≡ Some text → IsDueForBoard form bench out answer text

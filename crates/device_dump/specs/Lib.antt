@@ -1,0 +1,4 @@
+pub mod Looks
+pub mod CellMaps
+pub mod Dump
+pub mod Steps

@@ -1,0 +1,40 @@
+-- What commands do that look at the cells, and what they print of them.
+use Rattle.std.specs.Prelude.{◌≡◌, ◌⊎◌, ℕ, IsTrue, List, None, Result, OnOk, OnErr}
+use Rattle.faults.specs.Counts.{HasCause}
+use Rattle.bench_model.specs.State.{cells_half}
+use Rattle.bench_model.specs.History.{AddsNothing}
+use Rattle.bench_model.specs.Calls.{SameOutside, FileStays}
+use Rattle.bench_model.specs.declared.bench_fault.DeviceFault.{DeviceFault}
+use Rattle.report_text.specs.Refusal.{output_fault}
+use Rattle.command_answers.specs.Call.{BenchCall, SinkCall, Answer, done, refused, TookNothing, TookAll, TookPart}
+
+-- an operation open at entry was broken off: none is open, and the cells outside its range are as they were
+pub record IsBrokenOff (bench : BenchCall) : Type 0 where
+  pub idle : IsTrue bench.tells → bench.after.operation ≡ None
+  pub outside : IsTrue bench.tells → SameOutside bench.before.operation bench.before.cells bench.after.cells
+
+-- the cells are as they were, and an operation open at entry is still open
+pub record IsStillOpen (bench : BenchCall) : Type 0 where
+  pub operation : IsTrue bench.tells → bench.after.operation ≡ bench.before.operation
+  pub cells : IsTrue bench.tells → bench.after.cells ≡ bench.before.cells
+
+-- An operation was broken off, and the cells were read.
+pub record LooksAtCells {A : Type 0} (bench : BenchCall) (result : Result A DeviceFault) : Type 0 where
+  pub ok : OnOk result (IsBrokenOff bench)
+  pub err : OnErr result (IsBrokenOff bench ⊎ IsStillOpen bench)
+  pub file : FileStays bench.before bench.after
+  pub count : bench.after.cell_count ≡ bench.before.cell_count
+  pub stops : AddsNothing (cells_half bench.before) (cells_half bench.after)
+  pub cause : HasCause bench.before.device_faults bench.after.device_faults result
+
+-- What goes to `out`: a text where done, a beginning of it where `out` fails, and nothing with every other answer.
+abbrev pub PrintsText : SinkCall → List ℕ → Answer → Type 0
+PrintsText out text done = TookAll out text
+PrintsText out text (refused output_fault) = TookPart out text
+PrintsText out text (refused _) = TookNothing out
+
+-- with every answer but these two nothing is printed
+abbrev pub PrintsNothing : SinkCall → Answer → Type 0
+PrintsNothing out done = Unit {0}
+PrintsNothing out (refused output_fault) = Unit {0}
+PrintsNothing out (refused _) = TookNothing out
