@@ -1,6 +1,6 @@
 //! The lines of a demonstration.
 ghost use Rattle.std.specs.List.{flat_map};
-ghost use Rattle.report_text.specs.Puts.{Puts};
+ghost use Rattle.outside_io.specs.Puts.{Puts};
 ghost use Rattle.demo_job.specs.Lines.{number_text, same_text, demo_text};
 
 use itoa::Buffer;

@@ -4,6 +4,7 @@ use Rattle.std.proofs.lemmas.Bool.{cases_eq}
 use Rattle.std.proofs.lemmas.List.{length-replicate}
 use Rattle.bench_model.specs.State.{BenchState, Left}
 use Rattle.bench_model.specs.Calls.{OnlyReads}
+use Rattle.board_file.specs.Limits.{size_of}
 use Rattle.flm_descriptor.specs.Shown as flm
 use Rattle.job_text.specs.Files.{IsFree, IsWhole}
 use Rattle.job_text.specs.Body.{Job, body_of}
@@ -118,19 +119,19 @@ later_keeps goal call answers job b a told is_job class =
 
 pub first_keeps : (asked : FilesAsked) (call : Call) → ProgramAnswers asked call → FirstKeeps asked call
 first_keeps asked call answers files aim has told told_inputs exact are is is_free =
-    let on = answers.ends.files.goes files aim told_inputs are is told in
+    let on = (answers.ends.files.goes files aim told_inputs are is).one has.region has.only told in
     ⊎_elim
-    (λ (size : aim.region.size ≡ call.bench.before.cell_count).
+    (λ (size : size_of aim.board.regions ≡ call.bench.before.cell_count).
     let begins = on.begins has is_free size in
     record { snapshot = begins.snapshot; is_job = begins.is_job; turn = begins.carries.stops.turn; stops = record { pairs = begins.carries.stops.pairs } })
-    (λ (other : aim.region.size ≢ call.bench.before.cell_count).
+    (λ (other : size_of aim.board.regions ≢ call.bench.before.cell_count).
     let refuses = on.other_size is_free other in
-    let looked = looks call.bench call.out answers.answer (cells_differ aim.region.size call.bench.before.cell_count) (λ early. early) answers.ends.lawful.stands refuses in
+    let looked = looks call.bench call.out answers.answer (cells_differ (size_of aim.board.regions) call.bench.before.cell_count) (λ early. early) answers.ends.lawful.stands refuses in
     let reads = looked.reads told in
     let later : call.bench.before.moment ≤ call.bench.after.moment = reads.moments.goes_on.later in
     record {
-      snapshot = replicate aim.region.size 0;
-      is_job = aim_job asked.raw_at files aim has (replicate aim.region.size 0) is (length-replicate aim.region.size 0);
+      snapshot = replicate (size_of aim.board.regions) 0;
+      is_job = aim_job asked.raw_at files aim has (replicate (size_of aim.board.regions) 0) is (length-replicate (size_of aim.board.regions) 0);
       turn = call.bench.after.moment + 1;
       stops = record {
         pairs = record {
@@ -143,4 +144,4 @@ first_keeps asked call answers files aim has told told_inputs exact are is is_fr
         };
       };
     })
-    (cases_eq aim.region.size call.bench.before.cell_count)
+    (cases_eq (size_of aim.board.regions) call.bench.before.cell_count)

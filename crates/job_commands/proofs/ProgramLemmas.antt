@@ -1,9 +1,10 @@
 -- From the steps of `program` to its end.
-use Rattle.std.proofs.Common.{◌≡◌, ◌≢◌, ◌⊎◌, ⊎_elim, ◌∙◌, inl, inr, refl, sym, subst, ℕ, Bool, true, IsTrue, List, length, Some, None}
+use Rattle.std.proofs.Common.{◌≡◌, ◌≢◌, ◌⊎◌, ⊎_elim, ◌∙◌, inl, inr, refl, sym, ap, subst, arith, ℕ, Bool, true, IsTrue, List, [], ◌∷◌, length, Some, None}
 use Rattle.bench_model.specs.History.{left}
 use Rattle.bench_model.specs.State.{BenchState, cells_half}
 use Rattle.bench_model.specs.Calls.{SameOutside}
 use Rattle.outside_io.specs.State.{SinkState}
+use Rattle.board_file.specs.Limits.{size_of}
 use Rattle.board_file.specs.Shown as board
 use Rattle.flm_descriptor.specs.Shown as flm
 use Rattle.job_text.specs.Body.{Job, IsJob}
@@ -11,11 +12,11 @@ use Rattle.job_text.specs.Parts.{job_of, AreParts}
 use Rattle.job_text.specs.declared.parts.JobParts.{JobParts}
 use Rattle.campaign.specs.Stops.{IsUntouched}
 use Rattle.flash_session.specs.declared.goal.Goal.TheVariants.{New}
-use Rattle.report_text.specs.Refusal.{Refusal, out_of_memory, input_fault, flm_refused, other_device, no_room, board_refused, image_refused, image_misplaced, job_open, not_a_job, cells_differ, store_fault, device_fault, output_fault, call_failed, mismatch}
+use Rattle.report_text.specs.Refusal.{Refusal, out_of_memory, usage, input_fault, flm_refused, other_device, no_room, board_refused, image_refused, image_misplaced, job_open, not_a_job, cells_differ, store_fault, device_fault, output_fault, call_failed, mismatch, not_built}
 use Rattle.command_words.specs.Files.{FilesAsked, names_in}
 use Rattle.command_files.specs.Inputs.{InputsCall, FilesGiven, AreFiles, NoneFailed}
 use Rattle.command_files.specs.Files.{Aim, IsAim, IsRefused}
-use Rattle.command_files.specs.Steps.{IsTakeFault, IsFilesRefusal, TookFiles}
+use Rattle.command_files.specs.Steps.{IsTakeFault, IsFilesRefusal, IsTwofold, IsTaskRefusal, TookFiles}
 use Rattle.command_answers.specs.Call.{BenchCall, SinkCall, Answer, done, refused, bench_call, sink_call}
 use Rattle.command_answers.specs.Answered.{fault_in, has_program, Refuses, OnlyLooked, StandsEarly, IsOf, on_job_file}
 use Rattle.command_answers.specs.Reading.{ShowsFiles}
@@ -23,7 +24,7 @@ use Rattle.command_answers.proofs.AnswerLemmas.{did_nothing, only_looked, plain_
 use Rattle.command_answers.proofs.ReadingLemmas.{answers_refused, answers_worked}
 use Rattle.job_commands.specs.Carry.{Carries}
 use Rattle.job_commands.specs.GoOn.{work_to}
-use Rattle.job_commands.specs.Program.{HasAlgorithm, job_for, Begins, BeginsOn, WorksOn, ShowsWork, ProgramEnds}
+use Rattle.job_commands.specs.Program.{HasAlgorithm, job_for, Begins, BeginsOn, GoesOn, ShowsWork, ShowsProgram, ProgramEnds}
 use Rattle.job_commands.specs.Steps.{has_begin, BenchCounted, BeginsParts}
 use Rattle.job_commands.proofs.CountLemmas.{worked_lawful}
 use Rattle.job_commands.proofs.EntryLemmas.{begins_untaken, begins_unread}
@@ -44,7 +45,10 @@ module _ (tells sinks : Bool) (b : BenchState) (o : SinkState) (inputs : InputsC
     files = record {
       shows = tt;
       refuses = λ files refusal told are refused'. inr (refl, did_nothing tells sinks b o);
-      goes = λ files aim told are is_aim its. begins_unread tells sinks b o (many its) (exact its) asked.raw_at files aim is_aim;
+      goes = λ files aim told are is_aim. record {
+        one = λ region only its. begins_unread tells sinks b o (many its) (exact its) asked.raw_at files aim is_aim;
+        several = λ more. inr (refl, did_nothing tells sinks b o);
+      };
     };
     memory = λ its. inl (did_nothing tells sinks b o);
   }
@@ -53,7 +57,10 @@ module _ (tells sinks : Bool) (b : BenchState) (o : SinkState) (inputs : InputsC
     files = record {
       shows = tt;
       refuses = λ files refusal told are refused'. inr (refl, did_nothing tells sinks b o);
-      goes = λ files aim told are is_aim its. begins_untaken tells sinks b o (many its) (exact its) asked.raw_at files aim name is_aim;
+      goes = λ files aim told are is_aim. record {
+        one = λ region only its. begins_untaken tells sinks b o (many its) (exact its) asked.raw_at files aim name is_aim;
+        several = λ more. inr (refl, did_nothing tells sinks b o);
+      };
     };
     memory = λ its. inl (did_nothing tells sinks b o);
   }
@@ -62,16 +69,17 @@ module _ (tells sinks : Bool) (b : BenchState) (o : SinkState) (inputs : InputsC
   module _ (files : FilesGiven) (are : AreFiles inputs asked files) (same : NoneFailed inputs) where
     -- the files are refused
     ends_refused : (r : Refusal) → has_program r ≡ true → fault_in (refused r) ≡ None → IsRefused asked files r
-        → ShowsFiles inputs asked (ShowsWork Bench Out (refused r)) (refused r) → ProgramEnds asked Bench inputs Out (refused r)
+        → ShowsFiles inputs asked (ShowsProgram Bench Out (refused r)) (refused r) → ProgramEnds asked Bench inputs Out (refused r)
     ends_refused r has no_fault is shows = record {
       lawful = plain_lawful tells sinks b o inputs on_job_file has_program (names_in asked) r (only_looked tells sinks b o) has same no_fault;
-      files = answers_refused Bench inputs Out asked (ShowsWork Bench Out (refused r)) (WorksOn Bench Out (refused r)) r files are is shows;
+      files = answers_refused Bench inputs Out asked (ShowsProgram Bench Out (refused r)) (GoesOn Bench Out (refused r)) r files are is shows;
       memory = λ its. inl (did_nothing tells sinks b o);
     }
 
     ends_unread : (r : Refusal) → IsFilesRefusal asked files r → ProgramEnds asked Bench inputs Out (refused r)
     ends_unread out_of_memory is = ends_untaken out_of_memory same
     ends_unread (board_refused fault) is = ends_refused (board_refused fault) refl refl is (record { files = files; are_files = are; holds = is })
+    ends_unread usage is = ends_refused usage refl refl is (record { files = files; are_files = are; holds = is })
     ends_unread (flm_refused fault) is = ends_refused (flm_refused fault) refl refl is (record { files = files; are_files = are; holds = is })
     ends_unread (other_device base size) is = ends_refused (other_device base size) refl refl is (record { files = files; are_files = are; holds = is })
     ends_unread (no_room need have) is = ends_refused (no_room need have) refl refl is (record { files = files; are_files = are; holds = is })
@@ -79,22 +87,39 @@ module _ (tells sinks : Bool) (b : BenchState) (o : SinkState) (inputs : InputsC
     ends_unread (image_misplaced fault) is = ends_refused (image_misplaced fault) refl refl is (record { files = files; are_files = are; holds = is })
     ends_unread r is = absurd is
 
+    -- the board has more regions than one
+    ends_unbuilt : IsTwofold asked.raw_at files → ProgramEnds asked Bench inputs Out (refused not_built)
+    ends_unbuilt is = record {
+      lawful = plain_lawful tells sinks b o inputs on_job_file has_program (names_in asked) not_built (only_looked tells sinks b o) refl same refl;
+      files = answers_worked Bench inputs Out asked (ShowsProgram Bench Out (refused not_built)) (GoesOn Bench Out (refused not_built)) (refused not_built) files is.aim are is.is_aim
+          (record { files = files; are_files = are; holds = record { aim = is.aim; is_aim = is.is_aim; holds = is.several } })
+          (record {
+            one = λ region only. absurd (omega (arith, ap length only, is.several));
+            several = λ more. inl refl;
+          });
+      memory = λ its. inl (did_nothing tells sinks b o);
+    }
+
+    ends_unwanted : (r : Refusal) → IsTaskRefusal asked files r → ProgramEnds asked Bench inputs Out (refused r)
+    ends_unwanted not_built is = ends_unbuilt is
+    ends_unwanted r is = ends_unread r is
+
   -- the files can't be taken, or are refused
-  pub ends_early : (r : Refusal) → IsTakeFault inputs (names_in asked) r ⊎ TookFiles inputs asked (λ files. IsFilesRefusal asked files r)
+  pub ends_early : (r : Refusal) → IsTakeFault inputs (names_in asked) r ⊎ TookFiles inputs asked (λ files. IsTaskRefusal asked files r)
       → ProgramEnds asked Bench inputs Out (refused r)
-  ends_early r is = ⊎_elim (λ untaken. ends_untaken r untaken) (λ took. ends_unread took.given.files took.given.are_files took.none_failed r took.given.holds) is
+  ends_early r is = ⊎_elim (λ untaken. ends_untaken r untaken) (λ took. ends_unwanted took.given.files took.given.are_files took.none_failed r took.given.holds) is
 
 -- What began with the parts of a task began with its files.
 module _ (bench : BenchCall) (out : SinkCall) (answer : Answer) (files : FilesGiven) (aim : Aim) (parts : JobParts) (are : AreParts parts)
-    (board_is : files.board ≡ parts.board.now) (flm_is : files.flm ≡ Some parts.flm.now) (image_is : aim.image ≡ parts.image.now) (size_is : aim.region.size ≡ parts.size)
-    (board_says : aim.board ≡ are.board) (algorithm_says : aim.algorithm ≡ Some are.algorithm) (begins : BeginsParts bench out parts answer) where
+    (board_is : files.board ≡ parts.board.now) (flm_is : files.flm ≡ Some parts.flm.now) (image_is : aim.image ≡ parts.image.now) (size_is : size_of aim.board.regions ≡ parts.size)
+    (board_says : aim.board ≡ are.board) (algorithm_says : aim.algorithms ≡ are.algorithm ∷ []) (begins : BeginsParts bench out parts answer) where
   same_job : (has : HasAlgorithm files aim) (snapshot : List ℕ) → job_of parts snapshot ≡ job_for files aim has snapshot
   same_job has snapshot =
       let flms : has.flm_file ≡ parts.flm.now = let e : Some has.flm_file ≡ Some parts.flm.now = sym has.flm_is ∙ flm_is in cc in
       cc
 
   same_algorithm : (has : HasAlgorithm files aim) → are.algorithm ≡ has.algorithm
-  same_algorithm has = let e : Some are.algorithm ≡ Some has.algorithm = sym algorithm_says ∙ has.algorithm_is in cc
+  same_algorithm has = let e : are.algorithm ∷ [] ≡ has.algorithm ∷ [] = sym algorithm_says ∙ has.algorithm_is in cc
 
   begins_for : (has : HasAlgorithm files aim) (snapshot : List ℕ) → IsJob (job_of parts snapshot) are.board are.algorithm
       → Carries bench out (IsUntouched bench.before) (work_to New (job_of parts snapshot) are.board are.algorithm snapshot) answer → Begins bench out files aim has answer
@@ -124,7 +149,7 @@ module _ (bench : BenchCall) (out : SinkCall) (answer : Answer) (files : FilesGi
 -- The work on files that are right.
 module _ (bench : BenchCall) (inputs : InputsCall) (out : SinkCall) (asked : FilesAsked) (files : FilesGiven) (aim : Aim) (are : AreFiles inputs asked files)
     (is : IsAim asked.raw_at files aim) where
-  works_show : (answer : Answer) → IsOf has_begin answer → ShowsWork bench out answer files aim → ShowsFiles inputs asked (ShowsWork bench out answer) answer
+  works_show : (answer : Answer) → IsOf has_begin answer → ShowsWork bench out answer files aim → ShowsFiles inputs asked (ShowsProgram bench out answer) answer
   works_show done kind works = record { files = files; are_files = are; holds = record { aim = aim; is_aim = is; holds = works } }
   works_show (refused out_of_memory) kind works = tt
   works_show (refused job_open) kind works = record { files = files; are_files = are; holds = record { aim = aim; is_aim = is; holds = works } }
@@ -154,6 +179,10 @@ module _ (bench : BenchCall) (inputs : InputsCall) (out : SinkCall) (asked : Fil
       → StandsEarly on_job_file bench out answer → ShowsWork bench out answer files aim → ProgramEnds asked bench inputs out answer
   ends_worked same answer kind counts stands shows = record {
     lawful = worked_lawful bench inputs out has_program has_begin (names_in asked) answer (its_kind answer kind) kind (λ name. refl) same counts stands;
-    files = answers_worked bench inputs out asked (ShowsWork bench out answer) (WorksOn bench out answer) answer files aim are is (works_show answer kind shows) shows.works;
+    files = answers_worked bench inputs out asked (ShowsProgram bench out answer) (GoesOn bench out answer) answer files aim are is (works_show answer kind shows)
+        (record {
+          one = λ region only. shows.works;
+          several = λ more. absurd (omega (arith, ap length shows.has_algorithm.only, more));
+        });
     memory = λ its. inr (record { files = files; are_files = are; holds = record { aim = aim; is_aim = is; holds = subst (λ (a : Answer). ShowsWork bench out a files aim) its shows } });
   }

@@ -90,9 +90,9 @@ IsOnPath w broken cells = IsLeftOnWay (start_for w) (moves_of w broken) cells
 
 -- An algorithm that keeps its duties.
 
--- the algorithm keeps its duties on the board
+-- the algorithm keeps its duties for the one region of the board
 abbrev pub KeepsDuties : Work → Type 0
-KeepsDuties w = Serves w.board w.algorithm
+KeepsDuties w = Serves w.board w.algorithm 0
 
 -- the cells are as surveyed, but in sectors and pages of the plan
 abbrev pub IsOutsidePlanAsSurveyed : Work → List ℕ → Type 0

@@ -17,7 +17,7 @@ use report_text::Refusal;
 use std::alloc::Global;
 
 /// Begins a job over a free file, with the union of images in the region of the board, and carries it to its end: the cells are then
-/// the image laid over what they were.
+/// the image laid over what they were. For a board of two regions no job is begun, and the job file isn't looked at.
 pub fn program<'a, B: Bench, I: Inputs, O: Sink>(
     alloc: Global,
     names: &FileNames<'a>,

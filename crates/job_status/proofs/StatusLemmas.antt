@@ -69,8 +69,8 @@ module _ (bench : BenchCall) (out : SinkCall) (told : IsTrue bench.tells) where
             let algorithms : is.some.algorithm ≡ some.algorithm = one_algorithm bench.before.file is.some some in
             let devices : job.device ≡ some.algorithm.device = sym is.device_is ∙ ap (λ (a : flm.Shown). a.device) algorithms in
             let images : job.image ≡ some.job.image = sym is.image_is ∙ ap (λ (j : Job). j.image) (one_text bench.before.file is.some some) in
-            let texts : job_text job.device job.image ≡ job_text some.algorithm.device some.job.image = cc in
-            subst (λ (text : List ℕ). IsSaid out text answer) texts (said_by (job_text job.device job.image) answer job.says);
+            let texts : job_text (job.device ∷ []) job.image ≡ job_text (some.algorithm.device ∷ []) some.job.image = cc in
+            subst (λ (text : List ℕ). IsSaid out text answer) texts (said_by (job_text (job.device ∷ []) job.image) answer job.says);
       }
 
   pub is_due : (answer : Answer) → ComesOfJobFile bench out answer → IsDueForJobFile bench out answer
@@ -158,8 +158,8 @@ module _ (tells : Bool) (b after : BenchState) (inputs : InputsCall) (takes : Ta
 
     pub ends_job : (answer : Answer) (job : SaysJob (bench_call tells b after) out answer) → StatusEnds (bench_call tells b after) inputs out answer
     ends_job answer job =
-        let comes = comes_job answer (job_text job.device job.image) job.says job in record {
-          lawful = said_lawful (job_text job.device job.image) answer job.says;
+        let comes = comes_job answer (job_text (job.device ∷ []) job.image) job.says job in record {
+          lawful = said_lawful (job_text (job.device ∷ []) job.image) answer job.says;
           takes = takes;
           reads = reads;
           comes = comes;

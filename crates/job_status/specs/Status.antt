@@ -1,5 +1,5 @@
 -- What `status` answers.
-use Rattle.std.specs.Prelude.{◌≡◌, ◌≢◌, ◌⊎◌, ℕ, IsTrue, List, [], true}
+use Rattle.std.specs.Prelude.{◌≡◌, ◌≢◌, ◌⊎◌, ℕ, IsTrue, List, [], ◌∷◌, true}
 use Rattle.bench_model.specs.Calls.{OnlyReads}
 use Rattle.byte_map.specs.Image.{Run}
 use Rattle.flm_descriptor.specs.declared.device.Device.{Device}
@@ -45,7 +45,7 @@ pub record SaysJob (bench : BenchCall) (out : SinkCall) (answer : Answer) : Type
   pub image : List Run
   pub size : device.size ≡ bench.before.cell_count
   pub stands : IsTrue bench.tells → IsJobWith device image bench.before.file
-  pub says : SaysText out (job_text device image) answer
+  pub says : SaysText out (job_text (device ∷ []) image) answer
 
 abbrev pub ComesOfJobFile : BenchCall → SinkCall → Answer → Type 0
 ComesOfJobFile bench out (refused out_of_memory) = TookNothing out
@@ -64,7 +64,7 @@ pub record IsDueForJobFile (bench : BenchCall) (out : SinkCall) (answer : Answer
   pub other_size : (some : IsSomeJob bench.before.file) → some.algorithm.device.size ≢ bench.before.cell_count
       → Refuses (TookNothing out) answer (cells_differ some.algorithm.device.size bench.before.cell_count)
   pub stands : (some : IsSomeJob bench.before.file) → some.algorithm.device.size ≡ bench.before.cell_count
-      → IsSaid out (job_text some.algorithm.device some.job.image) answer
+      → IsSaid out (job_text (some.algorithm.device ∷ []) some.job.image) answer
 
 -- The work of `status`: all but the status and the line on `err`. No input is taken, and the job file is only read: file and cells are
 -- as they were, and a stop at any moment leaves nothing that one at entry might not have left.

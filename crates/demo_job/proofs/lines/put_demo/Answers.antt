@@ -1,7 +1,7 @@
 use Rattle.std.proofs.Common.{ap}
 use Rattle.std.specs.Prelude.{codes}
 use Rattle.demo_job.specs.Lines.{number_text, demo_text}
-use Rattle.report_text.proofs.PutLemmas.{puts_then, puts_stops, puts_failed, puts_as}
+use Rattle.outside_io.proofs.PutTexts.{puts_then, puts_stops, puts_failed, puts_as}
 use Rattle.demo_job.proofs.lines.put_demo.Goals as goal
 
 pub returns-in_err-put_number : goal.returns-in_err-put_number

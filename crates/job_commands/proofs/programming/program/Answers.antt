@@ -5,7 +5,7 @@ use Rattle.command_files.specs.Inputs.{inputs_call}
 use Rattle.command_files.specs.Steps.{task_aim}
 use Rattle.command_answers.specs.Call.{bench_call, sink_call}
 use Rattle.command_answers.specs.Shown.{answer_of}
-use Rattle.job_commands.proofs.RegionLemmas.{task_parts, task_algorithm}
+use Rattle.job_commands.proofs.RegionLemmas.{task_size, task_parts, task_algorithm}
 use Rattle.job_commands.proofs.ProgramLemmas.{ends_early, begins_on_parts, ends_worked}
 use Rattle.job_commands.proofs.programming.program.Goals as goal
 
@@ -33,15 +33,15 @@ returns g c =
     let took = c.in_ok-task.ensures.reads in
     let task = c.in_ok-task.task in
     let is = took.given.holds in
-    let aim = task_aim task is.region in
+    let aim = task_aim task in
     let are = task_parts c.args.names.now.raw_at took.given.files task _ is c.in_ok-task.ensures.short_board c.in_ok-task.ensures.short_flm c.bytes.ensures c.bytes-2.ensures refl refl in
     ends_worked bench inputs out asked took.given.files aim took.given.are_files is.is_aim took.none_failed (answer_of c.begin_job.result)
     c.begin_job.ensures.kind c.begin_job.ensures.counts c.begin_job.ensures.early
     (record {
       has_algorithm = task_algorithm c.args.names.now.raw_at took.given.files task is c.in_ok-task.ensures.short_board c.in_ok-task.ensures.short_flm;
-      sized = λ its. sym is.size_is ∙ c.begin_job.ensures.sized its;
+      sized = λ its. task_size c.args.names.now.raw_at took.given.files task is ∙ c.begin_job.ensures.sized its;
       sound = c.begin_job.ensures.sound;
       prints = c.begin_job.ensures.prints;
       works = λ told. begins_on_parts bench out (answer_of c.begin_job.result) took.given.files aim _ are
-          (is.board_text ∙ sym c.bytes.ensures) (is.flm ∙ ap (λ (l : List ℕ). Some l) (sym c.bytes-2.ensures)) refl (sym is.size_is) refl refl (c.begin_job.ensures.told told);
+          (is.board_text ∙ sym c.bytes.ensures) (is.flm ∙ ap (λ (l : List ℕ). Some l) (sym c.bytes-2.ensures)) refl (task_size c.args.names.now.raw_at took.given.files task is) refl refl (c.begin_job.ensures.told told);
     })
