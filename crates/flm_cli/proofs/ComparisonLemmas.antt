@@ -8,7 +8,8 @@ use Rattle.report_text.specs.Refusal.{device_fault, output_fault, differs}
 use Rattle.command_answers.specs.Call.{BenchCall, SinkCall, Answer, done, refused}
 use Rattle.command_answers.specs.Answered.{device, output}
 use Rattle.flm_cli.specs.Comparison.{Compares}
-use Rattle.flm_cli.specs.Steps.{LooksAtCells, FoundBy, TellsFound}
+use Rattle.device_dump.specs.Looks.{LooksAtCells}
+use Rattle.flm_cli.specs.Steps.{FoundBy, TellsFound}
 use Rattle.command_answers.proofs.AnswerLemmas.{unraised}
 
 module _ (bench : BenchCall) (out : SinkCall) (base : ℕ) (Agrees : Type 0) (Differs : ℕ → ℕ → ℕ → Type 0) where

@@ -8,3 +8,4 @@ pub mod TopLemmas
 pub mod UnlikeLemmas
 pub mod VerifyLemmas
 pub mod LawLemmas
+pub mod PlaceLemmas

@@ -1,68 +1,19 @@
--- An operation is broken off, and then the cells are read.
-use Rattle.std.proofs.Common.{◌≡◌, ◌+◌, ◌∙◌, sym, ap, subst, refl, arith, inl, inr, ℕ, Bool, IsTrue, IfOk, OnOk, List, length, take, drop, slice_index, Option, Some, None, Result, Ok, Err}
-use Rattle.std.proofs.lemmas.List.{take_all}
-use Rattle.faults.specs.Counts.{Rose, HasCause}
+-- What was found where cells were compared, and cells that were read in two pieces.
+use Rattle.std.proofs.Common.{◌≡◌, ◌+◌, ◌∙◌, sym, ap, subst, refl, arith, ℕ, Bool, IsTrue, IfOk, OnOk, List, ◌++◌, length, length-drop, take, drop, slice_index, Option, Some, None, Result, Ok, Err}
+use Rattle.std.proofs.lemmas.List.{take_all, take-append-drop}
 use Rattle.bench_model.specs.State.{BenchState}
-use Rattle.bench_model.specs.Calls.{SameOutside}
-use Rattle.bench_model.specs.Does.{DropsCells, ReadsCells}
+use Rattle.bench_model.specs.Does.{ReadsCells}
 use Rattle.bench_model.specs.declared.bench_fault.DeviceFault.{DeviceFault}
-use Rattle.bench_model.proofs.Moments.{adds_nothing_then, file_stays_then}
 use Rattle.byte_map.specs.Image.{Run}
+use Rattle.board_file.specs.declared.region.Region.{Region}
 use Rattle.readback.specs.Difference.{IsFirstDifference}
 use Rattle.readback.specs.Readback.{OnlyReadsCells, Finds}
 use Rattle.readback.specs.declared.compare.Difference.{Difference}
 use Rattle.command_answers.specs.Call.{bench_call}
-use Rattle.flm_cli.specs.Comparison.{IsBrokenOff}
 use Rattle.flm_cli.specs.Compare.{CellsAre, DiffersFrom}
 use Rattle.flm_cli.specs.Verify.{CellsAgree, CellsAgreeBelow, AgreesWith, DiffersAt}
-use Rattle.flm_cli.specs.Steps.{FindsInImage, LooksAtCells, FoundBy}
+use Rattle.flm_cli.specs.Steps.{FindsInImage, FoundBy}
 
--- the break-off failed
-pub looks_dropped : {A T : Type 0} {tells : Bool} {a b : BenchState} (fault : DeviceFault) → DropsCells {T = T} tells a b (Err fault)
-    → LooksAtCells {A = A} (bench_call tells a b) (Err fault)
-looks_dropped fault drops = record {
-  ok = tt;
-  err = inr (record { operation = λ told. (drops.err told).operation; cells = λ told. (drops.err told).cells });
-  file = drops.file;
-  count = drops.count;
-  stops = drops.moments;
-  cause = record { later = drops.cause.later; on_fault = λ is. drops.cause.on_fault refl; on_ok = λ is. absurd (cc) };
-}
-
-module _ {T : Type 0} {tells : Bool} {a b c : BenchState} (done : T) (drops : DropsCells {T = T} tells a b (Ok done)) (reads : OnlyReadsCells tells b c) where
-  broken_off : IsBrokenOff (bench_call tells a c)
-  broken_off = record {
-    idle = λ told. reads.operation told ∙ (drops.ok told).operation;
-    outside = λ told. subst (λ (cells : List ℕ). SameOutside a.operation a.cells cells) (sym (reads.cells told)) (drops.ok told).cells;
-  }
-
-  pub looks_by : {A : Type 0} (result : Result A DeviceFault) → HasCause b.device_faults c.device_faults result → LooksAtCells (bench_call tells a c) result
-  looks_by (Ok x) cause = record {
-    ok = broken_off;
-    err = tt;
-    file = file_stays_then drops.file reads.file;
-    count = reads.count ∙ drops.count;
-    stops = adds_nothing_then drops.moments reads.moments;
-    cause = record {
-      later = omega (arith, cause.later, drops.cause.later);
-      on_fault = λ is. absurd (cc);
-      on_ok = λ is. cause.on_ok refl ∙ drops.cause.on_ok refl;
-    };
-  }
-  looks_by (Err e) cause = record {
-    ok = tt;
-    err = inl broken_off;
-    file = file_stays_then drops.file reads.file;
-    count = reads.count ∙ drops.count;
-    stops = adds_nothing_then drops.moments reads.moments;
-    cause = record {
-      later = omega (arith, cause.later, drops.cause.later);
-      on_fault = λ is. subst (λ (n : ℕ). Rose n c.device_faults) (drops.cause.on_ok refl) (cause.on_fault refl);
-      on_ok = λ is. absurd (cc);
-    };
-  }
-
--- what was found
 module _ (tells : Bool) (a b c : BenchState) (reads : OnlyReadsCells tells b c) where
   in_bytes : (bytes : List ℕ) (found : Option Difference) → Finds tells b.cells 0 bytes found
       → FoundBy 0 (CellsAre (bench_call tells a c) bytes) (DiffersFrom (bench_call tells a c) bytes) found
@@ -82,34 +33,38 @@ module _ (tells : Bool) (a b c : BenchState) (reads : OnlyReadsCells tells b c) 
   found_in_bytes bytes (Ok found) finds = in_bytes bytes found finds
   found_in_bytes bytes (Err e) finds = tt
 
-  in_image : (base : ℕ) (image : List Run) (found : Option Difference) → FindsInImage tells b.cells base image found
-      → FoundBy base (AgreesWith (bench_call tells a c) base image) (DiffersAt (bench_call tells a c) base image) found
-  in_image base image None finds = λ told. subst (λ (cells : List ℕ). CellsAgree cells base image) (sym (reads.cells told)) (finds told)
-  in_image base image (Some d) finds = record {
-    place = d.at;
-    address = refl;
-    first = record {
-      is_wanted = finds.is_wanted;
-      unequal = finds.unequal;
-      is_found = λ told. ap (λ (cells : List ℕ). slice_index cells d.at) (reads.cells told) ∙ finds.is_found told;
-      least = λ told. subst (λ (cells : List ℕ). CellsAgreeBelow cells base image d.at) (sym (reads.cells told)) (finds.least told);
-    };
-  }
+  in_image : (regions : List Region) (image : List Run) (found : Option Difference) → FindsInImage tells b.cells regions image found
+      → FoundBy 0 (AgreesWith (bench_call tells a c) regions image) (DiffersAt (bench_call tells a c) regions image) found
+  in_image regions image None finds = λ told. subst (λ (cells : List ℕ). CellsAgree cells regions image) (sym (reads.cells told)) (finds told)
+  in_image regions image (Some d) finds =
+      let (place, address, first) = finds in
+      let zero : d.at ≡ 0 + d.at = omega arith in
+      subst (λ (n : ℕ). DiffersAt (bench_call tells a c) regions image n d.want d.got) zero (record {
+        place = place;
+        address = address;
+        first = record {
+          is_wanted = first.is_wanted;
+          unequal = first.unequal;
+          is_found = λ told. ap (λ (cells : List ℕ). slice_index cells place) (reads.cells told) ∙ first.is_found told;
+          least = λ told. subst (λ (cells : List ℕ). CellsAgreeBelow cells regions image place) (sym (reads.cells told)) (first.least told);
+        };
+      })
 
-  pub found_in_image : (base : ℕ) (image : List Run) (result : Result (Option Difference) DeviceFault) → IfOk result (FindsInImage tells b.cells base image)
-      → IfOk result (FoundBy base (AgreesWith (bench_call tells a c) base image) (DiffersAt (bench_call tells a c) base image))
-  found_in_image base image (Ok found) finds = in_image base image found finds
-  found_in_image base image (Err e) finds = tt
+  pub found_in_image : (regions : List Region) (image : List Run) (result : Result (Option Difference) DeviceFault) → IfOk result (FindsInImage tells b.cells regions image)
+      → IfOk result (FoundBy 0 (AgreesWith (bench_call tells a c) regions image) (DiffersAt (bench_call tells a c) regions image))
+  found_in_image regions image (Ok found) finds = in_image regions image found finds
+  found_in_image regions image (Err e) finds = tt
 
--- all cells that were read are the cells
-
-pub only_reads : {T : Type 0} {tells : Bool} {a b : BenchState} {at : ℕ} {before after : List ℕ} {result : Result T DeviceFault}
-    → ReadsCells {T = T} tells a b at before after result → OnlyReadsCells tells a b
-only_reads reads = record { cells = reads.cells; operation = reads.operation; count = reads.count; moments = reads.moments; file = reads.file }
-
-pub all_read : {T : Type 0} {tells : Bool} {a b : BenchState} (before after : List ℕ) (result : Result T DeviceFault)
-    → ReadsCells {T = T} tells a b 0 before after result → (IsTrue tells → length a.cells ≡ length before) → IsTrue tells → OnOk result (b.cells ≡ after)
-all_read {a = a} {b = b} before after (Ok u) reads all told =
-    let same : take (length before) (drop 0 a.cells) ≡ a.cells = take_all (length before) a.cells (omega (arith, all told)) in
-    reads.cells told ∙ sym same ∙ sym (reads.ok told)
-all_read before after (Err e) reads all told = tt
+-- the cells that were read in two pieces are the cells
+pub both_read : {T U : Type 0} {tells : Bool} {a b c : BenchState} (start : ℕ) (one one' two two' : List ℕ) (done : T) (result : Result U DeviceFault)
+    → ReadsCells {T = T} tells a b 0 one one' (Ok done) → ReadsCells {T = U} tells b c start two two' result → length one ≡ start
+    → (IsTrue tells → length a.cells ≡ start + length two) → IsTrue tells → OnOk result (c.cells ≡ one' ++ two')
+both_read {a = a} {b = b} {c = c} start one one' two two' done (Ok u) first second here all told =
+    let front : take start a.cells ≡ one' = ap (λ (k : ℕ). take k a.cells) (sym here) ∙ sym (first.ok told) in
+    let rest : take (length two) (drop start a.cells) ≡ drop start a.cells =
+    take_all (length two) (drop start a.cells) (omega (arith, length-drop start a.cells, all told)) in
+    let back : drop start a.cells ≡ two' =
+    sym rest ∙ ap (λ (l : List ℕ). take (length two) (drop start l)) (sym (first.cells told)) ∙ sym (second.ok told) in
+    second.cells told ∙ first.cells told ∙ sym (take-append-drop start a.cells) ∙ ap (λ (l : List ℕ). l ++ drop start a.cells) front
+    ∙ ap (λ (l : List ℕ). one' ++ l) back
+both_read start one one' two two' done (Err e) first second here all told = tt

@@ -1,6 +1,7 @@
 -- From the steps of `plan` to its end.
-use Rattle.std.proofs.Common.{◌≡◌, ◌≢◌, ◌≤◌, ◌+◌, ◌^◌, ◌∙◌, ⊎_elim, ◌⊎◌, sym, ap, subst, refl, arith, inl, inr, ℕ, Bool, true, false, IsTrue, OnOk, List, ◌++◌, length, take, drop, Option, Some, None, Result, Ok, Err, is_err}
-use Rattle.std.proofs.lemmas.List.{take_all, take-append-le}
+use Rattle.std.proofs.Common.{◌≡◌, ◌≢◌, ◌<◌, ◌≤◌, ◌+◌, ◌-◌, ◌^◌, ◌∙◌, ⊎_elim, ◌⊎◌, sym, ap, subst, refl, arith, inl, inr, ℕ, zero, suc, Bool, true, false, IsTrue, IsSome, OnOk, List, [], ◌∷◌, ◌++◌, map, length, take, drop, get_or, slice_get, append-nil, Option, option_to_list, Some, None, Result, Ok, Err, is_err}
+use Rattle.std.specs.List.{list_all}
+use Rattle.std.proofs.lemmas.List.{take_all, take_at, drop_at, take-append-le, length-take-le, length-append}
 use Rattle.bench_model.specs.State.{BenchState, cells_half}
 use Rattle.bench_model.specs.declared.bench_fault.DeviceFault.{DeviceFault}
 use Rattle.bench_model.proofs.Moments.{adds_nothing_here, file_stays_here, cells_stay_here}
@@ -8,23 +9,33 @@ use Rattle.outside_io.specs.State.{SinkState}
 use Rattle.outside_io.specs.declared.sink.OutputFault.{OutputFault}
 use Rattle.byte_map.specs.Image.{Run}
 use Rattle.board_file.specs.declared.board.Weights.{Weights}
+use Rattle.board_file.specs.declared.region.Region.{Region}
+use Rattle.board_file.specs.Limits.{region_fits, size_of}
+use Rattle.board_file.proofs.Laws.{region_at}
+use Rattle.board_file.specs.Shown as board
 use Rattle.flm_descriptor.specs.Shown as flm
+use Rattle.flm_descriptor.specs.declared.algorithm.Algorithm.{Algorithm}
 use Rattle.page_geometry.specs.Layout.{Layout}
 use Rattle.erase_planner.specs.Plans.{Chosen}
+use Rattle.erase_planner.specs.Marks.{Covers, PlanView}
 use Rattle.report_text.specs.Plan.{plan_text}
-use Rattle.report_text.specs.Puts.{Puts}
-use Rattle.report_text.specs.Refusal.{Refusal, out_of_memory, input_fault, flm_refused, other_device, no_room, board_refused, image_refused, image_misplaced, cells_differ, device_fault, output_fault, differs}
+use Rattle.report_text.specs.Region.{region_text, plans_text}
+use Rattle.outside_io.specs.Puts.{Puts}
+use Rattle.report_text.specs.Refusal.{Refusal, out_of_memory, usage, input_fault, flm_refused, other_device, no_room, board_refused, image_refused, image_misplaced, cells_differ, device_fault, output_fault, differs}
 use Rattle.command_words.specs.Files.{FilesAsked, names_in}
 use Rattle.command_files.specs.Inputs.{InputsCall, FilesGiven, AreFiles, NoneFailed}
-use Rattle.command_files.specs.Files.{Aim, IsRefused}
-use Rattle.command_files.specs.Steps.{IsTakeFault, IsFilesRefusal, TookFiles, task_aim, IsTask}
-use Rattle.command_files.specs.declared.task.Task.{Task}
+use Rattle.command_files.specs.Files.{others_of, AreFor, Aim, IsAim, IsRefused}
+use Rattle.command_files.specs.Steps.{IsTakeFault, IsFilesRefusal, aim_of}
+use Rattle.command_files.specs.declared.wanted.Wanted.{Wanted}
+use Rattle.command_files.proofs.WantedLemmas.{only_one, only_two, size_of_one, size_of_two}
 use Rattle.command_answers.specs.Call.{BenchCall, SinkCall, Answer, done, refused, bench_call, sink_call}
 use Rattle.command_answers.specs.Answered.{input, store, device, output, fault_in, has_plan, yields, IsUnless, StandsEarly, IsOf, EndsLawfully, on_files}
 use Rattle.command_answers.specs.Reading.{ShowsFiles}
 use Rattle.job_commands.specs.Work.{layout_of}
-use Rattle.flm_cli.specs.Plan.{plan_for, text_for, text_of, PrintsText, PrintsNothing, PlanLeaves, IsPlanned, ShowsPlan, IsDueForPlan, PlanEnds}
-use Rattle.flm_cli.specs.Steps.{LooksAtCells, IsPrinted, Printed, PlansCells}
+use Rattle.flm_cli.specs.Plan.{plan_for, text_for, plans_for, text_of, PlanLeaves, IsPlanned, ShowsPlan, IsDueForPlan, PlanEnds}
+use Rattle.device_dump.specs.Looks.{LooksAtCells, PrintsText, PrintsNothing}
+use Rattle.flm_cli.specs.Steps.{AreSized, HasRoomFor, IsBaseAt, IsRoomStill, IsPrinted, Printed, PlansCells}
+use Rattle.flm_cli.specs.declared.plan.Room.{Room}
 use Rattle.command_answers.proofs.ReadingLemmas.{answers_yielding, answers_refused, answers_worked}
 use Rattle.command_answers.proofs.AnswerLemmas.{unraised, never_store, did_nothing, plain_lawful, untaken_lawful}
 use Rattle.flm_cli.proofs.FoundLemmas.{is_early}
@@ -180,10 +191,10 @@ module _ (tells told : Bool) (b : BenchState) (o : SinkState) (inputs : InputsCa
   due_yielding r early its files aim = record {
     other_size = λ other. inr (its, did_nothing tells told b o);
     complete = λ same. inr its;
-    planned = λ algorithm is its_told same. record { taken = refl; faults = refl };
+    planned = λ its_told same. record { taken = refl; faults = refl };
   }
 
-  ends_untaken : (r : Refusal) → IsTakeFault inputs (names_in asked) r → Ends r
+  pub ends_untaken : (r : Refusal) → IsTakeFault inputs (names_in asked) r → Ends r
   ends_untaken out_of_memory is = record {
     lawful = untaken_lawful tells told b o inputs on_files has_plan (names_in asked) out_of_memory (did_nothing tells told b o) refl (λ name. refl) is;
     leaves = leaves out_of_memory refl;
@@ -208,8 +219,9 @@ module _ (tells told : Bool) (b : BenchState) (o : SinkState) (inputs : InputsCa
       files = answers_refused Bench inputs Out asked (Holds r) (Goes r) r files are is shows;
     }
 
-    ends_unread : (r : Refusal) → IsFilesRefusal asked files r → Ends r
+    pub ends_unread : (r : Refusal) → IsFilesRefusal asked files r → Ends r
     ends_unread out_of_memory is = ends_untaken out_of_memory same
+    ends_unread usage is = ends_refused usage refl refl refl is (record { files = files; are_files = are; holds = is })
     ends_unread (board_refused fault) is =
         ends_refused (board_refused fault) refl refl refl is (record { files = files; are_files = are; holds = is })
     ends_unread (flm_refused fault) is =
@@ -225,45 +237,144 @@ module _ (tells told : Bool) (b : BenchState) (o : SinkState) (inputs : InputsCa
     ends_unread r is = absurd is
 
     -- another number of cells
-    pub ends_other_size : (task : Task) → IsTask asked.raw_at files task → task.device.size ≢ b.cell_count → Ends (cells_differ task.device.size b.cell_count)
-    ends_other_size task is unequal =
-        let r = cells_differ task.device.size b.cell_count in
-        let aim = task_aim task is.region in
+    pub ends_other_size : (wanted : Wanted) → IsAim asked.raw_at files (aim_of wanted) → size_of wanted.board.regions ≢ b.cell_count
+        → Ends (cells_differ (size_of wanted.board.regions) b.cell_count)
+    ends_other_size wanted is unequal =
+        let r = cells_differ (size_of wanted.board.regions) b.cell_count in
+        let aim = aim_of wanted in
         record {
           lawful = plain_lawful tells told b o inputs on_files has_plan (names_in asked) r (did_nothing tells told b o) refl same refl;
           leaves = leaves r refl;
-          files = answers_worked Bench inputs Out asked (Holds r) (Goes r) (refused r) files aim are is.is_aim
+          files = answers_worked Bench inputs Out asked (Holds r) (Goes r) (refused r) files aim are is
               (record {
                 files = files;
                 are_files = are;
-                holds = record { aim = aim; is_aim = is.is_aim; holds = record { wanted_is = is.size_is; found_is = refl; unequal = unequal } };
+                holds = record { aim = aim; is_aim = is; holds = record { wanted_is = refl; found_is = refl; unequal = unequal } };
               })
               (record {
-                other_size = λ other. inl (ap (λ (n : ℕ). refused (cells_differ n b.cell_count)) is.size_is);
-                complete = λ equal. absurd (unequal (is.size_is ∙ equal));
-                planned = λ algorithm its its_told equal. absurd (unequal (is.size_is ∙ equal));
+                other_size = λ other. inl refl;
+                complete = λ equal. absurd (unequal equal);
+                planned = λ its_told equal. absurd (unequal equal);
               });
         }
 
-  -- the files can't be taken, or are refused
-  pub ends_early : (r : Refusal) → IsTakeFault inputs (names_in asked) r ⊎ TookFiles inputs asked (λ files. IsFilesRefusal asked files r) → Ends r
-  ends_early r is = ⊎_elim (λ untaken. ends_untaken r untaken) (λ took. ends_unread took.given.files took.given.are_files took.none_failed r took.given.holds) is
+-- An algorithm for each region.
+
+sized_by : (b : board.Shown) (regions : List Region) (files : List (List ℕ)) (algorithms : List flm.Shown) → length files ≡ length regions
+    → AreFor b regions files algorithms → AreSized regions algorithms
+sized_by b [] [] [] same are = tt
+sized_by b [] [] (a ∷ more) same are = absurd are
+sized_by b [] (f ∷ fs) algorithms same are = absurd (omega (arith, same))
+sized_by b (r ∷ rs) [] algorithms same are = absurd (omega (arith, same))
+sized_by b (r ∷ rs) (f ∷ fs) [] same are = absurd are
+sized_by b (r ∷ rs) (f ∷ fs) (a ∷ more) same are = (are.0.fits.size_is, sized_by b rs fs more (omega (arith, same)) are.1)
+
+each_by : (regions : List Region) (algorithms : List flm.Shown) → AreSized regions algorithms → length algorithms ≡ length regions
+each_by [] [] sized = refl
+each_by [] (a ∷ more) sized = absurd sized
+each_by (r ∷ rs) [] sized = absurd sized
+each_by (r ∷ rs) (a ∷ more) sized = ap suc (each_by rs more sized.1)
+
+-- as many FLM files as regions
+as_many : (b : board.Shown) (regions : List Region) (first : Option (List ℕ)) (others : List (List ℕ)) (algorithms : List flm.Shown) → IsSome first
+    → (IsSome first → length regions ≤ length others) → 0 < length regions
+    → AreFor b regions (option_to_list first ++ take (others_of first regions) others) algorithms → AreSized regions algorithms
+as_many b regions None others algorithms some enough any are = absurd (cc)
+as_many b regions (Some f) others algorithms some enough any are =
+    let few = length-take-le (length regions - 1) others (omega (arith, enough some)) in
+    sized_by b regions (f ∷ take (length regions - 1) others) algorithms (omega (arith, few, any)) are
+
+pub sized_of : (raw_at : Option ℕ) (files : FilesGiven) (aim : Aim) → IsAim raw_at files aim → IsSome files.flm → 0 < length aim.board.regions
+    → AreSized aim.board.regions aim.algorithms
+sized_of raw_at files aim is some any =
+    as_many aim.board aim.board.regions files.flm files.images aim.algorithms some is.are_read.board.enough any is.are_read.algorithms
+
+pub first_sized : (regions : List Region) (items : List Algorithm) (r : Region) (x : Algorithm) → AreSized regions (map flm.shown items)
+    → slice_get regions 0 ≡ Some r → slice_get items 0 ≡ Some x → x.device.size ≡ r.size
+first_sized [] items r x sized region item = absurd (cc)
+first_sized (s ∷ rs) [] r x sized region item = absurd sized
+first_sized (s ∷ rs) (y ∷ ys) r x sized region item =
+    let one : s ≡ r = cc in
+    let two : y ≡ x = cc in
+    ap (λ (a : Algorithm). a.device.size) (sym two) ∙ sized.0 ∙ ap (λ (q : Region). q.size) one
+
+pub second_sized : (regions : List Region) (items : List Algorithm) (r : Region) (x : Algorithm) → AreSized regions (map flm.shown items)
+    → slice_get regions 1 ≡ Some r → slice_get items 1 ≡ Some x → x.device.size ≡ r.size
+second_sized [] items r x sized region item = absurd (cc)
+second_sized (s ∷ rs) [] r x sized region item = absurd sized
+second_sized (s ∷ []) (y ∷ ys) r x sized region item = absurd (cc)
+second_sized (s ∷ t ∷ rs) (y ∷ []) r x sized region item = absurd sized.1
+second_sized (s ∷ t ∷ rs) (y ∷ z ∷ ys) r x sized region item =
+    let one : t ≡ r = cc in
+    let two : z ≡ x = cc in
+    ap (λ (a : Algorithm). a.device.size) (sym two) ∙ sized.1.0 ∙ ap (λ (q : Region). q.size) one
+
+pub items_many : (regions : List Region) (items : List Algorithm) → AreSized regions (map flm.shown items) → length items ≡ length regions
+items_many [] [] sized = refl
+items_many [] (a ∷ more) sized = absurd sized
+items_many (r ∷ rs) [] sized = absurd sized
+items_many (r ∷ rs) (a ∷ more) sized = ap suc (items_many rs more sized.1)
+
+-- the first address of a region of a board
+base_fits : (regions : List Region) (i : ℕ) (r d : Region) → i < length regions → r ≡ get_or regions i d → IsTrue (list_all region_fits regions) → r.base + r.size ≤ 2 ^ 32
+base_fits regions i r d less is fit = subst (λ (q : Region). q.base + q.size ≤ 2 ^ 32) (sym is) (region_at regions i d less fit).ends
+
+is_at : (regions : List Region) (i : ℕ) (r d : Region) → i < length regions → r ≡ get_or regions i d → slice_get regions i ≡ Some r
+is_at [] i r d less is = absurd (omega (arith, less))
+is_at (q ∷ qs) zero r d less is = let same : q ≡ r = sym is in cc
+is_at (q ∷ qs) (suc i) r d less is = is_at qs i r d (omega (arith, less)) is
+
+pub base_at : (regions list : List Region) (i : ℕ) (d : Region) → list ≡ regions → i < length regions → IsTrue (list_all region_fits regions)
+    → IsBaseAt regions i (get_or list i d).base
+base_at regions list i d same less fit =
+    let r = get_or list i d in
+    let is : r ≡ get_or regions i d = ap (λ (l : List Region). get_or l i d) same in
+    record { region = r; is = is_at regions i r d less is; base_is = refl; ends = base_fits regions i r d less is fit }
+
+-- The texts.
+
+-- the text for one region is that of its plan
+pub text_of_one : (wanted : Wanted) (region : Region) (algorithm : Algorithm) (cells : List ℕ) → wanted.board.regions ≡ region ∷ []
+    → wanted.algorithms.items ≡ algorithm ∷ [] → length cells ≡ region.size
+    → text_for wanted.board.weights (flm.shown algorithm) wanted.image region.base cells ≡ text_of (aim_of wanted) cells
+text_of_one wanted region algorithm cells only one all =
+    let weights = wanted.board.weights in
+    ap (λ (c : List ℕ). text_for weights (flm.shown algorithm) wanted.image region.base c) (sym (take_all region.size cells (omega (arith, all))))
+    ∙ ap (λ (rs : List Region). plans_text (plans_for weights wanted.image rs (flm.shown algorithm ∷ []) cells)) (sym only)
+    ∙ ap (λ (l : List Algorithm). plans_text (plans_for weights wanted.image wanted.board.regions (map flm.shown l) cells)) (sym one)
+
+-- the text for two regions is that of both plans, each behind the line of its region
+pub text_of_two : (wanted : Wanted) (one two : Region) (a c : Algorithm) (xs ys : List ℕ) → wanted.board.regions ≡ one ∷ two ∷ []
+    → wanted.algorithms.items ≡ a ∷ c ∷ [] → length xs ≡ one.size → length ys ≡ two.size
+    → (region_text one.base ++ text_for wanted.board.weights (flm.shown a) wanted.image one.base xs)
+    ++ (region_text two.base ++ text_for wanted.board.weights (flm.shown c) wanted.image two.base ys) ≡ text_of (aim_of wanted) (xs ++ ys)
+text_of_two wanted one two a c xs ys are items all others =
+    let w = wanted.board.weights in
+    let image = wanted.image in
+    let first = λ (l : List ℕ). region_text one.base ++ text_for w (flm.shown a) image one.base l in
+    let second = λ (l : List ℕ). region_text two.base ++ text_for w (flm.shown c) image two.base l in
+    ap (λ (l : List ℕ). first l ++ second ys) (sym (take_at xs ys one.size all))
+    ∙ ap (λ (l : List ℕ). first (take one.size (xs ++ ys)) ++ second l)
+    (sym (ap (λ (l : List ℕ). take two.size l) (drop_at xs ys one.size all) ∙ take_all two.size ys (omega (arith, others))))
+    ∙ ap (λ (l : List ℕ). first (take one.size (xs ++ ys)) ++ l) (sym (append-nil (second (take two.size (drop one.size (xs ++ ys))))))
+    ∙ ap (λ (rs : List Region). plans_text (plans_for w image rs (flm.shown a ∷ flm.shown c ∷ []) (xs ++ ys))) (sym are)
+    ∙ ap (λ (l : List Algorithm). plans_text (plans_for w image wanted.board.regions (map flm.shown l) (xs ++ ys))) (sym items)
 
 -- The end of the work on the cells.
 
-module _ (bench : BenchCall) (inputs : InputsCall) (out : SinkCall) (asked : FilesAsked) (files : FilesGiven) (are : AreFiles inputs asked files) (task : Task)
-    (is : IsTask asked.raw_at files task) (cells : is.region.size ≡ bench.before.cell_count) where
+module _ (bench : BenchCall) (inputs : InputsCall) (out : SinkCall) (asked : FilesAsked) (files : FilesGiven) (are : AreFiles inputs asked files) (wanted : Wanted)
+    (is : IsAim asked.raw_at files (aim_of wanted)) (sized : AreSized wanted.board.regions (map flm.shown wanted.algorithms.items))
+    (cells : size_of wanted.board.regions ≡ bench.before.cell_count) where
   abbrev aim : Aim
-  aim = task_aim task is.region
+  aim = aim_of wanted
 
   abbrev text : List ℕ → List ℕ
-  text = text_of aim (flm.shown task.algorithm)
+  text = text_of aim
 
   planned_is : (answer : Answer) → IsPrinted bench out text answer → IsPlanned bench out aim answer
   planned_is answer printed = record {
     size = cells;
-    algorithm = flm.shown task.algorithm;
-    is_algorithm = refl;
+    each = each_by aim.board.regions aim.algorithms sized;
     cells = printed.cells;
     all = printed.all ∙ sym cells;
     surveyed = printed.surveyed;
@@ -272,40 +383,102 @@ module _ (bench : BenchCall) (inputs : InputsCall) (out : SinkCall) (asked : Fil
 
   planned_shows : (answer : Answer) → Printed bench out text answer → ShowsFiles inputs asked (λ files. ShowsPlan bench out answer) answer
   planned_shows done printed =
-      record { files = files; are_files = are; holds = record { aim = aim; is_aim = is.is_aim; holds = planned_is done printed } }
+      record { files = files; are_files = are; holds = record { aim = aim; is_aim = is; holds = planned_is done printed } }
   planned_shows (refused out_of_memory) printed = tt
   planned_shows (refused device_fault) printed =
-      record { files = files; are_files = are; holds = record { aim = aim; is_aim = is.is_aim; holds = cells } }
+      record { files = files; are_files = are; holds = record { aim = aim; is_aim = is; holds = cells } }
   planned_shows (refused output_fault) printed =
-      record { files = files; are_files = are; holds = record { aim = aim; is_aim = is.is_aim; holds = planned_is (refused output_fault) printed } }
+      record { files = files; are_files = are; holds = record { aim = aim; is_aim = is; holds = planned_is (refused output_fault) printed } }
   planned_shows (refused r) printed = absurd printed
 
   planned_due : (answer : Answer) → PrintsNothing out answer → Printed bench out text answer → IsDueForPlan bench out answer aim
   planned_due answer nothing printed = record {
     other_size = λ other. absurd (other cells);
     complete = λ equal. plan_cases bench out text (λ a. IsUnless a done) (inl refl) (inr refl) (inr refl) (inr refl) answer printed;
-    planned = λ algorithm its told equal.
-        let same : flm.shown task.algorithm ≡ algorithm = cc in
-        subst (λ (a : flm.Shown). PrintsText out (text_of aim a bench.after.cells) answer) same (prints_due bench out text answer nothing printed told);
+    planned = λ told equal. prints_due bench out text answer nothing printed told;
   }
 
-  pub ends_planned : NoneFailed inputs → (answer : Answer)
-      → PlansCells bench out (text_for task.board.weights (flm.shown task.algorithm) task.image task.device.base) answer → PlanEnds asked bench inputs out answer
-  ends_planned same answer plans =
-      let its = subst (λ (n : ℕ). PlansCells bench out (text_for task.board.weights (flm.shown task.algorithm) task.image n) answer) is.base_is plans in
-      record {
-        lawful = planned_lawful bench out text inputs (names_in asked) answer same its;
-        leaves = its.leaves;
-        files = answers_worked bench inputs out asked (λ files. ShowsPlan bench out answer) (λ files. IsDueForPlan bench out answer) answer files aim are is.is_aim
-            (planned_shows answer its.printed) (planned_due answer its.leaves.prints its.printed);
-      }
+  pub ends_planned : NoneFailed inputs → (answer : Answer) → PlansCells bench out text answer → PlanEnds asked bench inputs out answer
+  ends_planned same answer plans = record {
+    lawful = planned_lawful bench out text inputs (names_in asked) answer same plans;
+    leaves = plans.leaves;
+    files = answers_worked bench inputs out asked (λ files. ShowsPlan bench out answer) (λ files. IsDueForPlan bench out answer) answer files aim are is
+        (planned_shows answer plans.printed) (planned_due answer plans.leaves.prints plans.printed);
+  }
 
--- The cells that a task is for.
+-- The rooms.
 
-pub task_cells : (raw_at : Option ℕ) (files : FilesGiven) (task : Task) (count : ℕ) → IsTask raw_at files task → task.device.size ≡ count
-    → task.algorithm.device.size ≡ count
-task_cells raw_at files task count is size = is.is_aim.are_read.fits.size_is ∙ sym is.size_is ∙ size
+-- nothing was read into it
+pub room_here : (room : Room) → IsRoomStill room room
+room_here room = record { geometry = refl; plan = refl; goal = refl; cells = refl }
 
-pub task_ends : (raw_at : Option ℕ) (files : FilesGiven) (task : Task) → IsTask raw_at files task → task.device.base + task.algorithm.device.size ≤ 2 ^ 32
-task_ends raw_at files task is =
-    subst (λ (n : ℕ). task.device.base + n ≤ 2 ^ 32) (is.size_is ∙ sym is.is_aim.are_read.fits.size_is) is.ends
+-- a room that was read into is one for the same algorithm
+pub room_stays : (algorithm : flm.Shown) (old new : Room) → HasRoomFor algorithm old → IsRoomStill old new → HasRoomFor algorithm new
+room_stays algorithm old new has still = record {
+  geometry = still.geometry ∙ has.geometry;
+  covers = subst (λ (l : Layout). Covers l new.plan) (sym still.geometry) (subst (λ (p : PlanView). Covers old.geometry p) (sym still.plan) has.covers);
+  cells = still.cells ∙ has.cells;
+  goal = ap length still.goal ∙ has.goal;
+}
+
+-- the regions of a board are one or two
+pub one_region : (regions : List Region) (r : Region) → length regions ≡ 1 → slice_get regions 0 ≡ Some r → regions ≡ r ∷ []
+one_region = only_one
+
+pub two_regions : (regions : List Region) (r s : Region) → length regions ≡ 2 → slice_get regions 0 ≡ Some r → slice_get regions 1 ≡ Some s → regions ≡ r ∷ s ∷ []
+two_regions regions r s two = only_two regions r s (omega (arith, two)) (omega (arith, two))
+
+-- What is printed.
+
+-- the plan that was chosen in a room
+made_text : (wanted : Wanted) (algorithm : Algorithm) (base : ℕ) (made old : Room) (geometry : Layout) (plan : Chosen) → HasRoomFor (flm.shown algorithm) made
+    → IsRoomStill made old → geometry ≡ old.geometry → plan ≡ plan_for wanted.board.weights (flm.shown algorithm) wanted.image base old.cells.items
+    → plan_text geometry base plan ≡ text_for wanted.board.weights (flm.shown algorithm) wanted.image base old.cells.items
+made_text wanted algorithm base made old geometry plan has still geometry_is plan_is =
+    text_is wanted.board.weights (flm.shown algorithm) wanted.image base old.cells.items geometry plan (geometry_is ∙ still.geometry ∙ has.geometry) plan_is
+
+module _ (wanted : Wanted) (region : Region) (algorithm : Algorithm) (base : ℕ) (made old : Room) (base_is : base ≡ region.base)
+    (size : algorithm.device.size ≡ region.size) (has : HasRoomFor (flm.shown algorithm) made) (still : IsRoomStill made old) where
+  room_cells : length old.cells.items ≡ region.size
+  room_cells = still.cells ∙ has.cells ∙ size
+
+  module _ (only : wanted.board.regions ≡ region ∷ []) (one : wanted.algorithms.items ≡ algorithm ∷ []) where
+    pub only_cells : (count : ℕ) → size_of wanted.board.regions ≡ count → length old.cells.items ≡ count
+    only_cells count is = room_cells ∙ sym (size_of_one wanted.board.regions region only) ∙ is
+
+    pub only_text : (geometry : Layout) (plan : Chosen) → geometry ≡ old.geometry
+        → plan ≡ plan_for wanted.board.weights (flm.shown algorithm) wanted.image base old.cells.items → plan_text geometry base plan ≡ text_of (aim_of wanted) old.cells.items
+    only_text geometry plan geometry_is plan_is =
+        made_text wanted algorithm base made old geometry plan has still geometry_is plan_is
+        ∙ ap (λ (n : ℕ). text_for wanted.board.weights (flm.shown algorithm) wanted.image n old.cells.items) base_is
+        ∙ text_of_one wanted region algorithm old.cells.items only one room_cells
+
+  module _ (region' : Region) (algorithm' : Algorithm) (base' : ℕ) (made' old' : Room) (base_is' : base' ≡ region'.base)
+      (size' : algorithm'.device.size ≡ region'.size) (has' : HasRoomFor (flm.shown algorithm') made') (still' : IsRoomStill made' old')
+      (are : wanted.board.regions ≡ region ∷ region' ∷ []) (items : wanted.algorithms.items ≡ algorithm ∷ algorithm' ∷ []) where
+    other_cells : length old'.cells.items ≡ region'.size
+    other_cells = still'.cells ∙ has'.cells ∙ size'
+
+    pub both_cells : (count : ℕ) → size_of wanted.board.regions ≡ count → length (old.cells.items ++ old'.cells.items) ≡ count
+    both_cells count is = omega (arith, length-append old.cells.items old'.cells.items, room_cells, other_cells, size_of_two wanted.board.regions region region' are, is)
+
+    pub both_text : (geometry geometry' : Layout) (plan plan' : Chosen) → geometry ≡ old.geometry → geometry' ≡ old'.geometry
+        → plan ≡ plan_for wanted.board.weights (flm.shown algorithm) wanted.image base old.cells.items
+        → plan' ≡ plan_for wanted.board.weights (flm.shown algorithm') wanted.image base' old'.cells.items
+        → (region_text base ++ plan_text geometry base plan) ++ (region_text base' ++ plan_text geometry' base' plan') ≡ text_of (aim_of wanted) (old.cells.items ++ old'.cells.items)
+    both_text geometry geometry' plan plan' geometry_is geometry_is' plan_is plan_is' =
+        let w = wanted.board.weights in
+        let image = wanted.image in
+        ap (λ (l : List ℕ). (region_text base ++ l) ++ (region_text base' ++ plan_text geometry' base' plan'))
+        (made_text wanted algorithm base made old geometry plan has still geometry_is plan_is)
+        ∙ ap (λ (l : List ℕ). (region_text base ++ text_for w (flm.shown algorithm) image base old.cells.items) ++ (region_text base' ++ l))
+        (made_text wanted algorithm' base' made' old' geometry' plan' has' still' geometry_is' plan_is')
+        ∙ ap (λ (n : ℕ). (region_text n ++ text_for w (flm.shown algorithm) image n old.cells.items)
+        ++ (region_text base' ++ text_for w (flm.shown algorithm') image base' old'.cells.items)) base_is
+        ∙ ap (λ (n : ℕ). (region_text region.base ++ text_for w (flm.shown algorithm) image region.base old.cells.items)
+        ++ (region_text n ++ text_for w (flm.shown algorithm') image n old'.cells.items)) base_is'
+        ∙ text_of_two wanted region region' algorithm algorithm' old.cells.items old'.cells.items are items room_cells other_cells
+
+-- a room's geometry is as large as the device that it is for
+pub room_size : (algorithm : flm.Shown) (room : Room) → HasRoomFor algorithm room → room.geometry.size ≡ algorithm.device.size
+room_size algorithm room has = ap (λ (l : Layout). l.size) has.geometry

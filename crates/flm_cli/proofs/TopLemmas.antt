@@ -8,7 +8,7 @@ use Rattle.outside_io.specs.State.{InputsState, SinkState}
 use Rattle.flash_session.specs.declared.goal.Goal.TheVariants.{New, Old}
 use Rattle.report_text.specs.Refusal.{Refusal, out_of_memory}
 use Rattle.report_text.specs.Refusal as refusal
-use Rattle.command_words.specs.Words.{Command, program, resume, revert, plan, verify, compare, status, inspect, demo, Asked}
+use Rattle.command_words.specs.Words.{Command, program, resume, revert, plan, verify, compare, status, inspect, dump, demo, Asked}
 use Rattle.command_words.proofs.WordsLemmas.{one_asked}
 use Rattle.command_files.specs.Inputs.{InputsCall, TakesNothing, NoneFailed, inputs_call}
 use Rattle.command_answers.specs.Call.{BenchCall, SinkCall, Answer, refused, bench_call, sink_call}
@@ -20,6 +20,7 @@ use Rattle.job_status.specs.Status.{StatusEnds}
 use Rattle.job_status.proofs.StatusLemmas.{ends_refused}
 use Rattle.demo_job.specs.Command.{DemoEnds}
 use Rattle.demo_job.proofs.EndLemmas.{demo_ends}
+use Rattle.device_dump.proofs.DumpLemmas as dumping
 use Rattle.flm_cli.specs.Answers.{EndsUnfit, EndsOf}
 use Rattle.flm_cli.proofs.CompareLemmas as comparison
 use Rattle.flm_cli.proofs.InspectLemmas as inspection
@@ -71,9 +72,10 @@ module _ (tells given told : Bool) (b : BenchState) (i : InputsState) (o : SinkS
   ends_unread many exact words (Some (program files)) given = begin.ends_untaken tells told b o Inputs files many exact out_of_memory none_failed
   ends_unread many exact words (Some resume) given = go_on.ends_unread tells told b o Inputs New many exact took_nothing
   ends_unread many exact words (Some revert) given = go_on.ends_unread tells told b o Inputs Old many exact took_nothing
-  ends_unread many exact words (Some (plan files)) given = planning.ends_early tells told b o Inputs files out_of_memory (inl none_failed)
+  ends_unread many exact words (Some (plan files)) given = planning.ends_untaken tells told b o Inputs files out_of_memory none_failed
   ends_unread many exact words (Some (verify files)) given = verification.ends_untaken tells told b o Inputs files out_of_memory none_failed
   ends_unread many exact words (Some (compare image)) given = comparison.ends_untaken tells told b o Inputs image out_of_memory none_failed
   ends_unread many exact words (Some status) given = status_unread
   ends_unread many exact words (Some (inspect flm)) given = inspection.ends_untaken tells told b o Inputs flm out_of_memory none_failed
+  ends_unread many exact words (Some (dump form board)) given = dumping.ends_untaken form board tells told b o Inputs out_of_memory none_failed
   ends_unread many exact words (Some (demo seed)) given = demo_unbegun seed

@@ -1,11 +1,12 @@
 -- What a call of `flmprog` answers, by its command.
 use Rattle.std.specs.Prelude.{◌≡◌, ◌⊎◌, Option, Some, None}
 use Rattle.report_text.specs.Refusal as refusal
-use Rattle.command_words.specs.Words.{Command, program, resume, revert, plan, verify, compare, status, inspect, demo}
+use Rattle.command_words.specs.Words.{Command, program, resume, revert, plan, verify, compare, status, inspect, dump, demo}
 use Rattle.command_files.specs.Inputs.{InputsCall, TakesNothing}
 use Rattle.command_answers.specs.Call.{BenchCall, SinkCall, Call, Answer, refused}
 use Rattle.command_answers.specs.Answered.{DidNothing, AnswersBy}
 use Rattle.demo_job.specs.Command.{DemoEnds}
+use Rattle.device_dump.specs.Dump.{DumpEnds}
 use Rattle.flash_session.specs.declared.goal.Goal.{Goal}
 use Rattle.flash_session.specs.declared.goal.Goal.TheVariants.{New, Old}
 use Rattle.job_commands.specs.GoOn.{GoOnEnds}
@@ -32,6 +33,7 @@ EndsOf (Some (verify files)) = VerifyEnds files
 EndsOf (Some (compare image)) = CompareEnds image
 EndsOf (Some status) = StatusEnds
 EndsOf (Some (inspect flm)) = InspectEnds flm
+EndsOf (Some (dump form board)) = DumpEnds form board
 EndsOf (Some (demo seed)) = DemoEnds seed
 EndsOf None = EndsUnfit
 

@@ -1,29 +1,20 @@
 -- What `compare` and `verify` have in common: both compare the cells with bytes.
-use Rattle.std.specs.Prelude.{◌≡◌, ◌⊎◌, ℕ, true, IsTrue, None}
+use Rattle.std.specs.Prelude.{◌≡◌, ◌⊎◌, ℕ, true, IsTrue}
 use Rattle.bench_model.specs.State.{cells_half}
 use Rattle.bench_model.specs.History.{AddsNothing}
-use Rattle.bench_model.specs.Calls.{SameOutside, FileStays, CellsStay}
+use Rattle.bench_model.specs.Calls.{FileStays, CellsStay}
 use Rattle.report_text.specs.Refusal.{device_fault, output_fault, differs}
 use Rattle.report_text.specs.End.{end_text}
 use Rattle.report_text.specs.declared.end.End.TheVariants.{Same}
 use Rattle.command_answers.specs.Call.{BenchCall, SinkCall, Answer, done, refused, TookNothing, TookAll, TookPart}
 use Rattle.command_answers.specs.Answered.{device, output, IsCounted, yields, IsUnless}
+use Rattle.device_dump.specs.Looks.{IsBrokenOff, IsStillOpen}
 
 -- What goes to `out`: `same` where done, a beginning of it where `out` fails, and nothing with every other answer.
 abbrev pub Prints : SinkCall → Answer → Type 0
 Prints out done = TookAll out (end_text Same)
 Prints out (refused output_fault) = TookPart out (end_text Same)
 Prints out (refused _) = TookNothing out
-
--- an operation open at entry was broken off: none is open, and the cells outside its range are as they were
-pub record IsBrokenOff (bench : BenchCall) : Type 0 where
-  pub idle : IsTrue bench.tells → bench.after.operation ≡ None
-  pub outside : IsTrue bench.tells → SameOutside bench.before.operation bench.before.cells bench.after.cells
-
--- the cells are as they were, and an operation open at entry is still open
-pub record IsStillOpen (bench : BenchCall) : Type 0 where
-  pub operation : IsTrue bench.tells → bench.after.operation ≡ bench.before.operation
-  pub cells : IsTrue bench.tells → bench.after.cells ≡ bench.before.cells
 
 -- What stands of the cells. The answers that come before the cells are looked at leave the bench as it was.
 abbrev pub Stands : BenchCall → Answer → Type 0

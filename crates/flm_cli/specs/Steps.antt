@@ -1,11 +1,8 @@
 -- What the steps of the commands answer.
-use Rattle.std.specs.Prelude.{◌≡◌, ◌≤◌, ◌<◌, ◌+◌, ◌⊎◌, ℕ, Bool, IsTrue, List, length, Option, Some, None, Result, Ok, Err, OnOk, OnErr}
-use Rattle.faults.specs.Counts.{HasCause}
-use Rattle.bench_model.specs.State.{cells_half}
-use Rattle.bench_model.specs.History.{AddsNothing}
-use Rattle.bench_model.specs.Calls.{FileStays}
+use Rattle.std.specs.Prelude.{◌≡◌, ◌≢◌, ◌≤◌, ◌<◌, ◌+◌, ◌^◌, ◌⊎◌, ℕ, Bool, IsTrue, List, [], ◌∷◌, length, slice_get, slice_index, Option, Some, None, Result, Ok, Err, OnOk, OnErr}
 use Rattle.bench_model.specs.declared.bench_fault.DeviceFault.{DeviceFault}
-use Rattle.byte_map.specs.Image.{Run, run_at, end_of}
+use Rattle.byte_map.specs.Image.{Run, byte_at}
+use Rattle.board_file.specs.declared.region.Region.{Region}
 use Rattle.readback.specs.declared.compare.Difference.{Difference}
 use Rattle.flm_descriptor.specs.Shown as flm
 use Rattle.erase_planner.specs.Marks.{Covers}
@@ -14,30 +11,37 @@ use Rattle.report_text.specs.End.{end_text}
 use Rattle.report_text.specs.declared.end.End.TheVariants.{Same}
 use Rattle.command_answers.specs.Call.{BenchCall, SinkCall, Answer, done, refused, TookNothing, TookAll, TookPart}
 use Rattle.command_answers.specs.Answered.{device, output, IsCounted}
-use Rattle.flm_cli.specs.Comparison.{IsBrokenOff, IsStillOpen}
 use Rattle.job_commands.specs.Work.{layout_of}
-use Rattle.flm_cli.specs.Plan.{PrintsText, PlanLeaves}
-use Rattle.flm_cli.specs.Verify.{CellsAgree, IsLeastDifference}
+use Rattle.device_dump.specs.Looks.{PrintsText}
+use Rattle.flm_cli.specs.Plan.{PlanLeaves}
+use Rattle.flm_cli.specs.Verify.{address_at, CellsAgree, IsLeastDifference}
 use Rattle.flm_cli.specs.declared.plan.Room.{Room}
 
--- there is a cell for each address of each run
-pub record FitsCells (image : List Run) (base cells : ℕ) : Type 0 where
-  pub low : (k : ℕ) → k < length image → base ≤ (run_at image k).at
-  pub high : (k : ℕ) → k < length image → end_of (run_at image k) ≤ base + cells
+-- None where each cell is the image's byte wherever it has one, else the least place where one isn't, by its address
+abbrev pub FindsInImage : Bool → List ℕ → List Region → List Run → Option Difference → Type 0
+FindsInImage tells cells regions image None = IsTrue tells → CellsAgree cells regions image
+FindsInImage tells cells regions image (Some d) =
+    (place : ℕ) × (address_at regions place ≡ Some d.at) × IsLeastDifference tells cells regions image place d.want d.got
 
--- None where each cell is the image's byte wherever it has one, else the least place where one isn't
-abbrev pub FindsInImage : Bool → List ℕ → ℕ → List Run → Option Difference → Type 0
-FindsInImage tells cells base image None = IsTrue tells → CellsAgree cells base image
-FindsInImage tells cells base image (Some d) = IsLeastDifference tells cells base image d.at d.want d.got
+-- One region, whose first cell has the place `start` and whose first address is `base`: the cells below one of its own are the image's bytes
+-- wherever it has some.
+abbrev pub RegionAgreesBelow : List ℕ → ℕ → ℕ → List Run → ℕ → Type 0
+RegionAgreesBelow cells start base image limit =
+    (offset byte : ℕ) → offset < limit → byte_at image (base + offset) ≡ Some byte → slice_index cells (start + offset) ≡ byte
 
--- An operation was broken off, and the cells were read.
-pub record LooksAtCells {A : Type 0} (bench : BenchCall) (result : Result A DeviceFault) : Type 0 where
-  pub ok : OnOk result (IsBrokenOff bench)
-  pub err : OnErr result (IsBrokenOff bench ⊎ IsStillOpen bench)
-  pub file : FileStays bench.before bench.after
-  pub count : bench.after.cell_count ≡ bench.before.cell_count
-  pub stops : AddsNothing (cells_half bench.before) (cells_half bench.after)
-  pub cause : HasCause bench.before.device_faults bench.after.device_faults result
+-- the first of its cells that isn't
+pub record IsFirstInRegion (tells : Bool) (cells : List ℕ) (start base size : ℕ) (image : List Run) (at wanted found : ℕ) : Type 0 where
+  pub offset : ℕ
+  pub inside : offset < size
+  pub address : at ≡ base + offset
+  pub is_wanted : byte_at image (base + offset) ≡ Some wanted
+  pub unequal : wanted ≢ found
+  pub is_found : IsTrue tells → slice_index cells (start + offset) ≡ found
+  pub least : IsTrue tells → RegionAgreesBelow cells start base image offset
+
+abbrev pub FindsInRegion : Bool → List ℕ → ℕ → ℕ → ℕ → List Run → Option Difference → Type 0
+FindsInRegion tells cells start base size image None = IsTrue tells → RegionAgreesBelow cells start base image size
+FindsInRegion tells cells start base size image (Some d) = IsFirstInRegion tells cells start base size image d.at d.want d.got
 
 -- none where the cells agree, else a difference, which is told by its address
 abbrev pub FoundBy : ℕ → Type 0 → (ℕ → ℕ → ℕ → Type 0) → Option Difference → Type 0
@@ -70,6 +74,26 @@ pub record HasRoomFor (algorithm : flm.Shown) (room : Room) : Type 0 where
   pub covers : Covers room.geometry room.plan
   pub cells : length room.cells.items ≡ algorithm.device.size
   pub goal : length room.goal.items ≡ algorithm.device.size
+
+-- the room is as it was, but for what its cells hold, which are as many
+pub record IsRoomStill (old new : Room) : Type 0 where
+  pub geometry : new.geometry ≡ old.geometry
+  pub plan : new.plan ≡ old.plan
+  pub goal : new.goal.items ≡ old.goal.items
+  pub cells : length new.cells.items ≡ length old.cells.items
+
+-- the first address of the region at a place of a list; the last one is a word
+pub record IsBaseAt (regions : List Region) (index base : ℕ) : Type 0 where
+  pub region : Region
+  pub is : slice_get regions index ≡ Some region
+  pub base_is : base ≡ region.base
+  pub ends : base + region.size ≤ 2 ^ 32
+
+-- an algorithm for each region, whose device has the region's size
+abbrev pub AreSized : List Region → List flm.Shown → Type 0
+AreSized [] [] = Unit {0}
+AreSized (region ∷ regions) (algorithm ∷ algorithms) = (algorithm.device.size ≡ region.size) × AreSized regions algorithms
+AreSized regions algorithms = ⊥
 
 -- the text for cells that were read
 pub record IsPrinted (bench : BenchCall) (out : SinkCall) (text : List ℕ → List ℕ) (answer : Answer) : Type 0 where

@@ -1,5 +1,7 @@
 -- What `verify [--raw-at ADDR] BOARD IMAGE...` answers.
-use Rattle.std.specs.Prelude.{◌≡◌, ◌≢◌, ◌<◌, ◌+◌, ℕ, IsTrue, Bool, List, slice_index, Option, Some}
+use Rattle.std.specs.Prelude.{◌≡◌, ◌≢◌, ◌<◌, ◌+◌, ◌-◌, ℕ, nat_lt, IsTrue, Bool, if◌then◌else◌, List, [], ◌∷◌, slice_index, Option, Some, None}
+use Rattle.board_file.specs.declared.region.Region.{Region}
+use Rattle.board_file.specs.Limits.{size_of}
 use Rattle.byte_map.specs.Image.{Run, byte_at}
 use Rattle.report_text.specs.Refusal.{cells_differ}
 use Rattle.command_words.specs.Files.{FilesAsked, names_in}
@@ -10,47 +12,56 @@ use Rattle.command_answers.specs.Answered.{has_verify, Refuses, DidNothing, Ends
 use Rattle.flm_cli.specs.Comparison.{ComparisonLeaves, Found, IsDue}
 use Rattle.command_answers.specs.Reading.{AnswersFiles}
 
--- The cells against an image, of which the byte at an address has its place at the address minus a base.
+-- The cells of regions against an image. The cells of one region follow those of the one before it, and the place of a cell is its number
+-- among all.
+
+-- the address of a place
+abbrev pub address_at : List Region → ℕ → Option ℕ
+address_at [] place = None
+address_at (region ∷ regions) place = if nat_lt place region.size then Some (region.base + place) else address_at regions (place - region.size)
 
 -- the byte that is wanted at a place
-abbrev pub wanted_at : ℕ → List Run → ℕ → Option ℕ
-wanted_at base image place = byte_at image (base + place)
+abbrev pub wanted_at : List Region → List Run → ℕ → Option ℕ
+wanted_at [] image place = None
+wanted_at (region ∷ regions) image place =
+    if nat_lt place region.size then byte_at image (region.base + place) else wanted_at regions image (place - region.size)
 
 -- below a place, each cell is the image's byte wherever it has one
-abbrev pub CellsAgreeBelow : List ℕ → ℕ → List Run → ℕ → Type 0
-CellsAgreeBelow cells base image limit = (place byte : ℕ) → place < limit → wanted_at base image place ≡ Some byte → slice_index cells place ≡ byte
+abbrev pub CellsAgreeBelow : List ℕ → List Region → List Run → ℕ → Type 0
+CellsAgreeBelow cells regions image limit =
+    (place byte : ℕ) → place < limit → wanted_at regions image place ≡ Some byte → slice_index cells place ≡ byte
 
 -- the same of all places
-abbrev pub CellsAgree : List ℕ → ℕ → List Run → Type 0
-CellsAgree cells base image = (place byte : ℕ) → wanted_at base image place ≡ Some byte → slice_index cells place ≡ byte
+abbrev pub CellsAgree : List ℕ → List Region → List Run → Type 0
+CellsAgree cells regions image = (place byte : ℕ) → wanted_at regions image place ≡ Some byte → slice_index cells place ≡ byte
 
 -- the least place at which the cell isn't the image's byte
-pub record IsLeastDifference (tells : Bool) (cells : List ℕ) (base : ℕ) (image : List Run) (place wanted found : ℕ) : Type 0 where
-  pub is_wanted : wanted_at base image place ≡ Some wanted
+pub record IsLeastDifference (tells : Bool) (cells : List ℕ) (regions : List Region) (image : List Run) (place wanted found : ℕ) : Type 0 where
+  pub is_wanted : wanted_at regions image place ≡ Some wanted
   pub unequal : wanted ≢ found
   pub is_found : IsTrue tells → slice_index cells place ≡ found
-  pub least : IsTrue tells → CellsAgreeBelow cells base image place
+  pub least : IsTrue tells → CellsAgreeBelow cells regions image place
 
 -- the same, told by its address
-pub record DiffersAt (bench : BenchCall) (base : ℕ) (image : List Run) (at wanted found : ℕ) : Type 0 where
+pub record DiffersAt (bench : BenchCall) (regions : List Region) (image : List Run) (at wanted found : ℕ) : Type 0 where
   pub place : ℕ
-  pub address : at ≡ base + place
-  pub first : IsLeastDifference bench.tells bench.after.cells base image place wanted found
+  pub address : address_at regions place ≡ Some at
+  pub first : IsLeastDifference bench.tells bench.after.cells regions image place wanted found
 
-abbrev pub AgreesWith : BenchCall → ℕ → List Run → Type 0
-AgreesWith bench base image = IsTrue bench.tells → CellsAgree bench.after.cells base image
+abbrev pub AgreesWith : BenchCall → List Region → List Run → Type 0
+AgreesWith bench regions image = IsTrue bench.tells → CellsAgree bench.after.cells regions image
 
--- What is answered for files that are right: with another number of cells than the region's size that, and else what the
+-- What is answered for files that are right: with another number of cells than the regions have together that, and else what the
 -- comparison found.
 
 pub record HasOtherSize (bench : BenchCall) (aim : Aim) (wanted found : ℕ) : Type 0 where
-  pub wanted_is : wanted ≡ aim.region.size
+  pub wanted_is : wanted ≡ size_of aim.board.regions
   pub found_is : found ≡ bench.before.cell_count
   pub unequal : wanted ≢ found
 
 pub record IsComparedWithImage (bench : BenchCall) (aim : Aim) (answer : Answer) : Type 0 where
-  pub size : aim.region.size ≡ bench.before.cell_count
-  pub found : Found (AgreesWith bench aim.region.base aim.image) (DiffersAt bench aim.region.base aim.image) answer
+  pub size : size_of aim.board.regions ≡ bench.before.cell_count
+  pub found : Found (AgreesWith bench aim.board.regions aim.image) (DiffersAt bench aim.board.regions aim.image) answer
 
 abbrev pub Shows : BenchCall → Answer → Aim → Type 0
 Shows bench (refused (cells_differ wanted found)) aim = HasOtherSize bench aim wanted found
@@ -58,10 +69,10 @@ Shows bench answer aim = IsComparedWithImage bench aim answer
 
 -- The other direction: each answer comes where it is due.
 pub record IsDueForImage (bench : BenchCall) (out : SinkCall) (answer : Answer) (aim : Aim) : Type 0 where
-  pub other_size : aim.region.size ≢ bench.before.cell_count
-      → Refuses (DidNothing bench out) answer (cells_differ aim.region.size bench.before.cell_count)
-  pub compared : aim.region.size ≡ bench.before.cell_count
-      → IsDue bench (AgreesWith bench aim.region.base aim.image) (DiffersAt bench aim.region.base aim.image) answer
+  pub other_size : size_of aim.board.regions ≢ bench.before.cell_count
+      → Refuses (DidNothing bench out) answer (cells_differ (size_of aim.board.regions) bench.before.cell_count)
+  pub compared : size_of aim.board.regions ≡ bench.before.cell_count
+      → IsDue bench (AgreesWith bench aim.board.regions aim.image) (DiffersAt bench aim.board.regions aim.image) answer
 
 -- The work of `verify`: all but the status and the line on `err`.
 pub record VerifyEnds (asked : FilesAsked) (bench : BenchCall) (inputs : InputsCall) (out : SinkCall) (answer : Answer) : Type 0 where

@@ -4,7 +4,8 @@ ghost use Rattle.command_files.specs.Inputs.{inputs_call};
 ghost use Rattle.command_answers.specs.Call.{bench_call, sink_call};
 ghost use Rattle.flm_cli.specs.Compare.{CellsAre, DiffersFrom, CompareEnds};
 ghost use Rattle.command_answers.specs.Shown.{answer_of};
-ghost use Rattle.flm_cli.specs.Steps.{FoundBy, LooksAtCells};
+ghost use Rattle.flm_cli.specs.Steps.{FoundBy};
+ghost use Rattle.device_dump.specs.Looks.{LooksAtCells};
 
 use crate::comparison::{WINDOW, tell_found};
 use bench_model::{Bench, DeviceFault};

@@ -1,31 +1,36 @@
 //! `plan [--raw-at ADDR] BOARD FLM IMAGE...`: what would be erased and programmed to bring images into the cells.
-ghost use Rattle.std.specs.Prelude.{◌≡◌, ◌≤◌, ◌+◌, ◌^◌, ℕ, List, All, IsSome, IsTrue, IfOk, OnOk, length};
-ghost use Rattle.byte_map.specs.Image.{over};
+ghost use Rattle.std.specs.Prelude.{◌≡◌, ◌≤◌, ◌<◌, ◌+◌, ◌++◌, ◌^◌, ℕ, List, All, IsSome, IsTrue, IfOk, OnOk, Some, None, length, map, slice_get};
+ghost use Rattle.bench_model.specs.Does.{ReadsCells};
+ghost use Rattle.board_file.specs.Limits.{size_of};
 ghost use Rattle.flm_descriptor.specs.Shown.{shown};
-ghost use Rattle.erase_planner.specs.Marks.{Covers};
+ghost use Rattle.report_text.specs.Plan.{plan_text};
+ghost use Rattle.report_text.specs.Region.{region_text};
+ghost use Rattle.outside_io.specs.Puts.{Puts};
 ghost use Rattle.command_words.specs.Files.{names_in};
 ghost use Rattle.command_words.specs.Requested.{files_of};
 ghost use Rattle.command_files.specs.Inputs.{inputs_call};
+ghost use Rattle.command_files.specs.Steps.{aim_of};
 ghost use Rattle.command_answers.specs.Call.{bench_call, sink_call};
-ghost use Rattle.job_commands.specs.Work.{layout_of};
-ghost use Rattle.flm_cli.specs.Plan.{plan_for, text_for, PlanEnds};
+ghost use Rattle.flm_cli.specs.Plan.{plan_for, text_of, PlanEnds};
 ghost use Rattle.command_answers.specs.Shown.{answer_of};
-ghost use Rattle.flm_cli.specs.Steps.{HasRoomFor, LooksAtCells, PlansCells};
+ghost use Rattle.flm_cli.specs.Steps.{AreSized, HasRoomFor, IsBaseAt, IsRoomStill, PlansCells};
+ghost use Rattle.device_dump.specs.Looks.{LooksAtCells};
 
 use bench_model::{Bench, DeviceFault};
-use command_files::{Task, read_task};
+use board_file::Board;
+use command_files::{Wanted, cells_of, read_files, take_files};
 use command_words::FileNames;
 use erase_planner::{Plan, plan_into};
 use faults::OutOfMemory;
 use flm_descriptor::Algorithm;
-use outside_io::{Inputs, Sink};
+use outside_io::{Inputs, OutputFault, Sink};
 use page_geometry::Geometry;
 use readback::read_cells;
-use report_text::{Refusal, put_plan};
+use report_text::{Refusal, put_plan, put_region};
 use std::alloc::Global;
 
-/// Prints the plan that is chosen to bring the union of images into the cells as they are, by the algorithm of the FLM file. The
-/// job file isn't looked at.
+/// Prints the plans that are chosen to bring the union of images into the cells as they are, one for each region of the board, by the
+/// algorithm of its FLM file. The job file isn't looked at.
 pub fn plan<'a, B: Bench, I: Inputs, O: Sink>(
     alloc: Global,
     names: &FileNames<'a>,
@@ -38,15 +43,17 @@ pub fn plan<'a, B: Bench, I: Inputs, O: Sink>(
     ensures { PlanEnds (files_of names.now) (bench_call B.tells (B.state bench.old) (B.state bench.new))
         (inputs_call I.tells (I.state inputs.old) (I.state inputs.new)) (sink_call O.tells (O.state out.old) (O.state out.new)) (answer_of result) }
 {
-    let task = read_task(alloc, names, inputs)?;
+    let files = take_files(alloc, names, inputs)?;
+    let wanted = read_files(alloc, names, &files)?;
+    let size = cells_of(&wanted.board);
     let cells = bench.cells_len();
-    if cells != task.device.size {
+    if cells != size {
         return Err(Refusal::CellsDiffer {
-            wanted: task.device.size,
+            wanted: size,
             found: cells,
         });
     }
-    print_plan(alloc, &task, bench, out)
+    print_plans(alloc, &wanted, bench, out)
 }
 
 /// What the plan for a device is made in: the geometry of the device, the plan, the cells as they are, and as they are to be.
@@ -58,35 +65,124 @@ pub struct Room {
     pub goal: Vec<u8>,
 }
 
-/// Prints the plan of a task, for as many cells as its device has. All memory is taken before the cells are looked at.
-fn print_plan<'a, B: Bench, O: Sink>(
+/// Prints the plans for a board's regions, for as many cells as these have.
+fn print_plans<'a, B: Bench, O: Sink>(
     alloc: Global,
-    task: &Task,
+    wanted: &Wanted,
     bench: &mut B,
     out: &mut O,
 ) -> Result<(), Refusal<'a>>
-    requires device { task.now.algorithm.device.size ≡ (B.state bench.old).cell_count }
-    requires ends { task.now.device.base + task.now.algorithm.device.size ≤ 2 ^ 32 }
+    requires sized { AreSized wanted.now.board.regions (map shown wanted.now.algorithms.items) }
+    requires cells { size_of wanted.now.board.regions ≡ (B.state bench.old).cell_count }
     ensures { PlansCells (bench_call B.tells (B.state bench.old) (B.state bench.new)) (sink_call O.tells (O.state out.old) (O.state out.new))
-        (text_for task.now.board.weights (shown task.now.algorithm) task.now.image task.now.device.base) (answer_of result) }
+        (text_of (aim_of wanted.now)) (answer_of result) }
 {
-    let Ok(room) = make_room(alloc, &task.algorithm) else {
+    if wanted.board.regions.as_slice().len() == 1 {
+        return print_only(alloc, wanted, bench, out);
+    }
+    print_both(alloc, wanted, bench, out)
+}
+
+/// Prints the plan for the one region of a board. All memory is taken before the cells are looked at.
+fn print_only<'a, B: Bench, O: Sink>(
+    alloc: Global,
+    wanted: &Wanted,
+    bench: &mut B,
+    out: &mut O,
+) -> Result<(), Refusal<'a>>
+    requires one { length wanted.now.board.regions ≡ 1 }
+    requires sized { AreSized wanted.now.board.regions (map shown wanted.now.algorithms.items) }
+    requires cells { size_of wanted.now.board.regions ≡ (B.state bench.old).cell_count }
+    ensures { PlansCells (bench_call B.tells (B.state bench.old) (B.state bench.new)) (sink_call O.tells (O.state out.old) (O.state out.new))
+        (text_of (aim_of wanted.now)) (answer_of result) }
+{
+    let base = base_of(&wanted.board, 0);
+    let algorithm = algorithm_at(wanted, 0);
+    let Ok(mut room) = make_room(alloc, algorithm) else {
         return Err(Refusal::OutOfMemory);
     };
-    let Room {
-        geometry,
-        mut plan,
-        mut cells,
-        mut goal,
-    } = room;
-    if survey(bench, &mut cells).is_err() {
+    if survey(bench, &mut room).is_err() {
         return Err(Refusal::DeviceFault);
     }
-    choose_plan(task, &geometry, &cells, &mut goal, &mut plan);
-    match put_plan(out, &geometry, task.device.base, &plan) {
+    choose_plan(wanted, algorithm, base, &mut room);
+    match put_plan(out, &room.geometry, base, &room.plan) {
         Ok(()) => Ok(()),
         Err(_) => Err(Refusal::OutputFault),
     }
+}
+
+/// Prints the plans for the two regions of a board, one after the other. All memory is taken before the cells are looked at.
+fn print_both<'a, B: Bench, O: Sink>(
+    alloc: Global,
+    wanted: &Wanted,
+    bench: &mut B,
+    out: &mut O,
+) -> Result<(), Refusal<'a>>
+    requires two { length wanted.now.board.regions ≡ 2 }
+    requires sized { AreSized wanted.now.board.regions (map shown wanted.now.algorithms.items) }
+    requires cells { size_of wanted.now.board.regions ≡ (B.state bench.old).cell_count }
+    ensures { PlansCells (bench_call B.tells (B.state bench.old) (B.state bench.new)) (sink_call O.tells (O.state out.old) (O.state out.new))
+        (text_of (aim_of wanted.now)) (answer_of result) }
+{
+    let base = base_of(&wanted.board, 0);
+    let other_base = base_of(&wanted.board, 1);
+    let algorithm = algorithm_at(wanted, 0);
+    let other_algorithm = algorithm_at(wanted, 1);
+    let Ok((mut room, mut other_room)) = make_rooms(alloc, algorithm, other_algorithm) else {
+        return Err(Refusal::OutOfMemory);
+    };
+    if survey_both(bench, &mut room, algorithm.device.size, &mut other_room).is_err() {
+        return Err(Refusal::DeviceFault);
+    }
+    choose_plan(wanted, algorithm, base, &mut room);
+    choose_plan(wanted, other_algorithm, other_base, &mut other_room);
+    match put_both(out, base, &room, other_base, &other_room) {
+        Ok(()) => Ok(()),
+        Err(_) => Err(Refusal::OutputFault),
+    }
+}
+
+/// The address of the first cell of a region.
+fn base_of(board: &Board, index: usize) -> u32
+    requires { index < length board.now.regions }
+    ensures { IsBaseAt board.now.regions index result }
+{
+    board.regions.as_slice()[index].base
+}
+
+/// The algorithm for the region of this number.
+fn algorithm_at(wanted: &Wanted, index: usize) -> &Algorithm
+    requires { index < length wanted.now.algorithms.items }
+    ensures { slice_get wanted.now.algorithms.items index ≡ Some result.now }
+{
+    &wanted.algorithms[index]
+}
+
+/// Puts the plans of two regions, each behind the line of its region.
+fn put_both<O: Sink>(
+    out: &mut O,
+    base: u32,
+    room: &Room,
+    other_base: u32,
+    other_room: &Room,
+) -> Result<(), OutputFault>
+    requires first { base + room.now.geometry.size ≤ 2 ^ 32 }
+    requires second { other_base + other_room.now.geometry.size ≤ 2 ^ 32 }
+    ensures { Puts O.tells (O.state out.old) (O.state out.new)
+        ((region_text base ++ plan_text room.now.geometry base room.now.plan.made)
+        ++ (region_text other_base ++ plan_text other_room.now.geometry other_base other_room.now.plan.made)) result }
+{
+    put_named(out, base, room)?;
+    put_named(out, other_base, other_room)
+}
+
+/// Puts the line of a region and its plan.
+fn put_named<O: Sink>(out: &mut O, base: u32, room: &Room) -> Result<(), OutputFault>
+    requires { base + room.now.geometry.size ≤ 2 ^ 32 }
+    ensures { Puts O.tells (O.state out.old) (O.state out.new) (region_text base ++ plan_text room.now.geometry base room.now.plan.made) result }
+{
+    put_region(out, base)?;
+    put_plan(out, &room.geometry, base, &room.plan)
 }
 
 /// Takes the memory for a plan of an algorithm's device.
@@ -105,34 +201,73 @@ fn make_room(alloc: Global, algorithm: &Algorithm) -> Result<Room, OutOfMemory>
     })
 }
 
+/// The same for two algorithms.
+fn make_rooms(
+    alloc: Global,
+    algorithm: &Algorithm,
+    other: &Algorithm,
+) -> Result<(Room, Room), OutOfMemory>
+    ensures { IfOk result (λ rooms. HasRoomFor (shown algorithm.now) rooms.0 × HasRoomFor (shown other.now) rooms.1) }
+{
+    Ok((make_room(alloc, algorithm)?, make_room(alloc, other)?))
+}
+
 /// Breaks off an open operation, and reads all cells.
-fn survey<B: Bench>(bench: &mut B, cells: &mut [u8]) -> Result<(), DeviceFault>
-    requires { length cells.old ≡ (B.state bench.old).cell_count }
-    ensures surveyed { IsTrue B.tells → OnOk result ((B.state bench.new).cells ≡ cells.new) }
+fn survey<B: Bench>(bench: &mut B, room: &mut Room) -> Result<(), DeviceFault>
+    requires { length room.old.cells.items ≡ (B.state bench.old).cell_count }
+    ensures surveyed { IsTrue B.tells → OnOk result ((B.state bench.new).cells ≡ room.new.cells.items) }
+    ensures stays { IsRoomStill room.old room.new }
     ensures looks { LooksAtCells (bench_call B.tells (B.state bench.old) (B.state bench.new)) result }
 {
     bench.cells_drop()?;
-    read_cells(bench, 0, cells)
+    read_room(bench, 0, room)
 }
 
-/// Chooses the plan from the cells to the image of a task laid over them.
-fn choose_plan(task: &Task, geometry: &Geometry, cells: &[u8], goal: &mut [u8], plan: &mut Plan)
-    requires geometry { geometry.now ≡ layout_of (shown task.now.algorithm) }
-    requires covers { Covers geometry.now plan.old }
-    requires cells { length cells.now ≡ task.now.algorithm.device.size }
-    requires goal { length goal.old ≡ length cells.now }
-    requires ends { task.now.device.base + task.now.algorithm.device.size ≤ 2 ^ 32 }
-    ensures { plan.new.made ≡ plan_for task.now.board.weights (shown task.now.algorithm) task.now.image task.now.device.base cells.now }
+/// The same of two regions, each into its own room. The cells of the second begin at place `start`.
+fn survey_both<B: Bench>(
+    bench: &mut B,
+    room: &mut Room,
+    start: u32,
+    other_room: &mut Room,
+) -> Result<(), DeviceFault>
+    requires first { length room.old.cells.items ≡ start }
+    requires cells { start + length other_room.old.cells.items ≡ (B.state bench.old).cell_count }
+    ensures surveyed { IsTrue B.tells → OnOk result ((B.state bench.new).cells ≡ room.new.cells.items ++ other_room.new.cells.items) }
+    ensures stays { IsRoomStill room.old room.new }
+    ensures other_stays { IsRoomStill other_room.old other_room.new }
+    ensures looks { LooksAtCells (bench_call B.tells (B.state bench.old) (B.state bench.new)) result }
 {
-    goal.copy_from_slice(cells);
-    task.image.overlay_into(task.device.base, goal);
+    bench.cells_drop()?;
+    read_room(bench, 0, room)?;
+    read_room(bench, start, other_room)
+}
+
+/// Reads the cells from one place on.
+fn read_room<B: Bench>(bench: &mut B, at: u32, room: &mut Room) -> Result<(), DeviceFault>
+    requires range { at + length room.old.cells.items ≤ (B.state bench.old).cell_count }
+    requires idle { IsTrue B.tells → (B.state bench.old).operation ≡ None }
+    ensures reads { ReadsCells B.tells (B.state bench.old) (B.state bench.new) at room.old.cells.items room.new.cells.items result }
+    ensures stays { IsRoomStill room.old room.new }
+{
+    read_cells(bench, at, &mut room.cells)
+}
+
+/// Chooses the plan from the cells in a room to the image laid over them, of which the first has the address `base`.
+fn choose_plan(wanted: &Wanted, algorithm: &Algorithm, base: u32, room: &mut Room)
+    requires fits { HasRoomFor (shown algorithm.now) room.old }
+    requires ends { base + algorithm.now.device.size ≤ 2 ^ 32 }
+    ensures plan { room.new.plan.made ≡ plan_for wanted.now.board.weights (shown algorithm.now) wanted.now.image base room.old.cells.items }
+    ensures geometry { room.new.geometry ≡ room.old.geometry }
+{
+    room.goal.copy_from_slice(&room.cells);
+    wanted.image.overlay_into(base, &mut room.goal);
     plan_into(
-        geometry,
-        &task.board.weights,
-        task.algorithm.entries.erase_chip.is_some(),
-        cells,
-        goal,
-        task.algorithm.device.empty,
-        plan,
+        &room.geometry,
+        &wanted.board.weights,
+        algorithm.entries.erase_chip.is_some(),
+        &room.cells,
+        &room.goal,
+        algorithm.device.empty,
+        &mut room.plan,
     );
 }

@@ -14,6 +14,7 @@ use crate::verify::verify;
 use bench_model::Bench;
 use command_words::{CommandLine, Request};
 use demo_job::demo;
+use device_dump::dump;
 use flash_session::Goal;
 use job_commands::{go_on, program};
 use job_status::status;
@@ -70,6 +71,7 @@ fn run<'a, B: Bench, I: Inputs, O: Sink>(
         Some(Request::Compare { image }) => compare(alloc, image, bench, inputs, out),
         Some(Request::Status) => status(alloc, bench, out),
         Some(Request::Inspect { flm }) => inspect(alloc, flm, bench, inputs, out),
+        Some(Request::Dump { form, board }) => dump(alloc, form, board, bench, inputs, out),
         Some(Request::Demo { seed }) => demo(alloc, seed, out),
     }
 }

@@ -10,7 +10,7 @@ ghost use Rattle.flm_cli.specs.Verify.{VerifyEnds};
 use crate::comparison::tell_found;
 use crate::unlike::find_in_image;
 use bench_model::Bench;
-use command_files::{read_files, take_files};
+use command_files::{cells_of, read_files, take_files};
 use command_words::FileNames;
 use outside_io::{Inputs, Sink};
 use report_text::Refusal;
@@ -31,13 +31,14 @@ pub fn verify<'a, B: Bench, I: Inputs, O: Sink>(
 {
     let files = take_files(alloc, names, inputs)?;
     let wanted = read_files(alloc, names, &files)?;
+    let size = cells_of(&wanted.board);
     let cells = bench.cells_len();
-    if cells != wanted.device.size {
+    if cells != size {
         return Err(Refusal::CellsDiffer {
-            wanted: wanted.device.size,
+            wanted: size,
             found: cells,
         });
     }
-    let found = find_in_image(bench, wanted.device.base, &wanted.image);
-    tell_found(wanted.device.base, found, out)
+    let found = find_in_image(bench, &wanted.board, &wanted.image);
+    tell_found(0, found, out)
 }

@@ -1,5 +1,6 @@
 use Rattle.std.proofs.Common.{rules, ◌≡◌, Err}
-use Rattle.flm_cli.proofs.LooksLemmas.{looks_dropped, looks_by, found_in_bytes}
+use Rattle.device_dump.proofs.LooksLemmas.{looks_dropped, looks_by}
+use Rattle.flm_cli.proofs.LooksLemmas.{found_in_bytes}
 use Rattle.flm_cli.proofs.compare.find_in_cells.Goals as goal
 
 pub returns-in_err-cells_drop-clause-looks : goal.returns-in_err-cells_drop-clause-looks

@@ -1,5 +1,5 @@
 use Rattle.std.proofs.Common.{rules, ◌≡◌, ◌∙◌, sym, Err}
-use Rattle.flm_cli.proofs.LooksLemmas.{looks_dropped, looks_by, only_reads, all_read}
+use Rattle.device_dump.proofs.LooksLemmas.{looks_dropped, looks_by, only_reads, all_read}
 use Rattle.flm_cli.proofs.plan.survey.Goals as goal
 
 pub returns-in_err-cells_drop-clause-looks : goal.returns-in_err-cells_drop-clause-looks
@@ -9,8 +9,8 @@ returns-in_err-cells_drop-clause-looks g c =
     rw is (looks_dropped c.in_err-cells_drop.field-0.0 c.in_err-cells_drop.ensures.does)
 
 pub returns-clause-surveyed : goal.returns-clause-surveyed
-returns-clause-surveyed g c = all_read c.args.cells.now c.read_cells.new.out c.read_cells.result c.read_cells.ensures
+returns-clause-surveyed g c = all_read c.args.room.now.cells.items c.read_room.new.room.cells.items c.read_room.result c.read_room.ensures.reads
     (λ told. g.met.B.Bench.all_told c.cells_drop.new.self told ∙ c.in_ok-cells_drop.ensures.does.count ∙ sym c.requires)
 
 pub returns-clause-looks : goal.returns-clause-looks
-returns-clause-looks g c = looks_by _ c.in_ok-cells_drop.ensures.does (only_reads c.read_cells.ensures) c.read_cells.result c.read_cells.ensures.cause
+returns-clause-looks g c = looks_by _ c.in_ok-cells_drop.ensures.does (only_reads c.read_room.ensures.reads) c.read_room.result c.read_room.ensures.reads.cause

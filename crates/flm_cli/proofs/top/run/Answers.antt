@@ -1,6 +1,6 @@
 use Rattle.std.proofs.Common.{refl, subst, Option, Some, None, []}
 use Rattle.std.proofs.lemmas.List.Elements.{All-head}
-use Rattle.command_words.specs.Words.{Command, program, resume, revert, plan, verify, compare, status, inspect, demo, Asked}
+use Rattle.command_words.specs.Words.{Command, program, resume, revert, plan, verify, compare, status, inspect, dump, demo, Asked}
 use Rattle.command_words.specs.Requested.{files_of}
 use Rattle.command_words.proofs.WordsLemmas.{one_asked}
 use Rattle.command_files.specs.Inputs.{inputs_call}
@@ -116,3 +116,16 @@ returns-in-Some-Inspect g c = λ asked given.
     (inputs_call g.I.Inputs.tells (g.I.Inputs.state c.args.inputs.now) (g.I.Inputs.state c.inspect.new.inputs))
     (sink_call g.O.Sink.tells (g.O.Sink.state c.args.out.now) (g.O.Sink.state c.inspect.new.out)) (answer_of c.inspect.result))
     (one_asked c.args.words.now (Some (inspect c.in-Some-Inspect.flm.now)) asked read given) c.inspect.ensures
+
+pub dump-requires : goal.dump-requires
+dump-requires g c =
+    let read : Asked c.args.words.now (Some (dump c.in-Some-Dump.form c.in-Some-Dump.board.now)) = rw c.in-Some-Dump.field-0-is at (c.in-Some-Dump.ensures c.args.words.now c.requires.read) in
+    All-head (g.I.Inputs.may_take c.args.inputs.now) c.in-Some-Dump.board.now [] (c.requires.may_take (dump c.in-Some-Dump.form c.in-Some-Dump.board.now) read)
+
+pub returns-in-Some-Dump : goal.returns-in-Some-Dump
+returns-in-Some-Dump g c = λ asked given.
+    let read : Asked c.args.words.now (Some (dump c.in-Some-Dump.form c.in-Some-Dump.board.now)) = rw c.in-Some-Dump.field-0-is at (c.in-Some-Dump.ensures c.args.words.now c.requires.read) in
+    subst (λ (a : Option Command). EndsOf a (bench_call g.B.Bench.tells (g.B.Bench.state c.args.bench.now) (g.B.Bench.state c.dump.new.bench))
+    (inputs_call g.I.Inputs.tells (g.I.Inputs.state c.args.inputs.now) (g.I.Inputs.state c.dump.new.inputs))
+    (sink_call g.O.Sink.tells (g.O.Sink.state c.args.out.now) (g.O.Sink.state c.dump.new.out)) (answer_of c.dump.result))
+    (one_asked c.args.words.now (Some (dump c.in-Some-Dump.form c.in-Some-Dump.board.now)) asked read given) c.dump.ensures

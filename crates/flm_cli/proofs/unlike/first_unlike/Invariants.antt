@@ -1,5 +1,0 @@
-use Rattle.flm_cli.proofs.UnlikeLemmas.{RunsSoFar}
-use Rattle.flm_cli.proofs.unlike.first_unlike.Given as goal
-
-abbrev pub invariant-loop-index : goal.invariant-loop-index
-invariant-loop-index g l = RunsSoFar g.B.Bench.tells (g.B.Bench.state l.initial.bench) (g.B.Bench.state l.bench) l.base l.image l.index
