@@ -63,6 +63,8 @@ run 0 same '' job cells compare same
 run 0 same '' job cells compare empty
 run 0 same '' job cells verify board.toml right.hex
 run 0 same '' job cells verify --raw-at 0x08000000 board.toml same
+run 0 $':020000040800F2\n:040000000102FFFFFB\n:00000001FF' '' job cells dump hex board.toml
+run 0 $'S0030000FC\nS309080000000102FFFFED\nS70500000000FA' '' job cells dump srec board.toml
 run 0 $'plan sectors\nprogram 08000000 64\ncost 1' '' job blank plan small.toml small.flm right.hex
 run 0 $'plan none\ncost 0' '' job blank plan small.toml small.flm --raw-at 0x080003FF -- ff
 run 2 '' "$usage"
@@ -70,6 +72,7 @@ run 2 '' "$usage" job cells
 run 2 '' "$usage" job cells compare
 run 2 '' "$usage" job cells compare same other
 run 2 '' "$usage" job cells compare --no-such same
+run 2 '' "$usage" job cells dump bin board.toml
 run 3 '' 'flmprog: cannot read missing' job cells compare missing
 run 3 '' 'flmprog: cannot read .' job cells compare .
 run 4 '' 'flmprog: image: 5 bytes for 4 cells' job cells compare long
