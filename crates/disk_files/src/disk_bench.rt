@@ -66,6 +66,22 @@ impl<F: Disk> DiskBench<F> {
             device_faults: FaultCount::new(),
         }
     }
+
+    /// Gives the files back.
+    pub fn into_disk(self) -> F
+        ensures { result ≡ self.disk }
+    {
+        let DiskBench {
+            disk,
+            job: _,
+            cells: _,
+            operation: _,
+            cell_count: _,
+            store_faults: _,
+            device_faults: _,
+        } = self;
+        disk
+    }
 }
 
 impl<F: Disk + Drop> Bench for DiskBench<F> {

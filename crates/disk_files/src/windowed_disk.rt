@@ -29,6 +29,14 @@ impl<F: Disk> WindowedDisk<F> {
         }
     }
 
+    /// Gives the disk back.
+    pub fn into_disk(self) -> F
+        ensures { result ≡ self.disk }
+    {
+        let WindowedDisk { disk, window: _ } = self;
+        disk
+    }
+
     /// Reads ahead, once: its cells are then those round the place `at`, with `count` from there on where these have room in it, as far as
     /// the disk gives them.
     fn fill(&mut self, at: u64, count: usize) -> io::Result<usize>
