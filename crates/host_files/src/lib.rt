@@ -7,6 +7,7 @@ mod file_id;
 mod file_inputs;
 mod file_lock;
 mod host_disk;
+mod host_source;
 mod job_store;
 mod progress_line;
 mod std_sink;

@@ -2,16 +2,37 @@
 ghost use Rattle.std.specs.Prelude.{◌≡◌};
 
 use crate::progress_line::ProgressLine;
-use faults::FaultCount;
 use outside_io::{OutputFault, Sink};
+use std::io;
 use std::io::Print;
 use std::marker::Model;
+use stream_files::{Stream, StreamSink};
+
+/// A stream of this host. It doesn't tell what it has taken.
+#[derive(Drop)]
+struct HostStream<P: Print + Drop> {
+    stream: P,
+}
+
+impl<P: Print + Drop> Stream for HostStream<P> {
+    ghost use Rattle.std.specs.Prelude.{false, []};
+    ghost use Rattle.bench_model.specs.Untold.{untold_law};
+
+    ghost tells = { false };
+
+    ghost state = { λ stream. record { taken = []; calls = record { errors = 0; interrupted = 0 } } };
+
+    ghost few_signals = { λ stream told. untold_law told };
+
+    fn write(&mut self, bytes: &[u8]) -> io::Result<usize> {
+        self.stream.write_some(bytes)
+    }
+}
 
 /// A standard stream. Each piece is written at once. It doesn't tell what it has taken. A contract sees how often it has failed.
 #[derive(Drop)]
 pub struct StdSink<P: Print + Drop> {
-    stream: P,
-    faults: FaultCount,
+    sink: StreamSink<HostStream<P>>,
     line: ProgressLine,
 }
 
@@ -20,7 +41,7 @@ impl<P: Print + Drop> Model for StdSink<P> {
 
     ghost Value = { ℕ };
 
-    ghost view = { λ s. s.faults };
+    ghost view = { λ s. s.sink.faults };
 }
 
 impl<P: Print + Drop> StdSink<P> {
@@ -29,8 +50,7 @@ impl<P: Print + Drop> StdSink<P> {
         ensures { result ≡ 0 }
     {
         StdSink {
-            stream,
-            faults: FaultCount::new(),
+            sink: StreamSink::new(HostStream { stream }),
             line: ProgressLine::none(),
         }
     }
@@ -52,10 +72,6 @@ impl<P: Print + Drop> Sink for StdSink<P> {
 
     fn put(&mut self, piece: &[u8]) -> Result<(), OutputFault> {
         self.line.wipe();
-        if self.stream.write_all(piece).is_err() {
-            self.faults.raise();
-            return Err(OutputFault);
-        }
-        Ok(())
+        self.sink.put(piece)
     }
 }
