@@ -1,4 +1,5 @@
-//! Tests of what stands for the outside: counts of faults, the bench in memory, inputs and sinks, and cells read back.
+//! Tests of what stands for the outside: counts of faults, the bench in memory, inputs and sinks, cells read
+//! back, and RAM.
 #![tactic(auto)]
 
 #[cfg(test)]
@@ -9,3 +10,7 @@ mod cells;
 mod counts;
 #[cfg(test)]
 mod outside;
+#[cfg(test)]
+mod streams;
+#[cfg(test)]
+mod windows;
