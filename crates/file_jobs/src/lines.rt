@@ -5,8 +5,11 @@
 //!   `copy FROM TO`.
 //! - `length NAME` prints how many bytes a file has.
 //! - `call JOB CELLS COMMAND WORDS`: a call with these arguments. Its words are printed, and then its status.
+//! - `losses LOSS CELLS WORDS`: the job that these words begin on the cells of a file, with a loss of power after each of its calls, and
+//!   `killed CALLS LOSS CELLS WORDS`: the job killed after so many calls, and a loss after each call of the `resume` behind that (`losses`).
 
 use crate::files::{fill, length, put};
+use crate::losses::{lose_after_kill, lose_all};
 use anyhow::{Result, bail};
 use flm_main::{Arguments, HeldStreams, call};
 use octets::Word;
@@ -39,6 +42,11 @@ fn step(streams: HeldStreams, line: &str) -> Result<()> {
         }
         ["length", name] => length(rt, name),
         ["call", ..] => run_line(streams, line),
+        ["losses", loss, cells, ..] => lose_all(rt, loss, cells, words.get(3..).unwrap_or(&[])),
+        ["killed", calls, loss, cells, ..] => {
+            let calls = calls.parse::<u64>()?;
+            lose_after_kill(rt, loss, calls, cells, words.get(4..).unwrap_or(&[]))
+        }
         _ => bail!("{line}: no such line"),
     }
 }

@@ -1,10 +1,13 @@
 //! Carries whole jobs through the flash programmer on real files, as `flm_tool` would in one run after the other: it goes through the
 //! lines of the file `calls.txt` (`lines`), and then runs its own arguments. What the calls put on standard output stands between the lines
-//! that it prints of them, and it ends with the status of the last.
+//! that it prints of them, and it ends with the status of the last. Other lines carry jobs through files in memory, which lose the power.
 #![tactic(auto)]
 
+mod cached_disk;
+mod cached_file;
 mod files;
 mod lines;
+mod losses;
 
 use crate::lines::go_through;
 use anyhow::Result;

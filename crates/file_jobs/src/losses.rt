@@ -1,0 +1,259 @@
+//! Losses of power in the midst of a job.
+
+use crate::cached_disk::{CachedDisk, Remains};
+use crate::cached_file::{Fate, Loss};
+use anyhow::{Context, Result, bail, ensure};
+use disk_files::{DiskBench, WindowedDisk};
+use flm_cli::flmprog;
+use octets::Word;
+use outside_io::{MemoryInputs, MemorySink};
+use std::alloc::Global;
+use std::{fmt, fs};
+
+/// More calls than any run makes.
+const ENDLESS: u64 = u64::MAX;
+
+/// The most calls of a run that is stopped at each of them.
+const MOST: u64 = 10_000;
+
+/// The most cells of a device.
+const MOST_CELLS: usize = 1 << 20;
+
+/// The loss of a name: the fate of each change that waits, or `mixed`, a round of the four.
+fn loss_of(name: &str) -> Result<Loss> {
+    let first = match name {
+        "absent" | "mixed" => Fate::Absent,
+        "whole" => Fate::Whole,
+        "short" => Fate::CutShort,
+        "garbage" => Fate::Garbage,
+        _ => bail!("{name}: no such loss"),
+    };
+    let mixed = name == "mixed";
+    Ok(Loss { first, mixed })
+}
+
+/// What a loss left: a free job file and the cells as they were; the job, whole in its file; or the job, done.
+#[derive(Clone, Copy, PartialEq, Eq)]
+enum Left {
+    Untouched,
+    Whole,
+    Finished,
+}
+
+/// How often which was left, in this order alone.
+#[derive(Clone, Copy)]
+struct Tally {
+    untouched: u64,
+    whole: u64,
+    finished: u64,
+}
+
+impl Tally {
+    fn new() -> Tally {
+        Tally {
+            untouched: 0,
+            whole: 0,
+            finished: 0,
+        }
+    }
+
+    fn count(&mut self, left: Left) {
+        match left {
+            Left::Untouched => self.untouched = self.untouched.saturating_add(1),
+            Left::Whole => self.whole = self.whole.saturating_add(1),
+            Left::Finished => self.finished = self.finished.saturating_add(1),
+        }
+    }
+}
+
+impl fmt::Display for Tally {
+    fn fmt<W: fmt::Write>(&self, f: &mut fmt::Formatter<W>) -> fmt::Result {
+        let Tally {
+            untouched,
+            whole,
+            finished,
+        } = self;
+        write!(
+            f,
+            "{untouched} untouched, {whole} whole, {finished} finished"
+        )
+    }
+}
+
+/// A file that a job's words name.
+#[derive(Drop)]
+struct Named {
+    name: Word,
+    bytes: Vec<u8>,
+}
+
+/// A job on a device: the files that its words name, the cells as they are, the job file behind its byte 0, and the cells once it is done.
+#[derive(Drop)]
+struct Job {
+    alloc: Global,
+    files: Vec<Named>,
+    old: Vec<u8>,
+    body: Vec<u8>,
+    goal: Vec<u8>,
+}
+
+/// The files of this folder that some words name.
+fn files_of(rt: &HostRuntime, words: &[&str]) -> Result<Vec<Named>> {
+    let mut files = Vec::new(rt.alloc());
+    for word in words {
+        if let Ok(bytes) = fs::read(rt, *word) {
+            let name = Word::copy(rt.alloc(), word)?;
+            files.push(Named { name, bytes })?;
+        }
+    }
+    Ok(files)
+}
+
+/// These words.
+fn copies(alloc: Global, words: &[&str]) -> Result<Vec<Word>> {
+    let mut given = Vec::new(alloc);
+    for word in words {
+        given.push(Word::copy(alloc, word)?)?;
+    }
+    Ok(given)
+}
+
+impl Job {
+    /// The files that the words name.
+    fn inputs(&self) -> Result<MemoryInputs> {
+        let mut inputs = MemoryInputs::new(self.alloc, &[])?;
+        for file in self.files.iter() {
+            inputs.add(self.alloc, &file.name, &file.bytes)?;
+        }
+        Ok(inputs)
+    }
+
+    /// The status of a command on these files, and the files.
+    fn run(&self, words: &[&str], disk: CachedDisk) -> Result<(u8, CachedDisk)> {
+        let alloc = self.alloc;
+        let given = copies(alloc, words)?;
+        let count = disk.cells().len().min(MOST_CELLS) as u32;
+        let mut bench = DiskBench::new(WindowedDisk::new(alloc, disk), count);
+        let mut inputs = self.inputs()?;
+        let mut out = MemorySink::new(alloc, 4096, &[])?;
+        let mut err = MemorySink::new(alloc, 256, &[])?;
+        let status = flmprog(alloc, &given, &mut bench, &mut inputs, &mut out, &mut err);
+        Ok((status, bench.into_disk().into_disk()))
+    }
+
+    /// What stands on the disk where a command on these files loses the power after so many calls, and its status.
+    fn lose(&self, words: &[&str], disk: CachedDisk, loss: Loss) -> Result<(u8, Remains)> {
+        let (status, disk) = self.run(words, disk)?;
+        Ok((status, disk.lose(loss)?))
+    }
+
+    /// What a loss left. Nothing else may be left.
+    fn look(&self, left: &Remains) -> Result<Left> {
+        let same_job = left.job.get(1..).unwrap_or(&[]) == self.body.as_slice();
+        if left.job.first() == Some(&0xA5) {
+            ensure!(same_job, "another job");
+            return Ok(Left::Whole);
+        }
+        if left.cells.as_slice() == self.old.as_slice() {
+            return Ok(Left::Untouched);
+        }
+        ensure!(
+            same_job && left.cells.as_slice() == self.goal.as_slice(),
+            "neither untouched, whole nor finished"
+        );
+        Ok(Left::Finished)
+    }
+
+    /// Brings what was left to its end by a command. The cells that are wanted, and a closed job, are on the disk then.
+    fn carry(&self, left: &Remains, command: &str, wanted: &[u8]) -> Result<()> {
+        let disk = CachedDisk::new(self.alloc, &left.job, &left.cells, ENDLESS)?;
+        let (status, end) = self.lose(&[command], disk, loss_of("absent")?)?;
+        ensure!(status == 0, "{command}: status {status}");
+        ensure!(end.cells.as_slice() == wanted, "{command}: other cells");
+        ensure!(
+            end.job.first() == Some(&0x00),
+            "{command}: the job isn't closed"
+        );
+        Ok(())
+    }
+
+    /// The same of whatever was left: a whole job is carried on, and from the same files back.
+    fn carry_both(&self, left: &Remains) -> Result<Left> {
+        let what = self.look(left)?;
+        if what == Left::Whole {
+            self.carry(left, "resume", &self.goal)?;
+            self.carry(left, "revert", &self.old)?;
+        }
+        Ok(what)
+    }
+
+    /// Files as the job finds them, of which so many calls go through.
+    fn begin(&self, calls: u64) -> Result<CachedDisk> {
+        Ok(CachedDisk::new(self.alloc, &[], &self.old, calls)?)
+    }
+}
+
+/// The job of these words, which is done once with no loss.
+fn job_of(rt: &HostRuntime, cells: &str, words: &[&str]) -> Result<Job> {
+    let alloc = rt.alloc();
+    let mut job = Job {
+        alloc,
+        files: files_of(rt, words)?,
+        old: fs::read(rt, cells)?,
+        body: Vec::new(alloc),
+        goal: Vec::new(alloc),
+    };
+    let (status, end) = job.lose(words, job.begin(ENDLESS)?, loss_of("absent")?)?;
+    ensure!(status == 0, "not done");
+    ensure!(
+        end.job.first() == Some(&0x00),
+        "done, and not closed on the disk"
+    );
+    job.body = Vec::from_slice(alloc, end.job.get(1..).context("no job")?)?;
+    job.goal = end.cells;
+    Ok(job)
+}
+
+/// Loses the power after each call of a job, with what becomes of the changes that wait, and carries what is left on and back. Prints how
+/// often which was left.
+pub fn lose_all(rt: &HostRuntime, name: &str, cells: &str, words: &[&str]) -> Result<()> {
+    let job = job_of(rt, cells, words)?;
+    let loss = loss_of(name)?;
+    let mut tally = Tally::new();
+    for calls in 0..MOST {
+        let (status, left) = job.lose(words, job.begin(calls)?, loss)?;
+        let what = job.carry_both(&left)?;
+        if status == 0 {
+            ensure!(what == Left::Finished, "done, and not finished");
+            println!(rt; "{name}: {calls} losses, {tally}")?;
+            return Ok(());
+        }
+        tally.count(what);
+    }
+    bail!("no end");
+}
+
+/// Kills a job after so many calls, which loses nothing, and then loses the power after each call of a `resume` in the next run. Carries what is
+/// left on and back. Prints how often which was left.
+pub fn lose_after_kill(
+    rt: &HostRuntime,
+    name: &str,
+    killed: u64,
+    cells: &str,
+    words: &[&str],
+) -> Result<()> {
+    let job = job_of(rt, cells, words)?;
+    let loss = loss_of(name)?;
+    let mut tally = Tally::new();
+    for calls in 0..MOST {
+        let (_, left) = job.run(words, job.begin(killed)?)?;
+        let (status, left) = job.lose(&["resume"], left.begin_again(calls), loss)?;
+        let what = job.carry_both(&left)?;
+        if status == 0 || status == 7 {
+            println!(rt; "killed after {killed}, {name}: {calls} losses, {tally}")?;
+            return Ok(());
+        }
+        tally.count(what);
+    }
+    bail!("no end");
+}
