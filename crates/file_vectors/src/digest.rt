@@ -104,7 +104,9 @@ impl Digest {
     /// Adds all that a job says.
     pub fn job(&mut self, job: &Job) {
         self.board(&job.board);
-        self.algorithm(&job.algorithm);
+        for algorithm in job.algorithms.as_slice() {
+            self.algorithm(algorithm);
+        }
         self.image(&job.image);
         self.bytes(&job.snapshot_at.to_le_bytes());
     }

@@ -116,6 +116,7 @@ fn of_job(alloc: Global, file: &[u8]) -> Result<String> {
             digest.job(&job);
             said(alloc, "Job", &digest)
         }
+        Class::Damaged(_) => Ok(format!(in alloc; "Damaged")?),
         Class::NotAJob { at } if at == file.len() as u64 => {
             Ok(format!(in alloc; "NotAJob Length")?)
         }

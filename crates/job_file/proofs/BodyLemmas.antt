@@ -1,5 +1,5 @@
 -- The parts of a body are put one behind the other.
-use Rattle.std.proofs.Common.{◌≡◌, ◌≤◌, ◌<◌, ◌+◌, ◌-◌, ◌*◌, ◌^◌, ◌∙◌, ℕ, Bool, IsTrue, List, [], ◌∷◌, ◌++◌, length, take, drop, Result, Ok, Err, OnOk, refl, sym, ap, subst, arith, append_assoc, length-append}
+use Rattle.std.proofs.Common.{◌≡◌, ◌≤◌, ◌<◌, ◌+◌, ◌-◌, ◌*◌, ◌^◌, ◌∙◌, ℕ, Bool, IsTrue, List, [], ◌∷◌, ◌++◌, length, take, drop, Result, Ok, Err, refl, sym, ap, arith, append_assoc, length-append}
 use Rattle.std.specs.List.{flat_map}
 use Rattle.std.specs.Prelude.{slice_get, Some}
 use Rattle.std.proofs.lemmas.Result.{on_ok_weaker}
@@ -11,7 +11,6 @@ use Rattle.bench_model.specs.Calls.{written, Torn, Follows}
 use Rattle.bench_model.specs.Does.{WritesFile}
 use Rattle.bench_model.specs.declared.bench_fault.StoreFault.{StoreFault}
 use Rattle.bench_model.proofs.Moments.{leaves_as, leaves_then, leaves_left, leaves_step, cells_stay_then}
-use Rattle.faults.specs.Counts.{HasCause}
 use Rattle.faults.proofs.CountLemmas.{Rose-after}
 use Rattle.byte_map.specs.Image.{Run, AreMaximal, end_of}
 use Rattle.byte_map.proofs.Runs.{maximal_take}

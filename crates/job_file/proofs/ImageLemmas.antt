@@ -2,18 +2,21 @@
 use Rattle.std.proofs.Common.{◌≡◌, ◌≤◌, ◌<◌, ◌+◌, ◌-◌, ◌*◌, ◌^◌, ◌∙◌, ℕ, Bool, IsTrue, List, [], ◌∷◌, ◌++◌, length, take, drop, Result, Ok, Err, refl, sym, ap, subst, arith, append_assoc, length-append}
 use Rattle.std.proofs.Math.Seq.{take-add}
 use Rattle.std.specs.List.{flat_map}
-use Rattle.std.proofs.lemmas.List.{length-take, drop-drop, take-append-drop, append-nil}
+use Rattle.std.proofs.lemmas.List.{drop-drop, take-append-drop, append-nil}
 use Rattle.std.proofs.lemmas.List.Concat.{flat_map-cons}
 use Rattle.std.proofs.lemmas.Grind.{flat_map-append}
 use Rattle.bench_model.specs.State.{BenchState}
 use Rattle.bench_model.specs.Calls.{OnlyReads}
 use Rattle.bench_model.proofs.Moments.{only_reads_then, only_reads_here}
-use Rattle.byte_map.specs.Image.{Run, AreMaximal}
+use Rattle.byte_map.specs.Image.{Run, addresses, AreMaximal}
 use Rattle.byte_map.specs.Laying.{Lays}
+use Rattle.board_file.specs.declared.region.Region.{Region}
+use Rattle.job_text.specs.Fits.{AreCovered}
 use Rattle.job_text.specs.Body.{field, run_text}
-use Rattle.job_text.specs.Reading.{run_at, runs_at}
+use Rattle.job_text.specs.Reading.{covers, run_at, runs_at}
 use Rattle.job_text.specs.Runs.{EndBelow, EndBy, run_of, with_run}
-use Rattle.job_text.proofs.LoopLemmas.{with_front, goes_on, is_done}
+use Rattle.job_text.proofs.CoverLemmas.{covers_each, cells_under, under_grows, covers_under}
+use Rattle.job_text.proofs.LoopLemmas.{with_front, goes_on, is_done, covered_behind}
 use Rattle.job_text.proofs.RunLemmas.{maximal_behind, end_below_more, laid_more, with_run_ends}
 use Rattle.job_file.specs.declared.fault.ReadFault.{ReadFault}
 use Rattle.job_file.specs.declared.fault.ReadFault.TheVariants.{OutOfMemory, StoreFault, NotAJob}
@@ -78,11 +81,11 @@ run_parts file at place len bytes head is long =
     ∙ ap (λ (n : ℕ). (field place ++ field n) ++ (bytes ++ drop (at + 8 + len) file)) (sym long)
 
 -- a run was found, and laid
-pub run_added : (tells : Bool) (start now : BenchState) (whole low end at place len : ℕ) (old new : List Run) → (IsTrue tells → now.file ≡ start.file)
-    → (IsTrue tells → run_at whole low end (drop at start.file) ≡ Ok (run_of place (take len (drop (at + 8) start.file)), drop (at + 8 + len) start.file))
-    → (IsTrue tells → take 8 (drop at start.file) ≡ field place ++ field len) → IsPlaced whole low end at place len → IsLaid tells now.file (at + 8) place len old new
-    → AddsRun tells start.file whole low end at old new place len
-run_added tells start now whole low end at place len old new same found head placed laid = record {
+pub run_added : (tells : Bool) (start now : BenchState) (whole : ℕ) (regions : List Region) (low at place len : ℕ) (old new : List Run) → (IsTrue tells → now.file ≡ start.file)
+    → (IsTrue tells → run_at whole regions low (drop at start.file) ≡ Ok (run_of place (take len (drop (at + 8) start.file)), drop (at + 8 + len) start.file))
+    → (IsTrue tells → take 8 (drop at start.file) ≡ field place ++ field len) → IsPlaced whole regions low at place len → IsLaid tells now.file (at + 8) place len old new
+    → AddsRun tells start.file whole regions low at old new place len
+run_added tells start now whole regions low at place len old new same found head placed laid = record {
   bytes = laid.bytes;
   long = laid.long;
   said = λ told. found told ∙ ap (λ (l : List ℕ). Ok (run_of place l, drop (at + 8 + len) start.file)) (sym (stand told));
@@ -102,26 +105,25 @@ no_verdict (NotAJob at) read none = absurd none
 
 -- ---- the runs
 
-pub record RunsSoFar (tells : Bool) (start now : BenchState) (whole low end from count begin at : ℕ) (image : List Run) (window : List ℕ) (taken : ℕ) : Type 0 where
-  pub said : IsTrue tells → with_front image (runs_at whole (count - taken) from end (drop at start.file)) ≡ runs_at whole count low end (drop begin start.file)
+pub record RunsSoFar (tells : Bool) (start now : BenchState) (whole : ℕ) (regions : List Region) (from count begin at : ℕ) (image : List Run) (window : List ℕ) (taken : ℕ) : Type 0 where
+  pub said : IsTrue tells → with_front image (runs_at whole regions (count - taken) from (drop at start.file)) ≡ runs_at whole regions count 0 (drop begin start.file)
   pub text : IsTrue tells → drop begin start.file ≡ flat_map run_text image ++ drop at start.file
   pub within : at ≤ whole
   pub many : length image ≡ taken
-  pub maximal : AreMaximal low end image
+  pub maximal : AreMaximal 0 addresses image
+  pub covered : AreCovered regions image
   pub behind : EndBelow from image
-  pub above : low ≤ from
-  pub below : from ≤ end + 1
-  pub used : at ≤ begin + 5 * (from - low)
+  pub used : at ≤ begin + 9 * cells_under regions from
   pub room : length window ≡ 4096
   pub reads : OnlyReads tells start now
   pub faults : now.store_faults ≡ start.store_faults
 
 -- a run that is read from the same file
-pub run_of_same : (tells : Bool) (file now : List ℕ) (whole low end at : ℕ) (old new : List Run) (place len : ℕ) → (IsTrue tells → now ≡ file) → AddsRun tells now whole low end at old new place len → AddsRun tells file whole low end at old new place len
-run_of_same tells file now whole low end at old new place len same r = record {
+pub run_of_same : (tells : Bool) (file now : List ℕ) (whole : ℕ) (regions : List Region) (low at : ℕ) (old new : List Run) (place len : ℕ) → (IsTrue tells → now ≡ file) → AddsRun tells now whole regions low at old new place len → AddsRun tells file whole regions low at old new place len
+run_of_same tells file now whole regions low at old new place len same r = record {
   bytes = r.bytes;
   long = r.long;
-  said = λ told. subst (λ (f : List ℕ). run_at whole low end (drop at f) ≡ Ok (run_of place r.bytes, drop (at + 8 + len) f)) (same told) (r.said told);
+  said = λ told. subst (λ (f : List ℕ). run_at whole regions low (drop at f) ≡ Ok (run_of place r.bytes, drop (at + 8 + len) f)) (same told) (r.said told);
   text = λ told. subst (λ (f : List ℕ). drop at f ≡ run_text (run_of place r.bytes) ++ drop (at + 8 + len) f) (same told) (r.text told);
   added = r.added;
   placed = r.placed;
@@ -139,19 +141,18 @@ pub front_nil : (read : Result (List Run × List ℕ) ℕ) → with_front [] rea
 front_nil (Ok x) = refl
 front_nil (Err at) = refl
 
-pub no_runs_yet : (tells : Bool) (s : BenchState) (whole low end count begin : ℕ) (window : List ℕ) → begin ≤ whole → low ≤ end → length window ≡ 4096
-    → RunsSoFar tells s s whole low end low count begin begin [] window 0
-no_runs_yet tells s whole low end count begin window within rises room =
+pub no_runs_yet : (tells : Bool) (s : BenchState) (whole : ℕ) (regions : List Region) (count begin : ℕ) (window : List ℕ) → begin ≤ whole → length window ≡ 4096
+    → RunsSoFar tells s s whole regions 0 count begin begin [] window 0
+no_runs_yet tells s whole regions count begin window within room =
     let all : count - 0 ≡ count = omega arith in
     record {
-      said = λ told. front_nil (runs_at whole (count - 0) low end (drop begin s.file)) ∙ ap (λ (n : ℕ). runs_at whole n low end (drop begin s.file)) all;
+      said = λ told. front_nil (runs_at whole regions (count - 0) 0 (drop begin s.file)) ∙ ap (λ (n : ℕ). runs_at whole regions n 0 (drop begin s.file)) all;
       text = λ told. refl;
       within = within;
       many = refl;
       maximal = tt;
+      covered = tt;
       behind = λ k lt. absurd (omega (arith, lt));
-      above = omega arith;
-      below = omega (arith, rises);
       used = omega arith;
       room = room;
       reads = only_reads_here tells s;
@@ -159,11 +160,11 @@ no_runs_yet tells s whole low end count begin window within rises room =
     }
 
 -- one run more
-pub run_more : (tells : Bool) (start now then : BenchState) (whole low end from count begin at : ℕ) (image new : List Run) (window window' : List ℕ) (taken place len next behind : ℕ)
-    → RunsSoFar tells start now whole low end from count begin at image window taken → taken < count → AddsRun tells start.file whole from end at image new place len
+pub run_more : (tells : Bool) (start now then : BenchState) (whole : ℕ) (regions : List Region) (from count begin at : ℕ) (image new : List Run) (window window' : List ℕ) (taken place len next behind : ℕ)
+    → RunsSoFar tells start now whole regions from count begin at image window taken → taken < count → AddsRun tells start.file whole regions from at image new place len
     → OnlyReads tells now then → then.store_faults ≡ now.store_faults → length window' ≡ length window → next ≡ place + len + 1 → behind ≡ at + (8 + len)
-    → RunsSoFar tells start then whole low end next count begin behind new window' (taken + 1)
-run_more tells start now then whole low end from count begin at image new window window' taken place len next behind so_far lt r reads faults long next_is behind_is =
+    → RunsSoFar tells start then whole regions next count begin behind new window' (taken + 1)
+run_more tells start now then whole regions from count begin at image new window window' taken place len next behind so_far lt r reads faults long next_is behind_is =
     let p = r.placed in
     let run = run_of place r.bytes in
     let ends : place + length r.bytes + 1 ≡ next = omega (arith, r.long, next_is) in
@@ -171,31 +172,40 @@ run_more tells start now then whole low end from count begin at image new window
     let grown : EndBelow (place + length r.bytes + 1) (image ++ run ∷ []) = end_below_more image run from (place + length r.bytes + 1) so_far.behind p.rises (omega arith) in
     record {
       said = λ told.
-          subst (λ (n : ℕ). with_front new (runs_at whole (count - (taken + 1)) n end (drop behind start.file)) ≡ runs_at whole count low end (drop begin start.file)) ends
-          (subst (λ (n : ℕ). with_front new (runs_at whole (count - (taken + 1)) (place + length r.bytes + 1) end (drop n start.file)) ≡ runs_at whole count low end (drop begin start.file)) there
-          (subst (λ (rs : List Run). with_front rs (runs_at whole (count - (taken + 1)) (place + length r.bytes + 1) end (drop (at + 8 + len) start.file)) ≡ runs_at whole count low end (drop begin start.file)) (sym r.added)
-          (goes_on whole from end image count taken (drop at start.file) run (drop (at + 8 + len) start.file) (runs_at whole count low end (drop begin start.file)) lt (r.said told) (so_far.said told))));
+          subst (λ (n : ℕ). with_front new (runs_at whole regions (count - (taken + 1)) n (drop behind start.file)) ≡ runs_at whole regions count 0 (drop begin start.file)) ends
+          (subst (λ (n : ℕ). with_front new (runs_at whole regions (count - (taken + 1)) (place + length r.bytes + 1) (drop n start.file)) ≡ runs_at whole regions count 0 (drop begin start.file)) there
+          (subst (λ (rs : List Run). with_front rs (runs_at whole regions (count - (taken + 1)) (place + length r.bytes + 1) (drop (at + 8 + len) start.file)) ≡ runs_at whole regions count 0 (drop begin start.file)) (sym r.added)
+          (goes_on whole regions from image count taken (drop at start.file) run (drop (at + 8 + len) start.file) (runs_at whole regions count 0 (drop begin start.file)) lt (r.said told) (so_far.said told))));
       text = λ told. text_more image new run (drop begin start.file) (drop at start.file) (drop behind start.file) r.added (so_far.text told)
           (r.text told ∙ ap (λ (n : ℕ). run_text run ++ drop n start.file) there);
       within = omega (arith, p.within, there);
       many = omega (arith, so_far.many, ap (λ (rs : List Run). length rs) r.added, length-append image (run ∷ []));
-      maximal = subst (λ (rs : List Run). AreMaximal low end rs) (sym r.added)
-          (maximal_behind low end image run so_far.maximal (omega (arith, so_far.above, p.rises)) (λ k l. let b = so_far.behind k l in omega (arith, b, p.rises)) (omega (arith, r.long, p.some)) (omega (arith, r.long, p.inside)));
+      maximal = subst (λ (rs : List Run). AreMaximal 0 addresses rs) (sym r.added)
+          (maximal_behind 0 addresses image run so_far.maximal (omega arith) (λ k l. let b = so_far.behind k l in omega (arith, b, p.rises)) (omega (arith, r.long, p.some)) (omega (arith, r.long, p.inside)));
+      covered = subst (λ (rs : List Run). AreCovered regions rs) (sym r.added)
+          (covered_behind regions image run so_far.covered (covers_each regions place (place + length r.bytes) (subst (λ (n : ℕ). IsTrue (covers regions place (place + n))) (sym r.long) p.covered)));
       behind = subst (λ (rs : List Run). EndBelow next rs) (sym r.added) (subst (λ (n : ℕ). EndBelow n (image ++ run ∷ [])) ends grown);
-      above = omega (arith, so_far.above, p.rises, next_is);
-      below = omega (arith, p.inside, next_is);
-      used = omega (arith, so_far.used, so_far.above, p.rises, p.some, next_is, behind_is);
+      used = omega (
+        arith,
+        so_far.used,
+        p.some,
+        next_is,
+        behind_is,
+        under_grows regions from place p.rises,
+        covers_under regions place (place + len) (omega arith) p.covered,
+        under_grows regions (place + len) next (omega (arith, next_is)),
+      );
       room = long ∙ so_far.room;
       reads = only_reads_then so_far.reads reads;
       faults = faults ∙ so_far.faults;
     }
 
 -- a run that fails ends all
-pub run_fails : (tells : Bool) (start now : BenchState) (whole low end from count begin at : ℕ) (image : List Run) (window : List ℕ) (taken : ℕ) (e : ReadFault)
-    → RunsSoFar tells start now whole low end from count begin at image window taken → taken < count → (IsTrue tells → Fails e (run_at whole from end (drop at now.file))) → IsTrue tells
-    → Fails e (runs_at whole count low end (drop begin start.file))
-run_fails tells start now whole low end from count begin at image window taken OutOfMemory so_far lt is told = tt
-run_fails tells start now whole low end from count begin at image window taken StoreFault so_far lt is told = tt
-run_fails tells start now whole low end from count begin at image window taken (NotAJob offset) so_far lt is told =
-    Rattle.job_text.proofs.LoopLemmas.ends whole from end (Rattle.job_text.specs.declared.fault.JobFault.TheVariants.NotAJob offset) image count taken (drop at start.file) (runs_at whole count low end (drop begin start.file)) lt
-    (subst (λ (f : List ℕ). run_at whole from end (drop at f) ≡ Err offset) (so_far.reads.file told) (is told)) (so_far.said told)
+pub run_fails : (tells : Bool) (start now : BenchState) (whole : ℕ) (regions : List Region) (from count begin at : ℕ) (image : List Run) (window : List ℕ) (taken : ℕ) (e : ReadFault)
+    → RunsSoFar tells start now whole regions from count begin at image window taken → taken < count → (IsTrue tells → Fails e (run_at whole regions from (drop at now.file))) → IsTrue tells
+    → Fails e (runs_at whole regions count 0 (drop begin start.file))
+run_fails tells start now whole regions from count begin at image window taken OutOfMemory so_far lt is told = tt
+run_fails tells start now whole regions from count begin at image window taken StoreFault so_far lt is told = tt
+run_fails tells start now whole regions from count begin at image window taken (NotAJob offset) so_far lt is told =
+    Rattle.job_text.proofs.LoopLemmas.ends whole regions from (Rattle.job_text.specs.declared.fault.JobFault.TheVariants.NotAJob offset) image count taken (drop at start.file) (runs_at whole regions count 0 (drop begin start.file)) lt
+    (subst (λ (f : List ℕ). run_at whole regions from (drop at f) ≡ Err offset) (so_far.reads.file told) (is told)) (so_far.said told)

@@ -1,11 +1,15 @@
 -- A body is written behind a closed gate.
-use Rattle.std.proofs.Common.{◌≡◌, ◌≤◌, ◌+◌, ◌-◌, ◌++◌, ◌∷◌, [], ◌∙◌, ℕ, List, Bool, IsTrue, length, take, drop, refl, sym, ap, arith, append_assoc}
+use Rattle.std.proofs.Common.{◌≡◌, ◌≤◌, ◌+◌, ◌-◌, ◌++◌, ◌∷◌, ◌∙◌, ℕ, List, Bool, IsTrue, length, take, drop, refl, sym, ap, subst, arith, append_assoc}
 use Rattle.std.proofs.lemmas.List.{append-nil, take_all}
 use Rattle.std.proofs.Math.Seq.{take-add}
-use Rattle.bench_model.specs.History.{left, Leaves, AddsNothing}
+use Rattle.bench_model.specs.History.{Leaves}
 use Rattle.bench_model.specs.State.{BenchState, file_half, cells_half}
-use Rattle.bench_model.specs.Calls.{Torn, Follows, FileStays, CellsStay, CellsAreRead}
+use Rattle.bench_model.specs.Calls.{written, Torn, Follows, FileStays, CellsStay, CellsAreRead}
 use Rattle.bench_model.proofs.Moments.{leaves_as, leaves_then, leaves_left, adds_nothing_here, adds_nothing_then, stays_leaves, stays_left, stays_adds_nothing}
+use Rattle.sha2.specs.Sha256.{sha256}
+use Rattle.sha2.specs.Hashers.{Holds256}
+use Rattle.sha2.specs.declared.Sha256.{Sha256}
+use Rattle.job_text.specs.Parts.{with_hash}
 use Rattle.job_file.specs.Stops.{IsShut, KeepsGate}
 
 pub cells_read_here : (tells : Bool) (s : BenchState) → CellsAreRead tells s s
@@ -23,10 +27,11 @@ pub cells_read_stay : (tells : Bool) (a b : BenchState) → CellsStay a b → Ce
 cells_read_stay tells a b stay = record { cells = λ told. stay.cells; operation = λ told. stay.operation; count = stay.count; moments = stays_adds_nothing stay.half }
 
 -- the front, and so many cells behind it
-pub record PutSoFar (tells : Bool) (start now : BenchState) (front window : List ℕ) (at : ℕ) : Type 0 where
+pub record PutSoFar (tells : Bool) (start now : BenchState) (front window : List ℕ) (hasher : Sha256) (at : ℕ) : Type 0 where
   pub within : at ≤ start.cell_count
   pub room : length window ≡ 4096
   pub file : IsTrue tells → now.file ≡ 0 ∷ (front ++ take at start.cells)
+  pub hash : IsTrue tells → Holds256 hasher (drop 39 front ++ take at start.cells)
   pub shut : IsTrue tells → Leaves (file_half start) (file_half now) IsShut
   pub cells : CellsAreRead tells start now
   pub store : now.store_faults ≡ start.store_faults
@@ -44,6 +49,25 @@ cells_more front cells file new at end le is more =
     more ∙ ap (λ (l : List ℕ). l ++ take (end - at) (drop at cells)) is
     ∙ ap (λ (l : List ℕ). 0 ∷ l) (append_assoc front (take at cells) (take (end - at) (drop at cells)) ∙ ap (λ (l : List ℕ). front ++ l) (sym (take-add at (end - at) cells)))
     ∙ ap (λ (k : ℕ). 0 ∷ (front ++ take k cells)) n
+
+-- and their hash
+pub hash_more : (front cells now : List ℕ) (old new : Sha256) (at end n : ℕ) → at ≤ end → n ≡ end - at → now ≡ cells → Holds256 old (front ++ take at cells)
+    → ((m : List ℕ) → Holds256 old m → Holds256 new (m ++ take n (drop at now))) → Holds256 new (front ++ take end cells)
+hash_more front cells now old new at end n le size same holds more =
+    let m : at + (end - at) ≡ end = omega (arith, le) in
+    let is : (front ++ take at cells) ++ take n (drop at now) ≡ front ++ take end cells =
+    append_assoc front (take at cells) (take n (drop at now))
+    ∙ ap (λ (l : List ℕ). front ++ l) (ap (λ (k : ℕ). take at cells ++ take k (drop at now)) size ∙ ap (λ (l : List ℕ). take at cells ++ take (end - at) (drop at l)) same
+    ∙ sym (take-add at (end - at) cells) ∙ ap (λ (k : ℕ). take k cells) m) in
+    subst (λ (l : List ℕ). Holds256 new l) is (more (front ++ take at cells) holds)
+
+-- the hash is written into the body
+pub hash_put : (body hash : List ℕ) → hash ≡ sha256 (drop 39 body) → length hash ≡ 32 → written 8 hash (0 ∷ body) ≡ 0 ∷ with_hash body
+hash_put body hash is long =
+    let end : 8 + length hash ≡ 40 = omega (arith, long) in
+    ap (λ (n : ℕ). 0 ∷ (take 7 body ++ hash ++ drop n (0 ∷ body))) end
+    ∙ ap (λ (l : List ℕ). 0 ∷ l) (append_assoc (take 7 body) hash (drop 39 body))
+    ∙ ap (λ (l : List ℕ). 0 ∷ (take 7 body ++ (l ++ drop 39 body))) is
 
 -- what a write at the end leaves of byte 0
 pub gate_kept : (to n : ℕ) (d f : List ℕ) → 1 ≤ to → Torn to n d f → take 1 f ≡ take 1 d

@@ -1,5 +1,5 @@
 -- Before the gate is opened.
-use Rattle.std.proofs.Common.{◌≡◌, ◌⊎◌, ⊎_elim, inl, inr, List, ℕ, false, Result, Ok, Err}
+use Rattle.std.proofs.Common.{◌≡◌, ⊎_elim, inl, inr, false, Result, Ok, Err}
 use Rattle.bench_model.specs.History.{Half, left, Leaves, AddsNothing}
 use Rattle.bench_model.proofs.Moments.{leaves_then, leaves_as, leaves_left}
 use Rattle.job_text.specs.Files.{IsFree}
@@ -16,6 +16,7 @@ unopened_by T a b beginning.StoreFault leaves = tt
 unopened_by T a b beginning.DeviceFault leaves = leaves
 unopened_by T a b (beginning.CellsDiffer said found) leaves = tt
 unopened_by T a b (beginning.NotAJob at) leaves = tt
+unopened_by T a b (beginning.Damaged kept found) leaves = tt
 
 pub unopened_other : (T : Type 0) (a b : Half) (fault : BeginFault) → is_device_fault {T = T} (Err fault) ≡ false → UnopenedAtDeviceFault {T = T} a b (Err fault)
 unopened_other T a b beginning.OutOfMemory other = tt
@@ -24,6 +25,7 @@ unopened_other T a b beginning.StoreFault other = tt
 unopened_other T a b beginning.DeviceFault other = absurd (cc)
 unopened_other T a b (beginning.CellsDiffer said found) other = tt
 unopened_other T a b (beginning.NotAJob at) other = tt
+unopened_other T a b (beginning.Damaged kept found) other = tt
 
 -- behind calls after which a stop leaves nothing new
 pub unopened_behind : {T : Type 0} (a b d : Half) (result : Result T BeginFault) → AddsNothing a b → UnopenedAtDeviceFault {T = T} b d result → UnopenedAtDeviceFault {T = T} a d result
@@ -36,3 +38,4 @@ unopened_behind a b d (Err beginning.DeviceFault) adds rest =
     (leaves_as (IsUnopened b) (IsUnopened a) (λ f either. ⊎_elim (λ (at : left b f). inl (leaves_left (left a) adds f at)) (λ (free : IsFree f). inr free) either) rest)
 unopened_behind a b d (Err (beginning.CellsDiffer said found)) adds rest = tt
 unopened_behind a b d (Err (beginning.NotAJob at)) adds rest = tt
+unopened_behind a b d (Err (beginning.Damaged kept found)) adds rest = tt

@@ -28,6 +28,7 @@ is_open_fault (Err opening.NoJob) = false
 is_open_fault (Err (opening.NotAJob at)) = false
 is_open_fault (Err opening.StoreFault) = true
 is_open_fault (Err (opening.CellsDiffer said found)) = false
+is_open_fault (Err (opening.Damaged kept found)) = false
 
 abbrev pub is_store_fault : {T : Type 0} → Result T BeginFault → Bool
 is_store_fault (Ok x) = false
@@ -37,6 +38,7 @@ is_store_fault (Err beginning.StoreFault) = true
 is_store_fault (Err beginning.DeviceFault) = false
 is_store_fault (Err (beginning.CellsDiffer said found)) = false
 is_store_fault (Err (beginning.NotAJob at)) = false
+is_store_fault (Err (beginning.Damaged kept found)) = false
 
 abbrev pub is_device_fault : {T : Type 0} → Result T BeginFault → Bool
 is_device_fault (Ok x) = false
@@ -46,6 +48,7 @@ is_device_fault (Err beginning.StoreFault) = false
 is_device_fault (Err beginning.DeviceFault) = true
 is_device_fault (Err (beginning.CellsDiffer said found)) = false
 is_device_fault (Err (beginning.NotAJob at)) = false
+is_device_fault (Err (beginning.Damaged kept found)) = false
 
 -- one of the two faults
 abbrev pub IsFault : BeginFault → Type 0
@@ -55,6 +58,7 @@ IsFault beginning.StoreFault = Unit {0}
 IsFault beginning.DeviceFault = Unit {0}
 IsFault (beginning.CellsDiffer said found) = ⊥
 IsFault (beginning.NotAJob at) = ⊥
+IsFault (beginning.Damaged kept found) = ⊥
 
 -- with any refusal but these, file and cells were only read
 abbrev pub ReadsUnlessFault : {T : Type 0} → Bool → BenchState → BenchState → Result T BeginFault → Type 0
@@ -65,3 +69,4 @@ ReadsUnlessFault tells old new (Err beginning.StoreFault) = Unit {0}
 ReadsUnlessFault tells old new (Err beginning.DeviceFault) = Unit {0}
 ReadsUnlessFault tells old new (Err (beginning.CellsDiffer said found)) = OnlyReads tells old new
 ReadsUnlessFault tells old new (Err (beginning.NotAJob at)) = OnlyReads tells old new
+ReadsUnlessFault tells old new (Err (beginning.Damaged kept found)) = OnlyReads tells old new

@@ -1,7 +1,10 @@
 -- What each refusal says.
 use Rattle.std.specs.Prelude.{◌≡◌, ◌≢◌, ℕ, List}
 use Rattle.job_text.specs.Files.{IsFree}
-use Rattle.job_text.specs.Stands.{IsSomeJob, IsNotAJob}
+use Rattle.board_file.specs.Limits.{size_of}
+use Rattle.job_text.specs.Stands.{IsSomeJob, IsFoundDamaged, IsNotAJob}
+use Rattle.job_text.specs.declared.job.Class.{Class}
+use Rattle.job_text.specs.declared.job.Class.TheVariants as class
 use Rattle.job_file.specs.declared.fault.LookFault.{LookFault}
 use Rattle.job_file.specs.declared.fault.LookFault.TheVariants as look
 use Rattle.job_file.specs.declared.fault.OpenFault.{OpenFault}
@@ -21,7 +24,7 @@ begin_of look.StoreFault = beginning.StoreFault
 -- the job of a file is for so many cells, and there are as many others
 pub record IsOtherSize (file : List ℕ) (count said found : ℕ) : Type 0 where
   pub some : IsSomeJob file
-  pub said_is : said ≡ some.algorithm.device.size
+  pub said_is : said ≡ size_of some.board.regions
   pub found_is : found ≡ count
   pub differ : said ≢ found
 
@@ -32,6 +35,7 @@ IsOpenFault file count opening.NoJob = IsFree file
 IsOpenFault file count (opening.NotAJob at) = IsNotAJob at file
 IsOpenFault file count opening.StoreFault = Unit {0}
 IsOpenFault file count (opening.CellsDiffer said found) = IsOtherSize file count said found
+IsOpenFault file count (opening.Damaged kept found) = IsFoundDamaged kept found file
 
 -- and those of `begin`, for so many cells
 abbrev pub IsBeginFault : List ℕ → ℕ → ℕ → BeginFault → Type 0
@@ -41,9 +45,10 @@ IsBeginFault file size count beginning.StoreFault = Unit {0}
 IsBeginFault file size count beginning.DeviceFault = Unit {0}
 IsBeginFault file size count (beginning.CellsDiffer said found) = IsFree file × (said ≡ size) × (found ≡ count) × (said ≢ found)
 IsBeginFault file size count (beginning.NotAJob at) = IsNotAJob at file
+IsBeginFault file size count (beginning.Damaged kept found) = IsFoundDamaged kept found file
 
 -- What they say for themselves, on every bench: numbers of cells that differ, of which one is that of the job and the other that of the
--- device.
+-- device; hashes that differ.
 
 abbrev pub IsSoundOpen : ℕ → OpenFault → Type 0
 IsSoundOpen count (opening.CellsDiffer said found) = (found ≡ count) × (said ≢ found)
@@ -51,6 +56,7 @@ IsSoundOpen count opening.OutOfMemory = Unit {0}
 IsSoundOpen count opening.NoJob = Unit {0}
 IsSoundOpen count (opening.NotAJob at) = Unit {0}
 IsSoundOpen count opening.StoreFault = Unit {0}
+IsSoundOpen count (opening.Damaged kept found) = kept ≢ found
 
 abbrev pub IsSoundBegin : ℕ → ℕ → BeginFault → Type 0
 IsSoundBegin size count (beginning.CellsDiffer said found) = (said ≡ size) × (found ≡ count) × (said ≢ found)
@@ -59,3 +65,11 @@ IsSoundBegin size count beginning.JobOpen = Unit {0}
 IsSoundBegin size count beginning.StoreFault = Unit {0}
 IsSoundBegin size count beginning.DeviceFault = Unit {0}
 IsSoundBegin size count (beginning.NotAJob at) = Unit {0}
+IsSoundBegin size count (beginning.Damaged kept found) = kept ≢ found
+
+-- hashes of which a class says that they differ
+abbrev pub IsSoundClass : Class → Type 0
+IsSoundClass class.Free = Unit {0}
+IsSoundClass (class.Stands job) = Unit {0}
+IsSoundClass (class.Damaged damage) = damage.kept ≢ damage.found
+IsSoundClass (class.NotAJob at) = Unit {0}

@@ -1,20 +1,31 @@
 -- What the readers of a file on a bench answer, against the definitions.
-use Rattle.std.specs.Prelude.{◌≡◌, ◌≤◌, ◌<◌, ◌+◌, ◌==◌, ℕ, Bool, true, false, IsTrue, List, [], ◌∷◌, ◌++◌, length, take, drop, get_or, nat_lt, nat_le, Result, Ok, Err}
-use Rattle.std.specs.List.{flat_map}
+use Rattle.std.specs.Prelude.{◌≡◌, ◌≢◌, ◌⊎◌, ◌≤◌, ◌<◌, ◌+◌, ◌^◌, ◌==◌, ◌||◌, ℕ, Bool, true, false, not, IsTrue, List, [], ◌∷◌, ◌++◌, length, take, drop, get_or, slice_get, nat_lt, nat_le, nat_eq, bytes_eq, Option, Some, None, Result, Ok, Err}
+use Rattle.std.specs.List.{concat, flat_map}
 use Rattle.faults.specs.Results.{◌>>=◌}
-use Rattle.byte_map.specs.Image.{Run}
+use Rattle.byte_map.specs.Image.{Run, addresses}
+use Rattle.board_file.specs.declared.region.Region.{Region}
+use Rattle.board_file.specs.Limits.{size_of}
 use Rattle.board_file.specs.Shown as board
-use Rattle.board_file.specs.Text.{IsBoard}
+use Rattle.board_file.specs.Text as board_text
+use Rattle.flm_descriptor.specs.declared.algorithm.Algorithm.{Algorithm}
 use Rattle.flm_descriptor.specs.Shown as flm
-use Rattle.flm_descriptor.specs.Flm.{flm_of, IsFlm}
-use Rattle.job_text.specs.Body.{Job, mark, field, run_text, body_of, IsJob}
-use Rattle.job_text.specs.Stands.{snapshot_in}
+use Rattle.flm_descriptor.specs.Flm.{flm_of}
+use Rattle.job_text.specs.declared.format.Format.{Format}
+use Rattle.job_text.specs.declared.format.Format.TheVariants.{First, Second}
+use Rattle.job_text.specs.declared.head.Head.{Head}
+use Rattle.job_text.specs.declared.head.Places.{Places}
+use Rattle.job_text.specs.declared.damage.Damage.{Damage}
 use Rattle.job_text.specs.declared.job.Job as code
+use Rattle.job_text.specs.Body.{Job, first_mark, field, flm_len, run_text, hashed_of, body_of, IsJob, AreFlms}
+use Rattle.job_text.specs.Said.{algorithms_shown}
+use Rattle.job_text.specs.Stands.{snapshot_in}
 use Rattle.job_text.specs.Runs.{run_of}
 use Rattle.job_text.specs.Files.{open_gate, IsFree}
-use Rattle.job_text.specs.Reading.{Head, holds_or, one_board, read_or, text_at, head_at, texts_at, run_at}
+use Rattle.job_text.specs.Reading as reading
+use Rattle.job_text.specs.Reading.{holds_or, read_or, text_at, head_at, places_of, are_files, covers, run_at}
 use Rattle.job_file.specs.declared.fault.ReadFault.{ReadFault}
 use Rattle.job_file.specs.declared.fault.ReadFault.TheVariants.{OutOfMemory, StoreFault, NotAJob}
+use Rattle.job_file.specs.declared.texts.Said.{Said}
 
 -- whether the store failed
 abbrev pub is_read_fault : {T : Type 0} → Result T ReadFault → Bool
@@ -39,50 +50,113 @@ abbrev pub Gives : {X Y : Type 0} → (X → Y) → Result X ReadFault → Resul
 Gives view (Ok x) read = read ≡ Ok (view x)
 Gives view (Err e) read = Fails e read
 
--- the head behind a gate, in a file of so many bytes
-abbrev pub head_read : ℕ → List ℕ → Result (Head × List ℕ) ℕ
-head_read whole body = holds_or whole (nat_le 24 whole) >>= λ long. head_at whole body
+-- the head of a format behind a gate, in a file of so many bytes
+abbrev pub head_read : ℕ → Format → List ℕ → Result (Head × List ℕ) ℕ
+head_read whole format body = holds_or whole (nat_le (places_of format).front whole) >>= λ long. head_at whole format body
 
--- the board of a text of so many bytes, and the algorithm of an FLM file that begins at an offset
-abbrev pub board_read : ℕ → ℕ → List ℕ → Result board.Shown ℕ
-board_read whole len bytes = text_at whole len bytes >>= λ b. read_or 24 (one_board b.0)
+-- the board of a text of so many bytes that begins at an offset, and the algorithm of such an FLM file
+abbrev pub board_read : ℕ → ℕ → ℕ → List ℕ → Result board.Shown ℕ
+board_read whole at len bytes = text_at whole len bytes >>= λ b. read_or at (board_text.reading b.0)
 
 abbrev pub algorithm_read : ℕ → ℕ → ℕ → List ℕ → Result flm.Shown ℕ
 algorithm_read whole at len bytes = text_at whole len bytes >>= λ f. read_or at (flm_of f.0)
 
--- the mark and the four lengths
-abbrev pub head_bytes : Head → List ℕ
-head_bytes h = mark ++ (field h.board ++ (field h.flm ++ (field h.runs ++ field h.cells)))
+-- the FLM file of so many bytes at an offset of a file, which says this algorithm
+abbrev pub file_there : List ℕ → ℕ → ℕ → Algorithm → reading.File
+file_there file at len a = record { text = take len (drop at file); algorithm = flm.shown a }
 
--- the texts of a file say this board and this algorithm, and end at a place
-pub record SayTexts (file : List ℕ) (whole : ℕ) (head : Head) (said : board.Shown) (algorithm : flm.Shown) (end : ℕ) : Type 0 where
-  pub board_text : List ℕ
-  pub flm_text : List ℕ
-  pub read : texts_at whole head (drop 24 file) ≡ Ok (record { board_text = board_text; flm_text = flm_text; board = said; algorithm = algorithm }, drop end file)
-  pub parts : drop 24 file ≡ board_text ++ (flm_text ++ drop end file)
-  pub is_board : IsBoard board_text said
-  pub is_algorithm : IsFlm flm_text algorithm
-  pub board_len : length board_text ≡ head.board
-  pub flm_len : length flm_text ≡ head.flm
+abbrev pub second_there : List ℕ → ℕ → ℕ → Option Algorithm → Option reading.File
+second_there file at len None = None
+second_there file at len (Some a) = Some (file_there file at len a)
+
+-- the texts of a file, which say this
+abbrev pub texts_there : List ℕ → Places → Head → Said → reading.Texts
+texts_there file places head s = record {
+  board_text = take head.board (drop places.front file);
+  board = board.shown s.board;
+  first = file_there file (places.front + head.board) head.first s.first;
+  second = second_there file (places.front + head.board + head.first) head.second s.second;
+}
+
+-- a second algorithm, where there is one, is one for the second region
+abbrev pub SecondFits : board.Shown → ℕ → Option Algorithm → Type 0
+SecondFits b files None = files ≡ 1
+SecondFits b files (Some a) = (files ≢ 1) × IsTrue (reading.fits_in b (slice_get b.regions 1) (flm.shown a))
+
+-- the checks of the number of FLM files, of which a board of so many regions has as many
+abbrev pub files_checked : Places → Head → ℕ → Result (Unit {0}) ℕ
+files_checked places head regions =
+    holds_or places.files (are_files head.files regions) >>= λ files. holds_or places.second (not (nat_eq head.files 1) || nat_eq head.second 0)
+
+abbrev pub CountsFiles : {T : Type 0} → Places → Head → ℕ → Result T ReadFault → Type 0
+CountsFiles places head regions (Ok x) = IsTrue (are_files head.files regions) × IsTrue (not (nat_eq head.files 1) || nat_eq head.second 0)
+CountsFiles places head regions (Err OutOfMemory) = ⊥
+CountsFiles places head regions (Err StoreFault) = ⊥
+CountsFiles places head regions (Err (NotAJob at)) = files_checked places head regions ≡ Err at
+
+-- the head has a cell for each of the regions, and a run, or else the offset of the number shows it
+abbrev pub counts_checked : Places → Head → ℕ → Result (Unit {0}) ℕ
+counts_checked places head size = holds_or places.cells (head.cells == size) >>= λ sized. holds_or places.runs (nat_lt 0 head.runs)
+
+abbrev pub Counts : {T : Type 0} → Places → Head → ℕ → Result T ReadFault → Type 0
+Counts places head size (Ok x) = (head.cells ≡ size) × (1 ≤ head.runs)
+Counts places head size (Err OutOfMemory) = ⊥
+Counts places head size (Err StoreFault) = ⊥
+Counts places head size (Err (NotAJob at)) = counts_checked places head size ≡ Err at
+
+-- where the lengths stand in a body of a format, how long they are with what is before them, and their text
+abbrev pub lengths_at : Format → ℕ
+lengths_at First = 7
+lengths_at Second = 39
+
+abbrev pub head_len : Format → ℕ
+head_len First = 23
+head_len Second = 63
+
+abbrev pub lengths_text : Format → Head → List ℕ
+lengths_text First h = field h.board ++ (field h.first ++ (field h.runs ++ field h.cells))
+lengths_text Second h = field h.board ++ (field h.files ++ (field h.first ++ (field h.second ++ (field h.runs ++ field h.cells))))
+
+-- what a format doesn't write
+abbrev pub IsUnwritten : Format → List ℕ → Head → Type 0
+IsUnwritten First bytes h = (take 7 bytes ≡ first_mark) × (h.files ≡ 1) × (h.second ≡ 0)
+IsUnwritten Second bytes h = Unit {0}
+
+-- these bytes are a head
+pub record IsHeadOf (format : Format) (h : Head) (bytes : List ℕ) : Type 0 where
+  pub rest : IsUnwritten format bytes h
+  pub text : drop (lengths_at format) bytes ≡ lengths_text format h
+  pub board : h.board < 2 ^ 32
+  pub first : h.first < 2 ^ 32
+  pub second : h.second < 2 ^ 32
 
 -- behind the head of a file stands the rest of a job that is this one in memory
-pub record IsJobRest (job : code.Job) (file : List ℕ) (head : Head) : Type 0 where
-  pub board_text : List ℕ
-  pub flm_text : List ℕ
-  pub parts : drop 24 file ≡ board_text ++ (flm_text ++ (flat_map run_text job.image ++ snapshot_in job file))
-  pub is_board : IsBoard board_text (board.shown job.board)
-  pub is_algorithm : IsFlm flm_text (flm.shown job.algorithm)
-  pub board_len : length board_text ≡ head.board
-  pub flm_len : length flm_text ≡ head.flm
+pub record IsJobRest (job : code.Job) (format : Format) (file : List ℕ) (head : Head) : Type 0 where
+  pub text : List ℕ
+  pub flms : List (List ℕ)
+  pub parts : drop (places_of format).front file ≡ text ++ (concat flms ++ (flat_map run_text job.image ++ snapshot_in job file))
+  pub is_board : board_text.IsBoard text (board.shown job.board)
+  pub are_flms : AreFlms flms (algorithms_shown job.algorithms)
+  pub few : (length flms ≡ 1) ⊎ (length flms ≡ 2)
+  pub board_len : length text ≡ head.board
+  pub files_len : length flms ≡ head.files
+  pub first_len : flm_len flms 0 ≡ head.first
+  pub second_len : flm_len flms 1 ≡ head.second
   pub runs_len : length job.image ≡ head.runs
   pub cells_len : length (snapshot_in job file) ≡ head.cells
-  pub sized : head.cells ≡ job.algorithm.device.size
+  pub sized : head.cells ≡ size_of job.board.regions
 
--- and this body is that of a job that is this one in memory
-pub record IsJobBody (job : code.Job) (body file : List ℕ) : Type 0 where
+-- this body is that of a job, but for the hash of the second format
+abbrev pub IsBodyOf : Format → List ℕ → Job → Type 0
+IsBodyOf First body j = body ≡ body_of j
+IsBodyOf Second body j = drop 39 body ≡ hashed_of j
+
+-- and the job is this one in memory
+pub record IsJobBody (job : code.Job) (format : Format) (body file : List ℕ) : Type 0 where
   pub text : Job
-  pub is : IsJob text (board.shown job.board) (flm.shown job.algorithm)
-  pub whole : body ≡ body_of text
+  pub format_is : text.format ≡ format
+  pub is : IsJob text (board.shown job.board) (algorithms_shown job.algorithms)
+  pub whole : IsBodyOf format body text
   pub image : text.image ≡ job.image
   pub snapshot : text.snapshot ≡ snapshot_in job file
 
@@ -91,18 +165,12 @@ abbrev pub IsGate : List ℕ → Bool → Type 0
 IsGate file true = (1 < length file) × (get_or file 0 0 ≡ open_gate)
 IsGate file false = IsFree file
 
--- the head has a cell for each of the device, and a run, or else the offset of the number shows it
-abbrev pub Counts : {T : Type 0} → Head → ℕ → Result T ReadFault → Type 0
-Counts head size (Ok x) = (head.cells ≡ size) × (1 ≤ head.runs)
-Counts head size (Err OutOfMemory) = ⊥
-Counts head size (Err StoreFault) = ⊥
-Counts head size (Err (NotAJob at)) = (holds_or 20 (head.cells == size) >>= λ sized. holds_or 16 (nat_lt 0 head.runs)) ≡ Err at
-
--- a run lies between two addresses, and ends within the file
-pub record IsPlaced (whole low end at place len : ℕ) : Type 0 where
+-- a run lies in the regions, and ends within the file
+pub record IsPlaced (whole : ℕ) (regions : List Region) (low at place len : ℕ) : Type 0 where
   pub rises : low ≤ place
   pub some : 1 ≤ len
-  pub inside : place + len ≤ end
+  pub inside : place + len ≤ addresses
+  pub covered : IsTrue (covers regions place (place + len))
   pub within : at + 8 + len ≤ whole
 
 -- so many bytes, which stand in the file where it is told, are behind an image
@@ -113,10 +181,20 @@ pub record IsLaid (tells : Bool) (file : List ℕ) (from place len : ℕ) (old n
   pub added : new ≡ old ++ run_of place bytes ∷ []
 
 -- a run that begins at a place of the file is behind an image
-pub record AddsRun (tells : Bool) (file : List ℕ) (whole low end at : ℕ) (old new : List Run) (place len : ℕ) : Type 0 where
+pub record AddsRun (tells : Bool) (file : List ℕ) (whole : ℕ) (regions : List Region) (low at : ℕ) (old new : List Run) (place len : ℕ) : Type 0 where
   pub bytes : List ℕ
   pub long : length bytes ≡ len
-  pub said : IsTrue tells → run_at whole low end (drop at file) ≡ Ok (run_of place bytes, drop (at + 8 + len) file)
+  pub said : IsTrue tells → run_at whole regions low (drop at file) ≡ Ok (run_of place bytes, drop (at + 8 + len) file)
   pub text : IsTrue tells → drop at file ≡ run_text (run_of place bytes) ++ drop (at + 8 + len) file
   pub added : new ≡ old ++ run_of place bytes ∷ []
-  pub placed : IsPlaced whole low end at place len
+  pub placed : IsPlaced whole regions low at place len
+
+-- two hashes that differ, or none
+abbrev pub AreHashes : List ℕ → List ℕ → Option Damage → Type 0
+AreHashes kept found None = bytes_eq kept found ≡ true
+AreHashes kept found (Some damage) = (damage.kept ≡ kept) × (damage.found ≡ found) × (bytes_eq kept found ≡ false)
+
+-- hashes that were found to differ
+abbrev pub Differs : Option Damage → Type 0
+Differs None = Unit {0}
+Differs (Some damage) = damage.kept ≢ damage.found

@@ -14,3 +14,4 @@ UnopenedAtDeviceFault start end (Err beginning.StoreFault) = Unit {0}
 UnopenedAtDeviceFault start end (Err beginning.DeviceFault) = Leaves start end (IsUnopened start)
 UnopenedAtDeviceFault start end (Err (beginning.CellsDiffer said found)) = Unit {0}
 UnopenedAtDeviceFault start end (Err (beginning.NotAJob at)) = Unit {0}
+UnopenedAtDeviceFault start end (Err (beginning.Damaged kept found)) = Unit {0}

@@ -5,10 +5,10 @@ ghost use Rattle.bench_model.specs.State.{file_half, cells_half};
 ghost use Rattle.bench_model.specs.Calls.{SameOutside, OnlyReads};
 ghost use Rattle.job_text.specs.Body.{body_of};
 ghost use Rattle.job_text.specs.Files.{IsFree, open_gate};
-ghost use Rattle.job_text.specs.Parts.{job_of, AreParts, head_of_parts, front_of};
+ghost use Rattle.job_text.specs.Parts.{job_of, AreParts, head_of_parts, front_of, with_hash};
 ghost use Rattle.job_text.specs.Stands.{IsClassOf};
 ghost use Rattle.job_file.specs.Counted.{IsCounted, is_store_fault, is_device_fault, IsFault, ReadsUnlessFault};
-ghost use Rattle.job_file.specs.Faults.{IsBeginFault, IsSoundBegin};
+ghost use Rattle.job_file.specs.Faults.{IsBeginFault, IsSoundBegin, IsSoundClass};
 ghost use Rattle.job_file.specs.Stops.{IsFreeOrWhole, IsOfBegin};
 ghost use Rattle.job_file.specs.First.{SyncsFirst};
 ghost use Rattle.job_file.specs.Unopened.{UnopenedAtDeviceFault};
@@ -23,6 +23,7 @@ use std::alloc::Global;
 
 /// Whether a job for so many cells may be begun over a file of this class.
 fn admit(class: Class, said: u32, found: u32) -> Result<(), BeginFault>
+    requires { IsSoundClass class }
     ensures free { (file : List ℕ) → IsClassOf class file → OnOk result (IsFree file) }
     ensures sized { OnOk result (said ≡ found) }
     ensures refused { (file : List ℕ) → IsClassOf class file → IfErr result (IsBeginFault file said found) }
@@ -32,6 +33,11 @@ fn admit(class: Class, said: u32, found: u32) -> Result<(), BeginFault>
 {
     match class {
         Class::Stands(_) => Err(BeginFault::JobOpen),
+        Class::Damaged(damage) => {
+            let kept = damage.kept;
+            let found = damage.found;
+            Err(BeginFault::Damaged { kept, found })
+        }
         Class::NotAJob { at } => Err(BeginFault::NotAJob { at }),
         Class::Free if said != found => Err(BeginFault::CellsDiffer { said, found }),
         Class::Free => Ok(()),
@@ -70,11 +76,11 @@ fn drop_and_put<B: Bench>(
     requires free { IsTrue B.tells → IsFree (B.state bench.old).file }
     requires only { IsTrue B.tells → LeftOnly (B.state bench.old).file (file_half (B.state bench.old)) }
     ensures same { IsTrue B.tells → SameOutside (B.state bench.old).operation (B.state bench.old).cells (B.state bench.new).cells }
-    ensures ok { IsTrue B.tells → OnOk result (((B.state bench.new).file ≡ open_gate ∷ front_of parts.now ++ (B.state bench.new).cells)
-        × LeftOnly (open_gate ∷ front_of parts.now ++ (B.state bench.new).cells) (file_half (B.state bench.new))
+    ensures ok { IsTrue B.tells → OnOk result (((B.state bench.new).file ≡ open_gate ∷ with_hash (front_of parts.now ++ (B.state bench.new).cells))
+        × LeftOnly (open_gate ∷ with_hash (front_of parts.now ++ (B.state bench.new).cells)) (file_half (B.state bench.new))
         × ((B.state bench.new).operation ≡ None)) }
     ensures stops { IsTrue B.tells → Leaves (file_half (B.state bench.old)) (file_half (B.state bench.new))
-        (IsOfBegin (file_half (B.state bench.old)) (front_of parts.now ++ (B.state bench.new).cells)) }
+        (IsOfBegin (file_half (B.state bench.old)) (with_hash (front_of parts.now ++ (B.state bench.new).cells))) }
     ensures unopened { IsTrue B.tells → UnopenedAtDeviceFault (file_half (B.state bench.old)) (file_half (B.state bench.new)) result }
     ensures cells { AddsNothing (cells_half (B.state bench.old)) (cells_half (B.state bench.new)) }
     ensures count { (B.state bench.new).cell_count ≡ (B.state bench.old).cell_count }
@@ -87,11 +93,11 @@ fn drop_and_put<B: Bench>(
 }
 
 /// Begins a job over a free file: the snapshot is read once nothing is open on the device, and written as it is read, some thousand
-/// cells at a time; the gate is opened last. All its memory is taken before it breaks off an operation.
+/// cells at a time; then its hash is written, and the gate is opened last. All its memory is taken before it breaks off an operation.
 ///
 /// # Errors
 ///
-/// `JobOpen` and `NotAJob` exactly by what the file is; `CellsDiffer` exactly where the file is free and the numbers differ;
+/// `JobOpen`, `NotAJob` and `Damaged` exactly by what the file is; `CellsDiffer` exactly where the file is free and the numbers differ;
 /// `StoreFault` and `DeviceFault` only where they were counted. But for these two, file and cells are only read.
 pub fn begin<B: Bench>(alloc: Global, bench: &mut B, parts: &JobParts) -> Result<(), BeginFault>
     requires { AreParts parts.now }

@@ -1,77 +1,95 @@
-//! What the file of a bench is, read from the front on. Of a job's snapshot only the length is looked at.
-ghost use Rattle.std.specs.Prelude.{◌≡◌, ◌≤◌, ◌<◌, ◌+◌, ◌^◌, ℕ, List, length, take, drop, false, IsTrue, OnOk, IfOk, IfErr};
+//! What the file of a bench is, read from the front on. Of a job's snapshot only the length is looked at, and, in the second format, the
+//! hash of all.
+ghost use Rattle.std.specs.Prelude.{◌≡◌, ◌≤◌, ◌<◌, ◌+◌, ◌^◌, ℕ, List, length, take, drop, true, false, IsTrue, OnOk, IfOk, IfErr};
 ghost use Rattle.bench_model.specs.History.{LeftOnly};
 ghost use Rattle.bench_model.specs.State.{file_half};
 ghost use Rattle.bench_model.specs.Calls.{OnlyReads};
-ghost use Rattle.job_text.specs.Heads.{head_of};
-ghost use Rattle.job_text.specs.Reading.{head_at, rest_at, job_at};
+ghost use Rattle.job_text.specs.Reading.{head_at, rest_at, format_in, is_damaged, job_as, places_of};
 ghost use Rattle.job_text.specs.Stands.{IsClassOf};
 ghost use Rattle.job_file.specs.Counted.{IsCounted, is_look_fault};
+ghost use Rattle.job_file.specs.Faults.{IsSoundClass};
 ghost use Rattle.job_file.specs.First.{SyncsFirst};
-ghost use Rattle.job_file.specs.Readers.{Fails, Gives, is_read_fault, head_bytes, head_read, Counts, IsJobRest, IsJobBody, IsGate};
+ghost use Rattle.job_file.specs.Readers.{Fails, Gives, is_read_fault, head_read, head_len, IsHeadOf, Counts, IsJobRest, IsJobBody, IsGate};
 
+use crate::damage::{find_damage, read_format};
 use crate::fault::{LookFault, ReadFault};
 use crate::image::read_runs;
 use crate::reading::PIECE;
-use crate::texts::{BOARD_AT, Said, read_said};
+use crate::texts::{Said, read_said};
 use bench_model::{Bench, StoreFault};
-use job_text::{Class, Head, Job, JobFault, take_head};
+use faults::OutOfMemory;
+use job_text::{
+    Algorithms, Class, Format, Head, Job, JobFault, Places, cells_in, places_in, take_head,
+};
 use std::alloc::Global;
 
 /// Byte 0 of a file whose job is open.
 const OPEN_GATE: u8 = 0xA5;
 
-/// The offsets of the fields that count runs and cells.
-const RUNS_AT: u64 = 16;
-
-const CELLS_AT: u64 = 20;
-
-/// The head of a job, from the 23 bytes behind the gate.
-fn judge_head(whole: u64, bytes: &[u8]) -> Result<Head, ReadFault>
-    requires { length bytes.now ≡ 23 }
-    ensures said { (body : List ℕ) → 23 ≤ length body → bytes.now ≡ take 23 body → Gives (λ h. (head_of h, drop 23 body)) result (head_at whole body) }
-    ensures text { IfOk result (λ h. bytes.now ≡ head_bytes (head_of h)) }
-    ensures short { IfOk result (λ h. (h.board < 2 ^ 32) × (h.flm < 2 ^ 32)) }
+/// The head of a job, from the bytes behind the gate and before the texts.
+fn judge_head(whole: u64, format: Format, bytes: &[u8]) -> Result<Head, ReadFault>
+    requires { length bytes.now ≡ head_len format }
+    ensures said { (body : List ℕ) → head_len format ≤ length body → bytes.now ≡ take (head_len format) body
+        → Gives (λ h. (h, drop (head_len format) body)) result (head_at whole format body) }
+    ensures text { IfOk result (λ h. IsHeadOf format h bytes.now) }
     ensures no_store { is_read_fault result ≡ false }
 {
-    match take_head(whole, bytes) {
+    match take_head(whole, format, bytes) {
         Ok((head, _)) => Ok(head),
         Err(JobFault::OutOfMemory) => Err(ReadFault::OutOfMemory),
         Err(JobFault::NotAJob { at }) => Err(ReadFault::NotAJob { at }),
     }
 }
 
-/// The head of a job, in a file of so many bytes.
-fn read_head<B: Bench>(bench: &mut B, whole: u64) -> Result<Head, ReadFault>
+/// The head of a job of a format, in a file of so many bytes, read into as many bytes as it has.
+fn read_head_into<B: Bench>(
+    bench: &mut B,
+    whole: u64,
+    format: Format,
+    bytes: &mut [u8],
+) -> Result<Head, ReadFault>
     requires told { IsTrue B.tells → length (B.state bench.old).file ≡ whole }
-    ensures said { IsTrue B.tells → Gives (λ h. (head_of h, drop 24 (B.state bench.old).file)) result (head_read whole (drop 1 (B.state bench.old).file)) }
-    ensures text { IsTrue B.tells → IfOk result (λ h. take 23 (drop 1 (B.state bench.old).file) ≡ head_bytes (head_of h)) }
-    ensures short { IfOk result (λ h. (h.board < 2 ^ 32) × (h.flm < 2 ^ 32)) }
-    ensures long { IfOk result (λ h. 24 ≤ whole) }
+    requires room { length bytes.old ≡ head_len format }
+    requires long { head_len format + 1 ≤ whole }
+    ensures said { IsTrue B.tells → Gives (λ h. (h, drop (head_len format) (drop 1 (B.state bench.old).file))) result (head_at whole format (drop 1 (B.state bench.old).file)) }
+    ensures text { IsTrue B.tells → IfOk result (λ h. IsHeadOf format h (take (head_len format) (drop 1 (B.state bench.old).file))) }
     ensures reads { OnlyReads B.tells (B.state bench.old) (B.state bench.new) }
     ensures counted { IsCounted (B.state bench.old).store_faults (B.state bench.new).store_faults (is_read_fault result) }
 {
-    if whole < BOARD_AT {
-        return Err(ReadFault::NotAJob { at: whole });
-    }
-    let mut bytes = [0; 23];
-    match bench.file_read(1, &mut bytes) {
-        Ok(()) => judge_head(whole, &bytes),
+    match bench.file_read(1, bytes) {
+        Ok(()) => judge_head(whole, format, bytes),
         Err(StoreFault) => Err(ReadFault::StoreFault),
     }
 }
 
+/// The head of a job of a format, in a file of so many bytes.
+fn read_head<B: Bench>(bench: &mut B, whole: u64, format: Format) -> Result<Head, ReadFault>
+    requires told { IsTrue B.tells → length (B.state bench.old).file ≡ whole }
+    ensures said { IsTrue B.tells → Gives (λ h. (h, drop (places_of format).front (B.state bench.old).file)) result (head_read whole format (drop 1 (B.state bench.old).file)) }
+    ensures text { IsTrue B.tells → IfOk result (λ h. IsHeadOf format h (take (head_len format) (drop 1 (B.state bench.old).file))) }
+    ensures long { IfOk result (λ h. (places_of format).front ≤ whole) }
+    ensures reads { OnlyReads B.tells (B.state bench.old) (B.state bench.new) }
+    ensures counted { IsCounted (B.state bench.old).store_faults (B.state bench.new).store_faults (is_read_fault result) }
+{
+    let places = places_in(format);
+    if whole < places.front {
+        return Err(ReadFault::NotAJob { at: whole });
+    }
+    let size = places.front as usize - 1;
+    read_head_into(bench, whole, format, &mut [0; 63][..size])
+}
+
 /// Checks the numbers of cells and of runs.
-fn check_counts(head: &Head, size: u32) -> Result<(), ReadFault>
-    ensures { Counts (head_of head.now) size result }
+fn check_counts(places: &Places, head: &Head, size: u32) -> Result<(), ReadFault>
+    ensures { Counts places.now head.now size result }
 {
     let cells = head.cells;
     let runs = head.runs;
     if cells != size {
-        return Err(ReadFault::NotAJob { at: CELLS_AT });
+        return Err(ReadFault::NotAJob { at: places.cells });
     }
     if runs == 0 {
-        return Err(ReadFault::NotAJob { at: RUNS_AT });
+        return Err(ReadFault::NotAJob { at: places.runs });
     }
     Ok(())
 }
@@ -81,33 +99,35 @@ fn read_rest<B: Bench>(
     alloc: Global,
     bench: &mut B,
     whole: u64,
-    head: &Head,
+    format: Format,
+    head: Head,
     window: &mut [u8],
 ) -> Result<Job, ReadFault>
     requires told { IsTrue B.tells → length (B.state bench.old).file ≡ whole }
-    requires within { 24 ≤ whole }
+    requires within { (places_of format).front ≤ whole }
     requires room { length window.old ≡ PIECE }
-    ensures ok { IsTrue B.tells → IfOk result (λ job. IsJobRest job (B.state bench.old).file (head_of head.now)) }
-    ensures err { IsTrue B.tells → IfErr result (λ e. Fails e (rest_at whole (head_of head.now) (drop 24 (B.state bench.old).file))) }
+    ensures ok { IsTrue B.tells → IfOk result (λ job. IsJobRest job format (B.state bench.old).file head) }
+    ensures err { IsTrue B.tells → IfErr result (λ e. Fails e (rest_at whole format head (drop (places_of format).front (B.state bench.old).file))) }
     ensures reads { OnlyReads B.tells (B.state bench.old) (B.state bench.new) }
     ensures counted { IsCounted (B.state bench.old).store_faults (B.state bench.new).store_faults (is_read_fault result) }
 {
-    let said = match read_said(alloc, bench, whole, head) {
+    let places = places_in(format);
+    let said = match read_said(alloc, bench, whole, &places, &head) {
         Ok(said) => said,
         Err(fault) => return Err(fault),
     };
     let Said {
         board,
-        algorithm,
-        end: texts_end,
+        first,
+        second,
+        end,
     } = said;
-    match check_counts(head, algorithm.device.size) {
+    match check_counts(&places, &head, cells_in(&board)) {
         Ok(()) => {}
         Err(fault) => return Err(fault),
     }
-    let low = u64::from(algorithm.device.base);
-    let end = low + u64::from(algorithm.device.size);
-    let (image, at) = match read_runs(alloc, bench, whole, head.runs, low, end, texts_end, window) {
+    let regions = board.regions.as_slice();
+    let (image, at) = match read_runs(alloc, bench, whole, regions, head.runs, end, window) {
         Ok(read) => read,
         Err(fault) => return Err(fault),
     };
@@ -116,30 +136,34 @@ fn read_rest<B: Bench>(
     if left != cells {
         return Err(ReadFault::NotAJob { at: whole });
     }
-    Ok(Job {
-        board,
-        algorithm,
-        image,
-        snapshot_at: at,
-    })
+    match Algorithms::new(alloc, first, second) {
+        Ok(algorithms) => Ok(Job {
+            board,
+            algorithms,
+            image,
+            snapshot_at: at,
+        }),
+        Err(OutOfMemory) => Err(ReadFault::OutOfMemory),
+    }
 }
 
-/// The job of a file of so many bytes, behind its gate.
+/// The job of a file of so many bytes, behind its gate, read in a format. The hash isn't looked at.
 fn read_job<B: Bench>(
     alloc: Global,
     bench: &mut B,
     whole: u64,
+    format: Format,
     window: &mut [u8],
 ) -> Result<Job, ReadFault>
     requires told { IsTrue B.tells → length (B.state bench.old).file ≡ whole }
     requires room { length window.old ≡ PIECE }
-    ensures ok { IsTrue B.tells → IfOk result (λ job. IsJobBody job (drop 1 (B.state bench.old).file) (B.state bench.old).file) }
-    ensures err { IsTrue B.tells → IfErr result (λ e. Fails e (job_at whole (drop 1 (B.state bench.old).file))) }
+    ensures ok { IsTrue B.tells → IfOk result (λ job. IsJobBody job format (drop 1 (B.state bench.old).file) (B.state bench.old).file) }
+    ensures err { IsTrue B.tells → IfErr result (λ e. Fails e (job_as whole format (drop 1 (B.state bench.old).file))) }
     ensures reads { OnlyReads B.tells (B.state bench.old) (B.state bench.new) }
     ensures counted { IsCounted (B.state bench.old).store_faults (B.state bench.new).store_faults (is_read_fault result) }
 {
-    match read_head(bench, whole) {
-        Ok(head) => read_rest(alloc, bench, whole, &head, window),
+    match read_head(bench, whole, format) {
+        Ok(head) => read_rest(alloc, bench, whole, format, head, window),
         Err(fault) => Err(fault),
     }
 }
@@ -166,19 +190,25 @@ fn is_open<B: Bench>(bench: &mut B, whole: u64) -> Result<bool, LookFault>
     }
 }
 
-/// What a file of so many bytes is.
-fn read_class<B: Bench>(alloc: Global, bench: &mut B, whole: u64) -> Result<Class, LookFault>
+/// What a file of so many bytes is that has no damage behind its open gate, read in the format of its mark.
+fn class_of_job<B: Bench>(
+    alloc: Global,
+    bench: &mut B,
+    whole: u64,
+    format: Format,
+    window: &mut [u8],
+) -> Result<Class, LookFault>
     requires told { IsTrue B.tells → length (B.state bench.old).file ≡ whole }
+    requires opened { IsTrue B.tells → IsGate (B.state bench.old).file true }
+    requires format { IsTrue B.tells → format_in (drop 1 (B.state bench.old).file) ≡ format }
+    requires intact { IsTrue B.tells → is_damaged (drop 1 (B.state bench.old).file) ≡ false }
+    requires room { length window.old ≡ PIECE }
     ensures class { IsTrue B.tells → IfOk result (λ c. IsClassOf c (B.state bench.old).file) }
+    ensures sound { IfOk result IsSoundClass }
     ensures reads { OnlyReads B.tells (B.state bench.old) (B.state bench.new) }
     ensures counted { IsCounted (B.state bench.old).store_faults (B.state bench.new).store_faults (is_look_fault result) }
 {
-    match is_open(bench, whole) {
-        Ok(true) => {}
-        Ok(false) => return Ok(Class::Free),
-        Err(fault) => return Err(fault),
-    }
-    match read_job(alloc, bench, whole, &mut [0; PIECE]) {
+    match read_job(alloc, bench, whole, format, window) {
         Ok(job) => Ok(Class::Stands(job)),
         Err(ReadFault::NotAJob { at }) => Ok(Class::NotAJob { at }),
         Err(ReadFault::OutOfMemory) => Err(LookFault::OutOfMemory),
@@ -186,9 +216,51 @@ fn read_class<B: Bench>(alloc: Global, bench: &mut B, whole: u64) -> Result<Clas
     }
 }
 
+/// What a file of so many bytes is whose gate is open.
+fn read_opened<B: Bench>(
+    alloc: Global,
+    bench: &mut B,
+    whole: u64,
+    window: &mut [u8],
+) -> Result<Class, LookFault>
+    requires told { IsTrue B.tells → length (B.state bench.old).file ≡ whole }
+    requires opened { IsTrue B.tells → IsGate (B.state bench.old).file true }
+    requires room { length window.old ≡ PIECE }
+    ensures class { IsTrue B.tells → IfOk result (λ c. IsClassOf c (B.state bench.old).file) }
+    ensures sound { IfOk result IsSoundClass }
+    ensures reads { OnlyReads B.tells (B.state bench.old) (B.state bench.new) }
+    ensures counted { IsCounted (B.state bench.old).store_faults (B.state bench.new).store_faults (is_look_fault result) }
+{
+    let format = match read_format(bench, whole) {
+        Ok(format) => format,
+        Err(StoreFault) => return Err(LookFault::StoreFault),
+    };
+    match find_damage(bench, whole, format, window) {
+        Ok(None) => class_of_job(alloc, bench, whole, format, window),
+        Ok(Some(damage)) => Ok(Class::Damaged(damage)),
+        Err(StoreFault) => Err(LookFault::StoreFault),
+    }
+}
+
+/// What a file of so many bytes is.
+fn read_class<B: Bench>(alloc: Global, bench: &mut B, whole: u64) -> Result<Class, LookFault>
+    requires told { IsTrue B.tells → length (B.state bench.old).file ≡ whole }
+    ensures class { IsTrue B.tells → IfOk result (λ c. IsClassOf c (B.state bench.old).file) }
+    ensures sound { IfOk result IsSoundClass }
+    ensures reads { OnlyReads B.tells (B.state bench.old) (B.state bench.new) }
+    ensures counted { IsCounted (B.state bench.old).store_faults (B.state bench.new).store_faults (is_look_fault result) }
+{
+    match is_open(bench, whole) {
+        Ok(true) => read_opened(alloc, bench, whole, &mut [0; PIECE]),
+        Ok(false) => Ok(Class::Free),
+        Err(fault) => Err(fault),
+    }
+}
+
 /// What the file is. Once it answered Ok, a stop leaves these bytes and nothing else.
 pub(crate) fn look<B: Bench>(alloc: Global, bench: &mut B) -> Result<Class, LookFault>
     ensures class { IsTrue B.tells → IfOk result (λ c. IsClassOf c (B.state bench.old).file) }
+    ensures sound { IfOk result IsSoundClass }
     ensures only { IsTrue B.tells → OnOk result (LeftOnly (B.state bench.old).file (file_half (B.state bench.new))) }
     ensures reads { OnlyReads B.tells (B.state bench.old) (B.state bench.new) }
     ensures counted { IsCounted (B.state bench.old).store_faults (B.state bench.new).store_faults (is_look_fault result) }

@@ -73,7 +73,7 @@ pub enum OpenFault {
     /// The file is free.
     #[error("NoJob")]
     NoJob,
-    /// The file is neither free nor stands for a job; the offset shows the first check that fails.
+    /// The file is neither free nor damaged, and stands for no job; the offset shows the first check that fails.
     #[error("NotAJob {at}")]
     NotAJob { at: u64 },
     /// The store of the file failed.
@@ -82,6 +82,9 @@ pub enum OpenFault {
     /// The job is for `said` cells, and the bench has `found`.
     #[error("CellsDiffer {said} {found}")]
     CellsDiffer { said: u32, found: u32 },
+    /// The hash that the file keeps isn't the one that was found.
+    #[error("Damaged")]
+    Damaged { kept: [u8; 32], found: [u8; 32] },
 }
 
 impl From<LookFault> for OpenFault {
@@ -116,9 +119,12 @@ pub enum BeginFault {
     /// The job is for `said` cells, and the bench has `found`.
     #[error("CellsDiffer {said} {found}")]
     CellsDiffer { said: u32, found: u32 },
-    /// The file is neither free nor stands for a job; the offset shows the first check that fails.
+    /// The file is neither free nor damaged, and stands for no job; the offset shows the first check that fails.
     #[error("NotAJob {at}")]
     NotAJob { at: u64 },
+    /// The hash that the file keeps isn't the one that was found.
+    #[error("Damaged")]
+    Damaged { kept: [u8; 32], found: [u8; 32] },
 }
 
 impl From<LookFault> for BeginFault {

@@ -5,12 +5,12 @@ ghost use Rattle.bench_model.specs.History.{Leaves, LeftOnly};
 ghost use Rattle.bench_model.specs.State.{file_half};
 ghost use Rattle.bench_model.specs.Calls.{CellsStay, CellsAreRead};
 ghost use Rattle.job_text.specs.Files.{IsFree, open_gate};
-ghost use Rattle.job_text.specs.Parts.{AreParts, head_of_parts, front_of};
+ghost use Rattle.job_text.specs.Parts.{AreParts, head_of_parts, front_of, with_hash};
 ghost use Rattle.job_file.specs.Counted.{IsCounted, is_store_fault, is_device_fault, IsFault};
 ghost use Rattle.job_file.specs.Stops.{IsFreeOrWhole, IsShut};
 ghost use Rattle.job_file.specs.Unopened.{UnopenedAtDeviceFault};
 
-use crate::body::put_body;
+use crate::body::put_hashed;
 use crate::fault::BeginFault;
 use crate::reading::PIECE;
 use bench_model::{Bench, StoreFault, cut_synced, write_synced};
@@ -23,7 +23,8 @@ const OPEN: u8 = 0xA5;
 pub const CLOSED: u8 = 0;
 
 /// Puts a body into a free file, behind a gate that is opened last: its parts one by one, and behind them all cells, as many at a time as
-/// the window holds. The gate is closed on the disk before the body is written, and opened once the body is on the disk.
+/// the window holds, and then the hash in its place. The gate is closed on the disk before the body is written, and opened once body and
+/// hash are on the disk.
 pub fn put_job<B: Bench>(
     bench: &mut B,
     head: &[u8],
@@ -36,10 +37,10 @@ pub fn put_job<B: Bench>(
     requires only { IsTrue B.tells → LeftOnly (B.state bench.old).file (file_half (B.state bench.old)) }
     requires idle { IsTrue B.tells → (B.state bench.old).operation ≡ None }
     requires room { length window.old ≡ PIECE }
-    ensures ok { IsTrue B.tells → OnOk result (((B.state bench.new).file ≡ open_gate ∷ front_of parts.now ++ (B.state bench.old).cells)
-        × LeftOnly (open_gate ∷ front_of parts.now ++ (B.state bench.old).cells) (file_half (B.state bench.new))) }
+    ensures ok { IsTrue B.tells → OnOk result (((B.state bench.new).file ≡ open_gate ∷ with_hash (front_of parts.now ++ (B.state bench.old).cells))
+        × LeftOnly (open_gate ∷ with_hash (front_of parts.now ++ (B.state bench.old).cells)) (file_half (B.state bench.new))) }
     ensures moments { IsTrue B.tells → Leaves (file_half (B.state bench.old)) (file_half (B.state bench.new))
-        (IsFreeOrWhole (front_of parts.now ++ (B.state bench.old).cells)) }
+        (IsFreeOrWhole (with_hash (front_of parts.now ++ (B.state bench.old).cells))) }
     ensures unopened { IsTrue B.tells → UnopenedAtDeviceFault (file_half (B.state bench.old)) (file_half (B.state bench.new)) result }
     ensures cells { CellsAreRead B.tells (B.state bench.old) (B.state bench.new) }
     ensures fault { IfErr result IsFault }
@@ -47,7 +48,7 @@ pub fn put_job<B: Bench>(
     ensures device { IsCounted (B.state bench.old).device_faults (B.state bench.new).device_faults (is_device_fault result) }
 {
     shut(bench)?;
-    put_body(bench, head, parts, window)?;
+    put_hashed(bench, head, parts, window)?;
     bench.file_sync()?;
     write_synced(bench, 0, &[OPEN])?;
     Ok(())

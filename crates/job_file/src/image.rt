@@ -1,9 +1,11 @@
 //! The image of a job, read from a file run by run, and each run window by window.
-ghost use Rattle.std.specs.Prelude.{◌≡◌, ◌≤◌, ◌<◌, ◌+◌, ◌-◌, ◌*◌, ◌^◌, ◌++◌, ℕ, List, length, take, drop, false, IsTrue, IfOk, IfErr, OnOk};
+ghost use Rattle.std.specs.Prelude.{◌≡◌, ◌≤◌, ◌<◌, ◌+◌, ◌*◌, ◌^◌, ◌++◌, ℕ, List, length, take, drop, false, IsTrue, IfOk, IfErr, OnOk};
 ghost use Rattle.std.specs.List.{flat_map};
 ghost use Rattle.bench_model.specs.Calls.{OnlyReads};
 ghost use Rattle.byte_map.specs.Image.{AreMaximal};
 ghost use Rattle.byte_map.specs.Laying.{Lays};
+ghost use Rattle.board_file.specs.Limits.{size_of};
+ghost use Rattle.job_text.specs.Fits.{LiesIn};
 ghost use Rattle.job_text.specs.Body.{field, run_text};
 ghost use Rattle.job_text.specs.Reading.{is_placed, run_at, runs_at};
 ghost use Rattle.job_text.specs.Runs.{EndBelow, EndBy, run_of};
@@ -13,29 +15,41 @@ ghost use Rattle.job_file.specs.Readers.{Fails, Gives, is_read_fault, IsNoVerdic
 use crate::fault::ReadFault;
 use crate::reading::{PIECE, piece_end};
 use bench_model::{Bench, StoreFault};
+use board_file::Region;
 use byte_map::ByteMap;
-use job_text::add_piece;
+use job_text::{add_piece, covers};
 use octets::le32;
 use std::alloc::Global;
 
 /// How many bytes stand before those of a run.
 const HEAD: u64 = 8;
 
-/// Whether a run lies between two addresses, and has a byte.
-fn is_placed(low: u64, end: u64, place: u32, len: u32) -> bool
-    ensures { result ≡ is_placed low end place len }
+/// How many addresses there are.
+const ADDRESSES: u64 = 0x1_0000_0000;
+
+/// Whether a run begins at `low` or above it, has a byte, and lies in the regions.
+fn is_placed(regions: &[Region], low: u64, place: u32, len: u32) -> bool
+    ensures { result ≡ is_placed regions.now low place len }
 {
-    low <= u64::from(place) && 0 < len && u64::from(place) + u64::from(len) <= end
+    let from = u64::from(place);
+    let end = from + u64::from(len);
+    low <= from && 0 < len && end <= ADDRESSES && covers(regions, from, end)
 }
 
 /// The address and the length of a run from the bytes before it, which begin at a place of a file of so many bytes.
-fn judge_run(head: &[u8], whole: u64, low: u64, end: u64, at: u64) -> Result<(u32, u32), ReadFault>
+fn judge_run(
+    head: &[u8],
+    whole: u64,
+    regions: &[Region],
+    low: u64,
+    at: u64,
+) -> Result<(u32, u32), ReadFault>
     requires head { length head.now ≡ 8 }
     requires within { at + 8 ≤ whole }
     ensures said { (file : List ℕ) → length file ≡ whole → head.now ≡ take 8 (drop at file)
-        → Gives (λ x. (run_of x.0 (take x.1 (drop (at + 8) file)), drop (at + 8 + x.1) file)) result (run_at whole low end (drop at file)) }
+        → Gives (λ x. (run_of x.0 (take x.1 (drop (at + 8) file)), drop (at + 8 + x.1) file)) result (run_at whole regions.now low (drop at file)) }
     ensures text { IfOk result (λ x. head.now ≡ field x.0 ++ field x.1) }
-    ensures placed { IfOk result (λ x. IsPlaced whole low end at x.0 x.1) }
+    ensures placed { IfOk result (λ x. IsPlaced whole regions.now low at x.0 x.1) }
     ensures no_store { is_read_fault result ≡ false }
 {
     let place = le32(head, 0);
@@ -45,27 +59,27 @@ fn judge_run(head: &[u8], whole: u64, low: u64, end: u64, at: u64) -> Result<(u3
     if left < size {
         return Err(ReadFault::NotAJob { at: whole });
     }
-    if is_placed(low, end, place, len) {
+    if is_placed(regions, low, place, len) {
         Ok((place, len))
     } else {
         Err(ReadFault::NotAJob { at })
     }
 }
 
-/// The address of the run that begins at a place of the file, and how many bytes it has, where it is to lie between two addresses.
+/// The address of the run that begins at a place of the file, and how many bytes it has, where it is to lie in the regions.
 fn read_run_head<B: Bench>(
     bench: &mut B,
     whole: u64,
+    regions: &[Region],
     low: u64,
-    end: u64,
     at: u64,
 ) -> Result<(u32, u32), ReadFault>
     requires told { IsTrue B.tells → length (B.state bench.old).file ≡ whole }
     requires within { at ≤ whole }
     ensures said { IsTrue B.tells → Gives (λ x. (run_of x.0 (take x.1 (drop (at + 8) (B.state bench.old).file)), drop (at + 8 + x.1) (B.state bench.old).file)) result
-        (run_at whole low end (drop at (B.state bench.old).file)) }
+        (run_at whole regions.now low (drop at (B.state bench.old).file)) }
     ensures text { IsTrue B.tells → IfOk result (λ x. take 8 (drop at (B.state bench.old).file) ≡ field x.0 ++ field x.1) }
-    ensures placed { IfOk result (λ x. IsPlaced whole low end at x.0 x.1) }
+    ensures placed { IfOk result (λ x. IsPlaced whole regions.now low at x.0 x.1) }
     ensures reads { OnlyReads B.tells (B.state bench.old) (B.state bench.new) }
     ensures counted { IsCounted (B.state bench.old).store_faults (B.state bench.new).store_faults (is_read_fault result) }
 {
@@ -75,7 +89,7 @@ fn read_run_head<B: Bench>(
     }
     let mut head = [0; 8];
     match bench.file_read(at, &mut head) {
-        Ok(()) => judge_run(&head, whole, low, end, at),
+        Ok(()) => judge_run(&head, whole, regions, low, at),
         Err(StoreFault) => Err(ReadFault::StoreFault),
     }
 }
@@ -144,23 +158,22 @@ fn read_run<B: Bench>(
     bench: &mut B,
     image: &mut ByteMap,
     whole: u64,
+    regions: &[Region],
     low: u64,
-    end: u64,
     at: u64,
     window: &mut [u8],
 ) -> Result<(u32, u32), ReadFault>
     requires told { IsTrue B.tells → length (B.state bench.old).file ≡ whole }
     requires within { at ≤ whole }
-    requires small { end ≤ 2 ^ 32 }
     requires maximal { AreMaximal 0 (2 ^ 32) image.old }
     requires behind { EndBelow low image.old }
     requires room { length window.old ≡ PIECE }
-    ensures ok { IfOk result (λ x. AddsRun B.tells (B.state bench.old).file whole low end at image.old image.new x.0 x.1) }
-    ensures err { IsTrue B.tells → IfErr result (λ e. Fails e (run_at whole low end (drop at (B.state bench.old).file))) }
+    ensures ok { IfOk result (λ x. AddsRun B.tells (B.state bench.old).file whole regions.now low at image.old image.new x.0 x.1) }
+    ensures err { IsTrue B.tells → IfErr result (λ e. Fails e (run_at whole regions.now low (drop at (B.state bench.old).file))) }
     ensures reads { OnlyReads B.tells (B.state bench.old) (B.state bench.new) }
     ensures counted { IsCounted (B.state bench.old).store_faults (B.state bench.new).store_faults (is_read_fault result) }
 {
-    match read_run_head(bench, whole, low, end, at) {
+    match read_run_head(bench, whole, regions, low, at) {
         Ok((place, len)) => match lay_run(bench, image, at + HEAD, place, len, window) {
             Ok(()) => Ok((place, len)),
             Err(fault) => Err(fault),
@@ -169,37 +182,35 @@ fn read_run<B: Bench>(
     }
 }
 
-/// Reads so many runs from a place of the file on, of which none touches the one before it: the image that they are, and where they end.
+/// Reads so many runs from a place of the file on, of which none touches the one before it and each lies in the regions: the image that
+/// they are, and where they end.
 pub(crate) fn read_runs<B: Bench>(
     alloc: Global,
     bench: &mut B,
     whole: u64,
+    regions: &[Region],
     count: u32,
-    low: u64,
-    end: u64,
     start: u64,
     window: &mut [u8],
 ) -> Result<(ByteMap, u64), ReadFault>
     requires told { IsTrue B.tells → length (B.state bench.old).file ≡ whole }
     requires within { start ≤ whole }
-    requires small { end ≤ 2 ^ 32 }
-    requires low { low ≤ end }
     requires room { length window.old ≡ PIECE }
-    ensures gives { IsTrue B.tells → Gives (λ x. (x.0, drop x.1 (B.state bench.old).file)) result (runs_at whole count low end (drop start (B.state bench.old).file)) }
+    ensures gives { IsTrue B.tells → Gives (λ x. (x.0, drop x.1 (B.state bench.old).file)) result (runs_at whole regions.now count 0 (drop start (B.state bench.old).file)) }
     ensures text { IsTrue B.tells → IfOk result (λ x. drop start (B.state bench.old).file ≡ flat_map run_text x.0 ++ drop x.1 (B.state bench.old).file) }
     ensures count { IfOk result (λ x. length x.0 ≡ count) }
-    ensures inside { IfOk result (λ x. AreMaximal low end x.0) }
+    ensures inside { IfOk result (λ x. LiesIn regions.now x.0) }
     ensures ends { IfOk result (λ x. x.1 ≤ whole) }
-    // A run takes two addresses at least, with the one behind it that it doesn't touch, and then nine bytes.
-    ensures taken { IfOk result (λ x. x.1 ≤ start + 5 * (end + 1 - low)) }
+    // A run has a cell at least, and then takes nine bytes.
+    ensures taken { IfOk result (λ x. x.1 ≤ start + 9 * size_of regions.now) }
     ensures reads { OnlyReads B.tells (B.state bench.old) (B.state bench.new) }
     ensures counted { IsCounted (B.state bench.old).store_faults (B.state bench.new).store_faults (is_read_fault result) }
 {
     let mut image = ByteMap::new(alloc);
-    let mut from = low;
+    let mut from = 0;
     let mut at = start;
     for _ in 0..count {
-        let (place, len) = read_run(bench, &mut image, whole, from, end, at, window)?;
+        let (place, len) = read_run(bench, &mut image, whole, regions, from, at, window)?;
         from = u64::from(place) + u64::from(len) + 1;
         at += HEAD + u64::from(len);
     }

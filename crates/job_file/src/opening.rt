@@ -3,9 +3,10 @@ ghost use Rattle.std.specs.Prelude.{◌≡◌, ℕ, List, false, IsTrue, OnOk, I
 ghost use Rattle.bench_model.specs.History.{LeftOnly};
 ghost use Rattle.bench_model.specs.State.{file_half};
 ghost use Rattle.bench_model.specs.Calls.{OnlyReads};
+ghost use Rattle.board_file.specs.Limits.{size_of};
 ghost use Rattle.job_text.specs.Stands.{StandsFor, IsClassOf};
 ghost use Rattle.job_file.specs.Counted.{IsCounted, is_open_fault};
-ghost use Rattle.job_file.specs.Faults.{IsOpenFault, IsSoundOpen};
+ghost use Rattle.job_file.specs.Faults.{IsOpenFault, IsSoundOpen, IsSoundClass};
 
 use crate::class::look;
 use crate::fault::OpenFault;
@@ -15,8 +16,9 @@ use std::alloc::Global;
 
 /// The job of a file of this class, for so many cells.
 fn judge(class: Class, found: u32) -> Result<Job, OpenFault>
+    requires { IsSoundClass class }
     ensures ok { (file : List ℕ) → IsClassOf class file → IfOk result (λ job. StandsFor job file) }
-    ensures sized { IfOk result (λ job. job.algorithm.device.size ≡ found) }
+    ensures sized { IfOk result (λ job. size_of job.board.regions ≡ found) }
     ensures refused { (file : List ℕ) → IsClassOf class file → IfErr result (IsOpenFault file found) }
     ensures sound { IfErr result (IsSoundOpen found) }
     ensures no_fault { is_open_fault result ≡ false }
@@ -24,8 +26,13 @@ fn judge(class: Class, found: u32) -> Result<Job, OpenFault>
     match class {
         Class::Free => Err(OpenFault::NoJob),
         Class::NotAJob { at } => Err(OpenFault::NotAJob { at }),
+        Class::Damaged(damage) => {
+            let kept = damage.kept;
+            let found = damage.found;
+            Err(OpenFault::Damaged { kept, found })
+        }
         Class::Stands(job) => {
-            let said = job.algorithm.device.size;
+            let said = job.cells();
             if said != found {
                 return Err(OpenFault::CellsDiffer { said, found });
             }
@@ -38,11 +45,11 @@ fn judge(class: Class, found: u32) -> Result<Job, OpenFault>
 ///
 /// # Errors
 ///
-/// `NoJob` and `NotAJob` exactly by what the file is; `CellsDiffer` exactly where it stands for a job for another number of
+/// `NoJob`, `NotAJob` and `Damaged` exactly by what the file is; `CellsDiffer` exactly where it stands for a job for another number of
 /// cells; `StoreFault` only where it was counted.
 pub fn open<B: Bench>(alloc: Global, bench: &mut B) -> Result<Job, OpenFault>
     ensures ok { IsTrue B.tells → IfOk result (λ job. StandsFor job (B.state bench.old).file) }
-    ensures sized { IfOk result (λ job. job.algorithm.device.size ≡ (B.state bench.old).cell_count) }
+    ensures sized { IfOk result (λ job. size_of job.board.regions ≡ (B.state bench.old).cell_count) }
     ensures only { IsTrue B.tells → OnOk result (LeftOnly (B.state bench.old).file (file_half (B.state bench.new))) }
 
     // With `ok` and `sized`, each refusal comes exactly where it says.

@@ -2,6 +2,7 @@
 ghost use Rattle.std.specs.Prelude.{◌≡◌, ◌≤◌, ◌+◌, length, take, drop, IsTrue, OnOk};
 ghost use Rattle.faults.specs.Counts.{HasCause};
 ghost use Rattle.bench_model.specs.Calls.{OnlyReads};
+ghost use Rattle.board_file.specs.Limits.{size_of};
 ghost use Rattle.job_text.specs.Stands.{StandsFor, snapshot_in};
 
 use bench_model::{Bench, StoreFault};
@@ -15,7 +16,7 @@ pub fn snapshot_into<B: Bench>(
     at: u32,
     out: &mut [u8],
 ) -> Result<(), StoreFault>
-    requires range { at + length out.old ≤ job.now.algorithm.device.size }
+    requires range { at + length out.old ≤ size_of job.now.board.regions }
     requires stands { IsTrue B.tells → StandsFor job.now (B.state bench.old).file }
     ensures ok { IsTrue B.tells → OnOk result (out.new ≡ take (length out.old) (drop at (snapshot_in job.now (B.state bench.old).file))) }
     ensures reads { OnlyReads B.tells (B.state bench.old) (B.state bench.new) }

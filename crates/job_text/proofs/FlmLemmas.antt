@@ -1,5 +1,5 @@
 -- The device of every FLM file lies in memory.
-use Rattle.std.proofs.Common.{◌≡◌, ℕ, ◌+◌, ◌≤◌, ◌<◌, ◌^◌, Bool, true, false, ◌||◌, cond, eqb, ltb, List, length, Option, Some, None, Result, Ok, Err, refl, ap, subst, arith}
+use Rattle.std.proofs.Common.{◌≡◌, ℕ, ◌+◌, ◌≤◌, ◌^◌, Bool, true, false, ◌||◌, cond, eqb, ltb, List, length, Option, Some, None, Result, Ok, Err, refl, ap, subst, arith}
 use Rattle.std.proofs.lemmas.Bool.{ltb-false}
 use Rattle.std.specs.Option.{option_map}
 use Rattle.faults.specs.Results.{◌>>=◌}
@@ -20,9 +20,9 @@ use Rattle.flm_descriptor.specs.Limits.{page_fault, gap_fault, order_fault, size
 use Rattle.flm_descriptor.specs.Flm.{Described, limits_of, described_of, algorithm_of, flm_of}
 use Rattle.job_text.proofs.Steps.{bind_ok, ok_is}
 
--- a device has some bytes, not more than fit a field, and ends in memory
+-- a device has no more bytes than a board may have, and ends in memory
 pub record IsInMemory (device : Device) : Type 0 where
-  pub small : device.size < 2 ^ 32
+  pub small : device.size ≤ 16777216
   pub ends : device.base + device.size ≤ 2 ^ 32
 
 no_fault : (o : Option FlmFault) → unless o ≡ Ok tt → o ≡ None

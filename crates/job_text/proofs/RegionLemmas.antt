@@ -1,52 +1,76 @@
--- The one region of a job's board.
-use Rattle.std.proofs.Common.{◌≡◌, ℕ, Bool, true, false, eqb, IsTrue, List, [], ◌∷◌, length, Result, Ok, Err, if◌then◌else◌, refl, ap, ◌∙◌}
-use Rattle.std.proofs.lemmas.Bool.{eqb-true, and_parts}
+-- The regions of a job's board, its algorithms and its files.
+use Rattle.std.proofs.Common.{◌≡◌, ◌⊎◌, ◌≤◌, ◌+◌, ℕ, true, eqb, List, [], ◌∷◌, length, slice_get, refl, arith, inl, inr}
+use Rattle.std.proofs.lemmas.List.Sums.{sum_by-cons}
+use Rattle.std.proofs.lemmas.Bool.{eqb-true, and_parts, and_from}
 use Rattle.board_file.specs.declared.region.Region.{Region}
-use Rattle.board_file.specs.declared.fault.BoardFault.{BoardFault}
-use Rattle.board_file.specs.declared.fault.BoardFault.TheVariants as fault
+use Rattle.board_file.specs.Limits.{size_of}
 use Rattle.board_file.specs.Shown as board
-use Rattle.board_file.specs.Text.{reading, IsBoard}
-use Rattle.flm_descriptor.specs.declared.device.Device.{Device}
-use Rattle.job_text.specs.Fits.{is_only_region, HasRegion}
-use Rattle.job_text.specs.Reading.{of_one_region, one_board}
+use Rattle.flm_descriptor.specs.Shown as flm
+use Rattle.algo_loader.specs.Places.{has_room}
+use Rattle.job_text.specs.Fits.{is_device_of, fits, all_fit}
+use Rattle.job_text.specs.Body.{AreFlms}
+use Rattle.job_text.specs.Reading.{fits_in}
+use Rattle.job_text.proofs.CoverLemmas.{AreSmall}
+use Rattle.job_text.proofs.FlmLemmas.{IsInMemory, device_in_memory}
 
--- the region of a list that has one
-record IsOnly (regions : List Region) (device : Device) : Type 0 where
-  region : Region
-  only : regions ≡ region ∷ []
-  base : region.base ≡ device.base
-  size : region.size ≡ device.size
+-- each region has one algorithm, and each file says one
+pub same_count : (b : board.Shown) (rs : List Region) (algorithms : List flm.Shown) → all_fit b rs algorithms ≡ true → length rs ≡ length algorithms
+same_count b [] [] fit = refl
+same_count b [] (a ∷ rest) fit = absurd cc
+same_count b (r ∷ rs) [] fit = absurd cc
+same_count b (r ∷ rs) (a ∷ rest) fit = let p = and_parts (fits b r a) (all_fit b rs rest) fit in omega (arith, same_count b rs rest p.1)
 
-only_of : (regions : List Region) (device : Device) → IsTrue (is_only_region regions device) → IsOnly regions device
-only_of [] device is = absurd cc
-only_of (region ∷ []) device is =
-    let parts = and_parts (eqb region.base device.base) (eqb region.size device.size) is in
-    record { region = region; only = refl; base = eqb-true _ _ parts.0; size = eqb-true _ _ parts.1 }
-only_of (region ∷ next ∷ rest) device is = absurd cc
+pub same_files : (files : List (List ℕ)) (algorithms : List flm.Shown) → AreFlms files algorithms → length files ≡ length algorithms
+same_files [] [] are = refl
+same_files [] (a ∷ rest) are = absurd are
+same_files (f ∷ files) [] are = absurd are
+same_files (f ∷ files) (a ∷ rest) are = omega (arith, same_files files rest are.1)
 
-pub has_region : (b : board.Shown) (device : Device) → IsTrue (is_only_region b.regions device) → HasRegion b device
-has_region b device is = let o = only_of b.regions device is in record { region = o.region; only = o.only; base = o.base; size = o.size }
+-- one algorithm and one region, or two
+pub one_fits : (b : board.Shown) (rs : List Region) (a : flm.Shown) → length rs ≡ 1 → fits_in b (slice_get rs 0) a ≡ true → all_fit b rs (a ∷ []) ≡ true
+one_fits b [] a one fit = absurd (omega (arith, one))
+one_fits b (r ∷ []) a one fit = and_from _ _ fit refl
+one_fits b (r ∷ s ∷ rs) a one fit = absurd (omega (arith, one))
 
--- A text is read as a board of one region exactly where it is read as that board, and this has one region.
+pub two_fit : (b : board.Shown) (rs : List Region) (a c : flm.Shown) → length rs ≡ 2 → fits_in b (slice_get rs 0) a ≡ true → fits_in b (slice_get rs 1) c ≡ true
+    → all_fit b rs (a ∷ c ∷ []) ≡ true
+two_fit b [] a c two first second = absurd (omega (arith, two))
+two_fit b (r ∷ []) a c two first second = absurd (omega (arith, two))
+two_fit b (r ∷ s ∷ []) a c two first second = and_from _ _ first (and_from _ _ second refl)
+two_fit b (r ∷ s ∷ t ∷ rs) a c two first second = absurd (omega (arith, two))
 
-taken : (one : Bool) (x b : board.Shown) (e : BoardFault) → (if one then Ok x else Err e) ≡ Ok b → ◌≡◌ {A = Result board.Shown BoardFault} (Ok x) (Ok b)
-taken true x b e is = is
-taken false x b e is = absurd cc
+pub first_fits : (b : board.Shown) (rs : List Region) (a : flm.Shown) (rest : List flm.Shown) → all_fit b rs (a ∷ rest) ≡ true → fits_in b (slice_get rs 0) a ≡ true
+first_fits b [] a rest fit = absurd cc
+first_fits b (r ∷ rs) a rest fit = (and_parts (fits b r a) (all_fit b rs rest) fit).0
 
-was_read : (r : Result board.Shown BoardFault) (b : board.Shown) → of_one_region r ≡ Ok b → r ≡ Ok b
-was_read (Ok x) b is = taken (eqb (length x.regions) 1) x b fault.ManyRegions is
-was_read (Err e) b is = absurd cc
+pub second_fits : (b : board.Shown) (rs : List Region) (a c : flm.Shown) (rest : List flm.Shown) → all_fit b rs (a ∷ c ∷ rest) ≡ true → fits_in b (slice_get rs 1) c ≡ true
+second_fits b [] a c rest fit = absurd cc
+second_fits b (r ∷ []) a c rest fit = let p = and_parts (fits b r a) (all_fit b [] (c ∷ rest)) fit in absurd cc
+second_fits b (r ∷ s ∷ rs) a c rest fit =
+    let p = and_parts (fits b r a) (all_fit b (s ∷ rs) (c ∷ rest)) fit in
+    (and_parts (fits b s c) (all_fit b rs rest) p.1).0
 
-pub read_of_one : (text : List ℕ) (b : board.Shown) → one_board text ≡ Ok b → IsBoard text b
-unfolding one_board
-read_of_one text b is = was_read (reading text) b is
+-- regions have as few bytes as the devices of FLM files
+pub small_regions : (b : board.Shown) (rs : List Region) (algorithms : List flm.Shown) (files : List (List ℕ)) → all_fit b rs algorithms ≡ true → AreFlms files algorithms → AreSmall rs
+small_regions b [] algorithms files fit are = tt
+small_regions b (r ∷ rs) [] files fit are = absurd cc
+small_regions b (r ∷ rs) (a ∷ rest) [] fit are = absurd are
+small_regions b (r ∷ rs) (a ∷ rest) (f ∷ files) fit are =
+    let p = and_parts (fits b r a) (all_fit b rs rest) fit in
+    let q = and_parts (is_device_of r a.device) (has_room a b) p.0 in
+    let size : r.size ≡ a.device.size = eqb-true _ _ (and_parts (eqb r.base a.device.base) (eqb r.size a.device.size) q.0).1 in
+    let memory : IsInMemory a.device = device_in_memory f a are.0 in
+    (omega (arith, size, memory.small), small_regions b rs rest files p.1 are.1)
 
-of_one : (b : board.Shown) (regions : List Region) (device : Device) → IsTrue (is_only_region regions device)
-    → ◌≡◌ {A = Result board.Shown BoardFault} (if eqb (length regions) 1 then Ok b else Err fault.ManyRegions) (Ok b)
-of_one b [] device is = absurd cc
-of_one b (region ∷ []) device is = refl
-of_one b (region ∷ next ∷ rest) device is = absurd cc
+size_of-cons : (r : Region) (rs : List Region) → size_of (r ∷ rs) ≡ r.size + size_of rs
+size_of-cons r rs = sum_by-cons (λ (q : Region). q.size) r rs
 
-pub one_of_read : (text : List ℕ) (b : board.Shown) (device : Device) → IsBoard text b → IsTrue (is_only_region b.regions device) → one_board text ≡ Ok b
-unfolding one_board
-one_of_read text b device read only = ap of_one_region read ∙ of_one b b.regions device only
+pub few_cells : (rs : List Region) → length rs ≤ 2 → AreSmall rs → size_of rs ≤ 33554432
+few_cells [] few small = omega arith
+few_cells (r ∷ []) few small = omega (arith, size_of-cons r [], small.0)
+few_cells (r ∷ s ∷ []) few small = omega (arith, size_of-cons r (s ∷ []), size_of-cons s [], small.0, small.1)
+few_cells (r ∷ s ∷ t ∷ rs) few small = absurd (omega (arith, few))
+
+pub at_most_two : (n : ℕ) → (n ≡ 1) ⊎ (n ≡ 2) → n ≤ 2
+at_most_two n (inl one) = omega (arith, one)
+at_most_two n (inr two) = omega (arith, two)

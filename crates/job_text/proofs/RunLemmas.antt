@@ -1,16 +1,17 @@
 -- A run added behind the others.
-use Rattle.std.proofs.Common.{◌≡◌, ◌↔◌, ◌≤◌, ◌<◌, ◌+◌, ◌-◌, ◌^◌, ℕ, zero, suc, Bool, true, false, cond, leb, IsTrue, List, [], ◌∷◌, ◌++◌, length, get_or, Option, Some, None, refl, sym, ap, subst, ◌∙◌, inl, inr, arith, length-append}
-use Rattle.std.specs.Prelude.{slice_get}
-use Rattle.std.proofs.lemmas.Bool.{leb-true, le-leb, cases_lt}
+use Rattle.std.proofs.Common.{◌≡◌, ◌≤◌, ◌<◌, ◌+◌, ◌-◌, ◌^◌, ℕ, zero, suc, Bool, true, false, cond, List, [], ◌∷◌, ◌++◌, length, get_or, Option, Some, None, refl, sym, ap, subst, ◌∙◌, inl, inr, arith, length-append}
+use Rattle.std.proofs.lemmas.Bool.{cases_lt}
 use Rattle.std.proofs.lemmas.List.{get_or_append_left, get_or-append_right}
-use Rattle.std.proofs.lemmas.Option.{get_or_from_slice_get}
-use Rattle.byte_map.specs.Image.{Run, run_at, end_of, holds, byte_of, byte_at, AreMaximal}
+use Rattle.byte_map.specs.Image.{Run, addresses, run_at, end_of, holds, byte_of, byte_at, AreMaximal}
 use Rattle.byte_map.specs.Laying.{Lays, IsFirstClash}
-use Rattle.byte_map.proofs.Runs.{holds_between, holds_no_lower, holds_no_higher, held_from, held_to, not_held, maximal_put, none_of, or_else, byte_at-append, each_run}
+use Rattle.byte_map.proofs.Runs.{holds_between, holds_no_lower, holds_no_higher, held_from, held_to, not_held, maximal_put, none_of, or_else, byte_at-append}
 use Rattle.byte_map.proofs.Joined.{one_run, no_run}
 use Rattle.byte_map.proofs.Sides.{at_left, at_right}
 use Rattle.byte_map.proofs.OneList.{one_list}
+use Rattle.board_file.specs.declared.region.Region.{Region}
+use Rattle.job_text.specs.Fits.{AreCovered}
 use Rattle.job_text.specs.Runs.{EndBelow, EndBy, AreShort, run_of, with_run}
+use Rattle.job_text.proofs.CoverLemmas.{AreSmall, each_covered, covers_small}
 
 -- where the later run has a byte, none of those before it has
 none_before : (image : List Run) (r : Run) (a : ℕ) → EndBelow r.at image → r.at ≤ a → byte_at image a ≡ None
@@ -117,59 +118,16 @@ with_run_ends image at (b ∷ bs) below k lt = elim (cases_lt k (length image)) 
       subst (λ (r : Run). end_of r ≤ at + length (b ∷ bs)) (sym (at_right image (run_of at (b ∷ bs) ∷ []) k last ∙ ap (run_at (run_of at (b ∷ bs) ∷ [])) is)) (omega arith)
 ]
 
--- maximal runs within wider bounds
-pub maximal_within : (low end : ℕ) (rs : List Run) → end ≤ 2 ^ 32 → AreMaximal low end rs → AreMaximal 0 (2 ^ 32) rs
-maximal_within low end rs small m = above 0 low end rs small (omega arith) m
+-- runs in small regions fit their fields
+pub short_runs : (regions : List Region) (rs : List Run) → AreSmall regions → length regions ≤ 2 → AreMaximal 0 addresses rs → AreCovered regions rs → AreShort rs
+short_runs regions rs small few m covered k lt = each 0 rs m covered k lt
   where
-    above : (low' low end : ℕ) (rs : List Run) → end ≤ 2 ^ 32 → low' ≤ low → AreMaximal low end rs → AreMaximal low' (2 ^ 32) rs
-    above low' low end [] small le m = tt
-    above low' low end (r ∷ rs) small le m = (omega (arith, le, m.0), m.1, omega (arith, small, m.2), above (end_of r + 1) (end_of r + 1) end rs small (omega arith) m.3)
-
--- the runs of an image in a region of fewer than 2 ^ 32 bytes fit their fields
-pub short_runs : (base size : ℕ) (rs : List Run) → size < 2 ^ 32 → AreMaximal base (base + size) rs → AreShort rs
-short_runs base size rs small m k lt = let r = each_run base (base + size) rs k m lt in omega (arith, r.0, r.2, small)
-
--- the first and the last run decide where an image lies
-lies_from : (low end : ℕ) (rs : List Run) (last : ℕ) → AreMaximal 0 (2 ^ 32) rs → length rs ≡ suc last → low ≤ (run_at rs 0).at → end_of (run_at rs last) ≤ end → AreMaximal low end rs
-lies_from low end [] last m long from to = tt
-lies_from low end (r ∷ []) zero m long from to = (from, m.1, to, tt)
-lies_from low end (r ∷ []) (suc last) m long from to = absurd (omega (arith, long))
-lies_from low end (r ∷ s ∷ rs) zero m long from to = absurd (omega (arith, long))
-lies_from low end (r ∷ s ∷ rs) (suc last) m long from to =
-    let later = m.3 in
-    let rest = lies_from (end_of r + 1) end (s ∷ rs) last (omega arith, later.1, later.2, later.3) (omega (arith, long)) later.0 to in
-    (from, m.1, omega (arith, rest.0, rest.1, rest.2), rest)
-
-first_run : (rs : List Run) (i : ℕ) (r : Run) → slice_get rs i ≡ Some r → run_at rs i ≡ r
-first_run rs i r is = get_or_from_slice_get rs i r (record { at = 0; bytes = [] }) is
-
-abbrev LiesIn : ℕ → ℕ → List Run → Type 0
-LiesIn low end rs = (1 ≤ length rs) × AreMaximal low end rs
-
--- an image that begins high enough lies there exactly where it ends low enough
-pub lies_by_end : (low end : ℕ) (rs : List Run) (count n : ℕ) (first last : Run) → AreMaximal 0 (2 ^ 32) rs → count ≡ length rs → (count ≡ 0 → ⊥)
-    → slice_get rs 0 ≡ Some first → slice_get rs (count - 1) ≡ Some last → low ≤ first.at → n ≡ end_of last → IsTrue (leb n end) ↔ LiesIn low end rs
-lies_by_end low end rs count n first last m many some begins ends from is = (
-  (λ to.
-      let at_first : low ≤ (run_at rs 0).at = subst (λ (r : Run). low ≤ r.at) (sym (first_run rs 0 first begins)) from in
-      let small : n ≤ end = leb-true n end to in
-      let at_last : end_of (run_at rs (count - 1)) ≤ end = subst (λ (r : Run). end_of r ≤ end) (sym (first_run rs (count - 1) last ends)) (omega (arith, is, small)) in
-      (omega (arith, many, some), lies_from low end rs (count - 1) m (omega (arith, many, some)) at_first at_last)),
-  (λ lies.
-      let last_ends : end_of (run_at rs (count - 1)) ≤ end = (each_run low end rs (count - 1) lies.1 (omega (arith, many, some))).2 in
-      let last_is : end_of last ≤ end = subst (λ (r : Run). end_of r ≤ end) (first_run rs (count - 1) last ends) last_ends in
-      le-leb n end (omega (arith, is, last_is))),
-)
-
--- an image that begins too low lies nowhere there
-pub lies_too_low : (low end : ℕ) (rs : List Run) (n : ℕ) (first : Run) → slice_get rs 0 ≡ Some first → n ≡ first.at → n < low → IsTrue (leb low n) ↔ LiesIn low end rs
-lies_too_low low end rs n first begins is less = (
-  (λ from. let le : low ≤ n = leb-true low n from in absurd (omega (arith, le, less))),
-  (λ lies.
-      let first_from : low ≤ (run_at rs 0).at = (each_run low end rs 0 lies.1 lies.0).0 in
-      let le : low ≤ first.at = subst (λ (r : Run). low ≤ r.at) (first_run rs 0 first begins) first_from in
-      absurd (omega (arith, le, less, is))),
-)
+    each : (low : ℕ) (rs : List Run) → AreMaximal low addresses rs → AreCovered regions rs → (k : ℕ) → k < length rs → length (run_at rs k).bytes < 2 ^ 32
+    each low [] m covered k lt = absurd (omega arith)
+    each low (r ∷ rs) m covered zero lt =
+        let test = each_covered regions r.at (end_of r) few (omega (arith, m.1)) covered.0 in
+        omega (arith, covers_small regions r.at (end_of r) small test)
+    each low (r ∷ rs) m covered (suc k) lt = each (end_of r + 1) rs m.3 covered.1 k (omega (arith, lt))
 
 -- with one run more behind them
 pub end_below_more : (image : List Run) (r : Run) (from next : ℕ) → EndBelow from image → from ≤ r.at → end_of r < next → EndBelow next (image ++ r ∷ [])

@@ -1,5 +1,6 @@
 pub mod Files
 pub mod Fits
+pub mod Said
 pub mod Body
 pub mod Reading
 pub mod Shown

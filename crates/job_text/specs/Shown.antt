@@ -1,16 +1,17 @@
 -- What the code's readers answer, against the definitions.
-use Rattle.std.specs.Prelude.{◌≡◌, ℕ, Result, Ok, Err}
+use Rattle.std.specs.Prelude.{◌≡◌, ℕ, true, false, List, Option, Some, None, Result, Ok, Err}
 use Rattle.board_file.specs.Shown as board
-use Rattle.flm_descriptor.specs.Shown as flm
 use Rattle.job_text.specs.declared.fault.JobFault.{JobFault}
 use Rattle.job_text.specs.declared.fault.JobFault.TheVariants.{OutOfMemory, NotAJob}
+use Rattle.job_text.specs.declared.damage.Damage.{Damage}
 use Rattle.job_text.specs.declared.job.Class.TheVariants as code
 use Rattle.job_text.specs.declared.job.Job.{Job}
 use Rattle.job_text.specs.declared.job.Class.{Class}
+use Rattle.job_text.specs.Said.{algorithms_shown}
 use Rattle.job_text.specs.Reading as reading
 
 abbrev pub seen_job : Job → reading.Seen
-seen_job j = record { board = board.shown j.board; algorithm = flm.shown j.algorithm; image = j.image; snapshot_at = j.snapshot_at }
+seen_job j = record { board = board.shown j.board; algorithms = algorithms_shown j.algorithms; image = j.image; snapshot_at = j.snapshot_at }
 
 -- what a function returned, seen by `view`, is what is read, unless memory ran out
 abbrev pub Fails : {Y : Type 0} → JobFault → Result Y ℕ → Type 0
@@ -25,4 +26,10 @@ Gives view (Err e) read = Fails e read
 abbrev pub IsClass : ℕ → Class → reading.Class → Type 0
 IsClass whole code.Free c = c ≡ reading.free
 IsClass whole (code.Stands job) c = (found : reading.Found) × (c ≡ reading.stands found) × (reading.seen whole found ≡ seen_job job)
+IsClass whole (code.Damaged damage) c = c ≡ reading.damaged damage.kept damage.found
 IsClass whole (code.NotAJob at) c = c ≡ reading.not_a_job at
+
+-- the hashes of a body that differ, or none where it isn't damaged
+abbrev pub IsDamage : Option Damage → List ℕ → Type 0
+IsDamage None body = reading.is_damaged body ≡ false
+IsDamage (Some damage) body = (reading.is_damaged body ≡ true) × (damage.kept ≡ reading.kept_in body) × (damage.found ≡ reading.found_in body)

@@ -9,8 +9,11 @@ use byteorder::{ByteOrder, LittleEndian};
 use octets::le32;
 use std::alloc::AllocError;
 
-/// What a body begins with: `FLMJOB1`.
-pub const MARK: [u8; 7] = [70, 76, 77, 74, 79, 66, 49];
+/// What a body of the first format begins with: `FLMJOB1`.
+pub const FIRST_MARK: [u8; 7] = [70, 76, 77, 74, 79, 66, 49];
+
+/// What a body of the second format begins with: `FLMJOB2`.
+pub const SECOND_MARK: [u8; 7] = [70, 76, 77, 74, 79, 66, 50];
 
 /// Takes a field. `whole` is the file's length, which is answered where the bytes end too early.
 pub fn take_number(whole: u64, bytes: &[u8]) -> Result<(u32, &[u8]), JobFault>
@@ -37,13 +40,13 @@ pub fn take_text(whole: u64, len: u32, bytes: &[u8]) -> Result<(&[u8], &[u8]), J
     Ok(bytes.split_at(len))
 }
 
-/// Takes the mark.
+/// Takes the mark of the first format.
 pub fn take_mark(bytes: &[u8]) -> Result<&[u8], JobFault>
     requires { 7 ≤ length bytes.now }
     ensures gives { Gives (λ x. x.now) result (mark_at bytes.now) }
     ensures taken { IfOk result (λ x. length bytes.now ≤ length x.now + 7) }
 {
-    if bytes.starts_with(&MARK) {
+    if bytes.starts_with(&FIRST_MARK) {
         Ok(&bytes[7..])
     } else {
         Err(JobFault::NotAJob { at: 1 })

@@ -1,51 +1,109 @@
-//! Whether board, algorithm and image go together in a job.
-ghost use Rattle.std.specs.Prelude.{◌≡◌, ◌≤◌, ◌↔◌, IsTrue, length};
+//! Whether board, algorithms and image go together in a job.
+ghost use Rattle.std.specs.Prelude.{◌≡◌, ◌≤◌, ◌+◌, ◌↔◌, IsTrue, length, slice_get};
 ghost use Rattle.board_file.specs.Shown.{shown as board_shown};
 ghost use Rattle.flm_descriptor.specs.Shown.{shown as flm_shown};
 ghost use Rattle.byte_map.specs.Image.{AreMaximal};
-ghost use Rattle.job_text.specs.Fits.{is_only_region, fits, Suits};
+ghost use Rattle.job_text.specs.Fits.{is_device_of, fits, all_fit, holds, LiesIn, Suits};
+ghost use Rattle.job_text.specs.Reading.{fits_in, reach, covers, all_covered};
+ghost use Rattle.job_text.specs.Said.{algorithms_shown};
 
 use algo_loader::place;
 use board_file::{Board, Region};
 use byte_map::ByteMap;
 use flm_descriptor::{Algorithm, Device};
 
-/// Whether a device is the only one of some regions.
-fn is_only_region(regions: &[Region], device: &Device) -> bool
-    ensures { result ≡ is_only_region regions.now device.now }
+/// Whether a device is this region.
+fn is_device_of(region: &Region, device: &Device) -> bool
+    ensures { result ≡ is_device_of region.now device.now }
 {
-    match regions {
-        [region] => region.base == device.base && region.size == device.size,
-        _ => false,
+    region.base == device.base && region.size == device.size
+}
+
+/// Whether an algorithm is one for a region of a board: its device is the region, and it has room on the board.
+pub fn fits(board: &Board, region: &Region, algorithm: &Algorithm) -> bool
+    ensures { result ≡ fits (board_shown board.now) region.now (flm_shown algorithm.now) }
+{
+    is_device_of(region, &algorithm.device) && place(algorithm, board).is_ok()
+}
+
+/// Whether an algorithm is one for the region of this number.
+pub fn fits_in(board: &Board, index: usize, algorithm: &Algorithm) -> bool
+    ensures { result ≡ fits_in (board_shown board.now) (slice_get board.now.regions index) (flm_shown algorithm.now) }
+{
+    let regions = board.regions.as_slice();
+    index < regions.len() && fits(board, &regions[index], algorithm)
+}
+
+/// Whether an address lies in a region.
+fn holds(region: &Region, at: u64) -> bool
+    ensures { result ≡ holds region.now at }
+{
+    u64::from(region.base) <= at && at < u64::from(region.base) + u64::from(region.size)
+}
+
+/// The end of the first of these regions that holds the address; the address itself where none does.
+fn reach(regions: &[Region], at: u64) -> u64
+    ensures { result ≡ reach regions.now at }
+{
+    'regions: for region in regions {
+        if holds(region, at) {
+            return u64::from(region.base) + u64::from(region.size);
+        }
     }
+    at
 }
 
-/// Whether the algorithm's device is the board's region, and it has room on the board.
-pub fn fits(board: &Board, algorithm: &Algorithm) -> bool
-    ensures { result ≡ fits (board_shown board.now) (flm_shown algorithm.now) }
+/// Whether each address from one to before another lies in one of at most two regions.
+pub fn covers(regions: &[Region], from: u64, to: u64) -> bool
+    ensures { result ≡ covers regions.now from to }
 {
-    is_only_region(board.regions.as_slice(), &algorithm.device) && place(algorithm, board).is_ok()
+    to <= reach(regions, reach(regions, from))
 }
 
-/// Whether an image has a byte, and all of its bytes lie at `low` or above it, and below `end`.
-fn lies_in(image: &ByteMap, low: u64, end: u64) -> bool
-    ensures { IsTrue result ↔ ((1 ≤ length image.now) × AreMaximal low end image.now) }
+/// Whether each of so many runs of an image lies in one of at most two regions, or goes from one into the other.
+fn all_covered(regions: &[Region], image: &ByteMap, count: usize) -> bool
+    requires { count ≡ length image.now }
+    ensures { result ≡ all_covered regions.now image.now }
+{
+    'each: for index in 0..count {
+        let (at, bytes) = image.run(index);
+        let from = u64::from(at);
+        if !covers(regions, from, from + bytes.len() as u64) {
+            return false;
+        }
+    }
+    true
+}
+
+/// Whether each byte of an image lies in one of at most two regions.
+fn lies_in(regions: &[Region], image: &ByteMap) -> bool
+    requires { length regions.now ≤ 2 }
+    ensures { IsTrue result ↔ LiesIn regions.now image.now }
 {
     let count = image.runs();
-    if count == 0 {
-        return false;
-    }
-    let (first, _) = image.run(0);
-    let (last, bytes) = image.run(count - 1);
-    low <= u64::from(first) && u64::from(last) + bytes.len() as u64 <= end
+    all_covered(regions, image, count)
 }
 
-/// Whether board, algorithm and image go together in a job: the algorithm's device is the board's region, the algorithm has
-/// room in the board's RAM, and the image isn't empty and lies in the region.
-pub fn suits(board: &Board, algorithm: &Algorithm, image: &ByteMap) -> bool
-    ensures { IsTrue result ↔ Suits (board_shown board.now) (flm_shown algorithm.now) image.now }
+/// Whether each region of a board has its algorithm.
+fn all_fit(board: &Board, algorithms: &[Algorithm]) -> bool
+    ensures { result ≡ all_fit (board_shown board.now) board.now.regions (algorithms_shown algorithms.now) }
 {
-    let low = u64::from(algorithm.device.base);
-    let end = low + u64::from(algorithm.device.size);
-    fits(board, algorithm) && lies_in(image, low, end)
+    let regions = board.regions.as_slice();
+    if regions.len() != algorithms.len() {
+        return false;
+    }
+    'regions: for index in 0..regions.len() {
+        if !fits(board, &regions[index], &algorithms[index]) {
+            return false;
+        }
+    }
+    true
+}
+
+/// Whether board, algorithms and image go together in a job: each region of the board has its algorithm, whose device it is
+/// and which has room in the board's RAM, and the image isn't empty and lies in the regions.
+pub fn suits(board: &Board, algorithms: &[Algorithm], image: &ByteMap) -> bool
+    ensures { IsTrue result ↔ Suits (board_shown board.now) (algorithms_shown algorithms.now) image.now }
+{
+    all_fit(board, algorithms) && image.runs() > 0 && lies_in(board.regions.as_slice(), image)
 }

@@ -1,37 +1,57 @@
 //! A job in memory.
-ghost use Rattle.std.specs.Prelude.{◌≤◌, ◌<◌, ◌^◌, IsTrue, length};
+ghost use Rattle.std.specs.Prelude.{◌≡◌, ◌≤◌, ◌<◌, ◌^◌, IsTrue, length};
 ghost use Rattle.board_file.specs.Shown.{shown as board_shown};
-ghost use Rattle.flm_descriptor.specs.Shown.{shown as flm_shown};
-ghost use Rattle.algo_loader.specs.Places.{has_room};
-ghost use Rattle.job_text.specs.Fits.{is_only_region, LiesIn, LiesIn-prop};
+ghost use Rattle.board_file.specs.Limits.{size_of};
+ghost use Rattle.job_text.specs.Fits.{all_fit, LiesIn, LiesIn-prop};
+ghost use Rattle.job_text.specs.Said.{algorithms_shown};
 
+use crate::algorithms::Algorithms;
+use crate::damage::Damage;
 use board_file::Board;
 use byte_map::ByteMap;
-use flm_descriptor::Algorithm;
 
-/// A job: an image to be programmed on a board by an algorithm, over the contents that the device had when the job began.
+/// How many cells the regions of a board have.
+pub fn cells_in(board: &Board) -> u32
+    ensures { result ≡ size_of board.now.regions }
+{
+    let mut cells = 0;
+    'regions: for region in board.regions.as_slice() {
+        cells += region.size;
+    }
+    cells
+}
+
+/// A job: an image to be programmed on a board by algorithms, over the contents that the device had when the job began.
 /// Addresses are those of the board, in bytes; a cell is a byte.
 #[derive(Drop)]
 pub struct Job {
-    /// The board, with one region of flash.
+    /// The board.
     pub board: Board,
-    /// The algorithm.
-    pub algorithm: Algorithm,
+    /// The algorithm of each of its regions.
+    pub algorithms: Algorithms,
     /// What is to be programmed, by address.
     pub image: ByteMap,
-    /// Where in the job file the snapshot begins, to the file's end: the cells of the region as they were, from its base on.
+    /// Where in the job file the snapshot begins, to the file's end: the cells as they were, region after region.
     pub snapshot_at: u64,
 
-    // The algorithm's device is the board's region, and the algorithm has room in the board's RAM.
-    pub ghost region: { IsTrue (is_only_region board.regions algorithm.device) },
-    pub ghost room: { IsTrue (has_room (flm_shown algorithm) (board_shown board)) },
+    // Each region is the device of its algorithm, which has room in the board's RAM.
+    pub ghost fit: { IsTrue (all_fit (board_shown board) board.regions (algorithms_shown algorithms)) },
 
-    // The image isn't empty and lies in the region.
+    // The image isn't empty and lies in the regions.
     pub ghost some: { 1 ≤ length image },
-    pub ghost inside: { LiesIn algorithm.device image } by { LiesIn-prop algorithm.device image },
+    pub ghost inside: { LiesIn board.regions image } by { LiesIn-prop board.regions image },
 
     // Heads, texts and runs before it are no longer than this.
     pub ghost early: { snapshot_at < 2 ^ 34 },
+}
+
+impl Job {
+    /// How many cells its regions have.
+    pub fn cells(&self) -> u32
+        ensures { result ≡ size_of self.now.board.regions }
+    {
+        cells_in(&self.board)
+    }
 }
 
 /// What a job file is.
@@ -41,6 +61,8 @@ pub enum Class {
     Free,
     /// Its gate is open before the body of a job.
     Stands(Job),
-    /// Neither; the offset shows the first check that fails.
+    /// Its gate is open before a body of the second format, whose hash isn't the one that it keeps.
+    Damaged(Damage),
+    /// None of these; the offset shows the first check that fails.
     NotAJob { at: u64 },
 }

@@ -1,13 +1,19 @@
-//! The text of a job file: the one body of a job, and a file read as free, as one that stands for a job, or as neither.
+//! The text of a job file: the one body of a job, and a file read as free, as one that stands for a job, as damaged, or as
+//! none of these.
 //!
-//! A job file is a gate, byte 0, and a body behind it. A body is the mark `FLMJOB1`, four lengths, the text of a board, an
-//! FLM file, the runs of an image, and a snapshot of the device. A field is a number of 32 bits, the low byte first.
+//! A job file is a gate, byte 0, and a body behind it. A body of the second format is the mark `FLMJOB2`, the SHA-256 of all
+//! that is behind it, six lengths, the text of a board, an FLM file for each of its regions, the runs of an image, and a
+//! snapshot of the device. The first format, which is read and not written, has the mark `FLMJOB1`, no hash, four lengths and
+//! one FLM file. A field is a number of 32 bits, the low byte first.
 #![tactic(auto)]
 
+mod algorithms;
 mod class;
+mod damage;
 mod fault;
 mod fields;
 mod fitting;
+mod format;
 mod head;
 mod job;
 mod law;
@@ -15,12 +21,17 @@ mod parts;
 mod runs;
 mod texts;
 
+pub use algorithms::Algorithms;
 pub use class::class_of_file;
+pub use damage::Damage;
 pub use fault::JobFault;
-pub use fitting::{fits, suits};
-pub use head::{Head, take_head};
-pub use job::{Class, Job};
-pub use law::{bodies_have_one_job, files_have_one_class, jobs_have_one_region, parts_make_a_job};
+pub use fitting::{covers, fits_in, suits};
+pub use format::{Format, format_of};
+pub use head::{Head, Places, places_in, take_head};
+pub use job::{Class, Job, cells_in};
+pub use law::{
+    bodies_have_one_job, damaged_files_have_no_job, files_have_one_class, parts_make_a_job,
+};
 pub use parts::{JobParts, head_text, run_head};
 pub use runs::add_piece;
-pub use texts::{algorithm_in, board_in};
+pub use texts::{algorithm_in, are_files, board_in};

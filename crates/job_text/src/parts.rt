@@ -1,44 +1,75 @@
-//! A body as it is written.
-ghost use Rattle.std.specs.Prelude.{◌≡◌, ◌<◌, ◌^◌, ◌++◌, length, IfOk, OnOk};
-ghost use Rattle.job_text.specs.Body.{field};
-ghost use Rattle.job_text.specs.Parts.{AreParts, head_of_parts};
+//! A body as it is written, in the second format.
+ghost use Rattle.std.specs.Prelude.{◌≡◌, ◌<◌, ◌^◌, ◌++◌, length, option_copied, IfOk, OnOk};
+ghost use Rattle.job_text.specs.Body.{field, flm_len};
+ghost use Rattle.job_text.specs.Parts.{AreParts, files_with, flms_of, lengths_of, head_of_parts};
 
-use crate::fields::{MARK, put_number};
+use crate::fields::{SECOND_MARK, put_number};
 use byte_map::ByteMap;
 use byteorder::{ByteOrder, LittleEndian};
 use faults::OutOfMemory;
 use std::alloc::{AllocError, Global};
 
-/// All of a job but its snapshot: the text of its board, its FLM file, its image, and how many cells there are.
+/// The bytes of a body up to its lengths: the mark and the hash.
+const HASH_END: usize = 39;
+
+/// All of a job but its snapshot: the text of its board, an FLM file for each region, its image, and how many cells there are.
 #[derive(Clone, Copy)]
 pub struct JobParts<'a> {
     pub board: &'a [u8],
     pub flm: &'a [u8],
+    pub second: Option<&'a [u8]>,
     pub image: &'a ByteMap,
     pub size: u32,
 }
 
-/// Appends the four lengths behind the mark.
+/// Appends three numbers.
+fn put_three(out: &mut Vec<u8>, first: u32, second: u32, third: u32) -> Result<(), AllocError>
+    ensures { OnOk result (out.new.items ≡ out.old.items ++ field first ++ field second ++ field third) }
+{
+    put_number(out, first)?;
+    put_number(out, second)?;
+    put_number(out, third)
+}
+
+/// Appends how many FLM files there are, and the length of each, or 0.
+fn put_file_lengths(
+    out: &mut Vec<u8>,
+    first: &[u8],
+    second: Option<&[u8]>,
+) -> Result<(), AllocError>
+    requires first { length first.now < 2 ^ 32 }
+    requires second { flm_len (files_with first.now (option_copied second)) 1 < 2 ^ 32 }
+    ensures { OnOk result (out.new.items ≡ out.old.items ++ field (length (files_with first.now (option_copied second.entry)))
+        ++ field (flm_len (files_with first.now (option_copied second.entry)) 0) ++ field (flm_len (files_with first.now (option_copied second.entry)) 1)) }
+{
+    match second {
+        None => put_three(out, 1, first.len() as u32, 0),
+        Some(second) => put_three(out, 2, first.len() as u32, second.len() as u32),
+    }
+}
+
+/// Appends the six lengths behind the hash.
 fn put_lengths(out: &mut Vec<u8>, parts: &JobParts) -> Result<(), AllocError>
     requires board { length parts.now.board.now < 2 ^ 32 }
-    requires flm { length parts.now.flm.now < 2 ^ 32 }
+    requires first { length parts.now.flm.now < 2 ^ 32 }
+    requires second { flm_len (flms_of parts.now) 1 < 2 ^ 32 }
     requires image { length parts.now.image.now < 2 ^ 32 }
-    ensures { OnOk result (out.new.items ≡ out.old.items ++ field (length parts.now.board.now)
-        ++ field (length parts.now.flm.now) ++ field (length parts.now.image.now) ++ field parts.now.size) }
+    ensures { OnOk result (out.new.items ≡ out.old.items ++ lengths_of parts.now) }
 {
     put_number(out, parts.board.len() as u32)?;
-    put_number(out, parts.flm.len() as u32)?;
+    put_file_lengths(out, parts.flm, parts.second)?;
     put_number(out, parts.image.runs() as u32)?;
     put_number(out, parts.size)
 }
 
-/// What stands before the board's text: the mark and the four lengths, which are 23 bytes.
+/// What stands before the board's text: the mark, zeros in the place of the hash, and the six lengths, which are 63 bytes.
 pub fn head_text(alloc: Global, parts: &JobParts) -> Result<Vec<u8>, OutOfMemory>
     requires { AreParts parts.now }
     ensures { IfOk result (λ v. v.items ≡ head_of_parts parts.now) }
 {
     let mut out = Vec::new(alloc);
-    out.extend_from_slice(&MARK)?;
+    out.extend_from_slice(&SECOND_MARK)?;
+    out.resize(HASH_END, 0)?;
     put_lengths(&mut out, parts)?;
     Ok(out)
 }

@@ -5,6 +5,19 @@ use anyhow::{Context, Result, bail};
 use std::alloc::Global;
 use std::fs;
 
+/// Writes the bytes of pairs of hexadecimal digits from a place on.
+fn write(file: &mut [u8], at: usize, digits: &str) -> Result<()> {
+    for (index, pair) in digits.as_bytes().chunks(2).enumerate() {
+        let value = u8::from_str_radix(std::str::from_utf8(pair)?, 16)?;
+        let place = at.checked_add(index).context("a place is wanted")?;
+        match file.get_mut(place) {
+            Some(byte) => *byte = value,
+            None => bail!("{place}: past the end"),
+        }
+    }
+    Ok(())
+}
+
 /// The bytes of pairs of hexadecimal digits, appended.
 fn append(file: &mut Vec<u8>, digits: &str) -> Result<()> {
     for pair in digits.as_bytes().chunks(2) {
@@ -14,10 +27,10 @@ fn append(file: &mut Vec<u8>, digits: &str) -> Result<()> {
     Ok(())
 }
 
-/// Changes a file as a word says it: `AT=VALUE` writes a byte, the place in decimal digits and the byte in hexadecimal ones;
+/// Changes a file as a word says it: `AT=BYTES` writes bytes, the place in decimal digits and the bytes in hexadecimal ones;
 /// `cut=LEN` cuts the file; `more=BYTES` appends bytes.
 fn change(file: &mut Vec<u8>, word: &str) -> Result<()> {
-    let (at, value) = word.split_once('=').context("a change is AT=VALUE")?;
+    let (at, value) = word.split_once('=').context("a change is AT=BYTES")?;
     if at == "cut" {
         file.truncate(value.parse::<usize>()?);
         return Ok(());
@@ -25,12 +38,7 @@ fn change(file: &mut Vec<u8>, word: &str) -> Result<()> {
     if at == "more" {
         return append(file, value);
     }
-    let at = at.parse::<usize>()?;
-    match file.get_mut(at) {
-        Some(byte) => *byte = u8::from_str_radix(value, 16)?,
-        None => bail!("{at}: past the end"),
-    }
-    Ok(())
+    write(file, at.parse::<usize>()?, value)
 }
 
 /// The job's file, changed as the words say.
@@ -50,35 +58,72 @@ fn put_changed(rt: &HostRuntime, job: &[u8], line: &str) -> Result<()> {
     Ok(())
 }
 
-/// Reads each file of the changes, a line for each: its name, and its changes.
-pub fn read_changed(rt: &HostRuntime, job: &[u8]) -> Result<()> {
-    let changes = fs::read_to_string(rt, "changes.txt")?;
+/// Reads each file of the changes under a name, a line for each: its name, and its changes.
+pub fn read_changed(rt: &HostRuntime, job: &[u8], name: &str) -> Result<()> {
+    let changes = fs::read_to_string(rt, name)?;
     for line in changes.lines() {
         put_changed(rt, job, line)?;
     }
     Ok(())
 }
 
-/// Whether so many bytes at the beginning of the job's file are refused at their length. Others are named.
-fn refused(rt: &HostRuntime, job: &[u8], prefix: &[u8]) -> Result<bool> {
-    let len = prefix.len();
-    match class(rt.alloc(), prefix, job)? {
-        Found::NotAJob { at } if at == len as u64 => Ok(true),
-        found => {
-            println!(rt; "{len} bytes: {found}")?;
-            Ok(false)
-        }
+/// How many of some files are of a class.
+#[derive(Clone, Copy, Default)]
+struct Count {
+    free: u64,
+    not_a_job: u64,
+    damaged: u64,
+    jobs: u64,
+}
+
+impl Count {
+    /// Counts a file.
+    fn count(&mut self, found: Found) {
+        let count = match found {
+            Found::Free { .. } => &mut self.free,
+            Found::NotAJob { .. } => &mut self.not_a_job,
+            Found::Damaged => &mut self.damaged,
+            Found::Job | Found::AnotherJob => &mut self.jobs,
+        };
+        *count = count.saturating_add(1);
     }
 }
 
-/// Reads every proper prefix of the job's file, and names each that isn't refused at its length.
+/// Reads every proper prefix of the job's file, and counts how many are refused at their length, and how many as damaged. Others are named.
 pub fn read_prefixes(rt: &HostRuntime, job: &[u8]) -> Result<()> {
-    let mut count = 0usize;
+    let mut count = Count::default();
     for len in 0..job.len() {
-        if refused(rt, job, &job[..len])? {
-            count += 1;
+        match class(rt.alloc(), &job[..len], job)? {
+            Found::NotAJob { at } if at != len as u64 => bail!("{len} bytes: not a job at {at}"),
+            found => {
+                if matches!(found, Found::NotAJob { .. } | Found::Damaged) {
+                    count.count(found);
+                } else {
+                    println!(rt; "{len} bytes: {found}")?;
+                }
+            }
         }
     }
-    println!(rt; "{count} prefixes: not a job at their length")?;
+    println!(rt; "{} prefixes: not a job at their length", count.not_a_job)?;
+    if count.damaged > 0 {
+        println!(rt; "{} prefixes: damaged", count.damaged)?;
+    }
+    Ok(())
+}
+
+/// Reads the job's file with each single byte changed, and counts what the files are.
+pub fn read_single_changes(rt: &HostRuntime, job: &[u8]) -> Result<()> {
+    let mut file = Vec::from_slice(rt.alloc(), job)?;
+    let mut count = Count::default();
+    for at in 0..file.len() {
+        file[at] ^= 1;
+        count.count(class(rt.alloc(), &file, job)?);
+        file[at] ^= 1;
+    }
+    print!(rt;
+        "single bytes: {} free, {} not a job, ",
+        count.free, count.not_a_job
+    )?;
+    println!(rt; "{} damaged, {} jobs", count.damaged, count.jobs)?;
     Ok(())
 }

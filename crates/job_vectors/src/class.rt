@@ -9,6 +9,7 @@ use std::fmt;
 #[derive(Clone, Copy)]
 pub enum Found {
     Free { len: usize },
+    Damaged,
     NotAJob { at: u64 },
     Job,
     AnotherJob,
@@ -18,6 +19,7 @@ impl fmt::Display for Found {
     fn fmt<W: fmt::Write>(&self, f: &mut fmt::Formatter<W>) -> fmt::Result {
         match self {
             Found::Free { len } => write!(f, "free {len}"),
+            Found::Damaged => write!(f, "damaged"),
             Found::NotAJob { at } => write!(f, "not a job at {at}"),
             Found::Job => write!(f, "job"),
             Found::AnotherJob => write!(f, "another job"),
@@ -34,6 +36,7 @@ pub fn class(alloc: Global, file: &[u8], job: &[u8]) -> Result<Found> {
     };
     Ok(match class_of_file(alloc, file)? {
         Class::Free => Found::Free { len: file.len() },
+        Class::Damaged(_) => Found::Damaged,
         Class::NotAJob { at } => Found::NotAJob { at },
         Class::Stands(_) => stands,
     })

@@ -10,12 +10,17 @@ use job_file::{JobParts, begin, open};
 use job_text::Job;
 
 /// How many calls a job takes that is begun over a closed one: file calls and cell calls.
-const STORE_CALLS: u64 = 17;
+const STORE_CALLS: u64 = 18;
 
 const DEVICE_CALLS: u64 = 2;
 
 /// Begins on a bench, and says how it ends.
-fn put_begin(rt: &HostRuntime, parts: &JobParts, bench: &mut MemoryBench, job: &[u8]) -> Result<()>
+pub fn put_begin(
+    rt: &HostRuntime,
+    parts: &JobParts,
+    bench: &mut MemoryBench,
+    job: &[u8],
+) -> Result<()>
     requires { AreParts parts.now }
 {
     let end = begin(rt.alloc(), bench, parts);
@@ -67,7 +72,7 @@ fn put_begin_failed(
 }
 
 /// Opens a bench, and says what it finds.
-fn put_open(rt: &HostRuntime, cells: u32, file: &[u8], store: u64) -> Result<()> {
+pub fn put_open(rt: &HostRuntime, cells: u32, file: &[u8], store: u64) -> Result<()> {
     let mut bench = blank(rt.alloc(), cells, file, store, 0)?;
     match open(rt.alloc(), &mut bench) {
         Ok(job) => put_job(rt, &job),
@@ -78,15 +83,14 @@ fn put_open(rt: &HostRuntime, cells: u32, file: &[u8], store: u64) -> Result<()>
     }
 }
 
-/// A line for a job: its device, and the image's byte there.
+/// A line for a job: the device of each of its algorithms, and the image's byte there.
 fn put_job(rt: &HostRuntime, job: &Job) -> Result<()> {
-    let base = job.algorithm.device.base;
-    print!(rt; "{base:08X} {}, ", job.algorithm.device.size)?;
-    println!(rt;
-        "{:?}, {} cells",
-        job.image.get(base),
-        job.algorithm.device.size
-    )?;
+    for algorithm in job.algorithms.as_slice() {
+        let base = algorithm.device.base;
+        print!(rt; "{base:08X} {}, ", algorithm.device.size)?;
+        print!(rt; "{:?}, ", job.image.get(base))?;
+    }
+    println!(rt; "{} cells", job.cells())?;
     Ok(())
 }
 
@@ -103,7 +107,7 @@ pub fn open_refused(rt: &HostRuntime, job: &[u8]) -> Result<()> {
     ] {
         put_open(rt, cells, file, 0)?;
     }
-    for call in 1..=9 {
+    for call in 1..=12 {
         put_open(rt, 1024, job, call)?;
     }
     Ok(())

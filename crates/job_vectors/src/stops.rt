@@ -9,7 +9,7 @@ use job_file::{BeginFault, CloseFault, JobParts, begin, close};
 use std::alloc::Global;
 
 /// More calls than a job takes that is begun and closed.
-const CALLS: u64 = 22;
+const CALLS: u64 = 23;
 
 /// Begins a job, and closes it.
 fn begin_and_close<B: Bench>(

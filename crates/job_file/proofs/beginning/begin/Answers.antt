@@ -1,11 +1,11 @@
-use Rattle.std.proofs.Common.{rules, Err, ⊎_elim, inl, ◌≡◌, ◌∙◌, ◌++◌, ◌∷◌, ℕ, List, length, sym, refl, subst, arith, None, OnOk}
+use Rattle.std.proofs.Common.{rules, Err, ⊎_elim, inl, ◌≡◌, ◌++◌, ◌∷◌, ℕ, List, length, sym, refl, subst, arith, None, OnOk}
 use Rattle.bench_model.specs.History.{LeftOnly, left}
 use Rattle.bench_model.specs.State.{file_half}
 use Rattle.bench_model.proofs.Moments.{leaves_left}
 use Rattle.job_text.specs.Body.{body_of}
 use Rattle.job_text.specs.Files.{IsFree}
-use Rattle.job_text.specs.Parts.{job_of, front_of}
-use Rattle.job_text.proofs.PartLemmas.{front_is}
+use Rattle.job_text.specs.Parts.{job_of, front_of, with_hash}
+use Rattle.job_text.proofs.PartLemmas.{hashed_is}
 use Rattle.job_file.specs.Stops.{IsOfBegin, IsFreeOrWhole}
 use Rattle.job_file.proofs.PieceLemmas.{begins}
 use Rattle.job_file.proofs.UnopenedLemmas.{unopened_behind, unopened_other}
@@ -16,7 +16,7 @@ returns-clause-ok g c = λ told.
     let p = c.args.parts.now in
     let d = g.B.Bench.state c.drop_and_put.new.bench in
     let many : length d.cells ≡ p.size = omega (arith, g.met.B.Bench.all_told c.drop_and_put.new.bench told, c.drop_and_put.ensures.count, c.prepare.ensures.reads.cells.count, c.in_ok-head.ensures.sized refl) in
-    let text = front_is p d.cells many in
+    let text = hashed_is p d.cells many in
     subst (λ (l : List ℕ). OnOk c.drop_and_put.result ((d.file ≡ 165 ∷ l) × LeftOnly (165 ∷ l) (file_half d) × (d.operation ≡ None))) text (c.drop_and_put.ensures.ok told)
 
 pub returns-clause-stops : goal.returns-clause-stops
@@ -26,8 +26,8 @@ returns-clause-stops g c = λ told.
     let b = g.B.Bench.state c.prepare.new.bench in
     let d = g.B.Bench.state c.drop_and_put.new.bench in
     let many : length d.cells ≡ p.size = omega (arith, g.met.B.Bench.all_told c.drop_and_put.new.bench told, c.drop_and_put.ensures.count, c.prepare.ensures.reads.cells.count, c.in_ok-head.ensures.sized refl) in
-    let text = front_is p d.cells many in
-    begins g.B.Bench.tells a b d (front_of p ++ d.cells) (body_of (job_of p d.cells)) c.prepare.ensures.reads (c.drop_and_put.ensures.stops told) text
+    let text = hashed_is p d.cells many in
+    begins g.B.Bench.tells a b d (with_hash (front_of p ++ d.cells)) (body_of (job_of p d.cells)) c.prepare.ensures.reads (c.drop_and_put.ensures.stops told) text
 
 pub returns-clause-after : goal.returns-clause-after
 returns-clause-after g c = λ told is_free.
@@ -35,8 +35,8 @@ returns-clause-after g c = λ told is_free.
     let b = g.B.Bench.state c.prepare.new.bench in
     let d = g.B.Bench.state c.drop_and_put.new.bench in
     let many : length d.cells ≡ p.size = omega (arith, g.met.B.Bench.all_told c.drop_and_put.new.bench told, c.drop_and_put.ensures.count, c.prepare.ensures.reads.cells.count, c.in_ok-head.ensures.sized refl) in
-    let text = front_is p d.cells many in
-    let body = front_of p ++ d.cells in
+    let text = hashed_is p d.cells many in
+    let body = with_hash (front_of p ++ d.cells) in
     ⊎_elim
     (λ (at : left (file_half b) d.file). inl (subst (λ (f : List ℕ). IsFree f) (sym ((c.in_ok-head.ensures.free told).1 d.file at)) is_free))
     (λ (other : IsFreeOrWhole body d.file). subst (λ (l : List ℕ). IsFreeOrWhole l d.file) text other)

@@ -1,7 +1,9 @@
-use Rattle.std.proofs.Common.{◌≡◌, ◌≤◌, ◌-◌, ◌++◌, ◌∷◌, ◌∙◌, ℕ, List, length, take, drop, ap, refl, sym, arith, length-append}
-use Rattle.std.proofs.lemmas.List.{length-take, length-drop, append-nil}
+use Rattle.std.proofs.Common.{◌≡◌, ◌≤◌, ◌-◌, ◌++◌, ◌∷◌, ◌∙◌, ℕ, List, length, take, drop, ap, refl, sym, subst, arith, length-append}
+use Rattle.std.proofs.lemmas.List.{length-take, length-drop, append-nil, take_all}
 use Rattle.job_text.specs.Parts.{front_of}
-use Rattle.job_file.proofs.PutLemmas.{cells_more, still_shut, cells_read_then, cells_read_stay}
+use Rattle.sha2.specs.Sha256.{sha256}
+use Rattle.sha2.specs.Hashers.{Holds256}
+use Rattle.job_file.proofs.PutLemmas.{cells_more, hash_more, still_shut, cells_read_then, cells_read_stay}
 use Rattle.job_file.proofs.BodyLemmas.{shut_by_parts, body_end}
 use Rattle.job_file.proofs.body.put_body.Goals as goal
 
@@ -15,6 +17,7 @@ loop-at-init g c =
       within = omega arith;
       room = c.requires.room;
       file = λ told. e.ok told ∙ ap (λ (l : List ℕ). l ++ front) (c.requires.file told) ∙ ap (λ (l : List ℕ). 0 ∷ l) (sym (append-nil front));
+      hash = λ told. subst (λ (l : List ℕ). Holds256 c.hash_front-hasher.result l) (sym (append-nil (drop 39 front))) c.hash_front-hasher.ensures;
       shut = λ told. shut_by_parts s d (c.requires.only told) e.moments;
       cells = cells_read_stay g.B.Bench.tells s d e.cells;
       store = e.cause.on_ok refl;
@@ -51,8 +54,17 @@ loop-at-preserved g c =
       room = omega (arith, length-append c.copy_cells.new.window (drop (end - at) window), length-drop (end - at) window, c.copy_cells.auto.window, part, so_far.room);
       file = λ told. cells_more (front_of c.args.parts.now) s.cells now.file new.file at end le (so_far.file told)
           (e.ok told ∙ ap (λ (n : ℕ). now.file ++ take n (drop at now.cells)) part ∙ ap (λ (l : List ℕ). now.file ++ take (end - at) (drop at l)) (so_far.cells.cells told));
+      hash = λ told. hash_more (drop 39 (front_of c.args.parts.now)) s.cells now.cells c.loop-at.hasher c.copy_cells.new.hasher at end (length (take (end - at) window)) le part (so_far.cells.cells told) (so_far.hash told) (e.hash told);
       shut = λ told. still_shut s now new (so_far.shut told) e.moments;
       cells = cells_read_then so_far.cells e.cells;
       store = e.store.on_other refl ∙ so_far.store;
       device = e.device.on_other refl ∙ so_far.device;
     }
+
+pub returns-clause-hash : goal.returns-clause-hash
+returns-clause-hash g c = λ told.
+    let so_far = c.loop-at.invariant in
+    let s = g.B.Bench.state c.args.bench.now in
+    let front = front_of c.args.parts.now in
+    c.finalize.ensures (drop 39 front ++ take c.loop-at.at s.cells) (so_far.hash told)
+    ∙ ap (λ (l : List ℕ). sha256 (drop 39 front ++ l)) (take_all c.loop-at.at s.cells (omega (arith, so_far.cells.count, so_far.within, g.met.B.Bench.all_told c.args.bench.now told)))

@@ -1,4 +1,4 @@
-use Rattle.std.proofs.Common.{◌++◌, ℕ, List, Ok, length, subst, arith}
+use Rattle.std.proofs.Common.{◌++◌, ℕ, List, length, subst, arith}
 use Rattle.job_text.specs.Body.{field, run_text}
 use Rattle.job_text.specs.Runs.{run_of}
 use Rattle.job_file.specs.Stops.{Appends}

@@ -1,8 +1,8 @@
-use Rattle.std.proofs.Common.{rules, ◌≡◌, ◌∙◌, ◌++◌, ◌∷◌, ap, inl, inr, refl, List, ℕ, arith, Err}
+use Rattle.std.proofs.Common.{rules, ◌≡◌, ◌∙◌, ◌++◌, ◌∷◌, ap, inl, inr, List, ℕ, arith, Err}
 use Rattle.bench_model.specs.State.{file_half}
 use Rattle.bench_model.proofs.Moments.{leaves_as, leaves_then, leaves_step, leaves_then_nothing}
 use Rattle.job_text.specs.Files.{IsFree}
-use Rattle.job_text.specs.Parts.{front_of}
+use Rattle.job_text.specs.Parts.{front_of, with_hash}
 use Rattle.job_file.specs.Stops.{IsFreeOrWhole, IsShut, IsUnopened}
 use Rattle.job_file.proofs.FileLemmas.{free_closed, opening}
 use Rattle.job_file.proofs.UnopenedLemmas.{unopened_by}
@@ -13,21 +13,34 @@ pub returns-clause-moments : goal.returns-clause-moments
 returns-clause-moments g c = λ told.
     let s = g.B.Bench.state c.args.bench.now in
     let front = front_of c.args.parts.now in
-    let body = front ++ s.cells in
+    let body = with_hash (front ++ s.cells) in
     let P = IsFreeOrWhole body in
     let run1 = leaves_as IsFree P (λ f free. inl free) (c.shut.ensures.moments told) in
-    let run2 = leaves_then P run1 (leaves_as IsShut P (λ f shut. inl (free_closed f _ 0 (λ e. absurd (omega (arith, e))) shut)) (c.put_body.ensures.moments told)) in
+    let run2 = leaves_then P run1 (leaves_as IsShut P (λ f shut. inl (free_closed f _ 0 (λ e. absurd (omega (arith, e))) shut)) (c.put_hashed.ensures.moments told)) in
     let run3 = leaves_then_nothing P run2 c.file_sync.ensures.does.moments in
-    let is = c.in_ok-file_sync.ensures.does.file told ∙ c.in_ok-put_body.ensures.ok told ∙ ap (λ (l : List ℕ). 0 ∷ (front ++ l)) c.in_ok-shut.ensures.cells.cells in
-    leaves_then P run3 (leaves_step _ P _ _ (c.in_ok-file_sync.ensures.does.ok told) (c.in_ok-put_body.ensures.ok told ∙ ap (λ (l : List ℕ). 0 ∷ (front ++ l)) c.in_ok-shut.ensures.cells.cells)
+    let is = c.in_ok-file_sync.ensures.does.file told ∙ c.in_ok-put_hashed.ensures.ok told ∙ ap (λ (l : List ℕ). 0 ∷ with_hash (front ++ l)) c.in_ok-shut.ensures.cells.cells in
+    leaves_then P run3 (leaves_step _ P _ _ (c.in_ok-file_sync.ensures.does.ok told) (c.in_ok-put_hashed.ensures.ok told ∙ ap (λ (l : List ℕ). 0 ∷ with_hash (front ++ l)) c.in_ok-shut.ensures.cells.cells)
     (λ f torn. opening body f torn) c.write_synced.ensures.moments)
 
-pub returns-in_err-put_body-clause-unopened : goal.returns-in_err-put_body-clause-unopened
-returns-in_err-put_body-clause-unopened g c = λ told.
+pub returns-in_err-write_synced-clause-moments : goal.returns-in_err-write_synced-clause-moments
+returns-in_err-write_synced-clause-moments g c = λ told.
+    let s = g.B.Bench.state c.args.bench.now in
+    let front = front_of c.args.parts.now in
+    let body = with_hash (front ++ s.cells) in
+    let P = IsFreeOrWhole body in
+    let run1 = leaves_as IsFree P (λ f free. inl free) (c.shut.ensures.moments told) in
+    let run2 = leaves_then P run1 (leaves_as IsShut P (λ f shut. inl (free_closed f _ 0 (λ e. absurd (omega (arith, e))) shut)) (c.put_hashed.ensures.moments told)) in
+    let run3 = leaves_then_nothing P run2 c.file_sync.ensures.does.moments in
+    let is = c.in_ok-file_sync.ensures.does.file told ∙ c.in_ok-put_hashed.ensures.ok told ∙ ap (λ (l : List ℕ). 0 ∷ with_hash (front ++ l)) c.in_ok-shut.ensures.cells.cells in
+    leaves_then P run3 (leaves_step _ P _ _ (c.in_ok-file_sync.ensures.does.ok told) (c.in_ok-put_hashed.ensures.ok told ∙ ap (λ (l : List ℕ). 0 ∷ with_hash (front ++ l)) c.in_ok-shut.ensures.cells.cells)
+    (λ f torn. opening body f torn) c.write_synced.ensures.moments)
+
+pub returns-in_err-put_hashed-clause-unopened : goal.returns-in_err-put_hashed-clause-unopened
+returns-in_err-put_hashed-clause-unopened g c = λ told.
     let a = file_half (g.B.Bench.state c.args.bench.now) in
     let P = IsUnopened a in
     let run1 = leaves_as IsFree P (λ f free. inr free) (c.shut.ensures.moments told) in
-    let run2 = leaves_then P run1 (leaves_as IsShut P (λ f shut. inr (free_closed f _ 0 (λ e. absurd (omega (arith, e))) shut)) (c.put_body.ensures.moments told)) in
-    let u = c.from_residual-in_err-put_body.ensures in
-    let is : c.from_residual-in_err-put_body.result ≡ Err c.in_err-put_body.field-0.0 = search rules in
-    rw is (unopened_by (Unit {0}) a (file_half (g.B.Bench.state c.put_body.new.bench)) c.in_err-put_body.field-0.0 run2)
+    let run2 = leaves_then P run1 (leaves_as IsShut P (λ f shut. inr (free_closed f _ 0 (λ e. absurd (omega (arith, e))) shut)) (c.put_hashed.ensures.moments told)) in
+    let u = c.from_residual-in_err-put_hashed.ensures in
+    let is : c.from_residual-in_err-put_hashed.result ≡ Err c.in_err-put_hashed.field-0.0 = search rules in
+    rw is (unopened_by (Unit {0}) a (file_half (g.B.Bench.state c.put_hashed.new.bench)) c.in_err-put_hashed.field-0.0 run2)

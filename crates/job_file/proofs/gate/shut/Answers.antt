@@ -1,8 +1,7 @@
-use Rattle.std.proofs.Common.{◌∙◌, ap, refl}
-use Rattle.bench_model.specs.History.{LeftOnly}
+use Rattle.std.proofs.Common.{refl}
 use Rattle.bench_model.proofs.Moments.{leaves_then, leaves_step}
 use Rattle.job_text.specs.Files.{IsFree}
-use Rattle.job_file.proofs.FileLemmas.{closing_free, closed}
+use Rattle.job_file.proofs.FileLemmas.{closing_free}
 use Rattle.job_file.proofs.gate.shut.Goals as goal
 
 pub returns-clause-moments : goal.returns-clause-moments

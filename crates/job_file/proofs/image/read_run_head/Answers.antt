@@ -7,7 +7,7 @@ use Rattle.job_file.proofs.image.read_run_head.Goals as goal
 pub returns-then-left-lt-HEAD-clause-said : goal.returns-then-left-lt-HEAD-clause-said
 returns-then-left-lt-HEAD-clause-said g c = λ told.
     let file = (g.B.Bench.state c.args.bench.now).file in
-    run_short c.args.whole c.args.low c.args.end (drop c.args.at file) (omega (arith, c.requires.told told, length-drop c.args.at file))
+    run_short c.args.whole c.args.regions.now c.args.low (drop c.args.at file) (omega (arith, c.requires.told told, length-drop c.args.at file))
 
 pub returns-in-Ok-clause-said : goal.returns-in-Ok-clause-said
 returns-in-Ok-clause-said g c = λ told. c.judge_run.ensures.said (g.B.Bench.state c.args.bench.now).file (c.requires.told told) (c.in-Ok.ensures.does.ok told)

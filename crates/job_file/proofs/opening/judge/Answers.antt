@@ -8,4 +8,4 @@ pub returns-then-said-found-clause-refused : goal.returns-then-said-found-clause
 returns-then-said-found-clause-refused c = λ file is.
     let job = c.in-Stands.job in
     let s : StandsFor job file = subst (λ (k : Class). IsClassOf k file) c.in-Stands.is is in
-    record { some = some_job job file s; said_is = refl; found_is = refl; differ = c.if-said-found.true }
+    record { some = some_job job file s; said_is = c.cells-said.ensures; found_is = refl; differ = c.if-said-found.true }

@@ -1,4 +1,4 @@
-use Rattle.std.proofs.Common.{◌∙◌, ℕ, List, Ok, take, drop, sym, ap, arith}
+use Rattle.std.proofs.Common.{◌∙◌, ℕ, List, Ok, drop, sym, ap, arith}
 use Rattle.std.proofs.lemmas.List.{length-drop, drop-drop}
 use Rattle.job_text.specs.Reading.{text_at}
 use Rattle.job_file.proofs.StepLemmas.{text_here, text_cut}

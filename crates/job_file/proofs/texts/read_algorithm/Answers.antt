@@ -5,7 +5,7 @@ use Rattle.flm_descriptor.specs.Flm.{flm_of}
 use Rattle.job_text.specs.Reading.{text_at, read_or}
 use Rattle.job_file.specs.Readers.{Gives}
 use Rattle.job_file.proofs.StepLemmas.{bind_err}
-use Rattle.job_file.proofs.JobLemmas.{fails_within}
+use Rattle.job_file.proofs.TextsLemmas.{fails_within}
 use Rattle.job_file.proofs.texts.read_algorithm.Goals as goal
 
 pub returns-in-Ok-clause-gives : goal.returns-in-Ok-clause-gives

@@ -1,54 +1,125 @@
-use Rattle.std.proofs.Common.{◌≡◌, ◌≤◌, ◌+◌, ◌∙◌, ℕ, List, Ok, Err, length, drop, refl, sym, ap, subst, arith}
+use Rattle.std.proofs.Common.{◌≡◌, ◌+◌, ◌∙◌, true, ℕ, List, Ok, length, drop, refl, ap, subst, arith}
+use Rattle.board_file.specs.declared.region.Region.{Region}
 use Rattle.board_file.specs.Shown as board
-use Rattle.flm_descriptor.specs.Shown as flm
-use Rattle.job_text.specs.Heads.{head_of}
-use Rattle.job_file.specs.Readers.{Fails, SayTexts, algorithm_read}
-use Rattle.job_file.proofs.JobLemmas.{IsBoardRead, IsAlgorithmRead, texts_board, texts_algorithm, texts_unfit, texts_say}
+use Rattle.job_text.specs.Reading.{are_files, file_at, second_at}
+use Rattle.job_file.specs.Readers.{Fails, files_checked, file_there, second_there}
+use Rattle.job_file.proofs.TextsLemmas.{IsBoardRead, AreCounted, IsFirstRead, board_unread, files_uncounted, unchecked, first_unread, second_unread, texts_read, both_fit}
 use Rattle.job_file.proofs.texts.read_said.Goals as goal
 
-pub read_algorithm-requires-clause-told : goal.read_algorithm-requires-clause-told
-read_algorithm-requires-clause-told g c = λ told. ap (λ (l : List ℕ). length l) (c.read_board.ensures.reads.file told) ∙ c.requires.told told
+pub read_file-requires-clause-told : goal.read_file-requires-clause-told
+read_file-requires-clause-told g c = λ told. ap (λ (l : List ℕ). length l) (c.read_board.ensures.reads.file told) ∙ c.requires.told told
 
-pub read_algorithm-requires-clause-within : goal.read_algorithm-requires-clause-within
-read_algorithm-requires-clause-within g c = let fits = c.in-Ok.ensures.fits refl in omega (arith, fits)
+pub read_file-requires-clause-within : goal.read_file-requires-clause-within
+read_file-requires-clause-within g c = let fits = c.in-Ok.ensures.fits refl in omega (arith, fits)
 
-pub returns-in-Err-clause-err : goal.returns-in-Err-clause-err
-returns-in-Err-clause-err g c = λ told. texts_board c.args.whole (head_of c.args.head.now) (drop 24 (g.B.Bench.state c.args.bench.now).file) c.in-Err.fault (c.in-Err.ensures.gives told)
+pub read_second-requires-clause-told : goal.read_second-requires-clause-told
+read_second-requires-clause-told g c = λ told. ap (λ (l : List ℕ). length l) (c.read_file.ensures.reads.file told ∙ c.read_board.ensures.reads.file told) ∙ c.requires.told told
 
-pub returns-in-Err-read_algorithm-clause-err : goal.returns-in-Err-read_algorithm-clause-err
-returns-in-Err-read_algorithm-clause-err g c = λ told.
-    let h = head_of c.args.head.now in
+pub read_second-requires-clause-within : goal.read_second-requires-clause-within
+read_second-requires-clause-within g c = let fits = c.in-Ok-read_file.ensures.fits refl in omega (arith, fits)
+
+pub returns-in-Err-clause-gives : goal.returns-in-Err-clause-gives
+returns-in-Err-clause-gives g c = λ told.
+    board_unread c.args.whole c.args.places.now c.args.head.now (drop c.args.places.now.front (g.B.Bench.state c.args.bench.now).file) c.in-Err.fault (c.in-Err.ensures.gives told)
+
+pub returns-in-Err-check_files-clause-gives : goal.returns-in-Err-check_files-clause-gives
+returns-in-Err-check_files-clause-gives g c = λ told.
+    let h = c.args.head.now in
+    let p = c.args.places.now in
     let file = (g.B.Bench.state c.args.bench.now).file in
-    let b : IsBoardRead c.args.whole h file (board.shown c.in-Ok.board) = record { long = c.requires.told told; inside = c.in-Ok.ensures.fits refl; read = c.in-Ok.ensures.gives told } in
-    texts_algorithm c.args.whole h file (board.shown c.in-Ok.board) c.in-Err-read_algorithm.fault b
-    (subst (λ (f : List ℕ). Fails c.in-Err-read_algorithm.fault (algorithm_read c.args.whole (24 + h.board) h.flm (drop (24 + h.board) f))) (c.read_board.ensures.reads.file told)
-    (subst (λ (k : ℕ). Fails c.in-Err-read_algorithm.fault (algorithm_read c.args.whole (24 + k) h.flm (drop (24 + k) (g.B.Bench.state c.read_board.new.bench).file))) (let at : c.from-at.result ≡ h.board = omega arith in at) (c.in-Err-read_algorithm.ensures.gives told)))
+    let b = board.shown c.in-Ok.board in
+    let br : IsBoardRead c.args.whole p h file b = record { long = c.requires.told told; inside = c.in-Ok.ensures.fits refl; read = c.in-Ok.ensures.gives told } in
+    let many = ap (λ (rs : List Region). length rs) c.as_slice.ensures in
+    files_uncounted c.args.whole p h file b c.in-Err-check_files.fault br
+    (subst (λ (n : ℕ). Fails c.in-Err-check_files.fault (files_checked p h n)) many (unchecked (Unit {0}) p h _ c.in-Err-check_files.fault c.in-Err-check_files.ensures))
 
-pub returns-then-not-fits-clause-err : goal.returns-then-not-fits-clause-err
-returns-then-not-fits-clause-err g c = λ told.
-    let h = head_of c.args.head.now in
+pub returns-in-Err-read_file-clause-gives : goal.returns-in-Err-read_file-clause-gives
+returns-in-Err-read_file-clause-gives g c = λ told.
+    let h = c.args.head.now in
+    let p = c.args.places.now in
     let file = (g.B.Bench.state c.args.bench.now).file in
-    let b : IsBoardRead c.args.whole h file (board.shown c.in-Ok.board) = record { long = c.requires.told told; inside = c.in-Ok.ensures.fits refl; read = c.in-Ok.ensures.gives told } in
-    let algorithm = flm.shown c.in-Ok-read_algorithm.algorithm in
-    let at : c.from-at.result ≡ h.board = omega arith in
-    let a : IsAlgorithmRead c.args.whole h file algorithm = record {
-      inside = subst (λ (k : ℕ). 24 + k + h.flm ≤ c.args.whole) at (c.in-Ok-read_algorithm.ensures.fits refl);
-      read = subst (λ (f : List ℕ). algorithm_read c.args.whole (24 + h.board) h.flm (drop (24 + h.board) f) ≡ Ok algorithm) (c.read_board.ensures.reads.file told)
-          (subst (λ (k : ℕ). algorithm_read c.args.whole (24 + k) h.flm (drop (24 + k) (g.B.Bench.state c.read_board.new.bench).file) ≡ Ok algorithm) at (c.in-Ok-read_algorithm.ensures.gives told));
+    let b = board.shown c.in-Ok.board in
+    let br : IsBoardRead c.args.whole p h file b = record { long = c.requires.told told; inside = c.in-Ok.ensures.fits refl; read = c.in-Ok.ensures.gives told } in
+    let many = ap (λ (rs : List Region). length rs) c.as_slice.ensures in
+    let counted : AreCounted c.args.whole p h file b = record {
+      board = br;
+      files = subst (λ (n : ℕ). are_files h.files n ≡ true) many c.in-Ok-check_files.ensures.0;
+      none = c.in-Ok-check_files.ensures.1;
     } in
-    texts_unfit c.args.whole h file (board.shown c.in-Ok.board) algorithm b a (sym c.fits.ensures ∙ c.if-not-fits.true) ∙ ap (λ (k : ℕ). Err (24 + k)) (sym at)
+    let one = (g.B.Bench.state c.read_board.new.bench).file in
+    let same : one ≡ file = c.read_board.ensures.reads.file told in
+    let at : c.from.result ≡ h.board = omega arith in
+    let e = c.in-Err-read_file.fault in
+    first_unread c.args.whole p h file b e counted
+    (subst (λ (f : List ℕ). Fails e (file_at c.args.whole (p.front + h.board) b 0 h.first (drop (p.front + h.board) f))) same
+    (subst (λ (k : ℕ). Fails e (file_at c.args.whole (p.front + k) b 0 h.first (drop (p.front + k) one))) at (c.in-Err-read_file.ensures.gives told)))
 
-pub returns-clause-ok : goal.returns-clause-ok
-returns-clause-ok g c = λ told.
-    let h = head_of c.args.head.now in
+pub returns-in-Err-read_second-clause-gives : goal.returns-in-Err-read_second-clause-gives
+returns-in-Err-read_second-clause-gives g c = λ told.
+    let h = c.args.head.now in
+    let p = c.args.places.now in
     let file = (g.B.Bench.state c.args.bench.now).file in
-    let b : IsBoardRead c.args.whole h file (board.shown c.in-Ok.board) = record { long = c.requires.told told; inside = c.in-Ok.ensures.fits refl; read = c.in-Ok.ensures.gives told } in
-    let algorithm = flm.shown c.in-Ok-read_algorithm.algorithm in
-    let at : c.from-at.result ≡ h.board = omega arith in
-    let a : IsAlgorithmRead c.args.whole h file algorithm = record {
-      inside = subst (λ (k : ℕ). 24 + k + h.flm ≤ c.args.whole) at (c.in-Ok-read_algorithm.ensures.fits refl);
-      read = subst (λ (f : List ℕ). algorithm_read c.args.whole (24 + h.board) h.flm (drop (24 + h.board) f) ≡ Ok algorithm) (c.read_board.ensures.reads.file told)
-          (subst (λ (k : ℕ). algorithm_read c.args.whole (24 + k) h.flm (drop (24 + k) (g.B.Bench.state c.read_board.new.bench).file) ≡ Ok algorithm) at (c.in-Ok-read_algorithm.ensures.gives told));
+    let b = board.shown c.in-Ok.board in
+    let br : IsBoardRead c.args.whole p h file b = record { long = c.requires.told told; inside = c.in-Ok.ensures.fits refl; read = c.in-Ok.ensures.gives told } in
+    let many = ap (λ (rs : List Region). length rs) c.as_slice.ensures in
+    let counted : AreCounted c.args.whole p h file b = record {
+      board = br;
+      files = subst (λ (n : ℕ). are_files h.files n ≡ true) many c.in-Ok-check_files.ensures.0;
+      none = c.in-Ok-check_files.ensures.1;
     } in
-    let end : 24 + h.board + h.flm ≡ 24 + c.from-at.result + c.from.result = omega arith in
-    subst (λ (k : ℕ). SayTexts file c.args.whole h (board.shown c.in-Ok.board) algorithm k) end (texts_say c.args.whole h file (board.shown c.in-Ok.board) algorithm b a (sym c.fits.ensures ∙ c.if-not-fits.false))
+    let one = (g.B.Bench.state c.read_board.new.bench).file in
+    let same : one ≡ file = c.read_board.ensures.reads.file told in
+    let at : c.from.result ≡ h.board = omega arith in
+    let a = c.in-Ok-read_file.first in
+    let first : IsFirstRead c.args.whole p h file b (file_there file (p.front + h.board) h.first a) = record {
+      counted = counted;
+      first = subst (λ (f : List ℕ). file_at c.args.whole (p.front + h.board) b 0 h.first (drop (p.front + h.board) f) ≡ Ok (file_there f (p.front + h.board) h.first a, drop (p.front + h.board + h.first) f)) same
+          (subst (λ (k : ℕ). file_at c.args.whole (p.front + k) b 0 h.first (drop (p.front + k) one) ≡ Ok (file_there one (p.front + k) h.first a, drop (p.front + k + h.first) one)) at (c.in-Ok-read_file.ensures.gives told));
+    } in
+    let two = (g.B.Bench.state c.read_file.new.bench).file in
+    let same_two : two ≡ file = c.read_file.ensures.reads.file told ∙ same in
+    let next : c.from-2.result ≡ h.first = omega arith in
+    let e = c.in-Err-read_second.fault in
+    second_unread c.args.whole p h file b (file_there file (p.front + h.board) h.first a) e first
+    (subst (λ (f : List ℕ). Fails e (second_at c.args.whole (p.front + h.board + h.first) b h (drop (p.front + h.board + h.first) f))) same_two
+    (subst (λ (n : ℕ). Fails e (second_at c.args.whole (p.front + h.board + n) b h (drop (p.front + h.board + n) two))) next
+    (subst (λ (k : ℕ). Fails e (second_at c.args.whole (p.front + k + c.from-2.result) b h (drop (p.front + k + c.from-2.result) two))) at (c.in-Err-read_second.ensures.gives told))))
+
+pub returns-in-Ok-read_second-clause-gives : goal.returns-in-Ok-read_second-clause-gives
+returns-in-Ok-read_second-clause-gives g c = λ told.
+    let h = c.args.head.now in
+    let p = c.args.places.now in
+    let file = (g.B.Bench.state c.args.bench.now).file in
+    let b = board.shown c.in-Ok.board in
+    let br : IsBoardRead c.args.whole p h file b = record { long = c.requires.told told; inside = c.in-Ok.ensures.fits refl; read = c.in-Ok.ensures.gives told } in
+    let many = ap (λ (rs : List Region). length rs) c.as_slice.ensures in
+    let counted : AreCounted c.args.whole p h file b = record {
+      board = br;
+      files = subst (λ (n : ℕ). are_files h.files n ≡ true) many c.in-Ok-check_files.ensures.0;
+      none = c.in-Ok-check_files.ensures.1;
+    } in
+    let one = (g.B.Bench.state c.read_board.new.bench).file in
+    let same : one ≡ file = c.read_board.ensures.reads.file told in
+    let at : c.from.result ≡ h.board = omega arith in
+    let a = c.in-Ok-read_file.first in
+    let first : IsFirstRead c.args.whole p h file b (file_there file (p.front + h.board) h.first a) = record {
+      counted = counted;
+      first = subst (λ (f : List ℕ). file_at c.args.whole (p.front + h.board) b 0 h.first (drop (p.front + h.board) f) ≡ Ok (file_there f (p.front + h.board) h.first a, drop (p.front + h.board + h.first) f)) same
+          (subst (λ (k : ℕ). file_at c.args.whole (p.front + k) b 0 h.first (drop (p.front + k) one) ≡ Ok (file_there one (p.front + k) h.first a, drop (p.front + k + h.first) one)) at (c.in-Ok-read_file.ensures.gives told));
+    } in
+    let two = (g.B.Bench.state c.read_file.new.bench).file in
+    let same_two : two ≡ file = c.read_file.ensures.reads.file told ∙ same in
+    let next : c.from-2.result ≡ h.first = omega arith in
+    let o = c.in-Ok-read_second.second in
+    let end = c.in-Ok-read_second.end in
+    texts_read c.args.whole p h file b (file_there file (p.front + h.board) h.first a) (second_there file (p.front + h.board + h.first) h.second o) (drop end file) first
+    (subst (λ (f : List ℕ). second_at c.args.whole (p.front + h.board + h.first) b h (drop (p.front + h.board + h.first) f) ≡ Ok (second_there f (p.front + h.board + h.first) h.second o, drop end f)) same_two
+    (subst (λ (n : ℕ). second_at c.args.whole (p.front + h.board + n) b h (drop (p.front + h.board + n) two) ≡ Ok (second_there two (p.front + h.board + n) h.second o, drop end two)) next
+    (subst (λ (k : ℕ). second_at c.args.whole (p.front + k + c.from-2.result) b h (drop (p.front + k + c.from-2.result) two)
+    ≡ Ok (second_there two (p.front + k + c.from-2.result) h.second o, drop end two)) at (c.in-Ok-read_second.ensures.gives told))))
+
+pub returns-in-Ok-read_second-clause-fit : goal.returns-in-Ok-read_second-clause-fit
+returns-in-Ok-read_second-clause-fit g c =
+    let h = c.args.head.now in
+    let many = ap (λ (rs : List Region). length rs) c.as_slice.ensures in
+    both_fit (board.shown c.in-Ok.board) h.files c.in-Ok-read_file.first c.in-Ok-read_second.second (subst (λ (n : ℕ). are_files h.files n ≡ true) many c.in-Ok-check_files.ensures.0) c.in-Ok-read_file.ensures.fit c.in-Ok-read_second.ensures.fit

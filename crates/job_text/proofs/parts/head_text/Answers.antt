@@ -4,8 +4,11 @@ use Rattle.job_text.proofs.parts.head_text.Goals as goal
 pub put_lengths-requires-clause-board : goal.put_lengths-requires-clause-board
 put_lengths-requires-clause-board c = c.requires.short_board
 
-pub put_lengths-requires-clause-flm : goal.put_lengths-requires-clause-flm
-put_lengths-requires-clause-flm c = c.requires.short_flm
+pub put_lengths-requires-clause-first : goal.put_lengths-requires-clause-first
+put_lengths-requires-clause-first c = c.requires.short_first
+
+pub put_lengths-requires-clause-second : goal.put_lengths-requires-clause-second
+put_lengths-requires-clause-second c = c.requires.short_second
 
 pub put_lengths-requires-clause-image : goal.put_lengths-requires-clause-image
 put_lengths-requires-clause-image c = (blank_small c.args.parts.now c.requires).runs

@@ -1,0 +1,25 @@
+use Rattle.std.proofs.Common.{◌≡◌, ◌∙◌, ℕ, List, Option, Some, length, drop, ap, subst, sym}
+use Rattle.job_text.specs.Reading.{format_in, kept_in}
+use Rattle.job_text.specs.declared.damage.Damage.{Damage}
+use Rattle.job_text.specs.Shown.{IsDamage}
+use Rattle.job_text.specs.Stands.{IsFoundDamaged}
+use Rattle.job_text.proofs.ClassLemmas.{damaged_as}
+use Rattle.job_file.proofs.class.read_opened.Goals as goal
+
+pub find_damage-requires-clause-told : goal.find_damage-requires-clause-told
+find_damage-requires-clause-told g c = λ told. ap (λ (l : List ℕ). length l) (c.read_format.ensures.reads.file told) ∙ c.requires.told told
+
+pub find_damage-requires-clause-format : goal.find_damage-requires-clause-format
+find_damage-requires-clause-format g c = λ told.
+    subst (λ (f : List ℕ). format_in (drop 1 f) ≡ c.in-Ok.format) (sym (c.read_format.ensures.reads.file told)) (c.in-Ok.ensures.ok told)
+
+pub returns-in-Ok-Some-clause-class : goal.returns-in-Ok-Some-clause-class
+returns-in-Ok-Some-clause-class g c = λ told.
+    let file = (g.B.Bench.state c.args.bench.now).file in
+    let gate = c.requires.opened told in
+    let damage = c.in-Ok-Some.damage in
+    let one = (g.B.Bench.state c.read_format.new.bench).file in
+    let d : IsDamage (Some damage) (drop 1 file) =
+    subst (λ (f : List ℕ). IsDamage (Some damage) (drop 1 f)) (c.read_format.ensures.reads.file told)
+    (subst (λ (o : Option Damage). IsDamage o (drop 1 one)) c.in-Ok-Some.field-0-is (c.in-Ok-Some.ensures.ok told)) in
+    subst (λ (l : List ℕ). IsFoundDamaged l damage.found file) (sym d.1) (subst (λ (l : List ℕ). IsFoundDamaged (kept_in (drop 1 file)) l file) (sym d.2) (damaged_as file gate.0 gate.1 d.0))

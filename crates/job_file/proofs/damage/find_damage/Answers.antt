@@ -1,0 +1,9 @@
+use Rattle.std.proofs.Common.{◌∙◌, drop}
+use Rattle.job_file.proofs.HashLemmas.{first_intact, second_by}
+use Rattle.job_file.proofs.damage.find_damage.Goals as goal
+
+pub returns-in-First-clause-ok : goal.returns-in-First-clause-ok
+returns-in-First-clause-ok g c = λ told. first_intact (drop 1 (g.B.Bench.state c.args.bench.now).file) (c.requires.format told ∙ c.in-First.is)
+
+pub compare_hashes-requires-clause-second : goal.compare_hashes-requires-clause-second
+compare_hashes-requires-clause-second g c = λ told. second_by (drop 1 (g.B.Bench.state c.args.bench.now).file) (c.requires.format told ∙ c.in-Second.is)

@@ -1,0 +1,49 @@
+use Rattle.std.proofs.Common.{◌≡◌, ◌≤◌, ◌-◌, ◌∙◌, ℕ, List, length, take, drop, ap, refl, arith, length-append}
+use Rattle.std.proofs.lemmas.List.{length-take, length-drop, take_all}
+use Rattle.bench_model.proofs.Moments.{only_reads_then, only_reads_here}
+use Rattle.sha2.specs.Sha256.{sha256}
+use Rattle.job_file.proofs.HashLemmas.{window_hashed}
+use Rattle.job_file.proofs.damage.read_hash.Goals as goal
+
+pub loop-at-init : goal.loop-at-init
+loop-at-init g c = record {
+  within = omega arith;
+  room = c.requires.room;
+  hash = λ told. c.new-hasher.ensures;
+  reads = only_reads_here g.B.Bench.tells (g.B.Bench.state c.args.bench.now);
+  faults = refl;
+}
+
+pub hash_window-requires-clause-told : goal.hash_window-requires-clause-told
+hash_window-requires-clause-told g c = λ told.
+    let so_far = c.loop-at.invariant in
+    let size = c.piece_end-end.result - c.loop-at.at in
+    omega (arith, length-take size c.loop-at.window, so_far.room, c.requires.told told, ap (λ (l : List ℕ). length l) (so_far.reads.file told))
+
+pub loop-at-preserved : goal.loop-at-preserved
+loop-at-preserved g c =
+    let so_far = c.loop-at.invariant in
+    let s = g.B.Bench.state c.args.bench.now in
+    let now = g.B.Bench.state c.loop-at.bench in
+    let at = c.loop-at.at in
+    let end = c.piece_end-end.result in
+    let window = c.loop-at.window in
+    let piece = c.hash_window.new.window in
+    let e = c.in_ok-hash_window.ensures in
+    let le : at ≤ end = omega arith in
+    let part : length (take (end - at) window) ≡ end - at = omega (arith, length-take (end - at) window, so_far.room) in
+    let size : length piece ≡ end - at = c.hash_window.auto.window ∙ part in
+    record {
+      within = omega arith;
+      room = omega (arith, length-append piece (drop (end - at) window), length-drop (end - at) window, size, so_far.room);
+      hash = λ told. window_hashed s.file now.file c.loop-at.hasher c.hash_window.new.hasher at end (length (take (end - at) window)) le part (so_far.reads.file told) (so_far.hash told) (e.ok told);
+      reads = only_reads_then so_far.reads e.reads;
+      faults = e.cause.on_ok refl ∙ so_far.faults;
+    }
+
+pub returns-clause-ok : goal.returns-clause-ok
+returns-clause-ok g c = λ told.
+    let so_far = c.loop-at.invariant in
+    let file = (g.B.Bench.state c.args.bench.now).file in
+    let rest = drop 40 file in
+    c.finalize.ensures (take c.loop-at.at rest) (so_far.hash told) ∙ ap (λ (l : List ℕ). sha256 l) (take_all c.loop-at.at rest (omega (arith, length-drop 40 file, c.requires.told told)))
