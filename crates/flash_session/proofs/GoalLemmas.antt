@@ -1,15 +1,21 @@
--- A part of an image laid over a snapshot is the image laid over the part.
-use Rattle.std.proofs.Common.{◌≡◌, ◌∙◌, ◌+◌, ◌≤◌, ℕ, zero, suc, Bool, IsTrue, List, [], ◌∷◌, length, take, drop, refl, sym, ap, arith}
+-- An image laid over the cells of regions, part by part.
+use Rattle.std.proofs.Common.{◌≡◌, ◌<◌, ◌≤◌, ◌+◌, ◌-◌, ◌++◌, ◌∙◌, ⊎_elim, min, ℕ, zero, suc, Bool, IsTrue, All, List, [], ◌∷◌, length, take, drop, refl, sym, ap, subst, arith, length-take, length-drop}
+use Rattle.std.proofs.lemmas.Bool.{cases_lt}
+use Rattle.std.proofs.lemmas.List.{append-nil, drop-append-le, drop-drop, drop-take, drop_all, take-append-le, take-take, take_all}
+use Rattle.std.proofs.Math.Seq.{drop-append-add, take-append-add}
 use Rattle.bench_model.specs.State.{BenchState}
+use Rattle.board_file.specs.declared.region.Region.{Region}
+use Rattle.board_file.specs.Table.{addresses}
 use Rattle.byte_map.specs.Image.{Run, byte_at, over}
+use Rattle.byte_map.proofs.Overlays.{length-over}
 use Rattle.std.specs.Prelude.{unwrap_or}
 use Rattle.bench_model.specs.Calls.{FileIsRead}
 use Rattle.job_text.specs.Stands.{StandsFor}
 use Rattle.job_text.specs.declared.job.Job.{Job}
 use Rattle.flash_session.specs.declared.goal.Goal.{Goal}
-use Rattle.flash_session.specs.declared.goal.Goal.TheVariants as goal
-use Rattle.flash_session.specs.Goals.{laid, goal_in}
+use Rattle.flash_session.specs.Goals.{overlaid, goal_in}
 use Rattle.flash_session.specs.Reads.{HasGoal}
+use Rattle.flash_session.proofs.PartLemmas.{part_at}
 
 over_take : (image : List Run) (base n : ℕ) (cells : List ℕ) → take n (over image base cells) ≡ over image base (take n cells)
 over_take image base zero cells = refl
@@ -21,19 +27,86 @@ over_drop image base zero cells = let z : base ≡ base + 0 = omega arith in ap 
 over_drop image base (suc n) [] = refl
 over_drop image base (suc n) (c ∷ cells) = let e : base + 1 + n ≡ base + suc n = omega arith in over_drop image (base + 1) n cells ∙ ap (λ (k : ℕ). over image k (drop n cells)) e
 
-pub over_part : (j : Job) (at n : ℕ) (snapshot cells : List ℕ) → cells ≡ take n (drop at snapshot) → over j.image (j.algorithm.device.base + at) cells ≡ take n (drop at (laid j goal.New snapshot))
-over_part j at n snapshot cells is =
-    let base = j.algorithm.device.base in
-    ap (λ (l : List ℕ). over j.image (base + at) l) is ∙ sym (over_take j.image (base + at) n (drop at snapshot)) ∙ ap (λ (l : List ℕ). take n l) (sym (over_drop j.image base at snapshot))
+-- ---- cells of regions, from a place on
 
--- no bytes at all
-pub none_part : (n : ℕ) (cells wanted : List ℕ) → length cells ≡ n → n ≡ 0 → cells ≡ take n wanted
-none_part n [] wanted long none = ap (λ (k : ℕ). take k wanted) (sym none)
-none_part n (c ∷ cells) wanted long none = absurd (omega (arith, long, none))
+-- regions that end by the last address
+pub fit_rest : (regions : List Region) (r : Region) (rest : List Region) → regions ≡ r ∷ rest → All (λ q. q.base + q.size ≤ addresses) regions → All (λ q. q.base + q.size ≤ addresses) rest
+fit_rest regions r rest is fit = λ k d less. (subst (λ (l : List Region). All (λ q. q.base + q.size ≤ addresses) l) is fit) (suc k) d (omega (arith, less))
+
+-- past the first region
+past : (n at size : ℕ) (front behind : List ℕ) → size ≤ at → length front ≡ size → take n (drop (at - size) behind) ≡ take n (drop at (front ++ behind))
+past n at size front behind le long =
+    let e : length front + (at - size) ≡ at = omega (arith, le, long) in
+    ap (λ (l : List ℕ). take n l) (sym (drop-append-add front behind (at - size)) ∙ ap (λ (k : ℕ). drop k (front ++ behind)) e)
+
+pub lay_past : (image : List Run) (r : Region) (rest : List Region) (snapshot : List ℕ) (at n : ℕ) → r.size ≤ at → r.size ≤ length snapshot
+    → take n (drop (at - r.size) (overlaid image rest (drop r.size snapshot))) ≡ take n (drop at (overlaid image (r ∷ rest) snapshot))
+lay_past image r rest snapshot at n le long =
+    past n at r.size (over image r.base (take r.size snapshot)) (overlaid image rest (drop r.size snapshot)) le (omega (arith, length-over image r.base (take r.size snapshot), length-take r.size snapshot, long))
+
+pub old_past : (size at n : ℕ) (snapshot : List ℕ) → size ≤ at → take n (drop at snapshot) ≡ take n (drop (at - size) (drop size snapshot))
+old_past size at n snapshot le =
+    let e : size + (at - size) ≡ at = omega (arith, le) in
+    ap (λ (l : List ℕ). take n l) (ap (λ (k : ℕ). drop k snapshot) (sym e) ∙ sym (drop-drop (at - size) size snapshot))
+
+-- in it: what lies in it, and what lies behind it
+module _ (n at size here : ℕ) (front behind : List ℕ) (inside : at < size) (long : length front ≡ size) where
+  pub both_parts : here ≡ n → n ≤ size - at → take here (drop at front) ++ take (n - here) behind ≡ take n (drop at (front ++ behind))
+  both_parts is le =
+      let none : n - here ≡ 0 = omega (arith, is) in
+      ap (λ (k : ℕ). take here (drop at front) ++ take k behind) none ∙ append-nil (take here (drop at front)) ∙ ap (λ (k : ℕ). take k (drop at front)) is
+      ∙ sym (take-append-le n (drop at front) behind (omega (arith, length-drop at front, long, le)))
+      ∙ ap (λ (l : List ℕ). take n l) (sym (drop-append-le at front behind (omega (arith, inside, long))))
+
+  pub first_part : here ≡ size - at → size - at ≤ n → take here (drop at front) ++ take (n - here) behind ≡ take n (drop at (front ++ behind))
+  first_part is le =
+      let len : length (drop at front) ≡ here = omega (arith, length-drop at front, long, is, inside) in
+      let e : length (drop at front) + (n - here) ≡ n = omega (arith, len, is, le) in
+      ap (λ (l : List ℕ). l ++ take (n - here) behind) (take_all here (drop at front) (omega (arith, len)))
+      ∙ sym (take-append-add (drop at front) behind (n - here)) ∙ ap (λ (k : ℕ). take k (drop at front ++ behind)) e
+      ∙ ap (λ (l : List ℕ). take n l) (sym (drop-append-le at front behind (omega (arith, inside, long))))
+
+  pub parts_of : here ≡ min n (size - at) → take here (drop at front) ++ take (n - here) behind ≡ take n (drop at (front ++ behind))
+  parts_of is = ⊎_elim
+      (λ (less : n < size - at). both_parts (omega (arith, is, less)) (omega (arith, less)))
+      (λ (le : size - at ≤ n). first_part (omega (arith, is, le)) le)
+      (cases_lt n (size - at))
+
+-- an image over the part of a region's cells from a place on
+pub over_from : (image : List Run) (base size at here : ℕ) (snapshot : List ℕ) → at + here ≤ size → over image (base + at) (take here (drop at snapshot)) ≡ take here (drop at (over image base (take size snapshot)))
+over_from image base size at here snapshot inside =
+    let z : at ≡ 0 + at = omega arith in
+    ap (λ (l : List ℕ). over image (base + at) l) (ap (λ (k : ℕ). take here (drop k snapshot)) z ∙ part_at 0 size at here snapshot inside)
+    ∙ sym (over_take image (base + at) here (drop at (take size snapshot)))
+    ∙ ap (λ (l : List ℕ). take here l) (sym (over_drop image base at (take size snapshot)))
+
+-- what lies behind the region is the front of the cells behind it
+pub old_behind : (size at here n : ℕ) (snapshot : List ℕ) → at < size → here ≡ min n (size - at) → drop here (take n (drop at snapshot)) ≡ take (n - here) (drop 0 (drop size snapshot))
+old_behind size at here n snapshot inside is = ⊎_elim
+    (λ (less : n < size - at).
+    let none : n - here ≡ 0 = omega (arith, is, less) in
+    drop_all here (take n (drop at snapshot)) (omega (arith, length-take n (drop at snapshot), is, less)) ∙ ap (λ (k : ℕ). take k (drop size snapshot)) (sym none))
+    (λ (le : size - at ≤ n).
+    let e : here + (n - here) ≡ n = omega (arith, is, le) in
+    let whole : at + here ≡ size = omega (arith, is, le, inside) in
+    ap (λ (k : ℕ). drop here (take k (drop at snapshot))) (sym e) ∙ drop-take here (n - here) (drop at snapshot)
+    ∙ ap (λ (l : List ℕ). take (n - here) l) (drop-drop here at snapshot ∙ ap (λ (k : ℕ). drop k snapshot) whole))
+    (cases_lt n (size - at))
+
+pub lay_here : (image : List Run) (r : Region) (rest : List Region) (snapshot cells front back : List ℕ) (at here n : ℕ) → at < r.size → r.size ≤ length snapshot → here ≡ min n (r.size - at) → cells ≡ take n (drop at snapshot)
+    → front ≡ over image (r.base + at) (take here cells) → back ≡ take (n - here) (drop 0 (overlaid image rest (drop r.size snapshot))) → front ++ back ≡ take n (drop at (overlaid image (r ∷ rest) snapshot))
+lay_here image r rest snapshot cells front back at here n inside long is held front_is back_is =
+    let whole = over image r.base (take r.size snapshot) in
+    let behind = overlaid image rest (drop r.size snapshot) in
+    let less : here ≤ n = omega (arith, is) in
+    let within : at + here ≤ r.size = omega (arith, is, inside) in
+    ap (λ (l : List ℕ). l ++ back) (front_is ∙ ap (λ (l : List ℕ). over image (r.base + at) l) (ap (take here) held ∙ take-take here n (drop at snapshot) less) ∙ over_from image r.base r.size at here snapshot within)
+    ∙ ap (λ (l : List ℕ). take here (drop at whole) ++ l) back_is
+    ∙ parts_of n at r.size here whole behind inside (omega (arith, length-over image r.base (take r.size snapshot), length-take r.size snapshot, long)) is
 
 -- a file that was only read still gives the goal
 pub goal_still : (tells : Bool) (j : Job) (g : Goal) (bytes : List ℕ) (s t : BenchState) → HasGoal tells j g bytes s → FileIsRead tells s t → HasGoal tells j g bytes t
 goal_still tells j g bytes s t has reads = record {
-  stands = λ told. Rattle.std.proofs.Common.subst (λ (f : List ℕ). StandsFor j f) (sym (reads.file told)) (has.stands told);
+  stands = λ told. subst (λ (f : List ℕ). StandsFor j f) (sym (reads.file told)) (has.stands told);
   gives = λ told. has.gives told ∙ ap (goal_in j g) (sym (reads.file told));
 }

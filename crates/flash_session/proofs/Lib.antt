@@ -1,18 +1,23 @@
 pub mod Runs
 pub mod Lists
 pub mod Playing
+mod Turning
 mod PhaseLemmas
 mod ScriptLemmas
 mod OutcomeLemmas
 mod FuelLemmas
 mod JobLemmas
 mod GoLemmas
+mod PartingLemmas
+mod PartLemmas
 mod GoalLemmas
 mod ReadLemmas
 mod SurveyLemmas
+mod FoundLemmas
 mod Members
 mod Leading
 mod Passing
 mod Serving
+mod LegLemmas
 mod ServedLemmas
 pub mod LocalLemmas

@@ -44,6 +44,11 @@ read_cells tells s t reads = record {
 pub kept_room : (n : ℕ) (window front : List ℕ) → length window ≡ 4096 → n ≤ 4096 → length front ≡ length (take n window) → length (front ++ drop n window) ≡ 4096
 kept_room n window front room le long = omega (arith, length-append front (drop n window), length-drop n window, length-take n window, room, le, long)
 
+-- and so is a buffer that was lent as a whole
+pub kept_items : (len : ℕ) (new items : List ℕ) → len ≡ length items → length new ≡ length items → length (take len (new ++ drop (length new) items)) ≡ length items
+kept_items len new items one two =
+    omega (arith, length-take len (new ++ drop (length new) items), length-append new (drop (length new) items), length-drop (length new) items, one, two)
+
 -- ---- the comparison
 
 -- cells and goal agree up to here

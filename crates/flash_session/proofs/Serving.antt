@@ -1,11 +1,8 @@
--- Where the algorithm keeps its duties, a script goes to its goal, and leaves what lies outside its plan.
-use Rattle.std.proofs.Common.{◌≡◌, ◌<◌, ◌≤◌, ◌+◌, ◌-◌, ◌^◌, ◌∙◌, ⊎_elim, inl, inr, ℕ, suc, Bool, true, false, cond, is_some, List, [], ◌∷◌, ◌++◌, map, length, get_or, None, refl, sym, ap, subst, append_assoc, arith}
+-- Where an algorithm keeps its duties for a region, the phases of its plan lead to the region's goal, and leave what lies outside the plan.
+use Rattle.std.proofs.Common.{◌≡◌, ◌<◌, ◌≤◌, ◌+◌, ◌-◌, ◌^◌, ◌∙◌, ⊎_elim, inl, inr, ℕ, suc, Bool, true, false, cond, is_some, List, [], ◌∷◌, ◌++◌, map, length, get_or, None, refl, sym, ap, subst, arith}
 use Rattle.std.proofs.lemmas.Bool.{cases_lt}
-use Rattle.std.proofs.lemmas.List.{append-nil, drop_all, get_or_past}
+use Rattle.std.proofs.lemmas.List.{get_or_past}
 use Rattle.std.proofs.lemmas.List.FromFn.{length-map-range_with_len}
-use Rattle.bench_model.specs.State.{BenchState, cells_half}
-use Rattle.bench_model.specs.History.{Leaves}
-use Rattle.bench_model.proofs.Moments.{leaves_as}
 use Rattle.board_file.specs.declared.board.Weights.{Weights}
 use Rattle.board_file.specs.Shown.{Shown as BoardShown}
 use Rattle.flm_descriptor.specs.Shown.{Shown as AlgorithmShown}
@@ -22,20 +19,14 @@ use Rattle.target_core.specs.World.{World}
 use Rattle.algo_calls.specs.Setups.{Setup, setup_of}
 use Rattle.algo_calls.specs.Frames.{loaded}
 use Rattle.algo_calls.specs.Duties.{Site, part, Acting, span, KeepAll, Phase, Erases, ErasesChip, Programs, Verifies, kind_of, checks, works_of, MayAsk, device_of, ready, site_of, Serves}
-use Rattle.algo_calls.proofs.IdealLemmas.{part_whole}
 use Rattle.algo_calls.proofs.KeptLemmas.{board_in}
-use Rattle.flash_session.specs.declared.ending.SessionEnd.{SessionEnd}
-use Rattle.flash_session.specs.declared.ending.SessionEnd.TheVariants as end
-use Rattle.flash_session.specs.Moves.{Move, Reset, Stand, run, IsWithin, IsLeftOnWay}
-use Rattle.flash_session.specs.Script.{Errand, errand, erase_moves, page_moves, has_verify, verify_moves, phase, Broken, script}
-use Rattle.flash_session.specs.Outcome.{GoTo, Follows, is_device_end, is_store_end, IsReached}
-use Rattle.flash_session.specs.Local.{IsInPlan, SameBut}
-use Rattle.flash_session.proofs.OutcomeLemmas.{differs_somewhere, one_cells, not_both}
+use Rattle.flash_session.specs.Moves.{Move, Stand}
+use Rattle.flash_session.specs.Script.{Errand, errand, erase_moves, page_moves, has_verify, verify_moves, phase, Torn, phases}
+use Rattle.flash_session.specs.Local.{IsInRegionPlan, SameBut}
 use Rattle.flash_session.proofs.Lists.{phase_none}
-use Rattle.flash_session.proofs.LocalLemmas.{but_none}
 use Rattle.flash_session.proofs.Members.{move_of, erasing_phase, erase_list, program_list, check_list}
 use Rattle.flash_session.proofs.Leading.{IsAmong, put, part_long, put_part, put_long, put_again, Led, led_ready, led_actions, led_verifies, leads_split, leads_length, AreBytes, erased_bytes, part_bytes, put_bytes}
-use Rattle.flash_session.proofs.Passing.{PlacesIn, Passes, passes_none, passes_then, passes_reset, passes_phase, begun, whole_phase, idle_local}
+use Rattle.flash_session.proofs.Passing.{PlacesIn, Passes, passes_none, passes_then, passes_phase, begun, whole_phase}
 
 -- ---- the sets of a plan
 
@@ -71,13 +62,6 @@ below_length bs k is = ⊎_elim
     (λ (less : k < length bs). less)
     (λ (le : length bs ≤ k). let none : false ≡ true = sym (get_or_past bs k false le) ∙ is in absurd cc)
     (cases_lt k (length bs))
-
--- the place is one of a region whose cells begin at this one, and is in its plan
-pub record IsInRegionPlan (start : ℕ) (l : Layout) (plan : Chosen) (i : ℕ) : Type 0 where
-  pub at : ℕ
-  pub is : i ≡ start + at
-  pub inside : at < l.size
-  pub planned : IsInPlan l plan at
 
 -- these places are all of those of a plan of a region
 abbrev pub Covers : (ℕ → Type 0) → Site → Chosen → Type 0
@@ -180,18 +164,9 @@ erasing_kind : (chip : Bool) (set : List Bool) → kind_of (cond chip ErasesChip
 erasing_kind true set = refl
 erasing_kind false set = refl
 
--- the calls of a plan, without the last reset
-abbrev phases : Setup → Errand → Broken → List Move
-phases s t b = phase s 1 b.erase (erase_moves s t.planned) ++ (phase s 2 b.program (page_moves false s t) ++ phase s 3 b.verify (verify_moves s t))
-
-script_is : (s : Setup) (t : Errand) (b : Broken) → script s t b ≡ phases s t b ++ Reset s b.last ∷ []
-unfolding script
-script_is s t b =
-    let first = phase s 1 b.erase (erase_moves s t.planned) in
-    let second = phase s 2 b.program (page_moves false s t) in
-    let third = phase s 3 b.verify (verify_moves s t) in
-    let last : List Move = Reset s b.last ∷ [] in
-    ap (λ (m : List Move). first ++ m) (sym (append_assoc second third last)) ∙ sym (append_assoc first (second ++ third) last)
+phases_are : (s : Setup) (t : Errand) (b : Torn) → phases s t b ≡ phase s 1 b.erase (erase_moves s t.planned) ++ (phase s 2 b.program (page_moves false s t) ++ phase s 3 b.verify (verify_moves s t))
+unfolding phases
+phases_are s t b = refl
 
 -- ---- a region's plan on cells of which its algorithm keeps its duties
 
@@ -275,7 +250,7 @@ module _ (P : ℕ → Type 0) (old : List ℕ) (b : BoardShown) (region : ℕ) (
   check_passes false x torn entry same board idle start = passes_none P old x (phase (setup_of a b) 3 torn []) reached (phase_none (setup_of a b) 3 torn [] refl) idle same start
 
   -- the phases of the plan from these cells on, which leave the cells of the other regions
-  pub phases_pass : (x : Stand) (torn : Broken) → x.world.cells ≡ cells → board_in x.world ≡ (b.ram_base, board_map b) → state_op x.world.state ≡ None → SameBut P old cells
+  pub phases_pass : (x : Stand) (torn : Torn) → x.world.cells ≡ cells → board_in x.world ≡ (b.ram_base, board_map b) → state_op x.world.state ≡ None → SameBut P old cells
       → Passes P x (phases (setup_of a b) region_errand torn) reached old
   phases_pass x torn same board idle start =
       let s = setup_of a b in
@@ -303,91 +278,11 @@ module _ (P : ℕ → Type 0) (old : List ℕ) (b : BoardShown) (region : ℕ) (
       subst (λ (c : List ℕ). Led s here mid (works_of s l half (Programs plan.pages goal)) c) (put_again here goal half cells is.among half_size)
       (subst (λ (c : List ℕ). Led s here mid (works_of s l c (Programs plan.pages goal)) (put here goal mid)) mid_part
       (programming_led s here mid goal plan.pages mid_among (subst (λ (c : List ℕ). Leads l a.device.empty c ws goal) (sym mid_part) parts.2))) in
-      passes_then P old x (phase s 1 torn.erase (erase_moves s region_errand.planned)) (second ++ third) mid reached one (λ y y_idle y_is y_board.
+      subst (λ (m : List Move). Passes P x m reached old) (sym (phases_are s region_errand torn))
+      (passes_then P old x (phase s 1 torn.erase (erase_moves s region_errand.planned)) (second ++ third) mid reached one (λ y y_idle y_is y_board.
       let two : Passes P y second reached old =
       work (Programs plan.pages goal) y torn.program (page_moves false s region_errand) reached mid half y_is mid_part (y_board ∙ board) y_idle
       (program_list s l plan goal is.lawful is.goal_size pages_long half) mid_long (put_bytes here half cells is.among half_size is.bytes half_bytes)
       (pages_long, is.goal_size, is.goal_bytes) written (programming_places P s here plan half goal is.lawful pages_long covers) one.same in
       passes_then P old y second third reached reached two (λ z z_idle z_is z_board.
-      check_passes (has_verify s) z torn.verify refl z_is (z_board ∙ y_board ∙ board) z_idle two.same))
-
--- ---- a board whose one region is the whole of the cells
-
--- the places of the plan are those of the region's plan
-covers_all : (l : Layout) (plan : Chosen) (i : ℕ) → IsInRegionPlan 0 l plan i → IsInPlan l plan i
-covers_all l plan i h = let same : h.at ≡ i = omega (arith, h.is) in subst (IsInPlan l plan) same h.planned
-
-put_whole : (l : Layout) (x cells : List ℕ) → length cells ≡ l.size → put (record { start = 0; layout = l }) x cells ≡ x
-put_whole l x cells long = ap (λ (rest : List ℕ). x ++ rest) (drop_all (0 + l.size) cells (omega (arith, long))) ∙ append-nil x
-
-all_among : (l : Layout) (cells : List ℕ) → length cells ≡ l.size → IsAmong (record { start = 0; layout = l }) cells
-all_among l cells long = omega (arith, long)
-
--- the plan is the least one from the old contents to the goal
-pub record IsServed (b : BoardShown) (a : AlgorithmShown) (w : Weights) (plan : Chosen) (goal old : List ℕ) : Type 0 where
-  pub serves : Serves b a 0
-  pub lawful : IsLayout (device_of a)
-  pub cells : cells_in (board_map b).areas ≡ a.device.size
-  pub goal_size : length goal ≡ a.device.size
-  pub old_size : length old ≡ a.device.size
-  pub empty : a.device.empty < 2 ^ 8
-  pub old_bytes : AreBytes old
-  pub goal_bytes : AreBytes goal
-  pub least : IsLeastPlan (device_of a) w (is_some a.entries.erase_chip) a.device.empty old goal plan
-
-served_region : (b : BoardShown) (a : AlgorithmShown) (w : Weights) (plan : Chosen) (goal old : List ℕ) → IsServed b a w plan goal old → IsRegionServed b 0 a w plan goal old
-served_region b a w plan goal old is = record {
-  serves = is.serves;
-  lawful = is.lawful;
-  count = is.old_size ∙ sym is.cells;
-  among = all_among (device_of a) old is.old_size;
-  goal_size = is.goal_size;
-  empty = is.empty;
-  bytes = is.old_bytes;
-  goal_bytes = is.goal_bytes;
-  least = subst (λ (c : List ℕ). IsLeastPlan (device_of a) w (is_some a.entries.erase_chip) a.device.empty c goal plan) (sym (part_whole (device_of a) old is.old_size)) is.least;
-}
-
-module _ (b : BoardShown) (a : AlgorithmShown) (w : Weights) (plan : Chosen) (goal old : List ℕ) (is : IsServed b a w plan goal old) where
-  abbrev P : ℕ → Type 0
-  P = IsInPlan (device_of a) plan
-
-  abbrev whole_errand : Errand
-  whole_errand = errand (device_of a) a.device.base plan goal
-
-  -- the script of the plan from these cells
-  pub script_passes : (x : Stand) (torn : Broken) → x.world.cells ≡ old → board_in x.world ≡ (b.ram_base, board_map b) → state_op x.world.state ≡ None
-      → Passes P x (script (setup_of a b) whole_errand torn) goal old
-  script_passes x torn same board idle =
-      let s = setup_of a b in
-      let through : Passes P x (phases s whole_errand torn) goal old =
-      subst (λ (c : List ℕ). Passes P x (phases s whole_errand torn) c old) (put_whole (device_of a) goal old is.old_size)
-      (phases_pass P old b 0 a w plan goal old (served_region b a w plan goal old is) (covers_all (device_of a) plan) x torn same board idle (but_none P old old refl)) in
-      subst (λ (m : List Move). Passes P x m goal old) (sym (script_is s whole_errand torn))
-      (passes_then P old x (phases s whole_errand torn) (Reset s torn.last ∷ []) goal goal through (λ v v_idle v_is v_board.
-      subst (λ (c : List ℕ). Passes P v (Reset s torn.last ∷ []) c old) v_is (passes_reset P old s v torn.last v_idle (subst (λ (c : List ℕ). SameBut P old c) (sym v_is) through.same))))
-
-  module _ (x : Stand) (same : x.world.cells ≡ old) (board : board_in x.world ≡ (b.ram_base, board_map b)) (idle : state_op x.world.state ≡ None) (start now : BenchState) where
-    -- so a session ends so, but for a device fault
-    pub follows_reaches : (e : SessionEnd) → Follows (setup_of a b) whole_errand x e start now → is_device_end e ≡ false → is_store_end e ≡ false → IsReached e
-    follows_reaches (end.Reached r) follows other stored = tt
-    follows_reaches (end.Mismatch d) follows other stored =
-        let p = script_passes x follows.broken same board idle in
-        let goes : GoTo x (script (setup_of a b) whole_errand follows.broken) goal = record { last = p.last; ran = p.ran; leaves = p.reached } in
-        let at_goal : now.cells ≡ goal = one_cells x (script (setup_of a b) whole_errand follows.broken) now.cells goal follows.ends.0 goes in
-        absurd (differs_somewhere goal now.cells d at_goal follows.ends.1)
-    follows_reaches (end.CallFailed number call f) follows other stored =
-        let p = script_passes x follows.broken same board idle in
-        absurd (not_both (run x (script (setup_of a b) whole_errand follows.broken)) _ _ p.ran follows.ends.ran)
-    follows_reaches end.DeviceFault follows other stored = cc
-    follows_reaches end.StoreFault follows other stored = cc
-
-    -- and at each moment, whatever the end, a stop leaves what lies outside the plan
-    pub follows_local : (e : SessionEnd) → Follows (setup_of a b) whole_errand x e start now → Leaves (cells_half start) (cells_half now) (SameBut P old)
-    follows_local e follows =
-        leaves_as (IsLeftOnWay x (script (setup_of a b) whole_errand follows.broken)) (SameBut P old)
-        (λ c left. ⊎_elim
-        (λ (first : left.at ≡ x.world). idle_local P old x.world left.at c idle (but_none P old x.world.cells same) first left.left)
-        (λ (within : IsWithin x (script (setup_of a b) whole_errand follows.broken) left.at). (script_passes x follows.broken same board idle).local left.at within c left.left)
-        left.on)
-        follows.moments
+      check_passes (has_verify s) z torn.verify refl z_is (z_board ∙ y_board ∙ board) z_idle two.same)))

@@ -1,17 +1,30 @@
--- What lies outside a plan.
-use Rattle.std.specs.Prelude.{◌≡◌, ◌⊎◌, ◌∷◌, [], ℕ, true, false, List, length, get_or, slice_index}
+-- What lies outside the plans of a session.
+use Rattle.std.specs.Prelude.{◌≡◌, ◌<◌, ◌+◌, ◌⊎◌, ◌∷◌, [], ℕ, true, false, List, length, get_or, slice_index}
 use Rattle.bench_model.specs.Calls.{CellsStay}
 use Rattle.bench_model.specs.History.{Leaves}
 use Rattle.bench_model.specs.State.{BenchState, cells_half}
 use Rattle.flm_descriptor.specs.Shape.{range_at}
 use Rattle.page_geometry.specs.Layout.{In, Layout}
 use Rattle.erase_planner.specs.Plans.{Chosen}
+use Rattle.flash_session.specs.Script.{Planned}
 
--- the place is in a sector or a page of the plan; with a plan that erases the chip each place is
+-- the place of a region is in a sector or a page of the plan; with a plan that erases the chip each place is
 abbrev pub IsInPlan : Layout → Chosen → ℕ → Type 0
 IsInPlan l plan i = (plan.chip ≡ true)
     ⊎ (((k : ℕ) × (get_or plan.sectors k false ≡ true) × In i (range_at l.sectors k))
     ⊎ ((k : ℕ) × (get_or plan.pages k false ≡ true) × In i (range_at l.pages k)))
+
+-- the place is one of a region whose cells begin at this one, and is in the region's plan
+pub record IsInRegionPlan (start : ℕ) (l : Layout) (plan : Chosen) (i : ℕ) : Type 0 where
+  pub at : ℕ
+  pub is : i ≡ start + at
+  pub inside : at < l.size
+  pub planned : IsInPlan l plan at
+
+-- the place is in the plan of its own region, where the cells of these regions follow one another from a place on
+abbrev pub IsInPlans : ℕ → List Planned → ℕ → Type 0
+IsInPlans start [] i = ⊥
+IsInPlans start (p ∷ rest) i = IsInRegionPlan start p.layout p.plan i ⊎ IsInPlans (start + p.layout.size) rest i
 
 -- each cell but those at these places is as it was
 pub record SameBut (P : ℕ → Type 0) (old new : List ℕ) : Type 0 where

@@ -5,13 +5,12 @@ use Rattle.bench_model.specs.State.{BenchState, cells_half}
 use Rattle.target_core.specs.World.{World}
 use Rattle.algo_calls.specs.declared.call.Call.{Call}
 use Rattle.algo_calls.specs.declared.call.CallEnd.{CallEnd}
-use Rattle.algo_calls.specs.Setups.{Setup}
 use Rattle.flash_session.specs.declared.ending.SessionEnd.{SessionEnd}
 use Rattle.flash_session.specs.declared.ending.SessionEnd.TheVariants as end
 use Rattle.flash_session.specs.Differs.{IsFirstDifference}
 use Rattle.flash_session.specs.Moves.{Move, Stand, failure, run, IsLeftOnWay}
 use Rattle.flash_session.specs.Plays.{BreaksOff, IsNotDone}
-use Rattle.flash_session.specs.Script.{Errand, Broken, script}
+use Rattle.flash_session.specs.Script.{Leg, Broken, script}
 
 -- the moves go to their end, and leave these cells
 pub record GoTo (a : Stand) (moves : List Move) (cells : List ℕ) : Type 0 where
@@ -41,11 +40,12 @@ EndsIn a moves goal (end.CallFailed number call e) now = IsEnd a moves goal (end
 EndsIn a moves goal end.DeviceFault now = BreaksOff a moves now
 EndsIn a moves goal end.StoreFault now = BreaksOff a moves now
 
--- with one choice of what broken-off operations leave, the end, the cells and each moment are the script's
-pub record Follows (s : Setup) (t : Errand) (a : Stand) (e : SessionEnd) (start now : BenchState) : Type 0 where
+-- With one choice of what broken-off operations leave, the end, the cells and each moment are those of the script of these regions. The
+-- goal is that of all cells.
+pub record Follows (legs : List Leg) (goal : List ℕ) (a : Stand) (e : SessionEnd) (start now : BenchState) : Type 0 where
   pub broken : Broken
-  pub ends : EndsIn a (script s t broken) t.goal e now
-  pub moments : Leaves (cells_half start) (cells_half now) (IsLeftOnWay a (script s t broken))
+  pub ends : EndsIn a (script legs broken) goal e now
+  pub moments : Leaves (cells_half start) (cells_half now) (IsLeftOnWay a (script legs broken))
 
 abbrev pub is_device_end : SessionEnd → Bool
 is_device_end (end.Reached r) = false

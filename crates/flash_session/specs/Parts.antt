@@ -1,27 +1,47 @@
 -- What a session gives up.
-use Rattle.std.specs.Prelude.{◌≡◌, ℕ, List, [], ◌∷◌, replicate}
-use Rattle.board_file.specs.Shown.{shown as board_of}
-use Rattle.flm_descriptor.specs.Shown.{shown as algorithm_of}
-use Rattle.job_text.specs.declared.job.Job.{Job}
+use Rattle.std.specs.Prelude.{◌≡◌, ◌+◌, ℕ, List, [], ◌∷◌, option_to_list, replicate, Option, Some, None}
+use Rattle.board_file.specs.Shown.{Shown as BoardShown}
+use Rattle.board_file.specs.Limits.{size_of}
+use Rattle.flm_descriptor.specs.Shown.{Shown as AlgorithmShown}
 use Rattle.target_core.specs.Units.{unit_cells}
 use Rattle.target_core.specs.Windows.{window_of}
-use Rattle.algo_calls.specs.Shows.{setup_at, world_at}
+use Rattle.algo_calls.specs.Setups.{setup_of}
+use Rattle.algo_calls.specs.declared.calls.Calls.{Calls}
+use Rattle.algo_calls.specs.Shows.{setup_at, world_at, setup_in, map_in}
+use Rattle.flash_session.specs.declared.parts.Parts.{Parts}
 use Rattle.flash_session.specs.declared.parts.Work.{Work}
-use Rattle.flash_session.specs.Starts.{job_setup, start_of}
-use Rattle.flash_session.specs.Surveys.{Surveyed}
+use Rattle.flash_session.specs.Script.{Planned}
+use Rattle.flash_layout.specs.Maps.{board_map}
+use Rattle.flash_session.specs.declared.work.RegionWork.{RegionWork}
+use Rattle.flash_session.specs.Starts.{start_of}
+use Rattle.flash_session.specs.Surveys.{planned_of}
 use Rattle.flash_session.specs.Works.{IsWorkFor}
 
--- Work as a survey of a job left it. With a RAM of zero bytes the machine is the job's target as after a reset.
-pub record IsPartOf (j : Job) (w : Surveyed) (p : Work) : Type 0 where
-  pub setup : setup_at p.calls ≡ job_setup j
-  pub starts : (windows : List (List ℕ)) (i : ℕ) (cells : List ℕ) → window_of windows i ≡ replicate (board_of j.board).ram_size 0 → world_at p.calls windows i cells ≡ start_of (board_of j.board) cells
-  pub cells : unit_cells p.calls.machine.unit ≡ j.algorithm.device.size
-  pub fits : IsWorkFor (algorithm_of j.algorithm) p.geometry p.plan.made
-  pub layout : p.geometry ≡ w.layout
-  pub plan : p.plan.made ≡ w.plan
+-- Work on a region of a board as a survey left it. With a RAM of zero bytes the machine is the board's target as after a reset.
+pub record IsPartOf (b : BoardShown) (a : AlgorithmShown) (p : Planned) (w : Work) : Type 0 where
+  pub setup : setup_at w.calls ≡ setup_of a b
+  pub starts : (windows : List (List ℕ)) (i : ℕ) (cells : List ℕ) → window_of windows i ≡ replicate b.ram_size 0 → world_at w.calls windows i cells ≡ start_of b cells
+  pub cells : unit_cells w.calls.machine.unit ≡ size_of b.regions
+  pub fits : IsWorkFor a w.geometry w.plan.made
+  pub layout : w.geometry ≡ p.layout
+  pub plan : w.plan.made ≡ p.plan
 
--- it is one piece of work
-abbrev pub ArePartsOf : Job → Surveyed → List Work → Type 0
-ArePartsOf j w [] = ⊥
-ArePartsOf j w (part ∷ []) = IsPartOf j w part
-ArePartsOf j w (part ∷ next ∷ more) = ⊥
+-- one piece of work for each region
+abbrev pub ArePartsOf : BoardShown → List AlgorithmShown → List Planned → List Work → Type 0
+ArePartsOf b [] [] [] = Unit {0}
+ArePartsOf b (a ∷ rest) (p ∷ more) (w ∷ works) = IsPartOf b a p w × ArePartsOf b rest more works
+ArePartsOf b _ _ _ = ⊥
+
+abbrev pub works_in : Parts → List Work
+works_in p = p.first ∷ option_to_list p.second
+
+-- the work on a region and its calls give this
+pub record GivesPart (r : RegionWork) (c : Calls) (w : Work) : Type 0 where
+  pub gives : (b : BoardShown) (a : AlgorithmShown) → setup_in c ≡ setup_of a b → map_in c ≡ board_map b → IsWorkFor a r.geometry r.plan.made → IsPartOf b a (planned_of r) w
+
+abbrev pub GivesLater : Option RegionWork → Option Calls → Option Work → Type 0
+GivesLater None c None = Unit {0}
+GivesLater None c (Some w) = ⊥
+GivesLater (Some r) None w = Unit {0}
+GivesLater (Some r) (Some c) None = ⊥
+GivesLater (Some r) (Some c) (Some w) = GivesPart r c w

@@ -8,13 +8,13 @@ use Rattle.algo_calls.specs.declared.call.Call.TheVariants.{Init, UnInit, EraseS
 use Rattle.algo_calls.specs.Setups.{Setup}
 use Rattle.flash_session.specs.Moves.{Move, Reset, Load, Make}
 
--- a plan on a device: its sectors and pages, the address of its first byte, and what to erase and to program
+-- a plan of a region: its sectors and pages, the address of its first byte, and what to erase and to program
 pub record Planned : Type 0 where
   pub layout : Layout
   pub base : ℕ
   pub plan : Chosen
 
--- and the contents to reach
+-- and the contents of the region to reach
 pub record Errand : Type 0 where
   pub planned : Planned
   pub goal : List ℕ
@@ -70,17 +70,48 @@ unfoldable pub phase : Setup → ℕ → List ℕ → List Move → List Move
 phase s kind torn [] = []
 phase s kind torn (call ∷ calls) = Reset s torn ∷ Load s ∷ Make s (Init kind) [] ∷ ((call ∷ calls) ++ (Make s (UnInit kind) [] ∷ []))
 
--- what each reset leaves of an operation that it breaks off, of which it is the range
-pub record Broken : Type 0 where
+-- what the resets before the phases of a region leave of an operation that they break off, of which it is the range
+pub record Torn : Type 0 where
   pub erase : List ℕ
   pub program : List ℕ
   pub verify : List ℕ
+
+-- the phases of a region
+unfoldable pub phases : Setup → Errand → Torn → List Move
+phases s t b =
+    phase s 1 b.erase (erase_moves s t.planned) ++ (phase s 2 b.program (page_moves false s t) ++ phase s 3 b.verify (verify_moves s t))
+
+-- what is to be done in a region, and what the calls of its algorithm rest on
+pub record Leg : Type 0 where
+  pub setup : Setup
+  pub errand : Errand
+
+abbrev pub leg : Setup → Errand → Leg
+leg s t = record { setup = s; errand = t }
+
+-- the same of the resets of each region in order, and of the last reset
+pub record Broken : Type 0 where
+  pub legs : List Torn
   pub last : List ℕ
 
-unfoldable pub script : Setup → Errand → Broken → List Move
-script s t b =
-    phase s 1 b.erase (erase_moves s t.planned)
-    ++ (phase s 2 b.program (page_moves false s t) ++ (phase s 3 b.verify (verify_moves s t) ++ (Reset s b.last ∷ [])))
+abbrev pub torn_first : List Torn → Torn
+torn_first [] = record { erase = []; program = []; verify = [] }
+torn_first (b ∷ rest) = b
+
+abbrev pub torn_rest : List Torn → List Torn
+torn_rest [] = []
+torn_rest (b ∷ rest) = rest
+
+-- region after region
+unfoldable pub legs_of : List Leg → List Torn → List Move
+legs_of [] torn = []
+legs_of (l ∷ rest) torn = phases l.setup l.errand (torn_first torn) ++ legs_of rest (torn_rest torn)
+
+-- The whole: the regions in order, of which a board has one at least, and a reset. The targets of all regions have the board's RAM, so
+-- it is that of any of them.
+unfoldable pub script : List Leg → Broken → List Move
+script [] b = []
+script (l ∷ rest) b = legs_of (l ∷ rest) b.legs ++ (Reset l.setup b.last ∷ [])
 
 -- the plan is one for this algorithm
 pub record IsErrand (s : Setup) (p : Planned) : Type 0 where

@@ -1,5 +1,6 @@
 //! The comparison of the cells with a goal.
 ghost use Rattle.std.specs.Prelude.{◌≡◌, ◌<◌, ◌≤◌, ◌+◌, ℕ, List, length, IsTrue, IfOk, None};
+ghost use Rattle.board_file.specs.Limits.{size_of};
 ghost use Rattle.job_file.specs.Counted.{IsCounted};
 ghost use Rattle.flash_session.specs.Differs.{Compares, FindsIn};
 ghost use Rattle.bench_model.specs.Calls.{IsRead};
@@ -30,7 +31,7 @@ fn compare_window<B: Bench>(
     requires range { at + length wanted.old ≤ (B.state bench.old).cell_count }
     requires some { 0 < length wanted.old }
     requires same { length cells.old ≡ length wanted.old }
-    requires size { (B.state bench.old).cell_count ≡ task.now.job.now.algorithm.device.size }
+    requires size { (B.state bench.old).cell_count ≡ size_of task.now.job.now.board.regions }
     requires idle { IsTrue B.tells → (B.state bench.old).operation ≡ None }
     requires goal { HasGoal B.tells task.now.job.now task.now.goal goal (B.state bench.old) }
     ensures ok { IfOk result (λ found. FindsIn B.tells (B.state bench.old).cells goal at (length wanted.old) found) }
@@ -58,7 +59,7 @@ fn compare_windows<B: Bench>(
     ghost goal: { List ℕ }
     requires wanted { length wanted.old ≡ WINDOW }
     requires cells { length cells.old ≡ WINDOW }
-    requires size { (B.state bench.old).cell_count ≡ task.now.job.now.algorithm.device.size }
+    requires size { (B.state bench.old).cell_count ≡ size_of task.now.job.now.board.regions }
     requires idle { IsTrue B.tells → (B.state bench.old).operation ≡ None }
     requires goal { HasGoal B.tells task.now.job.now task.now.goal goal (B.state bench.old) }
     ensures ok { IfOk result (λ found. Compares B.tells goal (B.state bench.old).cells (B.state bench.old).cell_count found) }
@@ -89,7 +90,7 @@ fn compare_windows<B: Bench>(
 /// Compares all cells with the goal of a task: none where they are equal, else the least place that differs. It takes no memory.
 pub(crate) fn compare<B: Bench>(bench: &mut B, task: &Task) -> Result<Option<Difference>, Unread>
     ghost goal: { List ℕ }
-    requires size { (B.state bench.old).cell_count ≡ task.now.job.now.algorithm.device.size }
+    requires size { (B.state bench.old).cell_count ≡ size_of task.now.job.now.board.regions }
     requires idle { IsTrue B.tells → (B.state bench.old).operation ≡ None }
     requires goal { HasGoal B.tells task.now.job.now task.now.goal goal (B.state bench.old) }
     ensures ok { IfOk result (λ found. Compares B.tells goal (B.state bench.old).cells (B.state bench.old).cell_count found) }

@@ -6,7 +6,7 @@ use erase_planner::Plan;
 use job_text::Job;
 use page_geometry::Geometry;
 
-/// The work on a device: the calls of the job's algorithm on a machine that starts anew, the sectors and pages, and what to erase and to
+/// The work on a region: the calls of its algorithm on a machine that starts anew, the sectors and pages, and what to erase and to
 /// program of them.
 #[derive(Drop)]
 pub struct Work {
@@ -18,13 +18,15 @@ pub struct Work {
     pub plan: Plan,
 }
 
-/// A job, its goal, and the work on its device.
+/// A job, its goal, and the work on each region of its board.
 #[derive(Drop)]
 pub struct Parts {
     /// The job.
     pub job: Job,
     /// What to reach.
     pub goal: Goal,
-    /// The work: all of it, for a job has one region.
-    pub works: [Work; 1],
+    /// The work on the first region.
+    pub first: Work,
+    /// And on the second one, where the board has two.
+    pub second: Option<Work>,
 }

@@ -2,6 +2,7 @@
 ghost use Rattle.std.specs.Prelude.{◌≡◌, IsTrue, IsSome, None};
 ghost use Rattle.bench_model.specs.History.{LeftOnly};
 ghost use Rattle.bench_model.specs.State.{file_half};
+ghost use Rattle.board_file.specs.Limits.{size_of};
 ghost use Rattle.job_text.specs.Stands.{StandsFor};
 ghost use Rattle.flash_session.specs.Sessions.{job_in, surveyed};
 
@@ -32,7 +33,7 @@ pub enum Carried {
 /// Goes to the goal of the session's last survey, and closes the job there.
 fn finish<B: Bench>(session: &mut Session, bench: &mut B) -> Carried
     requires surveyed { IsSome (surveyed session.old) }
-    requires count { (B.state bench.old).cell_count ≡ (job_in session.old).algorithm.device.size }
+    requires count { (B.state bench.old).cell_count ≡ size_of (job_in session.old).board.regions }
     requires idle { IsTrue B.tells → (B.state bench.old).operation ≡ None }
     requires stands { IsTrue B.tells → StandsFor (job_in session.old) (B.state bench.old).file }
     requires only { IsTrue B.tells → LeftOnly (B.state bench.old).file (file_half (B.state bench.old)) }
@@ -61,6 +62,22 @@ pub fn carry<B: Bench>(alloc: Global, bench: &mut B, goal: Goal) -> Carried {
     }
 }
 
+/// Goes to the goal of the session's last survey. The job stays open.
+fn go<B: Bench>(session: &mut Session, bench: &mut B) -> Carried
+    requires surveyed { IsSome (surveyed session.old) }
+    requires count { (B.state bench.old).cell_count ≡ size_of (job_in session.old).board.regions }
+    requires idle { IsTrue B.tells → (B.state bench.old).operation ≡ None }
+    requires stands { IsTrue B.tells → StandsFor (job_in session.old) (B.state bench.old).file }
+{
+    match session.go(bench) {
+        SessionEnd::Reached(_) => Carried::Reached,
+        SessionEnd::Mismatch(difference) => Carried::Mismatch(difference),
+        SessionEnd::CallFailed { number, call, end } => Carried::CallFailed { number, call, end },
+        SessionEnd::DeviceFault => Carried::DeviceFault,
+        SessionEnd::StoreFault => Carried::StoreFault,
+    }
+}
+
 /// Opens the job of one bench, surveys another, and goes over a third, which have the same file and as many cells. The job stays open.
 pub fn carry_apart<B: Bench>(alloc: Global, first: &mut B, second: &mut B, third: &mut B) -> Carried
     requires second_file { IsTrue B.tells → (B.state second.old).file ≡ (B.state first.old).file }
@@ -75,14 +92,7 @@ pub fn carry_apart<B: Bench>(alloc: Global, first: &mut B, second: &mut B, third
         Err(fault) => return Carried::Refused(fault),
     };
     match session.survey(alloc, second, Goal::New) {
-        Ok(()) => {}
-        Err(fault) => return Carried::Unsurveyed(fault),
-    }
-    match session.go(third) {
-        SessionEnd::Reached(_) => Carried::Reached,
-        SessionEnd::Mismatch(difference) => Carried::Mismatch(difference),
-        SessionEnd::CallFailed { number, call, end } => Carried::CallFailed { number, call, end },
-        SessionEnd::DeviceFault => Carried::DeviceFault,
-        SessionEnd::StoreFault => Carried::StoreFault,
+        Ok(()) => go(&mut session, third),
+        Err(fault) => Carried::Unsurveyed(fault),
     }
 }

@@ -1,0 +1,136 @@
+-- What the surveys of a job's regions found, one after the other, is the survey of the job.
+use Rattle.std.proofs.Common.{◌≡◌, ◌<◌, ◌≤◌, ◌+◌, ◌^◌, ◌∙◌, ℕ, Bool, false, IsTrue, is_some, Result, Err, List, [], ◌∷◌, map, option_to_list, length, take, drop, Option, Some, None, refl, sym, ap, subst, arith}
+use Rattle.std.proofs.lemmas.List.{take_all}
+use Rattle.std.proofs.lemmas.List.Elements.{All-append}
+use Rattle.board_file.specs.Limits.{size_of}
+use Rattle.board_file.specs.Shown.{Shown as BoardShown, shown as board_of}
+use Rattle.flm_descriptor.specs.Shown.{Shown as AlgorithmShown}
+use Rattle.flash_layout.specs.Areas.{areas_of}
+use Rattle.erase_planner.specs.Plans.{IsLeastPlan}
+use Rattle.algo_calls.specs.Duties.{cells_before}
+use Rattle.job_text.specs.Fits.{all_fit}
+use Rattle.job_text.specs.declared.job.Job.{Job}
+use Rattle.flash_session.specs.declared.work.RegionWork.{RegionWork}
+use Rattle.flash_session.specs.declared.work.Work.{Work}
+use Rattle.flash_session.specs.declared.fault.SurveyFault.{SurveyFault}
+use Rattle.flash_session.specs.declared.fault.SurveyFault.TheVariants as survey
+use Rattle.bench_model.specs.Device.{HasDeviceCause}
+use Rattle.job_file.specs.Counted.{IsCounted}
+use Rattle.flash_session.proofs.Playing.{cause_then, counted_then}
+use Rattle.flash_session.specs.Found.{IsFound, AreFound}
+use Rattle.flash_session.specs.Script.{Planned}
+use Rattle.flash_session.specs.Surveys.{planned_of, IsPlannedFor, ArePlannedFor, is_survey_store, is_survey_device}
+use Rattle.flash_session.specs.Works.{AreRegionWorks}
+use Rattle.flash_session.proofs.JobLemmas.{sizes_are, second_start}
+use Rattle.flash_session.proofs.PartLemmas.{two_parts}
+use Rattle.flash_session.proofs.SurveyLemmas.{AreBytes}
+
+plan_still : (tells : Bool) (b : BoardShown) (a : AlgorithmShown) (c d g h : List ℕ) (p : Planned) → (IsTrue tells → c ≡ d) → (IsTrue tells → g ≡ h) → IsPlannedFor tells b a c g p → IsPlannedFor tells b a d h p
+plan_still tells b a c d g h p one two is = record {
+  layout = is.layout;
+  lawful = is.lawful;
+  base = is.base;
+  plan = λ told. subst (λ (x : List ℕ). IsLeastPlan p.layout b.weights (is_some a.entries.erase_chip) a.device.empty d x p.plan) (two told)
+      (subst (λ (x : List ℕ). IsLeastPlan p.layout b.weights (is_some a.entries.erase_chip) a.device.empty x g p.plan) (one told) (is.plan told));
+  entry = is.entry;
+}
+
+found_still : (tells : Bool) (j : Job) (a : AlgorithmShown) (start : ℕ) (c d g h : List ℕ) (r : RegionWork) → (IsTrue tells → c ≡ d) → (IsTrue tells → g ≡ h) → IsFound tells j a start c g r → IsFound tells j a start d h r
+found_still tells j a start c d g h r one two is =
+    let mine : (x y : List ℕ) → x ≡ y → take a.device.size (drop start x) ≡ take a.device.size (drop start y) = λ x y same. ap (λ (l : List ℕ). take a.device.size (drop start l)) same in
+    record {
+      plan = plan_still tells (board_of j.board) a (take a.device.size (drop start c)) (take a.device.size (drop start d)) (take a.device.size (drop start g)) (take a.device.size (drop start h)) (planned_of r)
+          (λ told. mine c d (one told)) (λ told. mine g h (two told)) is.plan;
+      work = is.work;
+      bytes = λ told. subst (λ (l : List ℕ). AreBytes l) (mine c d (one told)) (is.bytes told);
+      wanted = λ told. subst (λ (l : List ℕ). AreBytes l) (mine g h (two told)) (is.wanted told);
+    }
+
+-- cells and file that were only read are the same
+pub later_still : (tells : Bool) (j : Job) (start : ℕ) (algorithms : List AlgorithmShown) (c d g h : List ℕ) (works : List RegionWork) → (IsTrue tells → c ≡ d) → (IsTrue tells → g ≡ h)
+    → AreFound tells j start algorithms c g works → AreFound tells j start algorithms d h works
+later_still tells j start [] c d g h [] one two are = tt
+later_still tells j start [] c d g h (r ∷ more) one two are = absurd are
+later_still tells j start (a ∷ rest) c d g h [] one two are = absurd are
+later_still tells j start (a ∷ rest) c d g h (r ∷ more) one two are = (found_still tells j a start c d g h r one two are.0, later_still tells j (start + a.device.size) rest c d g h more one two are.1)
+
+-- one region, and those behind it
+pub found_then : (tells : Bool) (j : Job) (a : AlgorithmShown) (rest : List AlgorithmShown) (cells goal : List ℕ) (r : RegionWork) (more : List RegionWork) → IsFound tells j a 0 cells goal r → AreFound tells j a.device.size rest cells goal more
+    → AreFound tells j 0 (a ∷ rest) cells goal (r ∷ more)
+found_then tells j a rest cells goal r more one later = let e : a.device.size ≡ 0 + a.device.size = omega arith in (one, subst (λ (n : ℕ). AreFound tells j n rest cells goal more) e later)
+
+pub works_found : (tells : Bool) (j : Job) (start : ℕ) (algorithms : List AlgorithmShown) (cells goal : List ℕ) (works : List RegionWork) → AreFound tells j start algorithms cells goal works → AreRegionWorks algorithms start works
+works_found tells j start [] cells goal [] are = tt
+works_found tells j start [] cells goal (r ∷ more) are = absurd are
+works_found tells j start (a ∷ rest) cells goal [] are = absurd are
+works_found tells j start (a ∷ rest) cells goal (r ∷ more) are = (are.0.work, works_found tells j (start + a.device.size) rest cells goal more are.1)
+
+-- the fault of the second survey is that of both
+abbrev Second : Type 0
+Second = Result (Option RegionWork) SurveyFault
+
+abbrev Both : Type 0
+Both = Result Work SurveyFault
+
+abbrev of_second : SurveyFault → Second
+of_second e = Err e
+
+abbrev of_both : SurveyFault → Both
+of_both e = Err e
+
+same_store : (e : SurveyFault) → is_survey_store (of_second e) ≡ is_survey_store (of_both e)
+same_store survey.OutOfMemory = refl
+same_store survey.DeviceFault = refl
+same_store survey.StoreFault = refl
+
+same_device : (e : SurveyFault) → is_survey_device (of_second e) ≡ is_survey_device (of_both e)
+same_device survey.OutOfMemory = refl
+same_device survey.DeviceFault = refl
+same_device survey.StoreFault = refl
+
+pub store_err : (a b c : ℕ) (r : Both) (e : SurveyFault) → r ≡ of_both e → IsCounted a b false → IsCounted b c (is_survey_store (of_second e)) → IsCounted a c (is_survey_store r)
+store_err a b c r e is one two = subst (λ (q : Both). IsCounted a c (is_survey_store q)) (sym is) (counted_then a b c (is_survey_store (of_both e)) one (subst (λ (d : Bool). IsCounted b c d) (same_store e) two))
+
+pub device_err : (a b c : ℕ) (r : Both) (e : SurveyFault) → r ≡ of_both e → HasDeviceCause a b false → HasDeviceCause b c (is_survey_device (of_second e)) → HasDeviceCause a c (is_survey_device r)
+device_err a b c r e is one two = subst (λ (q : Both). HasDeviceCause a c (is_survey_device q)) (sym is) (cause_then a b c (is_survey_device (of_both e)) one (subst (λ (d : Bool). HasDeviceCause b c d) (same_device e) two))
+
+-- the bytes of two parts are those of all
+both_bytes : (n m at : ℕ) (cells : List ℕ) → length cells ≡ n + m → at ≡ n → AreBytes (take n cells) → AreBytes (take m (drop at cells)) → AreBytes cells
+both_bytes n m at cells long is one two =
+    subst (λ (l : List ℕ). AreBytes l) (sym (two_parts n m cells long))
+    (All-append (λ v. v < 2 ^ 8) (take n cells) (take m (drop n cells)) one (subst (λ (k : ℕ). AreBytes (take m (drop k cells))) is two))
+
+module _ (tells : Bool) (j : Job) (cells goal : List ℕ) (long : IsTrue tells → length cells ≡ size_of j.board.regions) (goal_long : IsTrue tells → length goal ≡ size_of j.board.regions) (first : RegionWork) where
+  abbrev b : BoardShown
+  b = board_of j.board
+
+  pub record IsWhole (algorithms : List AlgorithmShown) (second : Option RegionWork) : Type 0 where
+    pub plans : ArePlannedFor tells b 0 algorithms cells goal (map planned_of (first ∷ option_to_list second))
+    pub bytes : IsTrue tells → AreBytes cells
+    pub wanted : IsTrue tells → AreBytes goal
+
+  pub whole_found : (algorithms : List AlgorithmShown) (second : Option RegionWork) → IsTrue (all_fit b j.board.regions algorithms) → AreFound tells j 0 algorithms cells goal (first ∷ option_to_list second) → IsWhole algorithms second
+  whole_found [] second fit are = absurd are
+  whole_found (a ∷ []) None fit are =
+      let total = sizes_are b j.board.regions (a ∷ []) fit in
+      record {
+        plans = (are.0.plan, tt);
+        bytes = λ told. subst (λ (l : List ℕ). AreBytes l) (take_all a.device.size cells (omega (arith, long told, total))) (are.0.bytes told);
+        wanted = λ told. subst (λ (l : List ℕ). AreBytes l) (take_all a.device.size goal (omega (arith, goal_long told, total))) (are.0.wanted told);
+      }
+  whole_found (a ∷ []) (Some r) fit are = absurd are.1
+  whole_found (a ∷ c ∷ rest) None fit are = absurd are.1
+  whole_found (a ∷ c ∷ []) (Some r) fit are =
+      let total = sizes_are b j.board.regions (a ∷ c ∷ []) fit in
+      let start = second_start b j.board.regions a c [] fit in
+      let at : 0 + a.device.size ≡ cells_before (areas_of j.board.regions) 1 = omega (arith, start) in
+      let zero : 0 + a.device.size ≡ a.device.size = omega arith in
+      record {
+        plans = (
+          are.0.plan,
+          (subst (λ (n : ℕ). IsPlannedFor tells b c (take c.device.size (drop n cells)) (take c.device.size (drop n goal)) (planned_of r)) at are.1.0.plan, tt),
+        );
+        bytes = λ told. both_bytes a.device.size c.device.size (0 + a.device.size) cells (omega (arith, long told, total)) zero (are.0.bytes told) (are.1.0.bytes told);
+        wanted = λ told. both_bytes a.device.size c.device.size (0 + a.device.size) goal (omega (arith, goal_long told, total)) zero (are.0.wanted told) (are.1.0.wanted told);
+      }
+  whole_found (a ∷ c ∷ d ∷ rest) (Some r) fit are = absurd are.1.1

@@ -1,0 +1,75 @@
+use Rattle.std.proofs.Common.{◌≡◌, ◌∙◌, ℕ, Err, IsTrue, List, ◌∷◌, map, option_to_list, length, refl, sym, ap, subst, arith}
+use Rattle.board_file.specs.Shown.{shown as board_of}
+use Rattle.flm_descriptor.specs.Shown.{Shown as AlgorithmShown, shown as algorithm_of}
+use Rattle.job_text.specs.Fits.{all_fit}
+use Rattle.job_text.specs.Said.{algorithms_shown}
+use Rattle.flash_session.specs.Found.{AreFound}
+use Rattle.flash_session.specs.Goals.{goal_in}
+use Rattle.flash_session.specs.Starts.{later_shown}
+use Rattle.flash_session.specs.Surveys.{planned_of, ArePlannedFor}
+use Rattle.flash_session.specs.Works.{AreRegionWorks, HasRoom}
+use Rattle.flash_session.proofs.FoundLemmas.{found_then, later_still, works_found, whole_found, store_err, device_err}
+use Rattle.flash_session.proofs.ReadLemmas.{read_then}
+use Rattle.flash_session.proofs.JobLemmas.{goal_length, sizes_are}
+use Rattle.flash_session.proofs.survey.work_for.Goals as goal
+
+pub returns-in-Ok-clause-found : goal.returns-in-Ok-clause-found
+returns-in-Ok-clause-found g c =
+    let tells = g.B.Bench.tells in
+    let j = c.args.job.now in
+    let s = g.B.Bench.state c.args.bench.now in
+    let t = g.B.Bench.state c.survey_region.new.bench in
+    let wanted = goal_in j c.args.goal s.file in
+    let a = algorithm_of c.algorithms_of.result.0.now in
+    let rest = later_shown c.algorithms_of.result.1 in
+    let first = c.in_ok-first.first in
+    let second = c.in-Ok.second in
+    let reads = c.survey_region.ensures.reads in
+    let later = later_still tells j a.device.size rest t.cells s.cells (goal_in j c.args.goal t.file) wanted (option_to_list second) (λ told. reads.cells.cells told) (λ told. ap (goal_in j c.args.goal) (reads.file.file told)) c.in-Ok.ensures.found in
+    let all : AreFound tells j 0 (a ∷ rest) s.cells wanted (first ∷ option_to_list second) = found_then tells j a rest s.cells wanted first (option_to_list second) c.in_ok-first.ensures.found later in
+    let is = c.algorithms_of.ensures in
+    let whole = whole_found tells j s.cells wanted (λ told. g.met.B.Bench.all_told c.args.bench.now told ∙ c.requires.count) (λ told. goal_length j c.args.goal s.file (c.requires.stands told)) first (a ∷ rest) second
+    (subst (λ (l : List AlgorithmShown). IsTrue (all_fit (board_of j.board) j.board.regions l)) is j.fit) all in
+    record {
+      regions = subst (λ (l : List AlgorithmShown). ArePlannedFor tells (board_of j.board) 0 l s.cells wanted (map planned_of (first ∷ option_to_list second))) (sym is) whole.plans;
+      goal = refl;
+      bytes = whole.bytes;
+      wanted = whole.wanted;
+    }
+
+pub returns-in-Ok-clause-work : goal.returns-in-Ok-clause-work
+returns-in-Ok-clause-work g c =
+    let tells = g.B.Bench.tells in
+    let j = c.args.job.now in
+    let s = g.B.Bench.state c.args.bench.now in
+    let t = g.B.Bench.state c.survey_region.new.bench in
+    let wanted = goal_in j c.args.goal s.file in
+    let a = algorithm_of c.algorithms_of.result.0.now in
+    let rest = later_shown c.algorithms_of.result.1 in
+    let first = c.in_ok-first.first in
+    let second = c.in-Ok.second in
+    let reads = c.survey_region.ensures.reads in
+    let later = later_still tells j a.device.size rest t.cells s.cells (goal_in j c.args.goal t.file) wanted (option_to_list second) (λ told. reads.cells.cells told) (λ told. ap (goal_in j c.args.goal) (reads.file.file told)) c.in-Ok.ensures.found in
+    let all : AreFound tells j 0 (a ∷ rest) s.cells wanted (first ∷ option_to_list second) = found_then tells j a rest s.cells wanted first (option_to_list second) c.in_ok-first.ensures.found later in
+    let is = c.algorithms_of.ensures in
+    record {
+      regions = subst (λ (l : List AlgorithmShown). AreRegionWorks l 0 (first ∷ option_to_list second)) (sym is) (works_found tells j 0 (a ∷ rest) s.cells wanted (first ∷ option_to_list second) all);
+      machines = c.in_ok-machines.ensures;
+      page = subst (λ (l : List AlgorithmShown). HasRoom l (length c.in_ok-page.page.items)) (sym is) (subst (λ (n : ℕ). HasRoom (a ∷ rest) n) (sym c.in_ok-page.ensures) c.longest_page.ensures);
+    }
+
+pub survey_region-requires-clause-inside : goal.survey_region-requires-clause-inside
+survey_region-requires-clause-inside g c =
+    let j = c.args.job.now in
+    let a = algorithm_of c.algorithms_of.result.0.now in
+    let rest = later_shown c.algorithms_of.result.1 in
+    omega (arith, sizes_are (board_of j.board) j.board.regions (a ∷ rest) (subst (λ (l : List AlgorithmShown). IsTrue (all_fit (board_of j.board) j.board.regions l)) c.algorithms_of.ensures j.fit))
+
+pub returns-in-Err-clause-reads : goal.returns-in-Err-clause-reads
+returns-in-Err-clause-reads g c = read_then c.survey_region.ensures.reads c.survey_second.ensures.reads
+
+pub returns-in-Err-clause-store : goal.returns-in-Err-clause-store
+returns-in-Err-clause-store g c = store_err _ _ _ (Err c.in-Err.fault) c.in-Err.fault refl c.in_ok-first.ensures.store c.in-Err.ensures.store
+
+pub returns-in-Err-clause-device : goal.returns-in-Err-clause-device
+returns-in-Err-clause-device g c = device_err _ _ _ (Err c.in-Err.fault) c.in-Err.fault refl c.in_ok-first.ensures.device c.in-Err.ensures.device
