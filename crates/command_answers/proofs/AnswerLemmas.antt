@@ -3,7 +3,7 @@ use Rattle.std.proofs.Common.{◌≡◌, ◌∙◌, sym, ap, subst, refl, arith,
 use Rattle.bench_model.specs.State.{BenchState}
 use Rattle.bench_model.proofs.Moments.{only_reads_here, file_stays_here, cells_stay_here}
 use Rattle.outside_io.specs.State.{SinkState}
-use Rattle.report_text.specs.Refusal.{Refusal, out_of_memory, usage, input_fault, image_too_long, flm_refused, other_device, no_room, board_refused, image_refused, image_misplaced, job_open, no_job, not_a_job, cells_differ, store_fault, device_fault, output_fault, call_failed, mismatch, differs, not_built, status_of}
+use Rattle.report_text.specs.Refusal.{Refusal, out_of_memory, usage, input_fault, image_too_long, flm_refused, other_device, no_room, board_refused, image_refused, image_misplaced, job_open, no_job, not_a_job, damaged, cells_differ, store_fault, device_fault, output_fault, call_failed, mismatch, differs, status_of}
 use Rattle.command_files.specs.Inputs.{InputsCall, IsFile, IsUntaken, NoneFailed, TakesNothing}
 use Rattle.command_files.specs.Steps.{IsTakeFault}
 use Rattle.command_answers.specs.Call.{BenchCall, SinkCall, Answer, done, refused, bench_call, sink_call, IsUntouched, Says}
@@ -26,6 +26,7 @@ not_0 (image_misplaced fault) zero = omega (arith, zero)
 not_0 job_open zero = omega (arith, zero)
 not_0 no_job zero = omega (arith, zero)
 not_0 (not_a_job at) zero = omega (arith, zero)
+not_0 (damaged kept found) zero = omega (arith, zero)
 not_0 (cells_differ wanted found) zero = omega (arith, zero)
 not_0 store_fault zero = omega (arith, zero)
 not_0 device_fault zero = omega (arith, zero)
@@ -33,7 +34,6 @@ not_0 output_fault zero = omega (arith, zero)
 not_0 (call_failed number call end) zero = omega (arith, zero)
 not_0 (mismatch at wanted found) zero = omega (arith, zero)
 not_0 (differs at wanted found) zero = omega (arith, zero)
-not_0 not_built zero = omega (arith, zero)
 
 -- status 0 is nothing else than done
 pub zero_is_done : (status : ℕ) (err : SinkCall) (answer : Answer) → Says status err answer → status ≡ 0 → answer ≡ done
@@ -102,8 +102,8 @@ stands_early A bench out (board_refused fault) seven did = did
 stands_early A bench out job_open seven did = seven
 stands_early A bench out no_job seven did = seven
 stands_early A bench out (not_a_job at) seven did = seven
+stands_early A bench out (damaged kept found) seven did = seven
 stands_early A bench out (cells_differ wanted found) seven did = seven
-stands_early A bench out not_built seven did = did
 stands_early A bench out r seven did = tt
 
 module _ (tells told : Bool) (b : BenchState) (o : SinkState) (inputs : InputsCall) where

@@ -2,7 +2,7 @@
 use Rattle.std.specs.Prelude.{◌≡◌, ◌≤◌, ◌<◌, ◌⊎◌, ℕ, Bool, true, false, IsTrue, List, Option, Some, None}
 use Rattle.faults.specs.Counts.{Rose}
 use Rattle.bench_model.specs.Calls.{OnlyReads}
-use Rattle.report_text.specs.Refusal.{Refusal, out_of_memory, usage, input_fault, image_too_long, flm_refused, other_device, no_room, board_refused, image_refused, image_misplaced, job_open, no_job, not_a_job, cells_differ, store_fault, device_fault, output_fault, call_failed, mismatch, differs, not_built}
+use Rattle.report_text.specs.Refusal.{Refusal, out_of_memory, usage, input_fault, image_too_long, flm_refused, other_device, no_room, board_refused, image_refused, image_misplaced, job_open, no_job, not_a_job, damaged, cells_differ, store_fault, device_fault, output_fault, call_failed, mismatch, differs}
 use Rattle.command_files.specs.Inputs.{InputsCall, IsUntaken}
 use Rattle.command_answers.specs.Call.{BenchCall, SinkCall, Call, TookNothing, IsUntouched, Answer, done, refused, Says}
 
@@ -48,13 +48,13 @@ has_program (image_refused name fault) = true
 has_program (image_misplaced fault) = true
 has_program job_open = true
 has_program (not_a_job at) = true
+has_program (damaged kept found) = true
 has_program (cells_differ wanted found) = true
 has_program store_fault = true
 has_program device_fault = true
 has_program output_fault = true
 has_program (call_failed number call end) = true
 has_program (mismatch at wanted found) = true
-has_program not_built = true
 has_program _ = false
 
 -- `resume` and `revert`
@@ -62,6 +62,7 @@ abbrev pub has_resume : Refusal → Bool
 has_resume out_of_memory = true
 has_resume no_job = true
 has_resume (not_a_job at) = true
+has_resume (damaged kept found) = true
 has_resume (cells_differ wanted found) = true
 has_resume store_fault = true
 has_resume device_fault = true
@@ -109,6 +110,7 @@ has_compare _ = false
 abbrev pub has_status : Refusal → Bool
 has_status out_of_memory = true
 has_status (not_a_job at) = true
+has_status (damaged kept found) = true
 has_status (cells_differ wanted found) = true
 has_status store_fault = true
 has_status output_fault = true
@@ -179,7 +181,7 @@ AtOne on_files out = TookNothing out
 AtOne on_job_file out = TookNothing out
 AtOne on_own_bench out = Unit {0}
 
--- What stands after statuses 1 to 7, and 14.
+-- What stands after statuses 1 to 7.
 abbrev pub StandsEarly : Scope → BenchCall → SinkCall → Answer → Type 0
 StandsEarly scope bench out (refused out_of_memory) = AtOne scope out
 StandsEarly scope bench out (refused usage) = DidNothing bench out
@@ -194,8 +196,8 @@ StandsEarly scope bench out (refused (board_refused fault)) = DidNothing bench o
 StandsEarly scope bench out (refused job_open) = AtSeven scope bench out
 StandsEarly scope bench out (refused no_job) = AtSeven scope bench out
 StandsEarly scope bench out (refused (not_a_job at)) = AtSeven scope bench out
+StandsEarly scope bench out (refused (damaged kept found)) = AtSeven scope bench out
 StandsEarly scope bench out (refused (cells_differ wanted found)) = AtSeven scope bench out
-StandsEarly scope bench out (refused not_built) = DidNothing bench out
 StandsEarly scope bench out _ = Unit {0}
 
 -- the answer is done, or a refusal that passes the test

@@ -1,5 +1,5 @@
 -- What the steps answer that take and read a command's files.
-use Rattle.std.specs.Prelude.{◌≡◌, ◌≤◌, ◌<◌, ◌⊎◌, ℕ, List, [], ◌∷◌, map, length, Option, Some, Result, Ok, Err}
+use Rattle.std.specs.Prelude.{◌≡◌, ◌≤◌, ◌<◌, ◌⊎◌, ℕ, All, List, [], ◌∷◌, map, length, Option, option_to_list, Some, Result, Ok, Err}
 use Rattle.std.specs.Option.{ForSome}
 use Rattle.faults.specs.Counts.{Rose}
 use Rattle.byte_map.specs.Image.{Run}
@@ -18,9 +18,8 @@ use Rattle.report_text.specs.Shown.{shown}
 use Rattle.report_text.specs.declared.refusal.Refusal.{Refusal}
 use Rattle.command_words.specs.Files.{FilesAsked, names_in}
 use Rattle.command_files.specs.Inputs.{InputsCall, FilesGiven, AreEach, AreFiles, Given, IsUntaken, NoneFailed}
-use Rattle.command_files.specs.Files.{IsForBoard, IsOneFor, AreFor, IsUnfit, IsNoneFor, AreNotFor, Clashes, IsImageRefused, IsUnionOf, Aim, IsAim, IsRefused}
+use Rattle.command_files.specs.Files.{IsForBoard, IsOneFor, AreFor, IsUnfit, IsNoneFor, AreNotFor, Clashes, IsImageRefused, IsUnionOf, flm_files, Aim, IsAim, IsRefused}
 use Rattle.command_files.specs.declared.take.Files.{Files}
-use Rattle.command_files.specs.declared.task.Device.{Device}
 use Rattle.command_files.specs.declared.task.Task.{Task}
 use Rattle.command_files.specs.declared.wanted.Wanted.{Wanted}
 
@@ -41,10 +40,11 @@ TakesEach inputs names (Err e) = IsTakeFault inputs names (shown e)
 abbrev pub bytes_of : Files → FilesGiven
 bytes_of files = record { board = files.board; flm = files.flm; images = files.images.items }
 
--- the board's text and the FLM file, where there is one, are no longer than a file may be
+-- each is no longer than a file may be
 pub record AreShort (files : Files) : Type 0 where
   pub board : length files.board ≤ 67108864
   pub flm : ForSome files.flm (λ bytes. length bytes ≤ 67108864)
+  pub images : All (λ bytes. length bytes ≤ 67108864) files.images.items
 
 abbrev pub TakesFiles : InputsCall → FilesAsked → List (List ℕ) → Result Files Refusal → Type 0
 TakesFiles inputs asked names (Ok files) = AreFiles inputs asked (bytes_of files) × NoneFailed inputs
@@ -123,43 +123,21 @@ ReadsFiles asked files (Err e) = IsFilesRefusal asked files (shown e)
 
 -- what the task wants
 abbrev pub task_aim : Task → Aim
-task_aim task = record {
-  board = board.shown task.board;
-  algorithms = flm.shown task.algorithm ∷ [];
-  image = task.image;
-}
+task_aim task = aim_of task.wanted
 
--- the device is the one of these regions
-pub record IsOnly (regions : List Region) (device : Device) : Type 0 where
-  pub region : Region
-  pub only : regions ≡ region ∷ []
-  pub base_is : device.base ≡ region.base
-  pub size_is : device.size ≡ region.size
-
--- the task is what the files say, for a board of one region, and has the bytes of the board's text and of the FLM file
+-- the task is what the files say, and has the bytes of the board's text and of the FLM file of each region
 pub record IsTask (raw_at : Option ℕ) (files : FilesGiven) (task : Task) : Type 0 where
   pub is_aim : IsAim raw_at files (task_aim task)
-  pub is_only : IsOnly task.board.regions task.device
   pub board_text : files.board ≡ task.board_text
-  pub flm : files.flm ≡ Some task.flm
-
--- nothing in the files is refused, and their board has more regions than one
-pub record IsTwofold (raw_at : Option ℕ) (files : FilesGiven) : Type 0 where
-  pub aim : Aim
-  pub is_aim : IsAim raw_at files aim
-  pub several : 1 < length aim.board.regions
-
-abbrev pub IsTaskRefusal : FilesAsked → FilesGiven → refusal.Refusal → Type 0
-IsTaskRefusal asked files refusal.not_built = IsTwofold asked.raw_at files
-IsTaskRefusal asked files r = IsFilesRefusal asked files r
+  pub flms : flm_files files.flm files.images (task_aim task).board ≡ task.flm ∷ option_to_list task.second
 
 -- The files were taken, and no take failed.
 pub record TookFiles (inputs : InputsCall) (asked : FilesAsked) (Holds : FilesGiven → Type 0) : Type 0 where
   pub given : Given inputs asked Holds
   pub none_failed : NoneFailed inputs
 
--- a file can't be taken, or else the files are refused, or their board has more regions than one
+-- a file can't be taken, or else the files are refused
 abbrev pub ReadsTask : InputsCall → FilesAsked → Result Task Refusal → Type 0
 ReadsTask inputs asked (Ok task) = TookFiles inputs asked (λ files. IsTask asked.raw_at files task)
 ReadsTask inputs asked (Err e) =
-    IsTakeFault inputs (names_in asked) (shown e) ⊎ TookFiles inputs asked (λ files. IsTaskRefusal asked files (shown e))
+    IsTakeFault inputs (names_in asked) (shown e) ⊎ TookFiles inputs asked (λ files. IsFilesRefusal asked files (shown e))

@@ -86,7 +86,8 @@ fn take_each<'a, I: Inputs>(
     inputs: &mut I,
 ) -> Result<Vec<Bytes>, Refusal<'a>>
     requires { All (I.may_take inputs.old) (names_of names.now) }
-    ensures { TakesEach (inputs_call I.tells (I.state inputs.old) (I.state inputs.new)) (names_of names.now) (result_map_both (λ files. files.items) (λ e. e) result) }
+    ensures takes { TakesEach (inputs_call I.tells (I.state inputs.old) (I.state inputs.new)) (names_of names.now) (result_map_both (λ files. files.items) (λ e. e) result) }
+    ensures short { IfOk result (λ files. All (λ bytes. length bytes ≤ LONGEST) files.items) }
 {
     let mut files = Vec::new(alloc);
     for index in 0..names.len() {

@@ -1,47 +1,33 @@
 -- Cells as a map, region after region.
 use Rattle.std.proofs.Common.{◌≡◌, ◌<◌, ◌≤◌, ◌+◌, ◌-◌, ◌∙◌, sym, ap, refl, arith, ℕ, Bool, true, false, cond, List, [], ◌∷◌, length, get_or, take, drop, Option, Some, None}
-use Rattle.std.specs.Prelude.{slice_range, sum_by}
+use Rattle.std.specs.Prelude.{slice_range}
 use Rattle.std.proofs.lemmas.List.{drop_all, drop_more, drop-drop}
 use Rattle.std.proofs.lemmas.List.Sums.{sum_by-drop_more}
+use Rattle.board_file.specs.Limits.{size_of}
 use Rattle.board_file.specs.declared.region.Region.{Region}
 use Rattle.byte_map.specs.Image.{addresses, Run, holds, byte_of, byte_at, AreMaximal}
 use Rattle.byte_map.specs.Laying.{Lays}
 use Rattle.byte_map.proofs.OneList.{one_list}
 use Rattle.byte_map.proofs.Runs.{or_else, held_to}
-use Rattle.device_dump.specs.CellMaps.{cells_in, cell_runs, IsMapOfCells}
+use Rattle.device_dump.specs.CellMaps.{cell_runs, IsMapOfCells}
 
 -- cells have one map
 pub one_map : (regions : List Region) (cells : List ℕ) (a b : List Run) → IsMapOfCells regions cells a → IsMapOfCells regions cells b → a ≡ b
 one_map regions cells a b one two = one_list 0 addresses a b one.maximal two.maximal (λ x. one.same x ∙ sym (two.same x))
 
 -- the cells of a region, and those of the regions behind it
-pub cells_more : (regions : List Region) (i : ℕ) (d : Region) → i < length regions → cells_in (drop i regions) ≡ (get_or regions i d).size + cells_in (drop (i + 1) regions)
+pub cells_more : (regions : List Region) (i : ℕ) (d : Region) → i < length regions → size_of (drop i regions) ≡ (get_or regions i d).size + size_of (drop (i + 1) regions)
 cells_more regions i d less = sum_by-drop_more (λ (r : Region). r.size) regions i d less
-
--- so many cells and those of the regions that are left are all
-abbrev pub Counted : List Region → ℕ → ℕ → Type 0
-Counted regions i from = from + cells_in (drop i regions) ≡ cells_in regions
-
-pub counted_on : (regions : List Region) (i from : ℕ) (d : Region) → i < length regions → Counted regions i from
-    → Counted regions (i + 1) (from + (get_or regions i d).size)
-counted_on regions i from d inside so_far = omega (arith, so_far, cells_more regions i d inside)
-
-pub counted_within : (regions : List Region) (i from : ℕ) (d : Region) → i < length regions → Counted regions i from
-    → from + (get_or regions i d).size ≤ cells_in regions
-counted_within regions i from d inside so_far = omega (arith, so_far, cells_more regions i d inside)
-
-pub counted_all : (regions : List Region) (i from : ℕ) → drop i regions ≡ [] → Counted regions i from → from ≡ cells_in regions
-counted_all regions i from nil so_far = let none : cells_in (drop i regions) ≡ 0 = ap cells_in nil in omega (arith, so_far, none)
 
 -- Of the cells, those of the first regions are in the map, and those from a place on are left for the others.
 pub record IsMapSoFar (regions : List Region) (cells : List ℕ) (i place : ℕ) (map : List Run) : Type 0 where
   pub maximal : AreMaximal 0 addresses map
   pub rest : (a : ℕ) → or_else (byte_at map a) (byte_at (cell_runs (drop i regions) (drop place cells)) a) ≡ byte_at (cell_runs regions cells) a
-  pub left : place + cells_in (drop i regions) ≡ length cells
+  pub left : place + size_of (drop i regions) ≡ length cells
 
-pub none_mapped : (regions : List Region) (cells : List ℕ) → length cells ≡ cells_in regions → IsMapSoFar regions cells 0 0 []
+pub none_mapped : (regions : List Region) (cells : List ℕ) → length cells ≡ size_of regions → IsMapSoFar regions cells 0 0 []
 none_mapped regions cells all =
-    let same : cells_in (drop 0 regions) ≡ cells_in regions = refl in record { maximal = tt; rest = λ a. refl; left = omega (arith, all, same) }
+    let same : size_of (drop 0 regions) ≡ size_of regions = refl in record { maximal = tt; rest = λ a. refl; left = omega (arith, all, same) }
 
 -- a byte of a piece, beside an old one that agrees with it, and before others
 laid_by : (b : ℕ) (rest : Option ℕ) (h : Bool) (old : Option ℕ) → ((byte : ℕ) → h ≡ true → old ≡ Some byte → byte ≡ b)

@@ -9,6 +9,7 @@ use Rattle.outside_io.specs.Puts.{Puts}
 use Rattle.outside_io.specs.State.{SinkState}
 use Rattle.outside_io.specs.declared.sink.OutputFault.{OutputFault}
 use Rattle.board_file.specs.declared.fault.BoardFault.{BoardFault}
+use Rattle.board_file.specs.Limits.{size_of}
 use Rattle.board_file.specs.declared.region.Region.{Region}
 use Rattle.board_file.specs.Shown as board
 use Rattle.board_file.specs.Text.{reading, IsBoard}
@@ -20,7 +21,7 @@ use Rattle.command_files.specs.Steps.{IsTakeFault, IsBoardRefusal}
 use Rattle.command_answers.specs.Call.{BenchCall, SinkCall, Answer, done, refused, bench_call, sink_call}
 use Rattle.command_answers.specs.Answered.{input, store, device, output, fault_in, has_dump, yields, IsUnless, DidNothing, StandsEarly, IsOf, EndsLawfully, on_files}
 use Rattle.command_answers.proofs.AnswerLemmas.{unraised, never_store, did_nothing, plain_lawful, untaken_lawful, one_file}
-use Rattle.device_dump.specs.CellMaps.{cells_in, IsMapOfCells}
+use Rattle.device_dump.specs.CellMaps.{IsMapOfCells}
 use Rattle.device_dump.specs.Dump.{text_in, StandsBehind, DumpLeaves, ShowsDump, ComesOfBoard, IsDueForBoard, DumpEnds}
 use Rattle.device_dump.specs.Looks.{LooksAtCells, PrintsText, PrintsNothing}
 use Rattle.device_dump.specs.Steps.{Dumped, DumpsCells, IsPut, PutsCells}
@@ -152,7 +153,7 @@ module _ (form : TextForm) (regions : List Region) where
 
 -- The text of the map is put whole, or in part.
 module _ (form : TextForm) (regions : List Region) (cells : List ℕ) (map : List Run) (told : Bool) (o after : SinkState) (bytes : All (λ byte. byte < 256) cells)
-    (all : length cells ≡ cells_in regions) (is_map : IsMapOfCells regions cells map) where
+    (all : length cells ≡ size_of regions) (is_map : IsMapOfCells regions cells map) where
   pub put_done : (u : Unit {0}) → Puts told o after (text_in form map) (Ok u) → IsPut form regions cells (sink_call told o after) done
   put_done u puts = record { bytes = bytes; all = all; map = map; is_map = is_map; prints = record { taken = puts.ok; faults = puts.cause.on_ok refl } }
 
@@ -237,20 +238,20 @@ module _ (form : TextForm) (name : List ℕ) (tells told : Bool) (b : BenchState
 
     module _ (its : board.Shown) (is : IsBoard text its) where
       -- another number of cells
-      differs_due : cells_in its.regions ≢ b.cell_count → IsDueForBoard form Bench Out (refused (cells_differ (cells_in its.regions) b.cell_count)) text
+      differs_due : size_of its.regions ≢ b.cell_count → IsDueForBoard form Bench Out (refused (cells_differ (size_of its.regions) b.cell_count)) text
       differs_due unequal = record {
         refuses = λ fault wrong. absurd (cc);
         other_count = λ other also differs. let both : its ≡ other = cc in
-            inl (ap (λ (s : board.Shown). refused (cells_differ (cells_in s.regions) b.cell_count)) both);
+            inl (ap (λ (s : board.Shown). refused (cells_differ (size_of s.regions) b.cell_count)) both);
         complete = λ other also equal. let both : its ≡ other = cc in
-            absurd (unequal (ap (λ (s : board.Shown). cells_in s.regions) both ∙ equal));
+            absurd (unequal (ap (λ (s : board.Shown). size_of s.regions) both ∙ equal));
         dumped = λ other map also equal told is_map. let both : its ≡ other = cc in
-            absurd (unequal (ap (λ (s : board.Shown). cells_in s.regions) both ∙ equal));
+            absurd (unequal (ap (λ (s : board.Shown). size_of s.regions) both ∙ equal));
       }
 
-      pub ends_other_count : cells_in its.regions ≢ b.cell_count → DumpEnds form name Bench inputs Out (refused (cells_differ (cells_in its.regions) b.cell_count))
+      pub ends_other_count : size_of its.regions ≢ b.cell_count → DumpEnds form name Bench inputs Out (refused (cells_differ (size_of its.regions) b.cell_count))
       ends_other_count unequal =
-          let r = cells_differ (cells_in its.regions) b.cell_count in
+          let r = cells_differ (size_of its.regions) b.cell_count in
           record {
             lawful = plain_lawful tells told b o inputs on_files has_dump (name ∷ []) r (did_nothing tells told b o) refl same refl;
             leaves = leaves (refused r) (record { taken = refl; faults = refl }) (cells_stay_here b);
@@ -267,7 +268,7 @@ module _ (form : TextForm) (name : List ℕ) (tells told : Bool) (b : BenchState
 -- The end of the work on the cells.
 
 module _ (form : TextForm) (name : List ℕ) (bench : BenchCall) (inputs : InputsCall) (out : SinkCall) (text : List ℕ) (file : IsFile inputs name text)
-    (same : NoneFailed inputs) (its : board.Shown) (is : IsBoard text its) (count : cells_in its.regions ≡ bench.before.cell_count) where
+    (same : NoneFailed inputs) (its : board.Shown) (is : IsBoard text its) (count : size_of its.regions ≡ bench.before.cell_count) where
   dumped_comes : (answer : Answer) → Dumped form its.regions bench out answer → ComesOfBoard form bench inputs out name answer
   dumped_comes done dumped =
       record { text = text; file = file; board = its; is_board = is; holds = record { count = count; holds = dumped } }
@@ -282,7 +283,7 @@ module _ (form : TextForm) (name : List ℕ) (bench : BenchCall) (inputs : Input
   dumped_due answer nothing dumped = record {
     refuses = λ fault wrong. absurd (cc);
     other_count = λ other also differs. let both : its ≡ other = cc in
-        absurd (differs (ap (λ (s : board.Shown). cells_in s.regions) (sym both) ∙ count));
+        absurd (differs (ap (λ (s : board.Shown). size_of s.regions) (sym both) ∙ count));
     complete = λ other also equal. dump_cases form its.regions bench out (λ a. IsUnless a done) (inl refl) (inr refl) (inr refl) (inr refl) answer dumped;
     dumped = λ other map also equal told is_map. let both : its ≡ other = cc in
         prints_due form its.regions bench out answer map nothing dumped told

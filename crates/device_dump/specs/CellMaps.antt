@@ -1,11 +1,7 @@
 -- The cells of a board as a map from address to byte.
-use Rattle.std.specs.Prelude.{ℕ, List, [], ◌∷◌, take, drop, sum_by}
+use Rattle.std.specs.Prelude.{ℕ, List, [], ◌∷◌, take, drop}
 use Rattle.board_file.specs.declared.region.Region.{Region}
 use Rattle.byte_map.specs.Image.{addresses, Run, IsSameMap, AreMaximal}
-
--- how many cells some regions have
-abbrev pub cells_in : List Region → ℕ
-cells_in regions = sum_by (λ (r : Region). r.size) regions
 
 -- cells as runs, one for each region: the first cells are those of the first region, and the others follow
 abbrev pub cell_runs : List Region → List ℕ → List Run

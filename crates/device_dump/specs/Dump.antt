@@ -6,6 +6,7 @@ use Rattle.bench_model.specs.History.{AddsNothing}
 use Rattle.bench_model.specs.Calls.{FileStays, CellsStay}
 use Rattle.board_file.specs.declared.fault.BoardFault.{BoardFault}
 use Rattle.board_file.specs.declared.region.Region.{Region}
+use Rattle.board_file.specs.Limits.{size_of}
 use Rattle.board_file.specs.Shown as board
 use Rattle.board_file.specs.Text.{reading, IsBoard}
 use Rattle.byte_map.specs.Image.{Run}
@@ -16,7 +17,7 @@ use Rattle.command_words.specs.declared.command.TextForm.TheVariants.{Hex, Srec}
 use Rattle.command_files.specs.Inputs.{InputsCall, IsFile}
 use Rattle.command_answers.specs.Call.{BenchCall, SinkCall, Answer, done, refused}
 use Rattle.command_answers.specs.Answered.{has_dump, IsUnless, Refuses, DidNothing, EndsLawfully, on_files}
-use Rattle.device_dump.specs.CellMaps.{cells_in, IsMapOfCells}
+use Rattle.device_dump.specs.CellMaps.{IsMapOfCells}
 use Rattle.device_dump.specs.Looks.{IsBrokenOff, IsStillOpen, PrintsText, PrintsNothing}
 
 -- a map as a text of this form
@@ -59,7 +60,7 @@ pub record IsNoBoard (inputs : InputsCall) (name : List ℕ) (fault : BoardFault
 
 -- there are other than the board's number of cells
 pub record HasOtherCount (bench : BenchCall) (regions : List Region) (wanted found : ℕ) : Type 0 where
-  pub wanted_is : wanted ≡ cells_in regions
+  pub wanted_is : wanted ≡ size_of regions
   pub found_is : found ≡ bench.before.cell_count
   pub unequal : wanted ≢ found
 
@@ -67,7 +68,7 @@ pub record HasOtherCount (bench : BenchCall) (regions : List Region) (wanted fou
 pub record IsDumped (form : TextForm) (regions : List Region) (bench : BenchCall) (out : SinkCall) (answer : Answer) : Type 0 where
   pub cells : List ℕ
   pub bytes : All (λ byte. byte < 256) cells
-  pub all : length cells ≡ cells_in regions
+  pub all : length cells ≡ size_of regions
   pub surveyed : IsTrue bench.tells → bench.after.cells ≡ cells
   pub map : List Run
   pub is_map : IsMapOfCells regions cells map
@@ -75,7 +76,7 @@ pub record IsDumped (form : TextForm) (regions : List Region) (bench : BenchCall
 
 -- as many cells as the regions have, and this
 pub record WithCells (regions : List Region) (bench : BenchCall) (Holds : Type 0) : Type 0 where
-  pub count : cells_in regions ≡ bench.before.cell_count
+  pub count : size_of regions ≡ bench.before.cell_count
   pub holds : Holds
 
 abbrev pub ShowsDump : TextForm → BenchCall → SinkCall → Answer → board.Shown → Type 0
@@ -94,10 +95,10 @@ ComesOfBoard form bench inputs out name answer = OnBoard inputs name (ShowsDump 
 -- The other direction: with this text under the name, each answer comes where it is due.
 pub record IsDueForBoard (form : TextForm) (bench : BenchCall) (out : SinkCall) (answer : Answer) (text : List ℕ) : Type 0 where
   pub refuses : (fault : BoardFault) → reading text ≡ Err fault → Refuses (DidNothing bench out) answer (board_refused fault)
-  pub other_count : (board : board.Shown) → IsBoard text board → cells_in board.regions ≢ bench.before.cell_count
-      → Refuses (DidNothing bench out) answer (cells_differ (cells_in board.regions) bench.before.cell_count)
-  pub complete : (board : board.Shown) → IsBoard text board → cells_in board.regions ≡ bench.before.cell_count → IsUnless answer done
-  pub dumped : (board : board.Shown) (map : List Run) → IsBoard text board → cells_in board.regions ≡ bench.before.cell_count → IsTrue bench.tells
+  pub other_count : (board : board.Shown) → IsBoard text board → size_of board.regions ≢ bench.before.cell_count
+      → Refuses (DidNothing bench out) answer (cells_differ (size_of board.regions) bench.before.cell_count)
+  pub complete : (board : board.Shown) → IsBoard text board → size_of board.regions ≡ bench.before.cell_count → IsUnless answer done
+  pub dumped : (board : board.Shown) (map : List Run) → IsBoard text board → size_of board.regions ≡ bench.before.cell_count → IsTrue bench.tells
       → IsMapOfCells board.regions bench.after.cells map → PrintsText out (text_in form map) answer
 
 -- The work of `dump`: all but the status and the line on `err`.

@@ -2,12 +2,13 @@
 use Rattle.std.specs.Prelude.{◌≡◌, ◌<◌, ℕ, List, length}
 use Rattle.std.specs.List.{All}
 use Rattle.byte_map.specs.Image.{Run}
+use Rattle.board_file.specs.Limits.{size_of}
 use Rattle.board_file.specs.declared.region.Region.{Region}
 use Rattle.report_text.specs.Refusal.{out_of_memory, device_fault, output_fault}
 use Rattle.command_words.specs.declared.command.TextForm.{TextForm}
 use Rattle.command_answers.specs.Call.{BenchCall, SinkCall, Answer, done, refused, TookNothing}
 use Rattle.command_answers.specs.Answered.{device, output, IsCounted}
-use Rattle.device_dump.specs.CellMaps.{cells_in, IsMapOfCells}
+use Rattle.device_dump.specs.CellMaps.{IsMapOfCells}
 use Rattle.device_dump.specs.Looks.{PrintsText}
 use Rattle.device_dump.specs.Dump.{text_in, DumpLeaves, IsDumped}
 
@@ -28,7 +29,7 @@ pub record DumpsCells (form : TextForm) (regions : List Region) (bench : BenchCa
 -- the text of the map of these cells goes to `out`
 pub record IsPut (form : TextForm) (regions : List Region) (cells : List ℕ) (out : SinkCall) (answer : Answer) : Type 0 where
   pub bytes : All (λ byte. byte < 256) cells
-  pub all : length cells ≡ cells_in regions
+  pub all : length cells ≡ size_of regions
   pub map : List Run
   pub is_map : IsMapOfCells regions cells map
   pub prints : PrintsText out (text_in form map) answer

@@ -1,24 +1,13 @@
 //! The cells of a board as a map from address to byte.
-ghost use Rattle.std.specs.Prelude.{◌≡◌, ◌≤◌, ◌<◌, length, IfOk};
+ghost use Rattle.std.specs.Prelude.{◌≡◌, ◌<◌, length, IfOk};
 ghost use Rattle.std.specs.List.{All};
-ghost use Rattle.device_dump.specs.CellMaps.{cells_in, IsMapOfCells};
+ghost use Rattle.board_file.specs.Limits.{size_of};
+ghost use Rattle.device_dump.specs.CellMaps.{IsMapOfCells};
 
 use board_file::Region;
 use byte_map::ByteMap;
 use faults::OutOfMemory;
 use std::alloc::Global;
-
-/// How many cells the regions of a board have.
-pub fn cell_count(regions: &[Region]) -> u32
-    requires { cells_in regions.now ≤ 16_777_216 }
-    ensures { result ≡ cells_in regions.now }
-{
-    let mut count = 0;
-    for region in regions {
-        count += region.size;
-    }
-    count
-}
 
 /// Each cell is a byte.
 pub fn know_bytes(cells: &[u8])
@@ -29,7 +18,7 @@ pub fn know_bytes(cells: &[u8])
 
 /// The map that has every cell at its address. The first cells are those of the first region.
 pub fn map_of_cells(alloc: Global, regions: &[Region], cells: &[u8]) -> Result<ByteMap, OutOfMemory>
-    requires { length cells.now ≡ cells_in regions.now }
+    requires { length cells.now ≡ size_of regions.now }
     ensures { IfOk result (IsMapOfCells regions.now cells.now) }
 {
     let mut map = ByteMap::new(alloc);

@@ -1,19 +1,19 @@
 //! `dump FORM BOARD`: the cells as Intel HEX or as S-records, on a board.
 ghost use Rattle.std.specs.Prelude.{◌≡◌, length};
+ghost use Rattle.board_file.specs.Limits.{size_of};
 ghost use Rattle.command_files.specs.Inputs.{inputs_call};
 ghost use Rattle.command_answers.specs.Call.{bench_call, sink_call};
 ghost use Rattle.command_answers.specs.Shown.{answer_of};
 ghost use Rattle.outside_io.specs.Puts.{Puts};
-ghost use Rattle.device_dump.specs.CellMaps.{cells_in};
 ghost use Rattle.device_dump.specs.Dump.{text_in, DumpEnds};
 ghost use Rattle.device_dump.specs.Steps.{DumpsCells, PutsCells};
 
-use crate::cells::{cell_count, know_bytes, map_of_cells};
+use crate::cells::{know_bytes, map_of_cells};
 use crate::looking::survey;
 use bench_model::Bench;
 use board_file::{Board, Region};
 use byte_map::ByteMap;
-use command_files::{read_text, take_one};
+use command_files::{cells_of, read_text, take_one};
 use command_words::TextForm;
 use image_more::{write_hex, write_srec};
 use octets::Word;
@@ -37,7 +37,7 @@ pub fn dump<'a, B: Bench, I: Inputs, O: Sink>(
 {
     let file = take_one(alloc, board, inputs)?;
     let board = read_text(alloc, file.bytes())?;
-    let wanted = cell_count(board.regions.as_slice());
+    let wanted = cells_of(&board);
     let found = bench.cells_len();
     if found != wanted {
         return Err(Refusal::CellsDiffer { wanted, found });
@@ -53,7 +53,7 @@ fn dump_cells<'a, B: Bench, O: Sink>(
     bench: &mut B,
     out: &mut O,
 ) -> Result<(), Refusal<'a>>
-    requires { cells_in board.now.regions ≡ (B.state bench.old).cell_count }
+    requires { size_of board.now.regions ≡ (B.state bench.old).cell_count }
     ensures { DumpsCells form board.now.regions (bench_call B.tells (B.state bench.old) (B.state bench.new))
         (sink_call O.tells (O.state out.old) (O.state out.new)) (answer_of result) }
 {
@@ -76,7 +76,7 @@ fn put_cells<'a, O: Sink>(
     cells: &[u8],
     out: &mut O,
 ) -> Result<(), Refusal<'a>>
-    requires { length cells.now ≡ cells_in regions.now }
+    requires { length cells.now ≡ size_of regions.now }
     ensures { PutsCells form regions.now cells.now (sink_call O.tells (O.state out.old) (O.state out.new)) (answer_of result) }
 {
     know_bytes(cells);

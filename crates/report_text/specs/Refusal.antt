@@ -1,6 +1,6 @@
 -- The refusals of the top call: the status of each, and its line on standard error.
 use Rattle.std.specs.Prelude.{ℕ, List, [], ◌∷◌, ◌++◌, codes, decimal}
-use Rattle.std.specs.List.{concat}
+use Rattle.std.specs.List.{concat, flat_map}
 use Rattle.algo_calls.specs.declared.call.Call.{Call}
 use Rattle.algo_calls.specs.declared.call.CallEnd.{CallEnd}
 use Rattle.board_file.specs.declared.fault.BoardFault.{BoardFault}
@@ -34,9 +34,11 @@ pub data Refusal : Type 0 where
   job_open : Refusal
   -- the job file is free
   no_job : Refusal
-  -- the job file is neither free nor stands for a job
+  -- the job file is neither free nor damaged nor stands for a job
   not_a_job : (at : ℕ) → Refusal
-  -- there are other than the region's number of cells
+  -- the job file keeps another hash than was found
+  damaged : (kept found : List ℕ) → Refusal
+  -- there are other than the regions' number of cells
   cells_differ : (wanted found : ℕ) → Refusal
   store_fault : Refusal
   device_fault : Refusal
@@ -47,7 +49,6 @@ pub data Refusal : Type 0 where
   mismatch : (at wanted found : ℕ) → Refusal
   -- a cell isn't the image's byte at this place
   differs : (place wanted found : ℕ) → Refusal
-  not_built : Refusal
 
 abbrev pub status_of : Refusal → ℕ
 status_of out_of_memory = 1
@@ -63,6 +64,7 @@ status_of (board_refused fault) = 6
 status_of job_open = 7
 status_of no_job = 7
 status_of (not_a_job at) = 7
+status_of (damaged kept found) = 7
 status_of (cells_differ wanted found) = 7
 status_of store_fault = 8
 status_of device_fault = 9
@@ -70,11 +72,14 @@ status_of output_fault = 10
 status_of (call_failed number call end) = 11
 status_of (mismatch at wanted found) = 12
 status_of (differs place wanted found) = 13
-status_of not_built = 14
 
 -- a place or an address, with the byte that is wanted there and the one that was found
 unfoldable pub difference_text : List ℕ → ℕ → ℕ → ℕ → List ℕ
 difference_text what at wanted found = concat (what ∷ codes " at " ∷ hex_text 8 at ∷ codes " wanted " ∷ hex_text 2 wanted ∷ codes " found " ∷ hex_text 2 found ∷ [])
+
+-- the digits of a hash
+abbrev pub hash_text : List ℕ → List ℕ
+hash_text hash = flat_map (hex_text 2) hash
 
 -- what it says
 unfoldable pub reason_of : Refusal → List ℕ
@@ -91,6 +96,7 @@ reason_of (board_refused fault) = codes "board: " ++ board_text fault
 reason_of job_open = codes "job: open"
 reason_of no_job = codes "job: none"
 reason_of (not_a_job at) = concat (codes "job: not a job at " ∷ decimal at ∷ [])
+reason_of (damaged kept found) = codes "job: damaged " ++ hash_text kept ++ codes " " ++ hash_text found
 reason_of (cells_differ wanted found) = concat (codes "job: " ∷ decimal wanted ∷ codes " cells wanted, " ∷ decimal found ∷ codes " found" ∷ [])
 reason_of store_fault = codes "store fault"
 reason_of device_fault = codes "device fault"
@@ -98,7 +104,6 @@ reason_of output_fault = codes "output fault"
 reason_of (call_failed number call end) = failed_text number call end
 reason_of (mismatch at wanted found) = difference_text (codes "mismatch") at wanted found
 reason_of (differs place wanted found) = difference_text (codes "differs") place wanted found
-reason_of not_built = codes "not built"
 
 -- the whole line
 unfoldable pub line_of : Refusal → List ℕ

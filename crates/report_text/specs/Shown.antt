@@ -1,7 +1,7 @@
 -- The refusal that a value of the program is.
 use Rattle.report_text.specs.Refusal as refusal
 use Rattle.report_text.specs.declared.refusal.Refusal.{Refusal}
-use Rattle.report_text.specs.declared.refusal.Refusal.TheVariants.{OutOfMemory, Usage, InputFault, ImageTooLong, ImageRefused, ImageMisplaced, FlmRefused, OtherDevice, NoRoom, BoardRefused, JobOpen, NoJob, NotAJob, CellsDiffer, StoreFault, DeviceFault, OutputFault, CallFailed, Mismatch, Differs, NotBuilt}
+use Rattle.report_text.specs.declared.refusal.Refusal.TheVariants.{OutOfMemory, Usage, InputFault, ImageTooLong, ImageRefused, ImageMisplaced, FlmRefused, OtherDevice, NoRoom, BoardRefused, JobOpen, NoJob, NotAJob, Damaged, CellsDiffer, StoreFault, DeviceFault, OutputFault, CallFailed, Mismatch, Differs}
 
 abbrev pub shown : Refusal → refusal.Refusal
 shown OutOfMemory = refusal.out_of_memory
@@ -17,6 +17,7 @@ shown (BoardRefused fault) = refusal.board_refused fault
 shown JobOpen = refusal.job_open
 shown NoJob = refusal.no_job
 shown (NotAJob at) = refusal.not_a_job at
+shown (Damaged kept found) = refusal.damaged kept found
 shown (CellsDiffer wanted found) = refusal.cells_differ wanted found
 shown StoreFault = refusal.store_fault
 shown DeviceFault = refusal.device_fault
@@ -24,4 +25,3 @@ shown OutputFault = refusal.output_fault
 shown (CallFailed number call end) = refusal.call_failed number call end
 shown (Mismatch at wanted found) = refusal.mismatch at wanted found
 shown (Differs at wanted found) = refusal.differs at wanted found
-shown NotBuilt = refusal.not_built

@@ -1,7 +1,7 @@
 //! The refusals of the top call, and the line of each on standard error.
 ghost use Rattle.std.specs.Prelude.{◌≡◌};
 ghost use Rattle.outside_io.specs.Puts.{Puts};
-ghost use Rattle.report_text.specs.Refusal.{status_of, reason_of, line_of, image_too_long, other_device, no_room, not_a_job, cells_differ, difference_text};
+ghost use Rattle.report_text.specs.Refusal.{status_of, reason_of, line_of, image_too_long, other_device, no_room, not_a_job, damaged, cells_differ, difference_text, hash_text};
 ghost use Rattle.report_text.specs.Shown.{shown};
 
 use crate::board_reason::put_board_fault;
@@ -78,12 +78,18 @@ pub enum Refusal<'a> {
     /// The job file is free.
     NoJob,
 
-    /// The job file is neither free nor stands for a job. The offset, in bytes, shows the first check that fails.
+    /// The job file is neither free nor damaged nor stands for a job. The offset, in bytes, shows the first check that fails.
     NotAJob {
         at: u64,
     },
 
-    /// There are other than the region's number of cells.
+    /// The job file keeps another SHA-256 than that of its bytes which was found.
+    Damaged {
+        kept: [u8; 32],
+        found: [u8; 32],
+    },
+
+    /// There are other than the regions' number of cells.
     CellsDiffer {
         wanted: u32,
         found: u32,
@@ -118,9 +124,6 @@ pub enum Refusal<'a> {
         wanted: u8,
         found: u8,
     },
-
-    /// The command isn't built yet.
-    NotBuilt,
 }
 
 impl Refusal<'_> {
@@ -142,6 +145,7 @@ impl Refusal<'_> {
             Refusal::JobOpen => 7,
             Refusal::NoJob => 7,
             Refusal::NotAJob { .. } => 7,
+            Refusal::Damaged { .. } => 7,
             Refusal::CellsDiffer { .. } => 7,
             Refusal::StoreFault => 8,
             Refusal::DeviceFault => 9,
@@ -149,7 +153,6 @@ impl Refusal<'_> {
             Refusal::CallFailed { .. } => 11,
             Refusal::Mismatch { .. } => 12,
             Refusal::Differs { .. } => 13,
-            Refusal::NotBuilt => 14,
         }
     }
 }
@@ -191,6 +194,7 @@ fn put_reason<E: Sink>(err: &mut E, refusal: &Refusal<'_>) -> Result<(), OutputF
         Refusal::JobOpen => put_pieces(err, &[b"job: open"]),
         Refusal::NoJob => put_pieces(err, &[b"job: none"]),
         Refusal::NotAJob { at } => put_offset(err, *at),
+        Refusal::Damaged { kept, found } => put_hashes(err, kept, found),
         Refusal::CellsDiffer { wanted, found } => put_cells(err, *wanted, *found),
         Refusal::StoreFault => put_pieces(err, &[b"store fault"]),
         Refusal::DeviceFault => put_pieces(err, &[b"device fault"]),
@@ -206,7 +210,6 @@ fn put_reason<E: Sink>(err: &mut E, refusal: &Refusal<'_>) -> Result<(), OutputF
         Refusal::Differs { at, wanted, found } => put_difference(
             err, b"differs", *at, *wanted, *found,
         ),
-        Refusal::NotBuilt => put_pieces(err, &[b"not built"]),
     }
 }
 
@@ -253,6 +256,27 @@ fn put_offset<E: Sink>(err: &mut E, at: u64) -> Result<(), OutputFault>
     let mut of_offset = Buffer::new();
     let offset = of_offset.format(at).as_bytes();
     put_pieces(err, &[b"job: not a job at ", offset])
+}
+
+/// Puts the hash that a job file keeps, and the one that was found.
+#[tactic(auto, unfolding(crate::specs::Refusal::reason_of))]
+fn put_hashes<E: Sink>(err: &mut E, kept: &[u8], found: &[u8]) -> Result<(), OutputFault>
+    ensures { Puts E.tells (E.state err.old) (E.state err.new) (reason_of (damaged kept.now found.now)) result }
+{
+    put_pieces(err, &[b"job: damaged "])?;
+    put_hash(err, kept)?;
+    put_pieces(err, &[b" "])?;
+    put_hash(err, found)
+}
+
+/// Puts two digits for each byte of a hash.
+fn put_hash<E: Sink>(err: &mut E, hash: &[u8]) -> Result<(), OutputFault>
+    ensures { Puts E.tells (E.state err.old) (E.state err.new) (hash_text hash.now) result }
+{
+    for byte in hash {
+        put_pieces(err, &[&hex_digits::<2>(u32::from(*byte))])?;
+    }
+    Ok(())
 }
 
 /// Puts how many cells are wanted, and how many there are.

@@ -1,8 +1,10 @@
-use Rattle.std.proofs.Common.{rules, ◌≡◌, ◌+◌, ◌∙◌, sym, ap, subst, arith, ℕ, Bool, List, ◌∷◌, [], ◌++◌, cond, Err}
+use Rattle.std.proofs.Common.{rules, ◌≡◌, ◌≤◌, ◌+◌, ◌∙◌, sym, ap, subst, arith, ℕ, Bool, All, List, ◌∷◌, [], ◌++◌, length, cond, Err}
+use Rattle.std.proofs.lemmas.List.{take_all}
+use Rattle.std.proofs.lemmas.List.Elements.{All-nil, All-cons, All-append}
 use Rattle.std.proofs.lemmas.Option.{get_or_from_slice_get}
 use Rattle.report_text.specs.Shown.{shown}
 use Rattle.command_words.specs.Names.{names_of}
-use Rattle.command_files.specs.Inputs.{inputs_call}
+use Rattle.command_files.specs.Inputs.{inputs_call, AreEach}
 use Rattle.command_files.specs.Steps.{IsTakeFault}
 use Rattle.command_files.proofs.TakeLemmas.{TakenSoFar, taken_then, untaken_then}
 use Rattle.command_files.proofs.take.take_each.Goals as goal
@@ -13,8 +15,8 @@ take_one-requires g c =
     c.loop-index.invariant.may_take c.name.result.now
     (subst (λ (n : List ℕ). g.I.Inputs.may_take c.args.inputs.now n) name (c.requires c.loop-index.index [] (omega arith)))
 
-pub returns-in_err-bytes : goal.returns-in_err-bytes
-returns-in_err-bytes g c =
+pub returns-in_err-bytes-clause-takes : goal.returns-in_err-bytes-clause-takes
+returns-in_err-bytes-clause-takes g c =
     let u = c.from_residual.ensures in
     let is : c.from_residual.result ≡ Err c.in_err-bytes.field-0.0 = search rules in
     let name = sym (get_or_from_slice_get (names_of c.args.names.now) c.loop-index.index c.name.result.now [] c.name.ensures) in
@@ -36,5 +38,19 @@ loop-index-preserved g c =
     record {
       so_far = subst (λ (f : List (List ℕ)). TakenSoFar g.I.Inputs.tells (g.I.Inputs.state c.args.inputs.now) (g.I.Inputs.state c.take_one.new.inputs) names f (index + 1))
           (sym files) then_;
+      short = subst (λ (f : List (List ℕ)). All (λ (file : List ℕ). length file ≤ 67108864) f) (sym files)
+          (All-append (λ (file : List ℕ). length file ≤ 67108864) c.loop-index.files.items (bytes ∷ []) c.loop-index.invariant.short
+          (All-cons (λ (file : List ℕ). length file ≤ 67108864) bytes [] c.in_ok-bytes.ensures.short (All-nil (λ (file : List ℕ). length file ≤ 67108864))));
       may_take = λ other may. (c.in_ok-bytes.ensures.leave other).1 (c.loop-index.invariant.may_take other may);
     }
+
+pub returns-clause-takes : goal.returns-clause-takes
+returns-clause-takes g c =
+    let all : c.loop-index.index ≡ length (names_of c.args.names.now) = omega arith in (
+      subst (λ (n : List (List ℕ)). AreEach (inputs_call g.I.Inputs.tells (g.I.Inputs.state c.args.inputs.now) (g.I.Inputs.state c.loop-index.inputs)) n c.loop-index.files.items)
+          (take_all c.loop-index.index (names_of c.args.names.now) (omega (arith, all))) c.loop-index.invariant.so_far.each,
+      c.loop-index.invariant.so_far.none_failed,
+    )
+
+pub returns-clause-short : goal.returns-clause-short
+returns-clause-short g c = c.loop-index.invariant.short

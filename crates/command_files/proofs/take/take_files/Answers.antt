@@ -52,14 +52,17 @@ returns-in_err-images-clause-takes g c =
     let is : c.from_residual-in_err-images.result ≡ Err c.in_err-images.field-0.0 = search rules in
     rw is (fault_behind (g.I.Inputs.state c.take_each.new.inputs) (option_to_list asked.flm ++ asked.images) r c.in_ok-board.ensures.takes.0
     c.in_ok-board.ensures.stands c.in_ok-board.ensures.takes.1
-    (fault_behind (g.I.Inputs.state c.take_each.new.inputs) asked.images r c.in_ok-flm.ensures.takes.0 c.in_ok-flm.ensures.stands c.in_ok-flm.ensures.takes.1 c.in_err-images.ensures))
+    (fault_behind (g.I.Inputs.state c.take_each.new.inputs) asked.images r c.in_ok-flm.ensures.takes.0 c.in_ok-flm.ensures.stands c.in_ok-flm.ensures.takes.1 c.in_err-images.ensures.takes))
 
 pub returns-clause-takes : goal.returns-clause-takes
 returns-clause-takes g c = (
   record {
     board = λ told. c.in_ok-board.ensures.takes.0.each 0 (omega arith) told;
     flm = each_earlier c.in_ok-flm.ensures.takes.0 c.in_ok-board.ensures.stands;
-    images = each_earlier c.in_ok-images.ensures.0 (λ name. c.in_ok-flm.ensures.stands name ∙ c.in_ok-board.ensures.stands name);
+    images = each_earlier c.in_ok-images.ensures.takes.0 (λ name. c.in_ok-flm.ensures.stands name ∙ c.in_ok-board.ensures.stands name);
   },
-  none_failed_then (none_failed_then c.in_ok-board.ensures.takes.1 c.in_ok-flm.ensures.takes.1) c.in_ok-images.ensures.1,
+  none_failed_then (none_failed_then c.in_ok-board.ensures.takes.1 c.in_ok-flm.ensures.takes.1) c.in_ok-images.ensures.takes.1,
 )
+
+pub returns-clause-short : goal.returns-clause-short
+returns-clause-short g c = record { board = c.in_ok-board.ensures.short; flm = c.in_ok-flm.ensures.short; images = c.in_ok-images.ensures.short }

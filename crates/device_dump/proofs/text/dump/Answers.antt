@@ -1,11 +1,11 @@
-use Rattle.std.proofs.Common.{rules, ◌≡◌, ◌∙◌, sym, ap, subst, arith, ℕ, List, Err}
+use Rattle.std.proofs.Common.{rules, ◌≡◌, ◌∙◌, sym, subst, arith, ℕ, List, Err}
+use Rattle.board_file.specs.Limits.{size_of}
 use Rattle.board_file.specs.Shown as board
 use Rattle.command_files.specs.Inputs.{inputs_call, IsFile}
 use Rattle.report_text.specs.Refusal.{cells_differ}
 use Rattle.report_text.specs.Shown.{shown}
 use Rattle.command_answers.specs.Call.{bench_call, sink_call, refused}
 use Rattle.command_answers.specs.Shown.{answer_of}
-use Rattle.device_dump.specs.CellMaps.{cells_in}
 use Rattle.device_dump.specs.Dump.{DumpEnds}
 use Rattle.device_dump.proofs.DumpLemmas.{ends_untaken, ends_unread, ends_other_count, ends_dumped}
 use Rattle.device_dump.proofs.text.dump.Goals as goal
@@ -35,17 +35,17 @@ returns-then-found-wanted g c =
     let inputs = inputs_call g.I.Inputs.tells (g.I.Inputs.state c.args.inputs.now) (g.I.Inputs.state c.take_one.new.inputs) in
     let its = board.shown c.in_ok-board.board in
     let file = subst (λ (f : List ℕ). IsFile inputs name f) (sym c.bytes.ensures) (c.in_ok-file.ensures.takes.0.each 0 (omega arith)) in
-    let wanted : c.cell_count-wanted.result ≡ cells_in its.regions = c.cell_count-wanted.ensures ∙ ap cells_in c.as_slice.ensures in
+    let wanted : c.cells_of-wanted.result ≡ size_of its.regions = c.cells_of-wanted.ensures in
     let ends = ends_other_count form name g.B.Bench.tells g.O.Sink.tells b o inputs c.bytes.result.now file c.in_ok-file.ensures.takes.1 its c.in_ok-board.ensures
     (λ same. c.if-found-wanted.true (c.cells_len-found.ensures ∙ sym same ∙ sym wanted)) in
     subst (λ (w : ℕ). DumpEnds form name (bench_call g.B.Bench.tells b b) inputs (sink_call g.O.Sink.tells o o) (refused (cells_differ w c.cells_len-found.result)))
     (sym wanted)
-    (subst (λ (n : ℕ). DumpEnds form name (bench_call g.B.Bench.tells b b) inputs (sink_call g.O.Sink.tells o o) (refused (cells_differ (cells_in its.regions) n)))
+    (subst (λ (n : ℕ). DumpEnds form name (bench_call g.B.Bench.tells b b) inputs (sink_call g.O.Sink.tells o o) (refused (cells_differ (size_of its.regions) n)))
     (sym c.cells_len-found.ensures) ends)
 
 pub dump_cells-requires : goal.dump_cells-requires
 dump_cells-requires g c =
-    sym (c.cell_count-wanted.ensures ∙ ap cells_in c.as_slice.ensures) ∙ sym c.if-found-wanted.false ∙ c.cells_len-found.ensures
+    sym c.cells_of-wanted.ensures ∙ sym c.if-found-wanted.false ∙ c.cells_len-found.ensures
 
 pub returns : goal.returns
 returns g c =
@@ -54,4 +54,4 @@ returns g c =
     let out = sink_call g.O.Sink.tells (g.O.Sink.state c.args.out.now) (g.O.Sink.state c.dump_cells.new.out) in
     let file = subst (λ (f : List ℕ). IsFile inputs c.args.board.now f) (sym c.bytes.ensures) (c.in_ok-file.ensures.takes.0.each 0 (omega arith)) in
     ends_dumped c.args.form c.args.board.now bench inputs out c.bytes.result.now file c.in_ok-file.ensures.takes.1 (board.shown c.in_ok-board.board) c.in_ok-board.ensures
-    (sym (c.cell_count-wanted.ensures ∙ ap cells_in c.as_slice.ensures) ∙ sym c.if-found-wanted.false ∙ c.cells_len-found.ensures) (answer_of c.dump_cells.result) c.dump_cells.ensures
+    (sym c.cells_of-wanted.ensures ∙ sym c.if-found-wanted.false ∙ c.cells_len-found.ensures) (answer_of c.dump_cells.result) c.dump_cells.ensures

@@ -1,0 +1,10 @@
+use Rattle.std.proofs.Common.{take, Ok}
+use Rattle.std.specs.List.{flat_map}
+use Rattle.flm_descriptor.specs.declared.algorithm.Algorithm.{Algorithm}
+use Rattle.report_text.specs.Job.{device_line}
+use Rattle.outside_io.specs.Puts.{Puts}
+use Rattle.report_text.proofs.job.put_devices.Given as goal
+
+abbrev pub invariant-loop-algorithm : goal.invariant-loop-algorithm
+invariant-loop-algorithm g l = Puts g.O.Sink.tells (g.O.Sink.state l.initial.out) (g.O.Sink.state l.out)
+    (flat_map (λ (a : Algorithm). device_line a.device) (take l.algorithm-index l.algorithms)) (Ok tt)
