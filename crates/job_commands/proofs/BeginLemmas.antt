@@ -10,6 +10,7 @@ use Rattle.job_text.specs.Files.{IsFree, IsWhole}
 use Rattle.job_text.specs.Body.{body_of, IsJob}
 use Rattle.job_text.specs.Parts.{job_of, AreParts}
 use Rattle.job_text.specs.declared.parts.JobParts.{JobParts}
+use Rattle.job_text.proofs.ClassLemmas.{never_jobs}
 use Rattle.job_text.proofs.PartLemmas.{job_of_parts}
 use Rattle.job_file.specs.Stops.{IsOfBegin, IsFreeOrWhole}
 use Rattle.job_file.specs.Faults.{IsBeginFault}
@@ -20,9 +21,10 @@ use Rattle.job_file.specs.declared.fault.BeginFault.TheVariants as beginning
 use Rattle.campaign.specs.Stops.{IsUntouched, IsAtClose}
 use Rattle.flash_session.specs.declared.goal.Goal.TheVariants.{New}
 use Rattle.flash_session.specs.Script.{Broken}
-use Rattle.report_text.specs.Refusal.{out_of_memory, input_fault, no_job, not_a_job, cells_differ, store_fault, device_fault, output_fault, call_failed, mismatch}
+use Rattle.report_text.specs.Refusal.{out_of_memory, input_fault, no_job, not_a_job, damaged, cells_differ, store_fault, device_fault, output_fault, call_failed, mismatch}
 use Rattle.command_answers.specs.Call.{BenchCall, SinkCall, TookNothing, TookPartBehind, Answer, done, refused, bench_call, sink_call}
 use Rattle.command_answers.specs.Answered.{has_resume, yields, OnlyLooked, StandsEarly, IsOf, on_job_file}
+use Rattle.command_answers.proofs.FileLemmas.{not_free, damaged_open, one_reason, one_kept, one_found}
 use Rattle.job_commands.specs.Work.{Work, body, shown_plan, Breaks, IsOnPath, IsOutsidePlanAsSurveyed}
 use Rattle.job_commands.specs.Carry.{EndsInBegin, NeverBegun, EndsBeforePlan, EndsInPlan, EndsInScript, EndsInClose, HasClosed, Comes, CellsInTurn, Carries, done_text}
 use Rattle.job_commands.specs.GoOn.{work_to, GoesOnFrom}
@@ -30,7 +32,6 @@ use Rattle.job_commands.specs.Steps.{of_begin, begun, BeginsParts}
 use Rattle.job_commands.proofs.TurnLemmas.{Off, turn_then, off_then, settled_then, ended_then}
 use Rattle.job_commands.proofs.FinishLemmas.{nothing_broken}
 use Rattle.job_commands.proofs.CarryLemmas.{AsEntered, ends_early, starts_on_path, starts_outside}
-use Rattle.job_commands.proofs.OpenLemmas.{not_free, one_reason}
 
 -- the pairs of `begin`
 pub begun_pairs : {a b : BenchState} (text : List ℕ) → Leaves (file_half a) (file_half b) (IsOfBegin (file_half a) text) → AsEntered a b
@@ -60,18 +61,19 @@ module _ (tells sinks : Bool) (a b : BenchState) (p : SinkState) (parts : JobPar
   begin_stands beginning.DeviceFault reads = tt
   begin_stands (beginning.CellsDiffer said found) reads = only_looked reads
   begin_stands (beginning.NotAJob at) reads = only_looked reads
+  begin_stands (beginning.Damaged kept found) reads = only_looked reads
 
   module _ (told : IsTrue tells) (looks : (IsFree a.file × (parts.size ≡ a.cell_count) → ⊥) → OnlyReads tells a b) (same : SameOutside a.operation a.cells b.cells)
       (after : IsFree a.file → IsFreeOrWhole (body_of (job_of parts b.cells)) b.file)
       (stops : Leaves (file_half a) (file_half b) (IsOfBegin (file_half a) (body_of (job_of parts b.cells)))) (cells : AsEntered a b) (off : Off a b b.cells)
       (many : length b.cells ≡ a.cell_count) where
     abbrev its_work : AreParts parts → Work
-    its_work are = work_to New (job_of parts b.cells) are.board are.algorithm b.cells
+    its_work are = work_to New (job_of parts b.cells) are.board are.algorithms b.cells
 
     abbrev Result : Answer → Type 0
     Result answer = (are : AreParts parts) → IsFree a.file → parts.size ≡ a.cell_count
-        → (snapshot : List ℕ) × IsJob (job_of parts snapshot) are.board are.algorithm
-        × Carries (bench_call tells a b) (sink_call sinks p p) (IsUntouched a) (work_to New (job_of parts snapshot) are.board are.algorithm snapshot) answer
+        → (snapshot : List ℕ) × IsJob (job_of parts snapshot) are.board are.algorithms
+        × Carries (bench_call tells a b) (sink_call sinks p p) (IsUntouched a) (work_to New (job_of parts snapshot) are.board are.algorithms snapshot) answer
 
     unbegun : (answer : Answer) → yields answer ≡ true → ((are : AreParts parts) → IsFree a.file → Comes (bench_call tells a b) (sink_call sinks p p) (its_work are) nothing_broken answer) → Result answer
     unbegun answer yield comes = λ are is_free size. (
@@ -99,41 +101,58 @@ module _ (tells sinks : Bool) (a b : BenchState) (p : SinkState) (parts : JobPar
       free = λ its. absurd (cc);
       some_job = λ some. inr (refl, only_looked reads);
       not_job = λ at no. inr (refl, only_looked reads);
+      is_damaged = λ kept found damage. inr (refl, only_looked reads);
       other_size = λ is_free unequal. inr (refl, only_looked reads);
       begins = unbegun (refused out_of_memory) refl (λ are is_free. record { file = inr (reads.file told); cells = same; prints = nothing });
     }
     refuses_begin beginning.StoreFault is reads never = record {
       free = λ its. absurd (cc);
       some_job = λ some. inr (refl, only_looked (looks (λ both. not_free some.job a.file some.whole both.0)));
-      not_job = λ at no. inr (refl, only_looked (looks (λ both. no.not_free both.0)));
+      not_job = λ at no. inr (refl, only_looked (looks (λ both. no.none.not_free both.0)));
+      is_damaged = λ kept found damage. inr (refl, only_looked (looks (λ both. damaged_open a.file kept found damage both.0)));
       other_size = λ is_free unequal. inr (refl, only_looked (looks (λ both. unequal both.1)));
       begins = unbegun (refused store_fault) refl (λ are is_free. inl (in_begin are is_free));
     }
     refuses_begin beginning.DeviceFault is reads never = record {
       free = λ its. absurd (cc);
       some_job = λ some. inr (refl, only_looked (looks (λ both. not_free some.job a.file some.whole both.0)));
-      not_job = λ at no. inr (refl, only_looked (looks (λ both. no.not_free both.0)));
+      not_job = λ at no. inr (refl, only_looked (looks (λ both. no.none.not_free both.0)));
+      is_damaged = λ kept found damage. inr (refl, only_looked (looks (λ both. damaged_open a.file kept found damage both.0)));
       other_size = λ is_free unequal. inr (refl, only_looked (looks (λ both. unequal both.1)));
       begins = unbegun (refused device_fault) refl (λ are is_free. inl (in_begin are is_free, never));
     }
     refuses_begin beginning.JobOpen is reads never = record {
       free = λ its. absurd (cc);
       some_job = λ some. inl refl;
-      not_job = λ at no. absurd (no.no_job is.job is.board is.algorithm is.is is.whole);
+      not_job = λ at no. absurd (no.none.no_job is.job is.board is.algorithms is.is is.whole);
+      is_damaged = λ kept found damage. absurd (never_jobs a.file kept found damage is.job is.board is.algorithms is.is is.whole);
       other_size = λ is_free unequal. absurd (not_free is.job a.file is.whole is_free);
       begins = λ are is_free size. absurd (not_free is.job a.file is.whole is_free);
     }
     refuses_begin (beginning.NotAJob at) is reads never = record {
       free = λ its. absurd (cc);
-      some_job = λ some. absurd (is.no_job some.job some.board some.algorithm some.is some.whole);
+      some_job = λ some. absurd (is.none.no_job some.job some.board some.algorithms some.is some.whole);
       not_job = λ other no. inl (ap (λ (n : ℕ). refused (not_a_job n)) (one_reason a.file at other is no));
-      other_size = λ is_free unequal. absurd (is.not_free is_free);
-      begins = λ are is_free size. absurd (is.not_free is_free);
+      is_damaged = λ kept found damage. absurd (is.whole kept found damage);
+      other_size = λ is_free unequal. absurd (is.none.not_free is_free);
+      begins = λ are is_free size. absurd (is.none.not_free is_free);
+    }
+    refuses_begin (beginning.Damaged kept found) is reads never = record {
+      free = λ its. absurd (cc);
+      some_job = λ some. absurd (is.none.no_job some.job some.board some.algorithms some.is some.whole);
+      not_job = λ at no. absurd (no.whole kept found is.damaged);
+      is_damaged = λ kept' found' too.
+          let same_kept = one_kept a.file kept found kept' found' is.damaged too in
+          let same_found = one_found a.file kept found kept' found' is.damaged too in
+          inl (cc);
+      other_size = λ is_free unequal. absurd (is.none.not_free is_free);
+      begins = λ are is_free size. absurd (is.none.not_free is_free);
     }
     refuses_begin (beginning.CellsDiffer said found) is reads never = record {
       free = λ its. is.0;
       some_job = λ some. absurd (not_free some.job a.file some.whole is.0);
-      not_job = λ at no. absurd (no.not_free is.0);
+      not_job = λ at no. absurd (no.none.not_free is.0);
+      is_damaged = λ kept was damage. absurd (damaged_open a.file kept was damage is.0);
       other_size = λ is_free unequal.
           let said_is : said ≡ parts.size = is.1 in
           let found_is : found ≡ a.cell_count = is.2 in
@@ -232,6 +251,7 @@ begun_stands tells sinks a b d p r First w done kind early carries = tt
 begun_stands tells sinks a b d p r First w (refused out_of_memory) kind early carries = early
 begun_stands tells sinks a b d p r First w (refused no_job) kind early carries = record { reads = λ told. absurd ((carries told).comes); prints = early.prints }
 begun_stands tells sinks a b d p r First w (refused (not_a_job at)) kind early carries = record { reads = λ told. absurd ((carries told).comes); prints = early.prints }
+begun_stands tells sinks a b d p r First w (refused (damaged kept found)) kind early carries = record { reads = λ told. absurd ((carries told).comes); prints = early.prints }
 begun_stands tells sinks a b d p r First w (refused (cells_differ wanted found)) kind early carries = record { reads = λ told. absurd ((carries told).comes); prints = early.prints }
 begun_stands tells sinks a b d p r First w (refused store_fault) kind early carries = tt
 begun_stands tells sinks a b d p r First w (refused device_fault) kind early carries = tt
@@ -246,15 +266,15 @@ module _ (tells sinks : Bool) (a b d : BenchState) (p r : SinkState) (parts : Jo
     (whole : IsWhole (body_of (job_of parts b.cells)) b.file) (only : LeftOnly (165 ∷ body_of (job_of parts b.cells)) (file_half b)) (idle : b.operation ≡ None)
     (from : GoesOnFrom New (bench_call tells b d) (sink_call sinks p r) answer) where
   abbrev works : AreParts parts → Work
-  works are = work_to New (job_of parts b.cells) are.board are.algorithm b.cells
+  works are = work_to New (job_of parts b.cells) are.board are.algorithms b.cells
 
-  is_job : (are : AreParts parts) → IsJob (job_of parts b.cells) are.board are.algorithm
+  is_job : (are : AreParts parts) → IsJob (job_of parts b.cells) are.board are.algorithms
   is_job are = job_of_parts parts are b.cells (many ∙ count ∙ sym sized)
 
   pub carried : (are : AreParts parts) → Carries (bench_call tells b d) (sink_call sinks p r) (Left b) (works are) answer
   carried are =
-      let its = from.stands (job_of parts b.cells) are.board are.algorithm (is_job are) whole (are.size ∙ sized ∙ sym count) in
-      subst (λ (s : List ℕ). Carries (bench_call tells b d) (sink_call sinks p r) (Left b) (work_to New (job_of parts b.cells) are.board are.algorithm s) answer)
+      let its = from.stands (job_of parts b.cells) are.board are.algorithms (is_job are) whole (are.size ∙ sized ∙ sym count) in
+      subst (λ (s : List ℕ). Carries (bench_call tells b d) (sink_call sinks p r) (Left b) (work_to New (job_of parts b.cells) are.board are.algorithms s) answer)
       (exactly tells a b d (sink_call sinks p r) (works are) idle same whole its.0 its.1.surveyed) its.1
 
   pub begins_whole : AreParts parts → Leaves (file_half a) (file_half b) (IsOfBegin (file_half a) (body_of (job_of parts b.cells))) → AsEntered a b
@@ -263,7 +283,8 @@ module _ (tells sinks : Bool) (a b d : BenchState) (p r : SinkState) (parts : Jo
       subst (λ (x : Answer). BeginsParts (bench_call tells a d) (sink_call sinks p r) parts x) (sym (begun_is answer (carried one))) (record {
         free = λ its. is_free;
         some_job = λ some. absurd (not_free some.job a.file some.whole is_free);
-        not_job = λ at no. absurd (no.not_free is_free);
+        not_job = λ at no. absurd (no.none.not_free is_free);
+        is_damaged = λ kept found damage. absurd (damaged_open a.file kept found damage is_free);
         other_size = λ free_too unequal. absurd (unequal sized);
         begins = λ are free_too size. (
           b.cells,

@@ -1,14 +1,16 @@
 -- The counts of faults of a job's work.
-use Rattle.std.proofs.Common.{◌≡◌, ◌≤◌, ◌∙◌, refl, sym, ap, subst, arith, ℕ, Bool, false, List, Some, Err}
+use Rattle.std.proofs.Common.{◌≡◌, ◌≤◌, ◌∙◌, refl, sym, ap, subst, arith, ℕ, Bool, false, List, Option, Some, None, IfSome, IsSomeAnd, Ok, Err}
 use Rattle.faults.specs.Counts.{Rose}
 use Rattle.outside_io.specs.State.{SinkState}
+use Rattle.outside_io.specs.declared.sink.OutputFault.{OutputFault}
+use Rattle.outside_io.specs.Puts.{Puts}
 use Rattle.bench_model.specs.State.{BenchState}
 use Rattle.bench_model.specs.Device.{HasDeviceCause}
 use Rattle.job_file.specs.Counted as job_file
 use Rattle.flash_session.specs.declared.fault.SurveyFault.{SurveyFault}
 use Rattle.flash_session.specs.declared.fault.SurveyFault.TheVariants as survey
-use Rattle.flash_session.specs.Surveys.{is_survey_store, is_survey_device}
-use Rattle.report_text.specs.Refusal.{Refusal, input_fault, no_job}
+use Rattle.flash_session.specs.Surveys.{Surveyed, is_survey_store, is_survey_device}
+use Rattle.report_text.specs.Refusal.{Refusal, input_fault, no_job, output_fault}
 use Rattle.command_files.specs.Inputs.{InputsCall, NoneFailed}
 use Rattle.command_answers.specs.Call.{BenchCall, SinkCall, Answer, done, refused, bench_call, sink_call}
 use Rattle.command_answers.specs.Answered.{Fault, input, store, device, output, fault_in, IsCounted, StandsEarly, IsOf, EndsLawfully, on_job_file}
@@ -86,3 +88,26 @@ survey_counted tells sinks a b m p survey.StoreFault stores devices counts cause
       device_count = unraised a.device_faults m.device_faults device answer (causes.on_other refl ∙ devices) (λ its. let same : store ≡ device = cc in cc);
       out_count = unraised p.faults p.faults output answer refl (λ its. let same : store ≡ output = cc in cc);
     }
+
+-- A session was surveyed, and no fault was counted; then its plans were put.
+module _ (tells sinks : Bool) (a m : BenchState) (o p : SinkState) (text : Surveyed → List ℕ) (P : Surveyed → Type 0) (stores : m.store_faults ≡ a.store_faults)
+    (devices : m.device_faults ≡ a.device_faults) where
+  pub cut_counted : (found : Option Surveyed) (e : OutputFault) → IsSomeAnd found P → IfSome found (λ v. Puts sinks o p (text v) (Err e))
+      → BenchCounted (bench_call tells a m) (sink_call sinks o p) (refused output_fault)
+  cut_counted None e some puts = absurd some
+  cut_counted (Some v) e some puts =
+      let answer = refused output_fault in
+      record {
+        store_count = unraised a.store_faults m.store_faults store answer stores (λ its. let same : output ≡ store = cc in cc);
+        device_count = unraised a.device_faults m.device_faults device answer devices (λ its. let same : output ≡ device = cc in cc);
+        out_count = raised_here o.faults o.faults p.faults output answer refl (puts.cause.on_fault refl) puts.cause.later refl;
+      }
+
+  pub carried_counted : (found : Option Surveyed) (u : Unit {0}) → IsSomeAnd found P → IfSome found (λ v. Puts sinks o p (text v) (Ok u))
+      → (n : BenchState) (q : SinkState) (answer : Answer) → BenchCounted (bench_call tells m n) (sink_call sinks p q) answer → BenchCounted (bench_call tells a n) (sink_call sinks o q) answer
+  carried_counted None u some puts n q answer counts = absurd some
+  carried_counted (Some v) u some puts n q answer counts = record {
+    store_count = subst (λ (k : ℕ). IsCounted k n.store_faults store answer) stores counts.store_count;
+    device_count = subst (λ (k : ℕ). IsCounted k n.device_faults device answer) devices counts.device_count;
+    out_count = subst (λ (k : ℕ). IsCounted k q.faults output answer) (puts.cause.on_ok refl) counts.out_count;
+  }

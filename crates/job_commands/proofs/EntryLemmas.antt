@@ -48,10 +48,11 @@ module _ (tells sinks : Bool) (b : BenchState) (o : SinkState) (many : length b.
   goes_on_unread goal = record {
     free = λ is_free. inr (refl, only_looked tells sinks b o);
     not_job = λ at no. inr (refl, only_looked tells sinks b o);
+    is_damaged = λ kept found is. inr (refl, only_looked tells sinks b o);
     other_size = λ some unequal. inr (refl, only_looked tells sinks b o);
-    stands = λ job c x is_job whole size. (
+    stands = λ job c xs is_job whole size. (
       b.cells,
-      no_memory tells sinks b b o (work_to goal job c x b.cells) whole (same_here b.operation b.cells) refl (same_here b.operation b.cells)
+      no_memory tells sinks b b o (work_to goal job c xs b.cells) whole (same_here b.operation b.cells) refl (same_here b.operation b.cells)
           (pairs_of (left (file_half b)) (left (cells_half b)) (λ f c. Left b f c ⊎ IsWhole (body_of job) f) (adds_nothing_here (file_half b))
           (adds_nothing_here (cells_half b)) (λ f c at exactly. inl (at, exactly))) off,
     );
@@ -64,9 +65,10 @@ module _ (tells sinks : Bool) (b : BenchState) (o : SinkState) (many : length b.
     free = λ its. absurd (other its);
     some_job = λ some. inr (yield, only_looked tells sinks b o);
     not_job = λ at no. inr (yield, only_looked tells sinks b o);
+    is_damaged = λ kept found damage. inr (yield, only_looked tells sinks b o);
     other_size = λ is_free unequal. inr (yield, only_looked tells sinks b o);
     begins = λ has is_free size.
-        let w = work_to New (job_for files aim has b.cells) aim.board has.algorithm b.cells in
+        let w = work_to New (job_for files aim b.cells) aim.board aim.algorithms b.cells in
         record {
           snapshot = b.cells;
           is_job = aim_job raw_at files aim has b.cells is (many ∙ sym size);

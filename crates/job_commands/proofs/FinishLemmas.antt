@@ -5,7 +5,8 @@ use Rattle.bench_model.specs.State.{BenchState, file_half, cells_half}
 use Rattle.bench_model.specs.Calls.{CellsStay, FileIsRead}
 use Rattle.bench_model.specs.Pairs.{PairsLeave}
 use Rattle.bench_model.proofs.Moments.{goes_then, pairs_of, pairs_as, stays_leaves, leaves_as, leaves_then, leaves_left, in_turn, never}
-use Rattle.byte_map.specs.Image.{Run, over}
+use Rattle.byte_map.specs.Image.{Run}
+use Rattle.board_file.specs.Shown as board
 use Rattle.flm_descriptor.specs.Shown as flm
 use Rattle.page_geometry.specs.Layout.{Layout}
 use Rattle.erase_planner.specs.Plans.{Chosen, chosen}
@@ -13,8 +14,10 @@ use Rattle.outside_io.specs.State.{SinkState}
 use Rattle.readback.specs.declared.compare.Difference.{Difference}
 use Rattle.algo_calls.specs.declared.call.Call.{Call}
 use Rattle.algo_calls.specs.declared.call.CallEnd.{CallEnd}
+use Rattle.algo_calls.specs.Duties.{part, site_of}
 use Rattle.job_text.specs.Files.{IsWhole, IsClosed}
 use Rattle.job_text.specs.Body.{Job}
+use Rattle.job_text.specs.Said.{algorithms_shown}
 use Rattle.job_text.specs.Stands.{StandsFor, snapshot_in}
 use Rattle.job_text.specs.declared.job.Job as code
 use Rattle.job_file.specs.Stops.{IsWholeOrClosed}
@@ -24,18 +27,18 @@ use Rattle.flash_session.specs.declared.ending.SessionEnd.{SessionEnd}
 use Rattle.flash_session.specs.declared.ending.SessionEnd.TheVariants as end
 use Rattle.flash_session.specs.declared.goal.Goal.{Goal}
 use Rattle.flash_session.specs.declared.goal.Goal.TheVariants.{New, Old}
-use Rattle.flash_session.specs.Script.{Errand, errand, Broken}
+use Rattle.flash_session.specs.Script.{Planned, planned, Leg, Broken}
 use Rattle.flash_session.specs.Outcome.{Follows}
-use Rattle.flash_session.specs.Starts.{job_setup, job_start}
-use Rattle.flash_session.specs.Goals.{goal_in}
-use Rattle.flash_session.specs.Surveys.{Surveyed, HasSurveyed}
-use Rattle.flash_session.specs.Sessions as sessions
-use Rattle.flash_session.specs.Sessions.{Goes, JobServes, IsAsSurveyed}
-use Rattle.flash_session.specs.Local.{IsInPlan, SameBut}
+use Rattle.flash_session.specs.Starts.{job_start}
+use Rattle.flash_session.specs.Goals.{overlaid, goal_in}
+use Rattle.flash_session.specs.Surveys.{Surveyed, IsPlannedFor, ArePlannedFor, HasSurveyed}
+use Rattle.flash_session.specs.Sessions.{Goes, JobServes, IsAsSurveyed, job_legs, legs_for}
+use Rattle.flash_session.specs.Local.{IsInPlans, SameBut}
 use Rattle.report_text.specs.Refusal.{store_fault, device_fault, output_fault, call_failed, mismatch}
 use Rattle.command_answers.specs.Call.{SinkCall, TookNothing, TookAll, TookPart, Answer, done, refused, bench_call, sink_call}
 use Rattle.command_answers.specs.Answered.{IsUnless}
-use Rattle.job_commands.specs.Work.{Work, body, layout_of, plan_of, setup_for, errand_for, start_for, Ends, IsOnPath, KeepsDuties, IsOutsidePlanAsSurveyed}
+use Rattle.command_answers.specs.Places.{address_at}
+use Rattle.job_commands.specs.Work.{Work, body, layout_of, plan_in, plans_in, plans_of, legs_of, start_for, Ends, IsOnPath, KeepsDuties, IsOutsidePlanAsSurveyed}
 use Rattle.job_commands.specs.Carry.{HasReached, done_text}
 use Rattle.job_commands.specs.GoOn.{goal_cells}
 use Rattle.job_commands.specs.Steps.{session_work, FinishComes, Finishes}
@@ -48,7 +51,7 @@ pub closed_as : (m d : BenchState) (k j : code.Job) (o q : Option Surveyed) → 
 closed_as m d k j o q is same close = subst (λ (i : code.Job). IfSome q (ClosePairs m d i)) is (subst (λ (x : Option Surveyed). IfSome x (ClosePairs m d k)) same close)
 
 pub nothing_broken : Broken
-nothing_broken = record { erase = []; program = []; verify = []; last = [] }
+nothing_broken = record { legs = []; last = [] }
 
 -- Of any work: each end, by what went before.
 
@@ -98,28 +101,43 @@ module _ (tells : Bool) (told : IsTrue tells) (j : code.Job) (goal : Goal) (text
   abbrev its_work : Work
   its_work = session_work goal j text cells
 
-  pub same_goal : (g : Goal) → goal_in j g file ≡ goal_cells g text (flm.shown j.algorithm)
-  same_goal New = ap (λ (r : List Run). over r j.algorithm.device.base (snapshot_in j file)) (sym image) ∙ ap (λ (c : List ℕ). over text.image j.algorithm.device.base c) (sym snapshot)
+  pub same_goal : (g : Goal) → goal_in j g file ≡ goal_cells g text (board.shown j.board)
+  same_goal New = ap (λ (r : List Run). overlaid r j.board.regions (snapshot_in j file)) (sym image) ∙ ap (λ (c : List ℕ). overlaid text.image j.board.regions c) (sym snapshot)
   same_goal Old = sym snapshot
+
+  -- the plan that was made for a region is the chosen one
+  one_chosen : (b : board.Shown) (region : ℕ) (a : flm.Shown) (old new : List ℕ) (p : Planned) → IsPlannedFor tells b a (part (site_of b a region) old) (part (site_of b a region) new) p → p ≡ plan_in b region a old new
+  one_chosen b region a old new p is =
+      ap (λ (l : Layout). planned l p.base p.plan) is.layout ∙ ap (λ (n : ℕ). planned (layout_of a) n p.plan) is.base
+      ∙ ap (λ (c : Chosen). planned (layout_of a) a.device.base c) ((is.plan told).chosen
+      ∙ ap (λ (l : Layout). chosen l b.weights (is_some a.entries.erase_chip) a.device.empty (part (site_of b a region) old) (part (site_of b a region) new)) is.layout)
+
+  all_chosen : (b : board.Shown) (region : ℕ) (algorithms : List flm.Shown) (old new : List ℕ) (plans : List Planned)
+      → ArePlannedFor tells b region algorithms old new plans → plans ≡ plans_in b region algorithms old new
+  all_chosen b region [] old new [] are = refl
+  all_chosen b region [] old new (p ∷ more) are = absurd are
+  all_chosen b region (a ∷ rest) old new [] are = absurd are
+  all_chosen b region (a ∷ rest) old new (p ∷ more) are =
+      ap (λ (x : Planned). x ∷ more) (one_chosen b region a old new p are.0)
+      ∙ ap (λ (l : List Planned). plan_in b region a old new ∷ l) (all_chosen b (region + 1) rest old new more are.1)
 
   module _ (v : Surveyed) (has : HasSurveyed tells j goal file cells v) where
     pub goal_is : goal_in j v.goal file ≡ its_work.goal
     goal_is = ap (λ (g : Goal). goal_in j g file) has.goal ∙ same_goal goal
 
-    -- the plan that was made is the chosen one
-    pub plan_is : v.plan ≡ plan_of its_work
-    plan_is = (has.plan told).chosen
-        ∙ ap (λ (l : Layout). chosen l j.board.weights (is_some j.algorithm.entries.erase_chip) j.algorithm.device.empty cells (goal_in j goal file)) has.layout
-        ∙ ap (λ (g : List ℕ). chosen (layout_of (flm.shown j.algorithm)) j.board.weights (is_some j.algorithm.entries.erase_chip) j.algorithm.device.empty cells g) (same_goal goal)
+    -- the plans that were made are the chosen ones
+    pub plans_are : v.regions ≡ plans_of its_work
+    plans_are = all_chosen (board.shown j.board) 0 (algorithms_shown j.algorithms) cells (goal_in j goal file) v.regions has.regions
+        ∙ ap (λ (g : List ℕ). plans_in (board.shown j.board) 0 (algorithms_shown j.algorithms) cells g) (same_goal goal)
 
-    errand_is : sessions.errand_for j v file ≡ errand_for its_work
-    errand_is = ap (λ (l : Layout). errand l j.algorithm.device.base v.plan (goal_in j v.goal file)) has.layout
-        ∙ ap (λ (p : Chosen). errand (layout_of (flm.shown j.algorithm)) j.algorithm.device.base p (goal_in j v.goal file)) plan_is
-        ∙ ap (λ (g : List ℕ). errand (layout_of (flm.shown j.algorithm)) j.algorithm.device.base (plan_of its_work) g) goal_is
+    legs_are : job_legs j v file ≡ legs_of its_work
+    legs_are = ap (λ (g : List ℕ). legs_for (board.shown j.board) 0 (algorithms_shown j.algorithms) g v.regions) goal_is
+        ∙ ap (λ (p : List Planned). legs_for (board.shown j.board) 0 (algorithms_shown j.algorithms) its_work.goal p) plans_are
 
-    pub follows_plan : (e : SessionEnd) (s m : BenchState) → Follows (job_setup j) (sessions.errand_for j v file) (job_start j cells) e s m
-        → Follows (setup_for its_work) (errand_for its_work) (start_for its_work) e s m
-    follows_plan e s m follows = subst (λ (t : Errand). Follows (job_setup j) t (job_start j cells) e s m) errand_is follows
+    pub follows_plan : (e : SessionEnd) (s m : BenchState) → Follows (job_legs j v file) (goal_in j v.goal file) (job_start j cells) e s m
+        → Follows (legs_of its_work) its_work.goal (start_for its_work) e s m
+    follows_plan e s m follows = subst (λ (l : List Leg). Follows l its_work.goal (start_for its_work) e s m) legs_are
+        (subst (λ (g : List ℕ). Follows (job_legs j v file) g (start_for its_work) e s m) goal_is follows)
 
     -- as its own goal has it
     pub as_surveyed : HasSurveyed tells j v.goal file cells v
@@ -131,10 +149,10 @@ module _ (tells sinks : Bool) (told : IsTrue tells) (j : code.Job) (goal : Goal)
   w = session_work goal j stands.text s.cells
 
   abbrev Followed : SessionEnd → Type 0
-  Followed e = Follows (setup_for w) (errand_for w) (start_for w) e s m
+  Followed e = Follows (legs_of w) w.goal (start_for w) e s m
 
   followed : (o : Option Surveyed) (e : SessionEnd) → IsSomeAnd o (λ v. HasSurveyed tells j goal s.file s.cells v)
-      → IfSome o (λ v. Follows (job_setup j) (sessions.errand_for j v s.file) (job_start j s.cells) e s m) → Followed e
+      → IfSome o (λ v. Goes j v e s m) → Followed e
   followed None e has goes = absurd has
   followed (Some v) e has goes = follows_plan tells told j goal stands.text stands.image s.file stands.snapshot s.cells v has e s m goes
 
@@ -144,15 +162,15 @@ module _ (tells sinks : Bool) (told : IsTrue tells) (j : code.Job) (goal : Goal)
   job_stays : IsWhole (body w) m.file
   job_stays = stay.file told ∙ stands.whole
 
-  -- each stop of the script leaves what lies outside the chosen plan
+  -- each stop of the script leaves what lies outside the chosen plans
   local_from : (q : Option Surveyed) → IsSomeAnd q (λ v. HasSurveyed tells j goal s.file s.cells v)
-      → IfSome q (λ v. IsAsSurveyed tells j s v → Leaves (cells_half s) (cells_half m) (SameBut (IsInPlan v.layout v.plan) s.cells))
+      → IfSome q (λ v. IsAsSurveyed tells j s v → Leaves (cells_half s) (cells_half m) (SameBut (IsInPlans 0 v.regions) s.cells))
       → Leaves (cells_half s) (cells_half m) (IsOutsidePlanAsSurveyed w)
   local_from None some local = absurd some
   local_from (Some v) some local =
-      subst (λ (c : Chosen). Leaves (cells_half s) (cells_half m) (SameBut (IsInPlan (layout_of (flm.shown j.algorithm)) c) s.cells))
-      (plan_is tells told j goal stands.text stands.image s.file stands.snapshot s.cells v some)
-      (subst (λ (l : Layout). Leaves (cells_half s) (cells_half m) (SameBut (IsInPlan l v.plan) s.cells)) some.layout (local (as_surveyed tells told j goal stands.text stands.image s.file stands.snapshot s.cells v some)))
+      subst (λ (plans : List Planned). Leaves (cells_half s) (cells_half m) (SameBut (IsInPlans 0 plans) s.cells))
+      (plans_are tells told j goal stands.text stands.image s.file stands.snapshot s.cells v some)
+      (local (as_surveyed tells told j goal stands.text stands.image s.file stands.snapshot s.cells v some))
 
   -- an end that doesn't come
   unfailing : (q : Option Surveyed) → IsSomeAnd q (λ v. HasSurveyed tells j goal s.file s.cells v)
@@ -161,11 +179,11 @@ module _ (tells sinks : Bool) (told : IsTrue tells) (j : code.Job) (goal : Goal)
   unfailing (Some v) some fails = fails (as_surveyed tells told j goal stands.text stands.image s.file stands.snapshot s.cells v some) refl refl
 
   module _ (o : Option Surveyed) (has : IsSomeAnd o (λ v. HasSurveyed tells j goal s.file s.cells v))
-      (keeps : JobServes j → IfSome o (λ v. IsAsSurveyed tells j s v → Leaves (cells_half s) (cells_half m) (SameBut (IsInPlan v.layout v.plan) s.cells))) where
+      (keeps : JobServes j → IfSome o (λ v. IsAsSurveyed tells j s v → Leaves (cells_half s) (cells_half m) (SameBut (IsInPlans 0 v.regions) s.cells))) where
     its_local : KeepsDuties w → Leaves (cells_half s) (cells_half m) (IsOutsidePlanAsSurveyed w)
     its_local = λ serves. local_from o has (keeps serves)
 
-    pub ends_mismatch : (d : Difference) (at : ℕ) → at ≡ j.algorithm.device.base + d.at → IfSome o (λ v. Goes j v (end.Mismatch d) s m)
+    pub ends_mismatch : (d : Difference) (at : ℕ) → address_at j.board.regions d.at ≡ Some at → IfSome o (λ v. Goes j v (end.Mismatch d) s m)
         → (JobServes j → IfSome o (λ v. IsAsSurveyed tells j s v → false ≡ false → false ≡ false → ⊥))
         → Finishes (bench_call tells s m) (sink_call sinks p p) w (refused (mismatch at d.want d.got))
     ends_mismatch d at at_is goes fails =

@@ -9,7 +9,7 @@ use Rattle.flash_session.specs.declared.fault.SessionFault.{SessionFault}
 use Rattle.flash_session.specs.declared.fault.SessionFault.TheVariants as session
 use Rattle.flash_session.specs.declared.fault.SurveyFault.{SurveyFault}
 use Rattle.flash_session.specs.declared.fault.SurveyFault.TheVariants as survey
-use Rattle.report_text.specs.Refusal.{out_of_memory, no_job, not_a_job, cells_differ, store_fault, device_fault, output_fault, call_failed, mismatch}
+use Rattle.report_text.specs.Refusal.{out_of_memory, no_job, not_a_job, damaged, cells_differ, store_fault, device_fault, output_fault, call_failed, mismatch}
 use Rattle.command_answers.specs.Call.{BenchCall, SinkCall, Answer, done, refused}
 use Rattle.command_answers.specs.Answered.{has_resume, StandsEarly, IsOf, on_job_file}
 use Rattle.job_commands.specs.Answers.{is_of_work, IsSound}
@@ -41,6 +41,7 @@ session_sound count session.OutOfMemory sound = tt
 session_sound count (session.Open opening.OutOfMemory) sound = tt
 session_sound count (session.Open opening.NoJob) sound = tt
 session_sound count (session.Open (opening.NotAJob at)) sound = tt
+session_sound count (session.Open (opening.Damaged kept found)) sound = sound
 session_sound count (session.Open opening.StoreFault) sound = tt
 session_sound count (session.Open (opening.CellsDiffer said found)) sound = sound.1
 session_sound count session.DeviceFault sound = tt
@@ -57,6 +58,7 @@ begin_sound size count beginning.StoreFault sound = tt
 begin_sound size count beginning.DeviceFault sound = tt
 begin_sound size count (beginning.CellsDiffer said found) sound = sound.2
 begin_sound size count (beginning.NotAJob at) sound = tt
+begin_sound size count (beginning.Damaged kept found) sound = sound
 
 -- no refusal of `begin` comes after a job was begun
 pub begin_before : (fault : BeginFault) → is_of_work (refused (of_begin fault)) ≡ true → ⊥
@@ -66,6 +68,7 @@ begin_before beginning.StoreFault its = cc
 begin_before beginning.DeviceFault its = cc
 begin_before (beginning.CellsDiffer said found) its = cc
 begin_before (beginning.NotAJob at) its = cc
+begin_before (beginning.Damaged kept found) its = cc
 
 pub begun_sound : (answer : Answer) → IsSound answer → IsSound (begun answer)
 begun_sound done sound = tt
@@ -77,6 +80,7 @@ session_kind session.OutOfMemory = refl
 session_kind (session.Open opening.OutOfMemory) = refl
 session_kind (session.Open opening.NoJob) = refl
 session_kind (session.Open (opening.NotAJob at)) = refl
+session_kind (session.Open (opening.Damaged kept found)) = refl
 session_kind (session.Open opening.StoreFault) = refl
 session_kind (session.Open (opening.CellsDiffer said found)) = refl
 session_kind session.DeviceFault = refl
@@ -93,6 +97,7 @@ begin_kind beginning.StoreFault = refl
 begin_kind beginning.DeviceFault = refl
 begin_kind (beginning.CellsDiffer said found) = refl
 begin_kind (beginning.NotAJob at) = refl
+begin_kind (beginning.Damaged kept found) = refl
 
 -- an answer after a job was begun
 pub begun_kind : (answer : Answer) → IsOf has_resume answer → IsOf has_begin (begun answer)
@@ -100,6 +105,7 @@ begun_kind done kind = tt
 begun_kind (refused out_of_memory) kind = refl
 begun_kind (refused no_job) kind = refl
 begun_kind (refused (not_a_job at)) kind = refl
+begun_kind (refused (damaged kept found)) kind = refl
 begun_kind (refused (cells_differ wanted found)) kind = refl
 begun_kind (refused store_fault) kind = refl
 begun_kind (refused device_fault) kind = refl

@@ -5,7 +5,7 @@ use Rattle.std.proofs.lemmas.List.{length-replicate}
 use Rattle.bench_model.specs.State.{BenchState, Left}
 use Rattle.bench_model.specs.Calls.{OnlyReads}
 use Rattle.board_file.specs.Limits.{size_of}
-use Rattle.flm_descriptor.specs.Shown as flm
+use Rattle.board_file.specs.Shown as board
 use Rattle.job_text.specs.Files.{IsFree, IsWhole}
 use Rattle.job_text.specs.Body.{Job, body_of}
 use Rattle.job_text.specs.Stands.{IsSomeJob}
@@ -18,12 +18,12 @@ use Rattle.report_text.specs.Refusal.{Refusal, no_job, cells_differ}
 use Rattle.command_words.specs.Files.{FilesAsked}
 use Rattle.command_answers.specs.Call.{BenchCall, SinkCall, Call, Answer, done, refused}
 use Rattle.command_answers.specs.Answered.{yields, Refuses, OnlyLooked, StandsEarly, on_job_file}
+use Rattle.command_answers.proofs.FileLemmas.{not_free}
 use Rattle.job_commands.specs.Work.{Work, body}
 use Rattle.job_commands.specs.Carry.{Comes, Carries}
 use Rattle.job_commands.specs.GoOn.{goal_cells, work_to, GoOnAnswers}
 use Rattle.job_commands.specs.Program.{ProgramAnswers}
 use Rattle.job_commands.specs.Law.{aim_of, asked_by, KeepsFor, LaterKeeps, FirstKeeps}
-use Rattle.job_commands.proofs.OpenLemmas.{not_free}
 use Rattle.job_commands.proofs.RegionLemmas.{aim_job}
 
 -- A refusal of a job file only looks at it, whether it is answered or yields.
@@ -93,33 +93,33 @@ carried_keeps call answer w aim goal zero_is whole bodies goals carries = record
   };
 }
 
-same_goal : (goal : Goal) (job : Job) (a : flm.Shown) → goal_of (aim_of job a) (asked_by goal) ≡ goal_cells goal job a
-same_goal New job a = refl
-same_goal Old job a = refl
+same_goal : (goal : Goal) (job : Job) (b : board.Shown) → goal_of (aim_of job b) (asked_by goal) ≡ goal_cells goal job b
+same_goal New job b = refl
+same_goal Old job b = refl
 
 pub later_keeps : (goal : Goal) (call : Call) → GoOnAnswers goal call → LaterKeeps goal call
-later_keeps goal call answers job b a told is_job class =
+later_keeps goal call answers job b xs told is_job class =
     let from = answers.ends.told told in
     ⊎_elim
     (λ (is_free : IsFree call.bench.before.file).
     let refuses = from.free is_free in
-    looked_keeps (aim_of job a) goal call told (looks call.bench call.out answers.answer no_job (λ early. early) answers.ends.lawful.stands refuses)
+    looked_keeps (aim_of job b) goal call told (looks call.bench call.out answers.answer no_job (λ early. early) answers.ends.lawful.stands refuses)
     (λ zero. not_done (OnlyLooked call.bench call.out) answers.answer no_job refuses (answers.zero zero)))
     (λ (whole : IsWhole (body_of job) call.bench.before.file). ⊎_elim
-    (λ (size : a.device.size ≡ call.bench.before.cell_count).
-    let carried = from.stands job b a is_job whole size in
-    carried_keeps call answers.answer (work_to goal job b a carried.0) (aim_of job a) goal answers.zero whole refl (same_goal goal job a) carried.1)
-    (λ (other : a.device.size ≢ call.bench.before.cell_count).
-    let some : IsSomeJob call.bench.before.file = record { job = job; board = b; algorithm = a; is = is_job; whole = whole } in
+    (λ (size : size_of b.regions ≡ call.bench.before.cell_count).
+    let carried = from.stands job b xs is_job whole size in
+    carried_keeps call answers.answer (work_to goal job b xs carried.0) (aim_of job b) goal answers.zero whole refl (same_goal goal job b) carried.1)
+    (λ (other : size_of b.regions ≢ call.bench.before.cell_count).
+    let some : IsSomeJob call.bench.before.file = record { job = job; board = b; algorithms = xs; is = is_job; whole = whole } in
     let refuses = from.other_size some other in
-    looked_keeps (aim_of job a) goal call told (looks call.bench call.out answers.answer (cells_differ a.device.size call.bench.before.cell_count) (λ early. early) answers.ends.lawful.stands refuses)
-    (λ zero. not_done (OnlyLooked call.bench call.out) answers.answer (cells_differ a.device.size call.bench.before.cell_count) refuses (answers.zero zero)))
-    (cases_eq a.device.size call.bench.before.cell_count))
+    looked_keeps (aim_of job b) goal call told (looks call.bench call.out answers.answer (cells_differ (size_of b.regions) call.bench.before.cell_count) (λ early. early) answers.ends.lawful.stands refuses)
+    (λ zero. not_done (OnlyLooked call.bench call.out) answers.answer (cells_differ (size_of b.regions) call.bench.before.cell_count) refuses (answers.zero zero)))
+    (cases_eq (size_of b.regions) call.bench.before.cell_count))
     class
 
 pub first_keeps : (asked : FilesAsked) (call : Call) → ProgramAnswers asked call → FirstKeeps asked call
 first_keeps asked call answers files aim has told told_inputs exact are is is_free =
-    let on = (answers.ends.files.goes files aim told_inputs are is).one has.region has.only told in
+    let on = answers.ends.files.goes files aim told_inputs are is told in
     ⊎_elim
     (λ (size : size_of aim.board.regions ≡ call.bench.before.cell_count).
     let begins = on.begins has is_free size in

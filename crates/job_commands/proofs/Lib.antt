@@ -1,6 +1,7 @@
 pub mod TurnLemmas
 pub mod KindLemmas
 pub mod FinishLemmas
+pub mod AddressLemmas
 pub mod CarryLemmas
 pub mod OpenLemmas
 pub mod SurveyLemmas
@@ -12,4 +13,5 @@ pub mod GoOnLemmas
 pub mod ProgramLemmas
 pub mod LawLemmas
 pub mod FollowLemmas
+pub mod FitLemmas
 pub mod PrintLemmas

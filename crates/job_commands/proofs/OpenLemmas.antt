@@ -1,18 +1,16 @@
 -- What the class of the file at entry says of the answer.
-use Rattle.std.proofs.Common.{◌≡◌, ◌⊎◌, inl, inr, refl, ◌∙◌, ℕ, Bool, List, ◌∷◌, Ok, Err, sym, ap, subst}
+use Rattle.std.proofs.Common.{◌≡◌, ◌⊎◌, inl, inr, refl, ◌∙◌, ℕ, Bool, List, Err, sym, ap, subst}
 use Rattle.outside_io.specs.State.{SinkState}
 use Rattle.bench_model.specs.State.{BenchState, Left}
 use Rattle.bench_model.specs.Calls.{OnlyReads, SameOutside}
 use Rattle.bench_model.specs.Pairs.{PairsLeave}
+use Rattle.board_file.specs.Limits.{size_of}
 use Rattle.board_file.specs.Shown as board
-use Rattle.board_file.specs.Text.{reading}
 use Rattle.flm_descriptor.specs.Shown as flm
-use Rattle.flm_descriptor.specs.Flm.{flm_of}
-use Rattle.job_text.specs.Files.{IsFree, IsWhole}
-use Rattle.job_text.specs.Body.{Job, body_of, IsJob}
-use Rattle.job_text.specs.Stands.{IsSomeJob, IsNotAJob}
-use Rattle.job_text.specs.Reading as reading_of
-use Rattle.job_text.proofs.BodyLemmas.{same_job}
+use Rattle.job_text.specs.Files.{IsWhole}
+use Rattle.job_text.specs.Body.{Job, body_of}
+use Rattle.job_text.specs.Stands.{IsSomeJob}
+use Rattle.job_text.proofs.ClassLemmas.{never_jobs}
 use Rattle.job_file.specs.declared.fault.OpenFault.TheVariants as opening
 use Rattle.flash_session.specs.declared.fault.SessionFault.{SessionFault}
 use Rattle.flash_session.specs.declared.fault.SessionFault.TheVariants as session
@@ -21,9 +19,10 @@ use Rattle.flash_session.specs.declared.fault.SurveyFault.TheVariants as survey
 use Rattle.flash_session.specs.declared.session.Session.{Session}
 use Rattle.flash_session.specs.declared.goal.Goal.{Goal}
 use Rattle.flash_session.specs.Opened.{IsSessionFault, ReadsIfRefused}
-use Rattle.report_text.specs.Refusal.{not_a_job}
+use Rattle.report_text.specs.Refusal.{not_a_job, damaged}
 use Rattle.command_answers.specs.Call.{BenchCall, SinkCall, TookNothing, Answer, refused, bench_call, sink_call}
 use Rattle.command_answers.specs.Answered.{OnlyLooked, StandsEarly, on_job_file}
+use Rattle.command_answers.proofs.FileLemmas.{not_free, damaged_open, one_reason, one_kept, one_found, one_job}
 use Rattle.job_commands.specs.Work.{Work, body}
 use Rattle.job_commands.specs.Carry.{Carries}
 use Rattle.job_commands.specs.GoOn.{work_to, GoesOnFrom}
@@ -31,43 +30,21 @@ use Rattle.job_commands.specs.Steps.{of_session, of_survey}
 use Rattle.job_commands.proofs.TurnLemmas.{Off}
 use Rattle.job_commands.proofs.CarryLemmas.{no_memory, no_store, no_device, opened}
 
--- a file that stands for a job isn't free
-pub not_free : (job : Job) (file : List ℕ) → IsWhole (body_of job) file → IsFree file → ⊥
-not_free job file whole free = (subst (λ (f : List ℕ). IsFree f) whole free) refl
-
--- a file that isn't a job, for one reason
-pub one_reason : (file : List ℕ) (at other : ℕ) → IsNotAJob at file → IsNotAJob other file → at ≡ other
-one_reason file at other is too = let e : reading_of.not_a_job at ≡ reading_of.not_a_job other = sym is.shows ∙ too.shows in cc
-
--- A file stands for one job, whose texts say one board and one algorithm.
-pub record AreOne (j k : Job) (b c : board.Shown) (x y : flm.Shown) : Type 0 where
-  pub job : j ≡ k
-  pub board : b ≡ c
-  pub algorithm : x ≡ y
-
-pub one_job : {j k : Job} {b c : board.Shown} {x y : flm.Shown} (file : List ℕ) → IsJob j b x → IsJob k c y → IsWhole (body_of j) file → IsWhole (body_of k) file
-    → AreOne j k b c x y
-one_job {j} {k} {b} {c} {x} {y} file is other whole too =
-    let bodies : body_of j ≡ body_of k = let e : 165 ∷ body_of j ≡ 165 ∷ body_of k = sym whole ∙ too in cc in
-    let jobs : j ≡ k = same_job j k b c x y is other bodies in
-    let boards : Ok b ≡ Ok c = sym is.board ∙ ap (λ (i : Job). reading i.board) jobs ∙ other.board in
-    let algorithms : Ok x ≡ Ok y = sym is.algorithm ∙ ap (λ (i : Job). flm_of i.flm) jobs ∙ other.algorithm in
-    record { job = jobs; board = cc; algorithm = cc }
-
 -- where the file stands for a job of so many cells, the work on this job is all that is to be shown
-pub only_stands : (tells : Bool) (a d : BenchState) (out : SinkCall) (goal : Goal) (answer : Answer) (some : IsSomeJob a.file) → some.algorithm.device.size ≡ a.cell_count
-    → (surveyed : List ℕ) → Carries (bench_call tells a d) out (Left a) (work_to goal some.job some.board some.algorithm surveyed) answer
+pub only_stands : (tells : Bool) (a d : BenchState) (out : SinkCall) (goal : Goal) (answer : Answer) (some : IsSomeJob a.file) → size_of some.board.regions ≡ a.cell_count
+    → (surveyed : List ℕ) → Carries (bench_call tells a d) out (Left a) (work_to goal some.job some.board some.algorithms surveyed) answer
     → GoesOnFrom goal (bench_call tells a d) out answer
 only_stands tells a d out goal answer some size surveyed carries = record {
   free = λ is_free. absurd (not_free some.job a.file some.whole is_free);
-  not_job = λ at is. absurd (is.no_job some.job some.board some.algorithm some.is some.whole);
-  other_size = λ other unequal. absurd (unequal (ap (λ (x : flm.Shown). x.device.size) (one_job a.file other.is some.is other.whole some.whole).algorithm ∙ size));
-  stands = λ job b x is whole same.
+  not_job = λ at is. absurd (is.none.no_job some.job some.board some.algorithms some.is some.whole);
+  is_damaged = λ kept found is. absurd (never_jobs a.file kept found is some.job some.board some.algorithms some.is some.whole);
+  other_size = λ other unequal. absurd (unequal (ap (λ (b : board.Shown). size_of b.regions) (one_job a.file other.is some.is other.whole some.whole).board ∙ size));
+  stands = λ job b xs is whole same.
       let one = one_job a.file some.is is some.whole whole in (
         surveyed,
-        subst (λ (k : Job). Carries (bench_call tells a d) out (Left a) (work_to goal k b x surveyed) answer) one.job
-            (subst (λ (c : board.Shown). Carries (bench_call tells a d) out (Left a) (work_to goal some.job c x surveyed) answer) one.board
-            (subst (λ (y : flm.Shown). Carries (bench_call tells a d) out (Left a) (work_to goal some.job some.board y surveyed) answer) one.algorithm carries)),
+        subst (λ (k : Job). Carries (bench_call tells a d) out (Left a) (work_to goal k b xs surveyed) answer) one.job
+            (subst (λ (c : board.Shown). Carries (bench_call tells a d) out (Left a) (work_to goal some.job c xs surveyed) answer) one.board
+            (subst (λ (ys : List flm.Shown). Carries (bench_call tells a d) out (Left a) (work_to goal some.job some.board ys surveyed) answer) one.algorithms carries)),
       );
 }
 
@@ -85,6 +62,7 @@ module _ (tells sinks : Bool) (a b : BenchState) (p : SinkState) (goal : Goal) w
   open_stands (session.Open opening.OutOfMemory) reads = nothing
   open_stands (session.Open opening.NoJob) reads = only_looked reads
   open_stands (session.Open (opening.NotAJob at)) reads = only_looked reads
+  open_stands (session.Open (opening.Damaged kept found)) reads = only_looked reads
   open_stands (session.Open opening.StoreFault) reads = tt
   open_stands (session.Open (opening.CellsDiffer said found)) reads = only_looked reads
   open_stands session.DeviceFault reads = tt
@@ -95,47 +73,63 @@ module _ (tells sinks : Bool) (a b : BenchState) (p : SinkState) (goal : Goal) w
     refuses_open session.OutOfMemory is reads = record {
       free = λ is_free. inr (refl, only_looked reads);
       not_job = λ at no. inr (refl, only_looked reads);
+      is_damaged = λ kept found damage. inr (refl, only_looked reads);
       other_size = λ some unequal. inr (refl, only_looked reads);
-      stands = λ job c x is_job whole size. (b.cells, no_memory tells sinks a b p (work_to goal job c x b.cells) whole same file same (opened (body_of job) pairs) off);
+      stands = λ job c xs is_job whole size. (b.cells, no_memory tells sinks a b p (work_to goal job c xs b.cells) whole same file same (opened (body_of job) pairs) off);
     }
     refuses_open (session.Open opening.OutOfMemory) is reads = absurd is
     refuses_open (session.Open opening.StoreFault) is reads = record {
       free = λ is_free. inr (refl, only_looked reads);
       not_job = λ at no. inr (refl, only_looked reads);
+      is_damaged = λ kept found damage. inr (refl, only_looked reads);
       other_size = λ some unequal. inr (refl, only_looked reads);
-      stands = λ job c x is_job whole size. (b.cells, no_store tells sinks a b p (work_to goal job c x b.cells) whole same file same (opened (body_of job) pairs) off);
+      stands = λ job c xs is_job whole size. (b.cells, no_store tells sinks a b p (work_to goal job c xs b.cells) whole same file same (opened (body_of job) pairs) off);
     }
     refuses_open (session.Open opening.NoJob) is reads = record {
       free = λ is_free. inl refl;
-      not_job = λ at no. absurd (no.not_free is);
+      not_job = λ at no. absurd (no.none.not_free is);
+      is_damaged = λ kept found damage. absurd (damaged_open a.file kept found damage is);
       other_size = λ some unequal. absurd (not_free some.job a.file some.whole is);
-      stands = λ job c x is_job whole size. absurd (not_free job a.file whole is);
+      stands = λ job c xs is_job whole size. absurd (not_free job a.file whole is);
     }
     refuses_open (session.Open (opening.NotAJob at)) is reads = record {
-      free = λ is_free. absurd (is.not_free is_free);
+      free = λ is_free. absurd (is.none.not_free is_free);
       not_job = λ other no. inl (ap (λ (n : ℕ). refused (not_a_job n)) (one_reason a.file at other is no));
-      other_size = λ some unequal. absurd (is.no_job some.job some.board some.algorithm some.is some.whole);
-      stands = λ job c x is_job whole size. absurd (is.no_job job c x is_job whole);
+      is_damaged = λ kept found damage. absurd (is.whole kept found damage);
+      other_size = λ some unequal. absurd (is.none.no_job some.job some.board some.algorithms some.is some.whole);
+      stands = λ job c xs is_job whole size. absurd (is.none.no_job job c xs is_job whole);
+    }
+    refuses_open (session.Open (opening.Damaged kept found)) is reads = record {
+      free = λ is_free. absurd (is.none.not_free is_free);
+      not_job = λ at no. absurd (no.whole kept found is.damaged);
+      is_damaged = λ kept' found' too.
+          let same_kept = one_kept a.file kept found kept' found' is.damaged too in
+          let same_found = one_found a.file kept found kept' found' is.damaged too in
+          inl (cc);
+      other_size = λ some unequal. absurd (is.none.no_job some.job some.board some.algorithms some.is some.whole);
+      stands = λ job c xs is_job whole size. absurd (is.none.no_job job c xs is_job whole);
     }
     refuses_open (session.Open (opening.CellsDiffer said found)) is reads = record {
       free = λ is_free. absurd (not_free is.some.job a.file is.some.whole is_free);
-      not_job = λ at no. absurd (no.no_job is.some.job is.some.board is.some.algorithm is.some.is is.some.whole);
+      not_job = λ at no. absurd (no.none.no_job is.some.job is.some.board is.some.algorithms is.some.is is.some.whole);
+      is_damaged = λ kept was damage. absurd (never_jobs a.file kept was damage is.some.job is.some.board is.some.algorithms is.some.is is.some.whole);
       other_size = λ some unequal.
           let one = one_job a.file is.some.is some.is is.some.whole some.whole in
-          let said_is : said ≡ some.algorithm.device.size = is.said_is ∙ ap (λ (y : flm.Shown). y.device.size) one.algorithm in
+          let said_is : said ≡ size_of some.board.regions = is.said_is ∙ ap (λ (y : board.Shown). size_of y.regions) one.board in
           let found_is : found ≡ a.cell_count = is.found_is in
           inl (cc);
-      stands = λ job c x is_job whole size.
+      stands = λ job c xs is_job whole size.
           let one = one_job a.file is.some.is is_job is.some.whole whole in
-          absurd (is.differ (is.said_is ∙ ap (λ (y : flm.Shown). y.device.size) one.algorithm ∙ size ∙ sym is.found_is));
+          absurd (is.differ (is.said_is ∙ ap (λ (y : board.Shown). size_of y.regions) one.board ∙ size ∙ sym is.found_is));
     }
     refuses_open session.DeviceFault is reads = record {
       free = λ is_free. absurd (not_free is.some.job a.file is.some.whole is_free);
-      not_job = λ at no. absurd (no.no_job is.some.job is.some.board is.some.algorithm is.some.is is.some.whole);
+      not_job = λ at no. absurd (no.none.no_job is.some.job is.some.board is.some.algorithms is.some.is is.some.whole);
+      is_damaged = λ kept was damage. absurd (never_jobs a.file kept was damage is.some.job is.some.board is.some.algorithms is.some.is is.some.whole);
       other_size = λ some unequal.
           let one = one_job a.file some.is is.some.is some.whole is.some.whole in
-          absurd (unequal (ap (λ (y : flm.Shown). y.device.size) one.algorithm ∙ is.size));
-      stands = λ job c x is_job whole size. (b.cells, no_device tells sinks a b p (work_to goal job c x b.cells) whole same file same (opened (body_of job) pairs) off);
+          absurd (unequal (ap (λ (y : board.Shown). size_of y.regions) one.board ∙ is.size));
+      stands = λ job c xs is_job whole size. (b.cells, no_device tells sinks a b p (work_to goal job c xs b.cells) whole same file same (opened (body_of job) pairs) off);
     }
 
 -- a survey that could not be made

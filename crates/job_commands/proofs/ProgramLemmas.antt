@@ -1,5 +1,6 @@
 -- From the steps of `program` to its end.
-use Rattle.std.proofs.Common.{◌≡◌, ◌≢◌, ◌⊎◌, ⊎_elim, ◌∙◌, inl, inr, refl, sym, ap, subst, arith, ℕ, Bool, true, IsTrue, List, [], ◌∷◌, length, Some, None}
+use Rattle.std.proofs.Common.{◌≡◌, ◌≢◌, ◌≤◌, ◌⊎◌, ⊎_elim, ◌∙◌, inl, inr, refl, sym, subst, ℕ, Bool, true, IsTrue, List, length, Option, option_copied, None}
+use Rattle.std.specs.Option.{ForSome}
 use Rattle.bench_model.specs.History.{left}
 use Rattle.bench_model.specs.State.{BenchState, cells_half}
 use Rattle.bench_model.specs.Calls.{SameOutside}
@@ -8,15 +9,16 @@ use Rattle.board_file.specs.Limits.{size_of}
 use Rattle.board_file.specs.Shown as board
 use Rattle.flm_descriptor.specs.Shown as flm
 use Rattle.job_text.specs.Body.{Job, IsJob}
-use Rattle.job_text.specs.Parts.{job_of, AreParts}
+use Rattle.job_text.specs.Parts.{job_of, flms_of, AreParts}
 use Rattle.job_text.specs.declared.parts.JobParts.{JobParts}
 use Rattle.campaign.specs.Stops.{IsUntouched}
 use Rattle.flash_session.specs.declared.goal.Goal.TheVariants.{New}
-use Rattle.report_text.specs.Refusal.{Refusal, out_of_memory, usage, input_fault, flm_refused, other_device, no_room, board_refused, image_refused, image_misplaced, job_open, not_a_job, cells_differ, store_fault, device_fault, output_fault, call_failed, mismatch, not_built}
+use Rattle.report_text.specs.Refusal.{Refusal, out_of_memory, usage, input_fault, flm_refused, other_device, no_room, board_refused, image_refused, image_misplaced, job_open, not_a_job, damaged, cells_differ, store_fault, device_fault, output_fault, call_failed, mismatch}
 use Rattle.command_words.specs.Files.{FilesAsked, names_in}
 use Rattle.command_files.specs.Inputs.{InputsCall, FilesGiven, AreFiles, NoneFailed}
-use Rattle.command_files.specs.Files.{Aim, IsAim, IsRefused}
-use Rattle.command_files.specs.Steps.{IsTakeFault, IsFilesRefusal, IsTwofold, IsTaskRefusal, TookFiles}
+use Rattle.command_files.specs.Files.{flm_files, Aim, IsAim, IsRefused}
+use Rattle.command_files.specs.Steps.{IsTakeFault, IsFilesRefusal, TookFiles, task_aim, IsTask}
+use Rattle.command_files.specs.declared.task.Task.{Task}
 use Rattle.command_answers.specs.Call.{BenchCall, SinkCall, Answer, done, refused, bench_call, sink_call}
 use Rattle.command_answers.specs.Answered.{fault_in, has_program, Refuses, OnlyLooked, StandsEarly, IsOf, on_job_file}
 use Rattle.command_answers.specs.Reading.{ShowsFiles}
@@ -24,10 +26,11 @@ use Rattle.command_answers.proofs.AnswerLemmas.{did_nothing, only_looked, plain_
 use Rattle.command_answers.proofs.ReadingLemmas.{answers_refused, answers_worked}
 use Rattle.job_commands.specs.Carry.{Carries}
 use Rattle.job_commands.specs.GoOn.{work_to}
-use Rattle.job_commands.specs.Program.{HasAlgorithm, job_for, Begins, BeginsOn, GoesOn, ShowsWork, ShowsProgram, ProgramEnds}
+use Rattle.job_commands.specs.Program.{job_for, Begins, BeginsOn, WorksOn, ShowsWork, ProgramEnds}
 use Rattle.job_commands.specs.Steps.{has_begin, BenchCounted, BeginsParts}
 use Rattle.job_commands.proofs.CountLemmas.{worked_lawful}
 use Rattle.job_commands.proofs.EntryLemmas.{begins_untaken, begins_unread}
+use Rattle.job_commands.proofs.RegionLemmas.{task_parts, flms_are}
 
 -- Before any work.
 module _ (tells sinks : Bool) (b : BenchState) (o : SinkState) (inputs : InputsCall) (asked : FilesAsked)
@@ -45,10 +48,7 @@ module _ (tells sinks : Bool) (b : BenchState) (o : SinkState) (inputs : InputsC
     files = record {
       shows = tt;
       refuses = λ files refusal told are refused'. inr (refl, did_nothing tells sinks b o);
-      goes = λ files aim told are is_aim. record {
-        one = λ region only its. begins_unread tells sinks b o (many its) (exact its) asked.raw_at files aim is_aim;
-        several = λ more. inr (refl, did_nothing tells sinks b o);
-      };
+      goes = λ files aim told are is_aim its. begins_unread tells sinks b o (many its) (exact its) asked.raw_at files aim is_aim;
     };
     memory = λ its. inl (did_nothing tells sinks b o);
   }
@@ -57,10 +57,7 @@ module _ (tells sinks : Bool) (b : BenchState) (o : SinkState) (inputs : InputsC
     files = record {
       shows = tt;
       refuses = λ files refusal told are refused'. inr (refl, did_nothing tells sinks b o);
-      goes = λ files aim told are is_aim. record {
-        one = λ region only its. begins_untaken tells sinks b o (many its) (exact its) asked.raw_at files aim name is_aim;
-        several = λ more. inr (refl, did_nothing tells sinks b o);
-      };
+      goes = λ files aim told are is_aim its. begins_untaken tells sinks b o (many its) (exact its) asked.raw_at files aim name is_aim;
     };
     memory = λ its. inl (did_nothing tells sinks b o);
   }
@@ -69,10 +66,10 @@ module _ (tells sinks : Bool) (b : BenchState) (o : SinkState) (inputs : InputsC
   module _ (files : FilesGiven) (are : AreFiles inputs asked files) (same : NoneFailed inputs) where
     -- the files are refused
     ends_refused : (r : Refusal) → has_program r ≡ true → fault_in (refused r) ≡ None → IsRefused asked files r
-        → ShowsFiles inputs asked (ShowsProgram Bench Out (refused r)) (refused r) → ProgramEnds asked Bench inputs Out (refused r)
+        → ShowsFiles inputs asked (ShowsWork Bench Out (refused r)) (refused r) → ProgramEnds asked Bench inputs Out (refused r)
     ends_refused r has no_fault is shows = record {
       lawful = plain_lawful tells sinks b o inputs on_job_file has_program (names_in asked) r (only_looked tells sinks b o) has same no_fault;
-      files = answers_refused Bench inputs Out asked (ShowsProgram Bench Out (refused r)) (GoesOn Bench Out (refused r)) r files are is shows;
+      files = answers_refused Bench inputs Out asked (ShowsWork Bench Out (refused r)) (WorksOn Bench Out (refused r)) r files are is shows;
       memory = λ its. inl (did_nothing tells sinks b o);
     }
 
@@ -87,50 +84,29 @@ module _ (tells sinks : Bool) (b : BenchState) (o : SinkState) (inputs : InputsC
     ends_unread (image_misplaced fault) is = ends_refused (image_misplaced fault) refl refl is (record { files = files; are_files = are; holds = is })
     ends_unread r is = absurd is
 
-    -- the board has more regions than one
-    ends_unbuilt : IsTwofold asked.raw_at files → ProgramEnds asked Bench inputs Out (refused not_built)
-    ends_unbuilt is = record {
-      lawful = plain_lawful tells sinks b o inputs on_job_file has_program (names_in asked) not_built (only_looked tells sinks b o) refl same refl;
-      files = answers_worked Bench inputs Out asked (ShowsProgram Bench Out (refused not_built)) (GoesOn Bench Out (refused not_built)) (refused not_built) files is.aim are is.is_aim
-          (record { files = files; are_files = are; holds = record { aim = is.aim; is_aim = is.is_aim; holds = is.several } })
-          (record {
-            one = λ region only. absurd (omega (arith, ap length only, is.several));
-            several = λ more. inl refl;
-          });
-      memory = λ its. inl (did_nothing tells sinks b o);
-    }
-
-    ends_unwanted : (r : Refusal) → IsTaskRefusal asked files r → ProgramEnds asked Bench inputs Out (refused r)
-    ends_unwanted not_built is = ends_unbuilt is
-    ends_unwanted r is = ends_unread r is
-
   -- the files can't be taken, or are refused
-  pub ends_early : (r : Refusal) → IsTakeFault inputs (names_in asked) r ⊎ TookFiles inputs asked (λ files. IsTaskRefusal asked files r)
+  pub ends_early : (r : Refusal) → IsTakeFault inputs (names_in asked) r ⊎ TookFiles inputs asked (λ files. IsFilesRefusal asked files r)
       → ProgramEnds asked Bench inputs Out (refused r)
-  ends_early r is = ⊎_elim (λ untaken. ends_untaken r untaken) (λ took. ends_unwanted took.given.files took.given.are_files took.none_failed r took.given.holds) is
+  ends_early r is = ⊎_elim (λ untaken. ends_untaken r untaken) (λ took. ends_unread took.given.files took.given.are_files took.none_failed r took.given.holds) is
 
 -- What began with the parts of a task began with its files.
 module _ (bench : BenchCall) (out : SinkCall) (answer : Answer) (files : FilesGiven) (aim : Aim) (parts : JobParts) (are : AreParts parts)
-    (board_is : files.board ≡ parts.board.now) (flm_is : files.flm ≡ Some parts.flm.now) (image_is : aim.image ≡ parts.image.now) (size_is : size_of aim.board.regions ≡ parts.size)
-    (board_says : aim.board ≡ are.board) (algorithm_says : aim.algorithms ≡ are.algorithm ∷ []) (begins : BeginsParts bench out parts answer) where
-  same_job : (has : HasAlgorithm files aim) (snapshot : List ℕ) → job_of parts snapshot ≡ job_for files aim has snapshot
-  same_job has snapshot =
-      let flms : has.flm_file ≡ parts.flm.now = let e : Some has.flm_file ≡ Some parts.flm.now = sym has.flm_is ∙ flm_is in cc in
-      cc
+    (board_is : files.board ≡ parts.board.now) (flms_are : flms_of parts ≡ flm_files files.flm files.images aim.board) (image_is : aim.image ≡ parts.image.now)
+    (size_is : size_of aim.board.regions ≡ parts.size) (board_says : are.board ≡ aim.board) (algorithms_say : are.algorithms ≡ aim.algorithms)
+    (begins : BeginsParts bench out parts answer) where
+  same_job : (snapshot : List ℕ) → job_of parts snapshot ≡ job_for files aim snapshot
+  same_job snapshot = cc
 
-  same_algorithm : (has : HasAlgorithm files aim) → are.algorithm ≡ has.algorithm
-  same_algorithm has = let e : are.algorithm ∷ [] ≡ has.algorithm ∷ [] = sym algorithm_says ∙ has.algorithm_is in cc
-
-  begins_for : (has : HasAlgorithm files aim) (snapshot : List ℕ) → IsJob (job_of parts snapshot) are.board are.algorithm
-      → Carries bench out (IsUntouched bench.before) (work_to New (job_of parts snapshot) are.board are.algorithm snapshot) answer → Begins bench out files aim has answer
-  begins_for has snapshot is carries = record {
+  begins_for : (snapshot : List ℕ) → IsJob (job_of parts snapshot) are.board are.algorithms
+      → Carries bench out (IsUntouched bench.before) (work_to New (job_of parts snapshot) are.board are.algorithms snapshot) answer → Begins bench out files aim answer
+  begins_for snapshot is carries = record {
     snapshot = snapshot;
-    is_job = subst (λ (j : Job). IsJob j aim.board has.algorithm) (same_job has snapshot)
-        (subst (λ (y : board.Shown). IsJob (job_of parts snapshot) y has.algorithm) (sym board_says)
-        (subst (λ (x : flm.Shown). IsJob (job_of parts snapshot) are.board x) (same_algorithm has) is));
-    carries = subst (λ (j : Job). Carries bench out (IsUntouched bench.before) (work_to New j aim.board has.algorithm snapshot) answer) (same_job has snapshot)
-        (subst (λ (y : board.Shown). Carries bench out (IsUntouched bench.before) (work_to New (job_of parts snapshot) y has.algorithm snapshot) answer) (sym board_says)
-        (subst (λ (x : flm.Shown). Carries bench out (IsUntouched bench.before) (work_to New (job_of parts snapshot) are.board x snapshot) answer) (same_algorithm has) carries));
+    is_job = subst (λ (j : Job). IsJob j aim.board aim.algorithms) (same_job snapshot)
+        (subst (λ (y : board.Shown). IsJob (job_of parts snapshot) y aim.algorithms) board_says
+        (subst (λ (xs : List flm.Shown). IsJob (job_of parts snapshot) are.board xs) algorithms_say is));
+    carries = subst (λ (j : Job). Carries bench out (IsUntouched bench.before) (work_to New j aim.board aim.algorithms snapshot) answer) (same_job snapshot)
+        (subst (λ (y : board.Shown). Carries bench out (IsUntouched bench.before) (work_to New (job_of parts snapshot) y aim.algorithms snapshot) answer) board_says
+        (subst (λ (xs : List flm.Shown). Carries bench out (IsUntouched bench.before) (work_to New (job_of parts snapshot) are.board xs snapshot) answer) algorithms_say carries));
   }
 
   pub begins_on_parts : BeginsOn bench out answer files aim
@@ -138,22 +114,37 @@ module _ (bench : BenchCall) (out : SinkCall) (answer : Answer) (files : FilesGi
     free = begins.free;
     some_job = begins.some_job;
     not_job = begins.not_job;
+    is_damaged = begins.is_damaged;
     other_size = λ is_free unequal.
         subst (λ (n : ℕ). (n ≢ bench.before.cell_count) → Refuses (OnlyLooked bench out) answer (cells_differ n bench.before.cell_count)) (sym size_is)
         (begins.other_size is_free) unequal;
     begins = λ has is_free size.
         let (snapshot, is, carries) = begins.begins are is_free (sym size_is ∙ size) in
-        begins_for has snapshot is carries;
+        begins_for snapshot is carries;
   }
+
+-- So with the parts of a task, and what its files want.
+module _ (bench : BenchCall) (out : SinkCall) (answer : Answer) (raw_at : Option ℕ) (files : FilesGiven) (task : Task) (is : IsTask raw_at files task)
+    (short_board : length task.board_text ≤ 67108864) (short_flm : length task.flm ≤ 67108864)
+    (short_second : ForSome task.second (λ (bytes : List ℕ). length bytes ≤ 67108864)) where
+  pub task_begins : (parts : JobParts) → parts.board.now ≡ task.board_text → parts.flm.now ≡ task.flm → option_copied parts.second ≡ task.second
+      → parts.image.now ≡ (task_aim task).image → parts.size ≡ size_of (task_aim task).board.regions → BeginsParts bench out parts answer
+      → BeginsOn bench out answer files (task_aim task)
+  task_begins parts board_is flm_is second_is image_is size_is begins =
+      begins_on_parts bench out answer files (task_aim task) parts
+      (task_parts raw_at files task is short_board short_flm short_second parts board_is flm_is second_is image_is size_is)
+      (is.board_text ∙ sym board_is) (flms_are raw_at files task is short_board short_flm short_second parts board_is flm_is second_is image_is size_is)
+      (sym image_is) (sym size_is) refl refl begins
 
 -- The work on files that are right.
 module _ (bench : BenchCall) (inputs : InputsCall) (out : SinkCall) (asked : FilesAsked) (files : FilesGiven) (aim : Aim) (are : AreFiles inputs asked files)
     (is : IsAim asked.raw_at files aim) where
-  works_show : (answer : Answer) → IsOf has_begin answer → ShowsWork bench out answer files aim → ShowsFiles inputs asked (ShowsProgram bench out answer) answer
+  works_show : (answer : Answer) → IsOf has_begin answer → ShowsWork bench out answer files aim → ShowsFiles inputs asked (ShowsWork bench out answer) answer
   works_show done kind works = record { files = files; are_files = are; holds = record { aim = aim; is_aim = is; holds = works } }
   works_show (refused out_of_memory) kind works = tt
   works_show (refused job_open) kind works = record { files = files; are_files = are; holds = record { aim = aim; is_aim = is; holds = works } }
   works_show (refused (not_a_job at)) kind works = record { files = files; are_files = are; holds = record { aim = aim; is_aim = is; holds = works } }
+  works_show (refused (damaged kept found)) kind works = record { files = files; are_files = are; holds = record { aim = aim; is_aim = is; holds = works } }
   works_show (refused (cells_differ wanted found)) kind works = record { files = files; are_files = are; holds = record { aim = aim; is_aim = is; holds = works } }
   works_show (refused store_fault) kind works = record { files = files; are_files = are; holds = record { aim = aim; is_aim = is; holds = works } }
   works_show (refused device_fault) kind works = record { files = files; are_files = are; holds = record { aim = aim; is_aim = is; holds = works } }
@@ -167,6 +158,7 @@ module _ (bench : BenchCall) (inputs : InputsCall) (out : SinkCall) (asked : Fil
   its_kind (refused out_of_memory) kind = refl
   its_kind (refused job_open) kind = refl
   its_kind (refused (not_a_job at)) kind = refl
+  its_kind (refused (damaged kept found)) kind = refl
   its_kind (refused (cells_differ wanted found)) kind = refl
   its_kind (refused store_fault) kind = refl
   its_kind (refused device_fault) kind = refl
@@ -179,10 +171,6 @@ module _ (bench : BenchCall) (inputs : InputsCall) (out : SinkCall) (asked : Fil
       → StandsEarly on_job_file bench out answer → ShowsWork bench out answer files aim → ProgramEnds asked bench inputs out answer
   ends_worked same answer kind counts stands shows = record {
     lawful = worked_lawful bench inputs out has_program has_begin (names_in asked) answer (its_kind answer kind) kind (λ name. refl) same counts stands;
-    files = answers_worked bench inputs out asked (ShowsProgram bench out answer) (GoesOn bench out answer) answer files aim are is (works_show answer kind shows)
-        (record {
-          one = λ region only. shows.works;
-          several = λ more. absurd (omega (arith, ap length shows.has_algorithm.only, more));
-        });
+    files = answers_worked bench inputs out asked (ShowsWork bench out answer) (WorksOn bench out answer) answer files aim are is (works_show answer kind shows) shows.works;
     memory = λ its. inr (record { files = files; are_files = are; holds = record { aim = aim; is_aim = is; holds = subst (λ (a : Answer). ShowsWork bench out a files aim) its shows } });
   }

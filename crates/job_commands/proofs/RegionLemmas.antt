@@ -1,157 +1,204 @@
--- An image that lies in a region, as the parts of a job have it.
-use Rattle.std.proofs.Common.{◌≡◌, ◌≢◌, ◌<◌, ◌≤◌, ◌+◌, ◌-◌, ◌^◌, ◌∙◌, sym, ap, subst, refl, arith, ℕ, suc, IsTrue, IsSome, List, [], ◌∷◌, ◌++◌, length, take, Option, option_to_list, Some, None, eqb}
-use Rattle.std.proofs.lemmas.Bool.{eq-eqb, le-leb, and_from}
-use Rattle.std.proofs.lemmas.Bool.Decides.{nat_tests}
+-- What a command's files want, as the parts of a job have it.
+use Rattle.std.proofs.Common.{◌≡◌, ◌≢◌, ◌⊎◌, ◌<◌, ◌≤◌, ◌+◌, ◌-◌, ◌^◌, ◌||◌, ◌∙◌, ⊎_elim, inl, inr, sym, ap, subst, refl, arith, ℕ, suc, Bool, IsTrue, IsSome, All, List, [], ◌∷◌, ◌++◌, length, take, get_or, Option, option_to_list, option_copied, Some, None}
+use Rattle.std.specs.List.{list_any}
+use Rattle.std.specs.Option.{ForSome}
+use Rattle.std.proofs.lemmas.Bool.{eq-eqb, le-leb, and_from, cases_lt}
+use Rattle.std.proofs.lemmas.List.{length-take-le, get_or_past}
+use Rattle.std.proofs.lemmas.List.Elements.{All-nil, All-cons, All-head, All-tail}
 use Rattle.byte_map.specs.Image.{Run, run_at, end_of, byte_of, byte_at, AreMaximal}
-use Rattle.byte_map.proofs.Runs.{each_run, found_in, holds_between, maximal_from}
+use Rattle.byte_map.proofs.Runs.{each_run, found_in, holds_between}
 use Rattle.board_file.specs.declared.region.Region.{Region}
 use Rattle.board_file.specs.Limits.{size_of}
 use Rattle.board_file.specs.Text.{IsBoard}
-use Rattle.flm_descriptor.specs.declared.device.Device.{Device}
 use Rattle.board_file.specs.Shown as board
+use Rattle.board_file.proofs.CountLemmas.{at_most_two}
 use Rattle.flm_descriptor.specs.Shown as flm
-use Rattle.flm_descriptor.specs.Flm.{IsFlm}
 use Rattle.image_set.specs.Ranges.{is_inside, LiesInside}
-use Rattle.job_text.specs.Fits.{is_only_region, Suits}
-use Rattle.job_text.specs.Body.{IsJob}
-use Rattle.job_text.specs.Parts.{AreParts}
+use Rattle.job_text.specs.Fits.{holds, Covers, AreCovered, LiesIn, all_fit, Suits}
+use Rattle.job_text.specs.Body.{flm_len, AreFlms, IsJob}
+use Rattle.job_text.specs.Parts.{files_with, flms_of, AreParts}
 use Rattle.job_text.specs.declared.parts.JobParts.{JobParts}
 use Rattle.command_files.specs.Inputs.{FilesGiven}
-use Rattle.command_files.specs.Files.{others_of, image_files, IsOneFor, AreFor, ranges_of, Aim, IsAim}
+use Rattle.command_files.specs.Files.{others_of, flm_files, image_files, AreFor, ranges_of, Aim, IsAim}
 use Rattle.command_files.specs.Steps.{task_aim, IsTask}
 use Rattle.command_files.specs.declared.task.Task.{Task}
 use Rattle.command_files.proofs.ImageLemmas.{maximal_union}
-use Rattle.command_files.proofs.WantedLemmas.{size_of_one}
-use Rattle.job_commands.specs.Program.{HasAlgorithm, job_for}
+use Rattle.job_commands.specs.Program.{HasTexts, job_for}
 
-in_range : (base size a : ℕ) → IsTrue (is_inside ((base, size) ∷ []) a) → (base ≤ a) × (a < base + size)
-in_range base size a inside = (grind (arith, nat_tests), grind (arith, nat_tests))
+-- ---- the image
 
 is_held : (o : Option ℕ) (byte : ℕ) → o ≡ Some byte → IsSome o
 is_held None byte is = absurd (cc)
 is_held (Some x) byte is = refl
 
--- each run of an image that lies in a region does
-pub each_inside : (image : List Run) (base size : ℕ) → AreMaximal 0 (2 ^ 32) image → LiesInside image ((base, size) ∷ []) → (k : ℕ) → k < length image
-    → (base ≤ (run_at image k).at) × (end_of (run_at image k) ≤ base + size)
-each_inside image base size maximal lies k less =
-    let run = each_run 0 (2 ^ 32) image k maximal less in
-    let first = inside (run_at image k).at (omega arith) (omega (arith, run.1)) in
-    let last = inside (end_of (run_at image k) - 1) (omega (arith, run.1)) (omega (arith, run.1)) in
-    (first.0, omega (arith, last.1, run.1))
-  where
-    inside : (a : ℕ) → (run_at image k).at ≤ a → a < end_of (run_at image k) → (base ≤ a) × (a < base + size)
-    inside a from to = in_range base size a (lies.inside a
-        (is_held (byte_at image a) (byte_of (run_at image k) a)
-        (found_in 0 (2 ^ 32) image k a maximal less (holds_between (run_at image k) a from to))))
+-- an address in the range of a region is held by it
+in_some : (regions : List Region) (a : ℕ) → is_inside (ranges_of regions) a ≡ list_any (λ (region : Region). holds region a) regions
+in_some [] a = refl
+in_some (r ∷ rs) a = ap (λ (b : Bool). holds r a || b) (in_some rs a)
 
-maximal_to : (low end top : ℕ) (rs : List Run) → AreMaximal low end rs → ((k : ℕ) → k < length rs → end_of (run_at rs k) ≤ top) → AreMaximal low top rs
-maximal_to low end top [] m to = tt
-maximal_to low end top (r ∷ rs) m to = (m.0, m.1, to 0 (omega arith), maximal_to (end_of r + 1) end top rs m.3 (λ k less. to (suc k) (omega arith)))
+module _ (image : List Run) (regions : List Region) (maximal : AreMaximal 0 (2 ^ 32) image) (lies : LiesInside image (ranges_of regions)) where
+  -- each byte of a run lies in a region
+  run_covered : (k : ℕ) → k < length image → Covers regions (run_at image k).at (end_of (run_at image k))
+  run_covered k less a from to = subst IsTrue (in_some regions a) (lies.inside a
+      (is_held (byte_at image a) (byte_of (run_at image k) a)
+      (found_in 0 (2 ^ 32) image k a maximal less (holds_between (run_at image k) a from to))))
 
--- the runs are maximal within the region
-pub maximal_inside : (image : List Run) (base size : ℕ) → AreMaximal 0 (2 ^ 32) image → LiesInside image ((base, size) ∷ []) → AreMaximal base (base + size) image
-maximal_inside image base size maximal lies = maximal_to base (2 ^ 32) (base + size) image
-    (maximal_from 0 base (2 ^ 32) image maximal (λ k less. (each_inside image base size maximal lies k less).0))
-    (λ k less. (each_inside image base size maximal lies k less).1)
+  all_covered : (rest : List Run) → ((k : ℕ) → k < length rest → Covers regions (run_at rest k).at (end_of (run_at rest k))) → AreCovered regions rest
+  all_covered [] each = tt
+  all_covered (r ∷ rest) each = (each 0 (omega arith), all_covered rest (λ k less. each (suc k) (omega (arith, less))))
+
+  pub lies_in : LiesIn regions image
+  lies_in = (maximal, all_covered image run_covered)
 
 some_run : (image : List Run) → image ≢ [] → 1 ≤ length image
 some_run [] some = absurd (some refl)
 some_run (r ∷ rs) some = omega arith
 
-only_region : (regions : List Region) (region : Region) (device : Device) → regions ≡ region ∷ [] → device.base ≡ region.base → device.size ≡ region.size
-    → IsTrue (is_only_region regions device)
-only_region regions region device only base size = subst (λ (rs : List Region). IsTrue (is_only_region rs device)) (sym only)
-    (and_from (eqb region.base device.base) (eqb region.size device.size) (eq-eqb region.base device.base (sym base)) (eq-eqb region.size device.size (sym size)))
+-- ---- the algorithms
 
--- the FLM file for one region says its algorithm
-one_for : (b : board.Shown) (region : Region) (regions : List Region) (file : Option (List ℕ)) (others : List (List ℕ)) (bytes : List ℕ) (a : flm.Shown)
-    (algorithms : List flm.Shown) → regions ≡ region ∷ [] → file ≡ Some bytes → algorithms ≡ a ∷ []
-    → AreFor b regions (option_to_list file ++ take (others_of file regions) others) algorithms → IsOneFor b region bytes a
-one_for b region regions file others bytes a algorithms only is its are = first
-    (subst (λ (rs : List Region). AreFor b rs (option_to_list (Some bytes) ++ take (others_of (Some bytes) rs) others) (a ∷ [])) only
-    (subst (λ (f : Option (List ℕ)). AreFor b regions (option_to_list f ++ take (others_of f regions) others) (a ∷ [])) is
-    (subst (λ (l : List flm.Shown). AreFor b regions (option_to_list file ++ take (others_of file regions) others) l) its are))) where
-      first : AreFor b (region ∷ []) (option_to_list (Some bytes) ++ take (others_of (Some bytes) (region ∷ [])) others) (a ∷ []) → IsOneFor b region bytes a
-      first are = are.0
+fits_all : (b : board.Shown) (regions : List Region) (files : List (List ℕ)) (algorithms : List flm.Shown) → AreFor b regions files algorithms
+    → length files ≡ length regions → IsTrue (all_fit b regions algorithms)
+fits_all b [] [] [] are same = refl
+fits_all b [] [] (x ∷ xs) are same = absurd are
+fits_all b [] (f ∷ fs) xs are same = absurd (omega (arith, same))
+fits_all b (r ∷ rs) [] xs are same = absurd (omega (arith, same))
+fits_all b (r ∷ rs) (f ∷ fs) [] are same = absurd are
+fits_all b (r ∷ rs) (f ∷ fs) (x ∷ xs) are same =
+    let fits = are.0.fits in
+    and_from _ _ (and_from _ _ (and_from _ _ (eq-eqb r.base x.device.base (sym fits.base_is)) (eq-eqb r.size x.device.size (sym fits.size_is))) (le-leb _ _ fits.room))
+    (fits_all b rs fs xs are.1 (omega (arith, same)))
 
-module _ (raw_at : Option ℕ) (files : FilesGiven) (aim : Aim) (region : Region) (bytes : List ℕ) (a : flm.Shown) (is : IsAim raw_at files aim)
-    (only : aim.board.regions ≡ region ∷ []) (file : files.flm ≡ Some bytes) (its : aim.algorithms ≡ a ∷ []) where
-  one_of : IsOneFor aim.board region bytes a
-  one_of = one_for aim.board region aim.board.regions files.flm files.images bytes a aim.algorithms only file its is.are_read.algorithms
+say_all : (b : board.Shown) (regions : List Region) (files : List (List ℕ)) (algorithms : List flm.Shown) → AreFor b regions files algorithms → AreFlms files algorithms
+say_all b regions [] [] are = tt
+say_all b [] [] (x ∷ xs) are = absurd are
+say_all b (r ∷ rs) [] (x ∷ xs) are = absurd are
+say_all b [] (f ∷ fs) xs are = absurd (none xs are) where
+  none : (xs : List flm.Shown) → AreFor b [] (f ∷ fs) xs → ⊥
+  none [] are = are
+  none (x ∷ xs) are = are
+say_all b (r ∷ rs) (f ∷ fs) [] are = absurd are
+say_all b (r ∷ rs) (f ∷ fs) (x ∷ xs) are = (are.0.says, say_all b rs fs xs are.1)
 
-  inside_one : LiesInside aim.image ((region.base, region.size) ∷ [])
-  inside_one = subst (λ (rs : List Region). LiesInside aim.image (ranges_of rs)) only is.inside
+-- a board for whose regions there are files has a region
+some_region : (b : board.Shown) (regions : List Region) (file : List ℕ) (files : List (List ℕ)) (algorithms : List flm.Shown) → AreFor b regions (file ∷ files) algorithms
+    → 1 ≤ length regions
+some_region b [] file files [] are = absurd are
+some_region b [] file files (x ∷ xs) are = absurd are
+some_region b (r ∷ rs) file files xs are = omega arith
 
-  -- what the files of a command want suits a job
-  pub aim_suits : Suits aim.board a aim.image
+-- as many as the board has regions
+record AreAll (b : board.Shown) (files : List (List ℕ)) : Type 0 where
+  pub some : 1 ≤ length b.regions
+  count : length files ≡ length b.regions
+
+all_files : (b : board.Shown) (first : Option (List ℕ)) (others : List (List ℕ)) (algorithms : List flm.Shown) → IsSome first
+    → length b.regions ≤ length others → AreFor b b.regions (option_to_list first ++ take (others_of first b.regions) others) algorithms
+    → AreAll b (option_to_list first ++ take (others_of first b.regions) others)
+all_files b None others algorithms some enough are = absurd (cc)
+all_files b (Some file) others algorithms some enough are =
+    let region = some_region b b.regions file (take (length b.regions - 1) others) algorithms are in
+    record { some = region; count = omega (arith, region, length-take-le (length b.regions - 1) others (omega (arith, enough))) }
+
+one_or_two : (n : ℕ) → 1 ≤ n → n ≤ 2 → (n ≡ 1) ⊎ (n ≡ 2)
+one_or_two n some few = ⊎_elim (λ (less : n < 2). inl (omega (arith, less, some))) (λ (more : 2 ≤ n). inr (omega (arith, more, few))) (cases_lt n 2)
+
+-- a text that is no longer than a file that can be taken has a length of 32 bits, and so has none
+pub short_len : (files : List (List ℕ)) (k : ℕ) → All (λ (file : List ℕ). length file ≤ 67108864) files → flm_len files k < 2 ^ 32
+short_len files k short = ⊎_elim
+    (λ (less : k < length files). omega (arith, short k [] less))
+    (λ (past : length files ≤ k). omega (arith, ap length (get_or_past files k [] past)))
+    (cases_lt k (length files))
+
+module _ (raw_at : Option ℕ) (files : FilesGiven) (aim : Aim) (is : IsAim raw_at files aim) (some : IsSome files.flm) where
+  abbrev flms : List (List ℕ)
+  flms = flm_files files.flm files.images aim.board
+
+  are_all : AreAll aim.board flms
+  are_all = all_files aim.board files.flm files.images aim.algorithms some (is.are_read.board.enough some) is.are_read.algorithms
+
+  -- what the files want suits a job
+  pub aim_suits : Suits aim.board aim.algorithms aim.image
   aim_suits =
       let images = image_files files.flm files.images aim.board in
       let maximal = maximal_union raw_at images (length images) aim.image is.are_read.union in
-      let fits = one_of.fits in
       record {
-        region = only_region aim.board.regions region a.device only fits.base_is fits.size_is;
-        room = le-leb _ _ fits.room;
+        fit = fits_all aim.board aim.board.regions flms aim.algorithms is.are_read.algorithms are_all.count;
         some = some_run aim.image is.inside.some;
-        inside = subst (λ (n : ℕ). AreMaximal n (n + a.device.size) aim.image) (sym fits.base_is)
-            (subst (λ (n : ℕ). AreMaximal region.base (region.base + n) aim.image) (sym fits.size_is)
-            (maximal_inside aim.image region.base region.size maximal inside_one));
+        inside = lies_in aim.image aim.board.regions maximal is.inside;
       }
 
-  -- the algorithm's device is the region
-  pub aim_size : a.device.size ≡ size_of aim.board.regions
-  aim_size = one_of.fits.size_is ∙ sym (size_of_one aim.board.regions region only)
+  pub aim_flms : AreFlms flms aim.algorithms
+  aim_flms = say_all aim.board aim.board.regions flms aim.algorithms is.are_read.algorithms
 
-  pub aim_flm : IsFlm bytes a
-  aim_flm = one_of.says
+  pub few_files : (length flms ≡ 1) ⊎ (length flms ≡ 2)
+  few_files = one_or_two (length flms) (omega (arith, are_all.some, are_all.count))
+      (omega (arith, are_all.count, at_most_two files.board aim.board is.are_read.board.is_board))
 
 -- with a snapshot of the size they make a job
-pub aim_job : (raw_at : Option ℕ) (files : FilesGiven) (aim : Aim) (has : HasAlgorithm files aim) (snapshot : List ℕ) → IsAim raw_at files aim
-    → length snapshot ≡ size_of aim.board.regions → IsJob (job_for files aim has snapshot) aim.board has.algorithm
+pub aim_job : (raw_at : Option ℕ) (files : FilesGiven) (aim : Aim) (has : HasTexts files aim) (snapshot : List ℕ) → IsAim raw_at files aim
+    → length snapshot ≡ size_of aim.board.regions → IsJob (job_for files aim snapshot) aim.board aim.algorithms
 aim_job raw_at files aim has snapshot is many = record {
   board = is.are_read.board.is_board;
-  algorithm = aim_flm raw_at files aim has.region has.flm_file has.algorithm is has.only has.flm_is has.algorithm_is;
-  suits = aim_suits raw_at files aim has.region has.flm_file has.algorithm is has.only has.flm_is has.algorithm_is;
-  cells = many ∙ sym (aim_size raw_at files aim has.region has.flm_file has.algorithm is has.only has.flm_is has.algorithm_is);
+  files = few_files raw_at files aim is has.has_flm;
+  algorithms = aim_flms raw_at files aim is has.has_flm;
+  suits = aim_suits raw_at files aim is has.has_flm;
+  cells = many;
   short_board = omega (arith, has.short_board);
-  short_flm = omega (arith, has.short_flm);
+  short_first = short_len (flm_files files.flm files.images aim.board) 0 has.short_flms;
+  short_second = short_len (flm_files files.flm files.images aim.board) 1 has.short_flms;
 }
 
--- the size of a task's device is that of its board's region
-pub task_size : (raw_at : Option ℕ) (files : FilesGiven) (task : Task) → IsTask raw_at files task → size_of task.board.regions ≡ task.device.size
-task_size raw_at files task is = size_of_one task.board.regions is.is_only.region is.is_only.only ∙ sym is.is_only.size_is
+-- ---- a task
 
--- A task makes the parts of a job.
-abbrev pub task_parts : (raw_at : Option ℕ) (files : FilesGiven) (task : Task) (parts : JobParts) → IsTask raw_at files task
-    → length task.board_text ≤ 67108864 → length task.flm ≤ 67108864
-    → parts.board.now ≡ task.board_text → parts.flm.now ≡ task.flm → parts.image.now ≡ task.image → parts.size ≡ task.device.size → AreParts parts
-task_parts raw_at files task parts is short_board short_flm board_is flm_is image_is size_is =
-    let region = is.is_only.region in
-    let algorithm = flm.shown task.algorithm in
-    record {
-      board = board.shown task.board;
-      algorithm = algorithm;
-      is_board = subst (λ (text : List ℕ). IsBoard text (board.shown task.board)) (is.board_text ∙ sym board_is) is.is_aim.are_read.board.is_board;
-      is_algorithm = aim_flm raw_at files (task_aim task) region parts.flm.now algorithm is.is_aim is.is_only.only
-          (is.flm ∙ ap (λ (l : List ℕ). Some l) (sym flm_is)) refl;
-      suits = subst (λ (rs : List Run). Suits (board.shown task.board) algorithm rs) (sym image_is)
-          (aim_suits raw_at files (task_aim task) region task.flm algorithm is.is_aim is.is_only.only is.flm refl);
-      size = aim_size raw_at files (task_aim task) region task.flm algorithm is.is_aim is.is_only.only is.flm refl
-          ∙ task_size raw_at files task is ∙ sym size_is;
+files_are : (first : List ℕ) (second : Option (List ℕ)) → files_with first second ≡ first ∷ option_to_list second
+files_are first None = refl
+files_are first (Some second) = refl
+
+both_short : (first : List ℕ) (second : Option (List ℕ)) → length first ≤ 67108864 → ForSome second (λ (bytes : List ℕ). length bytes ≤ 67108864)
+    → All (λ (file : List ℕ). length file ≤ 67108864) (first ∷ option_to_list second)
+both_short first None short too = All-cons (λ (file : List ℕ). length file ≤ 67108864) first [] short (All-nil (λ (file : List ℕ). length file ≤ 67108864))
+both_short first (Some second) short too = All-cons (λ (file : List ℕ). length file ≤ 67108864) first (second ∷ []) short
+    (All-cons (λ (file : List ℕ). length file ≤ 67108864) second [] (too second refl) (All-nil (λ (file : List ℕ). length file ≤ 67108864)))
+
+some_first : (first : Option (List ℕ)) (others : List (List ℕ)) (b : board.Shown) (file : List ℕ) (files : List (List ℕ)) (algorithms : List flm.Shown)
+    → flm_files first others b ≡ file ∷ files → IsSome first
+some_first None others b file files algorithms is = absurd (omega (arith, ap length is, length-take-le 0 others (omega arith)))
+some_first (Some first) others b file files algorithms is = refl
+
+module _ (raw_at : Option ℕ) (files : FilesGiven) (task : Task) (is : IsTask raw_at files task) (short_board : length task.board_text ≤ 67108864)
+    (short_flm : length task.flm ≤ 67108864) (short_second : ForSome task.second (λ (bytes : List ℕ). length bytes ≤ 67108864)) where
+  abbrev aim : Aim
+  aim = task_aim task
+
+  pub some : IsSome files.flm
+  some = some_first files.flm files.images aim.board task.flm (option_to_list task.second) aim.algorithms is.flms
+
+  short_flms : All (λ (file : List ℕ). length file ≤ 67108864) (flm_files files.flm files.images aim.board)
+  short_flms = subst (λ (l : List (List ℕ)). All (λ (file : List ℕ). length file ≤ 67108864) l) (sym is.flms) (both_short task.flm task.second short_flm short_second)
+
+  -- it has the texts of a job
+  pub task_texts : HasTexts files aim
+  task_texts = record { has_flm = some; short_board = omega (arith, short_board, ap (λ (l : List ℕ). length l) is.board_text); short_flms = short_flms }
+
+  module _ (parts : JobParts) (board_is : parts.board.now ≡ task.board_text) (flm_is : parts.flm.now ≡ task.flm) (second_is : option_copied parts.second ≡ task.second)
+      (image_is : parts.image.now ≡ aim.image) (size_is : parts.size ≡ size_of aim.board.regions) where
+    pub flms_are : flms_of parts ≡ flm_files files.flm files.images aim.board
+    flms_are = ap (λ (f : List ℕ). files_with f (option_copied parts.second)) flm_is ∙ ap (λ (o : Option (List ℕ)). files_with task.flm o) second_is
+        ∙ files_are task.flm task.second ∙ sym is.flms
+
+    pub short : All (λ (file : List ℕ). length file ≤ 67108864) (flms_of parts)
+    short = subst (λ (l : List (List ℕ)). All (λ (file : List ℕ). length file ≤ 67108864) l) (sym flms_are) short_flms
+
+    -- A task makes the parts of a job.
+    abbrev pub task_parts : AreParts parts
+    task_parts = record {
+      board = aim.board;
+      algorithms = aim.algorithms;
+      is_board = subst (λ (text : List ℕ). IsBoard text aim.board) (is.board_text ∙ sym board_is) is.is_aim.are_read.board.is_board;
+      are_algorithms = subst (λ (l : List (List ℕ)). AreFlms l aim.algorithms) (sym flms_are) (aim_flms raw_at files aim is.is_aim some);
+      suits = subst (λ (rs : List Run). Suits aim.board aim.algorithms rs) (sym image_is) (aim_suits raw_at files aim is.is_aim some);
+      size = sym size_is;
       short_board = omega (arith, short_board, ap (λ (l : List ℕ). length l) board_is);
-      short_flm = omega (arith, short_flm, ap (λ (l : List ℕ). length l) flm_is);
+      short_first = omega (arith, short_flm, ap (λ (l : List ℕ). length l) flm_is);
+      short_second = short_len (flms_of parts) 1 short;
     }
-
--- and has an algorithm
-pub task_algorithm : (raw_at : Option ℕ) (files : FilesGiven) (task : Task) (is : IsTask raw_at files task) → length task.board_text ≤ 67108864
-    → length task.flm ≤ 67108864 → HasAlgorithm files (task_aim task)
-task_algorithm raw_at files task is short_board short_flm = record {
-  region = is.is_only.region;
-  only = is.is_only.only;
-  flm_file = task.flm;
-  flm_is = is.flm;
-  algorithm = flm.shown task.algorithm;
-  algorithm_is = refl;
-  short_board = omega (arith, short_board, ap (λ (l : List ℕ). length l) is.board_text);
-  short_flm = short_flm;
-}

@@ -1,14 +1,14 @@
 -- A session that was opened (a to b), and then surveyed or to be surveyed (b to m).
-use Rattle.std.proofs.Common.{◌≡◌, ◌⊎◌, ◌≤◌, ◌+◌, ◌^◌, ◌∙◌, refl, sym, ap, subst, arith, ℕ, Bool, IsTrue, List, ◌∷◌, drop, Option, Some, None, IfSome, IsSomeAnd}
+use Rattle.std.proofs.Common.{◌≡◌, ◌⊎◌, ◌∙◌, refl, sym, ap, subst, ℕ, Bool, IsTrue, List, ◌∷◌, drop, Option, Some, None, IfSome, IsSomeAnd, Result, Ok, Err}
 use Rattle.outside_io.specs.State.{SinkState}
 use Rattle.bench_model.specs.History.{left, AddsNothing, LeftOnly}
 use Rattle.bench_model.specs.State.{BenchState, file_half, cells_half, Left}
 use Rattle.bench_model.specs.Calls.{SameOutside, IsRead}
 use Rattle.bench_model.specs.Pairs.{PairsLeave}
 use Rattle.bench_model.proofs.Moments.{adds_nothing_then, leaves_as, still_only}
-use Rattle.page_geometry.specs.Layout.{Layout}
-use Rattle.erase_planner.specs.Plans.{Chosen}
-use Rattle.flm_descriptor.specs.Shown as flm
+use Rattle.outside_io.specs.declared.sink.OutputFault.{OutputFault}
+use Rattle.outside_io.specs.Puts.{Puts}
+use Rattle.board_file.specs.Limits.{size_of}
 use Rattle.job_text.specs.Files.{IsWhole}
 use Rattle.job_text.specs.Stands.{StandsFor, snapshot_in}
 use Rattle.job_text.specs.declared.job.Job as code
@@ -16,31 +16,22 @@ use Rattle.job_text.proofs.ClassLemmas.{some_job}
 use Rattle.flash_session.specs.declared.fault.SurveyFault.{SurveyFault}
 use Rattle.flash_session.specs.declared.goal.Goal.{Goal}
 use Rattle.flash_session.specs.Surveys.{Surveyed, HasSurveyed}
-use Rattle.report_text.specs.Plan.{plan_text}
 use Rattle.report_text.specs.Refusal.{output_fault}
-use Rattle.command_answers.specs.Call.{SinkCall, TookAll, TookPart, Answer, refused, bench_call, sink_call}
-use Rattle.job_commands.specs.Work.{Work, body, layout_of, plan_of, shown_plan}
+use Rattle.command_answers.specs.Call.{SinkCall, Answer, refused, bench_call, sink_call}
+use Rattle.job_commands.specs.Work.{Work, body, plans_shown, shown_plan}
 use Rattle.job_commands.specs.GoOn.{GoesOnFrom}
 use Rattle.job_commands.specs.Steps.{of_survey, session_work, Finishes}
 use Rattle.job_commands.proofs.TurnLemmas.{Off, off_from}
 use Rattle.job_commands.proofs.CarryLemmas.{entered, looked, ends_in_plan, ends_finished}
-use Rattle.job_commands.proofs.FinishLemmas.{plan_is}
+use Rattle.job_commands.proofs.FinishLemmas.{plans_are}
 use Rattle.job_commands.proofs.OpenLemmas.{only_stands, refuses_survey}
 
 -- a file that stands for a job stands for what is behind its gate
 pub whole_behind : (text file : List ℕ) → IsWhole text file → IsWhole (drop 1 file) file
 whole_behind text file whole = subst (λ (f : List ℕ). f ≡ 165 ∷ drop 1 f) (sym whole) refl
 
--- the addresses of a surveyed device are below 2 ^ 32
-pub fits_memory : (tells : Bool) (j : code.Job) (goal : Goal) (file cells : List ℕ) (o : Option Surveyed) → IsSomeAnd o (λ v. HasSurveyed tells j goal file cells v)
-    → (geometry : Layout) → IfSome o (λ v. geometry ≡ v.layout) → j.algorithm.device.base + geometry.size ≤ 2 ^ 32
-fits_memory tells j goal file cells None has geometry is = absurd has
-fits_memory tells j goal file cells (Some v) has geometry is =
-    let size : geometry.size ≡ j.algorithm.device.size = ap (λ (l : Layout). l.size) (is ∙ has.layout) in
-    omega (arith, size, j.algorithm.in_memory)
-
 module _ (tells sinks : Bool) (told : IsTrue tells) (a b m : BenchState) (goal : Goal) (j : code.Job) (stands : StandsFor j a.file)
-    (sized : j.algorithm.device.size ≡ a.cell_count) (file : b.file ≡ a.file) (same : SameOutside a.operation a.cells b.cells)
+    (sized : size_of j.board.regions ≡ a.cell_count) (file : b.file ≡ a.file) (same : SameOutside a.operation a.cells b.cells)
     (only : LeftOnly a.file (file_half b)) (open_pairs : PairsLeave a b (Left a)) (halves : AddsNothing (cells_half a) (cells_half b))
     (exact : (x : List ℕ) → left (cells_half a) x → SameOutside a.operation a.cells x)
     (idle : b.operation ≡ None) (alone : (x : List ℕ) → left (cells_half b) x → SameOutside b.operation b.cells x)
@@ -83,41 +74,40 @@ module _ (tells sinks : Bool) (told : IsTrue tells) (a b m : BenchState) (goal :
     found_here = subst (λ (f : List ℕ). IsSomeAnd o (λ v. HasSurveyed tells j goal f m.cells v)) (sym (reads.file.file told))
         (subst (λ (c : List ℕ). IsSomeAnd o (λ v. HasSurveyed tells j goal b.file c v)) (sym (reads.cells.cells told)) found)
 
-    shown_from : (q : Option Surveyed) → IsSomeAnd q (λ v. HasSurveyed tells j goal m.file m.cells v) → (geometry : Layout) → IfSome q (λ v. geometry ≡ v.layout)
-        → (made : Chosen) → IfSome q (λ v. made ≡ v.plan) → plan_text geometry j.algorithm.device.base made ≡ shown_plan w
-    shown_from None has geometry lays made plans = absurd has
-    shown_from (Some v) has geometry lays made plans =
-        let layouts : geometry ≡ layout_of (flm.shown j.algorithm) = lays ∙ has.layout in
-        let chosen_is : made ≡ plan_of w = plans ∙ plan_is tells told j goal stands.text stands.image m.file (stands.snapshot ∙ ap (λ (f : List ℕ). snapshot_in j f) (sym file_is)) m.cells v has in
-        ap (λ (l : Layout). plan_text l j.algorithm.device.base made) layouts
-        ∙ ap (λ (c : Chosen). plan_text (layout_of (flm.shown j.algorithm)) j.algorithm.device.base c) chosen_is
+    -- the plans that were put are the chosen ones
+    shown_from : (v : Surveyed) → HasSurveyed tells j goal m.file m.cells v → plans_shown v.regions ≡ shown_plan w
+    shown_from v has = ap plans_shown
+        (plans_are tells told j goal stands.text stands.image m.file (stands.snapshot ∙ ap (λ (f : List ℕ). snapshot_in j f) (sym file_is)) m.cells v has)
 
-    module _ (geometry : Layout) (lays : IfSome o (λ v. geometry ≡ v.layout)) (made : Chosen) (plans : IfSome o (λ v. made ≡ v.plan)) (base : ℕ)
-        (base_is : base ≡ j.algorithm.device.base) where
-      -- the plan that was put is the chosen one
-      text_is : plan_text geometry base made ≡ shown_plan w
-      text_is = ap (λ (n : ℕ). plan_text geometry n made) base_is ∙ shown_from o found_here geometry lays made plans
+    put_from : (q : Option Surveyed) (p r : SinkState) (result : Result (Unit {0}) OutputFault) → IsSomeAnd q (λ v. HasSurveyed tells j goal m.file m.cells v)
+        → IfSome q (λ v. Puts sinks p r (plans_shown v.regions) result) → Puts sinks p r (shown_plan w) result
+    put_from None p r result has puts = absurd has
+    put_from (Some v) p r result has puts = subst (λ (text : List ℕ). Puts sinks p r text result) (shown_from v has) puts
 
-      pub cut_in_plan : (p q : SinkState) → TookPart (sink_call sinks p q) (plan_text geometry base made)
-          → GoesOnFrom goal (bench_call tells a m) (sink_call sinks p q) (refused output_fault)
-      cut_in_plan p q part = only_stands tells a m (sink_call sinks p q) goal (refused output_fault) (some_job j a.file stands) sized m.cells
-          (ends_in_plan tells sinks a m p w stands.whole outside file_is outside its_pairs off q refl still_idle
-          (subst (λ (text : List ℕ). TookPart (sink_call sinks p q) text) text_is part))
+    pub cut_in_plan : (p q : SinkState) (e : OutputFault) → IfSome o (λ v. Puts sinks p q (plans_shown v.regions) (Err e))
+        → GoesOnFrom goal (bench_call tells a m) (sink_call sinks p q) (refused output_fault)
+    cut_in_plan p q e put =
+        let puts = put_from o p q (Err e) found_here put in
+        only_stands tells a m (sink_call sinks p q) goal (refused output_fault) (some_job j a.file stands) sized m.cells
+        (ends_in_plan tells sinks a m p w stands.whole outside file_is outside its_pairs off q refl still_idle
+        (record { taken = puts.err; later = puts.cause.later; rose = puts.cause.on_fault refl }))
 
-      -- what follows is of the same job
-      finished_as : (k : code.Job) (d : BenchState) (out : SinkCall) (answer : Answer) → k ≡ j
-          → ((s : StandsFor k m.file) → IsSomeAnd o (λ v. HasSurveyed tells k goal m.file m.cells v) → Finishes (bench_call tells m d) out (session_work goal k s.text m.cells) answer)
-          → Finishes (bench_call tells m d) out w answer
-      finished_as k d out answer is finishes =
-          subst (λ (i : code.Job). (s : StandsFor i m.file) → IsSomeAnd o (λ v. HasSurveyed tells i goal m.file m.cells v)
-          → Finishes (bench_call tells m d) out (session_work goal i s.text m.cells) answer) is finishes
-          (record { text = stands.text; is = stands.is; whole = file_is ∙ stands.whole; image = stands.image; snapshot = stands.snapshot ∙ ap (λ (f : List ℕ). snapshot_in j f) (sym file_is) })
-          found_here
+    -- what follows is of the same job
+    finished_as : (k : code.Job) (d : BenchState) (out : SinkCall) (answer : Answer) → k ≡ j
+        → ((s : StandsFor k m.file) → IsSomeAnd o (λ v. HasSurveyed tells k goal m.file m.cells v) → Finishes (bench_call tells m d) out (session_work goal k s.text m.cells) answer)
+        → Finishes (bench_call tells m d) out w answer
+    finished_as k d out answer is finishes =
+        subst (λ (i : code.Job). (s : StandsFor i m.file) → IsSomeAnd o (λ v. HasSurveyed tells i goal m.file m.cells v)
+        → Finishes (bench_call tells m d) out (session_work goal i s.text m.cells) answer) is finishes
+        (record { text = stands.text; is = stands.is; whole = file_is ∙ stands.whole; image = stands.image; snapshot = stands.snapshot ∙ ap (λ (f : List ℕ). snapshot_in j f) (sym file_is) })
+        found_here
 
-      pub finished : (k : code.Job) (d : BenchState) (p q r : SinkState) (answer : Answer) → k ≡ j → TookAll (sink_call sinks p q) (plan_text geometry base made)
-          → ((s : StandsFor k m.file) → IsSomeAnd o (λ v. HasSurveyed tells k goal m.file m.cells v)
-          → Finishes (bench_call tells m d) (sink_call sinks q r) (session_work goal k s.text m.cells) answer)
-          → GoesOnFrom goal (bench_call tells a d) (sink_call sinks p r) answer
-      finished k d p q r answer is took finishes = only_stands tells a d (sink_call sinks p r) goal answer (some_job j a.file stands) sized m.cells
-          (ends_finished tells sinks a m d p q r w outside (subst (λ (text : List ℕ). TookAll (sink_call sinks p q) text) text_is took) (Left a) answer its_pairs off still_idle
-          (finished_as k d (sink_call sinks q r) answer is finishes))
+    pub finished : (k : code.Job) (d : BenchState) (p q r : SinkState) (answer : Answer) → k ≡ j → (u : Unit {0}) → IfSome o (λ v. Puts sinks p q (plans_shown v.regions) (Ok u))
+        → ((s : StandsFor k m.file) → IsSomeAnd o (λ v. HasSurveyed tells k goal m.file m.cells v)
+        → Finishes (bench_call tells m d) (sink_call sinks q r) (session_work goal k s.text m.cells) answer)
+        → GoesOnFrom goal (bench_call tells a d) (sink_call sinks p r) answer
+    finished k d p q r answer is u put finishes =
+        let puts = put_from o p q (Ok u) found_here put in
+        only_stands tells a d (sink_call sinks p r) goal answer (some_job j a.file stands) sized m.cells
+        (ends_finished tells sinks a m d p q r w outside (record { taken = puts.ok; faults = puts.cause.on_ok refl }) (Left a) answer its_pairs off still_idle
+        (finished_as k d (sink_call sinks q r) answer is finishes))

@@ -1,7 +1,7 @@
 -- What an answer of the work on a job says by itself.
 use Rattle.std.specs.Prelude.{◌≢◌, Bool, true, false}
 use Rattle.flash_session.specs.Plays.{IsNotDone}
-use Rattle.report_text.specs.Refusal.{output_fault, cells_differ, call_failed, mismatch}
+use Rattle.report_text.specs.Refusal.{output_fault, damaged, cells_differ, call_failed, mismatch}
 use Rattle.command_answers.specs.Call.{Answer, done, refused}
 
 -- the answers that come only after a job was begun
@@ -12,11 +12,12 @@ is_of_work (refused (call_failed number call end)) = true
 is_of_work (refused (mismatch at wanted found)) = true
 is_of_work (refused _) = false
 
--- the two bytes of a mismatch and the two numbers of cells differ, and the call that failed isn't done
+-- the two bytes of a mismatch, the two hashes and the two numbers of cells differ, and the call that failed isn't done
 abbrev pub IsSound : Answer → Type 0
 IsSound done = Unit {0}
 IsSound (refused (call_failed number call end)) = IsNotDone number end
 IsSound (refused (mismatch at wanted found)) = wanted ≢ found
+IsSound (refused (damaged kept found)) = kept ≢ found
 IsSound (refused (cells_differ wanted found)) = wanted ≢ found
 IsSound (refused _) = Unit {0}
 

@@ -52,14 +52,14 @@ pub record EndsWithoutMemory (bench : BenchCall) (out : SinkCall) (w : Work) : T
   pub cells : IsAsEntered bench bench.after.cells
   pub prints : TookNothing out
 
--- In the plan's text: a beginning of it went out, the cells are as surveyed, and no operation is open.
+-- In the plans' text: a beginning of it went out, the cells are as surveyed, and no operation is open.
 pub record EndsInPlan (bench : BenchCall) (out : SinkCall) (w : Work) : Type 0 where
   pub job : HasJob bench.after w
   pub cells : bench.after.cells ≡ w.surveyed
   pub idle : bench.after.operation ≡ None
   pub prints : TookPart out (shown_plan w)
 
--- In the script or at its end, in this way. The plan was printed.
+-- In the script or at its end, in this way. The plans were printed.
 pub record EndsInScript (bench : BenchCall) (out : SinkCall) (w : Work) (Way : Type 0) : Type 0 where
   pub job : HasJob bench.after w
   pub prints : TookAll out (shown_plan w)
@@ -117,7 +117,7 @@ pub record Stops (bench : BenchCall) (First : List ℕ → List ℕ → Type 0) 
   pub ended : bench.after.operation ≡ None → broken_off ≤ bench.after.moment
   -- up to it no cell changes but by the breaking off, and from it on the script alone changes cells
   pub path : CellsInTurn bench.before bench.after broken_off (IsAsEntered bench) (IsOnPath w broken)
-  -- with an algorithm that keeps its duties, what lies outside the plan stays from it on as the survey found it
+  -- with algorithms that keep their duties, what lies outside the plan of its own region stays from it on as the survey found it
   pub local : KeepsDuties w → CellsInTurn bench.before bench.after broken_off (IsAsEntered bench) (IsOutsidePlanAsSurveyed w)
 
 -- What the three commands share, from entry to exit: the cells as surveyed are those of the entry, and with one choice of what
@@ -127,5 +127,5 @@ pub record Carries (bench : BenchCall) (out : SinkCall) (First : List ℕ → Li
   pub broken : Broken
   pub comes : Comes bench out w broken answer
   pub stops : Stops bench First w broken
-  -- an algorithm that keeps its duties comes to its end, but for want of memory and counted faults
+  -- algorithms that keep their duties come to their end, but for want of memory and counted faults
   pub complete : KeepsDuties w → IsUnless answer done

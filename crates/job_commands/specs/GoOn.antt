@@ -1,15 +1,16 @@
 -- What `resume` and `revert` answer: they go on with the job in the file.
 use Rattle.std.specs.Prelude.{◌≡◌, ◌≢◌, ℕ, IsTrue, List, []}
 use Rattle.bench_model.specs.State.{Left}
-use Rattle.byte_map.specs.Image.{over}
+use Rattle.board_file.specs.Limits.{size_of}
 use Rattle.board_file.specs.Shown as board
 use Rattle.flm_descriptor.specs.Shown as flm
 use Rattle.job_text.specs.Files.{IsFree, IsWhole}
 use Rattle.job_text.specs.Body.{Job, body_of, IsJob}
-use Rattle.job_text.specs.Stands.{IsSomeJob, IsNotAJob}
+use Rattle.job_text.specs.Stands.{IsSomeJob, IsDamaged, IsNotAJob}
 use Rattle.flash_session.specs.declared.goal.Goal.{Goal}
 use Rattle.flash_session.specs.declared.goal.Goal.TheVariants.{New, Old}
-use Rattle.report_text.specs.Refusal.{no_job, not_a_job, cells_differ}
+use Rattle.flash_session.specs.Goals.{overlaid}
+use Rattle.report_text.specs.Refusal.{no_job, not_a_job, damaged, cells_differ}
 use Rattle.command_files.specs.Inputs.{InputsCall, TakesNothing}
 use Rattle.command_answers.specs.Call.{BenchCall, SinkCall, Call, Answer}
 use Rattle.command_answers.specs.Answered.{has_resume, AnswersBy, EndsLawfully, Refuses, OnlyLooked, on_job_file}
@@ -19,24 +20,25 @@ use Rattle.job_commands.specs.Answers.{IsSound}
 use Rattle.job_commands.specs.Printed.{PrintsWork}
 
 -- the cells that a job is to leave: its image laid over its snapshot, or the snapshot
-abbrev pub goal_cells : Goal → Job → flm.Shown → List ℕ
-goal_cells New job a = over job.image a.device.base job.snapshot
-goal_cells Old job a = job.snapshot
+abbrev pub goal_cells : Goal → Job → board.Shown → List ℕ
+goal_cells New job b = overlaid job.image b.regions job.snapshot
+goal_cells Old job b = job.snapshot
 
 -- the work to that goal, with the cells as surveyed
-abbrev pub work_to : Goal → Job → board.Shown → flm.Shown → List ℕ → Work
-work_to goal job b a surveyed = work_on job b a surveyed (goal_cells goal job a)
+abbrev pub work_to : Goal → Job → board.Shown → List flm.Shown → List ℕ → Work
+work_to goal job b algorithms surveyed = work_on job b algorithms surveyed (goal_cells goal job b)
 
--- By what the file is. A file that is free or no job, or stands for a job of another number of cells, is refused, and was only looked
--- at; the job of a file is carried to the goal.
+-- By what the file is. A file that is free, damaged or no job, or stands for a job of another number of cells, is refused, and was only
+-- looked at; the job of a file is carried to the goal.
 pub record GoesOnFrom (goal : Goal) (bench : BenchCall) (out : SinkCall) (answer : Answer) : Type 0 where
   pub free : IsFree bench.before.file → Refuses (OnlyLooked bench out) answer no_job
   pub not_job : (at : ℕ) → IsNotAJob at bench.before.file → Refuses (OnlyLooked bench out) answer (not_a_job at)
-  pub other_size : (some : IsSomeJob bench.before.file) → some.algorithm.device.size ≢ bench.before.cell_count
-      → Refuses (OnlyLooked bench out) answer (cells_differ some.algorithm.device.size bench.before.cell_count)
-  pub stands : (job : Job) (b : board.Shown) (a : flm.Shown) → IsJob job b a → IsWhole (body_of job) bench.before.file
-      → a.device.size ≡ bench.before.cell_count
-      → (surveyed : List ℕ) × Carries bench out (Left bench.before) (work_to goal job b a surveyed) answer
+  pub is_damaged : (kept found : List ℕ) → IsDamaged kept found bench.before.file → Refuses (OnlyLooked bench out) answer (damaged kept found)
+  pub other_size : (some : IsSomeJob bench.before.file) → size_of some.board.regions ≢ bench.before.cell_count
+      → Refuses (OnlyLooked bench out) answer (cells_differ (size_of some.board.regions) bench.before.cell_count)
+  pub stands : (job : Job) (b : board.Shown) (algorithms : List flm.Shown) → IsJob job b algorithms → IsWhole (body_of job) bench.before.file
+      → size_of b.regions ≡ bench.before.cell_count
+      → (surveyed : List ℕ) × Carries bench out (Left bench.before) (work_to goal job b algorithms surveyed) answer
 
 -- The work of `resume`, to the image, and of `revert`, to the snapshot: all but the status and the line on `err`.
 pub record GoOnEnds (goal : Goal) (bench : BenchCall) (inputs : InputsCall) (out : SinkCall) (answer : Answer) : Type 0 where

@@ -3,7 +3,6 @@ use Rattle.std.specs.Prelude.{◌≡◌, ◌≤◌, ◌⊎◌, ℕ, IsTrue, List
 use Rattle.bench_model.specs.History.{left}
 use Rattle.bench_model.specs.State.{BenchState, file_half, cells_half}
 use Rattle.bench_model.specs.Calls.{SameOutside}
-use Rattle.byte_map.specs.Image.{over}
 use Rattle.board_file.specs.Shown as board
 use Rattle.flm_descriptor.specs.Shown as flm
 use Rattle.job_text.specs.Files.{IsFree, IsWhole}
@@ -14,15 +13,16 @@ use Rattle.campaign.specs.Campaign as campaign
 use Rattle.campaign.specs.Campaign.{Keeps, IsTold, IsEntered, Campaign, IsCampaign, IsSafeCampaign}
 use Rattle.flash_session.specs.declared.goal.Goal.{Goal}
 use Rattle.flash_session.specs.declared.goal.Goal.TheVariants.{New, Old}
+use Rattle.flash_session.specs.Goals.{overlaid}
 use Rattle.command_words.specs.Files.{FilesAsked}
 use Rattle.command_files.specs.Inputs.{FilesGiven, AreFiles}
 use Rattle.command_files.specs.Files.{Aim, IsAim}
 use Rattle.command_answers.specs.Call.{Call}
-use Rattle.job_commands.specs.Program.{HasAlgorithm, job_for}
+use Rattle.job_commands.specs.Program.{HasTexts, job_for}
 
 -- what a job is to a campaign
-abbrev pub aim_of : Job → flm.Shown → stops.Aim
-aim_of job a = record { body = body_of job; laid = over job.image a.device.base job.snapshot; snapshot = job.snapshot }
+abbrev pub aim_of : Job → board.Shown → stops.Aim
+aim_of job b = record { body = body_of job; laid = overlaid job.image b.regions job.snapshot; snapshot = job.snapshot }
 
 -- `resume` goes to the image, `revert` to the snapshot
 abbrev pub asked_by : Goal → campaign.Goal
@@ -41,21 +41,21 @@ pub record KeepsFor (aim : stops.Aim) (goal : Goal) (call : Call) : Type 0 where
 
 -- `resume` and `revert` in a campaign, on a file that is free or stands for its job
 abbrev pub LaterKeeps : Goal → Call → Type 0
-LaterKeeps goal call = (job : Job) (b : board.Shown) (a : flm.Shown) → IsTrue call.bench.tells → IsJob job b a
-    → IsFree call.bench.before.file ⊎ IsWhole (body_of job) call.bench.before.file → KeepsFor (aim_of job a) goal call
+LaterKeeps goal call = (job : Job) (b : board.Shown) (algorithms : List flm.Shown) → IsTrue call.bench.tells → IsJob job b algorithms
+    → IsFree call.bench.before.file ⊎ IsWhole (body_of job) call.bench.before.file → KeepsFor (aim_of job b) goal call
 
 -- `program` on a free file, for the job of its files with one snapshot
-pub record FirstStops (call : Call) (files : FilesGiven) (aim : Aim) (has : HasAlgorithm files aim) : Type 0 where
+pub record FirstStops (call : Call) (files : FilesGiven) (aim : Aim) : Type 0 where
   pub snapshot : List ℕ
-  pub is_job : IsJob (job_for files aim has snapshot) aim.board has.algorithm
+  pub is_job : IsJob (job_for files aim snapshot) aim.board aim.algorithms
   pub turn : ℕ
-  pub stops : ProgramStops call.bench.before call.bench.after turn (aim_of (job_for files aim has snapshot) has.algorithm)
+  pub stops : ProgramStops call.bench.before call.bench.after turn (aim_of (job_for files aim snapshot) aim.board)
 
 -- A stop at entry leaves no cells but those that the operation open then may leave, as on every bench that tells its contents.
 abbrev pub FirstKeeps : FilesAsked → Call → Type 0
-FirstKeeps asked call = (files : FilesGiven) (aim : Aim) (has : HasAlgorithm files aim) → IsTrue call.bench.tells → IsTrue call.inputs.tells
+FirstKeeps asked call = (files : FilesGiven) (aim : Aim) → HasTexts files aim → IsTrue call.bench.tells → IsTrue call.inputs.tells
     → ((c : List ℕ) → left (cells_half call.bench.before) c → SameOutside call.bench.before.operation call.bench.before.cells c)
-    → AreFiles call.inputs asked files → IsAim asked.raw_at files aim → IsFree call.bench.before.file → FirstStops call files aim has
+    → AreFiles call.inputs asked files → IsAim asked.raw_at files aim → IsFree call.bench.before.file → FirstStops call files aim
 
 -- Whole campaigns.
 
@@ -114,9 +114,9 @@ pub record AreSafe (aim : stops.Aim) (first : Call) (turn end : ℕ) (later : Li
   pub safe : IsSafeCampaign (campaign_of aim first turn end turns later)
 
 -- The call of `program` has one job, with one snapshot, and one moment of its close, such that this holds of later calls that follow.
-pub record IsSafeFrom (first : Call) (end : ℕ) (files : FilesGiven) (aim : Aim) (has : HasAlgorithm files aim) (later : List LaterCall) : Type 0 where
+pub record IsSafeFrom (first : Call) (end : ℕ) (files : FilesGiven) (aim : Aim) (later : List LaterCall) : Type 0 where
   pub snapshot : List ℕ
-  pub is_job : IsJob (job_for files aim has snapshot) aim.board has.algorithm
+  pub is_job : IsJob (job_for files aim snapshot) aim.board aim.algorithms
   pub turn : ℕ
-  pub are_safe : AllFollow (aim_of (job_for files aim has snapshot) has.algorithm) first.bench.after end later
-      → AreSafe (aim_of (job_for files aim has snapshot) has.algorithm) first turn end later
+  pub are_safe : AllFollow (aim_of (job_for files aim snapshot) aim.board) first.bench.after end later
+      → AreSafe (aim_of (job_for files aim snapshot) aim.board) first turn end later

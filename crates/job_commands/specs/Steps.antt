@@ -4,10 +4,10 @@ use Rattle.bench_model.specs.State.{cells_half}
 use Rattle.bench_model.specs.History.{Leaves}
 use Rattle.bench_model.specs.Pairs.{PairsInTurn}
 use Rattle.board_file.specs.Shown as board
-use Rattle.flm_descriptor.specs.Shown as flm
+use Rattle.job_text.specs.Said.{algorithms_shown}
 use Rattle.job_text.specs.Files.{IsFree, IsWhole}
 use Rattle.job_text.specs.Body.{Job, IsJob}
-use Rattle.job_text.specs.Stands.{IsSomeJob, IsNotAJob}
+use Rattle.job_text.specs.Stands.{IsSomeJob, IsDamaged, IsNotAJob}
 use Rattle.job_text.specs.Parts.{job_of, AreParts}
 use Rattle.job_text.specs.declared.job.Job as code
 use Rattle.job_text.specs.declared.parts.JobParts.{JobParts}
@@ -22,7 +22,7 @@ use Rattle.flash_session.specs.declared.fault.SurveyFault.TheVariants as survey
 use Rattle.flash_session.specs.declared.goal.Goal.{Goal}
 use Rattle.flash_session.specs.declared.goal.Goal.TheVariants.{New}
 use Rattle.flash_session.specs.Script.{Broken}
-use Rattle.report_text.specs.Refusal.{Refusal, out_of_memory, job_open, no_job, not_a_job, cells_differ, store_fault, device_fault, output_fault, call_failed, mismatch}
+use Rattle.report_text.specs.Refusal.{Refusal, out_of_memory, job_open, no_job, not_a_job, damaged, cells_differ, store_fault, device_fault, output_fault, call_failed, mismatch}
 use Rattle.command_answers.specs.Call.{BenchCall, SinkCall, TookNothing, TookAll, TookPart, Answer, done, refused}
 use Rattle.command_answers.specs.Answered.{store, device, output, IsCounted, IsUnless, Refuses, OnlyLooked}
 use Rattle.job_commands.specs.Work.{Work, body, Fails, Misses, Breaks, IsOnPath, KeepsDuties, IsOutsidePlanAsSurveyed}
@@ -37,6 +37,7 @@ of_session session.OutOfMemory = out_of_memory
 of_session (session.Open opening.OutOfMemory) = out_of_memory
 of_session (session.Open opening.NoJob) = no_job
 of_session (session.Open (opening.NotAJob at)) = not_a_job at
+of_session (session.Open (opening.Damaged kept found)) = damaged kept found
 of_session (session.Open opening.StoreFault) = store_fault
 of_session (session.Open (opening.CellsDiffer said found)) = cells_differ said found
 of_session session.DeviceFault = device_fault
@@ -53,6 +54,7 @@ of_begin beginning.StoreFault = store_fault
 of_begin beginning.DeviceFault = device_fault
 of_begin (beginning.CellsDiffer said found) = cells_differ said found
 of_begin (beginning.NotAJob at) = not_a_job at
+of_begin (beginning.Damaged kept found) = damaged kept found
 
 -- Which refusals a step has.
 
@@ -70,6 +72,7 @@ abbrev pub has_begin : Refusal → Bool
 has_begin out_of_memory = true
 has_begin job_open = true
 has_begin (not_a_job at) = true
+has_begin (damaged kept found) = true
 has_begin (cells_differ wanted found) = true
 has_begin store_fault = true
 has_begin device_fault = true
@@ -93,9 +96,9 @@ pub record BenchCounted (bench : BenchCall) (out : SinkCall) (answer : Answer) :
 
 -- the work on the job of a session, of which this is the text
 abbrev pub session_work : Goal → code.Job → Job → List ℕ → Work
-session_work goal j text cells = work_to goal text (board.shown j.board) (flm.shown j.algorithm) cells
+session_work goal j text cells = work_to goal text (board.shown j.board) (algorithms_shown j.algorithms) cells
 
--- From the script on, where the plan is printed: when each answer comes.
+-- From the script on, where the plans are printed: when each answer comes.
 abbrev pub FinishComes : BenchCall → SinkCall → Work → Broken → Answer → Type 0
 FinishComes bench out w broken done = HasClosed bench.after w broken × TookAll out done_text
 FinishComes bench out w broken (refused store_fault) = ((HasJob bench.after w × Breaks w broken bench.after) ⊎ ((HasJob bench.after w ⊎ IsFree bench.after.file) × HasReached bench.after w broken)) × TookNothing out
@@ -120,8 +123,9 @@ pub record BeginsParts (bench : BenchCall) (out : SinkCall) (parts : JobParts) (
   pub free : is_of_free answer ≡ true → IsFree bench.before.file
   pub some_job : IsSomeJob bench.before.file → Refuses (OnlyLooked bench out) answer job_open
   pub not_job : (at : ℕ) → IsNotAJob at bench.before.file → Refuses (OnlyLooked bench out) answer (not_a_job at)
+  pub is_damaged : (kept found : List ℕ) → IsDamaged kept found bench.before.file → Refuses (OnlyLooked bench out) answer (damaged kept found)
   pub other_size : IsFree bench.before.file → parts.size ≢ bench.before.cell_count
       → Refuses (OnlyLooked bench out) answer (cells_differ parts.size bench.before.cell_count)
   pub begins : (are : AreParts parts) → IsFree bench.before.file → parts.size ≡ bench.before.cell_count
-      → (snapshot : List ℕ) × IsJob (job_of parts snapshot) are.board are.algorithm
-      × Carries bench out (IsUntouched bench.before) (work_to New (job_of parts snapshot) are.board are.algorithm snapshot) answer
+      → (snapshot : List ℕ) × IsJob (job_of parts snapshot) are.board are.algorithms
+      × Carries bench out (IsUntouched bench.before) (work_to New (job_of parts snapshot) are.board are.algorithms snapshot) answer

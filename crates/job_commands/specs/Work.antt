@@ -1,67 +1,82 @@
--- The work on a job: its plan, its script, and the ways in which the script ends.
-use Rattle.std.specs.Prelude.{◌≡◌, ◌+◌, ℕ, List, is_some}
+-- The work on a job: its plans, its script, and the ways in which the script ends.
+use Rattle.std.specs.Prelude.{◌≡◌, ◌+◌, ℕ, List, [], ◌∷◌, map, Some, is_some}
 use Rattle.bench_model.specs.State.{BenchState}
 use Rattle.board_file.specs.Shown as board
-use Rattle.flm_descriptor.specs.Shape.{shape}
 use Rattle.flm_descriptor.specs.Shown as flm
-use Rattle.page_geometry.specs.Layout.{Layout, layout}
-use Rattle.erase_planner.specs.Plans.{Chosen, chosen}
+use Rattle.page_geometry.specs.Layout.{Layout}
+use Rattle.erase_planner.specs.Plans.{chosen}
 use Rattle.readback.specs.declared.compare.Difference.{Difference}
 use Rattle.algo_calls.specs.declared.call.Call.{Call}
 use Rattle.algo_calls.specs.declared.call.CallEnd.{CallEnd}
-use Rattle.algo_calls.specs.Duties.{Serves}
-use Rattle.algo_calls.specs.Setups.{Setup, setup_of}
+use Rattle.algo_calls.specs.Duties.{AllServe, device_of, part, site_of}
 use Rattle.job_text.specs.Body.{Job, body_of}
 use Rattle.report_text.specs.Plan.{plan_text}
+use Rattle.report_text.specs.Region.{plans_text}
+use Rattle.command_answers.specs.Places.{address_at}
 use Rattle.flash_session.specs.Differs.{IsFirstDifference}
-use Rattle.flash_session.specs.Local.{IsInPlan, SameBut}
+use Rattle.flash_session.specs.Local.{IsInPlans, SameBut}
 use Rattle.flash_session.specs.Moves.{Move, Stand, stand_at, IsLeftOnWay}
 use Rattle.flash_session.specs.Outcome.{GoTo, FailAt}
 use Rattle.flash_session.specs.Plays.{BreaksOff}
-use Rattle.flash_session.specs.Script.{Errand, errand, Broken, script}
+use Rattle.flash_session.specs.Script.{Planned, planned, Leg, Broken, script}
+use Rattle.flash_session.specs.Sessions.{legs_for}
 use Rattle.flash_session.specs.Starts.{start_of}
 
--- A job, the board and the algorithm that its texts say, the cells as the survey found them, and the cells that it is to leave.
+-- A job, the board and the algorithms that its texts say, the cells as the survey found them, and the cells that it is to leave.
 pub record Work : Type 0 where
   pub job : Job
   pub board : board.Shown
-  pub algorithm : flm.Shown
+  pub algorithms : List flm.Shown
   pub surveyed : List ℕ
   pub goal : List ℕ
 
-abbrev pub work_on : Job → board.Shown → flm.Shown → List ℕ → List ℕ → Work
-work_on job b a surveyed goal = record { job = job; board = b; algorithm = a; surveyed = surveyed; goal = goal }
+abbrev pub work_on : Job → board.Shown → List flm.Shown → List ℕ → List ℕ → Work
+work_on job b algorithms surveyed goal = record { job = job; board = b; algorithms = algorithms; surveyed = surveyed; goal = goal }
 
 abbrev pub body : Work → List ℕ
 body w = body_of w.job
 
--- The plan.
+-- The plans.
 
 -- the sectors and pages of an algorithm's device
 abbrev pub layout_of : flm.Shown → Layout
-layout_of a = layout (shape a.device.size a.device.page a.items)
+layout_of a = device_of a
 
--- the plan that is chosen from the cells as surveyed to the goal
-abbrev pub plan_of : Work → Chosen
-plan_of w = chosen (layout_of w.algorithm) w.board.weights (is_some w.algorithm.entries.erase_chip) w.algorithm.device.empty w.surveyed w.goal
+-- the plan that is chosen for a region of a board, from its part of these cells to its part of the goal
+abbrev pub plan_in : board.Shown → ℕ → flm.Shown → (cells goal : List ℕ) → Planned
+plan_in b region a cells goal = planned (layout_of a) a.device.base
+    (chosen (layout_of a) b.weights (is_some a.entries.erase_chip) a.device.empty (part (site_of b a region) cells) (part (site_of b a region) goal))
 
--- its text
+-- so for each region from this number on, of which these are the algorithms
+abbrev pub plans_in : board.Shown → ℕ → List flm.Shown → (cells goal : List ℕ) → List Planned
+plans_in b region [] cells goal = []
+plans_in b region (a ∷ rest) cells goal = plan_in b region a cells goal ∷ plans_in b (region + 1) rest cells goal
+
+-- the plans from the cells as surveyed to the goal
+abbrev pub plans_of : Work → List Planned
+plans_of w = plans_in w.board 0 w.algorithms w.surveyed w.goal
+
+-- the first address of a region, with the text of its plan
+abbrev pub shown_region : Planned → ℕ × List ℕ
+shown_region p = (p.base, plan_text p.layout p.base p.plan)
+
+-- the text of plans: of one alone, or of each behind the line of its region
+abbrev pub plans_shown : List Planned → List ℕ
+plans_shown plans = plans_text (map shown_region plans)
+
 abbrev pub shown_plan : Work → List ℕ
-shown_plan w = plan_text (layout_of w.algorithm) w.algorithm.device.base (plan_of w)
+shown_plan w = plans_shown (plans_of w)
 
--- The script of that plan, from the cells as surveyed, with the bytes that broken-off operations leave.
+-- The script of those plans, from the cells as surveyed, with the bytes that broken-off operations leave.
 
-abbrev pub setup_for : Work → Setup
-setup_for w = setup_of w.algorithm w.board
-
-abbrev pub errand_for : Work → Errand
-errand_for w = errand (layout_of w.algorithm) w.algorithm.device.base (plan_of w) w.goal
+abbrev pub legs_of : Work → List Leg
+legs_of w = legs_for w.board 0 w.algorithms w.goal (plans_of w)
 
 abbrev pub start_for : Work → Stand
 start_for w = stand_at 0 (start_of w.board w.surveyed)
 
 abbrev pub moves_of : Work → Broken → List Move
-moves_of w broken = script (setup_for w) (errand_for w) broken
+moves_of w broken = script (legs_of w) broken
 
 -- it goes to its end, and leaves these cells
 abbrev pub Ends : Work → Broken → List ℕ → Type 0
@@ -76,7 +91,7 @@ pub record Misses (w : Work) (broken : Broken) (at wanted found : ℕ) (cells : 
   pub ends : Ends w broken cells
   pub difference : Difference
   pub first : IsFirstDifference w.goal cells difference
-  pub at_is : at ≡ w.algorithm.device.base + difference.at
+  pub at_is : address_at w.board.regions difference.at ≡ Some at
   pub wanted_is : wanted ≡ difference.want
   pub found_is : found ≡ difference.got
 
@@ -88,12 +103,12 @@ Breaks w broken now = BreaksOff (start_for w) (moves_of w broken) now
 abbrev pub IsOnPath : Work → Broken → List ℕ → Type 0
 IsOnPath w broken cells = IsLeftOnWay (start_for w) (moves_of w broken) cells
 
--- An algorithm that keeps its duties.
+-- Algorithms that keep their duties.
 
--- the algorithm keeps its duties for the one region of the board
+-- each region of the board has an algorithm that keeps its duties for it
 abbrev pub KeepsDuties : Work → Type 0
-KeepsDuties w = Serves w.board w.algorithm 0
+KeepsDuties w = AllServe w.board w.algorithms
 
--- the cells are as surveyed, but in sectors and pages of the plan
+-- the cells are as surveyed, but in sectors and pages of the plan of their own region
 abbrev pub IsOutsidePlanAsSurveyed : Work → List ℕ → Type 0
-IsOutsidePlanAsSurveyed w cells = SameBut (IsInPlan (layout_of w.algorithm) (plan_of w)) w.surveyed cells
+IsOutsidePlanAsSurveyed w cells = SameBut (IsInPlans 0 (plans_of w)) w.surveyed cells

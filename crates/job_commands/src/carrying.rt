@@ -1,5 +1,7 @@
 //! A job is carried to its goal.
-ghost use Rattle.std.specs.Prelude.{◌≡◌, IsTrue, IsSome, IsSomeAnd, None};
+ghost use Rattle.std.specs.Prelude.{◌≡◌, ◌<◌, ◌≤◌, ◌+◌, All, length, IsTrue, IsSome, IsSomeAnd, Some, None};
+ghost use Rattle.board_file.specs.Limits.{most_regions, size_of};
+ghost use Rattle.board_file.specs.Table.{addresses};
 ghost use Rattle.bench_model.specs.History.{GoesOn, LeftOnly};
 ghost use Rattle.bench_model.specs.State.{file_half};
 ghost use Rattle.job_text.specs.Stands.{StandsFor};
@@ -8,18 +10,35 @@ ghost use Rattle.flash_session.specs.Sessions.{job_in, surveyed};
 ghost use Rattle.flash_session.specs.Surveys.{HasSurveyed};
 ghost use Rattle.command_answers.specs.Answered.{has_resume, IsOf, StandsEarly, on_job_file};
 ghost use Rattle.command_answers.specs.Call.{bench_call, sink_call};
+ghost use Rattle.command_answers.specs.Places.{address_at};
 ghost use Rattle.command_answers.specs.Shown.{answer_of};
 ghost use Rattle.job_commands.specs.GoOn.{GoesOnFrom};
 ghost use Rattle.job_commands.specs.Answers.{IsSound};
 ghost use Rattle.job_commands.specs.Printed.{PrintsEnd, PrintsWork};
 ghost use Rattle.job_commands.specs.Steps.{has_script, BenchCounted, session_work, Finishes};
 
+use crate::printing::put_plans;
 use crate::refusals::{session_refusal, survey_refusal};
 use bench_model::Bench;
+use board_file::Region;
 use flash_session::{Goal, Session, SessionEnd};
 use outside_io::Sink;
-use report_text::{End, Refusal, put_end, put_plan};
+use report_text::{End, Refusal, put_end};
 use std::alloc::Global;
+
+/// The address of a place among the cells of a board's regions, of which there are one or two.
+fn address_of(regions: &[Region], place: u32) -> u32
+    requires inside { place < size_of regions.now }
+    requires few { length regions.now ≤ most_regions }
+    requires fit { All (λ r. r.base + r.size ≤ addresses) regions.now }
+    ensures { address_at regions.now place ≡ Some result }
+{
+    let first = &regions[0];
+    if place < first.size {
+        return first.base + place;
+    }
+    regions[1].base + (place - first.size)
+}
 
 /// Plays the script of the last survey, and closes the job where the goal is reached.
 fn finish<'a, B: Bench, O: Sink>(
@@ -28,7 +47,7 @@ fn finish<'a, B: Bench, O: Sink>(
     out: &mut O,
 ) -> Result<(), Refusal<'a>>
     requires surveyed { IsSome (surveyed session.old) }
-    requires count { (B.state bench.old).cell_count ≡ (job_in session.old).algorithm.device.size }
+    requires count { (B.state bench.old).cell_count ≡ size_of (job_in session.old).board.regions }
     requires idle { IsTrue B.tells → (B.state bench.old).operation ≡ None }
     requires stands { IsTrue B.tells → StandsFor (job_in session.old) (B.state bench.old).file }
     requires only { IsTrue B.tells → LeftOnly (B.state bench.old).file (file_half (B.state bench.old)) }
@@ -51,7 +70,7 @@ fn finish<'a, B: Bench, O: Sink>(
             Err(_) => Err(Refusal::StoreFault),
         },
         SessionEnd::Mismatch(difference) => Err(Refusal::Mismatch {
-            at: session.job().algorithm.device.base + difference.at,
+            at: address_of(session.job().board.regions.as_slice(), difference.at),
             wanted: difference.want,
             found: difference.got,
         }),
@@ -63,7 +82,7 @@ fn finish<'a, B: Bench, O: Sink>(
     }
 }
 
-/// Opens the job of the file, surveys the cells, prints the plan to the goal, and goes on to the end.
+/// Opens the job of the file, surveys the cells, prints the plans to the goal, and goes on to the end.
 pub(crate) fn carry<'a, B: Bench, O: Sink>(
     alloc: Global,
     goal: Goal,
@@ -87,8 +106,7 @@ pub(crate) fn carry<'a, B: Bench, O: Sink>(
         Ok(()) => {}
         Err(fault) => return Err(survey_refusal(fault)),
     }
-    let base = session.job().algorithm.device.base;
-    match put_plan(out, session.geometry(), base, session.plan()) {
+    match put_plans(out, &session) {
         Ok(()) => {}
         Err(_) => return Err(Refusal::OutputFault),
     }

@@ -7,7 +7,7 @@ ghost use Rattle.job_commands.specs.GoOn.{GoOnAnswers};
 ghost use Rattle.job_commands.specs.Program.{ProgramAnswers};
 ghost use Rattle.command_files.specs.Inputs.{FilesGiven};
 ghost use Rattle.command_files.specs.Files.{Aim};
-ghost use Rattle.job_commands.specs.Program.{HasAlgorithm};
+ghost use Rattle.job_commands.specs.Program.{HasTexts};
 ghost use Rattle.job_commands.specs.Law.{LaterKeeps, FirstKeeps, LaterCall, AllAnswer, IsFirst, IsSafeFrom};
 
 /// A call. It is a trait since a clause can't speak of each bench's history, and a ghost member can.
@@ -32,6 +32,6 @@ pub trait Calls {
 /// campaign, which is safe: each pair of a file and cells that a stop leaves is untouched, whole or finished with the one job of the
 /// first call, and each later call that answers 0 leaves its goal.
 pub fn calls_are_safe<C: Calls>()
-    ensures { (asked : FilesAsked) (end : ℕ) (files : FilesGiven) (aim : Aim) (has : HasAlgorithm files aim) → ProgramAnswers asked C.first
-        → IsFirst asked C.first end files aim → AllAnswer GoOnAnswers C.later → IsSafeFrom C.first end files aim has C.later }
+    ensures { (asked : FilesAsked) (end : ℕ) (files : FilesGiven) (aim : Aim) → HasTexts files aim → ProgramAnswers asked C.first
+        → IsFirst asked C.first end files aim → AllAnswer GoOnAnswers C.later → IsSafeFrom C.first end files aim C.later }
 {}

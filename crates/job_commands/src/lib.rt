@@ -7,6 +7,7 @@ mod beginning;
 mod carrying;
 mod going_on;
 mod law;
+mod printing;
 mod programming;
 mod refusals;
 

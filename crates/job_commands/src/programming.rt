@@ -1,5 +1,5 @@
-//! `program [--raw-at ADDR] BOARD FLM IMAGE...`: a job is begun and carried to its image.
-ghost use Rattle.std.specs.Prelude.{ℕ, List, All, IsSome};
+//! `program [--raw-at ADDR] BOARD FLM... IMAGE...`: a job is begun and carried to its image.
+ghost use Rattle.std.specs.Prelude.{◌≡◌, ℕ, List, All, IsSome, option_copied};
 ghost use Rattle.command_words.specs.Files.{names_in};
 ghost use Rattle.command_words.specs.Requested.{files_of};
 ghost use Rattle.command_files.specs.Inputs.{inputs_call};
@@ -9,15 +9,16 @@ ghost use Rattle.job_commands.specs.Program.{ProgramEnds};
 
 use crate::beginning::begin_job;
 use bench_model::Bench;
-use command_files::read_task;
+use command_files::{cells_of, read_task};
 use command_words::FileNames;
 use job_text::JobParts;
+use octets::Bytes;
 use outside_io::{Inputs, Sink};
 use report_text::Refusal;
 use std::alloc::Global;
 
-/// Begins a job over a free file, with the union of images in the region of the board, and carries it to its end: the cells are then
-/// the image laid over what they were. For a board of two regions no job is begun, and the job file isn't looked at.
+/// Begins a job over a free file, with the union of images in the regions of the board, and carries it to its end: the cells are then
+/// the image laid over what they were.
 pub fn program<'a, B: Bench, I: Inputs, O: Sink>(
     alloc: Global,
     names: &FileNames<'a>,
@@ -34,8 +35,19 @@ pub fn program<'a, B: Bench, I: Inputs, O: Sink>(
     let parts = JobParts {
         board: task.board_text.bytes(),
         flm: task.flm.bytes(),
-        image: &task.image,
-        size: task.device.size,
+        second: text_of(&task.second),
+        image: &task.wanted.image,
+        size: cells_of(&task.wanted.board),
     };
     begin_job(alloc, &parts, bench, out)
+}
+
+/// The bytes of a text, where there is one.
+fn text_of(text: &Option<Bytes>) -> Option<&[u8]>
+    ensures { option_copied result ≡ text.now }
+{
+    match text {
+        Some(text) => Some(text.bytes()),
+        None => None,
+    }
 }

@@ -16,6 +16,7 @@ pub(crate) fn session_refusal<'a>(fault: SessionFault) -> Refusal<'a>
         SessionFault::Open(OpenFault::OutOfMemory) => Refusal::OutOfMemory,
         SessionFault::Open(OpenFault::NoJob) => Refusal::NoJob,
         SessionFault::Open(OpenFault::NotAJob { at }) => Refusal::NotAJob { at },
+        SessionFault::Open(OpenFault::Damaged { kept, found }) => Refusal::Damaged { kept, found },
         SessionFault::Open(OpenFault::StoreFault) => Refusal::StoreFault,
         SessionFault::Open(OpenFault::CellsDiffer { said, found }) => Refusal::CellsDiffer {
             wanted: said,
@@ -50,5 +51,6 @@ pub(crate) fn begin_refusal<'a>(fault: BeginFault) -> Refusal<'a>
             found,
         },
         BeginFault::NotAJob { at } => Refusal::NotAJob { at },
+        BeginFault::Damaged { kept, found } => Refusal::Damaged { kept, found },
     }
 }

@@ -1,44 +1,59 @@
 -- From what `open` answers to the end of `status`.
-use Rattle.std.proofs.Common.{◌≡◌, ◌≢◌, ◌∙◌, sym, ap, subst, refl, inl, inr, ⊎_elim, ℕ, Bool, IsTrue, List, [], ◌∷◌, Ok, Err, None}
+use Rattle.std.proofs.Common.{◌≡◌, ◌≢◌, ◌∙◌, ◌==◌, sym, ap, subst, refl, inl, inr, ⊎_elim, arith, ℕ, Bool, IsTrue, List, [], ◌∷◌, map, sum_by, Err, None}
+use Rattle.std.proofs.lemmas.Bool.{and_parts, eqb-true}
+use Rattle.std.proofs.lemmas.List.Sums.{sum_by-cons}
 use Rattle.bench_model.specs.State.{BenchState}
 use Rattle.bench_model.specs.Calls.{OnlyReads}
 use Rattle.outside_io.specs.State.{SinkState}
-use Rattle.flm_descriptor.specs.Flm.{flm_of}
+use Rattle.board_file.specs.declared.region.Region.{Region}
+use Rattle.board_file.specs.Limits.{size_of}
+use Rattle.board_file.specs.Shown as board
+use Rattle.flm_descriptor.specs.declared.device.Device.{Device}
+use Rattle.flm_descriptor.specs.declared.algorithm.Algorithm.{Algorithm}
 use Rattle.flm_descriptor.specs.Shown as flm
-use Rattle.job_text.specs.Files.{open_gate, IsFree}
-use Rattle.job_text.specs.Body.{Job, body_of}
-use Rattle.job_text.specs.Reading as reading
-use Rattle.job_text.specs.Stands.{IsSomeJob, IsNotAJob}
-use Rattle.job_text.proofs.BodyLemmas.{same_job}
+use Rattle.algo_loader.specs.Places.{has_room}
+use Rattle.job_text.specs.Files.{IsFree}
+use Rattle.job_text.specs.Body.{Job}
+use Rattle.job_text.specs.Said.{algorithms_shown}
+use Rattle.job_text.specs.Fits.{is_device_of, fits, all_fit}
+use Rattle.job_text.specs.Stands.{IsSomeJob, IsNotAJob, IsDamaged}
+use Rattle.job_text.proofs.ClassLemmas.{never_jobs}
 use Rattle.job_file.specs.Counted as counted
 use Rattle.job_file.specs.Faults.{IsOpenFault, IsSoundOpen, IsOtherSize}
 use Rattle.job_file.specs.declared.fault.OpenFault.{OpenFault}
 use Rattle.job_file.specs.declared.fault.OpenFault.TheVariants as opening
 use Rattle.report_text.specs.Job.{job_text, no_job_text}
-use Rattle.report_text.specs.Refusal.{Refusal, out_of_memory, not_a_job, cells_differ, store_fault, output_fault}
+use Rattle.report_text.specs.Refusal.{Refusal, out_of_memory, not_a_job, damaged, cells_differ, store_fault, output_fault}
 use Rattle.command_files.specs.Inputs.{InputsCall, TakesNothing}
 use Rattle.command_answers.specs.Call.{BenchCall, SinkCall, Answer, done, refused, bench_call, sink_call}
 use Rattle.command_answers.specs.Answered.{input, store, device, output, fault_in, AreCounted, EndsLawfully, on_job_file, has_status}
 use Rattle.command_answers.proofs.AnswerLemmas.{unraised}
+use Rattle.command_answers.proofs.FileLemmas.{not_free, damaged_open, one_reason, one_kept, one_found, one_job}
 use Rattle.job_status.specs.Opened.{refusal_of}
-use Rattle.job_status.specs.Status.{SaysText, IsSaid, SaysNone, IsJobWith, SaysJob, ComesOfJobFile, IsDueForJobFile, StatusEnds}
+use Rattle.job_status.specs.Status.{SaysText, IsSaid, SaysNone, devices_of, IsJobWith, SaysJob, ComesOfJobFile, IsDueForJobFile, StatusEnds}
 
--- One file.
+-- the devices of algorithms that fit regions have the regions' sizes together
+pub devices_fill : (b : board.Shown) (regions : List Region) (algorithms : List flm.Shown) → IsTrue (all_fit b regions algorithms)
+    → sum_by (λ (device : Device). device.size) (devices_of algorithms) ≡ size_of regions
+devices_fill b [] [] fit = refl
+devices_fill b [] (x ∷ xs) fit = absurd (cc)
+devices_fill b (r ∷ rs) [] fit = absurd (cc)
+devices_fill b (r ∷ rs) (x ∷ xs) fit =
+    let both = and_parts (fits b r x) (all_fit b rs xs) fit in
+    let device = and_parts (is_device_of r x.device) (has_room x b) both.0 in
+    let same = and_parts (r.base == x.device.base) (r.size == x.device.size) device.0 in
+    omega (
+      arith,
+      sum_by-cons (λ (device : Device). device.size) x.device (devices_of xs),
+      sum_by-cons (λ (region : Region). region.size) r rs,
+      devices_fill b rs xs both.1,
+      eqb-true r.size x.device.size same.1,
+    )
 
-one_text : (file : List ℕ) (some other : IsSomeJob file) → some.job ≡ other.job
-one_text file some other =
-    let bodies : body_of some.job ≡ body_of other.job = let e : open_gate ∷ body_of some.job ≡ open_gate ∷ body_of other.job = sym some.whole ∙ other.whole in cc in
-    same_job some.job other.job some.board other.board some.algorithm other.algorithm some.is other.is bodies
-
-one_algorithm : (file : List ℕ) (some other : IsSomeJob file) → some.algorithm ≡ other.algorithm
-one_algorithm file some other =
-    let texts : some.job.flm ≡ other.job.flm = ap (λ (j : Job). j.flm) (one_text file some other) in
-    let said : flm_of some.job.flm ≡ Ok some.algorithm = some.is.algorithm in
-    let told : flm_of other.job.flm ≡ Ok other.algorithm = other.is.algorithm in
-    cc
-
-not_free : (file : List ℕ) → IsSomeJob file → IsFree file → ⊥
-not_free file some free = let whole : IsFree (open_gate ∷ body_of some.job) = subst IsFree some.whole free in whole refl
+-- the devices as contracts name the algorithms
+pub shown_devices : (algorithms : List Algorithm) → devices_of (algorithms_shown algorithms) ≡ map (λ (a : Algorithm). a.device) algorithms
+shown_devices [] = refl
+shown_devices (a ∷ rest) = ap (λ (l : List Device). a.device ∷ l) (shown_devices rest)
 
 -- Both directions: what came is due.
 module _ (bench : BenchCall) (out : SinkCall) (told : IsTrue bench.tells) where
@@ -50,27 +65,31 @@ module _ (bench : BenchCall) (out : SinkCall) (told : IsTrue bench.tells) where
   none_due : (answer : Answer) → SaysNone bench out answer → IsDueForJobFile bench out answer
   none_due answer none = record {
     free = λ is. said_by no_job_text answer none.says;
-    not_job = λ at no. absurd (no.not_free (none.free told));
-    other_size = λ some unequal. absurd (not_free bench.before.file some (none.free told));
-    stands = λ some same. absurd (not_free bench.before.file some (none.free told));
+    not_job = λ at no. absurd (no.none.not_free (none.free told));
+    is_damaged = λ kept found is. absurd (damaged_open bench.before.file kept found is (none.free told));
+    other_size = λ some unequal. absurd (not_free some.job bench.before.file some.whole (none.free told));
+    stands = λ some same. absurd (not_free some.job bench.before.file some.whole (none.free told));
   }
 
   job_due : (answer : Answer) → SaysJob bench out answer → IsDueForJobFile bench out answer
   job_due answer job =
-      let is : IsJobWith job.device job.image bench.before.file = job.stands told in record {
-        free = λ free. absurd (not_free bench.before.file is.some free);
-        not_job = λ at no. absurd (no.no_job is.some.job is.some.board is.some.algorithm is.some.is is.some.whole);
-        other_size = λ some unequal.
-            let algorithms : some.algorithm ≡ is.some.algorithm = one_algorithm bench.before.file some is.some in
-            let devices : some.algorithm.device ≡ job.device = ap (λ (a : flm.Shown). a.device) algorithms ∙ is.device_is in
-            let sizes : some.algorithm.device.size ≡ bench.before.cell_count = rw devices job.size in
-            absurd (unequal sizes);
-        stands = λ some same.
-            let algorithms : is.some.algorithm ≡ some.algorithm = one_algorithm bench.before.file is.some some in
-            let devices : job.device ≡ some.algorithm.device = sym is.device_is ∙ ap (λ (a : flm.Shown). a.device) algorithms in
-            let images : job.image ≡ some.job.image = sym is.image_is ∙ ap (λ (j : Job). j.image) (one_text bench.before.file is.some some) in
-            let texts : job_text (job.device ∷ []) job.image ≡ job_text (some.algorithm.device ∷ []) some.job.image = cc in
-            subst (λ (text : List ℕ). IsSaid out text answer) texts (said_by (job_text (job.device ∷ []) job.image) answer job.says);
+      let is : IsJobWith job.devices job.image bench.before.file = job.stands told in
+      let some = is.some in
+      let sized : size_of some.board.regions ≡ bench.before.cell_count =
+      sym (devices_fill some.board some.board.regions some.algorithms some.is.suits.fit)
+      ∙ ap (sum_by (λ (device : Device). device.size)) is.devices_are ∙ job.size in record {
+        free = λ free. absurd (not_free some.job bench.before.file some.whole free);
+        not_job = λ at no. absurd (no.none.no_job some.job some.board some.algorithms some.is some.whole);
+        is_damaged = λ kept found damage. absurd (never_jobs bench.before.file kept found damage some.job some.board some.algorithms some.is some.whole);
+        other_size = λ other unequal.
+            let one = one_job bench.before.file other.is some.is other.whole some.whole in
+            absurd (unequal (ap (λ (b : board.Shown). size_of b.regions) one.board ∙ sized));
+        stands = λ other same.
+            let one = one_job bench.before.file some.is other.is some.whole other.whole in
+            let devices : job.devices ≡ devices_of other.algorithms = sym is.devices_are ∙ ap devices_of one.algorithms in
+            let images : job.image ≡ other.job.image = sym is.image_is ∙ ap (λ (j : Job). j.image) one.job in
+            let texts : job_text job.devices job.image ≡ job_text (devices_of other.algorithms) other.job.image = cc in
+            subst (λ (text : List ℕ). IsSaid out text answer) texts (said_by (job_text job.devices job.image) answer job.says);
       }
 
   pub is_due : (answer : Answer) → ComesOfJobFile bench out answer → IsDueForJobFile bench out answer
@@ -79,30 +98,46 @@ module _ (bench : BenchCall) (out : SinkCall) (told : IsTrue bench.tells) where
   is_due (refused out_of_memory) nothing = record {
     free = λ is. (refl, nothing);
     not_job = λ at no. inr (refl, nothing);
+    is_damaged = λ kept found is. inr (refl, nothing);
     other_size = λ some unequal. inr (refl, nothing);
     stands = λ some same. (refl, nothing);
   }
   is_due (refused store_fault) nothing = record {
     free = λ is. (refl, nothing);
     not_job = λ at no. inr (refl, nothing);
+    is_damaged = λ kept found is. inr (refl, nothing);
     other_size = λ some unequal. inr (refl, nothing);
     stands = λ some same. (refl, nothing);
   }
   is_due (refused (not_a_job at)) comes =
       let is : IsNotAJob at bench.before.file = comes.0 told in record {
-        free = λ free. absurd (is.not_free free);
-        not_job = λ other no. let one : reading.not_a_job at ≡ reading.not_a_job other = sym is.shows ∙ no.shows in inl (cc);
-        other_size = λ some unequal. absurd (is.no_job some.job some.board some.algorithm some.is some.whole);
-        stands = λ some same. absurd (is.no_job some.job some.board some.algorithm some.is some.whole);
+        free = λ free. absurd (is.none.not_free free);
+        not_job = λ other no. inl (ap (λ (n : ℕ). refused (not_a_job n)) (one_reason bench.before.file at other is no));
+        is_damaged = λ kept found damage. absurd (is.whole kept found damage);
+        other_size = λ some unequal. absurd (is.none.no_job some.job some.board some.algorithms some.is some.whole);
+        stands = λ some same. absurd (is.none.no_job some.job some.board some.algorithms some.is some.whole);
+      }
+  is_due (refused (damaged kept found)) comes =
+      let is : IsDamaged kept found bench.before.file = comes.1.0 told in record {
+        free = λ free. absurd (damaged_open bench.before.file kept found is free);
+        not_job = λ at no. absurd (no.whole kept found is);
+        is_damaged = λ kept' found' too.
+            let same = one_kept bench.before.file kept found kept' found' is too in
+            let as_found = one_found bench.before.file kept found kept' found' is too in
+            inl (cc);
+        other_size = λ some unequal. absurd (never_jobs bench.before.file kept found is some.job some.board some.algorithms some.is some.whole);
+        stands = λ some same. absurd (never_jobs bench.before.file kept found is some.job some.board some.algorithms some.is some.whole);
       }
   is_due (refused (cells_differ wanted found)) comes =
       let is : IsOtherSize bench.before.file bench.before.cell_count wanted found = comes.1.0 told in
-      let sized : (some : IsSomeJob bench.before.file) → wanted ≡ some.algorithm.device.size =
-      λ some. is.said_is ∙ ap (λ (a : flm.Shown). a.device.size) (one_algorithm bench.before.file is.some some) in record {
-        free = λ free. absurd (not_free bench.before.file is.some free);
-        not_job = λ at no. absurd (no.no_job is.some.job is.some.board is.some.algorithm is.some.is is.some.whole);
-        other_size = λ some unequal. let said = sized some in let count = is.found_is in inl (cc);
-        stands = λ some same. absurd (is.differ (sized some ∙ same ∙ sym is.found_is));
+      let some = is.some in
+      let sized : (other : IsSomeJob bench.before.file) → wanted ≡ size_of other.board.regions =
+      λ other. is.said_is ∙ ap (λ (b : board.Shown). size_of b.regions) (one_job bench.before.file some.is other.is some.whole other.whole).board in record {
+        free = λ free. absurd (not_free some.job bench.before.file some.whole free);
+        not_job = λ at no. absurd (no.none.no_job some.job some.board some.algorithms some.is some.whole);
+        is_damaged = λ kept found damage. absurd (never_jobs bench.before.file kept found damage some.job some.board some.algorithms some.is some.whole);
+        other_size = λ other unequal. let said = sized other in let count = is.found_is in inl (cc);
+        stands = λ other same. absurd (is.differ (sized other ∙ same ∙ sym is.found_is));
       }
   is_due (refused r) comes = absurd comes
 
@@ -158,8 +193,8 @@ module _ (tells : Bool) (b after : BenchState) (inputs : InputsCall) (takes : Ta
 
     pub ends_job : (answer : Answer) (job : SaysJob (bench_call tells b after) out answer) → StatusEnds (bench_call tells b after) inputs out answer
     ends_job answer job =
-        let comes = comes_job answer (job_text (job.device ∷ []) job.image) job.says job in record {
-          lawful = said_lawful (job_text (job.device ∷ []) job.image) answer job.says;
+        let comes = comes_job answer (job_text job.devices job.image) job.says job in record {
+          lawful = said_lawful (job_text job.devices job.image) answer job.says;
           takes = takes;
           reads = reads;
           comes = comes;
@@ -203,6 +238,13 @@ module _ (tells : Bool) (b after : BenchState) (inputs : InputsCall) (takes : Ta
       untaken = λ name wrong. absurd (cc);
       none_failed = λ its no. takes.failed;
     }) (is, record { taken = refl; faults = refl })
+    ends_refused (opening.Damaged kept found) some counted is sound = refused_ends (damaged kept found) (record {
+      kind = refl;
+      counts = plain_counts (damaged kept found) (counted.on_other refl) refl;
+      stands = record { reads = λ its. reads; prints = record { taken = refl; faults = refl } };
+      untaken = λ name wrong. absurd (cc);
+      none_failed = λ its no. takes.failed;
+    }) (sound, (λ its. (is its).damaged, record { taken = refl; faults = refl }))
     ends_refused opening.StoreFault some counted is sound = refused_ends store_fault (record {
       kind = refl;
       counts = record {

@@ -1,13 +1,15 @@
 -- What `status` answers.
-use Rattle.std.specs.Prelude.{◌≡◌, ◌≢◌, ◌⊎◌, ℕ, IsTrue, List, [], ◌∷◌, true}
+use Rattle.std.specs.Prelude.{◌≡◌, ◌≢◌, ◌⊎◌, ℕ, IsTrue, List, [], map, sum_by, true}
 use Rattle.bench_model.specs.Calls.{OnlyReads}
 use Rattle.byte_map.specs.Image.{Run}
+use Rattle.board_file.specs.Limits.{size_of}
 use Rattle.flm_descriptor.specs.declared.device.Device.{Device}
+use Rattle.flm_descriptor.specs.Shown as flm
 use Rattle.job_text.specs.Files.{IsFree}
-use Rattle.job_text.specs.Stands.{IsSomeJob, IsNotAJob}
+use Rattle.job_text.specs.Stands.{IsSomeJob, IsNotAJob, IsDamaged}
 use Rattle.job_file.specs.Faults.{IsOtherSize}
 use Rattle.report_text.specs.Job.{job_text, no_job_text}
-use Rattle.report_text.specs.Refusal.{out_of_memory, not_a_job, cells_differ, store_fault, output_fault}
+use Rattle.report_text.specs.Refusal.{out_of_memory, not_a_job, damaged, cells_differ, store_fault, output_fault}
 use Rattle.command_files.specs.Inputs.{InputsCall, TakesNothing}
 use Rattle.command_answers.specs.Call.{BenchCall, SinkCall, Answer, done, refused, TookNothing, TookAll, TookPart}
 use Rattle.command_answers.specs.Answered.{has_status, yields, Refuses, on_job_file, EndsLawfully}
@@ -33,24 +35,30 @@ pub record SaysNone (bench : BenchCall) (out : SinkCall) (answer : Answer) : Typ
   pub free : IsTrue bench.tells → IsFree bench.before.file
   pub says : SaysText out no_job_text answer
 
--- the file stands for a job with this device and this image
-pub record IsJobWith (device : Device) (image : List Run) (file : List ℕ) : Type 0 where
+-- the devices of algorithms, each of which is one for a region of the board
+abbrev pub devices_of : List flm.Shown → List Device
+devices_of algorithms = map (λ (algorithm : flm.Shown). algorithm.device) algorithms
+
+-- the file stands for a job with these devices and this image
+pub record IsJobWith (devices : List Device) (image : List Run) (file : List ℕ) : Type 0 where
   pub some : IsSomeJob file
-  pub device_is : some.algorithm.device ≡ device
+  pub devices_are : devices_of some.algorithms ≡ devices
   pub image_is : some.job.image ≡ image
 
 -- the file stands for a job for as many cells as there are, and the text of that job went to `out`
 pub record SaysJob (bench : BenchCall) (out : SinkCall) (answer : Answer) : Type 0 where
-  pub device : Device
+  pub devices : List Device
   pub image : List Run
-  pub size : device.size ≡ bench.before.cell_count
-  pub stands : IsTrue bench.tells → IsJobWith device image bench.before.file
-  pub says : SaysText out (job_text (device ∷ []) image) answer
+  pub size : sum_by (λ (device : Device). device.size) devices ≡ bench.before.cell_count
+  pub stands : IsTrue bench.tells → IsJobWith devices image bench.before.file
+  pub says : SaysText out (job_text devices image) answer
 
 abbrev pub ComesOfJobFile : BenchCall → SinkCall → Answer → Type 0
 ComesOfJobFile bench out (refused out_of_memory) = TookNothing out
 ComesOfJobFile bench out (refused store_fault) = TookNothing out
 ComesOfJobFile bench out (refused (not_a_job at)) = (IsTrue bench.tells → IsNotAJob at bench.before.file) × TookNothing out
+ComesOfJobFile bench out (refused (damaged kept found)) =
+    (kept ≢ found) × ((IsTrue bench.tells → IsDamaged kept found bench.before.file) × TookNothing out)
 ComesOfJobFile bench out (refused (cells_differ wanted found)) =
     (wanted ≢ found) × ((IsTrue bench.tells → IsOtherSize bench.before.file bench.before.cell_count wanted found) × TookNothing out)
 ComesOfJobFile bench out (refused output_fault) = SaysNone bench out (refused output_fault) ⊎ SaysJob bench out (refused output_fault)
@@ -61,10 +69,11 @@ ComesOfJobFile bench out done = SaysNone bench out done ⊎ SaysJob bench out do
 pub record IsDueForJobFile (bench : BenchCall) (out : SinkCall) (answer : Answer) : Type 0 where
   pub free : IsFree bench.before.file → IsSaid out no_job_text answer
   pub not_job : (at : ℕ) → IsNotAJob at bench.before.file → Refuses (TookNothing out) answer (not_a_job at)
-  pub other_size : (some : IsSomeJob bench.before.file) → some.algorithm.device.size ≢ bench.before.cell_count
-      → Refuses (TookNothing out) answer (cells_differ some.algorithm.device.size bench.before.cell_count)
-  pub stands : (some : IsSomeJob bench.before.file) → some.algorithm.device.size ≡ bench.before.cell_count
-      → IsSaid out (job_text (some.algorithm.device ∷ []) some.job.image) answer
+  pub is_damaged : (kept found : List ℕ) → IsDamaged kept found bench.before.file → Refuses (TookNothing out) answer (damaged kept found)
+  pub other_size : (some : IsSomeJob bench.before.file) → size_of some.board.regions ≢ bench.before.cell_count
+      → Refuses (TookNothing out) answer (cells_differ (size_of some.board.regions) bench.before.cell_count)
+  pub stands : (some : IsSomeJob bench.before.file) → size_of some.board.regions ≡ bench.before.cell_count
+      → IsSaid out (job_text (devices_of some.algorithms) some.job.image) answer
 
 -- The work of `status`: all but the status and the line on `err`. No input is taken, and the job file is only read: file and cells are
 -- as they were, and a stop at any moment leaves nothing that one at entry might not have left.

@@ -49,6 +49,7 @@ pub fn open_refusal<'a>(fault: OpenFault) -> Refusal<'a>
         OpenFault::OutOfMemory => Refusal::OutOfMemory,
         OpenFault::NoJob => Refusal::NoJob,
         OpenFault::NotAJob { at } => Refusal::NotAJob { at },
+        OpenFault::Damaged { kept, found } => Refusal::Damaged { kept, found },
         OpenFault::StoreFault => Refusal::StoreFault,
         OpenFault::CellsDiffer { said, found } => Refusal::CellsDiffer {
             wanted: said,

@@ -77,7 +77,7 @@ returns-clause-early g c =
     let d = g.B.Bench.state c.carry.new.bench in
     let p = g.O.Sink.state c.args.out.now in
     let r = g.O.Sink.state c.carry.new.out in
-    let w = work_to New (job_of c.args.parts.now b.cells) c.requires.board c.requires.algorithm b.cells in
+    let w = work_to New (job_of c.args.parts.now b.cells) c.requires.board c.requires.algorithms b.cells in
     subst (λ (x : Answer). StandsEarly on_job_file (bench_call g.B.Bench.tells a d) (sink_call g.O.Sink.tells p r) x) (sym c.after_begin.ensures)
     (begun_stands g.B.Bench.tells g.O.Sink.tells a b d p r (Left b) w (answer_of c.carry.result) c.carry.ensures.kind c.carry.ensures.early
     (λ told.

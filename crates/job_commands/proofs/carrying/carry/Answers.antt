@@ -1,4 +1,5 @@
-use Rattle.std.proofs.Common.{◌≡◌, ◌∙◌, refl, sym, ap, subst, ℕ, List}
+use Rattle.std.proofs.Common.{◌≡◌, ◌∙◌, refl, sym, subst, ℕ, List, IsSomeAnd}
+use Rattle.job_text.specs.Said.{algorithms_shown}
 use Rattle.job_text.specs.declared.job.Job as code
 use Rattle.job_text.specs.Stands.{StandsFor}
 use Rattle.flash_session.specs.Sessions.{job_in, surveyed}
@@ -8,15 +9,17 @@ use Rattle.command_answers.specs.Call.{bench_call, sink_call, refused}
 use Rattle.command_answers.specs.Shown.{answer_of}
 use Rattle.job_commands.specs.Answers.{IsSound}
 use Rattle.job_commands.specs.GoOn.{GoesOnFrom}
-use Rattle.job_commands.specs.Printed.{PrintsWork}
+use Rattle.job_commands.specs.Printed.{ArePlansFor, PrintsWork}
 use Rattle.job_commands.specs.Steps.{BenchCounted}
+use Rattle.job_commands.specs.Work.{plans_shown}
+use Rattle.flash_session.specs.Surveys.{Surveyed, HasSurveyed}
 use Rattle.job_commands.proofs.TurnLemmas.{off_at_end}
 use Rattle.job_commands.proofs.CarryLemmas.{entered}
-use Rattle.job_commands.proofs.CountLemmas.{survey_counted}
+use Rattle.job_commands.proofs.CountLemmas.{survey_counted, cut_counted, carried_counted}
 use Rattle.job_commands.proofs.KindLemmas.{script_kind, script_stands, session_kind, survey_kind, session_sound, survey_sound}
-use Rattle.job_commands.proofs.PrintLemmas.{session_prints, survey_prints, surveyed_for, cut_prints, end_prints}
+use Rattle.job_commands.proofs.PrintLemmas.{session_prints, survey_prints, surveyed_plans, cut_prints, end_prints}
 use Rattle.job_commands.proofs.OpenLemmas.{refuses_open, open_stands, survey_stands}
-use Rattle.job_commands.proofs.SurveyLemmas.{fits_memory, still_stands, still_left, unsurveyed, cut_in_plan, finished}
+use Rattle.job_commands.proofs.SurveyLemmas.{still_stands, still_left, unsurveyed, cut_in_plan, finished}
 use Rattle.job_commands.proofs.carrying.carry.Goals as goal
 
 pub returns-in-Err-clause-told : goal.returns-in-Err-clause-told
@@ -77,40 +80,36 @@ returns-in-Err-survey-clause-counts g c =
 pub returns-in-Err-survey-clause-kind : goal.returns-in-Err-survey-clause-kind
 returns-in-Err-survey-clause-kind g c = subst (λ (r : Refusal). IsOf has_resume (refused r)) (sym c.survey_refusal.ensures) (survey_kind c.in-Err-survey.fault)
 
-pub returns-in-Err-put_plan-clause-told : goal.returns-in-Err-put_plan-clause-told
-returns-in-Err-put_plan-clause-told g c = λ told.
+pub put_plans-requires : goal.put_plans-requires
+put_plans-requires g c =
+    subst (λ (j : code.Job). IsSomeAnd (surveyed c.survey.new.self) (λ v. ArePlansFor (algorithms_shown j.algorithms) v.regions)) (sym c.survey.ensures.job)
+    (surveyed_plans g.B.Bench.tells (job_in c.in-Ok.session) c.args.goal (g.B.Bench.state c.open.new.bench).file (g.B.Bench.state c.open.new.bench).cells
+    (surveyed c.survey.new.self) c.in-Ok-survey.ensures.ok)
+
+pub returns-in-Err-put_plans-clause-told : goal.returns-in-Err-put_plans-clause-told
+returns-in-Err-put_plans-clause-told g c = λ told.
     let a = g.B.Bench.state c.args.bench.now in
     let b = g.B.Bench.state c.open.new.bench in
     let m = g.B.Bench.state c.survey.new.bench in
-    let puts = c.in-Err-put_plan.ensures in
     cut_in_plan g.B.Bench.tells g.O.Sink.tells told a b m c.args.goal (job_in c.in-Ok.session) (c.in-Ok.ensures.ok told) (c.in-Ok.ensures.sized ∙ c.open.ensures.count)
     (c.open.ensures.file told) (c.open.ensures.same told) (c.in-Ok.ensures.only told) c.open.ensures.pairs c.open.ensures.halves
     (λ x at. (g.met.B.Bench.as_told c.args.bench.now x told).0 at) (c.in-Ok.ensures.idle told)
     (λ x at. (g.met.B.Bench.as_told c.open.new.bench x told).0 at) c.survey.ensures.reads c.survey.ensures.pairs
-    (surveyed c.survey.new.self) c.in-Ok-survey.ensures.ok c.geometry.result.now c.geometry.ensures c.plan.result.now.made c.plan.ensures
-    c.job.result.now.algorithm.device.base (ap (λ (j : code.Job). j.algorithm.device.base) (c.job.ensures ∙ c.survey.ensures.job))
-    (g.O.Sink.state c.args.out.now) (g.O.Sink.state c.put_plan.new.out) (record { taken = puts.err; later = puts.cause.later; rose = puts.cause.on_fault refl })
-
-pub put_plan-requires : goal.put_plan-requires
-put_plan-requires g c =
-    let base : c.job.result.now.algorithm.device.base ≡ (job_in c.in-Ok.session).algorithm.device.base = ap (λ (j : code.Job). j.algorithm.device.base) (c.job.ensures ∙ c.survey.ensures.job) in
-    rw base (fits_memory g.B.Bench.tells (job_in c.in-Ok.session) c.args.goal (g.B.Bench.state c.open.new.bench).file (g.B.Bench.state c.open.new.bench).cells (surveyed c.survey.new.self) c.in-Ok-survey.ensures.ok
-    c.geometry.result.now c.geometry.ensures)
+    (surveyed c.survey.new.self) c.in-Ok-survey.ensures.ok
+    (g.O.Sink.state c.args.out.now) (g.O.Sink.state c.put_plans.new.out) _ c.in-Err-put_plans.ensures
 
 pub returns-clause-told : goal.returns-clause-told
 returns-clause-told g c = λ told.
     let a = g.B.Bench.state c.args.bench.now in
     let b = g.B.Bench.state c.open.new.bench in
     let m = g.B.Bench.state c.survey.new.bench in
-    let puts = c.in-Ok-put_plan.ensures in
     finished g.B.Bench.tells g.O.Sink.tells told a b m c.args.goal (job_in c.in-Ok.session) (c.in-Ok.ensures.ok told) (c.in-Ok.ensures.sized ∙ c.open.ensures.count)
     (c.open.ensures.file told) (c.open.ensures.same told) (c.in-Ok.ensures.only told) c.open.ensures.pairs c.open.ensures.halves
     (λ x at. (g.met.B.Bench.as_told c.args.bench.now x told).0 at) (c.in-Ok.ensures.idle told)
     (λ x at. (g.met.B.Bench.as_told c.open.new.bench x told).0 at) c.survey.ensures.reads c.survey.ensures.pairs
-    (surveyed c.survey.new.self) c.in-Ok-survey.ensures.ok c.geometry.result.now c.geometry.ensures c.plan.result.now.made c.plan.ensures
-    c.job.result.now.algorithm.device.base (ap (λ (j : code.Job). j.algorithm.device.base) (c.job.ensures ∙ c.survey.ensures.job))
-    (job_in c.survey.new.self) (g.B.Bench.state c.finish.new.bench) (g.O.Sink.state c.args.out.now) (g.O.Sink.state c.put_plan.new.out) (g.O.Sink.state c.finish.new.out)
-    (answer_of c.finish.result) c.survey.ensures.job (record { taken = puts.ok; faults = puts.cause.on_ok refl })
+    (surveyed c.survey.new.self) c.in-Ok-survey.ensures.ok
+    (job_in c.survey.new.self) (g.B.Bench.state c.finish.new.bench) (g.O.Sink.state c.args.out.now) (g.O.Sink.state c.put_plans.new.out) (g.O.Sink.state c.finish.new.out)
+    (answer_of c.finish.result) c.survey.ensures.job _ c.in-Ok-put_plans.ensures
     (λ stands found. c.finish.ensures.told told c.args.goal stands found)
 
 pub returns-clause-early : goal.returns-clause-early
@@ -155,24 +154,41 @@ returns-in-Err-survey-clause-prints g c =
     let out = sink_call g.O.Sink.tells (g.O.Sink.state c.args.out.now) (g.O.Sink.state c.args.out.now) in
     subst (λ (r : Refusal). PrintsWork n out (refused r)) (sym c.survey_refusal.ensures) (survey_prints n out c.in-Err-survey.fault (record { taken = refl; faults = refl }))
 
-pub returns-in-Err-put_plan-clause-prints : goal.returns-in-Err-put_plan-clause-prints
-returns-in-Err-put_plan-clause-prints g c =
+pub returns-in-Err-put_plans-clause-prints : goal.returns-in-Err-put_plans-clause-prints
+returns-in-Err-put_plans-clause-prints g c =
     let n = (g.B.Bench.state c.args.bench.now).cell_count in
     let b = g.B.Bench.state c.open.new.bench in
-    let puts = c.in-Err-put_plan.ensures in
-    cut_prints g.O.Sink.tells n c.job.result.now.algorithm.device.base c.geometry.result.now
-    (surveyed_for g.B.Bench.tells (job_in c.in-Ok.session) c.args.goal b.file b.cells (surveyed c.survey.new.self) c.in-Ok-survey.ensures.ok c.geometry.result.now c.geometry.ensures n
-    (c.in-Ok.ensures.sized ∙ c.open.ensures.count))
-    c.plan.result.now.made (g.O.Sink.state c.args.out.now) (g.O.Sink.state c.put_plan.new.out)
-    (record { taken = puts.err; later = puts.cause.later; rose = puts.cause.on_fault refl })
+    cut_prints g.O.Sink.tells (job_in c.in-Ok.session) n (c.in-Ok.ensures.sized ∙ c.open.ensures.count) (g.O.Sink.state c.args.out.now) (g.O.Sink.state c.put_plans.new.out)
+    (surveyed c.survey.new.self) _
+    (surveyed_plans g.B.Bench.tells (job_in c.in-Ok.session) c.args.goal b.file b.cells (surveyed c.survey.new.self) c.in-Ok-survey.ensures.ok)
+    c.in-Err-put_plans.ensures
 
 pub returns-clause-prints : goal.returns-clause-prints
 returns-clause-prints g c =
     let n = (g.B.Bench.state c.args.bench.now).cell_count in
     let b = g.B.Bench.state c.open.new.bench in
-    let puts = c.in-Ok-put_plan.ensures in
-    end_prints g.O.Sink.tells n c.job.result.now.algorithm.device.base c.geometry.result.now
-    (surveyed_for g.B.Bench.tells (job_in c.in-Ok.session) c.args.goal b.file b.cells (surveyed c.survey.new.self) c.in-Ok-survey.ensures.ok c.geometry.result.now c.geometry.ensures n
-    (c.in-Ok.ensures.sized ∙ c.open.ensures.count))
-    c.plan.result.now.made (g.O.Sink.state c.args.out.now) (g.O.Sink.state c.put_plan.new.out) (g.O.Sink.state c.finish.new.out)
-    (record { taken = puts.ok; faults = puts.cause.on_ok refl }) (answer_of c.finish.result) c.finish.ensures.kind c.finish.ensures.prints
+    end_prints g.O.Sink.tells (job_in c.in-Ok.session) n (c.in-Ok.ensures.sized ∙ c.open.ensures.count) (g.O.Sink.state c.args.out.now) (g.O.Sink.state c.put_plans.new.out)
+    (surveyed c.survey.new.self) _
+    (surveyed_plans g.B.Bench.tells (job_in c.in-Ok.session) c.args.goal b.file b.cells (surveyed c.survey.new.self) c.in-Ok-survey.ensures.ok)
+    c.in-Ok-put_plans.ensures (g.O.Sink.state c.finish.new.out) (answer_of c.finish.result) c.finish.ensures.kind c.finish.ensures.prints
+
+pub returns-in-Err-put_plans-clause-counts : goal.returns-in-Err-put_plans-clause-counts
+returns-in-Err-put_plans-clause-counts g c =
+    let a = g.B.Bench.state c.args.bench.now in
+    let b = g.B.Bench.state c.open.new.bench in
+    let m = g.B.Bench.state c.survey.new.bench in
+    cut_counted g.B.Bench.tells g.O.Sink.tells a m (g.O.Sink.state c.args.out.now) (g.O.Sink.state c.put_plans.new.out) (λ (v : Surveyed). plans_shown v.regions)
+    (λ (v : Surveyed). HasSurveyed g.B.Bench.tells (job_in c.in-Ok.session) c.args.goal b.file b.cells v)
+    (c.in-Ok-survey.ensures.store.on_other refl ∙ c.in-Ok.ensures.store.on_other refl) (c.in-Ok-survey.ensures.device.on_other refl ∙ c.in-Ok.ensures.device.on_other refl)
+    (surveyed c.survey.new.self) _ c.in-Ok-survey.ensures.ok c.in-Err-put_plans.ensures
+
+pub returns-clause-counts : goal.returns-clause-counts
+returns-clause-counts g c =
+    let a = g.B.Bench.state c.args.bench.now in
+    let b = g.B.Bench.state c.open.new.bench in
+    let m = g.B.Bench.state c.survey.new.bench in
+    carried_counted g.B.Bench.tells g.O.Sink.tells a m (g.O.Sink.state c.args.out.now) (g.O.Sink.state c.put_plans.new.out) (λ (v : Surveyed). plans_shown v.regions)
+    (λ (v : Surveyed). HasSurveyed g.B.Bench.tells (job_in c.in-Ok.session) c.args.goal b.file b.cells v)
+    (c.in-Ok-survey.ensures.store.on_other refl ∙ c.in-Ok.ensures.store.on_other refl) (c.in-Ok-survey.ensures.device.on_other refl ∙ c.in-Ok.ensures.device.on_other refl)
+    (surveyed c.survey.new.self) _ c.in-Ok-survey.ensures.ok c.in-Ok-put_plans.ensures
+    (g.B.Bench.state c.finish.new.bench) (g.O.Sink.state c.finish.new.out) (answer_of c.finish.result) c.finish.ensures.counts

@@ -1,4 +1,8 @@
-use Rattle.std.proofs.Common.{◌+◌, ◌∙◌, refl, sym, ap, subst, drop, List, ℕ}
+use Rattle.std.proofs.Common.{◌≡◌, ◌<◌, ◌∙◌, ℕ, refl, sym, ap, subst, arith, drop, length, List, Some}
+use Rattle.board_file.specs.declared.region.Region.{Region}
+use Rattle.board_file.specs.Limits.{size_of}
+use Rattle.board_file.proofs.Laws.{region_at}
+use Rattle.command_answers.specs.Places.{address_at}
 use Rattle.bench_model.specs.History.{LeftOnly}
 use Rattle.bench_model.specs.State.{file_half}
 use Rattle.bench_model.proofs.Moments.{still_only}
@@ -25,7 +29,7 @@ pub returns-in-Mismatch-clause-told : goal.returns-in-Mismatch-clause-told
 returns-in-Mismatch-clause-told g c = λ told goal stands has.
     ends_mismatch g.B.Bench.tells g.O.Sink.tells told (job_in c.args.session.now) goal (g.B.Bench.state c.args.bench.now) (g.B.Bench.state c.go.new.bench)
     (g.O.Sink.state c.args.out.now) stands (c.requires.only told) c.go.ensures.file (surveyed c.args.session.now) has (c.go.ensures.local told) c.in-Mismatch.difference
-    (c.job.result.now.algorithm.device.base + c.in-Mismatch.difference.at) (ap (λ (k : code.Job). k.algorithm.device.base + c.in-Mismatch.difference.at) (c.job.ensures ∙ c.go.ensures.job)) (c.in-Mismatch.ensures.follows told) (c.in-Mismatch.ensures.reaches told)
+    c.address_of.result (subst (λ (rs : List Region). address_at rs c.in-Mismatch.difference.at ≡ Some c.address_of.result) (c.as_slice.ensures ∙ ap (λ (k : code.Job). k.board.regions) (c.job.ensures ∙ c.go.ensures.job)) c.address_of.ensures) (c.in-Mismatch.ensures.follows told) (c.in-Mismatch.ensures.reaches told)
 
 pub returns-in-CallFailed-clause-told : goal.returns-in-CallFailed-clause-told
 returns-in-CallFailed-clause-told g c = λ told goal stands has.
@@ -72,3 +76,14 @@ pub close-requires-clause-only : goal.close-requires-clause-only
 close-requires-clause-only g c = λ told.
     subst (λ (l : List ℕ). LeftOnly l (file_half (g.B.Bench.state c.go.new.bench))) (sym (c.go.ensures.file.file told))
     (still_only (g.B.Bench.state c.args.bench.now).file c.go.ensures.file.moments (c.requires.only told))
+
+pub address_of-requires-clause-inside : goal.address_of-requires-clause-inside
+address_of-requires-clause-inside g c =
+    let regions : c.as_slice.result.now ≡ (job_in c.args.session.now).board.regions = c.as_slice.ensures ∙ ap (λ (k : code.Job). k.board.regions) (c.job.ensures ∙ c.go.ensures.job) in
+    subst (λ (rs : List Region). c.in-Mismatch.difference.at < size_of rs) (sym regions) c.in-Mismatch.ensures.sound.0
+
+pub address_of-requires-clause-few : goal.address_of-requires-clause-few
+address_of-requires-clause-few g c = omega (arith, ap length c.as_slice.ensures, c.job.result.now.board.few_regions)
+
+pub address_of-requires-clause-fit : goal.address_of-requires-clause-fit
+address_of-requires-clause-fit g c = λ k d less. (region_at c.as_slice.result.now k d less (rw c.as_slice.ensures c.job.result.now.board.regions_fit)).ends

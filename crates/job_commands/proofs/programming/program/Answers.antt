@@ -1,12 +1,12 @@
-use Rattle.std.proofs.Common.{rules, ◌≡◌, ◌∙◌, refl, sym, ap, ℕ, List, Some, Err}
+use Rattle.std.proofs.Common.{rules, ◌≡◌, ◌∙◌, refl, sym, ap, ℕ, List, Err}
 use Rattle.report_text.specs.Shown.{shown}
 use Rattle.command_words.specs.Requested.{files_of}
 use Rattle.command_files.specs.Inputs.{inputs_call}
 use Rattle.command_files.specs.Steps.{task_aim}
 use Rattle.command_answers.specs.Call.{bench_call, sink_call}
 use Rattle.command_answers.specs.Shown.{answer_of}
-use Rattle.job_commands.proofs.RegionLemmas.{task_size, task_parts, task_algorithm}
-use Rattle.job_commands.proofs.ProgramLemmas.{ends_early, begins_on_parts, ends_worked}
+use Rattle.job_commands.proofs.RegionLemmas.{task_parts, task_texts}
+use Rattle.job_commands.proofs.ProgramLemmas.{ends_early, task_begins, ends_worked}
 use Rattle.job_commands.proofs.programming.program.Goals as goal
 
 pub returns-in_err-task : goal.returns-in_err-task
@@ -21,8 +21,8 @@ returns-in_err-task g c =
 pub begin_job-requires : goal.begin_job-requires
 begin_job-requires g c =
     let given = c.in_ok-task.ensures.reads.given in
-    task_parts c.args.names.now.raw_at given.files c.in_ok-task.task _ given.holds c.in_ok-task.ensures.short_board c.in_ok-task.ensures.short_flm
-    c.bytes.ensures c.bytes-2.ensures refl refl
+    task_parts c.args.names.now.raw_at given.files c.in_ok-task.task given.holds c.in_ok-task.ensures.short_board c.in_ok-task.ensures.short_flm
+    c.in_ok-task.ensures.short_second _ c.bytes.ensures c.bytes-2.ensures c.text_of.ensures refl c.cells_of.ensures
 
 pub returns : goal.returns
 returns g c =
@@ -34,14 +34,14 @@ returns g c =
     let task = c.in_ok-task.task in
     let is = took.given.holds in
     let aim = task_aim task in
-    let are = task_parts c.args.names.now.raw_at took.given.files task _ is c.in_ok-task.ensures.short_board c.in_ok-task.ensures.short_flm c.bytes.ensures c.bytes-2.ensures refl refl in
+    let short = c.in_ok-task.ensures in
     ends_worked bench inputs out asked took.given.files aim took.given.are_files is.is_aim took.none_failed (answer_of c.begin_job.result)
     c.begin_job.ensures.kind c.begin_job.ensures.counts c.begin_job.ensures.early
     (record {
-      has_algorithm = task_algorithm c.args.names.now.raw_at took.given.files task is c.in_ok-task.ensures.short_board c.in_ok-task.ensures.short_flm;
-      sized = λ its. task_size c.args.names.now.raw_at took.given.files task is ∙ c.begin_job.ensures.sized its;
+      has_texts = task_texts c.args.names.now.raw_at took.given.files task is short.short_board short.short_flm short.short_second;
+      sized = λ its. sym c.cells_of.ensures ∙ c.begin_job.ensures.sized its;
       sound = c.begin_job.ensures.sound;
       prints = c.begin_job.ensures.prints;
-      works = λ told. begins_on_parts bench out (answer_of c.begin_job.result) took.given.files aim _ are
-          (is.board_text ∙ sym c.bytes.ensures) (is.flm ∙ ap (λ (l : List ℕ). Some l) (sym c.bytes-2.ensures)) refl (task_size c.args.names.now.raw_at took.given.files task is) refl refl (c.begin_job.ensures.told told);
+      works = λ told. task_begins bench out (answer_of c.begin_job.result) c.args.names.now.raw_at took.given.files task is short.short_board short.short_flm
+          short.short_second _ c.bytes.ensures c.bytes-2.ensures c.text_of.ensures refl c.cells_of.ensures (c.begin_job.ensures.told told);
     })
