@@ -1,7 +1,7 @@
 -- The rows of the answers of a demonstration.
 use Rattle.std.proofs.Common.{◌≡◌, ◌∙◌, sym, subst, refl, arith, inl, inr, ◌⊎◌, ◌<◌, ◌≤◌, ⊎_elim, ℕ, true, List, [], Some, ◌^◌, ◌-◌}
 use Rattle.faults.specs.Counts.{Rose}
-use Rattle.report_text.specs.Refusal.{out_of_memory, no_job, not_a_job, cells_differ, store_fault, device_fault, output_fault, call_failed, mismatch}
+use Rattle.report_text.specs.Refusal.{out_of_memory, no_job, not_a_job, damaged, cells_differ, store_fault, device_fault, output_fault, call_failed, mismatch}
 use Rattle.command_files.specs.Inputs.{InputsCall, TakesNothing}
 use Rattle.command_answers.specs.Call.{BenchCall, SinkCall, TookPart, IsUntouched, Answer, done, refused}
 use Rattle.command_answers.specs.Answered.{input, store, device, output, fault_in, has_resume, on_job_file, on_own_bench, IsCounted, IsOf, StandsEarly, EndsLawfully}
@@ -16,6 +16,7 @@ own_stands own out done kind stands = tt
 own_stands own out (refused out_of_memory) kind stands = tt
 own_stands own out (refused no_job) kind stands = stands.reads
 own_stands own out (refused (not_a_job at)) kind stands = stands.reads
+own_stands own out (refused (damaged kept found)) kind stands = stands.reads
 own_stands own out (refused (cells_differ wanted found)) kind stands = stands.reads
 own_stands own out (refused store_fault) kind stands = tt
 own_stands own out (refused device_fault) kind stands = tt

@@ -1,5 +1,5 @@
 -- What the loss of the power leaves, and what a resume of it leaves that is done.
-use Rattle.std.proofs.Common.{◌≡◌, ◌≢◌, ◌⊎◌, ⊎_elim, inl, inr, refl, sym, ap, subst, arith, ◌∙◌, ◌≤◌, ◌<◌, ℕ, true, List, [], Option, Some, None}
+use Rattle.std.proofs.Common.{◌≡◌, ◌≢◌, ◌⊎◌, ⊎_elim, inl, inr, refl, sym, ap, subst, arith, ◌∙◌, ◌≤◌, ◌<◌, ℕ, true, List, [], ◌∷◌, option_copied, Option, Some, None}
 use Rattle.std.specs.Prelude.{length, ◌^◌}
 use Rattle.std.proofs.lemmas.Bool.{cases_lt, cases_eq}
 use Rattle.bench_model.specs.Calls.{SameOutside}
@@ -7,22 +7,22 @@ use Rattle.bench_model.specs.History.{left}
 use Rattle.bench_model.specs.State.{BenchState, file_half}
 use Rattle.bench_model.specs.declared.stop.StopBench.{StopBench}
 use Rattle.byte_map.specs.Image.{Run}
+use Rattle.board_file.specs.Limits.{size_of}
 use Rattle.board_file.specs.Text.{IsBoard}
-use Rattle.flm_descriptor.specs.Flm.{IsFlm}
 use Rattle.job_text.specs.Fits.{Suits}
-use Rattle.job_text.specs.Parts.{job_of as job_with, AreParts}
+use Rattle.job_text.specs.declared.format.Format.TheVariants.{Second}
+use Rattle.job_text.specs.Parts.{files_with, flms_of, job_of as job_with, AreParts}
 use Rattle.job_text.specs.declared.parts.JobParts.{JobParts}
 use Rattle.job_text.specs.Stands.{IsSomeJob}
 use Rattle.job_commands.specs.Carry.{Carries}
 use Rattle.job_commands.specs.Steps.{BeginsParts}
 use Rattle.bench_model.specs.Shown.{bench_of}
 use Rattle.bench_model.specs.declared.memory.MemoryBench.{MemoryBench}
-use Rattle.byte_map.specs.Image.{over}
 use Rattle.job_text.specs.Files.{IsFree, IsWhole, IsClosed}
-use Rattle.job_text.specs.Body.{Job, body_of, IsJob}
+use Rattle.job_text.specs.Body.{Job, body_of, flm_len, AreFlms, IsJob}
 use Rattle.campaign.specs.Stops.{IsUntouched, IsAtClose}
 use Rattle.flash_session.specs.declared.goal.Goal.TheVariants.{New}
-use Rattle.report_text.specs.Refusal.{Refusal as Reason, out_of_memory, usage, input_fault, image_too_long, image_refused, image_misplaced, flm_refused, other_device, no_room, board_refused, job_open, no_job, not_a_job, cells_differ, store_fault, device_fault, output_fault, call_failed, mismatch, differs, not_built, status_of}
+use Rattle.report_text.specs.Refusal.{Refusal as Reason, out_of_memory, usage, input_fault, image_too_long, image_refused, image_misplaced, flm_refused, other_device, no_room, board_refused, job_open, no_job, not_a_job, damaged, cells_differ, store_fault, device_fault, output_fault, call_failed, mismatch, differs, status_of}
 use Rattle.report_text.specs.declared.refusal.Refusal.{Refusal}
 use Rattle.command_answers.specs.Call.{bench_call, Answer, done, refused}
 use Rattle.command_answers.specs.Answered.{yields, Refuses, OnlyLooked}
@@ -30,6 +30,7 @@ use Rattle.job_commands.specs.GoOn.{work_to, GoesOnFrom}
 use Rattle.demo_job.specs.Made.{cells_of, image_of, laid_of}
 use Rattle.demo_job.specs.Target.{board_text, Target, IsTarget}
 use Rattle.demo_job.specs.Run.{IsFresh, IsLost, job_of, work_of, stopping_of, silence, answer_in, status_in}
+use Rattle.demo_job.proofs.PlanLemmas.{laid_over}
 
 -- the pair that is left: untouched, whole, or at the close
 pub LeftPair : (seed : ℕ) (t : Target) (old : BenchState) (file cells : List ℕ) → Type 0
@@ -64,20 +65,21 @@ not_done Did reason either = ⊎_elim
     either
 
 -- a resume that is done leaves the image laid over the cells
-pub done_laid : (seed : ℕ) (t : Target) (fresh lost after : MemoryBench) → IsFresh seed (bench_of fresh) → IsLost seed t fresh lost → t.algorithm.device.base ≡ 0x08000000
+pub done_laid : (seed : ℕ) (t : Target) (fresh lost after : MemoryBench) → IsFresh seed (bench_of fresh) → IsLost seed t fresh lost
+    → t.algorithm.device.base ≡ 0x08000000 → t.algorithm.device.size ≡ 65536
     → GoesOnFrom New (bench_call true (bench_of lost) (bench_of after)) silence done → (bench_of after).cells ≡ laid_of seed
 unfolding LeftPair
-done_laid seed t fresh lost after is_fresh is base from =
+done_laid seed t fresh lost after is_fresh is base cells from =
     let Did = OnlyLooked (bench_call true (bench_of lost) (bench_of after)) silence in
     let file = (bench_of lost).file in
     let of_free : IsFree file → (bench_of after).cells ≡ laid_of seed = λ is_free. absurd (not_done Did no_job (from.free is_free)) in
     let of_whole : IsWhole (body_of (job_of seed t)) file → (bench_of after).cells ≡ laid_of seed = λ whole. ⊎_elim
-    (λ (size : t.algorithm.device.size ≡ (bench_of lost).cell_count).
-    (from.stands (job_of seed t) t.board t.algorithm is.is_job whole size).1.comes.0.reached.goal ∙ ap (λ (b : ℕ). over (image_of seed) b (cells_of seed)) base)
-    (λ (other : t.algorithm.device.size ≢ (bench_of lost).cell_count).
-    let some : IsSomeJob file = record { job = job_of seed t; board = t.board; algorithm = t.algorithm; is = is.is_job; whole = whole } in
-    absurd (not_done Did (cells_differ t.algorithm.device.size (bench_of lost).cell_count) (from.other_size some other)))
-    (cases_eq t.algorithm.device.size (bench_of lost).cell_count) in
+    (λ (size : size_of t.board.regions ≡ (bench_of lost).cell_count).
+    (from.stands (job_of seed t) t.board (t.algorithm ∷ []) is.is_job whole size).1.comes.0.reached.goal ∙ laid_over seed t is.is_job.suits.fit base cells)
+    (λ (other : size_of t.board.regions ≢ (bench_of lost).cell_count).
+    let some : IsSomeJob file = record { job = job_of seed t; board = t.board; algorithms = t.algorithm ∷ []; is = is.is_job; whole = whole } in
+    absurd (not_done Did (cells_differ (size_of t.board.regions) (bench_of lost).cell_count) (from.other_size some other)))
+    (cases_eq (size_of t.board.regions) (bench_of lost).cell_count) in
     ⊎_elim
     (λ (before : IsUntouched (stopping_of is.first) file (bench_of lost).cells ⊎ IsWhole (body_of (job_of seed t)) file). ⊎_elim
     (λ (untouched : IsUntouched (stopping_of is.first) file (bench_of lost).cells). of_free (untouched_free seed is.first fresh is.inner is_fresh file (bench_of lost).cells untouched))
@@ -104,6 +106,7 @@ no_zero (board_refused fault) is = cc
 no_zero job_open is = cc
 no_zero no_job is = cc
 no_zero (not_a_job at) is = cc
+no_zero (damaged kept found) is = cc
 no_zero (cells_differ wanted found) is = cc
 no_zero store_fault is = cc
 no_zero device_fault is = cc
@@ -111,7 +114,6 @@ no_zero output_fault is = cc
 no_zero (call_failed number call end) is = cc
 no_zero (mismatch at wanted found) is = cc
 no_zero (differs place wanted found) is = cc
-no_zero not_built is = cc
 
 pub zero_done : (end : Option Refusal) → status_in end ≡ 0 → answer_in end ≡ done
 zero_done None is = refl
@@ -137,50 +139,57 @@ short_text : length board_text < 2 ^ 32
 unfolding board_text
 short_text = omega arith
 
-pub parts_of : (t : Target) (parts : JobParts) → IsTarget t → Suits t.board t.algorithm parts.image.now → parts.board.now ≡ board_text → parts.flm.now ≡ t.file
-    → t.algorithm.device.size ≡ parts.size → AreParts parts
-parts_of t parts is suits board_is flm_is size = record {
-  board = t.board;
-  algorithm = t.algorithm;
-  is_board = subst (λ (l : List ℕ). IsBoard l t.board) (sym board_is) is.is_board;
-  is_algorithm = subst (λ (l : List ℕ). IsFlm l t.algorithm) (sym flm_is) is.is_algorithm;
-  suits = suits;
-  size = size;
-  short_board = subst (λ (l : List ℕ). length l < 2 ^ 32) (sym board_is) short_text;
-  short_flm = subst (λ (l : List ℕ). length l < 2 ^ 32) (sym flm_is) is.is_forged.fits;
-}
+pub parts_of : (t : Target) (parts : JobParts) → IsTarget t → Suits t.board (t.algorithm ∷ []) parts.image.now → parts.board.now ≡ board_text → parts.flm.now ≡ t.file
+    → parts.second ≡ None → size_of t.board.regions ≡ parts.size → AreParts parts
+parts_of t parts is suits board_is flm_is second_is size =
+    let flms : flms_of parts ≡ t.file ∷ [] =
+    ap (λ (f : List ℕ). files_with f (option_copied parts.second)) flm_is ∙ ap (λ o. files_with t.file (option_copied o)) second_is in
+    record {
+      board = t.board;
+      algorithms = t.algorithm ∷ [];
+      is_board = subst (λ (l : List ℕ). IsBoard l t.board) (sym board_is) is.is_board;
+      are_algorithms = subst (λ (l : List (List ℕ)). AreFlms l (t.algorithm ∷ [])) (sym flms) (is.is_algorithm, tt);
+      suits = suits;
+      size = size;
+      short_board = subst (λ (l : List ℕ). length l < 2 ^ 32) (sym board_is) short_text;
+      short_first = subst (λ (l : List ℕ). length l < 2 ^ 32) (sym flm_is) is.is_forged.fits;
+      short_second = subst (λ (l : List (List ℕ)). flm_len l 1 < 2 ^ 32) (sym flms) (omega arith);
+    }
 
-one_job : {a b c d : List ℕ} {i j : List Run} {s u : List ℕ} → a ≡ b → c ≡ d → i ≡ j → s ≡ u
-    → (let x : Job = record { board = a; flm = c; image = i; snapshot = s } in x) ≡ record { board = b; flm = d; image = j; snapshot = u }
+one_job : {a b : List ℕ} {c d : List (List ℕ)} {i j : List Run} {s u : List ℕ} → a ≡ b → c ≡ d → i ≡ j → s ≡ u
+    → (let x : Job = record { format = Second; board = a; flms = c; image = i; snapshot = s } in x) ≡ record { format = Second; board = b; flms = d; image = j; snapshot = u }
 one_job {a} {b} {c} {d} {i} {j} {s} {u} boards flms images snapshots =
-    ap (λ (x : List ℕ). let k : Job = record { board = x; flm = c; image = i; snapshot = s } in k) boards
-    ∙ ap (λ (x : List ℕ). let k : Job = record { board = b; flm = x; image = i; snapshot = s } in k) flms
-    ∙ ap (λ (x : List Run). let k : Job = record { board = b; flm = d; image = x; snapshot = s } in k) images
-    ∙ ap (λ (x : List ℕ). let k : Job = record { board = b; flm = d; image = j; snapshot = x } in k) snapshots
+    ap (λ (x : List ℕ). let k : Job = record { format = Second; board = x; flms = c; image = i; snapshot = s } in k) boards
+    ∙ ap (λ (x : List (List ℕ)). let k : Job = record { format = Second; board = b; flms = x; image = i; snapshot = s } in k) flms
+    ∙ ap (λ (x : List Run). let k : Job = record { format = Second; board = b; flms = d; image = x; snapshot = s } in k) images
+    ∙ ap (λ (x : List ℕ). let k : Job = record { format = Second; board = b; flms = d; image = j; snapshot = x } in k) snapshots
 
 pub record Begun (seed : ℕ) (t : Target) (first begun : StopBench MemoryBench) (answer : Answer) : Type 0 where
-  pub is_job : IsJob (job_of seed t) t.board t.algorithm
+  pub is_job : IsJob (job_of seed t) t.board (t.algorithm ∷ [])
   pub carries : Carries (bench_call true (stopping_of first) (stopping_of begun)) silence (IsUntouched (stopping_of first)) (work_of seed t) answer
 
 pub begun_of : (seed : ℕ) (t : Target) (first begun : StopBench MemoryBench) (fresh : MemoryBench) (answer : Answer) (parts : JobParts)
-    → first.inner ≡ fresh → IsFresh seed (bench_of fresh) → (is : IsTarget t) → (suits : Suits t.board t.algorithm parts.image.now) → (board_is : parts.board.now ≡ board_text)
-    → (flm_is : parts.flm.now ≡ t.file) → parts.image.now ≡ image_of seed → (size : t.algorithm.device.size ≡ parts.size) → parts.size ≡ 65536 → length (cells_of seed) ≡ 65536
+    → first.inner ≡ fresh → IsFresh seed (bench_of fresh) → (is : IsTarget t) → (suits : Suits t.board (t.algorithm ∷ []) parts.image.now) → (board_is : parts.board.now ≡ board_text)
+    → (flm_is : parts.flm.now ≡ t.file) → (second_is : parts.second ≡ None) → parts.image.now ≡ image_of seed → (size : size_of t.board.regions ≡ parts.size)
+    → parts.size ≡ 65536 → length (cells_of seed) ≡ 65536
     → BeginsParts (bench_call true (stopping_of first) (stopping_of begun)) silence parts answer → Begun seed t first begun answer
 unfolding parts_of
-begun_of seed t first begun fresh answer parts inner is_fresh is suits board_is flm_is image_is size all long begins =
+begun_of seed t first begun fresh answer parts inner is_fresh is suits board_is flm_is second_is image_is size all long begins =
     let inner_cells : (stopping_of first).cells ≡ cells_of seed = ap (λ (b : MemoryBench). (bench_of b).cells) inner ∙ is_fresh.cells in
     let inner_file : (stopping_of first).file ≡ [] = ap (λ (b : MemoryBench). (bench_of b).file) inner ∙ is_fresh.file in
     let inner_idle : (stopping_of first).operation ≡ None = ap (λ (b : MemoryBench). (bench_of b).operation) inner ∙ is_fresh.rest.idle in
     let free : IsFree (stopping_of first).file = subst (λ (f : List ℕ). IsFree f) (sym inner_file) tt in
     let count : parts.size ≡ (stopping_of first).cell_count = all ∙ sym long ∙ sym (ap (λ (l : List ℕ). length l) inner_cells) in
-    let of = begins.begins (parts_of t parts is suits board_is flm_is size) free count in
+    let of = begins.begins (parts_of t parts is suits board_is flm_is second_is size) free count in
     let surveyed : of.0 ≡ (stopping_of first).cells =
     (subst (λ (o : Option (ℕ × ℕ)). SameOutside o (stopping_of first).cells of.0) inner_idle of.2.surveyed) in
     let snapshot : of.0 ≡ cells_of seed = surveyed ∙ inner_cells in
-    let same : job_with parts of.0 ≡ job_of seed t = one_job board_is flm_is image_is snapshot in
+    let flms : flms_of parts ≡ t.file ∷ [] =
+    ap (λ (f : List ℕ). files_with f (option_copied parts.second)) flm_is ∙ ap (λ o. files_with t.file (option_copied o)) second_is in
+    let same : job_with parts of.0 ≡ job_of seed t = one_job board_is flms image_is snapshot in
     record {
-      is_job = subst (λ (j : Job). IsJob j t.board t.algorithm) same of.1;
+      is_job = subst (λ (j : Job). IsJob j t.board (t.algorithm ∷ [])) same of.1;
       carries =
-          let one = subst (λ (j : Job). Carries (bench_call true (stopping_of first) (stopping_of begun)) silence (IsUntouched (stopping_of first)) (work_to New j t.board t.algorithm of.0) answer) same of.2 in
-          subst (λ (s : List ℕ). Carries (bench_call true (stopping_of first) (stopping_of begun)) silence (IsUntouched (stopping_of first)) (work_to New (job_of seed t) t.board t.algorithm s) answer) snapshot one;
+          let one = subst (λ (j : Job). Carries (bench_call true (stopping_of first) (stopping_of begun)) silence (IsUntouched (stopping_of first)) (work_to New j t.board (t.algorithm ∷ []) of.0) answer) same of.2 in
+          subst (λ (s : List ℕ). Carries (bench_call true (stopping_of first) (stopping_of begun)) silence (IsUntouched (stopping_of first)) (work_to New (job_of seed t) t.board (t.algorithm ∷ []) s) answer) snapshot one;
     }

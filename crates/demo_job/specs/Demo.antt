@@ -2,11 +2,11 @@
 use Rattle.std.specs.Prelude.{◌≡◌, ◌↔◌, ℕ, IsTrue}
 use Rattle.bench_model.specs.Shown.{bench_of}
 use Rattle.bench_model.specs.declared.memory.MemoryBench.{MemoryBench}
-use Rattle.job_commands.specs.Work.{layout_of, plan_of}
+use Rattle.job_commands.specs.Work.{layout_of}
 use Rattle.demo_job.specs.Made.{laid_of, stop_of}
 use Rattle.demo_job.specs.Target.{Target, IsTarget}
 use Rattle.demo_job.specs.Plan.{erased, programmed}
-use Rattle.demo_job.specs.Run.{work_of, IsLost, Resumes, status_in}
+use Rattle.demo_job.specs.Run.{plan_of, IsLost, Resumes, status_in}
 use Rattle.demo_job.specs.declared.run.Demo.{Demo}
 
 -- On a fresh bench of a seed: the numbers of the plan that is chosen from the cells that the seed makes to the image laid over them, the
@@ -16,9 +16,9 @@ pub record Shows (seed : ℕ) (fresh : MemoryBench) (demo : Demo) : Type 0 where
   pub target : Target
   pub is_target : IsTarget target
   pub seed_is : demo.lines.seed ≡ seed
-  pub sectors_are : demo.lines.sectors ≡ erased (layout_of target.algorithm) (plan_of (work_of seed target))
-  pub pages_are : demo.lines.pages ≡ programmed (layout_of target.algorithm) (plan_of (work_of seed target))
-  pub cost_is : demo.lines.cost ≡ (plan_of (work_of seed target)).cost
+  pub sectors_are : demo.lines.sectors ≡ erased (layout_of target.algorithm) (plan_of seed target)
+  pub pages_are : demo.lines.pages ≡ programmed (layout_of target.algorithm) (plan_of seed target)
+  pub cost_is : demo.lines.cost ≡ (plan_of seed target).cost
   pub calls_are : demo.lines.calls ≡ stop_of seed
   pub lost : MemoryBench
   pub is_lost : IsLost seed target fresh lost

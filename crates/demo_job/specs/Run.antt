@@ -1,5 +1,5 @@
 -- The run of a demonstration: the job of a seed is begun, stopped, and resumed on what the loss of the power left.
-use Rattle.std.specs.Prelude.{◌≡◌, ◌≢◌, ℕ, Bool, true, false, IsTrue, [], Option, Some, None}
+use Rattle.std.specs.Prelude.{◌≡◌, ◌≢◌, ℕ, Bool, true, false, IsTrue, [], ◌∷◌, Option, Some, None}
 use Rattle.outside_io.specs.State.{SinkState}
 use Rattle.bench_model.specs.State.{BenchState, Left}
 use Rattle.bench_model.specs.Loss.{IsAtRest, IsPicked, after_loss}
@@ -12,7 +12,9 @@ use Rattle.bench_model.specs.declared.memory.MemoryBench.{MemoryBench}
 use Rattle.bench_model.specs.declared.pick.Pick.TheVariants.{Filled}
 use Rattle.bench_model.specs.declared.stop.StopBench.{StopBench}
 use Rattle.campaign.specs.Stops.{IsUntouched}
+use Rattle.job_text.specs.declared.format.Format.TheVariants.{Second}
 use Rattle.job_text.specs.Body.{Job, IsJob}
+use Rattle.erase_planner.specs.Plans.{Chosen}
 use Rattle.flash_session.specs.declared.goal.Goal.TheVariants.{New}
 use Rattle.report_text.specs.Shown as refusal
 use Rattle.report_text.specs.Refusal.{out_of_memory, status_of}
@@ -20,7 +22,7 @@ use Rattle.report_text.specs.declared.refusal.Refusal.{Refusal}
 use Rattle.command_files.specs.Inputs.{InputsCall, TakesNothing}
 use Rattle.command_answers.specs.Call.{bench_call, SinkCall, sink_call, Answer, done, refused}
 use Rattle.command_answers.specs.Answered.{IsOf}
-use Rattle.job_commands.specs.Work.{Work}
+use Rattle.job_commands.specs.Work.{Work, plan_in}
 use Rattle.job_commands.specs.Carry.{Carries}
 use Rattle.job_commands.specs.GoOn.{work_to, GoOnEnds}
 use Rattle.job_text.specs.declared.parts.JobParts.{JobParts}
@@ -49,10 +51,14 @@ pub record IsFresh (seed : ℕ) (now : BenchState) : Type 0 where
 -- The job of a seed, whose snapshot is the cells that the seed makes, and the work on it.
 
 abbrev pub job_of : ℕ → Target → Job
-job_of seed t = record { board = board_text; flm = t.file; image = image_of seed; snapshot = cells_of seed }
+job_of seed t = record { format = Second; board = board_text; flms = t.file ∷ []; image = image_of seed; snapshot = cells_of seed }
 
 abbrev pub work_of : ℕ → Target → Work
-work_of seed t = work_to New (job_of seed t) t.board t.algorithm (cells_of seed)
+work_of seed t = work_to New (job_of seed t) t.board (t.algorithm ∷ []) (cells_of seed)
+
+-- the plan of its one region
+abbrev pub plan_of : ℕ → Target → Chosen
+plan_of seed t = (plan_in t.board 0 t.algorithm (cells_of seed) (work_of seed t).goal).plan
 
 -- a bench in memory that stops, as a bench
 abbrev pub stopping_of : StopBench MemoryBench → BenchState
@@ -62,6 +68,7 @@ stopping_of s = stopped bench_of s
 pub record ArePartsOf (seed : ℕ) (t : Target) (parts : JobParts) : Type 0 where
   pub board : parts.board.now ≡ board_text
   pub flm : parts.flm.now ≡ t.file
+  pub second : parts.second ≡ None
   pub image : parts.image.now ≡ image_of seed
   pub size : t.algorithm.device.size ≡ parts.size
   pub all : parts.size ≡ 65536
@@ -91,7 +98,7 @@ pub record IsLost (seed : ℕ) (t : Target) (fresh lost : MemoryBench) : Type 0 
   pub syncs : SyncsFirst (StopActs memory_acts) first
   pub begun : StopBench MemoryBench
   pub answer : Answer
-  pub is_job : IsJob (job_of seed t) t.board t.algorithm
+  pub is_job : IsJob (job_of seed t) t.board (t.algorithm ∷ [])
   pub carries : Carries (bench_call true (stopping_of first) (stopping_of begun)) silence (IsUntouched (stopping_of first)) (work_of seed t) answer
   pub kind : IsOf has_begin answer
   pub counts : BenchCounted (bench_call true (stopping_of first) (stopping_of begun)) silence answer

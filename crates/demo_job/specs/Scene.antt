@@ -1,5 +1,5 @@
 -- All that a demonstration is made of, but for the bench.
-use Rattle.std.specs.Prelude.{◌≡◌, ℕ}
+use Rattle.std.specs.Prelude.{◌≡◌, ℕ, [], ◌∷◌}
 use Rattle.board_file.specs.Shown as board
 use Rattle.flm_descriptor.specs.Shown as flm
 use Rattle.page_geometry.specs.Layout.{Layout}
@@ -22,7 +22,7 @@ pub record IsScene (seed : ℕ) (scene : Scene) : Type 0 where
   pub image : scene.made.image ≡ image_of seed
   pub calls : scene.made.calls ≡ stop_of seed
   pub target : IsTarget (target_of scene.target)
-  pub suits : Suits (board.shown scene.target.board) (flm.shown scene.target.algorithm) scene.made.image
+  pub suits : Suits (board.shown scene.target.board) (flm.shown scene.target.algorithm ∷ []) scene.made.image
   pub goal : scene.goal.items ≡ laid_of seed
   pub base : scene.target.algorithm.device.base ≡ 0x08000000
   pub size : scene.target.algorithm.device.size ≡ 65536

@@ -1,5 +1,5 @@
 //! All that a demonstration is made of, but for the bench.
-ghost use Rattle.std.specs.Prelude.{◌≡◌, ◌≤◌, ◌+◌, ◌^◌, length, IfOk, IsTrue};
+ghost use Rattle.std.specs.Prelude.{◌≡◌, ◌≤◌, ◌+◌, ◌^◌, [], ◌∷◌, length, IfOk, IsTrue, None};
 ghost use Rattle.board_file.specs.Shown.{shown as board_shown};
 ghost use Rattle.flm_descriptor.specs.Shown.{shown as flm_shown};
 ghost use Rattle.job_text.specs.Fits.{Suits};
@@ -14,6 +14,7 @@ use crate::target::{BOARD, Target, make_target};
 use faults::OutOfMemory;
 use job_text::{JobParts, suits};
 use std::alloc::Global;
+use std::slice::from_ref;
 
 /// What the seed makes, the target, and the cells with the image laid over them.
 #[derive(Drop)]
@@ -40,12 +41,12 @@ pub(crate) fn set_scene(alloc: Global, seed: u32) -> Result<Scene, OutOfMemory>
 fn fits(target: &Target, made: &Made) -> bool
     ensures base { IsTrue result → target.now.algorithm.device.base ≡ base }
     ensures size { IsTrue result → target.now.algorithm.device.size ≡ length made.now.cells.items }
-    ensures suits { IsTrue result → Suits (board_shown target.now.board) (flm_shown target.now.algorithm) made.now.image }
+    ensures suits { IsTrue result → Suits (board_shown target.now.board) (flm_shown target.now.algorithm ∷ []) made.now.image }
 {
     let device = &target.algorithm.device;
     device.base == BASE
         && device.size as usize == made.cells.len()
-        && suits(&target.board, &target.algorithm, &made.image)
+        && suits(&target.board, from_ref(&target.algorithm), &made.image)
 }
 
 /// The image laid over the cells.
@@ -64,12 +65,14 @@ impl Scene {
     pub(crate) fn parts(&self) -> JobParts<'_>
         ensures board { result.board.now ≡ board_text }
         ensures flm { result.flm.now ≡ self.now.target.flm }
+        ensures second { result.second ≡ None }
         ensures image { result.image.now ≡ self.now.made.image }
         ensures size { result.size ≡ self.now.target.algorithm.device.size }
     {
         JobParts {
             board: BOARD,
             flm: self.target.flm.bytes(),
+            second: None,
             image: &self.made.image,
             size: self.target.algorithm.device.size,
         }

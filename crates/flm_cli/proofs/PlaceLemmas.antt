@@ -6,7 +6,8 @@ use Rattle.std.proofs.lemmas.Bool.Decides.{nat_tests}
 use Rattle.byte_map.specs.Image.{Run, byte_at}
 use Rattle.board_file.specs.declared.region.Region.{Region}
 use Rattle.readback.specs.declared.compare.Difference.{Difference}
-use Rattle.flm_cli.specs.Verify.{address_at, wanted_at, CellsAgree, IsLeastDifference}
+use Rattle.command_answers.specs.Places.{address_at}
+use Rattle.flm_cli.specs.Verify.{wanted_at, CellsAgree, IsLeastDifference}
 use Rattle.flm_cli.specs.Steps.{FindsInImage, RegionAgreesBelow, IsFirstInRegion, FindsInRegion}
 
 -- A place in the first region, and one behind it.

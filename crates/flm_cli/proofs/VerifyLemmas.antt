@@ -20,7 +20,8 @@ use Rattle.command_answers.specs.Answered.{has_verify, yields, DidNothing, IsOf,
 use Rattle.flm_cli.specs.Comparison as comparison
 use Rattle.flm_cli.specs.Comparison.{Compares}
 use Rattle.command_answers.specs.Reading.{ShowsFiles, AnswersFiles}
-use Rattle.flm_cli.specs.Verify.{address_at, wanted_at, CellsAgree, IsLeastDifference, DiffersAt, AgreesWith, IsComparedWithImage, Shows, IsDueForImage, VerifyEnds}
+use Rattle.command_answers.specs.Places.{address_at}
+use Rattle.flm_cli.specs.Verify.{wanted_at, CellsAgree, IsLeastDifference, DiffersAt, AgreesWith, IsComparedWithImage, Shows, IsDueForImage, VerifyEnds}
 use Rattle.command_answers.proofs.ReadingLemmas.{answers_yielding, answers_refused, answers_worked}
 use Rattle.command_answers.proofs.AnswerLemmas.{did_nothing, plain_lawful, untaken_lawful}
 use Rattle.flm_cli.proofs.FoundLemmas.{leaves_early, found_cases, compared_lawful, is_due, due_yielding}

@@ -1,4 +1,4 @@
--- What `plan [--raw-at ADDR] BOARD FLM IMAGE...` answers.
+-- What `plan [--raw-at ADDR] BOARD FLM... IMAGE...` answers, with an FLM file for each region of the board.
 use Rattle.std.specs.Prelude.{◌≡◌, ◌≢◌, ℕ, IsTrue, List, [], ◌∷◌, length, take, drop, is_some}
 use Rattle.bench_model.specs.State.{cells_half}
 use Rattle.bench_model.specs.History.{AddsNothing}

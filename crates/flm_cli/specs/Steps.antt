@@ -14,7 +14,8 @@ use Rattle.command_answers.specs.Answered.{device, output, IsCounted}
 use Rattle.job_commands.specs.Work.{layout_of}
 use Rattle.device_dump.specs.Looks.{PrintsText}
 use Rattle.flm_cli.specs.Plan.{PlanLeaves}
-use Rattle.flm_cli.specs.Verify.{address_at, CellsAgree, IsLeastDifference}
+use Rattle.command_answers.specs.Places.{address_at}
+use Rattle.flm_cli.specs.Verify.{CellsAgree, IsLeastDifference}
 use Rattle.flm_cli.specs.declared.plan.Room.{Room}
 
 -- None where each cell is the image's byte wherever it has one, else the least place where one isn't, by its address

@@ -8,17 +8,12 @@ use Rattle.command_words.specs.Files.{FilesAsked, names_in}
 use Rattle.command_files.specs.Inputs.{InputsCall}
 use Rattle.command_files.specs.Files.{Aim}
 use Rattle.command_answers.specs.Call.{BenchCall, SinkCall, Answer, refused}
+use Rattle.command_answers.specs.Places.{address_at}
 use Rattle.command_answers.specs.Answered.{has_verify, Refuses, DidNothing, EndsLawfully, on_files}
 use Rattle.flm_cli.specs.Comparison.{ComparisonLeaves, Found, IsDue}
 use Rattle.command_answers.specs.Reading.{AnswersFiles}
 
--- The cells of regions against an image. The cells of one region follow those of the one before it, and the place of a cell is its number
--- among all.
-
--- the address of a place
-abbrev pub address_at : List Region → ℕ → Option ℕ
-address_at [] place = None
-address_at (region ∷ regions) place = if nat_lt place region.size then Some (region.base + place) else address_at regions (place - region.size)
+-- The cells of regions against an image.
 
 -- the byte that is wanted at a place
 abbrev pub wanted_at : List Region → List Run → ℕ → Option ℕ

@@ -4,7 +4,7 @@ ghost use Rattle.command_words.specs.Files.{FilesAsked};
 ghost use Rattle.command_words.specs.Words.{program};
 ghost use Rattle.command_files.specs.Inputs.{FilesGiven};
 ghost use Rattle.command_files.specs.Files.{Aim};
-ghost use Rattle.job_commands.specs.Program.{HasAlgorithm};
+ghost use Rattle.job_commands.specs.Program.{HasTexts};
 ghost use Rattle.job_commands.specs.Law.{AllAnswer, IsFirst, IsSafeFrom};
 ghost use Rattle.flm_cli.specs.Answers.{Answers, AnswersLater};
 
@@ -14,6 +14,6 @@ use job_commands::Calls;
 /// of which may be stopped at any moment, are a campaign, which is safe: each pair of a file and cells that a stop leaves is untouched,
 /// whole or finished with the one job of the first call, and each later call that answers 0 leaves its goal.
 pub fn calls_of_flmprog_are_safe<C: Calls>()
-    ensures { (asked : FilesAsked) (end : ℕ) (files : FilesGiven) (aim : Aim) (has : HasAlgorithm files aim) → Answers C.first (Some (program asked))
-        → IsFirst asked C.first end files aim → AllAnswer AnswersLater C.later → IsSafeFrom C.first end files aim has C.later }
+    ensures { (asked : FilesAsked) (end : ℕ) (files : FilesGiven) (aim : Aim) → HasTexts files aim → Answers C.first (Some (program asked))
+        → IsFirst asked C.first end files aim → AllAnswer AnswersLater C.later → IsSafeFrom C.first end files aim C.later }
 {}

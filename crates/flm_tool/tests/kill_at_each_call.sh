@@ -2,17 +2,21 @@
 # Kills the built program at each of the first system calls of a `program` over real files, one run for each call. After each kill the device is
 # untouched, the job is whole in its file, or the job is finished; a job that is whole is resumed on one copy of both files and reverted on
 # another, and the cells are compared byte for byte.
-#   bash tests/kill_at_each_call.sh [PROGRAM [CALLS]]        (from crates/flm_tool; else out/flm_tool and 1,000 calls)
+#   bash tests/kill_at_each_call.sh [PROGRAM [CALLS [REGIONS [STEP]]]]
+#                              (from crates/flm_tool; else out/flm_tool, 1,000 calls, 1 region, and each call)
+# With 2 for REGIONS the device has 64 KiB and an information region of 2 KiB, each with an algorithm of its own; then one call of STEP is
+# killed.
 # It wants strace (of Debian's strace). It works in a folder of its own, which it leaves where something is wrong, and ends with status 0 where
 # all is as wanted.
 set -u
 program=$(realpath "${1:-out/flm_tool}") || exit 1
 calls=${2:-1000}
+regions=${3:-1}
+step=${4:-1}
 data=$(realpath ../session_vectors/data) || exit 1
+small=$(realpath ../file_jobs/data) || exit 1
 folder=$(mktemp -d) || exit 1
 cd "$folder" || exit 1
-cp "$data/windows.toml" board.toml
-cp "$data/a1_windows.flm" a1.flm
 right=0
 wrong=0
 
@@ -35,13 +39,71 @@ free() {
     echo $?
 }
 
+# Puts bytes, given as pairs of digits, into a FILE from an OFFSET on.
+patch() {
+    # shellcheck disable=SC2059
+    printf "$(echo "$3" | sed 's/../\\x&/g')" | dd status=none of="$1" bs=1 seek="$2" conv=notrunc
+}
+
+# A record of Intel HEX, of its bytes but the sum as pairs of digits.
+record() {
+    local sum=0 at
+    for ((at = 0; at < ${#1}; at += 2)); do
+        sum=$((sum + 0x${1:at:2}))
+    done
+    printf ':%s%02X\n' "$1" $((-sum & 255))
+}
+
+# The records of a FILE from an ADDRESS on, which lie in one stretch of 64 KiB.
+records() {
+    local at=$(($2 & 65535)) line
+    record "$(printf '02000004%04X' $(($2 >> 16)))"
+    while read -r line; do
+        record "$(printf '%02X%04X00%s' $((${#line} / 2)) $at "$line")"
+        at=$((at + ${#line} / 2))
+    done < <(od -An -v -tx1 -w16 "$1" | tr -d ' ' | tr a-f A-F)
+}
+
 # The device, all used; an image of 1,000 bytes in two of its sectors; and the cells that they come to.
-size=$((13 * 768))
-head -c $size /dev/urandom > old
-head -c 1000 /dev/urandom > image
-cp old new
-dd status=none if=image of=new bs=1 seek=1000 conv=notrunc
-words=(job cells program --raw-at 0x080003E8 board.toml a1.flm image)
+one_region() {
+    size=$((13 * 768))
+    cp "$data/windows.toml" board.toml
+    cp "$data/a1_windows.flm" a1.flm
+    head -c $size /dev/urandom > old
+    head -c 1000 /dev/urandom > image
+    cp old new
+    dd status=none if=image of=new bs=1 seek=1000 conv=notrunc
+    words=(job cells program --raw-at 0x080003E8 board.toml a1.flm image)
+}
+
+# The same on two regions, with 300 bytes more in the second one. The algorithm of 4 sectors of 256 bytes has its base at 360, its size at 364 and
+# the size of its sectors at 388.
+two_regions() {
+    size=$((65536 + 2048))
+    {
+        printf '[ram]\nbase = 0x20000000\nsize = 4096\n[[region]]\nbase = 0x08000000\nsectors = [[64, 1024]]\n'
+        printf '[[region]]\nbase = 0x1FFFF000\nsectors = [[2, 1024]]\n[controller]\nbase = 0x40022000\n'
+    } > board.toml
+    cp "$small/a1.flm" a1.flm
+    patch a1.flm 364 00000100
+    patch a1.flm 388 00040000
+    cp a1.flm info.flm
+    patch info.flm 360 00F0FF1F00080000
+    head -c $size /dev/urandom > old
+    head -c 1000 /dev/urandom > image
+    head -c 300 /dev/urandom > more
+    cp old new
+    dd status=none if=image of=new bs=1 seek=1000 conv=notrunc
+    dd status=none if=more of=new bs=1 seek=$((65536 + 900)) conv=notrunc
+    {
+        records image $((0x080003E8))
+        records more $((0x1FFFF384))
+        echo ':00000001FF'
+    } > both.hex
+    words=(job cells program board.toml a1.flm info.flm both.hex)
+}
+
+if [ "$regions" = 2 ]; then two_regions; else one_region; fi
 
 # The files as they are before.
 begin() {
@@ -98,10 +160,13 @@ look() {
 # Kills a run at each call, found by its name and by how many of this name came before.
 declare -A seen
 killed=0
+reached=0
 while read -r name; do
     seen[$name]=$((${seen[$name]:-0} + 1))
+    reached=$((reached + 1))
+    if [ $((reached % step)) != 0 ]; then continue; fi
     killed=$((killed + 1))
-    at="call $killed, $name ${seen[$name]}"
+    at="call $reached, $name ${seen[$name]}"
     begin
     (
         strace -o /dev/null --inject="$name:signal=KILL:when=${seen[$name]}" "$program" "${words[@]}" > out 2> err
@@ -112,8 +177,8 @@ while read -r name; do
 done < names
 
 echo "$killed kills: $untouched times untouched, $whole times whole, $finished times finished"
-row 'as many kills as calls' "$([ $killed -gt 0 ] && [ $killed = "$(wc -l < names)" ]; echo $?)"
-if cmp -s all names; then
+row 'as many kills as calls' "$([ $killed -gt 0 ] && [ $killed = $(($(wc -l < names) / step)) ]; echo $?)"
+if [ "$step" = 1 ] && cmp -s all names; then
     row 'each of the three came' "$([ $untouched -gt 0 ] && [ $whole -gt 0 ] && [ $finished -gt 0 ]; echo $?)"
 fi
 echo "$right right, $wrong wrong"

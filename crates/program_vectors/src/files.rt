@@ -1,8 +1,8 @@
 //! The files that stand under names.
 
-use anyhow::{Result, bail};
+use anyhow::{Result, bail, ensure};
 use board_file::read_board;
-use flm_forge::{Kind, forge, listing};
+use flm_forge::{Kind, forge, listing_at};
 use octets::{Bytes, Word};
 use outside_io::MemoryInputs;
 use std::alloc::Global;
@@ -60,21 +60,23 @@ impl Files {
         Ok(inputs)
     }
 
-    /// The FLM file of an algorithm for the board under a name, with pages of so many bytes, whose sectors take so many milliseconds to be
-    /// erased.
-    pub fn forged(
-        &self,
-        alloc: Global,
-        kind: &str,
-        board: &str,
-        page: u32,
-        time: u32,
-    ) -> Result<Bytes> {
+    /// The FLM file of an algorithm for a region of the board under a name.
+    pub fn forged(&self, alloc: Global, kind: &str, board: &str, form: Form) -> Result<Bytes> {
+        let Form { page, time, region } = form;
         let board = read_board(alloc, self.bytes(board)?)?;
-        let mut listing = listing(alloc, kind_of(kind)?, &board, page)?;
+        ensure!(region < board.regions.as_slice().len(), "no such region");
+        let mut listing = listing_at(alloc, kind_of(kind)?, &board, region, page)?;
         listing.to_erase = time;
         Ok(forge(alloc, &listing)?)
     }
+}
+
+/// The bytes of a page, the milliseconds for a sector's erasure, and the region, from 0 on.
+#[derive(Clone, Copy)]
+pub struct Form {
+    pub page: u32,
+    pub time: u32,
+    pub region: usize,
 }
 
 /// Puts a file into a folder.

@@ -1,7 +1,7 @@
 //! A job of random bytes, which is to be measured.
 
 use crate::call::{Outside, answer, words_of};
-use crate::files::{Files, put_file};
+use crate::files::{Files, Form, put_file};
 use crate::trial::Fails;
 use anyhow::{Context, Result, ensure};
 use bench_model::MemoryBench;
@@ -10,10 +10,12 @@ use std::alloc::Global;
 /// The words of the call.
 const CALL: &str = "program --raw-at 0x08000000 board.toml a1.flm image";
 
-/// The bytes of a page, and the milliseconds for a sector's erasure.
-const PAGE: u32 = 1024;
-
-const TO_ERASE: u32 = 500;
+/// The form of the algorithm.
+const FORM: Form = Form {
+    page: 1024,
+    time: 500,
+    region: 0,
+};
 
 /// The most cells: 64 MiB, the longest file that is taken.
 const MOST: usize = 1 << 26;
@@ -104,7 +106,7 @@ fn board_text(alloc: Global, sectors: u32, size: u32) -> Result<String> {
 fn files_of(alloc: Global, board: String, image: Vec<u8>) -> Result<Files> {
     let mut files = Files::new(alloc);
     files.give(alloc, "board.toml", board.into_bytes())?;
-    let flm = files.forged(alloc, "A1", "board.toml", PAGE, TO_ERASE)?;
+    let flm = files.forged(alloc, "A1", "board.toml", FORM)?;
     files.give(alloc, "a1.flm", flm.into_vec())?;
     files.give(alloc, "image", image)?;
     Ok(files)

@@ -1,12 +1,15 @@
 //! The lines of the rows, with numbers in decimal digits and bytes in pairs of hexadecimal ones.
 //!
 //! - `row NAME` begins with 1,024 blank cells, an empty job file and no faults; the files stay.
-//! - `text NAME LINE|LINE..` or `file NAME PATH`: what stands under a name. `forge NAME KIND BOARD PAGE TIME`: the FLM file of an algorithm A1
-//!   to A7 for the board under a name, with pages of so many bytes and as many milliseconds for a sector's erasure.
-//! - `cells COUNT`: so many blank cells. `count LEN` sets each of the first to its place modulo 256. `job BYTES`: the job file.
+//! - `text NAME LINE|LINE..` or `file NAME PATH`: what stands under a name. `forge NAME KIND BOARD PAGE TIME [REGION]`: the FLM file of an
+//!   algorithm A1 to A7 for a region, from 0 on, of the board under a name, with pages of so many bytes and as many milliseconds for a sector's
+//!   erasure. With no REGION it is that of the first.
+//! - `cells COUNT`: so many blank cells. `count LEN` sets each of the first to its place modulo 256. `job BYTES`: the job file. `from JOB CELLS`:
+//!   the job file and the cells are files. `spoil BACK` changes the byte of the job file that stands so many places before its end.
 //! - `fail file N`, `fail cells N`, `fail put N`: the call on the job file, the call on the cells or the put on standard output of this number
 //!   fails.
 //! - `run WORDS`: a call on the row's bench. It prints what was put, the status, the cells that aren't as the row began, and the job file.
+//! - `body NAME`: whether the job file is that under a name, but for its first byte.
 //! - `stop CALLS PICK WORDS`: a call on a new bench, which is stopped after so many of its calls that can fail. PICK is `written`, `old` or
 //!   the byte that the stop leaves wherever it may leave any.
 //! - `keep CALLS PICK WORDS`: the row begins with the cells and the job file that such a stop leaves.
@@ -22,6 +25,7 @@
 
 use crate::call::run;
 use crate::failing::{fail_all, fail_pairs};
+use crate::files::Form;
 use crate::job::run_random;
 use crate::stops::{keep, stop, stop_all, stop_tenths};
 use crate::trial::{Trial, bytes_of};
@@ -67,6 +71,7 @@ fn step(
         }
         ["random", sectors, size] => run_random(rt, sectors, size),
         ["forge", name, kind, rest] => forge(rt, trial, name, kind, rest),
+        ["body", name] => same_body(rt, trial, bench, name),
         _ => sweep(rt, trial, line),
     }
 }
@@ -102,12 +107,37 @@ fn run_on(
 /// Puts an FLM file under a name.
 fn forge(rt: &HostRuntime, trial: &mut Trial, name: &str, kind: &str, rest: &str) -> Result<()> {
     let words = rest.split_whitespace().collect::<Vec<&str>>(rt.alloc())?;
-    let [board, page, time] = words.as_slice() else {
-        bail!("{rest}: no board, page and time");
+    let (board, page, time, region) = match words.as_slice() {
+        [board, page, time] => (board, page, time, "0"),
+        [board, page, time, region] => (board, page, time, *region),
+        _ => bail!("{rest}: no board, page and time"),
     };
-    let (page, time) = (page.parse::<u32>()?, time.parse::<u32>()?);
-    let flm = trial.files.forged(rt.alloc(), kind, board, page, time)?;
+    let form = Form {
+        page: page.parse::<u32>()?,
+        time: time.parse::<u32>()?,
+        region: region.parse::<usize>()?,
+    };
+    let flm = trial.files.forged(rt.alloc(), kind, board, form)?;
     trial.files.give(rt.alloc(), name, flm.into_vec())
+}
+
+/// Prints whether the job file is that under a name, but for its first byte.
+fn same_body(
+    rt: &HostRuntime,
+    trial: &Trial,
+    bench: &Option<MemoryBench>,
+    name: &str,
+) -> Result<()> {
+    let Some(bench) = bench else {
+        bail!("no bench");
+    };
+    let (body, wanted) = (bench.file().get(1..), trial.files.bytes(name)?.get(1..));
+    if body == wanted {
+        println!(rt; "the job of {name}")?;
+    } else {
+        println!(rt; "another job than that of {name}")?;
+    }
+    Ok(())
 }
 
 /// Changes what a row meets.
@@ -119,6 +149,8 @@ fn change(rt: &HostRuntime, trial: &mut Trial, line: &str) -> Result<()> {
         ["cells", count] => trial.blank(rt.alloc(), count.parse::<usize>()?)?,
         ["count", len] => trial.count(len.parse::<usize>()?),
         ["job", bytes] => trial.job = bytes_of(rt.alloc(), bytes)?,
+        ["from", job, cells] => trial.take(rt.alloc(), job, cells)?,
+        ["spoil", back] => trial.spoil(back.parse::<usize>()?)?,
         ["fail", "file", number] => trial.fails.files = [number.parse::<u64>()?, 0],
         ["fail", "cells", number] => trial.fails.cell = number.parse::<u64>()?,
         ["fail", "put", number] => trial.fails.out = number.parse::<u64>()?,

@@ -1,7 +1,7 @@
 //! What a row meets.
 
 use crate::files::Files;
-use anyhow::{Result, bail};
+use anyhow::{Context, Result, bail};
 use bench_model::MemoryBench;
 use octets::hex_pair;
 use std::alloc::Global;
@@ -77,6 +77,21 @@ impl Trial {
                 *cell = (place % 256) as u8;
             }
         }
+    }
+
+    /// The job file and the cells are the files under two names.
+    pub fn take(&mut self, alloc: Global, job: &str, cells: &str) -> Result<()> {
+        self.job = Vec::from_slice(alloc, self.files.bytes(job)?)?;
+        self.cells = Vec::from_slice(alloc, self.files.bytes(cells)?)?;
+        Ok(())
+    }
+
+    /// Changes the byte of the job file that stands so many places before its end.
+    pub fn spoil(&mut self, back: usize) -> Result<()> {
+        let place = self.job.len().checked_sub(back).context("no such byte")?;
+        let byte = self.job.get_mut(place).context("no such byte")?;
+        *byte = !*byte;
+        Ok(())
     }
 
     /// A bench as the row begins.

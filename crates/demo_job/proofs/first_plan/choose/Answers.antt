@@ -1,9 +1,10 @@
 use Rattle.std.proofs.Common.{◌≡◌, ◌∙◌, sym, ap, ℕ, List, length}
-use Rattle.byte_map.specs.Image.{over}
 use Rattle.page_geometry.specs.Layout.{Layout}
-use Rattle.demo_job.specs.Made.{cells_of, image_of}
+use Rattle.demo_job.specs.Made.{cells_of}
+use Rattle.demo_job.specs.Run.{work_of}
+use Rattle.demo_job.specs.Scene.{target_of}
 use Rattle.demo_job.proofs.MadeLemmas.{length-cells}
-use Rattle.demo_job.proofs.PlanLemmas.{chosen_as, length-laid}
+use Rattle.demo_job.proofs.PlanLemmas.{chosen_as, length-laid, laid_over, all_part}
 use Rattle.demo_job.proofs.first_plan.choose.Goals as goal
 
 pub plan_into-requires : goal.plan_into-requires
@@ -21,7 +22,10 @@ pub returns : goal.returns
 returns c =
     let seed = c.args.seed in
     let scene = c.requires.scene in
+    let t = target_of c.args.scene.now.target in
+    let goal_is = laid_over seed t scene.suits.fit scene.base scene.size in
     c.plan_into.ensures.least.chosen
     ∙ chosen_as c.args.scene.now.target.board.weights c.args.scene.now.target.algorithm.device.empty c.requires.geometry c.is_some.ensures
-    (c.deref.ensures.value ∙ scene.cells)
-    (c.deref-2.ensures.value ∙ scene.goal ∙ ap (λ (n : ℕ). over (image_of seed) n (cells_of seed)) (sym scene.base))
+    (c.deref.ensures.value ∙ scene.cells ∙ sym (all_part t.board t.algorithm (cells_of seed) scene.size (length-cells seed)))
+    (c.deref-2.ensures.value ∙ scene.goal ∙ sym goal_is
+    ∙ sym (all_part t.board t.algorithm (work_of seed t).goal scene.size (ap (λ (l : List ℕ). length l) goal_is ∙ length-laid seed)))

@@ -1,4 +1,4 @@
-use Rattle.std.proofs.Common.{◌∙◌, sym, subst, List, IsTrue}
+use Rattle.std.proofs.Common.{◌∙◌, sym, subst, List, [], ◌∷◌, IsTrue}
 use Rattle.bench_model.specs.Stopped.{stopped}
 use Rattle.byte_map.specs.Image.{Run}
 use Rattle.job_text.specs.Fits.{Suits}
@@ -7,6 +7,7 @@ use Rattle.command_answers.specs.Call.{bench_call, Answer}
 use Rattle.job_commands.specs.Steps.{BeginsParts, BenchCounted, has_begin}
 use Rattle.demo_job.specs.Run.{silence, answer_in}
 use Rattle.demo_job.specs.Scene.{target_of}
+use Rattle.demo_job.proofs.PlanLemmas.{board_size}
 use Rattle.demo_job.proofs.RunLemmas.{parts_of}
 use Rattle.demo_job.proofs.run.begin_stopped.Goals as goal
 
@@ -14,8 +15,8 @@ pub begin_job-requires : goal.begin_job-requires
 begin_job-requires g c =
     let t = target_of c.args.scene.now.target in
     let scene = c.requires in
-    parts_of t c.parts.result scene.target (subst (λ (i : List Run). Suits t.board t.algorithm i) (sym c.parts.ensures.image) scene.suits)
-    c.parts.ensures.board c.parts.ensures.flm (sym c.parts.ensures.size)
+    parts_of t c.parts.result scene.target (subst (λ (i : List Run). Suits t.board (t.algorithm ∷ []) i) (sym c.parts.ensures.image) scene.suits)
+    c.parts.ensures.board c.parts.ensures.flm c.parts.ensures.second (board_size t.board t.algorithm scene.suits.fit ∙ sym c.parts.ensures.size)
 
 pub returns : goal.returns
 returns g c =
@@ -32,6 +33,7 @@ returns g c =
       its_parts = record {
         board = c.parts.ensures.board;
         flm = c.parts.ensures.flm;
+        second = c.parts.ensures.second;
         image = c.parts.ensures.image ∙ scene.image;
         size = sym c.parts.ensures.size;
         all = c.parts.ensures.size ∙ scene.size;

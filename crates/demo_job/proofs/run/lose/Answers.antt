@@ -1,4 +1,4 @@
-use Rattle.std.proofs.Common.{◌≡◌, ◌∙◌, refl, sym, subst, true, List}
+use Rattle.std.proofs.Common.{◌≡◌, ◌∙◌, refl, sym, subst, true, List, [], ◌∷◌}
 use Rattle.bench_model.specs.State.{Left}
 use Rattle.bench_model.specs.Loss.{IsPicked, after_loss}
 use Rattle.bench_model.specs.Shown.{shown, bench_of}
@@ -9,6 +9,7 @@ use Rattle.job_text.specs.Fits.{Suits}
 use Rattle.demo_job.specs.Run.{answer_in}
 use Rattle.demo_job.specs.Scene.{target_of}
 use Rattle.demo_job.proofs.MadeLemmas.{length-cells}
+use Rattle.demo_job.proofs.PlanLemmas.{board_size}
 use Rattle.demo_job.proofs.RunLemmas.{begun_of, want_is_one}
 use Rattle.demo_job.proofs.run.lose.Goals as goal
 
@@ -22,8 +23,8 @@ returns c =
     let begun = c.begin_stopped-stopped.result.bench in
     let lost = c.power_loss.new.self in
     let answer = answer_in c.begin_stopped-stopped.result.refusal in
-    let suits = subst (λ (i : List Run). Suits t.board t.algorithm i) (sym (its.image ∙ sym scene.image)) scene.suits in
-    let of = begun_of seed t over.first begun c.args.bench answer over.parts over.inner c.requires.fresh scene.target suits its.board its.flm its.image its.size its.all (length-cells seed)
+    let suits = subst (λ (i : List Run). Suits t.board (t.algorithm ∷ []) i) (sym (its.image ∙ sym scene.image)) scene.suits in
+    let of = begun_of seed t over.first begun c.args.bench answer over.parts over.inner c.requires.fresh scene.target suits its.board its.flm its.second its.image (board_size t.board t.algorithm scene.suits.fit ∙ its.size) its.all (length-cells seed)
     (over.begins refl) in
     let inner = c.into_inner-bench.ensures.inner in
     record {

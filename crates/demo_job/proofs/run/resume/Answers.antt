@@ -33,7 +33,7 @@ returns c fresh is_fresh is_lost =
       resumes = resumes;
       status_is = c.status.ensures;
       same = same;
-      zero = λ zero. same.1 (done_laid seed t fresh lost after is_fresh is_lost scene.base
+      zero = λ zero. same.1 (done_laid seed t fresh lost after is_fresh is_lost scene.base scene.size
           (subst (λ (a : Answer). GoesOnFrom New (bench_call true (bench_of lost) (bench_of after)) silence a) (zero_done end (sym c.status.ensures ∙ zero))
           ((resumes no_inputs takes_none).told refl)));
     }
