@@ -1,7 +1,7 @@
 -- Regions that are counted one after the other are too big exactly where all of them together are.
-use Rattle.std.proofs.Common.{◌≡◌, ◌≤◌, ◌<◌, ◌+◌, ℕ, Bool, true, false, ◌||◌, nat_lt, List, [], ◌∷◌, Result, Ok, Err, if◌then◌else◌, refl, ap, sym, ◌∙◌, arith}
+use Rattle.std.proofs.Common.{◌≡◌, ◌≤◌, ◌<◌, ◌+◌, ℕ, Bool, true, false, ◌||◌, nat_lt, List, [], ◌∷◌, Result, Ok, Err, if◌then◌else◌, refl, ap, ◌∙◌, arith}
 use Rattle.std.specs.List.{list_any}
-use Rattle.std.proofs.lemmas.Bool.{cases_lt, ltb-true, ltb-false, lt-ltb, le-ltb}
+use Rattle.std.proofs.lemmas.Bool.{ltb-true, ltb-false, lt-ltb, le-ltb}
 use Rattle.std.proofs.lemmas.List.Sums.{sum_by-cons}
 use Rattle.faults.specs.Results.{◌>>=◌}
 use Rattle.board_file.specs.declared.region.Region.{Region}
@@ -9,8 +9,8 @@ use Rattle.board_file.specs.declared.key.Key.TheVariants as key
 use Rattle.board_file.specs.declared.fault.BoardFault.{BoardFault}
 use Rattle.board_file.specs.declared.fault.BoardFault.TheVariants as fault
 use Rattle.board_file.specs.Table.{addresses}
-use Rattle.board_file.specs.Limits.{sectors_of, size_of, sectors_in, is_too_big, are_too_big, most_cells, most_sectors}
-use Rattle.board_file.specs.Small.{are_many, small_region, small_regions, unless_too_big}
+use Rattle.board_file.specs.Limits.{sectors_of, size_of, sectors_in, is_too_big, most_cells, most_sectors}
+use Rattle.board_file.specs.Small.{are_many, small_regions, unless_too_big}
 
 abbrev said : Bool → List Region → Result (List Region) BoardFault
 said big rs = if big then Err (fault.TooBig key.RegionSectors) else Ok rs

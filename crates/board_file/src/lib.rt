@@ -8,9 +8,11 @@ mod arrays;
 mod board;
 mod fault;
 mod key;
+mod kind;
 mod law;
 mod limits;
 mod place;
+mod quiet;
 mod read;
 mod region;
 mod rows;
@@ -21,9 +23,11 @@ mod written;
 pub use board::{Board, Weights};
 pub use fault::BoardFault;
 pub use key::{Key, Part};
+pub use kind::ControllerKind;
 pub use law::{
     boards_have_few_regions, each_place_has_a_sector, each_region_has_its_facts, parts_are_apart,
 };
+pub use quiet::{QuietRange, QuietRanges};
 pub use read::read_board;
 pub use region::{Region, Regions};
 pub use sectors::{SectorRun, Sectors};

@@ -1,10 +1,10 @@
 //! Questions about the texts of boards.
 
 use anyhow::{Context, Result};
-use board_file::{Board, Region, read_board};
+use board_file::{Board, ControllerKind, QuietRange, Region, read_board};
 use std::alloc::Global;
 
-/// Prints what a text says: the board's numbers and regions, or why it is refused.
+/// Prints what a text says: the board's numbers, its regions and quiet ranges, or why it is refused.
 fn put_answer(rt: &HostRuntime, text: &[u8]) -> Result<()> {
     match read_board(rt.alloc(), text) {
         Ok(board) => put_board(rt, &board),
@@ -23,6 +23,8 @@ fn put_board(rt: &HostRuntime, board: &Board) -> Result<()> {
     for region in board.regions.as_slice() {
         put_region(rt, region)?;
     }
+    put_kind(rt, board.kind)?;
+    put_quiet(rt, board.quiet.as_slice())?;
     println!(rt;)?;
     Ok(())
 }
@@ -56,6 +58,22 @@ fn put_region(rt: &HostRuntime, region: &Region) -> Result<()> {
     print!(rt; "{:02X} {}", region.empty, region.unit)?;
     for run in region.sectors.as_slice() {
         print!(rt; " {}x{}", run.count, run.size)?;
+    }
+    Ok(())
+}
+
+/// Prints a kind of controller that isn't FC1.
+fn put_kind(rt: &HostRuntime, kind: ControllerKind) -> Result<()> {
+    if kind == ControllerKind::Fpec {
+        print!(rt; " fpec")?;
+    }
+    Ok(())
+}
+
+/// Prints quiet ranges.
+fn put_quiet(rt: &HostRuntime, ranges: &[QuietRange]) -> Result<()> {
+    for range in ranges {
+        print!(rt; " quiet {:08X} {}", range.base, range.size)?;
     }
     Ok(())
 }

@@ -1,0 +1,11 @@
+use Rattle.std.proofs.Common.{◌≡◌, true, rules, sym}
+use Rattle.toml.specs.View.{items_view}
+use Rattle.board_file.specs.Text.{all_tables}
+use Rattle.board_file.proofs.Items.{as_array-is, table_list-array}
+use Rattle.board_file.proofs.arrays.table_list.Goals as goal
+
+pub returns : goal.returns
+returns c =
+    let items = c.in_ok-items.items.now.items in
+    let all : all_tables (items_view items) ≡ true = search rules in
+    rw (as_array-is _ _ c.in_ok-items.ensures) (sym (table_list-array items all))

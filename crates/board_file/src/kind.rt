@@ -1,0 +1,38 @@
+//! The kinds of flash controllers.
+ghost use Rattle.std.specs.Prelude.{◌≡◌};
+ghost use Rattle.board_file.specs.Limits.{block_of};
+ghost use Rattle.board_file.specs.Text.{kind_named};
+
+/// A kind of flash controller.
+#[derive(Clone, Copy, Debug, PartialEq, Eq)]
+pub enum ControllerKind {
+    /// FC1, this project's own: `"fc1"`.
+    Fc1,
+    /// FPEC, in the manner of the STM32F0 and STM32F1 families: `"fpec"`.
+    Fpec,
+}
+
+impl ControllerKind {
+    /// The bytes of its block of registers.
+    pub fn block(self) -> u32
+        ensures { result ≡ block_of self }
+    {
+        match self {
+            ControllerKind::Fc1 => 32,
+            ControllerKind::Fpec => 64,
+        }
+    }
+
+    /// The kind of a name.
+    pub(crate) fn named(name: &str) -> Option<ControllerKind>
+        ensures { result ≡ kind_named name.now }
+    {
+        if name == "fc1" {
+            return Some(ControllerKind::Fc1);
+        }
+        if name == "fpec" {
+            return Some(ControllerKind::Fpec);
+        }
+        None
+    }
+}
