@@ -31,6 +31,7 @@ fn layout(alloc: Global) -> Result<Layout> {
         program_ticks: 1,
         erase_ticks: 2,
         chip_ticks: 3,
+        quiet: Vec::new(alloc),
     })
 }
 

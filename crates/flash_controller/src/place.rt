@@ -1,7 +1,6 @@
 //! What an access goes to.
 ghost use Rattle.std.specs.Prelude.{◌≡◌, IsTrue};
-ghost use Rattle.flash_layout.specs.Maps.{map_of};
-ghost use Rattle.flash_controller.specs.Places.{place_of, is_register, PlaceInside};
+ghost use Rattle.flash_controller.specs.Places.{fc1_map, place_of, is_register, PlaceInside};
 
 use flash_layout::{Found, Layout};
 
@@ -33,9 +32,9 @@ const BLOCK: u32 = 32;
 /// What an access of so many bytes goes to. The registers take words alone.
 #[tactic(auto, unfolding(crate::specs::Places::place_of))]
 pub fn place_of(layout: &Layout, at: u32, width: u32) -> Place
-    ensures value { result ≡ place_of (map_of layout.now) at width }
+    ensures value { result ≡ place_of (fc1_map layout.now) at width }
     ensures word { IsTrue (is_register result) → width ≡ 4 }
-    ensures inside { PlaceInside (map_of layout.now) at result }
+    ensures inside { PlaceInside (fc1_map layout.now) at result }
 {
     if at >= layout.base && at - layout.base < BLOCK {
         if width != 4 {

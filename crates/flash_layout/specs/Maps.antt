@@ -1,38 +1,55 @@
--- Where everything lies, and how long operations take: what a controller's table needs of a board.
-use Rattle.std.specs.Prelude.{ℕ, List}
+-- Where everything lies, the controller's kind, and how long operations take: what the tables need of a board.
+use Rattle.std.specs.Prelude.{ℕ, Bool, ◌-◌, ◌&&◌, nat_le, nat_lt, List}
+use Rattle.std.specs.List.{list_any}
+use Rattle.board_file.specs.declared.kind.ControllerKind.{ControllerKind}
+use Rattle.board_file.specs.declared.quiet.QuietRange.{QuietRange}
 use Rattle.board_file.specs.declared.sectors.SectorRun.{SectorRun}
 use Rattle.board_file.specs.Shown.{Shown}
 use Rattle.flash_layout.specs.declared.area.Area.{Area}
 use Rattle.flash_layout.specs.declared.layout.Layout.{Layout}
 use Rattle.flash_layout.specs.Areas.{areas_of, runs_of}
 
--- the areas, the sectors of all of them, the address of the controller's registers, and the ticks that programming a
--- unit, erasing a sector and erasing an area take
+-- the controller's kind, the areas, the sectors of all of them, the address of the controller's registers, the ticks that programming a
+-- unit, erasing a sector and erasing an area take, and the quiet ranges
 pub record Map : Type 0 where
+  pub kind : ControllerKind
   pub areas : List Area
   pub runs : List SectorRun
   pub base : ℕ
   pub program_ticks : ℕ
   pub erase_ticks : ℕ
   pub chip_ticks : ℕ
+  pub quiet : List QuietRange
 
-abbrev pub map_of : Layout → Map
-map_of l = record {
+-- the map of a layout, for a controller of this kind
+abbrev pub map_of : ControllerKind → Layout → Map
+map_of kind l = record {
+  kind = kind;
   areas = l.areas.items;
   runs = l.runs.items;
   base = l.base;
   program_ticks = l.program_ticks;
   erase_ticks = l.erase_ticks;
   chip_ticks = l.chip_ticks;
+  quiet = l.quiet.items;
 }
 
--- the map of a board
-abbrev pub board_map : Shown → Map
-board_map b = record {
+-- the map of a board's parts, for a controller of this kind, and of the board
+abbrev pub map_for : ControllerKind → Shown → Map
+map_for kind b = record {
+  kind = kind;
   areas = areas_of b.regions;
   runs = runs_of b.regions;
   base = b.controller_base;
   program_ticks = b.program_ticks;
   erase_ticks = b.erase_ticks;
   chip_ticks = b.chip_ticks;
+  quiet = b.quiet;
 }
+
+abbrev pub board_map : Shown → Map
+board_map b = map_for b.kind b
+
+-- the address lies in one of these quiet ranges
+abbrev pub in_quiet : List QuietRange → ℕ → Bool
+in_quiet ranges at = list_any (λ (q : QuietRange). nat_le q.base at && nat_lt (at - q.base) q.size) ranges

@@ -1,5 +1,5 @@
 -- The operation that runs: the cells that it covers, what it leaves there, and the ticks that it takes.
-use Rattle.std.specs.Prelude.{ℕ, zero, suc, Bool, true, false, nat_eq, nat_le, if◌then◌else◌, ◌/◌, ◌%◌, List, [], ◌∷◌, replicate, Option, Some, None}
+use Rattle.std.specs.Prelude.{ℕ, zero, suc, Bool, false, nat_eq, nat_le, if◌then◌else◌, ◌/◌, ◌%◌, List, [], ◌∷◌, replicate, Option, Some, None}
 use Rattle.bench_model.specs.Calls.{written}
 use Rattle.flash_layout.specs.declared.work.Work.{Work}
 use Rattle.flash_layout.specs.declared.work.Work.TheVariants as work

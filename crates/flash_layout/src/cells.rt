@@ -35,6 +35,7 @@ fn little_endian(bytes: &[u8]) -> u32
 }
 
 /// Reads some cells, at most four, as a number.
+#[inline(always)]
 pub fn read<B: Bench>(bench: &mut B, place: u32, width: u32) -> Result<u32, BusEnd>
     requires width { width ≤ 4 }
     requires range { place + width ≤ (B.state bench.old).cell_count }

@@ -7,7 +7,7 @@ ghost use Rattle.board_file.specs.Limits.{cells_of};
 ghost use Rattle.board_file.specs.Laws.{sector_at};
 
 use crate::{Area, Found, SectorCells};
-use board_file::SectorRun;
+use board_file::{QuietRange, SectorRun};
 
 /// The areas of a board in order, the sectors of all of them in order, the controller's registers and its ticks.
 #[derive(Debug, Drop)]
@@ -24,6 +24,8 @@ pub struct Layout {
     pub erase_ticks: u32,
     /// Ticks that erasing an area takes.
     pub chip_ticks: u32,
+    /// The quiet ranges.
+    pub quiet: Vec<QuietRange>,
 
     pub ghost some_area: { 0 < length areas.items },
     pub ghost areas_fit: { IsTrue (all_fit areas.items) },

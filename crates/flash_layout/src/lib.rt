@@ -12,6 +12,7 @@ mod law;
 mod layout;
 mod lock;
 mod of_board;
+mod quiet;
 mod work;
 
 pub use area::{Area, Found, SectorCells};

@@ -1,7 +1,8 @@
 //! The layout of a board.
 ghost use Rattle.std.specs.Prelude.{◌≡◌, IfOk};
+ghost use Rattle.board_file.specs.declared.kind.ControllerKind.{ControllerKind};
 ghost use Rattle.board_file.specs.Shown.{shown};
-ghost use Rattle.flash_layout.specs.Maps.{board_map, map_of};
+ghost use Rattle.flash_layout.specs.Maps.{map_for, map_of};
 
 use crate::{Area, Layout};
 use board_file::Board;
@@ -11,7 +12,7 @@ use std::alloc::Global;
 impl Layout {
     /// The layout of a board: its regions in order, and the sectors of all of them.
     pub fn of(alloc: Global, board: &Board) -> Result<Layout, OutOfMemory>
-        ensures { IfOk result (λ layout. map_of layout ≡ board_map (shown board.now)) }
+        ensures { IfOk result (λ layout. (kind : ControllerKind) → map_of kind layout ≡ map_for kind (shown board.now)) }
     {
         let mut areas = Vec::new(alloc);
         let mut runs = Vec::new(alloc);
@@ -19,6 +20,8 @@ impl Layout {
             areas.push(Area::of(region))?;
             runs.extend_from_slice(region.sectors.as_slice())?;
         }
+        let mut quiet = Vec::new(alloc);
+        quiet.extend_from_slice(board.quiet.as_slice())?;
         Ok(Layout {
             areas,
             runs,
@@ -26,6 +29,7 @@ impl Layout {
             program_ticks: board.program_ticks,
             erase_ticks: board.erase_ticks,
             chip_ticks: board.chip_ticks,
+            quiet,
         })
     }
 }

@@ -2,9 +2,15 @@
 use Rattle.std.specs.Prelude.{◌-◌, ℕ, Bool, true, false, ◌&&◌, nat_eq, nat_lt, nat_le, if◌then◌else◌, Option, Some, None}
 use Rattle.flash_layout.specs.declared.area.Found.{Found}
 use Rattle.flash_layout.specs.Areas.{find, FoundInside}
-use Rattle.flash_layout.specs.Maps.{Map}
+use Rattle.board_file.specs.declared.kind.ControllerKind.TheVariants as kind
+use Rattle.flash_layout.specs.declared.layout.Layout.{Layout}
+use Rattle.flash_layout.specs.Maps.{Map, map_of}
 use Rattle.fpec_controller.specs.declared.place.Place.{Place}
 use Rattle.fpec_controller.specs.declared.place.Place.TheVariants as place
+
+-- the map of a layout, for this kind of controller
+abbrev pub fpec_map : Layout → Map
+fpec_map l = map_of kind.Fpec l
 
 -- the register at an offset of the block; at 0x18 there is none, and none past 0x20
 abbrev pub register : ℕ → Place

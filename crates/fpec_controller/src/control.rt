@@ -3,9 +3,9 @@ ghost use Rattle.std.specs.Prelude.{◌≡◌, ◌≤◌, ◌<◌, ◌+◌, true
 ghost use Rattle.bench_model.specs.Device.{is_device};
 ghost use Rattle.flash_layout.specs.Areas.{cells_in, sector_of};
 ghost use Rattle.flash_layout.specs.Bench.{Agrees, Touches};
-ghost use Rattle.flash_layout.specs.Maps.{map_of};
 ghost use Rattle.flash_layout.specs.Work.{work_len, range_of};
 ghost use Rattle.fpec_controller.specs.Calls.{Leads};
+ghost use Rattle.fpec_controller.specs.Places.{fpec_map};
 ghost use Rattle.fpec_controller.specs.Table.{control_stored, erases_sector, erases_all, started, is_running};
 
 use crate::fpec::Fpec;
@@ -27,13 +27,13 @@ impl Fpec {
         state: State,
         operation: Operation,
     ) -> Result<(), BusEnd>
-        requires agrees { Agrees B.tells (map_of self.old.layout) (range_of self.old.state.operation) (B.state bench.old) }
+        requires agrees { Agrees B.tells (fpec_map self.old.layout) (range_of self.old.state.operation) (B.state bench.old) }
         requires idle { self.old.state.operation ≡ None }
         requires range { operation.place + work_len operation.work ≤ cells_in self.old.layout.areas.items }
         requires some { 0 < work_len operation.work }
         ensures leads { Leads (record state { operation = Some operation }) self.old.state result self.new.state }
         ensures layout { self.new.layout ≡ self.old.layout }
-        ensures touches { Touches B.tells (map_of self.new.layout) (range_of self.new.state.operation) (B.state bench.old) (B.state bench.new) result }
+        ensures touches { Touches B.tells (fpec_map self.new.layout) (range_of self.new.state.operation) (B.state bench.old) (B.state bench.new) result }
     {
         match bench.cells_open(operation.place, operation.work.len()) {
             Ok(()) => {
@@ -50,12 +50,12 @@ impl Fpec {
     /// A store to CR.
     #[tactic(auto, unfolding(crate::specs::Table::control_stored))]
     pub fn control_stored<B: Bench>(&mut self, bench: &mut B, value: u32) -> Result<(), BusEnd>
-        requires agrees { Agrees B.tells (map_of self.old.layout) (range_of self.old.state.operation) (B.state bench.old) }
-        ensures leads { Leads (control_stored (map_of self.old.layout) self.old.state value) self.old.state result self.new.state }
-        ensures quiet { is_running self.old.state ≡ false → is_running (control_stored (map_of self.old.layout) self.old.state value) ≡ false → is_device result ≡ false }
+        requires agrees { Agrees B.tells (fpec_map self.old.layout) (range_of self.old.state.operation) (B.state bench.old) }
+        ensures leads { Leads (control_stored (fpec_map self.old.layout) self.old.state value) self.old.state result self.new.state }
+        ensures quiet { is_running self.old.state ≡ false → is_running (control_stored (fpec_map self.old.layout) self.old.state value) ≡ false → is_device result ≡ false }
         ensures busy { is_running self.old.state ≡ true → is_device result ≡ false }
         ensures layout { self.new.layout ≡ self.old.layout }
-        ensures touches { Touches B.tells (map_of self.new.layout) (range_of self.new.state.operation) (B.state bench.old) (B.state bench.new) result }
+        ensures touches { Touches B.tells (fpec_map self.new.layout) (range_of self.new.state.operation) (B.state bench.old) (B.state bench.new) result }
     {
         if !self.state.lock.is_unlocked() || self.state.is_running() {
             return Ok(());
@@ -76,13 +76,13 @@ impl Fpec {
     /// Takes this state, and starts the erasure that its PER and MER name.
     #[tactic(auto, unfolding(crate::specs::Table::started))]
     fn start<B: Bench>(&mut self, bench: &mut B, state: State) -> Result<(), BusEnd>
-        requires agrees { Agrees B.tells (map_of self.old.layout) (range_of self.old.state.operation) (B.state bench.old) }
+        requires agrees { Agrees B.tells (fpec_map self.old.layout) (range_of self.old.state.operation) (B.state bench.old) }
         requires idle { self.old.state.operation ≡ None }
         requires still { state.operation ≡ None }
-        ensures leads { Leads (started (map_of self.old.layout) state) self.old.state result self.new.state }
-        ensures quiet { is_running (started (map_of self.old.layout) state) ≡ false → is_device result ≡ false }
+        ensures leads { Leads (started (fpec_map self.old.layout) state) self.old.state result self.new.state }
+        ensures quiet { is_running (started (fpec_map self.old.layout) state) ≡ false → is_device result ≡ false }
         ensures layout { self.new.layout ≡ self.old.layout }
-        ensures touches { Touches B.tells (map_of self.new.layout) (range_of self.new.state.operation) (B.state bench.old) (B.state bench.new) result }
+        ensures touches { Touches B.tells (fpec_map self.new.layout) (range_of self.new.state.operation) (B.state bench.old) (B.state bench.new) result }
     {
         if state.erases_sector && !state.erases_all {
             return self.erase_sector(bench, state);
@@ -96,13 +96,13 @@ impl Fpec {
 
     /// Takes this state, and begins to erase the sector of its AR.
     fn erase_sector<B: Bench>(&mut self, bench: &mut B, state: State) -> Result<(), BusEnd>
-        requires agrees { Agrees B.tells (map_of self.old.layout) (range_of self.old.state.operation) (B.state bench.old) }
+        requires agrees { Agrees B.tells (fpec_map self.old.layout) (range_of self.old.state.operation) (B.state bench.old) }
         requires idle { self.old.state.operation ≡ None }
         requires still { state.operation ≡ None }
-        ensures leads { Leads (erases_sector (map_of self.old.layout) state (sector_of self.old.layout.areas.items self.old.layout.runs.items state.address)) self.old.state result self.new.state }
-        ensures quiet { is_running (erases_sector (map_of self.old.layout) state (sector_of self.old.layout.areas.items self.old.layout.runs.items state.address)) ≡ false → is_device result ≡ false }
+        ensures leads { Leads (erases_sector (fpec_map self.old.layout) state (sector_of self.old.layout.areas.items self.old.layout.runs.items state.address)) self.old.state result self.new.state }
+        ensures quiet { is_running (erases_sector (fpec_map self.old.layout) state (sector_of self.old.layout.areas.items self.old.layout.runs.items state.address)) ≡ false → is_device result ≡ false }
         ensures layout { self.new.layout ≡ self.old.layout }
-        ensures touches { Touches B.tells (map_of self.new.layout) (range_of self.new.state.operation) (B.state bench.old) (B.state bench.new) result }
+        ensures touches { Touches B.tells (fpec_map self.new.layout) (range_of self.new.state.operation) (B.state bench.old) (B.state bench.new) result }
     {
         let Some(sector) = self.layout.sector_of(state.address) else {
             self.state = state;
@@ -119,12 +119,12 @@ impl Fpec {
 
     /// Takes this state, and begins to erase all cells of the first area.
     fn erase_all<B: Bench>(&mut self, bench: &mut B, state: State) -> Result<(), BusEnd>
-        requires agrees { Agrees B.tells (map_of self.old.layout) (range_of self.old.state.operation) (B.state bench.old) }
+        requires agrees { Agrees B.tells (fpec_map self.old.layout) (range_of self.old.state.operation) (B.state bench.old) }
         requires idle { self.old.state.operation ≡ None }
         requires still { state.operation ≡ None }
-        ensures leads { Leads (erases_all (map_of self.old.layout) state self.old.layout.areas.items) self.old.state result self.new.state }
+        ensures leads { Leads (erases_all (fpec_map self.old.layout) state self.old.layout.areas.items) self.old.state result self.new.state }
         ensures layout { self.new.layout ≡ self.old.layout }
-        ensures touches { Touches B.tells (map_of self.new.layout) (range_of self.new.state.operation) (B.state bench.old) (B.state bench.new) result }
+        ensures touches { Touches B.tells (fpec_map self.new.layout) (range_of self.new.state.operation) (B.state bench.old) (B.state bench.new) result }
     {
         let area = self.layout.first();
         let work = Work::Fill {

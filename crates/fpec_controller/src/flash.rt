@@ -5,9 +5,9 @@ ghost use Rattle.bench_model.specs.declared.bench_fault.BusEnd.TheVariants as bu
 ghost use Rattle.flash_layout.specs.Areas.{cells_in};
 ghost use Rattle.flash_layout.specs.Bench.{Accesses, Agrees, Touches};
 ghost use Rattle.flash_layout.specs.Cells.{value_of, cells_at};
-ghost use Rattle.flash_layout.specs.Maps.{map_of};
 ghost use Rattle.flash_layout.specs.Work.{range_of};
 ghost use Rattle.fpec_controller.specs.Calls.{Leads};
+ghost use Rattle.fpec_controller.specs.Places.{fpec_map};
 ghost use Rattle.fpec_controller.specs.Table.{half_of, may_program, programmed};
 
 use crate::fpec::Fpec;
@@ -46,16 +46,16 @@ impl Fpec {
         place: u32,
         value: u32,
     ) -> Result<(), BusEnd>
-        requires agrees { Agrees B.tells (map_of self.old.layout) (range_of self.old.state.operation) (B.state bench.old) }
+        requires agrees { Agrees B.tells (fpec_map self.old.layout) (range_of self.old.state.operation) (B.state bench.old) }
         requires idle { self.old.state.operation ≡ None }
         requires range { place + 2 ≤ cells_in self.old.layout.areas.items }
-        ensures leads { IsTrue B.tells → Leads (programmed (map_of self.old.layout) self.old.state (B.state bench.old).cells place value) self.old.state result self.new.state }
-        ensures elsewhere { may_program self.old.state ≡ false → Leads (programmed (map_of self.old.layout) self.old.state [] place value) self.old.state result self.new.state }
-        ensures zero { half_of value ≡ 0 → Leads (programmed (map_of self.old.layout) self.old.state [] place value) self.old.state result self.new.state }
+        ensures leads { IsTrue B.tells → Leads (programmed (fpec_map self.old.layout) self.old.state (B.state bench.old).cells place value) self.old.state result self.new.state }
+        ensures elsewhere { may_program self.old.state ≡ false → Leads (programmed (fpec_map self.old.layout) self.old.state [] place value) self.old.state result self.new.state }
+        ensures zero { half_of value ≡ 0 → Leads (programmed (fpec_map self.old.layout) self.old.state [] place value) self.old.state result self.new.state }
         ensures device { is_device result ≡ true → self.new.state ≡ self.old.state }
         ensures quiet { may_program self.old.state ≡ false → is_device result ≡ false }
         ensures layout { self.new.layout ≡ self.old.layout }
-        ensures touches { Touches B.tells (map_of self.new.layout) (range_of self.new.state.operation) (B.state bench.old) (B.state bench.new) result }
+        ensures touches { Touches B.tells (fpec_map self.new.layout) (range_of self.new.state.operation) (B.state bench.old) (B.state bench.new) result }
     {
         if !self.state.may_program() {
             return Ok(());

@@ -4,12 +4,13 @@ ghost use Rattle.faults.specs.Counts.{HasCause};
 ghost use Rattle.bench_model.specs.Act.{CellsDrop};
 ghost use Rattle.bench_model.specs.Device.{is_device};
 ghost use Rattle.bench_model.specs.Does.{IsBrokenOff, StaysOpen};
+ghost use Rattle.board_file.specs.declared.kind.ControllerKind.TheVariants as kind;
 ghost use Rattle.board_file.specs.Shown.{shown};
 ghost use Rattle.flash_layout.specs.Areas.{cells_in};
 ghost use Rattle.flash_layout.specs.Bench.{Agrees, Settles, Ticks, Touches, IsWidth};
-ghost use Rattle.flash_layout.specs.Maps.{board_map, map_of};
+ghost use Rattle.flash_layout.specs.Maps.{map_for};
 ghost use Rattle.fpec_controller.specs.Calls.{LoadIs, StoreIs};
-ghost use Rattle.fpec_controller.specs.Places.{place_of};
+ghost use Rattle.fpec_controller.specs.Places.{fpec_map, place_of};
 ghost use Rattle.flash_layout.specs.Work.{range_of, settles, tick_at};
 ghost use Rattle.fpec_controller.specs.Table.{load_row, tick_row, after_reset, done, running, reads, compares, asks};
 
@@ -36,7 +37,7 @@ pub struct Fpec {
 impl Fpec {
     /// The controller of a board, as after a reset.
     pub fn new(alloc: Global, board: &Board) -> Result<Fpec, OutOfMemory>
-        ensures layout { IfOk result (λ fpec. map_of fpec.layout ≡ board_map (shown board.now)) }
+        ensures layout { IfOk result (λ fpec. fpec_map fpec.layout ≡ map_for kind.Fpec (shown board.now)) }
         ensures state { IfOk result (λ fpec. fpec.state ≡ after_reset) }
     {
         let layout = Layout::of(alloc, board)?;
@@ -47,15 +48,15 @@ impl Fpec {
     /// A load of `width` bytes (1, 2 or 4) from the address `at`, a multiple of it: the row's answer, or a device fault.
     #[tactic(auto, unfolding(crate::specs::Table::load_row))]
     pub fn load<B: Bench>(&mut self, bench: &mut B, at: u32, width: u32) -> Result<u32, BusEnd>
-        requires agrees { Agrees B.tells (map_of self.old.layout) (range_of self.old.state.operation) (B.state bench.old) }
+        requires agrees { Agrees B.tells (fpec_map self.old.layout) (range_of self.old.state.operation) (B.state bench.old) }
         requires width { IsWidth width }
         requires aligned { at % width ≡ 0 }
-        ensures row { IsTrue B.tells → LoadIs (map_of self.old.layout) self.old.state (B.state bench.old).cells at width result }
-        ensures elsewhere { reads self.old.state (place_of (map_of self.old.layout) at width) ≡ false → result ≡ load_row (map_of self.old.layout) self.old.state [] at width }
+        ensures row { IsTrue B.tells → LoadIs (fpec_map self.old.layout) self.old.state (B.state bench.old).cells at width result }
+        ensures elsewhere { reads self.old.state (place_of (fpec_map self.old.layout) at width) ≡ false → result ≡ load_row (fpec_map self.old.layout) self.old.state [] at width }
         ensures same { self.new ≡ self.old }
         ensures byte { width ≡ 1 → IfOk result (λ value. value < 2 ^ 8) }
         ensures half { width ≡ 2 → IfOk result (λ value. value < 2 ^ 16) }
-        ensures touches { Touches B.tells (map_of self.old.layout) (range_of self.old.state.operation) (B.state bench.old) (B.state bench.new) result }
+        ensures touches { Touches B.tells (fpec_map self.old.layout) (range_of self.old.state.operation) (B.state bench.old) (B.state bench.new) result }
     {
         match place_of(&self.layout, at, width) {
             Place::AccessControl => Ok(self.state.access_control),
@@ -84,15 +85,15 @@ impl Fpec {
         width: u32,
         value: u32,
     ) -> Result<(), BusEnd>
-        requires agrees { Agrees B.tells (map_of self.old.layout) (range_of self.old.state.operation) (B.state bench.old) }
+        requires agrees { Agrees B.tells (fpec_map self.old.layout) (range_of self.old.state.operation) (B.state bench.old) }
         requires width { IsWidth width }
         requires aligned { at % width ≡ 0 }
-        ensures row { IsTrue B.tells → StoreIs (map_of self.old.layout) self.old.state (B.state bench.old).cells at width value result self.new.state }
-        ensures elsewhere { compares self.old.state width value (place_of (map_of self.old.layout) at width) ≡ false → StoreIs (map_of self.old.layout) self.old.state [] at width value result self.new.state }
-        ensures quiet { asks (map_of self.old.layout) self.old.state width value (place_of (map_of self.old.layout) at width) ≡ false → is_device result ≡ false }
+        ensures row { IsTrue B.tells → StoreIs (fpec_map self.old.layout) self.old.state (B.state bench.old).cells at width value result self.new.state }
+        ensures elsewhere { compares self.old.state width value (place_of (fpec_map self.old.layout) at width) ≡ false → StoreIs (fpec_map self.old.layout) self.old.state [] at width value result self.new.state }
+        ensures quiet { asks (fpec_map self.old.layout) self.old.state width value (place_of (fpec_map self.old.layout) at width) ≡ false → is_device result ≡ false }
         ensures device { is_device result ≡ true → self.new.state ≡ self.old.state }
         ensures layout { self.new.layout ≡ self.old.layout }
-        ensures touches { Touches B.tells (map_of self.new.layout) (range_of self.new.state.operation) (B.state bench.old) (B.state bench.new) result }
+        ensures touches { Touches B.tells (fpec_map self.new.layout) (range_of self.new.state.operation) (B.state bench.old) (B.state bench.new) result }
     {
         match place_of(&self.layout, at, width) {
             Place::AccessControl => {
@@ -126,13 +127,13 @@ impl Fpec {
     /// A tick: the row's state and cells, or a device fault and both as they were.
     #[tactic(auto, unfolding(crate::specs::Table::tick_row))]
     pub fn tick<B: Bench>(&mut self, bench: &mut B) -> Result<(), DeviceFault>
-        requires agrees { Agrees B.tells (map_of self.old.layout) (range_of self.old.state.operation) (B.state bench.old) }
+        requires agrees { Agrees B.tells (fpec_map self.old.layout) (range_of self.old.state.operation) (B.state bench.old) }
         ensures ok { IsTrue B.tells → OnOk result ((self.new.state, (B.state bench.new).cells) ≡ tick_row self.old.state (B.state bench.old).cells) }
         ensures state { OnOk result (self.new.state ≡ (tick_row self.old.state []).0) }
         ensures quiet { settles self.old.state.operation ≡ false → result ≡ Ok tt }
         ensures err { OnErr result (self.new.state ≡ self.old.state) }
         ensures layout { self.new.layout ≡ self.old.layout }
-        ensures ticks { Ticks B.tells (map_of self.new.layout) (range_of self.new.state.operation) (B.state bench.old) (B.state bench.new) result }
+        ensures ticks { Ticks B.tells (fpec_map self.new.layout) (range_of self.new.state.operation) (B.state bench.old) (B.state bench.new) result }
     {
         match self.state.operation {
             None => Ok(()),
@@ -147,14 +148,14 @@ impl Fpec {
         bench: &mut B,
         operation: Operation,
     ) -> Result<(), DeviceFault>
-        requires agrees { Agrees B.tells (map_of self.old.layout) (range_of (Some operation)) (B.state bench.old) }
+        requires agrees { Agrees B.tells (fpec_map self.old.layout) (range_of (Some operation)) (B.state bench.old) }
         requires runs { self.old.state.operation ≡ Some operation }
         ensures ok { IsTrue B.tells → OnOk result ((self.new.state, (B.state bench.new).cells) ≡ tick_at (done self.old.state) (running self.old.state) (B.state bench.old).cells operation operation.ticks) }
         ensures state { OnOk result (self.new.state ≡ (tick_at (done self.old.state) (running self.old.state) [] operation operation.ticks).0) }
         ensures quiet { 1 < operation.ticks → result ≡ Ok tt }
         ensures err { OnErr result (self.new.state ≡ self.old.state) }
         ensures layout { self.new.layout ≡ self.old.layout }
-        ensures ticks { Ticks B.tells (map_of self.new.layout) (range_of self.new.state.operation) (B.state bench.old) (B.state bench.new) result }
+        ensures ticks { Ticks B.tells (fpec_map self.new.layout) (range_of self.new.state.operation) (B.state bench.old) (B.state bench.new) result }
     {
         if operation.ticks > 1 {
             self.state.operation = Some(Operation {
@@ -183,7 +184,7 @@ impl Fpec {
         ensures err_cells { IsTrue B.tells → OnErr result (StaysOpen (B.state bench.old) (B.state bench.new)) }
         ensures layout { self.new.layout ≡ self.old.layout }
         ensures bench { Settles B.tells (B.state bench.old) (B.state bench.new) }
-        ensures agrees { OnOk result (Agrees B.tells (map_of self.new.layout) (range_of self.new.state.operation) (B.state bench.new)) }
+        ensures agrees { OnOk result (Agrees B.tells (fpec_map self.new.layout) (range_of self.new.state.operation) (B.state bench.new)) }
         ensures cause { HasCause (B.state bench.old).device_faults (B.state bench.new).device_faults result }
     {
         match bench.cells_drop() {
