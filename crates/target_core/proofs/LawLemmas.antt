@@ -1,5 +1,5 @@
 -- Runs and slices as wholes: one start has one end, and a run that is cut into slices ends as the run that it is.
-use Rattle.std.proofs.Common.{◌≡◌, ◌≤◌, ◌+◌, ◌-◌, ◌*◌, ◌/◌, ◌%◌, ◌⊎◌, ℕ, false, List, [], ◌∷◌, ⊎_elim, refl, sym, ap, subst, arith, ◌∙◌}
+use Rattle.std.proofs.Common.{◌≡◌, ◌≤◌, ◌+◌, ◌-◌, ◌*◌, ◌/◌, ◌%◌, ℕ, false, List, [], ◌∷◌, ⊎_elim, refl, sym, ap, subst, arith, ◌∙◌}
 use Rattle.bench_model.specs.History.{Leaves}
 use Rattle.bench_model.specs.State.{BenchState, cells_half}
 use Rattle.bench_model.proofs.Moments.{leaves_as, leaves_then}

@@ -9,3 +9,6 @@ pub mod FineLemmas
 pub mod EndLemmas
 pub mod LawLemmas
 pub mod StayLemmas
+pub mod UnitLemmas
+pub mod PlaceLemmas
+pub mod LineLemmas

@@ -1,30 +1,34 @@
 //! What the core sees: the RAM, and the controller with its flash.
-ghost use Rattle.std.specs.Prelude.{◌≡◌, true, IsTrue};
+ghost use Rattle.std.specs.Prelude.{◌≡◌, ◌-◌, ◌^◌, min, true, IsTrue};
 ghost use Rattle.ram_arena.specs.Windows.{begin_of};
 ghost use Rattle.target_core.specs.Windows.{IsRam};
-ghost use Rattle.target_core.specs.Units.{UnitAgrees};
+ghost use Rattle.target_core.specs.Units.{UnitAgrees, unit_state, state_runs};
 
-use crate::place::place;
 use crate::unit::Unit;
 use armv6m_step::Bus;
 use bench_model::{Bench, BusEnd};
 use ram_arena::Arena;
 
 /// The bus of the target, for as long as a slice runs. The RAM is a window of an arena. The bench has the controller's cells, and its open
-/// operation is the controller's.
+/// operation is the controller's. So that a step costs little, it keeps where the window begins, how much of the RAM lies below the end of all
+/// addresses, and whether an operation runs.
 #[derive(Drop)]
 pub(crate) struct Line<'a, B: Bench> {
     pub ram_base: u32,
     pub ram_size: u32,
+    pub reach: u32,
     pub from: usize,
     pub window: usize,
     pub arena: &'a mut Arena,
     pub unit: &'a mut Unit,
     pub bench: &'a mut B,
+    pub runs: bool,
 
+    ghost reaches: { reach ≡ min ram_size (2 ^ 32 - ram_base) },
     ghost begins: { from ≡ begin_of arena.now window },
     ghost ram: { IsRam arena.now window ram_size },
     ghost agrees: { UnitAgrees B.tells unit.now (B.state bench.now) },
+    ghost running: { runs ≡ state_runs (unit_state unit.now) },
 }
 
 #[tactic(auto, unfolding(crate::specs::World::world_answer))]
@@ -37,59 +41,75 @@ impl<'a, B: Bench> Bus for Line<'a, B> {
 
     ghost counted = { λ before access answer after act. act.cause };
 
+    #[inline(always)]
     fn load8(&mut self, at: u32) -> Result<u32, BusEnd> {
-        match place(self.ram_base, self.ram_size, at, 1) {
+        match self.place(at, 1) {
             Some(offset) => Ok(self.arena.load8_from(self.from, self.window, offset)),
-            None => self.unit.load(self.bench, at, 1),
+            None => self.unit.load_or_quiet(self.bench, at, 1),
         }
     }
 
-    // a fetch is one of these
     #[inline(always)]
     fn load16(&mut self, at: u32) -> Result<u32, BusEnd> {
-        match place(self.ram_base, self.ram_size, at, 2) {
+        match self.place(at, 2) {
             Some(offset) => Ok(self.arena.load16_from(self.from, self.window, offset)),
-            None => self.unit.load(self.bench, at, 2),
+            None => self.unit.load_or_quiet(self.bench, at, 2),
         }
     }
 
+    #[inline(always)]
     fn load32(&mut self, at: u32) -> Result<u32, BusEnd> {
-        match place(self.ram_base, self.ram_size, at, 4) {
+        match self.place(at, 4) {
             Some(offset) => Ok(self.arena.load32_from(self.from, self.window, offset)),
-            None => self.unit.load(self.bench, at, 4),
+            None => self.unit.load_or_quiet(self.bench, at, 4),
         }
     }
 
+    #[inline(always)]
     fn store8(&mut self, at: u32, value: u32) -> Result<(), BusEnd> {
-        match place(self.ram_base, self.ram_size, at, 1) {
+        match self.place(at, 1) {
             Some(offset) => {
                 self.arena
                     .store8_from(self.from, self.window, offset, value);
                 Ok(())
             }
-            None => self.unit.store(self.bench, at, 1, value),
+            None => {
+                let end = self.unit.store_or_quiet(self.bench, at, 1, value);
+                self.runs = self.unit.is_running();
+                end
+            }
         }
     }
 
+    #[inline(always)]
     fn store16(&mut self, at: u32, value: u32) -> Result<(), BusEnd> {
-        match place(self.ram_base, self.ram_size, at, 2) {
+        match self.place(at, 2) {
             Some(offset) => {
                 self.arena
                     .store16_from(self.from, self.window, offset, value);
                 Ok(())
             }
-            None => self.unit.store(self.bench, at, 2, value),
+            None => {
+                let end = self.unit.store_or_quiet(self.bench, at, 2, value);
+                self.runs = self.unit.is_running();
+                end
+            }
         }
     }
 
+    #[inline(always)]
     fn store32(&mut self, at: u32, value: u32) -> Result<(), BusEnd> {
-        match place(self.ram_base, self.ram_size, at, 4) {
+        match self.place(at, 4) {
             Some(offset) => {
                 self.arena
                     .store32_from(self.from, self.window, offset, value);
                 Ok(())
             }
-            None => self.unit.store(self.bench, at, 4, value),
+            None => {
+                let end = self.unit.store_or_quiet(self.bench, at, 4, value);
+                self.runs = self.unit.is_running();
+                end
+            }
         }
     }
 }

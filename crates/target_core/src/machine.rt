@@ -5,16 +5,16 @@ ghost use Rattle.bench_model.specs.Calls.{FileStays, written};
 ghost use Rattle.bench_model.specs.Device.{HasDeviceCause};
 ghost use Rattle.bench_model.specs.Does.{IsBrokenOff, StaysOpen};
 ghost use Rattle.board_file.specs.Shown.{shown};
-ghost use Rattle.flash_controller.specs.Table.{after_reset};
 ghost use Rattle.flash_layout.specs.Bench.{Settles};
 ghost use Rattle.flash_layout.specs.Maps.{board_map};
 ghost use Rattle.target_core.specs.Path.{is_device_end, is_device_slice};
 ghost use Rattle.target_core.specs.Runs.{RunGives};
 ghost use Rattle.target_core.specs.Windows.{window_of, IsRam, OnlyIn};
 ghost use Rattle.target_core.specs.Targets.{core_at, fresh_core, with_ram, over, after_start, point_in, SliceGives, GoesOn};
-ghost use Rattle.target_core.specs.Units.{OfFc1, UnitAgrees, unit_cells, unit_map, unit_state, state_reset};
+ghost use Rattle.target_core.specs.Units.{fresh, UnitAgrees, unit_cells, unit_map, unit_state, state_reset};
 
 use crate::line::Line;
+use crate::place::reach;
 use crate::run::{RunEnd, SliceEnd, slice};
 use crate::unit::Unit;
 use armv6m_decode::registers::PC;
@@ -76,7 +76,7 @@ impl Machine {
         ensures base { IfOk result (λ machine. machine.ram_base ≡ board.now.ram_base) }
         ensures size { IfOk result (λ machine. machine.ram_size ≡ board.now.ram_size) }
         ensures map { IfOk result (λ machine. unit_map machine.unit ≡ board_map (shown board.now)) }
-        ensures state { IfOk result (λ machine. unit_state machine.unit ≡ OfFc1 after_reset) }
+        ensures state { IfOk result (λ machine. unit_state machine.unit ≡ fresh board.now.kind) }
         ensures core { IfOk result (λ machine. machine.core ≡ fresh_core) }
         ensures return_at { IfOk result (λ machine. machine.return_at ≡ 0) }
     {
@@ -118,7 +118,7 @@ impl Machine {
     ) -> Result<(), DeviceFault>
         requires window { IsRam arena.old window self.old.ram_size }
         requires cells { (B.state bench.old).cell_count ≡ unit_cells self.old.unit }
-        ensures unit { OnOk result (unit_state self.new.unit ≡ state_reset (unit_state self.old.unit)) }
+        ensures unit { OnOk result (unit_state self.new.unit ≡ state_reset (unit_map self.old.unit)) }
         ensures bytes { OnOk result (window_of arena.new window ≡ replicate self.old.ram_size 0) }
         ensures others { OnlyIn window arena.old arena.new }
         ensures core { OnOk result (self.new.core ≡ fresh_core) }
@@ -147,7 +147,7 @@ impl Machine {
     /// Starts anew, as after a reset, and asks no bench: an operation that is open on one goes on there. No other window changes.
     pub fn restart(&mut self, arena: &mut Arena, window: usize)
         requires { IsRam arena.old window self.old.ram_size }
-        ensures unit { unit_state self.new.unit ≡ state_reset (unit_state self.old.unit) }
+        ensures unit { unit_state self.new.unit ≡ state_reset (unit_map self.old.unit) }
         ensures bytes { window_of arena.new window ≡ replicate self.old.ram_size 0 }
         ensures others { OnlyIn window arena.old arena.new }
         ensures core { self.new.core ≡ fresh_core }
@@ -226,10 +226,13 @@ impl Machine {
         ensures others { OnlyIn window arena.old arena.new }
     {
         let from = arena.begin(window);
+        let runs = self.unit.is_running();
         let mut line = Line {
             from,
             ram_base: self.ram_base,
             ram_size: self.ram_size,
+            reach: reach(self.ram_base, self.ram_size),
+            runs,
             window,
             arena,
             unit: &mut self.unit,

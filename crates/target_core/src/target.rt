@@ -29,20 +29,19 @@ impl Target {
     ghost use Rattle.bench_model.specs.Device.{HasDeviceCause};
     ghost use Rattle.bench_model.specs.Does.{IsBrokenOff, StaysOpen};
     ghost use Rattle.board_file.specs.Shown.{shown};
-    ghost use Rattle.flash_controller.specs.Table.{after_reset};
     ghost use Rattle.flash_layout.specs.Bench.{Settles};
     ghost use Rattle.flash_layout.specs.Maps.{board_map};
     ghost use Rattle.target_core.specs.Path.{is_device_end, is_device_slice};
     ghost use Rattle.target_core.specs.Runs.{RunGives};
     ghost use Rattle.target_core.specs.Targets.{fresh_core, stands, after_start, point_in, SliceGives, GoesOn};
-    ghost use Rattle.target_core.specs.Units.{OfFc1, UnitAgrees, unit_cells, unit_map, unit_state, state_reset};
+    ghost use Rattle.target_core.specs.Units.{fresh, UnitAgrees, unit_cells, unit_map, unit_state, state_reset};
 
     /// The target of a board, as after a reset.
     pub fn new(alloc: Global, board: &Board) -> Result<Target, OutOfMemory>
         ensures ram { IfOk result (λ target. (stands target).ram ≡ replicate board.now.ram_size 0) }
         ensures base { IfOk result (λ target. (stands target).ram_base ≡ board.now.ram_base) }
         ensures map { IfOk result (λ target. unit_map (stands target).unit ≡ board_map (shown board.now)) }
-        ensures state { IfOk result (λ target. unit_state (stands target).unit ≡ OfFc1 after_reset) }
+        ensures state { IfOk result (λ target. unit_state (stands target).unit ≡ fresh board.now.kind) }
         ensures core { IfOk result (λ target. (stands target).core ≡ fresh_core) }
         ensures return_at { IfOk result (λ target. (stands target).return_at ≡ 0) }
     {
@@ -62,7 +61,7 @@ impl Target {
     /// fault all is as it was.
     pub fn reset<B: Bench>(&mut self, bench: &mut B) -> Result<(), DeviceFault>
         requires { (B.state bench.old).cell_count ≡ unit_cells (stands self.old).unit }
-        ensures unit { OnOk result (unit_state (stands self.new).unit ≡ state_reset (unit_state (stands self.old).unit)) }
+        ensures unit { OnOk result (unit_state (stands self.new).unit ≡ state_reset (unit_map (stands self.old).unit)) }
         ensures ram { OnOk result ((stands self.new).ram ≡ replicate (length (stands self.old).ram) 0) }
         ensures core { OnOk result ((stands self.new).core ≡ fresh_core) }
         ensures map { unit_map (stands self.new).unit ≡ unit_map (stands self.old).unit }
@@ -81,7 +80,7 @@ impl Target {
 
     /// Starts anew, as after a reset, and asks no bench: an operation that is open on one goes on there.
     pub fn restart(&mut self)
-        ensures unit { unit_state (stands self.new).unit ≡ state_reset (unit_state (stands self.old).unit) }
+        ensures unit { unit_state (stands self.new).unit ≡ state_reset (unit_map (stands self.old).unit) }
         ensures ram { (stands self.new).ram ≡ replicate (length (stands self.old).ram) 0 }
         ensures core { (stands self.new).core ≡ fresh_core }
         ensures map { unit_map (stands self.new).unit ≡ unit_map (stands self.old).unit }

@@ -6,6 +6,7 @@
 //!
 //! - `new CODE FAIL`: a target of 256 bytes of RAM from 0x20000000 on with this code at its beginning, and 8 blank cells from 0x08000000 on.
 //!   The cell call of the number FAIL fails, or none at 0.
+//! - `new CODE FAIL fpec`: the same with the controller FPEC, and with a quiet range of 1,024 bytes from 0x40021000 on.
 //! - `word AT VALUE`: a word is stored to a register of the controller.
 //! - `run PC R0 R1 FUEL`: the code is run from the place PC on, and returns to 0x20000040. It prints how the run ended.
 //! - `slices PC R0 R1 FUEL STEPS`: the same in slices of so many steps. It prints also what is left of the fuel, and whether the registers are

@@ -3,7 +3,7 @@
 use crate::measured::measure;
 use crate::pair::{Left, Pair, alone};
 use crate::put::{put_cells, put_end};
-use crate::trial::{Trial, frame};
+use crate::trial::{Trial, board, fpec_board, frame};
 use anyhow::{Context, Result, bail, ensure};
 use std::alloc::Global;
 use std::str;
@@ -146,9 +146,13 @@ fn step(rt: &HostRuntime, trial: &mut Trial, line: &str) -> Result<()> {
 fn go_through_one(rt: &HostRuntime, text: &str) -> Result<()> {
     let (code, text) = text.split_once(' ').context("a target is CODE FAIL")?;
     let (fail, text) = text.split_once('\n').context("a target is CODE FAIL")?;
+    let (fail, board) = match fail.strip_suffix(" fpec") {
+        Some(fail) => (fail, fpec_board(rt.alloc())?),
+        None => (fail, board(rt.alloc())?),
+    };
     let fail = fail.parse::<u64>()?;
     let code = bytes(rt.alloc(), code)?;
-    let mut trial = Trial::new(rt.alloc(), &code, fail)?;
+    let mut trial = Trial::new(rt.alloc(), &board, &code, fail)?;
     for line in text.lines() {
         step(rt, &mut trial, line)?;
     }

@@ -17,6 +17,12 @@ const BOARD: &str = "ram = { base = 0x20000000, size = 256 }
 region = [{ base = 0x08000000, sectors = [[2, 4]] }]
 controller.base = 0x40022000";
 
+/// The same with the controller FPEC, and with a quiet range.
+const FPEC_BOARD: &str = "ram = { base = 0x20000000, size = 256 }
+region = [{ base = 0x08000000, sectors = [[2, 4]] }]
+controller = { base = 0x40022000, kind = \"fpec\" }
+quiet = [{ base = 0x40021000, size = 1024 }]";
+
 /// Where runs return to.
 const BACK: u32 = 0x2000_0040;
 
@@ -33,15 +39,20 @@ pub struct Trial {
     ghost agrees: { UnitAgrees true (stands target).unit (bench_of bench) },
 }
 
-/// The board.
+/// The board with the controller FC1.
 pub fn board(alloc: Global) -> Result<Board> {
     Ok(read_board(alloc, BOARD.as_bytes())?)
 }
 
+/// The board with FPEC.
+pub fn fpec_board(alloc: Global) -> Result<Board> {
+    Ok(read_board(alloc, FPEC_BOARD.as_bytes())?)
+}
+
 impl Trial {
-    /// A target with this code at the beginning of its RAM, over blank cells. The cell call of this number fails.
-    pub fn new(alloc: Global, code: &[u8], fail: u64) -> Result<Trial> {
-        let mut target = Target::new(alloc, &board(alloc)?)?;
+    /// A target of a board with this code at the beginning of its RAM, over blank cells. The cell call of this number fails.
+    pub fn new(alloc: Global, board: &Board, code: &[u8], fail: u64) -> Result<Trial> {
+        let mut target = Target::new(alloc, board)?;
         if target.machine.unit.cells() as usize != CELLS
             || code.len() > target.machine.ram_size as usize
         {

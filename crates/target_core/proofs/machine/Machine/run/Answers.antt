@@ -1,6 +1,6 @@
 use Rattle.std.proofs.Common.{subst}
 use Rattle.target_core.specs.Runs.{RunGives}
-use Rattle.target_core.specs.Targets.{over, after_start, point_in}
+use Rattle.target_core.specs.Targets.{over, point_in}
 use Rattle.target_core.specs.declared.machine.Machine.{Machine}
 use Rattle.target_core.proofs.EndLemmas.{run_of_slice}
 use Rattle.target_core.proofs.machine.Machine.run.Goals as goal
