@@ -2,9 +2,8 @@
 ghost use Rattle.std.specs.Prelude.{◌≡◌, ◌≤◌, true, length, IfOk};
 ghost use Rattle.bench_model.specs.Shown.{bench_of};
 ghost use Rattle.board_file.specs.Shown.{shown as board_of};
-ghost use Rattle.flash_controller.specs.Table.{after_reset};
 ghost use Rattle.flash_layout.specs.Maps.{board_map};
-ghost use Rattle.target_core.specs.Units.{OfFc1, unit_cells, unit_map, unit_state};
+ghost use Rattle.target_core.specs.Units.{fresh, unit_cells, unit_map, unit_state};
 ghost use Rattle.algo_calls.specs.Shows.{setup_at, AgreesAt, Fits, MayAsk};
 
 use crate::watch::{Area, Watch};
@@ -37,7 +36,7 @@ fn machine_of(alloc: Global, board: &Board, cells: usize) -> Result<Machine>
     ensures size { IfOk result (λ m. m.ram_size ≡ (board_of board.now).ram_size) }
     ensures map { IfOk result (λ m. unit_map m.unit ≡ board_map (board_of board.now)) }
     ensures cells { IfOk result (λ m. unit_cells m.unit ≡ cells) }
-    ensures fresh { IfOk result (λ m. unit_state m.unit ≡ OfFc1 after_reset) }
+    ensures fresh { IfOk result (λ m. unit_state m.unit ≡ fresh (board_of board.now).kind) }
 {
     let machine = Machine::new(alloc, board)?;
     if machine.unit.cells() as usize != cells {

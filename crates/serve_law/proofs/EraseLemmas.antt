@@ -1,5 +1,5 @@
 -- EraseSector and EraseChip, by induction on the ticks left.
-use Rattle.std.proofs.Common.{◌≡◌, ◌+◌, ◌-◌, ◌<◌, ◌≤◌, ◌^◌, ◌%◌, ℕ, zero, suc, Bool, true, false, List, [], ◌∷◌, ◌++◌, length, replicate, Option, Some, refl, sym, ap, subst, arith}
+use Rattle.std.proofs.Common.{◌≡◌, ◌+◌, ◌<◌, ◌≤◌, ◌^◌, ◌%◌, ℕ, zero, suc, Bool, true, false, List, [], ◌∷◌, ◌++◌, length, replicate, Option, Some, refl, sym, ap, subst, arith}
 use Rattle.bench_model.specs.Calls.{written}
 use Rattle.armv6m_step.specs.declared.core_state.Core.{Core}
 use Rattle.flm_descriptor.specs.Shape.{Range, range}

@@ -79,5 +79,7 @@ fn main(rt: HostRuntime) -> Result<()> {
     put_all(&rt, "small", &SMALL)?;
     put_all(&rt, "demo", &[(Kind::A1, 1024)])?;
     put_all(&rt, "unit_4", &[(Kind::A1, 64)])?;
+    put_all(&rt, "fpec", &[(Kind::A1, 64), (Kind::F1, 64)])?;
+    put_all(&rt, "quiet", &[(Kind::A1, 64)])?;
     put_code(&rt)
 }

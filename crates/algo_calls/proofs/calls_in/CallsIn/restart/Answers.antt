@@ -1,4 +1,3 @@
-use Rattle.std.proofs.Common.{ℕ, replicate, ap, ◌∙◌}
 use Rattle.algo_calls.specs.Shows.{setup_at, world_at}
 use Rattle.algo_calls.proofs.ResetLemmas.{restart_of}
 use Rattle.algo_calls.proofs.calls_in.CallsIn.restart.Goals as goal
