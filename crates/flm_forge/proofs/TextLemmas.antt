@@ -17,32 +17,32 @@ text_then a b t behind = flat_map-append (λ line. line ++ 10 ∷ []) a b ∙ ap
 -- the text of a kind, part by part
 pub text_split : (kind : Kind) (base : ℕ)
     → text_of (lines kind base)
-    ≡ text_of init_lines ++ (text_of (un_init_first kind ∷ []) ++ (text_of un_init_lines ++ (text_of (erase_chip_lines kind)
-    ++ (text_of (erase_sector_lines kind) ++ (text_of erase_lines ++ (text_of (program_page_first kind) ++ (text_of program_page_lines
+    ≡ text_of (init_lines kind) ++ (text_of (un_init_first kind ∷ []) ++ (text_of (un_init_lines kind) ++ (text_of (erase_chip_lines kind)
+    ++ (text_of (erase_sector_lines kind) ++ (text_of (erase_lines kind) ++ (text_of (program_page_first kind) ++ (text_of (program_page_lines kind)
     ++ (text_of verify_lines ++ (text_of (lie_lines kind) ++ text_of (constant_lines base))))))))))
 text_split kind base =
     let l10 = constant_lines base in
     let l9 = lie_lines kind ++ l10 in
     let l8 = verify_lines ++ l9 in
-    let l7 = program_page_lines ++ l8 in
+    let l7 = program_page_lines kind ++ l8 in
     let l6 = program_page_first kind ++ l7 in
-    let l5 = erase_lines ++ l6 in
+    let l5 = erase_lines kind ++ l6 in
     let l4 = erase_sector_lines kind ++ l5 in
     let l3 = erase_chip_lines kind ++ l4 in
-    let l2 = un_init_lines ++ l3 in
+    let l2 = un_init_lines kind ++ l3 in
     let l1 = (un_init_first kind ∷ []) ++ l2 in
     let t9 = text_of (lie_lines kind) ++ text_of l10 in
     let t8 = text_of verify_lines ++ t9 in
-    let t7 = text_of program_page_lines ++ t8 in
+    let t7 = text_of (program_page_lines kind) ++ t8 in
     let t6 = text_of (program_page_first kind) ++ t7 in
-    let t5 = text_of erase_lines ++ t6 in
+    let t5 = text_of (erase_lines kind) ++ t6 in
     let t4 = text_of (erase_sector_lines kind) ++ t5 in
     let t3 = text_of (erase_chip_lines kind) ++ t4 in
-    let t2 = text_of un_init_lines ++ t3 in
+    let t2 = text_of (un_init_lines kind) ++ t3 in
     let t1 = text_of (un_init_first kind ∷ []) ++ t2 in
-    text_then init_lines l1 t1 (text_then (un_init_first kind ∷ []) l2 t2 (text_then un_init_lines l3 t3 (text_then (erase_chip_lines kind) l4 t4
-    (text_then (erase_sector_lines kind) l5 t5 (text_then erase_lines l6 t6 (text_then (program_page_first kind) l7 t7
-    (text_then program_page_lines l8 t8 (text_then verify_lines l9 t9 (text_then (lie_lines kind) l10 (text_of l10) refl)))))))))
+    text_then (init_lines kind) l1 t1 (text_then (un_init_first kind ∷ []) l2 t2 (text_then (un_init_lines kind) l3 t3 (text_then (erase_chip_lines kind) l4 t4
+    (text_then (erase_sector_lines kind) l5 t5 (text_then (erase_lines kind) l6 t6 (text_then (program_page_first kind) l7 t7
+    (text_then (program_page_lines kind) l8 t8 (text_then verify_lines l9 t9 (text_then (lie_lines kind) l10 (text_of l10) refl)))))))))
 
 -- ---- items
 

@@ -1,4 +1,4 @@
--- The listings of the algorithms A1 to A7 for a region of a board.
+-- The listings of the algorithms A1 to A7 and F1 for a region of a board.
 use Rattle.std.specs.Prelude.{ℕ, ◌+◌, ◌*◌, nat_eq, List, [], ◌∷◌, ◌++◌, codes, if◌then◌else◌}
 use Rattle.board_file.specs.declared.region.Region.{Region}
 use Rattle.board_file.specs.declared.sectors.SectorRun.{SectorRun}
@@ -6,7 +6,7 @@ use Rattle.flm_descriptor.specs.declared.fault.Name.{Name}
 use Rattle.flm_descriptor.specs.declared.fault.Name.TheVariants.{EraseChip, Verify}
 use Rattle.flm_descriptor.specs.declared.items.SectorItem.{SectorItem}
 use Rattle.flm_forge.specs.declared.kind.Kind.{Kind}
-use Rattle.flm_forge.specs.declared.kind.Kind.TheVariants.{A2, A4}
+use Rattle.flm_forge.specs.declared.kind.Kind.TheVariants.{A2, A4, F1}
 use Rattle.flm_forge.specs.declared.source.Listing.{Listing}
 use Rattle.flm_forge.specs.Texts.{lines, text_of}
 
@@ -20,6 +20,11 @@ hidden_names _ = []
 abbrev pub hidden_in : ℕ → Kind → List Name
 hidden_in number kind = if nat_eq number 0 then hidden_names kind else hidden_names kind ++ EraseChip ∷ []
 
+-- the name of the device
+abbrev pub device_name : Kind → List ℕ
+device_name F1 = codes "FPEC"
+device_name _ = codes "FC1"
+
 -- one item for each run of sectors, from an offset on
 unfoldable pub items_from : ℕ → List SectorRun → List SectorItem
 items_from offset [] = []
@@ -31,7 +36,7 @@ listing_of kind base region page = record {
   text = text_of (lines kind base);
   init_data = [];
   zero_len = 0;
-  name = codes "FC1";
+  name = device_name kind;
   base = region.base;
   size = region.size;
   page = page;

@@ -1,7 +1,7 @@
 //! The listings of the algorithms for a board.
 ghost use Rattle.std.specs.Prelude.{◌≡◌, ◌≤◌, ◌<◌, length, slice_get, IfOk, IsSomeAnd};
 ghost use Rattle.board_file.specs.Limits.{cells_of, most_cells};
-ghost use Rattle.flm_forge.specs.Listed.{hidden_in, hidden_names, items_from, listing_in, listing_of};
+ghost use Rattle.flm_forge.specs.Listed.{device_name, hidden_in, hidden_names, items_from, listing_in, listing_of};
 ghost use Rattle.flm_forge.specs.Texts.{lines, text_of};
 
 use crate::kind::{Kind, put_text};
@@ -45,7 +45,7 @@ pub fn listing_at(
         text: text(alloc, kind, board.controller_base)?,
         init_data: Bytes::from_vec(Vec::new(alloc)),
         zero_len: 0,
-        name: Bytes::copy(alloc, b"FC1")?,
+        name: Bytes::copy(alloc, device_name(kind))?,
         base: region.base,
         size: region.size,
         page,
@@ -55,6 +55,16 @@ pub fn listing_at(
         items: items(alloc, region.sectors.as_slice())?,
         hidden,
     })
+}
+
+/// The name of an algorithm's device.
+fn device_name(kind: Kind) -> &'static [u8]
+    ensures { result.now ≡ device_name kind }
+{
+    match kind {
+        Kind::F1 => b"FPEC",
+        _ => b"FC1",
+    }
 }
 
 /// The text of an algorithm.

@@ -6,7 +6,7 @@ use crate::write::put;
 use faults::OutOfMemory;
 use octets::hex_digits;
 
-/// An algorithm that programs flash by the controller FC1, for a board with unit 2.
+/// An algorithm that programs flash, for a board with unit 2: A1 to A7 by the controller FC1, and F1 by FPEC.
 #[derive(Clone, Copy, Debug, PartialEq, Eq)]
 pub enum Kind {
     /// It does as it should.
@@ -23,6 +23,8 @@ pub enum Kind {
     A6,
     /// Its EraseSector leaves the code.
     A7,
+    /// It does as it should, by FPEC.
+    F1,
 }
 
 /// Init opens the registers with both keys.
@@ -111,6 +113,81 @@ const LIE: &[u8] = b"\
     lied: MOVS R0, #0\n\
     BX LR\n";
 
+/// Init of F1.
+const F1_INIT: &[u8] = b"\
+    Init: LDR R3, base\n\
+    LDR R1, key1\n\
+    STR R1, [R3, #4]\n\
+    LDR R1, key2\n\
+    STR R1, [R3, #4]\n\
+    MOVS R0, #0\n\
+    BX LR\n";
+
+/// UnInit of F1 behind its first line.
+const F1_UN_INIT: &[u8] = b"\
+    MOVS R0, #0x80\n\
+    STR R0, [R3, #16]\n\
+    MOVS R0, #0\n\
+    BX LR\n";
+
+/// What both erasing functions of F1 do.
+const F1_ERASE: &[u8] = b"\
+    STR R2, [R3, #16]\n\
+    STR R0, [R3, #20]\n\
+    MOVS R1, #0x40\n\
+    ORRS R1, R2\n\
+    STR R1, [R3, #16]\n\
+    wait: LDR R2, [R3, #12]\n\
+    MOVS R1, #1\n\
+    TST R2, R1\n\
+    BNE wait\n\
+    MOVS R1, #0x34\n\
+    ANDS R2, R1\n\
+    STR R1, [R3, #12]\n\
+    MOVS R0, #0\n\
+    STR R0, [R3, #16]\n\
+    CMP R2, #0x20\n\
+    BEQ out\n\
+    MOVS R0, #1\n\
+    out: BX LR\n";
+
+/// ProgramPage of F1 behind its first two instructions.
+const F1_PROGRAM_PAGE: &[u8] = b"\
+    MOVS R4, #1\n\
+    STR R4, [R3, #16]\n\
+    pnext: CMP R1, #0\n\
+    BEQ pdone\n\
+    LDRH R5, [R2, #0]\n\
+    STRH R5, [R0, #0]\n\
+    pwait: LDR R5, [R3, #12]\n\
+    TST R5, R4\n\
+    BNE pwait\n\
+    LSRS R5, R5, #2\n\
+    LSLS R5, R5, #29\n\
+    BNE pfail\n\
+    ADDS R0, #2\n\
+    ADDS R2, #2\n\
+    SUBS R1, #2\n\
+    B pnext\n\
+    pdone: MOVS R0, #0\n\
+    B pout\n\
+    pfail: MOVS R0, #1\n\
+    pout: MOVS R5, #0x34\n\
+    STR R5, [R3, #12]\n\
+    MOVS R5, #0\n\
+    STR R5, [R3, #16]\n\
+    POP {R4, R5, PC}\n";
+
+/// Init.
+fn init(kind: Kind) -> &'static [u8]
+    ensures { result.now ≡ text_of (init_lines kind) }
+{
+    match kind {
+        Kind::F1 => F1_INIT,
+        _ => INIT,
+    }
+}
+
 /// The first line of UnInit.
 fn un_init_first(kind: Kind) -> &'static [u8]
     ensures { result.now ≡ text_of (un_init_first kind ∷ []) }
@@ -121,12 +198,23 @@ fn un_init_first(kind: Kind) -> &'static [u8]
     }
 }
 
+/// UnInit behind its first line.
+fn un_init(kind: Kind) -> &'static [u8]
+    ensures { result.now ≡ text_of (un_init_lines kind) }
+{
+    match kind {
+        Kind::F1 => F1_UN_INIT,
+        _ => UN_INIT,
+    }
+}
+
 /// EraseChip.
 fn erase_chip(kind: Kind) -> &'static [u8]
     ensures { result.now ≡ text_of (erase_chip_lines kind) }
 {
     match kind {
         Kind::A2 => b"EraseChip: MOVS R0, #0\nBX LR\n",
+        Kind::F1 => b"EraseChip: MOVS R2, #4\nB erase\n",
         _ => b"EraseChip: MOVS R2, #3\nB erase\n",
     }
 }
@@ -146,6 +234,16 @@ fn erase_sector(kind: Kind) -> &'static [u8]
     }
 }
 
+/// What both erasing functions do.
+fn erase(kind: Kind) -> &'static [u8]
+    ensures { result.now ≡ text_of (erase_lines kind) }
+{
+    match kind {
+        Kind::F1 => F1_ERASE,
+        _ => ERASE,
+    }
+}
+
 /// The beginning of ProgramPage.
 fn program_page_first(kind: Kind) -> &'static [u8]
     ensures { result.now ≡ text_of (program_page_first kind) }
@@ -153,6 +251,16 @@ fn program_page_first(kind: Kind) -> &'static [u8]
     match kind {
         Kind::A2 => b"ProgramPage: MOVS R0, #0\nBX LR\n",
         _ => b"ProgramPage: PUSH {R4, R5, LR}\nLDR R3, base\n",
+    }
+}
+
+/// ProgramPage behind its first two instructions.
+fn program_page(kind: Kind) -> &'static [u8]
+    ensures { result.now ≡ text_of (program_page_lines kind) }
+{
+    match kind {
+        Kind::F1 => F1_PROGRAM_PAGE,
+        _ => PROGRAM_PAGE,
     }
 }
 
@@ -179,14 +287,14 @@ fn put_constants(out: &mut Vec<u8>, base: u32) -> Result<(), OutOfMemory>
 pub fn put_text(out: &mut Vec<u8>, kind: Kind, base: u32) -> Result<(), OutOfMemory>
     ensures { OnOk result (out.new.items ≡ out.old.items ++ text_of (lines kind base)) }
 {
-    put(out, INIT)?;
+    put(out, init(kind))?;
     put(out, un_init_first(kind))?;
-    put(out, UN_INIT)?;
+    put(out, un_init(kind))?;
     put(out, erase_chip(kind))?;
     put(out, erase_sector(kind))?;
-    put(out, ERASE)?;
+    put(out, erase(kind))?;
     put(out, program_page_first(kind))?;
-    put(out, PROGRAM_PAGE)?;
+    put(out, program_page(kind))?;
     put(out, VERIFY)?;
     put(out, lie(kind))?;
     put_constants(out, base)

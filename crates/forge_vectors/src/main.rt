@@ -1,5 +1,5 @@
-//! Makes FLM files and inspects them: A1 to A7 for the board of one file, A1 for that of another, A1 and A2 for the second region of a
-//! third, and a listing with data and zeroed data. It prints what each file says, and its bytes.
+//! Makes FLM files and inspects them: A1 to A7 for the board of one file, F1 and A1 for those of two others, A1 and A2 for the second
+//! region of a fourth, and a listing with data and zeroed data. It prints what each file says, and its bytes.
 #![tactic(auto)]
 
 mod data;
@@ -62,6 +62,7 @@ fn put_second(rt: &HostRuntime, board: &Board, page: u32) -> Result<()> {
 
 fn main(rt: HostRuntime) -> Result<()> {
     put_kinds(&rt, &board(&rt, "board.toml")?, 64)?;
+    put_kind(&rt, "F1", Kind::F1, &board(&rt, "fpec.toml")?, 64)?;
     put_kind(&rt, "wide", Kind::A1, &board(&rt, "wide.toml")?, 1024)?;
     put_second(&rt, &board(&rt, "two.toml")?, 64)?;
     put(&rt, "data", &with_data(&rt, read_file(&rt, "data.s")?)?)
