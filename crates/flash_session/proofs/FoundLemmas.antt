@@ -65,34 +65,40 @@ works_found tells j start [] cells goal (r ∷ more) are = absurd are
 works_found tells j start (a ∷ rest) cells goal [] are = absurd are
 works_found tells j start (a ∷ rest) cells goal (r ∷ more) are = (are.0.work, works_found tells j (start + a.device.size) rest cells goal more are.1)
 
--- the fault of the second survey is that of both
-abbrev Second : Type 0
-Second = Result (Option RegionWork) SurveyFault
+-- the fault of the survey of one region is that of both
+abbrev of_one : (T : Type 0) → SurveyFault → Result T SurveyFault
+of_one T e = Err e
 
 abbrev Both : Type 0
 Both = Result Work SurveyFault
 
-abbrev of_second : SurveyFault → Second
-of_second e = Err e
-
-abbrev of_both : SurveyFault → Both
+abbrev pub of_both : SurveyFault → Both
 of_both e = Err e
 
-same_store : (e : SurveyFault) → is_survey_store (of_second e) ≡ is_survey_store (of_both e)
-same_store survey.OutOfMemory = refl
-same_store survey.DeviceFault = refl
-same_store survey.StoreFault = refl
+same_store : (T : Type 0) (e : SurveyFault) → is_survey_store (of_one T e) ≡ is_survey_store (of_both e)
+same_store T survey.OutOfMemory = refl
+same_store T survey.DeviceFault = refl
+same_store T survey.StoreFault = refl
 
-same_device : (e : SurveyFault) → is_survey_device (of_second e) ≡ is_survey_device (of_both e)
-same_device survey.OutOfMemory = refl
-same_device survey.DeviceFault = refl
-same_device survey.StoreFault = refl
+same_device : (T : Type 0) (e : SurveyFault) → is_survey_device (of_one T e) ≡ is_survey_device (of_both e)
+same_device T survey.OutOfMemory = refl
+same_device T survey.DeviceFault = refl
+same_device T survey.StoreFault = refl
 
-pub store_err : (a b c : ℕ) (r : Both) (e : SurveyFault) → r ≡ of_both e → IsCounted a b false → IsCounted b c (is_survey_store (of_second e)) → IsCounted a c (is_survey_store r)
-store_err a b c r e is one two = subst (λ (q : Both). IsCounted a c (is_survey_store q)) (sym is) (counted_then a b c (is_survey_store (of_both e)) one (subst (λ (d : Bool). IsCounted b c d) (same_store e) two))
+abbrev Second : Type 0
+Second = Option RegionWork
 
-pub device_err : (a b c : ℕ) (r : Both) (e : SurveyFault) → r ≡ of_both e → HasDeviceCause a b false → HasDeviceCause b c (is_survey_device (of_second e)) → HasDeviceCause a c (is_survey_device r)
-device_err a b c r e is one two = subst (λ (q : Both). HasDeviceCause a c (is_survey_device q)) (sym is) (cause_then a b c (is_survey_device (of_both e)) one (subst (λ (d : Bool). HasDeviceCause b c d) (same_device e) two))
+pub first_store_err : (a b : ℕ) (r : Both) (e : SurveyFault) → r ≡ of_both e → IsCounted a b (is_survey_store (of_one RegionWork e)) → IsCounted a b (is_survey_store r)
+first_store_err a b r e is one = subst (λ (q : Both). IsCounted a b (is_survey_store q)) (sym is) (subst (λ (d : Bool). IsCounted a b d) (same_store RegionWork e) one)
+
+pub first_device_err : (a b : ℕ) (r : Both) (e : SurveyFault) → r ≡ of_both e → HasDeviceCause a b (is_survey_device (of_one RegionWork e)) → HasDeviceCause a b (is_survey_device r)
+first_device_err a b r e is one = subst (λ (q : Both). HasDeviceCause a b (is_survey_device q)) (sym is) (subst (λ (d : Bool). HasDeviceCause a b d) (same_device RegionWork e) one)
+
+pub store_err : (a b c : ℕ) (r : Both) (e : SurveyFault) → r ≡ of_both e → IsCounted a b false → IsCounted b c (is_survey_store (of_one Second e)) → IsCounted a c (is_survey_store r)
+store_err a b c r e is one two = subst (λ (q : Both). IsCounted a c (is_survey_store q)) (sym is) (counted_then a b c (is_survey_store (of_both e)) one (subst (λ (d : Bool). IsCounted b c d) (same_store Second e) two))
+
+pub device_err : (a b c : ℕ) (r : Both) (e : SurveyFault) → r ≡ of_both e → HasDeviceCause a b false → HasDeviceCause b c (is_survey_device (of_one Second e)) → HasDeviceCause a c (is_survey_device r)
+device_err a b c r e is one two = subst (λ (q : Both). HasDeviceCause a c (is_survey_device q)) (sym is) (cause_then a b c (is_survey_device (of_both e)) one (subst (λ (d : Bool). HasDeviceCause b c d) (same_device Second e) two))
 
 -- the bytes of two parts are those of all
 both_bytes : (n m at : ℕ) (cells : List ℕ) → length cells ≡ n + m → at ≡ n → AreBytes (take n cells) → AreBytes (take m (drop at cells)) → AreBytes cells

@@ -3,11 +3,11 @@ use Rattle.std.proofs.Common.{◌≡◌, ◌<◌, ◌≤◌, ◌+◌, ◌-◌, �
 use Rattle.std.proofs.lemmas.List.{get_or-take, get_or-drop, map-append}
 use Rattle.std.proofs.lemmas.Bool.{cases_lt}
 use Rattle.bench_model.specs.Calls.{SameOutside}
-use Rattle.flash_controller.specs.Table.{after_reset as idle_state}
 use Rattle.flash_layout.specs.Maps.{Map}
 use Rattle.page_geometry.specs.Layout.{Layout, IsLayout}
 use Rattle.target_core.specs.World.{World}
-use Rattle.target_core.specs.Units.{UnitState, OfFc1, state_op, state_reset}
+use Rattle.target_core.specs.Units.{state_op, state_reset}
+use Rattle.target_core.proofs.UnitLemmas.{fresh_idle}
 use Rattle.target_core.specs.Path.{point}
 use Rattle.target_core.specs.Runs.{IsLeftOn}
 use Rattle.algo_calls.specs.declared.call.Call.TheVariants.{Init, UnInit}
@@ -78,22 +78,18 @@ pub record Passes (P : ℕ → Type 0) (a : Stand) (moves : List Move) (cells ol
 
 -- ---- a reset and a load with no operation open, and a phase
 
-reset_state : (state : UnitState) → state_reset state ≡ OfFc1 idle_state
-reset_state (OfFc1 st) = refl
-
 -- the target of a board as after a reset over these cells, and with what then is loaded
 abbrev blank : Setup → ℕ → Map → List ℕ → World
-blank s base map cells = record { ram_base = base; ram = replicate s.ram_size 0; map = map; state = OfFc1 idle_state; cells = cells }
+blank s base map cells = record { ram_base = base; ram = replicate s.ram_size 0; map = map; state = state_reset map; cells = cells }
 
 reset_is : (s : Setup) (w : World) (torn : List ℕ) → state_op w.state ≡ None → reset_to s w torn ≡ blank s w.ram_base w.map w.cells
 unfolding after_reset
 reset_is s w torn idle =
-    ap (λ (st : UnitState). let x : World = record { ram_base = w.ram_base; ram = replicate s.ram_size 0; map = w.map; state = st; cells = broken_off (state_op w.state) torn w.cells } in x) (reset_state w.state)
-    ∙ ap (λ (o : Option (ℕ × ℕ)). let x : World = record { ram_base = w.ram_base; ram = replicate s.ram_size 0; map = w.map; state = OfFc1 idle_state; cells = broken_off o torn w.cells } in x) idle
+    ap (λ (o : Option (ℕ × ℕ)). let x : World = record { ram_base = w.ram_base; ram = replicate s.ram_size 0; map = w.map; state = state_reset w.map; cells = broken_off o torn w.cells } in x) idle
 
 -- the target after a reset and a load
 abbrev pub begun : Setup → World → World
-begun s w = record { ram_base = w.ram_base; ram = loaded s; map = w.map; state = OfFc1 idle_state; cells = w.cells }
+begun s w = record { ram_base = w.ram_base; ram = loaded s; map = w.map; state = state_reset w.map; cells = w.cells }
 
 -- Init, the calls, UnInit
 abbrev pub whole_phase : ℕ → List Duty → List Duty
@@ -197,11 +193,11 @@ module _ (P : ℕ → Type 0) (old : List ℕ) where
       record {
         last = b;
         ran = run_one a (Reset s torn) ∙ ap (λ (w : World). let x : Result Stand Failure = Ok (stand_at a.calls w) in x) (reset_is s a.world torn idle);
-        idle = refl;
+        idle = fresh_idle a.world.map.kind;
         reached = refl;
         board = refl;
         same = start;
-        local = λ w at c left. idle_local b.world w c refl start (one_point a (Reset s torn) w at ∙ reset_is s a.world torn idle) left;
+        local = λ w at c left. idle_local b.world w c (fresh_idle a.world.map.kind) start (one_point a (Reset s torn) w at ∙ reset_is s a.world torn idle) left;
       }
 
   passes_load : (s : Setup) (a : Stand) → state_op a.world.state ≡ None → SameBut P old a.world.cells → Passes P a (Load s ∷ []) a.world.cells old
@@ -241,5 +237,5 @@ module _ (P : ℕ → Type 0) (old : List ℕ) where
       (a.world.cells, refl, tt, led_then s site works (Quiet (asked (UnInit kind) []) ∷ []) a.world.cells want want led (led_quiet s site (asked (UnInit kind) []) want)) in
       subst (λ (m : List Move). Passes P a m want old) (sym (phase_list s site.layout kind torn moves works some is))
       (passes_on a (stand_at a.calls (begun s a.world)) (Reset s torn ∷ Load s ∷ []) (map (move_of s site.layout) (whole_phase kind works)) want (opens s a torn idle) refl (opening_local s a torn idle start)
-      (passes_duties s site good (whole_phase kind works) (stand_at a.calls (begun s a.world)) want long refl (keep (λ e. cc)) all
+      (passes_duties s site good (whole_phase kind works) (stand_at a.calls (begun s a.world)) want long (fresh_idle a.world.map.kind) (keep (λ e. cc)) all
       (tt, places_then P site works (Quiet (asked (UnInit kind) []) ∷ []) covers (tt, tt)) start))

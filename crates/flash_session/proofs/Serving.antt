@@ -7,14 +7,13 @@ use Rattle.board_file.specs.declared.board.Weights.{Weights}
 use Rattle.board_file.specs.Shown.{Shown as BoardShown}
 use Rattle.flm_descriptor.specs.Shown.{Shown as AlgorithmShown}
 use Rattle.flm_descriptor.specs.Shape.{Range, range_at}
-use Rattle.flash_controller.specs.Table.{after_reset as idle_state}
 use Rattle.flash_layout.specs.Areas.{cells_in}
 use Rattle.flash_layout.specs.Maps.{Map, board_map}
 use Rattle.page_geometry.specs.Layout.{In, Layout, IsLayout}
 use Rattle.page_geometry.specs.Ideal.{Action, erasures, writes}
 use Rattle.page_geometry.specs.Ideal as act
 use Rattle.erase_planner.specs.Plans.{Chosen, Leads, erases_chip, actions_of, must_erase, must_program, is_wanted, takes_chip, by_sectors, by_chip, chosen, IsLeastPlan}
-use Rattle.target_core.specs.Units.{OfFc1, state_op}
+use Rattle.target_core.specs.Units.{state_op, state_reset}
 use Rattle.target_core.specs.World.{World}
 use Rattle.algo_calls.specs.Setups.{Setup, setup_of}
 use Rattle.algo_calls.specs.Frames.{loaded}
@@ -191,7 +190,7 @@ module _ (P : ℕ → Type 0) (old : List ℕ) (b : BoardShown) (region : ℕ) (
   mine = part here cells
 
   begun_is : (x : World) → board_in x ≡ (b.ram_base, board_map b) → begun (setup_of a b) x ≡ ready b a x.cells
-  begun_is x same = ap (λ (p : ℕ × Map). let y : World = record { ram_base = p.0; ram = loaded (setup_of a b); map = p.1; state = OfFc1 idle_state; cells = x.cells } in y) same
+  begun_is x same = ap (λ (p : ℕ × Map). let y : World = record { ram_base = p.0; ram = loaded (setup_of a b); map = p.1; state = state_reset p.1; cells = x.cells } in y) same
 
   -- a phase over these cells
   work_here : (kind : Phase) (x : Stand) (torn : List ℕ) (moves : List Move) (want : List ℕ) → board_in x.world ≡ (b.ram_base, board_map b) → state_op x.world.state ≡ None

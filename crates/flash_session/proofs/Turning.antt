@@ -5,7 +5,7 @@ use Rattle.bench_model.proofs.Moments.{leaves_as}
 use Rattle.flash_layout.specs.Areas.{cells_in}
 use Rattle.flash_layout.specs.Maps.{Map}
 use Rattle.target_core.specs.World.{World}
-use Rattle.target_core.specs.Units.{UnitState, OfFc1, state_op, state_reset}
+use Rattle.target_core.specs.Units.{UnitState, state_op, state_reset}
 use Rattle.algo_calls.specs.declared.calls.Calls.{Calls}
 use Rattle.algo_calls.specs.Setups.{Setup}
 use Rattle.algo_calls.specs.Calls.{after_reset, broken_off}
@@ -14,9 +14,9 @@ use Rattle.flash_session.specs.declared.driver.Driver.{Driver}
 use Rattle.flash_session.specs.declared.machines.Machines.{Machines}
 use Rattle.flash_session.specs.declared.stopped.Stopped.{Stopped}
 use Rattle.flash_session.specs.declared.stopped.Stopped.TheVariants as stopped
-use Rattle.flash_session.specs.Moves.{Move, Reset, Load, Make, Stand, stand_at, Failure, reset_to, run, IsWithin, IsOnPath, IsLeftOnWay}
+use Rattle.flash_session.specs.Moves.{Move, Reset, Stand, stand_at, Failure, reset_to, run, IsWithin, IsOnPath, IsLeftOnWay}
 use Rattle.flash_session.specs.Drivers.{setup_for, stand_of, of_region, calls_of, setup_on, map_on, AreTwins, SameMachines, IsTurned}
-use Rattle.flash_session.specs.Plays.{IsAtBench, EndsAs, Went, Plays, is_device_stop, is_store_stop, AreAtBench, PlaysOn}
+use Rattle.flash_session.specs.Plays.{EndsAs, Went, Plays, is_device_stop, is_store_stop, AreAtBench, PlaysOn}
 use Rattle.flash_session.proofs.Lists.{calls_in-append}
 use Rattle.flash_session.proofs.Playing.{left_more, went_then, ends_stop, cause_then, counted_then, file_then, went_to, Told, plays_here, idle_after}
 use Rattle.flash_session.proofs.Runs.{run_one, of_one, one_point}
@@ -148,7 +148,7 @@ on_none tells m moves s law ready none =
 reset_same : (x y : Setup) (w : World) (torn : List ℕ) → x.ram_size ≡ y.ram_size → reset_to x w torn ≡ reset_to y w torn
 unfolding after_reset
 reset_same x y w torn same =
-    let one = λ (n : ℕ). let r : World = record w { ram = replicate n 0; state = state_reset w.state; cells = broken_off (state_op w.state) torn w.cells } in r in
+    let one = λ (n : ℕ). let r : World = record w { ram = replicate n 0; state = state_reset w.map; cells = broken_off (state_op w.state) torn w.cells } in r in
     ap one same
 
 module _ (a : Stand) (x y : Setup) (torn : List ℕ) (same : reset_to x a.world torn ≡ reset_to y a.world torn) where
@@ -230,9 +230,6 @@ turned_map false true here c new e = e
 turned_map true false here c new e = e
 turned_map true true here c new e = refl
 
-fresh_state : (u v : UnitState) → state_reset u ≡ state_reset v
-fresh_state (OfFc1 s) (OfFc1 t) = refl
-
 world_is : (base ram_base : ℕ) (ram bytes : List ℕ) (map areas : Map) (u v : UnitState) (cells held : List ℕ) → base ≡ ram_base → ram ≡ bytes → map ≡ areas → u ≡ v → cells ≡ held
     → ◌≡◌ {A = World} (record { ram_base = base; ram = ram; map = map; state = u; cells = cells }) (record { ram_base = ram_base; ram = bytes; map = areas; state = v; cells = held })
 world_is base ram_base ram bytes map areas u v cells held one two three four five = rw (one, two, three, four, five) refl
@@ -242,8 +239,8 @@ fresh_is : (x y : Setup) (v w : World) (operation : Option (ℕ × ℕ)) (torn :
     → after_reset x v None [] ≡ after_reset y w operation torn
 unfolding after_reset
 fresh_is x y v w operation torn size base map cells =
-    world_is v.ram_base w.ram_base (replicate x.ram_size 0) (replicate y.ram_size 0) v.map w.map (state_reset v.state) (state_reset w.state) v.cells (broken_off operation torn w.cells) base (ap (λ (n : ℕ). replicate n 0) size) map
-    (fresh_state v.state w.state) cells
+    world_is v.ram_base w.ram_base (replicate x.ram_size 0) (replicate y.ram_size 0) v.map w.map (state_reset v.map) (state_reset w.map) v.cells (broken_off operation torn w.cells) base (ap (λ (n : ℕ). replicate n 0) size) map
+    (ap (λ (m : Map). state_reset m) map) cells
 
 world_from : World → Result Stand Failure → World
 world_from w (Ok b) = b.world

@@ -2,6 +2,7 @@ use Rattle.std.proofs.Common.{◌≡◌, ◌∙◌, ℕ, false, List, [], length
 use Rattle.board_file.specs.Limits.{size_of}
 use Rattle.board_file.specs.Shown.{shown as board_of}
 use Rattle.target_core.specs.Units.{state_op}
+use Rattle.target_core.proofs.UnitLemmas.{fresh_idle}
 use Rattle.job_text.specs.Said.{algorithms_shown}
 use Rattle.job_text.specs.declared.job.Job.{Job}
 use Rattle.flash_session.specs.Drivers.{legs_on, stand_of}
@@ -37,7 +38,7 @@ follow-requires g c = λ κs lives.
         record {
           agrees = record {
             count = c.requires.count ∙ sym (wants j m are);
-            operation = λ told. c.requires.idle told ∙ sym (ap (λ (a : Stand). state_op a.world.state) (c.restart.ensures.start [] ∙ restarted j w.machines [] work.machines));
+            operation = λ told. c.requires.idle told ∙ sym (ap (λ (a : Stand). state_op a.world.state) (c.restart.ensures.start [] ∙ restarted j w.machines [] work.machines) ∙ fresh_idle j.board.kind);
           };
           twins = are_twins j m are;
         },

@@ -8,7 +8,9 @@ use Rattle.flash_session.specs.Goals.{goal_in}
 use Rattle.flash_session.specs.Starts.{later_shown}
 use Rattle.flash_session.specs.Surveys.{planned_of, ArePlannedFor}
 use Rattle.flash_session.specs.Works.{AreRegionWorks, HasRoom}
-use Rattle.flash_session.proofs.FoundLemmas.{found_then, later_still, works_found, whole_found, store_err, device_err}
+use Rattle.std.proofs.lemmas.Result.{err_from_is_err_and}
+use Rattle.flash_session.specs.declared.fault.SurveyFault.{SurveyFault}
+use Rattle.flash_session.proofs.FoundLemmas.{found_then, later_still, works_found, whole_found, of_both, first_store_err, first_device_err, store_err, device_err}
 use Rattle.flash_session.proofs.ReadLemmas.{read_then}
 use Rattle.flash_session.proofs.JobLemmas.{goal_length, sizes_are}
 use Rattle.flash_session.proofs.survey.work_for.Goals as goal
@@ -64,6 +66,19 @@ survey_region-requires-clause-inside g c =
     let a = algorithm_of c.algorithms_of.result.0.now in
     let rest = later_shown c.algorithms_of.result.1 in
     omega (arith, sizes_are (board_of j.board) j.board.regions (a ∷ rest) (subst (λ (l : List AlgorithmShown). IsTrue (all_fit (board_of j.board) j.board.regions l)) c.algorithms_of.ensures j.fit))
+
+pub returns-in_err-first-clause-store : goal.returns-in_err-first-clause-store
+returns-in_err-first-clause-store g c =
+    let p = err_from_is_err_and c.from_residual-in_err-first.result c.from_residual-in_err-first.ensures.1 in
+    first_store_err _ _ _ c.in_err-first.field-0.0 (p.1 ∙ ap (λ (e : SurveyFault). of_both e) p.2) c.in_err-first.ensures.store
+
+pub returns-in_err-first-clause-device : goal.returns-in_err-first-clause-device
+returns-in_err-first-clause-device g c =
+    let p = err_from_is_err_and c.from_residual-in_err-first.result c.from_residual-in_err-first.ensures.1 in
+    first_device_err _ _ _ c.in_err-first.field-0.0 (p.1 ∙ ap (λ (e : SurveyFault). of_both e) p.2) c.in_err-first.ensures.device
+
+pub returns-in-Ok-clause-reads : goal.returns-in-Ok-clause-reads
+returns-in-Ok-clause-reads g c = read_then c.survey_region.ensures.reads c.survey_second.ensures.reads
 
 pub returns-in-Err-clause-reads : goal.returns-in-Err-clause-reads
 returns-in-Err-clause-reads g c = read_then c.survey_region.ensures.reads c.survey_second.ensures.reads
