@@ -80,5 +80,5 @@ all start aim last old new turn goal end (call ∷ rest) free later in_time safe
 pub campaigns_are_safe : (c : Campaign) → IsCampaign c → IsSafeCampaign c
 campaigns_are_safe c is =
     let first = in_turn c.start c.aim None c.start c.new c.turn c.aim.laid (λ f x. IsUntouched c.start f x ⊎ IsWhole c.aim.body f)
-    (λ f x either. ⊎_elim (λ (u : IsUntouched c.start f x). inl u) (λ (w : IsWhole c.aim.body f). inr (inl w)) either) is.program.pairs in
+    (λ f x either. ⊎_elim (λ (u : IsUntouched c.start f x). inl u) (λ (w : IsWhole c.aim.body f). inr (inl w)) either) is.first.pairs in
     (first, all c.start c.aim None c.start c.new c.turn c.aim.laid c.end c.calls is.free is.later is.in_time first is.calls)

@@ -1,9 +1,9 @@
--- Campaigns: a call of `program`, and then calls that go on with its job.
+-- Campaigns: a call of `program` or `begin`, and then calls that go on with its job.
 use Rattle.std.specs.Prelude.{◌≡◌, ◌⊎◌, ◌≤◌, ◌<◌, ℕ, List, [], ◌∷◌, Option, Some, None, nat_le, if◌then◌else◌}
 use Rattle.bench_model.specs.History.{left}
 use Rattle.bench_model.specs.State.{BenchState, file_half, cells_half, Left}
 use Rattle.job_text.specs.Files.{IsFree, IsWhole, IsClosed}
-use Rattle.campaign.specs.Stops.{Aim, IsUntouched, ProgramStops, WorkStops, IsDone}
+use Rattle.campaign.specs.Stops.{Aim, IsUntouched, FirstCallStops, WorkStops, IsDone}
 
 -- what a later call is asked for
 pub data Goal : Type 0 where
@@ -57,7 +57,7 @@ abbrev pub AllGoOn : Aim → BenchState → ℕ → List Call → Type 0
 AllGoOn aim new end [] = Unit {0}
 AllGoOn aim new end (call ∷ rest) = IsEntered aim new end call.old × Keeps aim call × AllGoOn aim call.new call.end rest
 
--- a call of `program` with its job, from `start` to `new`, and the later calls
+-- a call of `program` or `begin` with its job, from `start` to `new`, and the later calls
 pub record Campaign : Type 1 where
   pub aim : Aim
   pub start : BenchState
@@ -72,7 +72,7 @@ pub record IsCampaign (c : Campaign) : Type 0 where
   pub free : (f : List ℕ) → left (file_half c.start) f → IsFree f
   pub later : c.start.moment ≤ c.end
   pub in_time : c.end ≤ c.new.moment
-  pub program : ProgramStops c.start c.new c.turn c.aim
+  pub first : FirstCallStops c.start c.new c.turn c.aim
   pub calls : AllGoOn c.aim c.new c.end c.calls
 
 -- the goal of the last call that was at its close, once this one has come so far

@@ -13,7 +13,7 @@ pub record Aim : Type 0 where
   pub laid : List ℕ
   pub snapshot : List ℕ
 
--- The pair is as the call of `program` found it: its file is free, or one that a stop at the entry may leave, and the cells
+-- The pair is as the call of `program` or `begin` found it: its file is free, or one that a stop at the entry may leave, and the cells
 -- are those of the entry outside the operation that was open then.
 pub record IsUntouched (start : BenchState) (file cells : List ℕ) : Type 0 where
   pub free : IsFree file ⊎ left (file_half start) file
@@ -24,8 +24,8 @@ pub record IsAtClose (body goal file cells : List ℕ) : Type 0 where
   pub whole_or_closed : IsWhole body file ⊎ IsClosed body file
   pub done : cells ≡ goal
 
--- `program` on a free file: before its close each pair is untouched or whole
-pub record ProgramStops (old new : BenchState) (turn : ℕ) (aim : Aim) : Type 0 where
+-- `program` or `begin` on a free file: before its close, to which `begin` never comes, each pair is untouched or whole
+pub record FirstCallStops (old new : BenchState) (turn : ℕ) (aim : Aim) : Type 0 where
   pub pairs : PairsInTurn old new turn (λ f c. IsUntouched old f c ⊎ IsWhole aim.body f) (IsAtClose aim.body aim.laid)
 
 -- `resume` or `revert` on a file that stands for the job: before its close each pair is one of the entry, or whole

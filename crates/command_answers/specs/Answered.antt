@@ -57,6 +57,25 @@ has_program (call_failed number call end) = true
 has_program (mismatch at wanted found) = true
 has_program _ = false
 
+abbrev pub has_begin : Refusal → Bool
+has_begin out_of_memory = true
+has_begin usage = true
+has_begin (input_fault name) = true
+has_begin (board_refused fault) = true
+has_begin (flm_refused fault) = true
+has_begin (other_device base size) = true
+has_begin (no_room need have) = true
+has_begin (image_refused name fault) = true
+has_begin (image_misplaced fault) = true
+has_begin job_open = true
+has_begin (not_a_job at) = true
+has_begin (damaged kept found) = true
+has_begin (cells_differ wanted found) = true
+has_begin store_fault = true
+has_begin device_fault = true
+has_begin output_fault = true
+has_begin _ = false
+
 -- `resume` and `revert`
 abbrev pub has_resume : Refusal → Bool
 has_resume out_of_memory = true

@@ -105,6 +105,10 @@ known_program : IsKnown (codes "program")
 unfolding defaults_fault
 known_program = (λ ws. rw (same_walk (codes "program") (walk_at false none []) ws) (or_else-nil (faults_from (walk_at false none []) ws)), λ ws. refl)
 
+known_begin : IsKnown (codes "begin")
+unfolding defaults_fault
+known_begin = (λ ws. rw (same_walk (codes "begin") (walk_at false none []) ws) (or_else-nil (faults_from (walk_at false none []) ws)), λ ws. refl)
+
 known_resume : IsKnown (codes "resume")
 unfolding defaults_fault
 known_resume = (λ ws. rw (same_walk (codes "resume") (walk_at false none []) ws) (or_else-nil (faults_from (walk_at false none []) ws)), λ ws. refl)
@@ -147,7 +151,7 @@ Each P [] = Unit {0}
 Each P (n ∷ ns) = P n × Each P ns
 
 all_known : Each IsKnown commands
-all_known = (known_program, (known_resume, (known_revert, (known_plan, (known_verify, (known_compare, (known_status, (known_inspect, (known_dump, (known_demo, tt))))))))))
+all_known = (known_program, (known_begin, (known_resume, (known_revert, (known_plan, (known_verify, (known_compare, (known_status, (known_inspect, (known_dump, (known_demo, tt)))))))))))
 
 -- and so of the one that was found
 found_one : (P : Text → Type 0) (w c : Text) (ns : List Text) → Each P ns → find (λ n. bytes_eq n w) ns ≡ Some c → P c

@@ -30,6 +30,6 @@ with_leaf tool name = with_subcommand tool (leaf name).top
 
 -- the program with its commands
 abbrev pub tool : App
-tool = with_leaf (with_leaf (with_leaf (with_leaf (with_leaf (with_leaf (with_leaf (with_leaf (with_leaf (with_leaf bare
-    (codes "program")) (codes "resume")) (codes "revert")) (codes "plan")) (codes "verify")) (codes "compare")) (codes "status"))
+tool = with_leaf (with_leaf (with_leaf (with_leaf (with_leaf (with_leaf (with_leaf (with_leaf (with_leaf (with_leaf (with_leaf bare
+    (codes "program")) (codes "begin")) (codes "resume")) (codes "revert")) (codes "plan")) (codes "verify")) (codes "compare")) (codes "status"))
     (codes "inspect")) (codes "dump")) (codes "demo")

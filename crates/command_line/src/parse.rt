@@ -68,6 +68,7 @@ fn made<'a>(alloc: Global) -> Result<Command<'a>, AllocError>
     ensures { IfOk result (λ c. app_of c ≡ tool) }
 {
     let tool = with_command(alloc, bare_tool(alloc), "program")?;
+    let tool = with_command(alloc, tool, "begin")?;
     let tool = with_command(alloc, tool, "resume")?;
     let tool = with_command(alloc, tool, "revert")?;
     let tool = with_command(alloc, tool, "plan")?;

@@ -8,9 +8,9 @@ use Rattle.command_line.specs.Scan.{Said, commands, command_of, scan, with_comma
 use Rattle.command_line.specs.declared.line.Line.{Line}
 use Rattle.command_words.specs.Fits.{Fitted}
 use Rattle.command_words.specs.Lines.{Spells, IsLineOf}
-use Rattle.command_words.specs.Words.{text_of, form_text, AreArguments, Command, program, resume, revert, plan, verify, compare, status, inspect, dump, demo, AsksNothing, Asked}
+use Rattle.command_words.specs.Words.{text_of, form_text, AreArguments, Command, program, begin, resume, revert, plan, verify, compare, status, inspect, dump, demo, AsksNothing, Asked}
 use Rattle.command_words.specs.declared.command.CommandName.{CommandName}
-use Rattle.command_words.specs.declared.command.CommandName.TheVariants.{Program, Resume, Revert, Plan, Verify, Compare, Status, Inspect, Dump, Demo}
+use Rattle.command_words.specs.declared.command.CommandName.TheVariants.{Program, Begin, Resume, Revert, Plan, Verify, Compare, Status, Inspect, Dump, Demo}
 use Rattle.command_words.proofs.ScanLemmas.{arguments_read}
 use Rattle.command_words.proofs.WordsLemmas.{AsksNothing-unknown, Asked-fitted}
 
@@ -54,6 +54,7 @@ is_said (w ∷ ws) c addresses names e = said_so w ws c addresses names (command
 -- the name of a command is found among the names
 named_known : (name : CommandName) → command_of (text_of name) ≡ Some (text_of name)
 named_known Program = refl
+named_known Begin = refl
 named_known Resume = refl
 named_known Revert = refl
 named_known Plan = refl
@@ -76,6 +77,7 @@ module _ (words : Words) (none : says words ≡ None) where
 
   pub AsksNothing-unread : AsksNothing words
   AsksNothing-unread (program files) asked = no_arguments Program asked.others files.raw_at _ asked.begins asked.names.arguments
+  AsksNothing-unread (begin files) asked = no_arguments Begin asked.others files.raw_at _ asked.begins asked.names.arguments
   AsksNothing-unread resume asked = no_arguments Resume asked.others None [] asked.begins asked.none
   AsksNothing-unread revert asked = no_arguments Revert asked.others None [] asked.begins asked.none
   AsksNothing-unread (plan files) asked = no_arguments Plan asked.others files.raw_at _ asked.begins asked.names.arguments

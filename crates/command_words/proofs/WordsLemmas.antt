@@ -1,10 +1,10 @@
 -- Words and what they ask for.
 use Rattle.std.proofs.Common.{◌≡◌, ◌≢◌, ◌∙◌, sym, ap, subst, refl, ◌==◌, if◌then◌else◌, Bool, ℕ, List, [], ◌∷◌, ◌++◌, get_or, drop, Option, Some, None, IsSome, option_to_list}
-use Rattle.command_words.specs.Words.{text_of, form_text, IsDump, Begins, Positional, HasOneName, IsDemo, HasBoardAndImages, IsVerify, HasTargetAndImages, IsOnTarget, Command, program, resume, revert, plan, verify, compare, status, inspect, dump, demo, Asks, AsksNothing, Asked}
+use Rattle.command_words.specs.Words.{text_of, form_text, IsDump, Begins, Positional, HasOneName, IsDemo, HasBoardAndImages, IsVerify, HasTargetAndImages, IsOnTarget, Command, program, begin, resume, revert, plan, verify, compare, status, inspect, dump, demo, Asks, AsksNothing, Asked}
 use Rattle.command_words.specs.Files.{FilesAsked, names_in}
 use Rattle.command_words.specs.Fits.{Fits, Fitted}
 use Rattle.command_words.specs.declared.command.CommandName.{CommandName}
-use Rattle.command_words.specs.declared.command.CommandName.TheVariants.{Program, Resume, Revert, Plan, Verify, Compare, Status, Inspect, Dump, Demo}
+use Rattle.command_words.specs.declared.command.CommandName.TheVariants.{Program, Begin, Resume, Revert, Plan, Verify, Compare, Status, Inspect, Dump, Demo}
 use Rattle.command_words.specs.declared.command.TextForm.{TextForm}
 use Rattle.command_words.specs.declared.command.TextForm.TheVariants.{Hex, Srec}
 use Rattle.command_words.proofs.ScanLemmas.{one_arguments}
@@ -18,7 +18,7 @@ byte_is word k byte = get_or word k 0 == byte
 -- the command of a first word, by its bytes 0 to 2
 named : List ℕ → CommandName
 named word =
-    if byte_is word 0 99 then Compare else if byte_is word 0 105 then Inspect else if byte_is word 0 118 then Verify
+    if byte_is word 0 98 then Begin else if byte_is word 0 99 then Compare else if byte_is word 0 105 then Inspect else if byte_is word 0 118 then Verify
     else if byte_is word 0 100 then (if byte_is word 1 101 then Demo else Dump) else if byte_is word 0 115 then Status
     else if byte_is word 0 112 then (if byte_is word 2 111 then Program else Plan)
     else (if byte_is word 2 115 then Resume else Revert)
@@ -26,6 +26,7 @@ named word =
 named-text_of : (name : CommandName) → named (text_of name) ≡ name
 unfolding named
 named-text_of Program = refl
+named-text_of Begin = refl
 named-text_of Resume = refl
 named-text_of Revert = refl
 named-text_of Plan = refl
@@ -39,6 +40,7 @@ named-text_of Demo = refl
 -- the command that a first word names is the one that the words ask for
 abbrev IsCalled : Command → CommandName → Type 0
 IsCalled (program files) name = name ≡ Program
+IsCalled (begin files) name = name ≡ Begin
 IsCalled resume name = name ≡ Resume
 IsCalled revert name = name ≡ Revert
 IsCalled (plan files) name = name ≡ Plan
@@ -60,6 +62,7 @@ module _ (words : List (List ℕ)) (other : List ℕ) where
 
   called : (command : Command) → Asks words command → IsCalled command first_name
   called (program files) asked = first_is Program asked.others asked.begins
+  called (begin files) asked = first_is Begin asked.others asked.begins
   called resume asked = first_is Resume asked.others asked.begins
   called revert asked = first_is Revert asked.others asked.begins
   called (plan files) asked = first_is Plan asked.others asked.begins
@@ -77,6 +80,7 @@ module _ (words others : List (List ℕ)) (first : List ℕ) (is : words ≡ fir
 
   pub AsksNothing-unknown : AsksNothing words
   AsksNothing-unknown (program files) asked = no_beginning Program asked.others asked.begins
+  AsksNothing-unknown (begin files) asked = no_beginning Begin asked.others asked.begins
   AsksNothing-unknown resume asked = no_beginning Resume asked.others asked.begins
   AsksNothing-unknown revert asked = no_beginning Revert asked.others asked.begins
   AsksNothing-unknown (plan files) asked = no_beginning Plan asked.others asked.begins
@@ -98,6 +102,7 @@ module _ (name : CommandName) (words others : List (List ℕ)) (is : words ≡ t
 
   fits : (command : Command) → Asks words command → Fits name others command
   fits (program files) asked = same_beginning (λ n o. Fits n o (program files)) Program asked.others asked.begins asked.names
+  fits (begin files) asked = same_beginning (λ n o. Fits n o (begin files)) Begin asked.others asked.begins asked.names
   fits resume asked = same_beginning (λ n o. Fits n o resume) Resume asked.others asked.begins asked.none
   fits revert asked = same_beginning (λ n o. Fits n o revert) Revert asked.others asked.begins asked.none
   fits (plan files) asked = same_beginning (λ n o. Fits n o (plan files)) Plan asked.others asked.begins asked.names
@@ -112,6 +117,7 @@ module _ (name : CommandName) (words others : List (List ℕ)) (is : words ≡ t
   Asked-fitted (Some command) fitted = asks name is command fitted where
     asks : (n : CommandName) → words ≡ text_of n ∷ others → (command : Command) → Fits n others command → Asks words command
     asks Program is (program files) fits = record { others = others; begins = is; names = fits }
+    asks Begin is (begin files) fits = record { others = others; begins = is; names = fits }
     asks Resume is resume fits = record { others = others; begins = is; none = fits }
     asks Revert is revert fits = record { others = others; begins = is; none = fits }
     asks Plan is (plan files) fits = record { others = others; begins = is; names = fits }
@@ -209,6 +215,7 @@ same_on_target command words a b one two =
 
 pub one_command : (words : List (List ℕ)) (a b : Command) → Asks words a → Asks words b → a ≡ b
 one_command words (program x) (program y) one two = ap program (same_on_target Program words x y one two)
+one_command words (begin x) (begin y) one two = ap begin (same_on_target Begin words x y one two)
 one_command words resume resume one two = refl
 one_command words revert revert one two = refl
 one_command words (plan x) (plan y) one two = ap plan (same_on_target Plan words x y one two)

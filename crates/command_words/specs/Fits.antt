@@ -1,12 +1,13 @@
 -- The words behind the name of a command.
 use Rattle.std.specs.Prelude.{ℕ, List, [], ◌∷◌, Option, Some, None}
-use Rattle.command_words.specs.Words.{form_text, Positional, HasOneNumber, HasBoardAndImages, HasTargetAndImages, Command, program, resume, revert, plan, verify, compare, status, inspect, dump, demo}
+use Rattle.command_words.specs.Words.{form_text, Positional, HasOneNumber, HasBoardAndImages, HasTargetAndImages, Command, program, begin, resume, revert, plan, verify, compare, status, inspect, dump, demo}
 use Rattle.command_words.specs.declared.command.CommandName.{CommandName}
-use Rattle.command_words.specs.declared.command.CommandName.TheVariants.{Program, Resume, Revert, Plan, Verify, Compare, Status, Inspect, Dump, Demo}
+use Rattle.command_words.specs.declared.command.CommandName.TheVariants.{Program, Begin, Resume, Revert, Plan, Verify, Compare, Status, Inspect, Dump, Demo}
 
 -- words that make this command with such a name before them
 abbrev pub Fits : CommandName → List (List ℕ) → Command → Type 0
 Fits Program others (program files) = HasTargetAndImages others files
+Fits Begin others (begin files) = HasTargetAndImages others files
 Fits Resume others resume = Positional others []
 Fits Revert others revert = Positional others []
 Fits Plan others (plan files) = HasTargetAndImages others files

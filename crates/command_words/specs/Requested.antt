@@ -1,11 +1,11 @@
 -- The command that a request is.
 use Rattle.std.specs.Prelude.{option_copied}
 use Rattle.command_words.specs.Files.{FilesAsked}
-use Rattle.command_words.specs.Words.{Command, program, resume, revert, plan, verify, compare, status, inspect, dump, demo}
+use Rattle.command_words.specs.Words.{Command, program, begin, resume, revert, plan, verify, compare, status, inspect, dump, demo}
 use Rattle.command_words.specs.Names.{names_of}
 use Rattle.command_words.specs.declared.command.FileNames.{FileNames}
 use Rattle.command_words.specs.declared.command.Request.{Request}
-use Rattle.command_words.specs.declared.command.Request.TheVariants.{Program, Resume, Revert, Plan, Verify, Compare, Status, Inspect, Dump, Demo}
+use Rattle.command_words.specs.declared.command.Request.TheVariants.{Program, Begin, Resume, Revert, Plan, Verify, Compare, Status, Inspect, Dump, Demo}
 
 abbrev pub files_of : FileNames → FilesAsked
 files_of files = record {
@@ -17,6 +17,7 @@ files_of files = record {
 
 abbrev pub command_of : Request → Command
 command_of (Program files) = program (files_of files)
+command_of (Begin files) = begin (files_of files)
 command_of Resume = resume
 command_of Revert = revert
 command_of (Plan files) = plan (files_of files)

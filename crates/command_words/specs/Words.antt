@@ -3,13 +3,14 @@ use Rattle.std.specs.Prelude.{◌≡◌, ◌≤◌, ◌<◌, ◌^◌, ◌⊎◌,
 use Rattle.std.specs.Str.Parse.{IsNumeral, digits_value}
 use Rattle.command_words.specs.Files.{FilesAsked, names_in}
 use Rattle.command_words.specs.declared.command.CommandName.{CommandName}
-use Rattle.command_words.specs.declared.command.CommandName.TheVariants.{Program, Resume, Revert, Plan, Verify, Compare, Status, Inspect, Dump, Demo}
+use Rattle.command_words.specs.declared.command.CommandName.TheVariants.{Program, Begin, Resume, Revert, Plan, Verify, Compare, Status, Inspect, Dump, Demo}
 use Rattle.command_words.specs.declared.command.TextForm.{TextForm}
 use Rattle.command_words.specs.declared.command.TextForm.TheVariants.{Hex, Srec}
 
 -- the first word, which names the command
 abbrev pub text_of : CommandName → List ℕ
 text_of Program = codes "program"
+text_of Begin = codes "begin"
 text_of Resume = codes "resume"
 text_of Revert = codes "revert"
 text_of Plan = codes "plan"
@@ -181,6 +182,10 @@ pub record IsOnTarget (command : CommandName) (words : List (List ℕ)) (files :
 abbrev pub IsProgram : List (List ℕ) → FilesAsked → Type 0
 IsProgram words files = IsOnTarget Program words files
 
+-- `begin [--raw-at ADDR] BOARD FLM IMAGE...`
+abbrev pub IsBegin : List (List ℕ) → FilesAsked → Type 0
+IsBegin words files = IsOnTarget Begin words files
+
 -- `plan [--raw-at ADDR] BOARD FLM IMAGE...`
 abbrev pub IsPlan : List (List ℕ) → FilesAsked → Type 0
 IsPlan words files = IsOnTarget Plan words files
@@ -189,6 +194,7 @@ IsPlan words files = IsOnTarget Plan words files
 
 pub data Command : Type 0 where
   program : (files : FilesAsked) → Command
+  begin : (files : FilesAsked) → Command
   resume : Command
   revert : Command
   plan : (files : FilesAsked) → Command
@@ -201,6 +207,7 @@ pub data Command : Type 0 where
 
 abbrev pub Asks : List (List ℕ) → Command → Type 0
 Asks words (program files) = IsProgram words files
+Asks words (begin files) = IsBegin words files
 Asks words resume = HasNoName Resume words
 Asks words revert = HasNoName Revert words
 Asks words (plan files) = IsPlan words files
@@ -214,6 +221,7 @@ Asks words (demo seed) = IsDemo words seed
 -- the names of the files that a command may take, in the order of the words
 abbrev pub names_asked : Command → List (List ℕ)
 names_asked (program files) = names_in files
+names_asked (begin files) = names_in files
 names_asked (plan files) = names_in files
 names_asked (verify files) = names_in files
 names_asked (compare image) = image ∷ []

@@ -11,6 +11,7 @@ use octets::Word;
 #[derive(Clone, Copy, Debug, PartialEq, Eq)]
 pub enum CommandName {
     Program,
+    Begin,
     Resume,
     Revert,
     Plan,
@@ -30,6 +31,7 @@ impl CommandName {
     {
         match word.bytes() {
             b"program" => Some(CommandName::Program),
+            b"begin" => Some(CommandName::Begin),
             b"resume" => Some(CommandName::Resume),
             b"revert" => Some(CommandName::Revert),
             b"plan" => Some(CommandName::Plan),
@@ -83,6 +85,9 @@ pub struct FileNames<'a> {
 pub enum Request<'a> {
     /// Begins a job, and carries it to the union of images, on a board by an algorithm.
     Program(FileNames<'a>),
+
+    /// Begins a job with the union of images, on a board by an algorithm, and goes no further.
+    Begin(FileNames<'a>),
 
     /// Carries the job in the job file to its image.
     Resume,

@@ -19,6 +19,7 @@ pub fn read_command(name: CommandName, line: &Line) -> Option<Request<'_>>
 {
     match name {
         CommandName::Program => Some(Request::Program(target_and_images(line)?)),
+        CommandName::Begin => Some(Request::Begin(target_and_images(line)?)),
         CommandName::Resume => has_no_name(line).then_some(Request::Resume),
         CommandName::Revert => has_no_name(line).then_some(Request::Revert),
         CommandName::Plan => Some(Request::Plan(target_and_images(line)?)),

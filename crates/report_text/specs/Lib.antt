@@ -7,3 +7,4 @@ pub mod Shown
 pub mod Plan
 pub mod Job
 pub mod Region
+pub mod Target

@@ -11,6 +11,9 @@ pub enum End {
     /// A job was closed.
     Done,
 
+    /// A job was begun.
+    Begun,
+
     /// The cells are the bytes that they were compared with.
     Same,
 }
@@ -21,6 +24,7 @@ pub fn put_end<O: Sink>(out: &mut O, end: End) -> Result<(), OutputFault>
 {
     match end {
         End::Done => put_pieces(out, &[b"done\n"]),
+        End::Begun => put_pieces(out, &[b"begun\n"]),
         End::Same => put_pieces(out, &[b"same\n"]),
     }
 }

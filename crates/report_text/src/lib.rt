@@ -1,5 +1,5 @@
-//! The texts that the flash programmer prints: a plan, the line of a region, a job, an inspection, an end and a refusal, each put on a sink. No call
-//! takes memory.
+//! The texts that the flash programmer prints: a plan, the line of a region, a job, an inspection, an end, a refusal and the line of one of many
+//! targets, each put on a sink. No call takes memory.
 #![tactic(auto)]
 
 mod board_reason;
@@ -13,6 +13,7 @@ mod plan;
 mod reason;
 mod refusal;
 mod region;
+mod target;
 
 pub use end::{End, put_end};
 pub use inspection::put_inspection;
@@ -20,3 +21,4 @@ pub use job::put_job;
 pub use plan::put_plan;
 pub use refusal::{Refusal, put_refusal};
 pub use region::put_region;
+pub use target::put_target;

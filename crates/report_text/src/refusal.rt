@@ -168,7 +168,7 @@ pub fn put_refusal<E: Sink>(err: &mut E, refusal: &Refusal<'_>) -> Result<(), Ou
 
 /// Puts what a refusal says.
 #[tactic(auto, unfolding(crate::specs::Refusal::reason_of))]
-fn put_reason<E: Sink>(err: &mut E, refusal: &Refusal<'_>) -> Result<(), OutputFault>
+pub(crate) fn put_reason<E: Sink>(err: &mut E, refusal: &Refusal<'_>) -> Result<(), OutputFault>
     ensures { Puts E.tells (E.state err.old) (E.state err.new) (reason_of (shown refusal.now)) result }
 {
     match refusal {

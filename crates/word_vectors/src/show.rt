@@ -33,6 +33,7 @@ fn words_of(alloc: Global, line: &str) -> Result<Vec<Word>> {
 fn show(rt: &HostRuntime, request: &Request<'_>) -> Result<()> {
     match request {
         Request::Program(files) => show_files(rt, "program", files)?,
+        Request::Begin(files) => show_files(rt, "begin", files)?,
         Request::Resume => println!(rt; "  resume")?,
         Request::Revert => println!(rt; "  revert")?,
         Request::Plan(files) => show_files(rt, "plan", files)?,
