@@ -27,7 +27,7 @@ use Rattle.job_commands.specs.Carry.{Carries}
 use Rattle.job_commands.specs.GoOn.{work_to, GoOnEnds}
 use Rattle.job_text.specs.declared.parts.JobParts.{JobParts}
 use Rattle.job_file.specs.First.{SyncsFirst}
-use Rattle.job_commands.specs.Steps.{has_begin, BenchCounted, BeginsParts}
+use Rattle.job_commands.specs.Steps.{has_work, BenchCounted, BeginsParts}
 use Rattle.demo_job.specs.Made.{cells_of, image_of, stop_of}
 use Rattle.demo_job.specs.Target.{board_text, Target}
 
@@ -84,7 +84,7 @@ pub record BeginsOver {B : Type 0} (tells : Bool) (acts : B → Act → B → Ty
   pub parts : JobParts
   pub its_parts : ArePartsOf seed t parts
   pub begins : IsTrue tells → BeginsParts (bench_call tells (stopped state first) (stopped state begun)) silence parts answer
-  pub kind : IsOf has_begin answer
+  pub kind : IsOf has_work answer
   pub counts : BenchCounted (bench_call tells (stopped state first) (stopped state begun)) silence answer
 
 -- The job was begun over a bench that lets as many calls through as the seed says, with no fault of its own yet, and carried on until it
@@ -100,7 +100,7 @@ pub record IsLost (seed : ℕ) (t : Target) (fresh lost : MemoryBench) : Type 0 
   pub answer : Answer
   pub is_job : IsJob (job_of seed t) t.board (t.algorithm ∷ [])
   pub carries : Carries (bench_call true (stopping_of first) (stopping_of begun)) silence (IsUntouched (stopping_of first)) (work_of seed t) answer
-  pub kind : IsOf has_begin answer
+  pub kind : IsOf has_work answer
   pub counts : BenchCounted (bench_call true (stopping_of first) (stopping_of begun)) silence answer
   pub no_want : answer ≢ refused out_of_memory
   pub left : Left (bench_of begun.inner) (bench_of lost).file (bench_of lost).cells

@@ -1,11 +1,19 @@
--- Later calls answer as the commands of their goals do.
-use Rattle.std.proofs.Common.{List, [], ◌∷◌}
+-- A first call and later calls answer as their commands do.
+use Rattle.std.proofs.Common.{⊎_elim, inl, inr, List, [], ◌∷◌, Some}
 use Rattle.flash_session.specs.declared.goal.Goal.{Goal}
 use Rattle.flash_session.specs.declared.goal.Goal.TheVariants.{New, Old}
 use Rattle.command_answers.specs.Call.{Call}
+use Rattle.command_words.specs.Files.{FilesAsked}
+use Rattle.command_words.specs.Words.{program, begin}
 use Rattle.job_commands.specs.GoOn.{GoOnAnswers}
-use Rattle.job_commands.specs.Law.{LaterCall, AllAnswer}
-use Rattle.flm_cli.specs.Answers.{AnswersLater}
+use Rattle.job_commands.specs.Law.{FirstAnswers, LaterCall, AllAnswer}
+use Rattle.flm_cli.specs.Answers.{Answers, AnswersFirst, AnswersLater}
+
+pub begins : (asked : FilesAsked) (call : Call) → AnswersFirst asked call → FirstAnswers asked call
+begins asked call either = ⊎_elim
+    (λ (answers : Answers call (Some (program asked))). inl answers)
+    (λ (answers : Answers call (Some (begin asked))). inr answers)
+    either
 
 goes_on : (goal : Goal) (call : Call) → AnswersLater goal call → GoOnAnswers goal call
 goes_on New call answers = answers

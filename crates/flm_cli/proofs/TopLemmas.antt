@@ -8,13 +8,13 @@ use Rattle.outside_io.specs.State.{InputsState, SinkState}
 use Rattle.flash_session.specs.declared.goal.Goal.TheVariants.{New, Old}
 use Rattle.report_text.specs.Refusal.{Refusal, out_of_memory}
 use Rattle.report_text.specs.Refusal as refusal
-use Rattle.command_words.specs.Words.{Command, program, resume, revert, plan, verify, compare, status, inspect, dump, demo, Asked}
+use Rattle.command_words.specs.Words.{Command, program, begin, resume, revert, plan, verify, compare, status, inspect, dump, demo, Asked}
 use Rattle.command_words.proofs.WordsLemmas.{one_asked}
 use Rattle.command_files.specs.Inputs.{InputsCall, TakesNothing, NoneFailed, inputs_call}
 use Rattle.command_answers.specs.Call.{BenchCall, SinkCall, Answer, refused, bench_call, sink_call}
 use Rattle.command_answers.proofs.AnswerLemmas.{did_nothing}
 use Rattle.job_commands.proofs.GoOnLemmas as go_on
-use Rattle.job_commands.proofs.ProgramLemmas as begin
+use Rattle.job_commands.proofs.ProgramLemmas.{program_untaken, begin_untaken}
 use Rattle.job_file.specs.declared.fault.OpenFault.TheVariants as opening
 use Rattle.job_status.specs.Status.{StatusEnds}
 use Rattle.job_status.proofs.StatusLemmas.{ends_refused}
@@ -69,7 +69,8 @@ module _ (tells given told : Bool) (b : BenchState) (i : InputsState) (o : SinkS
   pub ends_unread : (IsTrue tells → length b.cells ≡ b.cell_count) → (IsTrue tells → (x : List ℕ) → left (cells_half b) x → SameOutside b.operation b.cells x)
       → (words : List (List ℕ)) → (asked : Option Command) → Asked words asked → EndsOf asked Bench Inputs Out (refused out_of_memory)
   ends_unread many exact words None given = record { answer_is = inr refl; did = did_nothing tells told b o; takes = took_nothing }
-  ends_unread many exact words (Some (program files)) given = begin.ends_untaken tells told b o Inputs files many exact out_of_memory none_failed
+  ends_unread many exact words (Some (program files)) given = program_untaken tells told b o Inputs files many exact out_of_memory none_failed
+  ends_unread many exact words (Some (begin files)) given = begin_untaken tells told b o Inputs files many exact out_of_memory none_failed
   ends_unread many exact words (Some resume) given = go_on.ends_unread tells told b o Inputs New many exact took_nothing
   ends_unread many exact words (Some revert) given = go_on.ends_unread tells told b o Inputs Old many exact took_nothing
   ends_unread many exact words (Some (plan files)) given = planning.ends_untaken tells told b o Inputs files out_of_memory none_failed

@@ -1,7 +1,8 @@
 -- What a call of `flmprog` answers, by its command.
 use Rattle.std.specs.Prelude.{◌≡◌, ◌⊎◌, Option, Some, None}
 use Rattle.report_text.specs.Refusal as refusal
-use Rattle.command_words.specs.Words.{Command, program, resume, revert, plan, verify, compare, status, inspect, dump, demo}
+use Rattle.command_words.specs.Files.{FilesAsked}
+use Rattle.command_words.specs.Words.{Command, program, begin, resume, revert, plan, verify, compare, status, inspect, dump, demo}
 use Rattle.command_files.specs.Inputs.{InputsCall, TakesNothing}
 use Rattle.command_answers.specs.Call.{BenchCall, SinkCall, Call, Answer, refused}
 use Rattle.command_answers.specs.Answered.{DidNothing, AnswersBy}
@@ -10,6 +11,7 @@ use Rattle.device_dump.specs.Dump.{DumpEnds}
 use Rattle.flash_session.specs.declared.goal.Goal.{Goal}
 use Rattle.flash_session.specs.declared.goal.Goal.TheVariants.{New, Old}
 use Rattle.job_commands.specs.GoOn.{GoOnEnds}
+use Rattle.job_commands.specs.Begin.{BeginEnds}
 use Rattle.job_commands.specs.Program.{ProgramEnds}
 use Rattle.job_status.specs.Status.{StatusEnds}
 use Rattle.flm_cli.specs.Compare.{CompareEnds}
@@ -26,6 +28,7 @@ pub record EndsUnfit (bench : BenchCall) (inputs : InputsCall) (out : SinkCall) 
 -- the work of a command, or of words that fit none
 abbrev pub EndsOf : Option Command → BenchCall → InputsCall → SinkCall → Answer → Type 0
 EndsOf (Some (program files)) = ProgramEnds files
+EndsOf (Some (begin files)) = BeginEnds files
 EndsOf (Some resume) = GoOnEnds New
 EndsOf (Some revert) = GoOnEnds Old
 EndsOf (Some (plan files)) = PlanEnds files
@@ -40,6 +43,10 @@ EndsOf None = EndsUnfit
 -- The call of words that ask for this, or for nothing.
 abbrev pub Answers : Call → Option Command → Type 0
 Answers call asked = AnswersBy call (EndsOf asked)
+
+-- the call of words that ask for `program` or for `begin`, with these files
+abbrev pub AnswersFirst : FilesAsked → Call → Type 0
+AnswersFirst asked call = Answers call (Some (program asked)) ⊎ Answers call (Some (begin asked))
 
 -- the command that goes to this goal
 abbrev pub command_to : Goal → Command

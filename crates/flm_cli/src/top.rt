@@ -16,7 +16,7 @@ use command_words::{CommandLine, Request};
 use demo_job::demo;
 use device_dump::dump;
 use flash_session::Goal;
-use job_commands::{go_on, program};
+use job_commands::{begin, go_on, program};
 use job_status::status;
 use octets::Word;
 use outside_io::{Inputs, Sink};
@@ -64,6 +64,7 @@ fn run<'a, B: Bench, I: Inputs, O: Sink>(
     match line.request() {
         None => Err(Refusal::Usage),
         Some(Request::Program(names)) => program(alloc, &names, bench, inputs, out),
+        Some(Request::Begin(names)) => begin(alloc, &names, bench, inputs, out),
         Some(Request::Resume) => go_on(alloc, Goal::New, bench, out),
         Some(Request::Revert) => go_on(alloc, Goal::Old, bench, out),
         Some(Request::Plan(names)) => plan(alloc, &names, bench, inputs, out),

@@ -1,164 +1,31 @@
--- A job is begun (a to b), and carried (b to d).
-use Rattle.std.proofs.Common.{arith, ◌≡◌, ◌⊎◌, ⊎_elim, inl, inr, refl, ◌∙◌, ℕ, Bool, true, List, ◌∷◌, length, IsTrue, Option, None, Err, sym, ap, subst}
+-- A job was begun (a to b), and is carried (b to d).
+use Rattle.std.proofs.Common.{arith, ◌≡◌, ◌⊎◌, ⊎_elim, inl, inr, refl, ◌∙◌, ℕ, Bool, true, List, [], ◌∷◌, length, IsTrue, Option, None, sym, subst}
 use Rattle.outside_io.specs.State.{SinkState}
-use Rattle.bench_model.specs.History.{left, GoesOn, Leaves, LeftOnly}
+use Rattle.bench_model.specs.History.{GoesOn, Leaves, LeftOnly}
 use Rattle.bench_model.specs.State.{BenchState, file_half, cells_half, Left}
-use Rattle.bench_model.specs.Calls.{SameOutside, OnlyReads}
+use Rattle.bench_model.specs.Calls.{SameOutside}
 use Rattle.bench_model.specs.Pairs.{PairsLeave}
-use Rattle.bench_model.proofs.Moments.{pairs_of}
 use Rattle.job_text.specs.Files.{IsFree, IsWhole}
 use Rattle.job_text.specs.Body.{body_of, IsJob}
 use Rattle.job_text.specs.Parts.{job_of, AreParts}
 use Rattle.job_text.specs.declared.parts.JobParts.{JobParts}
-use Rattle.job_text.proofs.ClassLemmas.{never_jobs}
 use Rattle.job_text.proofs.PartLemmas.{job_of_parts}
-use Rattle.job_file.specs.Stops.{IsOfBegin, IsFreeOrWhole}
-use Rattle.job_file.specs.Faults.{IsBeginFault}
-use Rattle.job_file.specs.Unopened.{UnopenedAtDeviceFault}
-use Rattle.job_file.specs.Counted.{ReadsUnlessFault}
-use Rattle.job_file.specs.declared.fault.BeginFault.{BeginFault}
-use Rattle.job_file.specs.declared.fault.BeginFault.TheVariants as beginning
 use Rattle.campaign.specs.Stops.{IsUntouched, IsAtClose}
 use Rattle.flash_session.specs.declared.goal.Goal.TheVariants.{New}
 use Rattle.flash_session.specs.Script.{Broken}
-use Rattle.report_text.specs.Refusal.{out_of_memory, input_fault, no_job, not_a_job, damaged, cells_differ, store_fault, device_fault, output_fault, call_failed, mismatch}
-use Rattle.command_answers.specs.Call.{BenchCall, SinkCall, TookNothing, TookPartBehind, Answer, done, refused, bench_call, sink_call}
-use Rattle.command_answers.specs.Answered.{has_resume, yields, OnlyLooked, StandsEarly, IsOf, on_job_file}
-use Rattle.command_answers.proofs.FileLemmas.{not_free, damaged_open, one_reason, one_kept, one_found}
+use Rattle.report_text.specs.Refusal.{Refusal, out_of_memory, input_fault, no_job, not_a_job, damaged, cells_differ, store_fault, device_fault, output_fault, call_failed, mismatch}
+use Rattle.command_answers.specs.Call.{BenchCall, SinkCall, TookPartBehind, Answer, done, refused, bench_call, sink_call}
+use Rattle.command_answers.specs.Answered.{has_resume, yields, StandsEarly, IsOf, on_job_file}
+use Rattle.command_answers.proofs.FileLemmas.{not_free}
 use Rattle.job_commands.specs.Work.{Work, body, shown_plan, Breaks, IsOnPath, IsOutsidePlanAsSurveyed}
-use Rattle.job_commands.specs.Carry.{EndsInBegin, NeverBegun, EndsBeforePlan, EndsInPlan, EndsInScript, EndsInClose, HasClosed, Comes, CellsInTurn, Carries, done_text}
+use Rattle.job_commands.specs.Carry.{EndsInBegin, NeverBegun, EndsBeforePlan, EndsInPlan, EndsInScript, EndsInClose, HasClosed, Comes, CellsInTurn, BrokenOff, Carries, done_text}
 use Rattle.job_commands.specs.GoOn.{work_to, GoesOnFrom}
-use Rattle.job_commands.specs.Steps.{of_begin, begun, BeginsParts}
-use Rattle.job_commands.proofs.TurnLemmas.{Off, turn_then, off_then, settled_then, ended_then}
+use Rattle.job_commands.specs.Begin.{BegunComes, BeginsAlone}
+use Rattle.job_commands.specs.Steps.{has_start, begun, StartsParts, BeginsParts}
+use Rattle.job_commands.proofs.TurnLemmas.{same_here, turn_then, off_then, settled_then, ended_then}
 use Rattle.job_commands.proofs.FinishLemmas.{nothing_broken}
-use Rattle.job_commands.proofs.CarryLemmas.{AsEntered, ends_early, starts_on_path, starts_outside}
-
--- the pairs of `begin`
-pub begun_pairs : {a b : BenchState} (text : List ℕ) → Leaves (file_half a) (file_half b) (IsOfBegin (file_half a) text) → AsEntered a b
-    → PairsLeave a b (λ f c. IsUntouched a f c ⊎ IsWhole text f)
-begun_pairs {a} {b} text files cells = pairs_of (IsOfBegin (file_half a) text) (λ c. SameOutside a.operation a.cells c) (λ f c. IsUntouched a f c ⊎ IsWhole text f) files cells
-    (λ f c of outside. ⊎_elim
-    (λ (at : left (file_half a) f). inl (record { free = inr at; outside = outside }))
-    (λ (other : IsFreeOrWhole text f). ⊎_elim
-    (λ (is_free : IsFree f). inl (record { free = inl is_free; outside = outside }))
-    (λ (whole : IsWhole text f). inr whole)
-    other)
-    of)
-
--- A job that could not be begun.
-module _ (tells sinks : Bool) (a b : BenchState) (p : SinkState) (parts : JobParts) where
-  nothing : TookNothing (sink_call sinks p p)
-  nothing = record { taken = refl; faults = refl }
-
-  only_looked : OnlyReads tells a b → OnlyLooked (bench_call tells a b) (sink_call sinks p p)
-  only_looked reads = record { reads = λ is. reads; prints = nothing }
-
-  pub begin_stands : (fault : BeginFault) → ReadsUnlessFault {T = Unit {0}} tells a b (Err fault)
-      → StandsEarly on_job_file (bench_call tells a b) (sink_call sinks p p) (refused (of_begin fault))
-  begin_stands beginning.OutOfMemory reads = nothing
-  begin_stands beginning.JobOpen reads = only_looked reads
-  begin_stands beginning.StoreFault reads = tt
-  begin_stands beginning.DeviceFault reads = tt
-  begin_stands (beginning.CellsDiffer said found) reads = only_looked reads
-  begin_stands (beginning.NotAJob at) reads = only_looked reads
-  begin_stands (beginning.Damaged kept found) reads = only_looked reads
-
-  module _ (told : IsTrue tells) (looks : (IsFree a.file × (parts.size ≡ a.cell_count) → ⊥) → OnlyReads tells a b) (same : SameOutside a.operation a.cells b.cells)
-      (after : IsFree a.file → IsFreeOrWhole (body_of (job_of parts b.cells)) b.file)
-      (stops : Leaves (file_half a) (file_half b) (IsOfBegin (file_half a) (body_of (job_of parts b.cells)))) (cells : AsEntered a b) (off : Off a b b.cells)
-      (many : length b.cells ≡ a.cell_count) where
-    abbrev its_work : AreParts parts → Work
-    its_work are = work_to New (job_of parts b.cells) are.board are.algorithms b.cells
-
-    abbrev Result : Answer → Type 0
-    Result answer = (are : AreParts parts) → IsFree a.file → parts.size ≡ a.cell_count
-        → (snapshot : List ℕ) × IsJob (job_of parts snapshot) are.board are.algorithms
-        × Carries (bench_call tells a b) (sink_call sinks p p) (IsUntouched a) (work_to New (job_of parts snapshot) are.board are.algorithms snapshot) answer
-
-    unbegun : (answer : Answer) → yields answer ≡ true → ((are : AreParts parts) → IsFree a.file → Comes (bench_call tells a b) (sink_call sinks p p) (its_work are) nothing_broken answer) → Result answer
-    unbegun answer yield comes = λ are is_free size. (
-      b.cells,
-      job_of_parts parts are b.cells (many ∙ sym size),
-      ends_early tells a b (sink_call sinks p p) (IsUntouched a) (its_work are) answer same (comes are is_free) yield
-          (begun_pairs (body_of (job_of parts b.cells)) stops cells) off,
-    )
-
-    in_begin : (are : AreParts parts) → IsFree a.file → EndsInBegin (bench_call tells a b) (sink_call sinks p p) (its_work are)
-    in_begin are is_free = record {
-      free = is_free;
-      file = ⊎_elim
-          (λ (still : IsFree b.file). inr still)
-          (λ (whole : IsWhole (body_of (job_of parts b.cells)) b.file). inl whole)
-          (after is_free);
-      cells = same;
-      prints = nothing;
-    }
-
-    pub refuses_begin : (fault : BeginFault) → IsBeginFault a.file parts.size a.cell_count fault → ReadsUnlessFault {T = Unit {0}} tells a b (Err fault)
-        → UnopenedAtDeviceFault {T = Unit {0}} (file_half a) (file_half b) (Err fault)
-        → BeginsParts (bench_call tells a b) (sink_call sinks p p) parts (refused (of_begin fault))
-    refuses_begin beginning.OutOfMemory is reads never = record {
-      free = λ its. absurd (cc);
-      some_job = λ some. inr (refl, only_looked reads);
-      not_job = λ at no. inr (refl, only_looked reads);
-      is_damaged = λ kept found damage. inr (refl, only_looked reads);
-      other_size = λ is_free unequal. inr (refl, only_looked reads);
-      begins = unbegun (refused out_of_memory) refl (λ are is_free. record { file = inr (reads.file told); cells = same; prints = nothing });
-    }
-    refuses_begin beginning.StoreFault is reads never = record {
-      free = λ its. absurd (cc);
-      some_job = λ some. inr (refl, only_looked (looks (λ both. not_free some.job a.file some.whole both.0)));
-      not_job = λ at no. inr (refl, only_looked (looks (λ both. no.none.not_free both.0)));
-      is_damaged = λ kept found damage. inr (refl, only_looked (looks (λ both. damaged_open a.file kept found damage both.0)));
-      other_size = λ is_free unequal. inr (refl, only_looked (looks (λ both. unequal both.1)));
-      begins = unbegun (refused store_fault) refl (λ are is_free. inl (in_begin are is_free));
-    }
-    refuses_begin beginning.DeviceFault is reads never = record {
-      free = λ its. absurd (cc);
-      some_job = λ some. inr (refl, only_looked (looks (λ both. not_free some.job a.file some.whole both.0)));
-      not_job = λ at no. inr (refl, only_looked (looks (λ both. no.none.not_free both.0)));
-      is_damaged = λ kept found damage. inr (refl, only_looked (looks (λ both. damaged_open a.file kept found damage both.0)));
-      other_size = λ is_free unequal. inr (refl, only_looked (looks (λ both. unequal both.1)));
-      begins = unbegun (refused device_fault) refl (λ are is_free. inl (in_begin are is_free, never));
-    }
-    refuses_begin beginning.JobOpen is reads never = record {
-      free = λ its. absurd (cc);
-      some_job = λ some. inl refl;
-      not_job = λ at no. absurd (no.none.no_job is.job is.board is.algorithms is.is is.whole);
-      is_damaged = λ kept found damage. absurd (never_jobs a.file kept found damage is.job is.board is.algorithms is.is is.whole);
-      other_size = λ is_free unequal. absurd (not_free is.job a.file is.whole is_free);
-      begins = λ are is_free size. absurd (not_free is.job a.file is.whole is_free);
-    }
-    refuses_begin (beginning.NotAJob at) is reads never = record {
-      free = λ its. absurd (cc);
-      some_job = λ some. absurd (is.none.no_job some.job some.board some.algorithms some.is some.whole);
-      not_job = λ other no. inl (ap (λ (n : ℕ). refused (not_a_job n)) (one_reason a.file at other is no));
-      is_damaged = λ kept found damage. absurd (is.whole kept found damage);
-      other_size = λ is_free unequal. absurd (is.none.not_free is_free);
-      begins = λ are is_free size. absurd (is.none.not_free is_free);
-    }
-    refuses_begin (beginning.Damaged kept found) is reads never = record {
-      free = λ its. absurd (cc);
-      some_job = λ some. absurd (is.none.no_job some.job some.board some.algorithms some.is some.whole);
-      not_job = λ at no. absurd (no.whole kept found is.damaged);
-      is_damaged = λ kept' found' too.
-          let same_kept = one_kept a.file kept found kept' found' is.damaged too in
-          let same_found = one_found a.file kept found kept' found' is.damaged too in
-          inl (cc);
-      other_size = λ is_free unequal. absurd (is.none.not_free is_free);
-      begins = λ are is_free size. absurd (is.none.not_free is_free);
-    }
-    refuses_begin (beginning.CellsDiffer said found) is reads never = record {
-      free = λ its. is.0;
-      some_job = λ some. absurd (not_free some.job a.file some.whole is.0);
-      not_job = λ at no. absurd (no.none.not_free is.0);
-      is_damaged = λ kept was damage. absurd (damaged_open a.file kept was damage is.0);
-      other_size = λ is_free unequal.
-          let said_is : said ≡ parts.size = is.1 in
-          let found_is : found ≡ a.cell_count = is.2 in
-          inl (cc);
-      begins = λ are is_free size. absurd (is.3 (is.1 ∙ size ∙ sym is.2));
-    }
+use Rattle.job_commands.proofs.CarryLemmas.{ends_early, starts_on_path, starts_outside}
+use Rattle.job_commands.proofs.StartLemmas.{over_free, over_as}
 
 three_cases : {A B C R : Type 0} → (A → R) → (B → R) → (C → R) → A ⊎ (B ⊎ C) → R
 three_cases {A} {B} {C} a b c either = ⊎_elim (λ (x : A). a x) (λ (rest : B ⊎ C). ⊎_elim (λ (x : B). b x) (λ (x : C). c x) rest) either
@@ -188,7 +55,7 @@ module _ (tells : Bool) (a b d : BenchState) (out : SinkCall) (w : Work) (idle :
     prints = comes.prints;
   }
   begun_comes k (refused store_fault) comes = three_cases
-      (λ (before : EndsInBegin (bench_call tells b d) out w). absurd (not_free w.job b.file whole before.free))
+      (λ (before : EndsInBegin (bench_call tells b d) out (body w)). absurd (not_free w.job b.file whole before.free))
       (λ (early : EndsBeforePlan (bench_call tells b d) out w). inr (inl (has_begun early)))
       (λ (later : EndsInScript (bench_call tells b d) out w (Breaks w k d) ⊎ EndsInClose (bench_call tells b d) out w k). inr (inr (⊎_elim
       (λ (cut : EndsInScript (bench_call tells b d) out w (Breaks w k d)). inl (record { job = cut.job; prints = cut.prints; way = cut.way }))
@@ -196,7 +63,7 @@ module _ (tells : Bool) (a b d : BenchState) (out : SinkCall) (w : Work) (idle :
       later)))
       comes
   begun_comes k (refused device_fault) comes = three_cases
-      (λ (before : EndsInBegin (bench_call tells b d) out w × NeverBegun (bench_call tells b d)). absurd (not_free w.job b.file whole before.0.free))
+      (λ (before : EndsInBegin (bench_call tells b d) out (body w) × NeverBegun (bench_call tells b d)). absurd (not_free w.job b.file whole before.0.free))
       (λ (early : EndsBeforePlan (bench_call tells b d) out w). inr (inl (has_begun early)))
       (λ (late : EndsInScript (bench_call tells b d) out w (Breaks w k d)). inr (inr (record { job = late.job; prints = late.prints; way = late.way })))
       comes
@@ -214,7 +81,7 @@ module _ (tells : Bool) (a b d : BenchState) (out : SinkCall) (w : Work) (idle :
   from_there {turn} {First} P is one = record { goes_on = one.goes_on; each = λ k c from to at. one.from k c (omega (arith, from, is)) to at }
 
   begun_carries : (answer : Answer) → LeftOnly (165 ∷ body w) (file_half b) → w.surveyed ≡ b.cells
-      → PairsLeave a b (λ f c. IsUntouched a f c ⊎ IsWhole (body w) f) → Off a b w.surveyed → GoesOn (file_half b) (file_half d)
+      → PairsLeave a b (λ f c. IsUntouched a f c ⊎ IsWhole (body w) f) → BrokenOff a b w.surveyed → GoesOn (file_half b) (file_half d)
       → Carries (bench_call tells b d) out (Left b) w answer → Carries (bench_call tells a d) out (IsUntouched a) w answer
   begun_carries answer only surveyed pairs off on rest =
       let path = from_there (IsOnPath w rest.broken) (rest.stops.at_entry idle) rest.stops.path in record {
@@ -260,10 +127,67 @@ begun_stands tells sinks a b d p r First w (refused (call_failed number call end
 begun_stands tells sinks a b d p r First w (refused (mismatch at wanted found)) kind early carries = tt
 begun_stands tells sinks a b d p r First w (refused other) kind early carries = absurd (cc)
 
+-- A job was begun, and b is what its beginning left.
+pub record IsBegun (a b : BenchState) (parts : JobParts) : Type 0 where
+  pub is_free : IsFree a.file
+  pub same : SameOutside a.operation a.cells b.cells
+  pub whole : IsWhole (body_of (job_of parts b.cells)) b.file
+  pub only : LeftOnly (165 ∷ body_of (job_of parts b.cells)) (file_half b)
+  pub idle : b.operation ≡ None
+  pub pairs : PairsLeave a b (λ f c. IsUntouched a f c ⊎ IsWhole (body_of (job_of parts b.cells)) f)
+  pub off : BrokenOff a b b.cells
+
+pub begun_of : (tells sinks : Bool) (a b : BenchState) (p : SinkState) (parts : JobParts) → AreParts parts → parts.size ≡ a.cell_count
+    → StartsParts (bench_call tells a b) (sink_call sinks p p) [] parts done → IsBegun a b parts
+begun_of tells sinks a b p parts are sized starts =
+    let is_free = starts.free refl in
+    let of = starts.begins are is_free sized in
+    let has = of.2.comes.0 in
+    let whole : IsWhole (body_of (job_of parts b.cells)) b.file = subst (λ (s : List ℕ). IsWhole (body_of (job_of parts s)) b.file) (sym has.cells) has.file in
+    record {
+      is_free = is_free;
+      same = subst (λ (s : List ℕ). SameOutside a.operation a.cells s) (sym has.cells) of.2.surveyed;
+      whole = whole;
+      only = subst (λ (f : List ℕ). LeftOnly f (file_half b)) whole has.only;
+      idle = has.idle;
+      pairs = subst (λ (s : List ℕ). PairsLeave a b (λ f c. IsUntouched a f c ⊎ IsWhole (body_of (job_of parts s)) f)) (sym has.cells) of.2.pairs;
+      off = subst (λ (s : List ℕ). BrokenOff a b s) (sym has.cells) of.2.broken_off;
+    }
+
+-- A job that could not be begun was not carried.
+module _ (tells sinks : Bool) (a b : BenchState) (p : SinkState) (parts : JobParts) where
+  unbegun : (w : Work) (r : Refusal) → IsTrue tells → w.surveyed ≡ w.job.snapshot → IsOf has_start (refused r)
+      → BeginsAlone (bench_call tells a b) (sink_call sinks p p) [] w.job (refused r) → Carries (bench_call tells a b) (sink_call sinks p p) (IsUntouched a) w (refused r)
+  unbegun w r told is kind alone = early r kind alone.comes where
+    surveyed : SameOutside a.operation a.cells w.surveyed
+    surveyed = subst (λ (s : List ℕ). SameOutside a.operation a.cells s) (sym is) alone.surveyed
+
+    off : BrokenOff a b w.surveyed
+    off = subst (λ (s : List ℕ). BrokenOff a b s) (sym is) alone.broken_off
+
+    ends : (q : Refusal) → Comes (bench_call tells a b) (sink_call sinks p p) w nothing_broken (refused q) → yields (refused q) ≡ true
+        → Carries (bench_call tells a b) (sink_call sinks p p) (IsUntouched a) w (refused q)
+    ends q comes yield = ends_early tells a b (sink_call sinks p p) (IsUntouched a) w (refused q) surveyed comes yield alone.pairs off
+
+    early : (q : Refusal) → IsOf has_start (refused q) → BegunComes (bench_call tells a b) (sink_call sinks p p) [] w.job (refused q)
+        → Carries (bench_call tells a b) (sink_call sinks p p) (IsUntouched a) w (refused q)
+    early out_of_memory kind comes =
+        let reads = comes.reads told in
+        ends out_of_memory (record { file = inr (reads.file told); cells = same_here a.operation reads.cells.cells; prints = comes.prints }) refl
+    early (input_fault name) kind comes = absurd (cc)
+    early store_fault kind comes = ends store_fault (inl comes) refl
+    early device_fault kind comes = ends device_fault (inl comes) refl
+    early output_fault kind comes = absurd (cc)
+    early q kind comes = absurd comes
+
+  pub begins_refused : (r : Refusal) → IsTrue tells → IsOf has_start (refused r) → StartsParts (bench_call tells a b) (sink_call sinks p p) [] parts (refused r)
+      → BeginsParts (bench_call tells a b) (sink_call sinks p p) parts (refused r)
+  begins_refused r told kind starts = over_as (bench_call tells a b) (sink_call sinks p p) parts.size (refused r)
+      (λ are of. (of.0, of.1, unbegun (work_to New (job_of parts of.0) are.board are.algorithms of.0) r told refl kind of.2)) starts
+
 -- The whole: a job was begun, and carried.
-module _ (tells sinks : Bool) (a b d : BenchState) (p r : SinkState) (parts : JobParts) (answer : Answer) (is_free : IsFree a.file) (sized : parts.size ≡ a.cell_count)
-    (count : b.cell_count ≡ a.cell_count) (many : length b.cells ≡ b.cell_count) (same : SameOutside a.operation a.cells b.cells)
-    (whole : IsWhole (body_of (job_of parts b.cells)) b.file) (only : LeftOnly (165 ∷ body_of (job_of parts b.cells)) (file_half b)) (idle : b.operation ≡ None)
+module _ (tells sinks : Bool) (a b d : BenchState) (p r : SinkState) (parts : JobParts) (answer : Answer) (sized : parts.size ≡ a.cell_count)
+    (count : b.cell_count ≡ a.cell_count) (many : length b.cells ≡ b.cell_count) (has : IsBegun a b parts)
     (from : GoesOnFrom New (bench_call tells b d) (sink_call sinks p r) answer) where
   abbrev works : AreParts parts → Work
   works are = work_to New (job_of parts b.cells) are.board are.algorithms b.cells
@@ -273,23 +197,15 @@ module _ (tells sinks : Bool) (a b d : BenchState) (p r : SinkState) (parts : Jo
 
   pub carried : (are : AreParts parts) → Carries (bench_call tells b d) (sink_call sinks p r) (Left b) (works are) answer
   carried are =
-      let its = from.stands (job_of parts b.cells) are.board are.algorithms (is_job are) whole (are.size ∙ sized ∙ sym count) in
+      let its = from.stands (job_of parts b.cells) are.board are.algorithms (is_job are) has.whole (are.size ∙ sized ∙ sym count) in
       subst (λ (s : List ℕ). Carries (bench_call tells b d) (sink_call sinks p r) (Left b) (work_to New (job_of parts b.cells) are.board are.algorithms s) answer)
-      (exactly tells a b d (sink_call sinks p r) (works are) idle same whole its.0 its.1.surveyed) its.1
+      (exactly tells a b d (sink_call sinks p r) (works are) has.idle has.same has.whole its.0 its.1.surveyed) its.1
 
-  pub begins_whole : AreParts parts → Leaves (file_half a) (file_half b) (IsOfBegin (file_half a) (body_of (job_of parts b.cells))) → AsEntered a b
-      → Off a b b.cells → GoesOn (file_half b) (file_half d) → BeginsParts (bench_call tells a d) (sink_call sinks p r) parts (begun answer)
-  begins_whole one stops cells off on =
-      subst (λ (x : Answer). BeginsParts (bench_call tells a d) (sink_call sinks p r) parts x) (sym (begun_is answer (carried one))) (record {
-        free = λ its. is_free;
-        some_job = λ some. absurd (not_free some.job a.file some.whole is_free);
-        not_job = λ at no. absurd (no.none.not_free is_free);
-        is_damaged = λ kept found damage. absurd (damaged_open a.file kept found damage is_free);
-        other_size = λ free_too unequal. absurd (unequal sized);
-        begins = λ are free_too size. (
-          b.cells,
-          is_job are,
-          begun_carries tells a b d (sink_call sinks p r) (works are) idle same whole answer only refl
-              (begun_pairs (body_of (job_of parts b.cells)) stops cells) off on (carried are),
-        );
-      })
+  pub begins_whole : AreParts parts → GoesOn (file_half b) (file_half d) → BeginsParts (bench_call tells a d) (sink_call sinks p r) parts (begun answer)
+  begins_whole one on =
+      subst (λ (x : Answer). BeginsParts (bench_call tells a d) (sink_call sinks p r) parts x) (sym (begun_is answer (carried one)))
+      (over_free (bench_call tells a d) (sink_call sinks p r) parts.size answer has.is_free sized (λ are. (
+        b.cells,
+        is_job are,
+        begun_carries tells a b d (sink_call sinks p r) (works are) has.idle has.same has.whole answer has.only refl has.pairs has.off on (carried are),
+      )))

@@ -1,5 +1,5 @@
 -- A job is carried: entered (a), opened (b), surveyed (m), finished (d).
-use Rattle.std.proofs.Common.{◌≡◌, ◌⊎◌, ⊎_elim, inl, inr, refl, ◌≤◌, ◌+◌, arith, ◌++◌, ◌∙◌, ℕ, Bool, true, List, None, ap, subst, append_assoc}
+use Rattle.std.proofs.Common.{◌≡◌, ◌⊎◌, ⊎_elim, inl, inr, refl, ◌≤◌, ◌+◌, arith, ◌++◌, ◌∙◌, ℕ, Bool, true, List, Option, None, sym, ap, subst, append_assoc}
 use Rattle.faults.specs.Counts.{Rose}
 use Rattle.outside_io.specs.State.{SinkState}
 use Rattle.outside_io.specs.Appends.{AppendsPart}
@@ -10,15 +10,16 @@ use Rattle.bench_model.specs.Pairs.{PairsLeave}
 use Rattle.bench_model.proofs.Moments.{leaves_as, pairs_as, pairs_then, never}
 use Rattle.job_text.specs.Files.{IsWhole, IsFree}
 use Rattle.campaign.specs.Stops.{IsAtClose}
+use Rattle.target_core.proofs.UnitLemmas.{fresh_idle}
 use Rattle.flash_session.specs.Script.{Broken}
 use Rattle.flash_session.specs.Starts.{start_of}
 use Rattle.report_text.specs.Refusal.{out_of_memory, store_fault, device_fault, output_fault, call_failed, mismatch}
 use Rattle.command_answers.specs.Call.{SinkCall, TookNothing, TookAll, TookPart, TookPartBehind, Answer, done, refused, bench_call, sink_call}
 use Rattle.command_answers.specs.Answered.{yields}
 use Rattle.job_commands.specs.Work.{Work, body, shown_plan, Breaks, IsOnPath, IsOutsidePlanAsSurveyed}
-use Rattle.job_commands.specs.Carry.{EndsBeforePlan, HasJob, HasReached, Comes, Carries, done_text}
+use Rattle.job_commands.specs.Carry.{EndsBeforePlan, HasJob, HasReached, Comes, Carries, done_text, BrokenOff}
 use Rattle.job_commands.specs.Steps.{FinishComes, Finishes}
-use Rattle.job_commands.proofs.TurnLemmas.{Off, turn_then, off_as, off_then, settled_then, ended_then}
+use Rattle.job_commands.proofs.TurnLemmas.{turn_then, off_as, off_then, settled_then, ended_then}
 use Rattle.job_commands.proofs.FinishLemmas.{nothing_broken}
 
 -- cells that only an operation open at entry may have changed
@@ -30,7 +31,11 @@ entered a b exact adds = leaves_as (left (cells_half a)) (λ c. SameOutside a.op
 
 -- the script begins with the cells as surveyed
 pub starts_on_path : (w : Work) (broken : Broken) → IsOnPath w broken w.surveyed
-starts_on_path w broken = record { at = start_of w.board w.surveyed; on = inl refl; left = refl }
+starts_on_path w broken = record {
+  at = start_of w.board w.surveyed;
+  on = inl refl;
+  left = subst (λ (o : Option (ℕ × ℕ)). SameOutside o w.surveyed w.surveyed) (sym (fresh_idle w.board.kind)) refl;
+}
 
 pub starts_outside : (w : Work) → IsOutsidePlanAsSurveyed w w.surveyed
 starts_outside w = record { long = refl; same = λ i out. refl }
@@ -38,7 +43,7 @@ starts_outside w = record { long = refl; same = λ i out. refl }
 -- An end before the script.
 pub ends_early : (tells : Bool) (a x : BenchState) (out : SinkCall) (First : List ℕ → List ℕ → Type 0) (w : Work) (answer : Answer)
     → SameOutside a.operation a.cells w.surveyed → Comes (bench_call tells a x) out w nothing_broken answer → yields answer ≡ true
-    → PairsLeave a x (λ f c. First f c ⊎ IsWhole (body w) f) → Off a x w.surveyed
+    → PairsLeave a x (λ f c. First f c ⊎ IsWhole (body w) f) → BrokenOff a x w.surveyed
     → Carries (bench_call tells a x) out First w answer
 ends_early tells a x out First w answer surveyed comes yield pairs off = record {
   surveyed = surveyed;
@@ -60,7 +65,7 @@ ends_early tells a x out First w answer surveyed comes yield pairs off = record 
 -- An end before the plan, of a job that the file at entry stands for.
 module _ (tells sinks : Bool) (a x : BenchState) (p : SinkState) (w : Work) (whole : IsWhole (body w) a.file) (surveyed : SameOutside a.operation a.cells w.surveyed)
     (same : x.file ≡ a.file) (outside : SameOutside a.operation a.cells x.cells) (pairs : PairsLeave a x (λ f c. Left a f c ⊎ IsWhole (body w) f))
-    (off : Off a x w.surveyed) where
+    (off : BrokenOff a x w.surveyed) where
   nothing : TookNothing (sink_call sinks p p)
   nothing = record { taken = refl; faults = refl }
 
@@ -129,7 +134,7 @@ module _ (tells sinks : Bool) (a m d : BenchState) (p q r : SinkState) (w : Work
       record { job = rest.0; prints = nothing_then sinks p q r (shown_plan w) plan rest.2; way = rest.1 }
   comes_then b (refused other) rest = absurd rest
 
-  pub ends_finished : (First : List ℕ → List ℕ → Type 0) (answer : Answer) → PairsLeave a m (λ f c. First f c ⊎ IsWhole (body w) f) → Off a m w.surveyed → m.operation ≡ None
+  pub ends_finished : (First : List ℕ → List ℕ → Type 0) (answer : Answer) → PairsLeave a m (λ f c. First f c ⊎ IsWhole (body w) f) → BrokenOff a m w.surveyed → m.operation ≡ None
       → Finishes (bench_call tells m d) (sink_call sinks q r) w answer → Carries (bench_call tells a d) (sink_call sinks p r) First w answer
   ends_finished First answer pairs off idle rest = record {
     surveyed = surveyed;

@@ -1,5 +1,6 @@
 -- The counts of faults of a job's work.
-use Rattle.std.proofs.Common.{◌≡◌, ◌≤◌, ◌∙◌, refl, sym, ap, subst, arith, ℕ, Bool, false, List, Option, Some, None, IfSome, IsSomeAnd, Ok, Err}
+use Rattle.std.proofs.Common.{◌≡◌, ◌≤◌, ◌<◌, ◌∙◌, ⊎_elim, refl, sym, ap, subst, arith, ℕ, Bool, false, List, Option, Some, None, IfSome, IsSomeAnd, Ok, Err}
+use Rattle.std.proofs.lemmas.Bool.{cases_lt}
 use Rattle.faults.specs.Counts.{Rose}
 use Rattle.outside_io.specs.State.{SinkState}
 use Rattle.outside_io.specs.declared.sink.OutputFault.{OutputFault}
@@ -34,6 +35,13 @@ worked_lawful bench inputs out has its names answer kind one none same counts st
   none_failed = λ told no. same.failed told;
 }
 
+-- a count that stays where nothing is refused
+pub uncounted : (before after : ℕ) (fault : Fault) → IsCounted before after fault done → after ≡ before
+uncounted before after fault counted = ⊎_elim
+    (λ (more : before < after). absurd (let none : None ≡ Some fault = counted.answered more in cc))
+    (λ (no : after ≤ before). omega (arith, no, counted.later))
+    (cases_lt before after)
+
 same_fault : (answer : Answer) → fault_in (begun answer) ≡ fault_in answer
 same_fault done = refl
 same_fault (refused no_job) = refl
@@ -62,6 +70,20 @@ raised_here first before after fault answer same rose later is = record {
   only = λ its. subst (λ (n : ℕ). Rose n after) same rose;
   answered = λ more. is;
 }
+
+-- a job was begun, and no fault was counted; then a line was put, or it failed
+module _ (tells sinks : Bool) (a b : BenchState) (p r : SinkState) (one : BenchCounted (bench_call tells a b) (sink_call sinks p p) done) where
+  pub put_counted : r.faults ≡ p.faults → BenchCounted (bench_call tells a b) (sink_call sinks p r) done
+  put_counted same = record { store_count = one.store_count; device_count = one.device_count; out_count = unraised p.faults r.faults output done same (λ is. cc) }
+
+  pub unput_counted : Rose p.faults r.faults → p.faults ≤ r.faults → BenchCounted (bench_call tells a b) (sink_call sinks p r) (refused output_fault)
+  unput_counted rose later =
+      let answer = refused output_fault in
+      record {
+        store_count = unraised a.store_faults b.store_faults store answer (uncounted a.store_faults b.store_faults store one.store_count) (λ its. let same : output ≡ store = cc in cc);
+        device_count = unraised a.device_faults b.device_faults device answer (uncounted a.device_faults b.device_faults device one.device_count) (λ its. let same : output ≡ device = cc in cc);
+        out_count = raised_here p.faults p.faults r.faults output answer refl rose later refl;
+      }
 
 -- a session was opened, and no fault was counted; then its survey failed
 pub survey_counted : (tells sinks : Bool) (a b m : BenchState) (p : SinkState) (fault : SurveyFault) → b.store_faults ≡ a.store_faults → b.device_faults ≡ a.device_faults

@@ -15,8 +15,8 @@ use Rattle.command_files.specs.Inputs.{FilesGiven}
 use Rattle.command_files.specs.Files.{Aim}
 use Rattle.command_answers.specs.Call.{Call}
 use Rattle.job_commands.specs.GoOn.{GoOnAnswers}
-use Rattle.job_commands.specs.Program.{HasTexts, job_for, ProgramAnswers}
-use Rattle.job_commands.specs.Law.{aim_of, asked_by, later_call, LaterCall, AllAnswer, IsFirst, AllFollow, calls_of, campaign_of, IsSafeFrom}
+use Rattle.job_commands.specs.Beginning.{HasTexts, job_for}
+use Rattle.job_commands.specs.Law.{FirstAnswers, aim_of, asked_by, later_call, LaterCall, AllAnswer, IsFirst, AllFollow, calls_of, campaign_of, IsSafeFrom}
 use Rattle.job_commands.proofs.LawLemmas.{later_keeps, first_keeps}
 
 -- the later calls, each with a moment of its close, go on as those of a campaign do
@@ -45,7 +45,7 @@ module _ (start : BenchState) (job : Job) (b : board.Shown) (xs : List flm.Shown
       record { turns = keeps.turn ∷ next.turns; each = ap suc next.each; go_on = (all.0, kept, next.go_on) }
 
 pub calls_are_safe : (asked : FilesAsked) (first : Call) (end : ℕ) (files : FilesGiven) (aim : Aim) (later : List LaterCall) → HasTexts files aim
-    → ProgramAnswers asked first → IsFirst asked first end files aim → AllAnswer GoOnAnswers later → IsSafeFrom first end files aim later
+    → FirstAnswers asked first → IsFirst asked first end files aim → AllAnswer GoOnAnswers later → IsSafeFrom first end files aim later
 calls_are_safe asked first end files aim later has answers is answer =
     let start = first.bench.before in
     let begins = first_keeps asked first answers files aim has is.tells is.tells_files is.exact is.are_files is.is_aim (is.free start.file is.told.as_read) in
@@ -60,6 +60,6 @@ calls_are_safe asked first end files aim later has answers is answer =
       are_safe = λ all.
           let followed = follow start job aim.board aim.algorithms begins.is_job is.free None start first.bench.after begins.turn its.laid end later is.later is.in_time safe answer all in
           let made : IsCampaign (campaign_of its first begins.turn end followed.turns later) =
-          record { told = is.told; free = is.free; later = is.later; in_time = is.in_time; program = begins.stops; calls = followed.go_on } in
+          record { told = is.told; free = is.free; later = is.later; in_time = is.in_time; first = begins.stops; calls = followed.go_on } in
           record { turns = followed.turns; each = followed.each; is_campaign = made; safe = campaigns_are_safe (campaign_of its first begins.turn end followed.turns later) made };
     }

@@ -1,29 +1,35 @@
 -- What a call answers is what a campaign asks of it.
-use Rattle.std.proofs.Common.{◌≡◌, ◌≢◌, ⊎_elim, inl, inr, refl, ◌≤◌, ◌+◌, ◌∙◌, ℕ, Bool, true, List, ◌∷◌, replicate, IsTrue, sym, ap, subst, arith}
+use Rattle.std.proofs.Common.{◌≡◌, ◌≢◌, ⊎_elim, inl, inr, refl, ◌⊎◌, ◌≤◌, ◌+◌, ◌∙◌, ℕ, Bool, true, List, ◌∷◌, replicate, IsTrue, sym, ap, subst, arith}
 use Rattle.std.proofs.lemmas.Bool.{cases_eq}
 use Rattle.std.proofs.lemmas.List.{length-replicate}
-use Rattle.bench_model.specs.State.{BenchState, Left}
-use Rattle.bench_model.specs.Calls.{OnlyReads}
+use Rattle.bench_model.specs.History.{left}
+use Rattle.bench_model.specs.State.{BenchState, cells_half, Left}
+use Rattle.bench_model.specs.Calls.{SameOutside, OnlyReads}
+use Rattle.bench_model.proofs.Moments.{never}
 use Rattle.board_file.specs.Limits.{size_of}
 use Rattle.board_file.specs.Shown as board
 use Rattle.job_text.specs.Files.{IsFree, IsWhole}
 use Rattle.job_text.specs.Body.{Job, body_of}
 use Rattle.job_text.specs.Stands.{IsSomeJob}
 use Rattle.campaign.specs.Stops as stops
-use Rattle.campaign.specs.Stops.{WorkStops}
+use Rattle.campaign.specs.Stops.{IsUntouched, IsAtClose, WorkStops}
 use Rattle.campaign.specs.Campaign.{goal_of}
 use Rattle.flash_session.specs.declared.goal.Goal.{Goal}
 use Rattle.flash_session.specs.declared.goal.Goal.TheVariants.{New, Old}
 use Rattle.report_text.specs.Refusal.{Refusal, no_job, cells_differ}
 use Rattle.command_words.specs.Files.{FilesAsked}
+use Rattle.command_files.specs.Inputs.{FilesGiven}
+use Rattle.command_files.specs.Files.{Aim, IsAim}
 use Rattle.command_answers.specs.Call.{BenchCall, SinkCall, Call, Answer, done, refused}
 use Rattle.command_answers.specs.Answered.{yields, Refuses, OnlyLooked, StandsEarly, on_job_file}
 use Rattle.command_answers.proofs.FileLemmas.{not_free}
 use Rattle.job_commands.specs.Work.{Work, body}
 use Rattle.job_commands.specs.Carry.{Comes, Carries}
 use Rattle.job_commands.specs.GoOn.{goal_cells, work_to, GoOnAnswers}
-use Rattle.job_commands.specs.Program.{ProgramAnswers}
-use Rattle.job_commands.specs.Law.{aim_of, asked_by, KeepsFor, LaterKeeps, FirstKeeps}
+use Rattle.job_commands.specs.Beginning.{HasTexts, job_for, OverFile}
+use Rattle.job_commands.specs.Program.{Begins, ProgramAnswers}
+use Rattle.job_commands.specs.Begin.{Starts, BeginAnswers}
+use Rattle.job_commands.specs.Law.{aim_of, asked_by, KeepsFor, LaterKeeps, FirstAnswers, FirstStops, FirstKeeps}
 use Rattle.job_commands.proofs.RegionLemmas.{aim_job}
 
 -- A refusal of a job file only looks at it, whether it is answered or yields.
@@ -117,31 +123,64 @@ later_keeps goal call answers job b xs told is_job class =
     (cases_eq (size_of b.regions) call.bench.before.cell_count))
     class
 
-pub first_keeps : (asked : FilesAsked) (call : Call) → ProgramAnswers asked call → FirstKeeps asked call
-first_keeps asked call answers files aim has told told_inputs exact are is is_free =
-    let on = answers.ends.files.goes files aim told_inputs are is told in
-    ⊎_elim
-    (λ (size : size_of aim.board.regions ≡ call.bench.before.cell_count).
-    let begins = on.begins has is_free size in
-    record { snapshot = begins.snapshot; is_job = begins.is_job; turn = begins.carries.stops.turn; stops = record { pairs = begins.carries.stops.pairs } })
-    (λ (other : size_of aim.board.regions ≢ call.bench.before.cell_count).
-    let refuses = on.other_size is_free other in
-    let looked = looks call.bench call.out answers.answer (cells_differ (size_of aim.board.regions) call.bench.before.cell_count) (λ early. early) answers.ends.lawful.stands refuses in
-    let reads = looked.reads told in
-    let later : call.bench.before.moment ≤ call.bench.after.moment = reads.moments.goes_on.later in
-    record {
-      snapshot = replicate (size_of aim.board.regions) 0;
-      is_job = aim_job asked.raw_at files aim has (replicate (size_of aim.board.regions) 0) is (length-replicate (size_of aim.board.regions) 0);
-      turn = call.bench.after.moment + 1;
-      stops = record {
-        pairs = record {
-          started = omega (arith, later);
-          later = later;
-          before = λ k f c at_from at_to less f_at c_at.
-              let at = only_left call.bench.tells call.bench.before call.bench.after reads k f c at_from at_to f_at c_at in
-              inl (record { free = inr at.0; outside = exact c at.1 });
-          from = λ k f c at_from at_to f_at c_at. absurd (omega (arith, at_from, at_to));
+-- A first call for which it shows so much over a free file.
+module _ (asked : FilesAsked) (call : Call) (answer : Answer) (files : FilesGiven) (aim : Aim) (has : HasTexts files aim) (told : IsTrue call.bench.tells)
+    (exact : (c : List ℕ) → left (cells_half call.bench.before) c → SameOutside call.bench.before.operation call.bench.before.cells c)
+    (stands : StandsEarly on_job_file call.bench call.out answer) (is : IsAim asked.raw_at files aim) (is_free : IsFree call.bench.before.file) where
+  first_stops : (Begins : Type 0) → (Begins → FirstStops call files aim)
+      → OverFile call.bench call.out (size_of aim.board.regions) answer (HasTexts files aim) (λ has. Begins) → FirstStops call files aim
+  first_stops Begins stops on = ⊎_elim
+      (λ (size : size_of aim.board.regions ≡ call.bench.before.cell_count). stops (on.begins has is_free size))
+      (λ (other : size_of aim.board.regions ≢ call.bench.before.cell_count).
+      let refuses = on.other_size is_free other in
+      let looked = looks call.bench call.out answer (cells_differ (size_of aim.board.regions) call.bench.before.cell_count) (λ early. early) stands refuses in
+      let reads = looked.reads told in
+      let later : call.bench.before.moment ≤ call.bench.after.moment = reads.moments.goes_on.later in
+      record {
+        snapshot = replicate (size_of aim.board.regions) 0;
+        is_job = aim_job asked.raw_at files aim has (replicate (size_of aim.board.regions) 0) is (length-replicate (size_of aim.board.regions) 0);
+        turn = call.bench.after.moment + 1;
+        stops = record {
+          pairs = record {
+            started = omega (arith, later);
+            later = later;
+            before = λ k f c at_from at_to less f_at c_at.
+                let at = only_left call.bench.tells call.bench.before call.bench.after reads k f c at_from at_to f_at c_at in
+                inl (record { free = inr at.0; outside = exact c at.1 });
+            from = λ k f c at_from at_to f_at c_at. absurd (omega (arith, at_from, at_to));
+          };
         };
-      };
-    })
-    (cases_eq (size_of aim.board.regions) call.bench.before.cell_count)
+      })
+      (cases_eq (size_of aim.board.regions) call.bench.before.cell_count)
+
+program_stops : (call : Call) (answer : Answer) (files : FilesGiven) (aim : Aim) → Begins call.bench call.out files aim answer → FirstStops call files aim
+program_stops call answer files aim begins =
+    record { snapshot = begins.snapshot; is_job = begins.is_job; turn = begins.carries.stops.turn; stops = record { pairs = begins.carries.stops.pairs } }
+
+-- `begin` is never at a close
+begin_stops : (call : Call) (answer : Answer) (files : FilesGiven) (aim : Aim) → Starts call.bench call.out files aim answer → FirstStops call files aim
+begin_stops call answer files aim starts =
+    let body = body_of (job_for files aim starts.snapshot) in
+    let its = aim_of (job_for files aim starts.snapshot) aim.board in
+    record {
+      snapshot = starts.snapshot;
+      is_job = starts.is_job;
+      turn = call.bench.after.moment + 1;
+      stops = record { pairs = never (λ f c. IsUntouched call.bench.before f c ⊎ IsWhole body f) (IsAtClose its.body its.laid) starts.begins.pairs };
+    }
+
+program_keeps : (asked : FilesAsked) (call : Call) → ProgramAnswers asked call → FirstKeeps asked call
+program_keeps asked call answers files aim has told told_inputs exact are is is_free =
+    first_stops asked call answers.answer files aim has told exact answers.ends.lawful.stands is is_free (Begins call.bench call.out files aim answers.answer)
+    (program_stops call answers.answer files aim) (answers.ends.files.goes files aim told_inputs are is told)
+
+begin_keeps : (asked : FilesAsked) (call : Call) → BeginAnswers asked call → FirstKeeps asked call
+begin_keeps asked call answers files aim has told told_inputs exact are is is_free =
+    first_stops asked call answers.answer files aim has told exact answers.ends.lawful.stands is is_free (Starts call.bench call.out files aim answers.answer)
+    (begin_stops call answers.answer files aim) (answers.ends.files.goes files aim told_inputs are is told)
+
+pub first_keeps : (asked : FilesAsked) (call : Call) → FirstAnswers asked call → FirstKeeps asked call
+first_keeps asked call either = ⊎_elim
+    (λ (answers : ProgramAnswers asked call). program_keeps asked call answers)
+    (λ (answers : BeginAnswers asked call). begin_keeps asked call answers)
+    either

@@ -6,6 +6,7 @@ pub mod CarryLemmas
 pub mod OpenLemmas
 pub mod SurveyLemmas
 pub mod CountLemmas
+pub mod StartLemmas
 pub mod BeginLemmas
 pub mod RegionLemmas
 pub mod EntryLemmas

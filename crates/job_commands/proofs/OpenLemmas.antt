@@ -24,10 +24,9 @@ use Rattle.command_answers.specs.Call.{BenchCall, SinkCall, TookNothing, Answer,
 use Rattle.command_answers.specs.Answered.{OnlyLooked, StandsEarly, on_job_file}
 use Rattle.command_answers.proofs.FileLemmas.{not_free, damaged_open, one_reason, one_kept, one_found, one_job}
 use Rattle.job_commands.specs.Work.{Work, body}
-use Rattle.job_commands.specs.Carry.{Carries}
+use Rattle.job_commands.specs.Carry.{Carries, BrokenOff}
 use Rattle.job_commands.specs.GoOn.{work_to, GoesOnFrom}
 use Rattle.job_commands.specs.Steps.{of_session, of_survey}
-use Rattle.job_commands.proofs.TurnLemmas.{Off}
 use Rattle.job_commands.proofs.CarryLemmas.{no_memory, no_store, no_device, opened}
 
 -- where the file stands for a job of so many cells, the work on this job is all that is to be shown
@@ -67,7 +66,7 @@ module _ (tells sinks : Bool) (a b : BenchState) (p : SinkState) (goal : Goal) w
   open_stands (session.Open (opening.CellsDiffer said found)) reads = only_looked reads
   open_stands session.DeviceFault reads = tt
 
-  module _ (file : b.file ≡ a.file) (same : SameOutside a.operation a.cells b.cells) (pairs : PairsLeave a b (Left a)) (off : Off a b b.cells) where
+  module _ (file : b.file ≡ a.file) (same : SameOutside a.operation a.cells b.cells) (pairs : PairsLeave a b (Left a)) (off : BrokenOff a b b.cells) where
     pub refuses_open : (fault : SessionFault) → IsSessionFault a.file a.cell_count fault → ReadsIfRefused {T = Session} tells a b (Err fault)
         → GoesOnFrom goal (bench_call tells a b) (sink_call sinks p p) (refused (of_session fault))
     refuses_open session.OutOfMemory is reads = record {
@@ -134,7 +133,7 @@ module _ (tells sinks : Bool) (a b : BenchState) (p : SinkState) (goal : Goal) w
 
 -- a survey that could not be made
 pub refuses_survey : (tells sinks : Bool) (a m : BenchState) (p : SinkState) (w : Work) → IsWhole (body w) a.file → SameOutside a.operation a.cells w.surveyed → m.file ≡ a.file
-    → SameOutside a.operation a.cells m.cells → PairsLeave a m (λ f c. Left a f c ⊎ IsWhole (body w) f) → Off a m w.surveyed
+    → SameOutside a.operation a.cells m.cells → PairsLeave a m (λ f c. Left a f c ⊎ IsWhole (body w) f) → BrokenOff a m w.surveyed
     → (fault : SurveyFault) → Carries (bench_call tells a m) (sink_call sinks p p) (Left a) w (refused (of_survey fault))
 refuses_survey tells sinks a m p w whole surveyed same outside pairs off survey.OutOfMemory = no_memory tells sinks a m p w whole surveyed same outside pairs off
 refuses_survey tells sinks a m p w whole surveyed same outside pairs off survey.DeviceFault = no_device tells sinks a m p w whole surveyed same outside pairs off

@@ -18,8 +18,6 @@ use Rattle.job_text.specs.Said.{algorithms_shown}
 use Rattle.job_text.specs.Fits.{is_device_of, fits, all_fit}
 use Rattle.job_text.specs.declared.job.Job as code
 use Rattle.job_file.specs.declared.fault.OpenFault.TheVariants as opening
-use Rattle.job_file.specs.declared.fault.BeginFault.{BeginFault}
-use Rattle.job_file.specs.declared.fault.BeginFault.TheVariants as beginning
 use Rattle.flash_session.specs.declared.fault.SessionFault.{SessionFault}
 use Rattle.flash_session.specs.declared.fault.SessionFault.TheVariants as session
 use Rattle.flash_session.specs.declared.fault.SurveyFault.{SurveyFault}
@@ -30,12 +28,13 @@ use Rattle.flash_session.specs.Script.{Planned, planned}
 use Rattle.flash_session.specs.Surveys.{Surveyed, ArePlannedFor, HasSurveyed}
 use Rattle.report_text.specs.Plan.{plan_text}
 use Rattle.report_text.specs.Region.{region_text}
-use Rattle.report_text.specs.Refusal.{no_job, store_fault, device_fault, output_fault, call_failed, mismatch}
+use Rattle.report_text.specs.Refusal.{Refusal, no_job, store_fault, device_fault, output_fault, call_failed, mismatch}
 use Rattle.command_answers.specs.Call.{SinkCall, sink_call, TookNothing, TookAll, TookPart, Answer, done, refused}
 use Rattle.command_answers.specs.Answered.{IsOf}
 use Rattle.job_commands.specs.Work.{shown_region, plans_shown}
 use Rattle.job_commands.specs.Printed.{IsPlanFor, ArePlansFor, AreLawful, OfSomePlans, PrintsWork, PrintsEnd}
-use Rattle.job_commands.specs.Steps.{of_session, of_survey, of_begin, has_script, begun}
+use Rattle.job_commands.specs.Steps.{of_session, of_survey, has_script, has_start, begun}
+use Rattle.job_commands.specs.Begin.{PrintsBegun}
 use Rattle.job_commands.proofs.CarryLemmas.{all_then, nothing_then, part_then}
 use Rattle.job_commands.proofs.FitLemmas.{shown_length, some_algorithm, few_algorithms}
 
@@ -56,14 +55,17 @@ survey_prints count out survey.OutOfMemory none = none
 survey_prints count out survey.DeviceFault none = inl none
 survey_prints count out survey.StoreFault none = inl none
 
-pub begin_prints : (count : ℕ) (out : SinkCall) (fault : BeginFault) → TookNothing out → PrintsWork count out (refused (of_begin fault))
-begin_prints count out beginning.OutOfMemory none = none
-begin_prints count out beginning.JobOpen none = none
-begin_prints count out beginning.StoreFault none = inl none
-begin_prints count out beginning.DeviceFault none = inl none
-begin_prints count out (beginning.CellsDiffer said found) none = none
-begin_prints count out (beginning.NotAJob at) none = none
-begin_prints count out (beginning.Damaged kept found) none = none
+pub start_prints : (count : ℕ) (out : SinkCall) (r : Refusal) → IsOf has_start (refused r) → TookNothing out → PrintsWork count out (refused r)
+start_prints count out store_fault kind none = inl none
+start_prints count out device_fault kind none = inl none
+start_prints count out output_fault kind none = absurd (cc)
+start_prints count out (call_failed number call end) kind none = absurd (cc)
+start_prints count out (mismatch at wanted found) kind none = absurd (cc)
+start_prints count out r kind none = none
+
+pub start_prints_begun : (count : ℕ) (out : SinkCall) (r : Refusal) → IsOf has_start (refused r) → TookNothing out → PrintsBegun count out (refused r)
+start_prints_begun count out output_fault kind none = absurd (cc)
+start_prints_begun count out r kind none = none
 
 pub begun_prints : (count : ℕ) (out : SinkCall) (answer : Answer) → PrintsWork count out answer → PrintsWork count out (begun answer)
 begun_prints count out done prints = prints

@@ -23,7 +23,7 @@ use Rattle.command_files.specs.Files.{others_of, flm_files, image_files, AreFor,
 use Rattle.command_files.specs.Steps.{task_aim, IsTask}
 use Rattle.command_files.specs.declared.task.Task.{Task}
 use Rattle.command_files.proofs.ImageLemmas.{maximal_union}
-use Rattle.job_commands.specs.Program.{HasTexts, job_for}
+use Rattle.job_commands.specs.Beginning.{HasTexts, job_for}
 
 -- ---- the image
 

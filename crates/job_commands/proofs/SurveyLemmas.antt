@@ -21,7 +21,8 @@ use Rattle.command_answers.specs.Call.{SinkCall, Answer, refused, bench_call, si
 use Rattle.job_commands.specs.Work.{Work, body, plans_shown, shown_plan}
 use Rattle.job_commands.specs.GoOn.{GoesOnFrom}
 use Rattle.job_commands.specs.Steps.{of_survey, session_work, Finishes}
-use Rattle.job_commands.proofs.TurnLemmas.{Off, off_from}
+use Rattle.job_commands.specs.Carry.{BrokenOff}
+use Rattle.job_commands.proofs.TurnLemmas.{off_from}
 use Rattle.job_commands.proofs.CarryLemmas.{entered, looked, ends_in_plan, ends_finished}
 use Rattle.job_commands.proofs.FinishLemmas.{plans_are}
 use Rattle.job_commands.proofs.OpenLemmas.{only_stands, refuses_survey}
@@ -49,7 +50,7 @@ module _ (tells sinks : Bool) (told : IsTrue tells) (a b m : BenchState) (goal :
   its_pairs = looked (body w) stands.whole only open_pairs pairs
 
   -- from b on the cells stand still
-  off : Off a m m.cells
+  off : BrokenOff a m m.cells
   off = off_from a m m.cells outside (entered a m exact (adds_nothing_then halves reads.cells.moments)) b (entered a b exact halves)
       (leaves_as (left (cells_half b)) (λ c. c ≡ m.cells)
       (λ c at. subst (λ (o : Option (ℕ × ℕ)). SameOutside o b.cells c) idle (alone c at) ∙ sym (reads.cells.cells told)) reads.cells.moments)

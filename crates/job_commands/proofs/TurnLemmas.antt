@@ -6,7 +6,7 @@ use Rattle.bench_model.specs.State.{BenchState, cells_half}
 use Rattle.bench_model.specs.Calls.{SameOutside}
 use Rattle.bench_model.specs.Pairs.{PairsLeave, PairsInTurn}
 use Rattle.bench_model.proofs.Moments.{goes_then, leaves_here}
-use Rattle.job_commands.specs.Carry.{CellsInTurn}
+use Rattle.job_commands.specs.Carry.{CellsInTurn, BrokenOff}
 
 pub turn_then : {a b c : BenchState} {turn : ℕ} (First Before Second : List ℕ → List ℕ → Type 0) → ((f x : List ℕ) → Before f x → First f x)
     → PairsLeave a b First → PairsInTurn b c turn Before Second
@@ -41,18 +41,20 @@ cells_in_turn a b c First Second one two = record {
   from = λ k x from to x_at. two.each k x from to x_at;
 }
 
--- The operation that was open at entry is broken off (a to x) at this moment: before it only its range changed, and from it on the cells are
--- as surveyed.
-pub record Off (a x : BenchState) (surveyed : List ℕ) : Type 0 where
-  pub turn : ℕ
-  pub at_entry : a.operation ≡ None → turn ≡ a.moment
-  pub ended : x.operation ≡ None → turn ≤ x.moment
-  pub moments : CellsInTurn a x turn (λ c. SameOutside a.operation a.cells c) (λ c. c ≡ surveyed)
+-- The operation that was open at entry is broken off (a to x).
+
+same_here_at : (o : Option (ℕ × ℕ)) (c : List ℕ) → SameOutside o c c
+same_here_at None c = refl
+same_here_at (Some range) c = (refl, refl, refl)
+
+-- cells that did not change are the same everywhere
+pub same_here : {b c : List ℕ} (o : Option (ℕ × ℕ)) → c ≡ b → SameOutside o b c
+same_here {b} {c} o is = subst (λ (x : List ℕ). SameOutside o b x) (sym is) (same_here_at o b)
 
 module _ (a x : BenchState) (surveyed : List ℕ) (same : SameOutside a.operation a.cells surveyed)
     (one : Leaves (cells_half a) (cells_half x) (λ c. SameOutside a.operation a.cells c)) where
   -- none was open
-  off_idle : a.operation ≡ None → Off a x surveyed
+  off_idle : a.operation ≡ None → BrokenOff a x surveyed
   off_idle idle = record {
     turn = a.moment;
     at_entry = λ is. refl;
@@ -73,7 +75,7 @@ module _ (a x : BenchState) (surveyed : List ℕ) (same : SameOutside a.operatio
 
   -- one was open up to b, where it was broken off
   off_open : (r : ℕ × ℕ) (b : BenchState) → a.operation ≡ Some r → Leaves (cells_half a) (cells_half b) (λ c. SameOutside a.operation a.cells c)
-      → Leaves (cells_half b) (cells_half x) (λ c. c ≡ surveyed) → Off a x surveyed
+      → Leaves (cells_half b) (cells_half x) (λ c. c ≡ surveyed) → BrokenOff a x surveyed
   off_open r b some first later = record {
     turn = b.moment;
     at_entry = λ none. absurd (other some none);
@@ -82,17 +84,17 @@ module _ (a x : BenchState) (surveyed : List ℕ) (same : SameOutside a.operatio
   }
 
   off_by : (b : BenchState) → Leaves (cells_half a) (cells_half b) (λ c. SameOutside a.operation a.cells c)
-      → Leaves (cells_half b) (cells_half x) (λ c. c ≡ surveyed) → (o : Option (ℕ × ℕ)) → a.operation ≡ o → Off a x surveyed
+      → Leaves (cells_half b) (cells_half x) (λ c. c ≡ surveyed) → (o : Option (ℕ × ℕ)) → a.operation ≡ o → BrokenOff a x surveyed
   off_by b first later None is = off_idle is
   off_by b first later (Some r) is = off_open r b is first later
 
   -- it was broken off at b, or none was open
   pub off_from : (b : BenchState) → Leaves (cells_half a) (cells_half b) (λ c. SameOutside a.operation a.cells c)
-      → Leaves (cells_half b) (cells_half x) (λ c. c ≡ surveyed) → Off a x surveyed
+      → Leaves (cells_half b) (cells_half x) (λ c. c ≡ surveyed) → BrokenOff a x surveyed
   off_from b first later = off_by b first later a.operation refl
 
   module _ (here : x.cells ≡ surveyed) (exact : (c : List ℕ) → left (cells_half x) c → SameOutside x.operation x.cells c) where
-    off_late : (r : ℕ × ℕ) → a.operation ≡ Some r → (q : Option (ℕ × ℕ)) → x.operation ≡ q → Off a x surveyed
+    off_late : (r : ℕ × ℕ) → a.operation ≡ Some r → (q : Option (ℕ × ℕ)) → x.operation ≡ q → BrokenOff a x surveyed
     off_late r some None is = off_open r x some one
         (leaves_here (cells_half x) (λ c. c ≡ surveyed) (λ c at. subst (λ (o : Option (ℕ × ℕ)). SameOutside o x.cells c) is (exact c at) ∙ here))
     off_late r some (Some q) is = record {
@@ -102,16 +104,16 @@ module _ (a x : BenchState) (surveyed : List ℕ) (same : SameOutside a.operatio
       moments = cells_never (λ c. SameOutside a.operation a.cells c) (λ c. c ≡ surveyed) one;
     }
 
-    off_of : (o : Option (ℕ × ℕ)) → a.operation ≡ o → Off a x surveyed
+    off_of : (o : Option (ℕ × ℕ)) → a.operation ≡ o → BrokenOff a x surveyed
     off_of None is = off_idle is
     off_of (Some r) is = off_late r is x.operation refl
 
     -- at x it is broken off, or still open
-    pub off_at_end : Off a x surveyed
+    pub off_at_end : BrokenOff a x surveyed
     off_at_end = off_of a.operation refl
 
 -- the cells from there on, where they were as surveyed up to m
-pub off_as : {a x : BenchState} {surveyed : List ℕ} (off : Off a x surveyed) (P : List ℕ → Type 0) → P surveyed
+pub off_as : {a x : BenchState} {surveyed : List ℕ} (off : BrokenOff a x surveyed) (P : List ℕ → Type 0) → P surveyed
     → CellsInTurn a x off.turn (λ c. SameOutside a.operation a.cells c) P
 off_as {a} {x} {surveyed} off P start = record {
   started = off.moments.started;
@@ -120,7 +122,7 @@ off_as {a} {x} {surveyed} off P start = record {
   from = λ k c from to at. subst (λ (l : List ℕ). P l) (sym (off.moments.from k c from to at)) start;
 }
 
-module _ (a m d : BenchState) {surveyed : List ℕ} (off : Off a m surveyed) (idle : m.operation ≡ None) (P : List ℕ → Type 0)
+module _ (a m d : BenchState) {surveyed : List ℕ} (off : BrokenOff a m surveyed) (idle : m.operation ≡ None) (P : List ℕ → Type 0)
     (two : Leaves (cells_half m) (cells_half d) P) where
   pub off_then : P surveyed → CellsInTurn a d off.turn (λ c. SameOutside a.operation a.cells c) P
   off_then start =

@@ -29,10 +29,10 @@ HasJob now w = IsWhole (body w) now.file
 abbrev pub done_text : List ℕ
 done_text = end_text Done
 
--- While the job was being begun over a free file: the file is free, or stands for the job.
-pub record EndsInBegin (bench : BenchCall) (out : SinkCall) (w : Work) : Type 0 where
+-- While the job with this body was being begun over a free file: the file is free, or stands for the job.
+pub record EndsInBegin (bench : BenchCall) (out : SinkCall) (body : List ℕ) : Type 0 where
   pub free : IsFree bench.before.file
-  pub file : HasJob bench.after w ⊎ IsFree bench.after.file
+  pub file : IsWhole body bench.after.file ⊎ IsFree bench.after.file
   pub cells : IsAsEntered bench bench.after.cells
   pub prints : TookNothing out
 
@@ -89,9 +89,9 @@ Comes bench out w broken done = HasClosed bench.after w broken × TookAll out (s
 Comes bench out w broken (refused out_of_memory) = EndsWithoutMemory bench out w
 Comes bench out w broken (refused (input_fault name)) = Unit {0}
 Comes bench out w broken (refused store_fault) =
-    EndsInBegin bench out w ⊎ (EndsBeforePlan bench out w ⊎ (EndsInScript bench out w (Breaks w broken bench.after) ⊎ EndsInClose bench out w broken))
+    EndsInBegin bench out (body w) ⊎ (EndsBeforePlan bench out w ⊎ (EndsInScript bench out w (Breaks w broken bench.after) ⊎ EndsInClose bench out w broken))
 Comes bench out w broken (refused device_fault) =
-    (EndsInBegin bench out w × NeverBegun bench) ⊎ (EndsBeforePlan bench out w ⊎ EndsInScript bench out w (Breaks w broken bench.after))
+    (EndsInBegin bench out (body w) × NeverBegun bench) ⊎ (EndsBeforePlan bench out w ⊎ EndsInScript bench out w (Breaks w broken bench.after))
 Comes bench out w broken (refused output_fault) = EndsInPlan bench out w ⊎ (HasClosed bench.after w broken × TookPartBehind out (shown_plan w) done_text)
 Comes bench out w broken (refused (call_failed number call end)) = EndsInScript bench out w (Fails w broken number call end bench.after.cells)
 Comes bench out w broken (refused (mismatch at wanted found)) = EndsInScript bench out w (Misses w broken at wanted found bench.after.cells)
@@ -103,6 +103,14 @@ pub record CellsInTurn (old new : BenchState) (turn : ℕ) (First Second : List 
   pub goes_on : GoesOn (cells_half old) (cells_half new)
   pub before : (k : ℕ) (c : List ℕ) → old.moment ≤ k → k ≤ new.moment → k < turn → new.cells_at k c → First c
   pub from : (k : ℕ) (c : List ℕ) → turn ≤ k → k ≤ new.moment → new.cells_at k c → Second c
+
+-- The operation that was open at entry is broken off at this moment, which is the entry where none was open, and came where none is open
+-- at exit: before it only its range changed, and from it on the cells are as surveyed.
+pub record BrokenOff (old new : BenchState) (surveyed : List ℕ) : Type 0 where
+  pub turn : ℕ
+  pub at_entry : old.operation ≡ None → turn ≡ old.moment
+  pub ended : new.operation ≡ None → turn ≤ new.moment
+  pub moments : CellsInTurn old new turn (λ c. SameOutside old.operation old.cells c) (λ c. c ≡ surveyed)
 
 -- What a stop leaves, of a job that is carried on from pairs that have First.
 pub record Stops (bench : BenchCall) (First : List ℕ → List ℕ → Type 0) (w : Work) (broken : Broken) : Type 0 where

@@ -8,7 +8,7 @@ use Rattle.flm_descriptor.specs.Shown as flm
 use Rattle.job_text.specs.Files.{IsFree, IsWhole}
 use Rattle.job_text.specs.Body.{Job, body_of, IsJob}
 use Rattle.campaign.specs.Stops as stops
-use Rattle.campaign.specs.Stops.{ProgramStops}
+use Rattle.campaign.specs.Stops.{FirstCallStops}
 use Rattle.campaign.specs.Campaign as campaign
 use Rattle.campaign.specs.Campaign.{Keeps, IsTold, IsEntered, Campaign, IsCampaign, IsSafeCampaign}
 use Rattle.flash_session.specs.declared.goal.Goal.{Goal}
@@ -18,7 +18,9 @@ use Rattle.command_words.specs.Files.{FilesAsked}
 use Rattle.command_files.specs.Inputs.{FilesGiven, AreFiles}
 use Rattle.command_files.specs.Files.{Aim, IsAim}
 use Rattle.command_answers.specs.Call.{Call}
-use Rattle.job_commands.specs.Program.{HasTexts, job_for}
+use Rattle.job_commands.specs.Beginning.{HasTexts, job_for}
+use Rattle.job_commands.specs.Program.{ProgramAnswers}
+use Rattle.job_commands.specs.Begin.{BeginAnswers}
 
 -- what a job is to a campaign
 abbrev pub aim_of : Job → board.Shown → stops.Aim
@@ -44,12 +46,16 @@ abbrev pub LaterKeeps : Goal → Call → Type 0
 LaterKeeps goal call = (job : Job) (b : board.Shown) (algorithms : List flm.Shown) → IsTrue call.bench.tells → IsJob job b algorithms
     → IsFree call.bench.before.file ⊎ IsWhole (body_of job) call.bench.before.file → KeepsFor (aim_of job b) goal call
 
--- `program` on a free file, for the job of its files with one snapshot
+-- a call of `program` or of `begin`
+abbrev pub FirstAnswers : FilesAsked → Call → Type 0
+FirstAnswers asked call = ProgramAnswers asked call ⊎ BeginAnswers asked call
+
+-- either on a free file, for the job of its files with one snapshot
 pub record FirstStops (call : Call) (files : FilesGiven) (aim : Aim) : Type 0 where
   pub snapshot : List ℕ
   pub is_job : IsJob (job_for files aim snapshot) aim.board aim.algorithms
   pub turn : ℕ
-  pub stops : ProgramStops call.bench.before call.bench.after turn (aim_of (job_for files aim snapshot) aim.board)
+  pub stops : FirstCallStops call.bench.before call.bench.after turn (aim_of (job_for files aim snapshot) aim.board)
 
 -- A stop at entry leaves no cells but those that the operation open then may leave, as on every bench that tells its contents.
 abbrev pub FirstKeeps : FilesAsked → Call → Type 0
@@ -71,7 +77,7 @@ abbrev pub AllAnswer : (Goal → Call → Type 0) → List LaterCall → Type 0
 AllAnswer Does [] = Unit {0}
 AllAnswer Does (l ∷ rest) = Does l.goal l.call × AllAnswer Does rest
 
--- Where a campaign begins: a call of `program` for these files, on a bench of which a stop at entry leaves no file but free ones. It ended
+-- Where a campaign begins: a call of `program` or `begin` for these files, on a bench of which a stop at entry leaves no file but free ones. It ended
 -- or was stopped at `end`.
 pub record IsFirst (asked : FilesAsked) (call : Call) (end : ℕ) (files : FilesGiven) (aim : Aim) : Type 0 where
   pub tells : IsTrue call.bench.tells
@@ -101,7 +107,7 @@ calls_of [] later = []
 calls_of (turn ∷ turns) [] = []
 calls_of (turn ∷ turns) (l ∷ rest) = later_call l.call l.goal turn l.end ∷ calls_of turns rest
 
--- the campaign of a call of `program` and later ones
+-- the campaign of a call of `program` or `begin` and later ones
 abbrev pub campaign_of : stops.Aim → Call → ℕ → ℕ → List ℕ → List LaterCall → Campaign
 campaign_of aim first turn end turns later =
     record { aim = aim; start = first.bench.before; new = first.bench.after; turn = turn; end = end; calls = calls_of turns later }
@@ -113,7 +119,7 @@ pub record AreSafe (aim : stops.Aim) (first : Call) (turn end : ℕ) (later : Li
   pub is_campaign : IsCampaign (campaign_of aim first turn end turns later)
   pub safe : IsSafeCampaign (campaign_of aim first turn end turns later)
 
--- The call of `program` has one job, with one snapshot, and one moment of its close, such that this holds of later calls that follow.
+-- The first call has one job, with one snapshot, and one moment of its close, such that this holds of later calls that follow.
 pub record IsSafeFrom (first : Call) (end : ℕ) (files : FilesGiven) (aim : Aim) (later : List LaterCall) : Type 0 where
   pub snapshot : List ℕ
   pub is_job : IsJob (job_for files aim snapshot) aim.board aim.algorithms

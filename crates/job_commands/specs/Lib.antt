@@ -3,6 +3,8 @@ pub mod Work
 pub mod Carry
 pub mod Printed
 pub mod GoOn
+pub mod Beginning
 pub mod Program
+pub mod Begin
 pub mod Steps
 pub mod Law

@@ -1,5 +1,5 @@
 -- What the steps of the work on a job answer.
-use Rattle.std.specs.Prelude.{◌≡◌, ◌≢◌, ◌⊎◌, ◌≤◌, ◌↔◌, ℕ, Bool, true, false, List}
+use Rattle.std.specs.Prelude.{◌⊎◌, ◌≤◌, ◌↔◌, ℕ, Bool, true, false, List}
 use Rattle.bench_model.specs.State.{cells_half}
 use Rattle.bench_model.specs.History.{Leaves}
 use Rattle.bench_model.specs.Pairs.{PairsInTurn}
@@ -7,7 +7,6 @@ use Rattle.board_file.specs.Shown as board
 use Rattle.job_text.specs.Said.{algorithms_shown}
 use Rattle.job_text.specs.Files.{IsFree, IsWhole}
 use Rattle.job_text.specs.Body.{Job, IsJob}
-use Rattle.job_text.specs.Stands.{IsSomeJob, IsDamaged, IsNotAJob}
 use Rattle.job_text.specs.Parts.{job_of, AreParts}
 use Rattle.job_text.specs.declared.job.Job as code
 use Rattle.job_text.specs.declared.parts.JobParts.{JobParts}
@@ -24,11 +23,12 @@ use Rattle.flash_session.specs.declared.goal.Goal.TheVariants.{New}
 use Rattle.flash_session.specs.Script.{Broken}
 use Rattle.report_text.specs.Refusal.{Refusal, out_of_memory, job_open, no_job, not_a_job, damaged, cells_differ, store_fault, device_fault, output_fault, call_failed, mismatch}
 use Rattle.command_answers.specs.Call.{BenchCall, SinkCall, TookNothing, TookAll, TookPart, Answer, done, refused}
-use Rattle.command_answers.specs.Answered.{store, device, output, IsCounted, IsUnless, Refuses, OnlyLooked}
+use Rattle.command_answers.specs.Answered.{store, device, output, IsCounted, IsUnless}
 use Rattle.job_commands.specs.Work.{Work, body, Fails, Misses, Breaks, IsOnPath, KeepsDuties, IsOutsidePlanAsSurveyed}
 use Rattle.job_commands.specs.Carry.{HasJob, HasReached, HasClosed, Carries, done_text}
 use Rattle.job_commands.specs.GoOn.{work_to}
-use Rattle.job_commands.specs.Answers.{is_of_free}
+use Rattle.job_commands.specs.Beginning.{OverFile}
+use Rattle.job_commands.specs.Begin.{BeginsAlone}
 
 -- The faults of the layers below, as refusals of the program.
 
@@ -67,19 +67,28 @@ has_script (call_failed number call end) = true
 has_script (mismatch at wanted found) = true
 has_script _ = false
 
+-- those of a job that is begun
+abbrev pub has_start : Refusal → Bool
+has_start out_of_memory = true
+has_start job_open = true
+has_start (not_a_job at) = true
+has_start (damaged kept found) = true
+has_start (cells_differ wanted found) = true
+has_start store_fault = true
+has_start device_fault = true
+has_start _ = false
+
+-- and where this is printed
+abbrev pub has_alone : Refusal → Bool
+has_alone output_fault = true
+has_alone refusal = has_start refusal
+
 -- those of a job that is begun and carried
-abbrev pub has_begin : Refusal → Bool
-has_begin out_of_memory = true
-has_begin job_open = true
-has_begin (not_a_job at) = true
-has_begin (damaged kept found) = true
-has_begin (cells_differ wanted found) = true
-has_begin store_fault = true
-has_begin device_fault = true
-has_begin output_fault = true
-has_begin (call_failed number call end) = true
-has_begin (mismatch at wanted found) = true
-has_begin _ = false
+abbrev pub has_work : Refusal → Bool
+has_work output_fault = true
+has_work (call_failed number call end) = true
+has_work (mismatch at wanted found) = true
+has_work refusal = has_start refusal
 
 -- After a job was begun, a file that is free isn't that job any more. No bench that tells its contents comes to it.
 abbrev pub begun : Answer → Answer
@@ -118,14 +127,13 @@ pub record Finishes (bench : BenchCall) (out : SinkCall) (w : Work) (answer : An
   pub local : KeepsDuties w → Leaves (cells_half bench.before) (cells_half bench.after) (IsOutsidePlanAsSurveyed w)
   pub complete : KeepsDuties w → IsUnless answer done
 
+-- A job of these parts is begun, with this text behind: by what the file is.
+abbrev pub StartsParts : BenchCall → SinkCall → List ℕ → JobParts → Answer → Type 0
+StartsParts bench out text parts answer = OverFile bench out parts.size answer (AreParts parts) (λ are.
+    (snapshot : List ℕ) × IsJob (job_of parts snapshot) are.board are.algorithms × BeginsAlone bench out text (job_of parts snapshot) answer)
+
 -- A job of these parts is begun, and carried to its image: by what the file is.
-pub record BeginsParts (bench : BenchCall) (out : SinkCall) (parts : JobParts) (answer : Answer) : Type 0 where
-  pub free : is_of_free answer ≡ true → IsFree bench.before.file
-  pub some_job : IsSomeJob bench.before.file → Refuses (OnlyLooked bench out) answer job_open
-  pub not_job : (at : ℕ) → IsNotAJob at bench.before.file → Refuses (OnlyLooked bench out) answer (not_a_job at)
-  pub is_damaged : (kept found : List ℕ) → IsDamaged kept found bench.before.file → Refuses (OnlyLooked bench out) answer (damaged kept found)
-  pub other_size : IsFree bench.before.file → parts.size ≢ bench.before.cell_count
-      → Refuses (OnlyLooked bench out) answer (cells_differ parts.size bench.before.cell_count)
-  pub begins : (are : AreParts parts) → IsFree bench.before.file → parts.size ≡ bench.before.cell_count
-      → (snapshot : List ℕ) × IsJob (job_of parts snapshot) are.board are.algorithms
-      × Carries bench out (IsUntouched bench.before) (work_to New (job_of parts snapshot) are.board are.algorithms snapshot) answer
+abbrev pub BeginsParts : BenchCall → SinkCall → JobParts → Answer → Type 0
+BeginsParts bench out parts answer = OverFile bench out parts.size answer (AreParts parts) (λ are.
+    (snapshot : List ℕ) × IsJob (job_of parts snapshot) are.board are.algorithms
+    × Carries bench out (IsUntouched bench.before) (work_to New (job_of parts snapshot) are.board are.algorithms snapshot) answer)

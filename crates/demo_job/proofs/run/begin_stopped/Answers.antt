@@ -4,7 +4,7 @@ use Rattle.byte_map.specs.Image.{Run}
 use Rattle.job_text.specs.Fits.{Suits}
 use Rattle.command_answers.specs.Answered.{IsOf}
 use Rattle.command_answers.specs.Call.{bench_call, Answer}
-use Rattle.job_commands.specs.Steps.{BeginsParts, BenchCounted, has_begin}
+use Rattle.job_commands.specs.Steps.{BeginsParts, BenchCounted, has_work}
 use Rattle.demo_job.specs.Run.{silence, answer_in}
 use Rattle.demo_job.specs.Scene.{target_of}
 use Rattle.demo_job.proofs.PlanLemmas.{board_size}
@@ -39,6 +39,6 @@ returns g c =
         all = c.parts.ensures.size ∙ scene.size;
       };
       begins = λ told. subst (λ (a : Answer). BeginsParts (bench_call g.B.Bench.tells first begun) silence c.parts.result a) (sym c.refusal_of-refusal.ensures) (c.begin_job.ensures.told told);
-      kind = subst (λ (a : Answer). IsOf has_begin a) (sym c.refusal_of-refusal.ensures) c.begin_job.ensures.kind;
+      kind = subst (λ (a : Answer). IsOf has_work a) (sym c.refusal_of-refusal.ensures) c.begin_job.ensures.kind;
       counts = subst (λ (a : Answer). BenchCounted (bench_call g.B.Bench.tells first begun) silence a) (sym c.refusal_of-refusal.ensures) c.begin_job.ensures.counts;
     }

@@ -1,6 +1,6 @@
 use Rattle.std.proofs.Common.{refl, subst, Option, Some, None, []}
 use Rattle.std.proofs.lemmas.List.Elements.{All-head}
-use Rattle.command_words.specs.Words.{Command, program, resume, revert, plan, verify, compare, status, inspect, dump, demo, Asked}
+use Rattle.command_words.specs.Words.{Command, program, begin, resume, revert, plan, verify, compare, status, inspect, dump, demo, Asked}
 use Rattle.command_words.specs.Requested.{files_of}
 use Rattle.command_words.proofs.WordsLemmas.{one_asked}
 use Rattle.command_files.specs.Inputs.{inputs_call}
@@ -28,6 +28,20 @@ program-requires-clause-may_take g c =
 pub returns-in-Some-Program : goal.returns-in-Some-Program
 returns-in-Some-Program g c = λ asked given.
     ends_as c.args.words.now (Some (program (files_of c.in-Some-Program.names))) asked _ _ _ _ (rw c.in-Some-Program.field-0-is at (c.in-Some-Program.ensures c.args.words.now c.requires.read)) given c.program.ensures
+
+pub begin-requires-clause-has_flm : goal.begin-requires-clause-has_flm
+begin-requires-clause-has_flm g c =
+    let read : Asked c.args.words.now (Some (begin (files_of c.in-Some-Begin.names))) = rw c.in-Some-Begin.field-0-is at (c.in-Some-Begin.ensures c.args.words.now c.requires.read) in
+    read.names.has_flm
+
+pub begin-requires-clause-may_take : goal.begin-requires-clause-may_take
+begin-requires-clause-may_take g c =
+    let read : Asked c.args.words.now (Some (begin (files_of c.in-Some-Begin.names))) = rw c.in-Some-Begin.field-0-is at (c.in-Some-Begin.ensures c.args.words.now c.requires.read) in
+    c.requires.may_take (begin (files_of c.in-Some-Begin.names)) read
+
+pub returns-in-Some-Begin : goal.returns-in-Some-Begin
+returns-in-Some-Begin g c = λ asked given.
+    ends_as c.args.words.now (Some (begin (files_of c.in-Some-Begin.names))) asked _ _ _ _ (rw c.in-Some-Begin.field-0-is at (c.in-Some-Begin.ensures c.args.words.now c.requires.read)) given c.begin.ensures
 
 pub returns-in-Some-Resume : goal.returns-in-Some-Resume
 returns-in-Some-Resume g c = λ asked given.

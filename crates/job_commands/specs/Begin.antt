@@ -1,0 +1,70 @@
+-- What `begin [--raw-at ADDR] BOARD FLM... IMAGE...` answers: a job is begun, and that is all. No cell is changed but in the range of an
+-- operation that was open at entry.
+use Rattle.std.specs.Prelude.{◌≡◌, ◌⊎◌, ℕ, List, None}
+use Rattle.bench_model.specs.History.{LeftOnly}
+use Rattle.bench_model.specs.State.{BenchState, file_half}
+use Rattle.bench_model.specs.Pairs.{PairsLeave}
+use Rattle.job_text.specs.Files.{IsWhole}
+use Rattle.job_text.specs.Body.{Job, body_of, IsJob}
+use Rattle.campaign.specs.Stops.{IsUntouched}
+use Rattle.report_text.specs.End.{end_text}
+use Rattle.report_text.specs.declared.end.End.TheVariants.{Begun}
+use Rattle.report_text.specs.Refusal.{out_of_memory, input_fault, store_fault, device_fault, output_fault}
+use Rattle.command_words.specs.Files.{FilesAsked}
+use Rattle.command_files.specs.Inputs.{InputsCall, FilesGiven}
+use Rattle.command_files.specs.Files.{Aim}
+use Rattle.command_answers.specs.Call.{BenchCall, SinkCall, Call, TookNothing, TookAll, TookPart, Answer, done, refused}
+use Rattle.command_answers.specs.Answered.{has_begin, AnswersBy, OnlyLooked}
+use Rattle.job_commands.specs.Carry.{IsAsEntered, EndsInBegin, NeverBegun, BrokenOff}
+use Rattle.job_commands.specs.Beginning.{job_for, EndsOnJob}
+
+-- the line after a job that was begun
+abbrev pub begun_text : List ℕ
+begun_text = end_text Begun
+
+-- The job was begun: the file stands for it, also after a stop, no operation is open, and the cells are its snapshot.
+pub record HasBegun (now : BenchState) (job : Job) : Type 0 where
+  pub file : IsWhole (body_of job) now.file
+  pub only : LeftOnly now.file (file_half now)
+  pub idle : now.operation ≡ None
+  pub cells : now.cells ≡ job.snapshot
+
+-- When each answer comes, and what stands and was printed then; with this text behind the beginning. For want of memory the file was only
+-- looked at. A fault of the store or the device leaves the file free, or standing for the job, and one of the device comes before the gate
+-- is opened. A file that couldn't be taken comes before all work, as other clauses say.
+abbrev pub BegunComes : BenchCall → SinkCall → List ℕ → Job → Answer → Type 0
+BegunComes bench out text job done = HasBegun bench.after job × TookAll out text
+BegunComes bench out text job (refused out_of_memory) = OnlyLooked bench out
+BegunComes bench out text job (refused (input_fault name)) = Unit {0}
+BegunComes bench out text job (refused store_fault) = EndsInBegin bench out (body_of job)
+BegunComes bench out text job (refused device_fault) = EndsInBegin bench out (body_of job) × NeverBegun bench
+BegunComes bench out text job (refused output_fault) = HasBegun bench.after job × TookPart out text
+BegunComes bench out text job (refused _) = ⊥
+
+-- A job is begun, from entry to exit: its snapshot is the cells of the entry once an operation open then is broken off, which stand from
+-- there on; and the pair that a stop leaves is untouched, or its file is whole.
+pub record BeginsAlone (bench : BenchCall) (out : SinkCall) (text : List ℕ) (job : Job) (answer : Answer) : Type 0 where
+  pub surveyed : IsAsEntered bench job.snapshot
+  pub comes : BegunComes bench out text job answer
+  pub pairs : PairsLeave bench.before bench.after (λ f c. IsUntouched bench.before f c ⊎ IsWhole (body_of job) f)
+  pub broken_off : BrokenOff bench.before bench.after job.snapshot
+
+-- The job of the files of a command is begun.
+pub record Starts (bench : BenchCall) (out : SinkCall) (files : FilesGiven) (aim : Aim) (answer : Answer) : Type 0 where
+  pub snapshot : List ℕ
+  pub is_job : IsJob (job_for files aim snapshot) aim.board aim.algorithms
+  pub begins : BeginsAlone bench out begun_text (job_for files aim snapshot) answer
+
+-- The line where done, a beginning of it where `out` fails, and nothing with any other refusal.
+abbrev pub PrintsBegun : ℕ → SinkCall → Answer → Type 0
+PrintsBegun count out done = TookAll out begun_text
+PrintsBegun count out (refused output_fault) = TookPart out begun_text
+PrintsBegun count out (refused _) = TookNothing out
+
+-- The work of `begin`: all but the status and the line on `err`.
+abbrev pub BeginEnds : FilesAsked → BenchCall → InputsCall → SinkCall → Answer → Type 0
+BeginEnds asked bench inputs out answer = EndsOnJob has_begin PrintsBegun Starts asked bench inputs out answer
+
+-- a call of `begin`
+abbrev pub BeginAnswers : FilesAsked → Call → Type 0
+BeginAnswers asked call = AnswersBy call (BeginEnds asked)
