@@ -49,26 +49,31 @@ free() {
 board board.toml 64 1024 || exit 1
 algorithm a1.flm 64 1024 1024 || exit 1
 compiled_algorithm flash.flm 64 1024 256 || exit 1
+fpec_board fpec.toml 64 1024 || exit 1
+fpec_algorithm fpec.flm 64 1024 256 || exit 1
 firmware firmware.elf 3000 || exit 1
 
-# A program without a stop: the firmware of a compiler, by an algorithm in assembler and by one in C, over cells that are all used.
-for algorithm in a1.flm flash.flm; do
+# A program without a stop: the firmware of a compiler, by an algorithm in assembler, by one in C, and by one in C for the controller FPEC, over
+# cells that are all used.
+for algorithm in a1.flm flash.flm fpec.flm; do
+    board=board.toml
+    [ $algorithm = fpec.flm ] && board=fpec.toml
     begin 0 1
     cp old new
     lay firmware.elf.bin 0 new
-    "$program" job cells program board.toml $algorithm firmware.elf > out 2> err
+    "$program" job cells program $board $algorithm firmware.elf > out 2> err
     row "$algorithm: the status" $?
     row "$algorithm: done is the last line" "$([ "$(tail -n 1 out)" = "done" ]; echo $?)"
     row "$algorithm: nothing on standard error" "$([ ! -s err ]; echo $?)"
     row "$algorithm: the cells" "$(same cells new)"
     row "$algorithm: the job is closed" "$(free)"
-    "$program" job cells verify board.toml firmware.elf > out 2> err
+    "$program" job cells verify $board firmware.elf > out 2> err
     row "$algorithm: verify" $?
     "$program" job cells resume > out 2> err
     row "$algorithm: there is no job to resume" "$([ $? = 7 ]; echo $?)"
     "$program" job cells revert > out 2> err
     row "$algorithm: there is no job to revert" "$([ $? = 7 ]; echo $?)"
-    "$program" job cells program board.toml $algorithm firmware.elf > out 2> err
+    "$program" job cells program $board $algorithm firmware.elf > out 2> err
     row "$algorithm: the same again" $?
     row "$algorithm: has an empty plan" "$([ "$(cat out)" = $'plan none\ncost 0\ndone' ]; echo $?)"
     row "$algorithm: the same cells" "$(same cells new)"

@@ -100,11 +100,48 @@ run 7 '' 'flmprog: job: none' new_job cells revert
 printf '\245\0' > no_job
 run 7 '' 'flmprog: job: not a job at 2' no_job cells status
 run 7 '' 'flmprog: job: not a job at 2' no_job blank program small.toml small.flm right.hex
+run 7 '' 'flmprog: job: not a job at 2' no_job blank begin small.toml small.flm right.hex
+run 7 '' 'flmprog: job: 1024 cells wanted, 4 found' new_job cells begin small.toml small.flm right.hex
 run 2 '' "$usage" new_job cells resume x
 run 2 '' "$usage" new_job cells program
+run 2 '' "$usage" new_job cells begin
+run 2 '' "$usage" new_job cells begin small.toml small.flm
 run 2 '' "$usage" job cells verify --raw-at 0x08000000 --raw-at 0 b a
 run 2 '' "$usage" job cells plan --raw-at 0x123456789 b f i
 run 3 '' 'flmprog: cannot read missing' job cells program missing small.flm right.hex
+run 3 '' 'flmprog: cannot read missing' job cells begin missing small.flm right.hex
+
+# A job that is begun, and no more. No call of the algorithm is made: one that erases another sector than it is told (A5) spoils none. The job
+# is the one that `program` begins, and `resume` and `revert` go on with it.
+jobs=$(realpath "$data/../../session_vectors/data") || exit 1
+cp "$jobs/a1.flm" "$jobs/a5.flm" .
+cp "$jobs/small.toml" sectors.toml
+head -c 1024 /dev/urandom > held
+cp held wanted
+printf '\1\2' | dd status=none of=wanted conv=notrunc
+for flm in a5.flm a1.flm; do
+    rm -f begun
+    cp held device
+    run 0 begun '' begun device begin sectors.toml "$flm" right.hex
+    same "begin with $flm: the cells" 0 "$(cmp -s held device; echo $?)"
+    run 7 '' 'flmprog: job: open' begun device begin sectors.toml "$flm" right.hex
+    run 7 '' 'flmprog: job: open' begun device program sectors.toml "$flm" right.hex
+done
+run 0 $'job open\ndevice 08000000 1024\nimage 2 bytes in 1 runs' '' begun device status
+cp held other_device
+"$program" closed other_device program sectors.toml a1.flm right.hex > out 2> err
+same 'the job that program begins' 0 $? 0 "$(cmp -s <(tail -c +2 closed) <(tail -c +2 begun); echo $?)"
+cp begun first_begun
+"$program" begun device resume > out 2> err
+same 'begin and resume' 0 $? 'done' "$(tail -n 1 out)" 0 "$(cmp -s wanted device; echo $?)"
+cp first_begun begun
+printf 'garbage' | dd status=none of=device conv=notrunc
+"$program" begun device revert > out 2> err
+same 'begin and revert' 0 $? 'done' "$(tail -n 1 out)" 0 "$(cmp -s held device; echo $?)"
+rm -f begun
+"$program" begun device begin sectors.toml a1.flm right.hex > /dev/full 2> err
+same 'a full output of a beginning' 10 $? 'flmprog: output fault' "$(cat err)" 0 "$(cmp -s held device; echo $?)"
+same 'the job of a beginning with a full output' 0 "$(cmp -s begun first_begun; echo $?)"
 
 # A board's text of 1 MiB is parsed, and no longer one.
 (cat board.toml; head -c 1048576 /dev/zero | tr '\0' '#') > long.toml

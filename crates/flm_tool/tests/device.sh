@@ -24,6 +24,19 @@ compiled_algorithm() {
         arm-none-eabi-objcopy --rename-section PrgZero=PrgData "$1.elf" "$1"
 }
 
+# A board with FPEC: NAME SECTORS SIZE.
+fpec_board() { board "$1" "$2" "$3" && printf 'kind = "fpec"\n' >> "$1"; }
+
+# The algorithm in C for FPEC: NAME SECTORS SIZE PAGE.
+fpec_algorithm() {
+    sed -e "s/0x08000000, 1024, 64, 0, 0xFF, 100, 500, { { 256, 0 }/0x08000000, $(($2 * $3)), $4, 0, 0xFF, 100, 500, { { $3, 0 }/" \
+        "$data/flash_fpec.c" > "$1.c" &&
+        arm-none-eabi-gcc -mcpu=cortex-m0 -mthumb -Os -ffreestanding -fpic -msingle-pic-base -mpic-register=r9 \
+            -mno-pic-data-is-text-relative -c -o "$1.o" "$1.c" &&
+        arm-none-eabi-ld -n -T "$data/flash.ld" -o "$1.elf" "$1.o" &&
+        arm-none-eabi-objcopy --rename-section PrgZero=PrgData "$1.elf" "$1"
+}
+
 # Firmware from C, with a table of so many words that makes it long: NAME WORDS. NAME is the ELF file, NAME.bin its bytes from 0x08000000 on.
 firmware() {
     cat > "$1.c" <<'CODE'

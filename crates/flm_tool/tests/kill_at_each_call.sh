@@ -1,11 +1,11 @@
 #!/bin/bash
-# Kills the built program at each of the first system calls of a `program` over real files, one run for each call. After each kill the device is
+# Kills the built program at each of the first system calls of a `program` or a `begin` over real files, one run for each call. After each kill the device is
 # untouched, the job is whole in its file, or the job is finished; a job that is whole is resumed on one copy of both files and reverted on
 # another, and the cells are compared byte for byte.
-#   bash tests/kill_at_each_call.sh [PROGRAM [CALLS [REGIONS [STEP]]]]
-#                              (from crates/flm_tool; else out/flm_tool, 1,000 calls, 1 region, and each call)
+#   bash tests/kill_at_each_call.sh [PROGRAM [CALLS [REGIONS [STEP [COMMAND]]]]]
+#                              (from crates/flm_tool; else out/flm_tool, 1,000 calls, 1 region, each call, and program)
 # With 2 for REGIONS the device has 64 KiB and an information region of 2 KiB, each with an algorithm of its own; then one call of STEP is
-# killed.
+# killed. COMMAND is `program` or `begin`.
 # It wants strace (of Debian's strace). It works in a folder of its own, which it leaves where something is wrong, and ends with status 0 where
 # all is as wanted.
 set -u
@@ -13,6 +13,7 @@ program=$(realpath "${1:-out/flm_tool}") || exit 1
 calls=${2:-1000}
 regions=${3:-1}
 step=${4:-1}
+command=${5:-program}
 data=$(realpath ../session_vectors/data) || exit 1
 small=$(realpath ../file_jobs/data) || exit 1
 folder=$(mktemp -d) || exit 1
@@ -73,7 +74,7 @@ one_region() {
     head -c 1000 /dev/urandom > image
     cp old new
     dd status=none if=image of=new bs=1 seek=1000 conv=notrunc
-    words=(job cells program --raw-at 0x080003E8 board.toml a1.flm image)
+    words=(job cells "$command" --raw-at 0x080003E8 board.toml a1.flm image)
 }
 
 # The same on two regions, with 300 bytes more in the second one. The algorithm of 4 sectors of 256 bytes has its base at 360, its size at 364 and
@@ -100,7 +101,7 @@ two_regions() {
         records more $((0x1FFFF384))
         echo ':00000001FF'
     } > both.hex
-    words=(job cells program board.toml a1.flm info.flm both.hex)
+    words=(job cells "$command" board.toml a1.flm info.flm both.hex)
 }
 
 if [ "$regions" = 2 ]; then two_regions; else one_region; fi
@@ -115,8 +116,13 @@ begin() {
 begin
 strace -o trace "$program" "${words[@]}" > out 2> err
 row 'the status' $?
-row 'the cells' "$(same cells new)"
-row 'the job is closed' "$(free)"
+if [ "$command" = program ]; then
+    row 'the cells' "$(same cells new)"
+    row 'the job is closed' "$(free)"
+else
+    row 'the cells' "$(same cells old)"
+    row 'the job is open' "$([ "$(free)" != 0 ]; echo $?)"
+fi
 sed -n 's/^\([a-z0-9_]*\)(.*/\1/p' trace | tail -n +2 > all
 head -n "$calls" all > names
 echo "$(wc -l < all) system calls"
@@ -179,7 +185,7 @@ done < names
 echo "$killed kills: $untouched times untouched, $whole times whole, $finished times finished"
 row 'as many kills as calls' "$([ $killed -gt 0 ] && [ $killed = $(($(wc -l < names) / step)) ]; echo $?)"
 if [ "$step" = 1 ] && cmp -s all names; then
-    row 'each of the three came' "$([ $untouched -gt 0 ] && [ $whole -gt 0 ] && [ $finished -gt 0 ]; echo $?)"
+    row 'each came that may' "$([ $untouched -gt 0 ] && [ $whole -gt 0 ] && { [ $finished -gt 0 ] || [ "$command" = begin ]; }; echo $?)"
 fi
 echo "$right right, $wrong wrong"
 if [ $wrong = 0 ]; then rm -rf "$folder"; else echo "in $folder"; fi

@@ -96,6 +96,7 @@ fn kind_of(name: &str) -> Result<Kind> {
         "A5" => Kind::A5,
         "A6" => Kind::A6,
         "A7" => Kind::A7,
+        "F1" => Kind::F1,
         _ => bail!("{name}: no such algorithm"),
     })
 }

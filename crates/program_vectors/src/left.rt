@@ -24,16 +24,22 @@ pub fn is_open(file: &[u8]) -> bool {
 /// Whether a command works on a job, and doesn't only look.
 pub fn works(line: &str) -> bool {
     match line.split_whitespace().next() {
-        Some("program") | Some("resume") | Some("revert") => true,
+        Some("program") | Some("begin") | Some("resume") | Some("revert") => true,
         _ => false,
     }
 }
 
-/// What the job of a call is, as the call leaves it where nothing fails: the job file behind its byte 0, the cells, and the cells to which
-/// `resume` brings the job.
+/// Whether a command is done once its job is begun.
+fn only_begins(line: &str) -> bool {
+    line.split_whitespace().next() == Some("begin")
+}
+
+/// What the job of a call is, as the call leaves it where nothing fails: whether it is whole or finished once the call is done, the job file
+/// behind its byte 0, the cells, and the cells to which `resume` brings the job.
 #[derive(Drop)]
 pub struct Aims {
     pub status: u8,
+    pub last: Left,
     pub line: Vec<u8>,
     pub body: Vec<u8>,
     pub goal: Vec<u8>,
@@ -58,17 +64,25 @@ impl Aims {
         let mut bench = bench_with(alloc, &trial.cells, &trial.job, Fails::none())?;
         let answer = call(alloc, trial, Fails::none(), &mut bench, line)?;
         let goal = Vec::from_slice(alloc, bench.cells())?;
+        let body = Vec::from_slice(alloc, bench.file().get(1..).unwrap_or(&[]))?;
+        let last = if only_begins(line) {
+            Left::Whole
+        } else {
+            Left::Finished
+        };
         let image = if works(line) && is_open(&trial.job) {
             let mut bench = bench_with(alloc, &trial.cells, &trial.job, Fails::none())?;
+            cells_after(alloc, trial, &mut bench, "resume")?
+        } else if only_begins(line) {
             cells_after(alloc, trial, &mut bench, "resume")?
         } else {
             Vec::from_slice(alloc, &goal)?
         };
-        let body = bench.file().get(1..).unwrap_or(&[]);
         Ok(Aims {
             status: answer.status,
+            last,
             line: answer.line,
-            body: Vec::from_slice(alloc, body)?,
+            body,
             goal,
             image,
         })

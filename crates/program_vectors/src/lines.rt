@@ -5,7 +5,8 @@
 //!   algorithm A1 to A7 for a region, from 0 on, of the board under a name, with pages of so many bytes and as many milliseconds for a sector's
 //!   erasure. With no REGION it is that of the first.
 //! - `cells COUNT`: so many blank cells. `count LEN` sets each of the first to its place modulo 256. `job BYTES`: the job file. `from JOB CELLS`:
-//!   the job file and the cells are files. `spoil BACK` changes the byte of the job file that stands so many places before its end.
+//!   the job file and the cells are files. `spoil BACK` changes the byte of the job file that stands so many places before its end. `open AT LEN`:
+//!   the operation that is open when the row begins.
 //! - `fail file N`, `fail cells N`, `fail put N`: the call on the job file, the call on the cells or the put on standard output of this number
 //!   fails.
 //! - `run WORDS`: a call on the row's bench. It prints what was put, the status, the cells that aren't as the row began, and the job file.
@@ -14,8 +15,8 @@
 //!   the byte that the stop leaves wherever it may leave any.
 //! - `keep CALLS PICK WORDS`: the row begins with the cells and the job file that such a stop leaves.
 //! - `random SECTORS SIZE`: the job of random bytes on a device of so many sectors of so many bytes (`job`).
-//! - `stops PICK WORDS`: calls of `program` that are stopped at each of their calls in turn. A job that is left is carried on by `resume`, and
-//!   from the same stop back by `revert`.
+//! - `stops PICK WORDS`: calls of `program` or `begin` that are stopped at each of their calls in turn. A job that is left, also by `begin` once
+//!   it is done, is carried on by `resume`, and from the same stop back by `revert`.
 //! - `tenths PICK WORDS`: the same at every tenth call, with an algorithm that breaks its duties. A job that is left is resumed as it is, and
 //!   with the algorithm A1 in it.
 //! - `faults WORDS`: calls of which each call on the job file, on the cells, each put on either stream and each taking of a file fails in its
@@ -151,6 +152,7 @@ fn change(rt: &HostRuntime, trial: &mut Trial, line: &str) -> Result<()> {
         ["job", bytes] => trial.job = bytes_of(rt.alloc(), bytes)?,
         ["from", job, cells] => trial.take(rt.alloc(), job, cells)?,
         ["spoil", back] => trial.spoil(back.parse::<usize>()?)?,
+        ["open", at, len] => trial.open = Some((at.parse::<u32>()?, len.parse::<u32>()?)),
         ["fail", "file", number] => trial.fails.files = [number.parse::<u64>()?, 0],
         ["fail", "cells", number] => trial.fails.cell = number.parse::<u64>()?,
         ["fail", "put", number] => trial.fails.out = number.parse::<u64>()?,

@@ -55,8 +55,8 @@ pub fn keep(alloc: Global, trial: &mut Trial, calls: u64, pick: &str, line: &str
     Ok(())
 }
 
-/// What `program` leaves that is stopped after so many calls; none where it came to its end before. A job that is left is carried on, and
-/// from the same stop back.
+/// What `program` or `begin` leaves that is stopped after so many calls; none where it came to its end before. A job that is left is carried
+/// on, and from the same stop back.
 fn follow(
     alloc: Global,
     trial: &Trial,
@@ -67,18 +67,18 @@ fn follow(
 ) -> Result<Option<Left>> {
     let (status, bench) = stopped(alloc, trial, line, calls, pick)?;
     let left = aims.look(trial, &bench)?;
-    if status == 0 {
-        ensure!(left == Left::Finished, "done, and not finished");
-        return Ok(None);
-    }
     if left == Left::Whole {
         carry(alloc, trial, &bench, "resume", &aims.image)?;
         carry(alloc, trial, &bench, "revert", &trial.cells)?;
     }
+    if status == 0 {
+        ensure!(left == aims.last, "done, and not as it is then");
+        return Ok(None);
+    }
     Ok(Some(left))
 }
 
-/// Stops `program` at each of its calls, with one pick. Prints how many stops there were, and how often which was left.
+/// Stops `program` or `begin` at each of its calls, with one pick. Prints how many stops there were, and how often which was left.
 pub fn stop_all(rt: &HostRuntime, trial: &Trial, pick: &str, line: &str) -> Result<()> {
     let aims = Aims::new(rt.alloc(), trial, line)?;
     let mut tally = Tally::new();

@@ -1,8 +1,10 @@
 //! What a row meets.
+ghost use Rattle.std.specs.Prelude.{◌≡◌, IfOk, None};
+ghost use Rattle.bench_model.specs.Shown.{bench_of};
 
 use crate::files::Files;
 use anyhow::{Context, Result, bail};
-use bench_model::MemoryBench;
+use bench_model::{Bench, MemoryBench};
 use octets::hex_pair;
 use std::alloc::Global;
 
@@ -30,12 +32,14 @@ impl Fails {
     }
 }
 
-/// The files; the bytes of the job file and the cells with which a bench begins; and the calls that are to fail.
+/// The files; the bytes of the job file and the cells with which a bench begins, and the operation that is open on them; and the calls that
+/// are to fail.
 #[derive(Drop)]
 pub struct Trial {
     pub files: Files,
     pub job: Vec<u8>,
     pub cells: Vec<u8>,
+    pub open: Option<(u32, u32)>,
     pub fails: Fails,
 }
 
@@ -52,6 +56,7 @@ impl Trial {
             files: Files::new(alloc),
             job: Vec::new(alloc),
             cells: Vec::new(alloc),
+            open: None,
             fails: Fails::none(),
         }
     }
@@ -60,6 +65,7 @@ impl Trial {
     pub fn begin(&mut self, alloc: Global) -> Result<()> {
         self.job = Vec::new(alloc);
         self.cells = vec![in alloc; 0xFF; 1024]?;
+        self.open = None;
         self.fails = Fails::none();
         Ok(())
     }
@@ -96,12 +102,24 @@ impl Trial {
 
     /// A bench as the row begins.
     pub fn bench(&self, alloc: Global) -> Result<MemoryBench> {
-        bench_with(alloc, &self.cells, &self.job, self.fails)
+        let mut bench = bench_with(alloc, &self.cells, &self.job, self.fails)?;
+        if let Some((at, len)) = self.open {
+            let end = u64::from(at) + u64::from(len);
+            if len == 0
+                || end > u64::from(bench.cells_len())
+                || bench.cells_open(at, len).is_err()
+            {
+                bail!("no such operation");
+            }
+        }
+        Ok(bench)
     }
 }
 
-/// A bench with these cells and this job file. What is broken off first leaves 5A.
-pub fn bench_with(alloc: Global, cells: &[u8], job: &[u8], fails: Fails) -> Result<MemoryBench> {
+/// A bench with these cells and this job file, and no operation. What is broken off first leaves 5A.
+pub fn bench_with(alloc: Global, cells: &[u8], job: &[u8], fails: Fails) -> Result<MemoryBench>
+    ensures { IfOk result (λ bench. (bench_of bench).operation ≡ None) }
+{
     let cells = &cells[..cells.len().min(MOST)];
     Ok(MemoryBench::new(
         alloc,
