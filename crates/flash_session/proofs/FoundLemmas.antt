@@ -30,6 +30,7 @@ plan_still tells b a c d g h p one two is = record {
   layout = is.layout;
   lawful = is.lawful;
   base = is.base;
+  empty = is.empty;
   plan = λ told. subst (λ (x : List ℕ). IsLeastPlan p.layout b.weights (is_some a.entries.erase_chip) a.device.empty d x p.plan) (two told)
       (subst (λ (x : List ℕ). IsLeastPlan p.layout b.weights (is_some a.entries.erase_chip) a.device.empty x g p.plan) (one told) (is.plan told));
   entry = is.entry;

@@ -6,12 +6,12 @@ mod PhaseLemmas
 mod ScriptLemmas
 mod OutcomeLemmas
 mod FuelLemmas
-mod JobLemmas
+pub mod JobLemmas
 mod GoLemmas
 mod PartingLemmas
-mod PartLemmas
+pub mod PartLemmas
 mod GoalLemmas
-mod ReadLemmas
+pub mod ReadLemmas
 mod SurveyLemmas
 mod FoundLemmas
 mod Members

@@ -8,7 +8,7 @@ returns-in-Ok-clause-found g c =
     let e = c.in_ok-geometry.ensures in
     let size = ap (λ (l : Layout). l.size) e.geometry in
     record {
-      plan = record { layout = e.geometry; lawful = e.lawful; base = refl; plan = c.in-Ok.ensures.plan; entry = c.in-Ok.ensures.entry };
+      plan = record { layout = e.geometry; lawful = e.lawful; base = refl; empty = c.empty_of-empty.ensures.byte; plan = c.in-Ok.ensures.plan; entry = c.in-Ok.ensures.entry };
       work = record { work = record { size = size; fit = e.fit; entry = c.in-Ok.ensures.entry; empty = c.empty_of-empty.ensures.byte }; base = refl; end = omega (arith, a.in_memory, size); place = refl };
       bytes = c.in-Ok.ensures.bytes;
       wanted = c.in-Ok.ensures.wanted;
