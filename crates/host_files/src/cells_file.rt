@@ -34,6 +34,11 @@ impl CellsFile {
         }
     }
 
+    /// Has each call fail from now on that another program's lock would have fail.
+    pub fn shut(&mut self) {
+        self.lock = FileLock::lost();
+    }
+
     /// The number of cells: the file's length, at most 2^32 - 1, or 0 where it can't be opened.
     pub fn count(&self) -> u32 {
         self.count

@@ -2,6 +2,7 @@
 ghost use Rattle.std.specs.Prelude.{◌≡◌};
 
 use crate::cells_file::CellsFile;
+use crate::file_id::FileId;
 use crate::host_disk::HostDisk;
 use crate::job_store::JobFile;
 use crate::progress_line::ProgressLine;
@@ -16,20 +17,58 @@ pub struct FileBench {
     line: ProgressLine,
     // the length of the operation that was opened last
     open_len: u32,
+    // which files these are: the job file where it was there
+    job: Option<FileId>,
+    cells: Option<FileId>,
+}
+
+/// Whether one of these benches has this file.
+fn is_taken(benches: &[FileBench], file: Option<FileId>) -> bool {
+    for bench in benches {
+        if bench.has(file) {
+            return true;
+        }
+    }
+    false
 }
 
 impl FileBench {
-    ghost use Rattle.host_files.specs.Bench.{state_of};
+    ghost use Rattle.host_files.specs.Bench.{state_of, job_name_of};
 
     /// Opens the cells file. One that can't be opened counts as no cells, and each call on it that can fail does. The
     /// job file is opened by the first call on it.
     pub fn new(rt: HostRuntime, job_name: Word, cells_name: &str) -> FileBench
+        ensures job { job_name_of result ≡ job_name }
         ensures store { (state_of result).store_faults ≡ 0 }
         ensures device { (state_of result).device_faults ≡ 0 }
     {
-        let cells = CellsFile::open(rt, cells_name);
+        FileBench::beside(rt, job_name, cells_name, &[])
+    }
+
+    /// The same beside other benches of this program. A file that one of these has counts as one that another program writes: each call on it
+    /// that can fail does. So two benches never change one file, whatever locks the system has. A job file that isn't there yet is
+    /// nobody's: what takes it up finds no job.
+    pub fn beside(
+        rt: HostRuntime,
+        job_name: Word,
+        cells_name: &str,
+        others: &[FileBench],
+    ) -> FileBench
+        ensures job { job_name_of result ≡ job_name }
+        ensures store { (state_of result).store_faults ≡ 0 }
+        ensures device { (state_of result).device_faults ≡ 0 }
+    {
+        let job_id = FileId::named(rt, job_name.text());
+        let mut cells = CellsFile::open(rt, cells_name);
+        let cells_id = cells.id();
         let count = cells.count();
-        let job = JobFile::new(rt, job_name, cells.id());
+        let mut job = JobFile::new(rt, job_name, cells_id);
+        if is_taken(others, job_id) {
+            job.shut();
+        }
+        if is_taken(others, cells_id) {
+            cells.shut();
+        }
         FileBench {
             bench: DiskBench::new(
                 WindowedDisk::new(rt.alloc(), HostDisk::new(job, cells)),
@@ -37,11 +76,19 @@ impl FileBench {
             ),
             line: ProgressLine::none(),
             open_len: 0,
+            job: job_id,
+            cells: cells_id,
         }
+    }
+
+    /// Whether one of its files is this one.
+    fn has(&self, file: Option<FileId>) -> bool {
+        file.is_some() && (self.job == file || self.cells == file)
     }
 
     /// Counts from now on on this line which cells were erased and programmed.
     pub fn show_on(&mut self, line: ProgressLine)
+        ensures job { job_name_of self.new ≡ job_name_of self.old }
         ensures count { (state_of self.new).cell_count ≡ (state_of self.old).cell_count }
         ensures store { (state_of self.new).store_faults ≡ (state_of self.old).store_faults }
         ensures device { (state_of self.new).device_faults ≡ (state_of self.old).device_faults }

@@ -1,7 +1,7 @@
 //! Which file of the system one is, whatever its name.
-use std::fs::File;
-use std::io;
+use std::fs::{File, Metadata};
 use std::os::unix::fs::MetadataExt;
+use std::{fs, io};
 
 /// A file's device, and its number there.
 #[derive(Clone, Copy, Debug, PartialEq, Eq)]
@@ -13,10 +13,22 @@ pub struct FileId {
 impl FileId {
     /// That of an open file.
     pub fn of(file: &File) -> io::Result<FileId> {
-        let data = file.metadata()?;
-        Ok(FileId {
+        Ok(FileId::in_data(&file.metadata()?))
+    }
+
+    /// That of the file to which this name leads, if there is one.
+    pub fn named(rt: HostRuntime, name: &str) -> Option<FileId> {
+        match fs::metadata(&rt, name) {
+            Ok(data) => Some(FileId::in_data(&data)),
+            Err(_) => None,
+        }
+    }
+
+    /// What the system says of a file.
+    fn in_data(data: &Metadata) -> FileId {
+        FileId {
             device: data.dev(),
             number: data.ino(),
-        })
+        }
     }
 }

@@ -31,6 +31,13 @@ impl FileLock {
         }
     }
 
+    /// Nothing is held, and nothing ever will be.
+    pub fn lost() -> FileLock
+        ensures { result.hold ≡ Hold.Lost }
+    {
+        FileLock { hold: Hold::Lost }
+    }
+
     /// Keeps other programs from writing the file. Where one does, or has since this lock was lost, it is an error.
     pub fn share(&mut self, file: &File) -> io::Result<()>
         ensures lost { self.old.hold ≡ Hold.Lost → IsErr result }

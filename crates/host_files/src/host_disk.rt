@@ -1,4 +1,6 @@
 //! The files of this host.
+ghost use Rattle.std.specs.Prelude.{◌≡◌};
+
 use crate::cells_file::CellsFile;
 use crate::job_store::JobFile;
 use disk_files::Disk;
@@ -13,7 +15,9 @@ pub struct HostDisk {
 
 impl HostDisk {
     /// The files of a host.
-    pub fn new(job: JobFile, cells: CellsFile) -> HostDisk {
+    pub fn new(job: JobFile, cells: CellsFile) -> HostDisk
+        ensures { result.job ≡ job }
+    {
         HostDisk { job, cells }
     }
 }

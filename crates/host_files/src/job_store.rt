@@ -1,5 +1,5 @@
 //! The job file on the disk.
-ghost use Rattle.std.specs.Prelude.{◌≤◌, length, IfOk};
+ghost use Rattle.std.specs.Prelude.{◌≡◌, ◌≤◌, length, IfOk};
 
 use crate::file_id::FileId;
 use crate::file_lock::FileLock;
@@ -30,7 +30,9 @@ pub struct JobFile {
 
 impl JobFile {
     /// The job file of this name, not opened yet. It may not be the file of the cells.
-    pub fn new(rt: HostRuntime, name: Word, cells: Option<FileId>) -> JobFile {
+    pub fn new(rt: HostRuntime, name: Word, cells: Option<FileId>) -> JobFile
+        ensures { result.name ≡ name }
+    {
         JobFile {
             rt,
             name,
@@ -38,6 +40,13 @@ impl JobFile {
             opened: None,
             lock: FileLock::new(),
         }
+    }
+
+    /// Has each call fail from now on that another program's lock would have fail.
+    pub fn shut(&mut self)
+        ensures { self.new.name ≡ self.old.name }
+    {
+        self.lock = FileLock::lost();
     }
 
     /// Opens the file, or makes it where it is missing.

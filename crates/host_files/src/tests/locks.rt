@@ -1,6 +1,6 @@
 //! Other programs at the same files.
 
-use super::{Files, Temporary};
+use super::{Files, Temporary, bench_over};
 use crate::file_bench::FileBench;
 use bench_model::Bench;
 use octets::Word;
@@ -153,6 +153,39 @@ fn the_cells_file_is_no_job_file(rt: HostRuntime) -> Result<(), Fail> {
     assert!(rt; is_the_cells_file(&cells, &link)?);
     assert!(rt; is_the_cells_file(&cells, &hard)?);
     assert!(rt; link.remove() && hard.remove() && cells.remove());
+    Ok(())
+}
+
+/// A bench over files with these ends of their names, beside others.
+fn beside(rt: HostRuntime, others: &[FileBench], job: &str, cells: &str) -> Result<Files, Fail> {
+    let job = Temporary::new(rt, job)?;
+    let cells = Temporary::new(rt, cells)?;
+    let word = Word::copy(rt.alloc(), job.name.text())?;
+    let bench = FileBench::beside(rt, word, cells.name.text(), others);
+    Ok(Files { job, cells, bench })
+}
+
+#[test]
+fn a_file_of_another_bench_is_a_fault(rt: HostRuntime) -> Result<(), Fail> {
+    let (files, _job, _cells) = both(rt, "first_job", "first_cells")?;
+    let (mut others, _other_job, _other_cells) = both(rt, "second_job", "second_cells")?;
+    let link = Temporary::new(rt, "first_link")?;
+    assert!(rt; symlink(&rt, files.cells.name.text(), link.name.text()).is_ok());
+    let mut first = [bench_over(&files.job, &files.cells)?];
+    let mut same_job = beside(rt, &first, "first_job", "second_cells")?;
+    assert!(rt; job_is_kept(&mut same_job));
+    assert!(rt; same_job.reads_cells(CELLS));
+    let mut same_cells = beside(rt, &first, "second_job", "first_link")?;
+    assert!(rt; cells_are_kept(&mut same_cells));
+    assert!(rt; same_cells.reads(0, *b"abc"));
+    assert!(rt; same_cells.bench.file_write(0, b"x").is_err());
+    assert!(rt; job_is_kept(&mut beside(rt, &first, "first_cells", "second_cells")?));
+    assert!(rt; cells_are_kept(&mut beside(rt, &first, "second_job", "first_job")?));
+    assert!(rt; first[0].file_write(0, b"x").is_ok());
+    assert!(rt; first[0].cells_drop().is_ok());
+    assert!(rt; files.hold(b"xbc", &CELLS));
+    assert!(rt; others.reads(0, *b"abc") && others.reads_cells(CELLS));
+    assert!(rt; link.remove() && files.remove() && others.remove());
     Ok(())
 }
 
