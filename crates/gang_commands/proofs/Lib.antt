@@ -1,0 +1,6 @@
+mod LineLemmas
+mod RefusalLemmas
+mod WordLemmas
+mod EndLemmas
+mod CarryLemmas
+mod CallLemmas

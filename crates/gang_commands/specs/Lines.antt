@@ -1,0 +1,73 @@
+-- What a gang says of its targets: a line for each, and a status.
+use Rattle.std.specs.Prelude.{ℕ, ◌+◌, List, [], ◌∷◌, ◌++◌, Option, Some, None, unwrap_or}
+use Rattle.board_file.specs.declared.region.Region.{Region}
+use Rattle.job_file.specs.declared.fault.OpenFault.TheVariants as opening
+use Rattle.flash_session.specs.declared.fault.SessionFault.{SessionFault}
+use Rattle.flash_session.specs.declared.fault.SessionFault.TheVariants as session
+use Rattle.flash_session.specs.declared.fault.SurveyFault.{SurveyFault}
+use Rattle.flash_session.specs.declared.fault.SurveyFault.TheVariants as survey
+use Rattle.gang_target.specs.declared.ending.TargetEnd.{TargetEnd}
+use Rattle.gang_target.specs.declared.ending.TargetEnd.TheVariants as ended
+use Rattle.report_text.specs.Refusal.{Refusal, status_of, out_of_memory, no_job, not_a_job, damaged, cells_differ, store_fault, device_fault, call_failed, mismatch}
+use Rattle.report_text.specs.Target.{target_line}
+use Rattle.command_answers.specs.Places.{address_at}
+
+-- how a target ended, with the regions of its job's board where its job was opened
+pub record Outcome : Type 0 where
+  pub end : TargetEnd
+  pub regions : Option (List Region)
+
+-- Why it isn't done.
+
+abbrev pub of_session : SessionFault → Refusal
+of_session session.OutOfMemory = out_of_memory
+of_session (session.Open opening.OutOfMemory) = out_of_memory
+of_session (session.Open opening.NoJob) = no_job
+of_session (session.Open (opening.NotAJob at)) = not_a_job at
+of_session (session.Open (opening.Damaged kept found)) = damaged kept found
+of_session (session.Open opening.StoreFault) = store_fault
+of_session (session.Open (opening.CellsDiffer said found)) = cells_differ said found
+of_session session.DeviceFault = device_fault
+
+abbrev pub of_survey : SurveyFault → Refusal
+of_survey survey.OutOfMemory = out_of_memory
+of_survey survey.DeviceFault = device_fault
+of_survey survey.StoreFault = store_fault
+
+-- the address of a place; behind the cells of the regions, and where there are none, the place itself
+abbrev pub address_in : Option (List Region) → ℕ → ℕ
+address_in None place = place
+address_in (Some regions) place = unwrap_or (address_at regions place) place
+
+-- none where it is done
+abbrev pub reason_in : Option (List Region) → TargetEnd → Option Refusal
+reason_in regions ended.Done = None
+reason_in regions (ended.Open fault) = Some (of_session fault)
+reason_in regions (ended.Survey fault) = Some (of_survey fault)
+reason_in regions (ended.CallFailed number call end) = Some (call_failed number call end)
+reason_in regions (ended.Mismatch d) = Some (mismatch (address_in regions d.at) d.want d.got)
+reason_in regions ended.StoreFault = Some store_fault
+reason_in regions ended.DeviceFault = Some device_fault
+
+abbrev pub reason : Outcome → Option Refusal
+reason x = reason_in x.regions x.end
+
+-- The lines, one after the other.
+
+-- of targets of which the first has this number
+abbrev pub lines_from : ℕ → List Outcome → List ℕ
+lines_from index [] = []
+lines_from index (x ∷ rest) = target_line index (reason x) ++ lines_from (index + 1) rest
+
+abbrev pub lines_of : List Outcome → List ℕ
+lines_of ends = lines_from 1 ends
+
+-- The status: that of the first target that isn't done, and 0 where all are.
+
+abbrev pub status_before : Option Refusal → ℕ → ℕ
+status_before None rest = rest
+status_before (Some refusal) rest = status_of refusal
+
+abbrev pub status_in : List Outcome → ℕ
+status_in [] = 0
+status_in (x ∷ rest) = status_before (reason x) (status_in rest)

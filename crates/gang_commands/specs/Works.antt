@@ -1,0 +1,110 @@
+-- What a target does on its bench whose job was carried, and what else it comes to.
+use Rattle.std.specs.Prelude.{◌≡◌, ◌≢◌, ◌⊎◌, ℕ, Bool, true, false, IsSome, List, Some, None}
+use Rattle.bench_model.specs.declared.bench.Bench.{Ghosts}
+use Rattle.bench_model.specs.State.{BenchState}
+use Rattle.board_file.specs.Limits.{size_of}
+use Rattle.board_file.specs.Shown as board
+use Rattle.job_text.specs.Files.{IsFree}
+use Rattle.job_text.specs.Body as text
+use Rattle.job_text.specs.Body.{body_of}
+use Rattle.job_text.specs.Stands.{StandsFor, IsSomeJob, IsDamaged, IsNotAJob}
+use Rattle.job_text.specs.declared.job.Job.{Job}
+use Rattle.job_file.specs.declared.fault.OpenFault.{OpenFault}
+use Rattle.job_file.specs.declared.fault.OpenFault.TheVariants as opening
+use Rattle.campaign.specs.Stops.{Aim, WorkStops}
+use Rattle.flash_session.specs.declared.fault.SessionFault.TheVariants as session
+use Rattle.flash_session.specs.declared.goal.Goal.TheVariants.{New}
+use Rattle.flash_session.specs.Goals.{overlaid, goal_in}
+use Rattle.flash_session.specs.Opened.{IsJobOf, IsSessionFault, IsSoundSession, is_session_store, is_session_device}
+use Rattle.flash_session.specs.Sessions.{job_legs}
+use Rattle.flash_session.specs.Starts.{job_start}
+use Rattle.flash_session.specs.Surveys.{Surveyed, HasSurveyed, is_survey_device, is_survey_store}
+use Rattle.readback.specs.declared.compare.Difference.{Difference}
+use Rattle.gang_target.specs.declared.ending.TargetEnd.{TargetEnd}
+use Rattle.gang_target.specs.declared.ending.TargetEnd.TheVariants as ended
+use Rattle.gang_target.specs.Alone.{FollowsAs}
+use Rattle.gang_target.specs.Guarded.{FileEnd}
+use Rattle.gang_run.specs.Opening.{IsLookedAt, refused_so, unsurveyed_so}
+use Rattle.gang_run.specs.Slots.{OpensWithMemory, HasMemory}
+use Rattle.command_answers.specs.Places.{address_at}
+use Rattle.gang_commands.specs.Lines.{Outcome}
+
+-- what a job is to a campaign
+abbrev pub aim_of : text.Job → board.Shown → Aim
+aim_of job b = record { body = body_of job; laid = overlaid job.image b.regions job.snapshot; snapshot = job.snapshot }
+
+-- A job was opened and surveyed on its bench, which was then as `begun`, and carried by its own script to this end.
+pub record Carries {B : Type 0} (G : Ghosts B) (s : BenchState) (x : Outcome) (t : BenchState) : Type 0 where
+  pub begun : B
+  pub looked : IsLookedAt G.tells s (G.state begun)
+  pub idle : (G.state begun).operation ≡ None
+  -- the job, in memory
+  pub job : Job
+  pub stands : StandsFor job s.file
+  pub sized : size_of job.board.regions ≡ s.cell_count
+  pub regions : x.regions ≡ Some job.board.regions
+  pub surveyed : Surveyed
+  pub found : HasSurveyed G.tells job New s.file (G.state begun).cells surveyed
+  -- the end, the cells and each moment are an outcome of its script from the cells as surveyed; done is reached
+  pub follows : FollowsAs (job_legs job surveyed s.file) (goal_in job New s.file) (job_start job (G.state begun).cells) x.end (G.state begun) t
+  -- a cell that differs has an address
+  pub address : (d : Difference) → x.end ≡ ended.Mismatch d → IsSome (address_at job.board.regions d.at)
+  -- the file stands for the job, or is closed behind it where it is done
+  pub file : FileEnd (body_of stands.text) x.end t.file
+  pub closed : x.end ≡ ended.Done → t.operation ≡ None
+  -- before its own close a stop leaves what one at entry may leave, or the whole job; from there on the whole job or the closed one, with the
+  -- cells at the goal
+  pub turn : ℕ
+  pub stops : WorkStops s t turn (body_of stands.text) (overlaid job.image job.board.regions stands.text.snapshot)
+
+-- An end, on a bench that tells its contents. A bench whose job wasn't opened or surveyed was only looked at, and the refusal is that of its
+-- file as read and of its number of cells.
+abbrev pub Comes : {B : Type 0} → Ghosts B → BenchState → Outcome → BenchState → TargetEnd → Type 0
+Comes G s x t ended.Done = Carries G s x t
+Comes G s x t (ended.Open fault) = IsLookedAt G.tells s t × IsSessionFault s.file s.cell_count fault
+Comes G s x t (ended.Survey fault) = IsLookedAt G.tells s t × IsJobOf s.file s.cell_count
+Comes G s x t (ended.CallFailed number call e) = Carries G s x t
+Comes G s x t (ended.Mismatch d) = Carries G s x t
+Comes G s x t ended.StoreFault = Carries G s x t
+Comes G s x t ended.DeviceFault = Carries G s x t
+
+-- the job wasn't opened for this reason, or the file couldn't be read
+abbrev pub IsRefusedBy : TargetEnd → OpenFault → Type 0
+IsRefusedBy e fault = (e ≡ ended.Open (session.Open fault)) ⊎ (e ≡ ended.Open (session.Open opening.StoreFault))
+
+-- The other way round, by what the file is.
+pub record ComesBy (s : BenchState) (e : TargetEnd) : Type 0 where
+  pub free : IsFree s.file → IsRefusedBy e opening.NoJob
+  pub not_job : (at : ℕ) → IsNotAJob at s.file → IsRefusedBy e (opening.NotAJob at)
+  pub is_damaged : (kept found : List ℕ) → IsDamaged kept found s.file → IsRefusedBy e (opening.Damaged kept found)
+  pub other_size : (some : IsSomeJob s.file) → size_of some.board.regions ≢ s.cell_count → IsRefusedBy e (opening.CellsDiffer (size_of some.board.regions) s.cell_count)
+
+-- Faults.
+
+abbrev pub is_store : TargetEnd → Bool
+is_store ended.Done = false
+is_store (ended.Open fault) = is_session_store (refused_so fault)
+is_store (ended.Survey fault) = is_survey_store (unsurveyed_so fault)
+is_store (ended.CallFailed number call e) = false
+is_store (ended.Mismatch d) = false
+is_store ended.StoreFault = true
+is_store ended.DeviceFault = false
+
+abbrev pub is_device : TargetEnd → Bool
+is_device ended.Done = false
+is_device (ended.Open fault) = is_session_device (refused_so fault)
+is_device (ended.Survey fault) = is_survey_device (unsurveyed_so fault)
+is_device (ended.CallFailed number call e) = false
+is_device (ended.Mismatch d) = false
+is_device ended.StoreFault = false
+is_device ended.DeviceFault = true
+
+-- what an end says for itself, on every bench: there was memory, and numbers of cells or hashes that are told differ
+abbrev pub IsSound : ℕ → TargetEnd → Type 0
+IsSound count ended.Done = Unit {0}
+IsSound count (ended.Open fault) = OpensWithMemory fault × IsSoundSession count fault
+IsSound count (ended.Survey fault) = HasMemory fault
+IsSound count (ended.CallFailed number call e) = Unit {0}
+IsSound count (ended.Mismatch d) = Unit {0}
+IsSound count ended.StoreFault = Unit {0}
+IsSound count ended.DeviceFault = Unit {0}

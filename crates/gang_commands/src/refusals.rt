@@ -1,0 +1,108 @@
+//! The ends of targets, as refusals of the program.
+ghost use Rattle.std.specs.Prelude.{◌≡◌, ◌<◌, ◌≤◌, ◌+◌, All, length, option_map};
+ghost use Rattle.board_file.specs.Table.{addresses};
+ghost use Rattle.gang_target.specs.declared.ending.Turn.TheVariants as turn;
+ghost use Rattle.gang_run.specs.Gangs.{slot_at};
+ghost use Rattle.gang_run.specs.Slots.{slot_turn};
+ghost use Rattle.report_text.specs.Shown.{shown};
+ghost use Rattle.command_answers.specs.Places.{address_at};
+ghost use Rattle.gang_commands.specs.Lines.{of_session, of_survey, address_in, reason_in, reason};
+ghost use Rattle.gang_commands.specs.Puts.{regions_of, outcome_of};
+
+use board_file::Region;
+use flash_session::{SessionFault, SurveyFault};
+use gang_run::{Gang, TargetEnd};
+use job_file::OpenFault;
+use job_text::Job;
+use report_text::Refusal;
+
+/// Why no session was opened.
+fn session_refusal<'a>(fault: SessionFault) -> Refusal<'a>
+    ensures { shown result ≡ of_session fault }
+{
+    match fault {
+        SessionFault::OutOfMemory => Refusal::OutOfMemory,
+        SessionFault::Open(OpenFault::OutOfMemory) => Refusal::OutOfMemory,
+        SessionFault::Open(OpenFault::NoJob) => Refusal::NoJob,
+        SessionFault::Open(OpenFault::NotAJob { at }) => Refusal::NotAJob { at },
+        SessionFault::Open(OpenFault::Damaged { kept, found }) => Refusal::Damaged { kept, found },
+        SessionFault::Open(OpenFault::StoreFault) => Refusal::StoreFault,
+        SessionFault::Open(OpenFault::CellsDiffer { said, found }) => Refusal::CellsDiffer {
+            wanted: said,
+            found,
+        },
+        SessionFault::DeviceFault => Refusal::DeviceFault,
+    }
+}
+
+/// Why no survey was made.
+fn survey_refusal<'a>(fault: SurveyFault) -> Refusal<'a>
+    ensures { shown result ≡ of_survey fault }
+{
+    match fault {
+        SurveyFault::OutOfMemory => Refusal::OutOfMemory,
+        SurveyFault::DeviceFault => Refusal::DeviceFault,
+        SurveyFault::StoreFault => Refusal::StoreFault,
+    }
+}
+
+/// The address of a place among the cells of a board's regions: none behind the last one.
+fn find_address(regions: &[Region], place: u32) -> Option<u32>
+    requires { All (λ r. r.base + r.size ≤ addresses) regions.now }
+    ensures { result ≡ address_at regions.now place }
+{
+    let mut rest = place;
+    for region in regions {
+        if rest < region.size {
+            return Some(region.base + rest);
+        }
+        rest -= region.size;
+    }
+    None
+}
+
+/// The address of a place among the cells of a job. Without a job, or behind its cells, it is the place itself.
+fn address_of(job: Option<&Job>, place: u32) -> u32
+    ensures { result ≡ address_in (regions_of job.entry) place }
+{
+    match job {
+        None => place,
+        Some(job) => match find_address(job.board.regions.as_slice(), place) {
+            Some(address) => address,
+            None => place,
+        },
+    }
+}
+
+/// Why a target of this job that ended so isn't done: none where it is.
+fn end_refusal<'a>(job: Option<&Job>, end: TargetEnd) -> Option<Refusal<'a>>
+    ensures { option_map shown result ≡ reason_in (regions_of job.entry) end }
+{
+    match end {
+        TargetEnd::Done => None,
+        TargetEnd::Open(fault) => Some(session_refusal(fault)),
+        TargetEnd::Survey(fault) => Some(survey_refusal(fault)),
+        TargetEnd::CallFailed { number, call, end } => {
+            Some(Refusal::CallFailed { number, call, end })
+        }
+        TargetEnd::Mismatch(difference) => Some(Refusal::Mismatch {
+            at: address_of(job, difference.at),
+            wanted: difference.want,
+            found: difference.got,
+        }),
+        TargetEnd::StoreFault => Some(Refusal::StoreFault),
+        TargetEnd::DeviceFault => Some(Refusal::DeviceFault),
+    }
+}
+
+/// Why a target that has ended isn't done: none where it is.
+pub(crate) fn target_refusal<'a>(gang: &Gang, target: usize) -> Option<Refusal<'a>>
+    requires target { target < length gang.now.slots.items }
+    requires ended { slot_turn (slot_at gang.now target) ≡ turn.Ended }
+    ensures { option_map shown result ≡ reason (outcome_of (slot_at gang.now target)) }
+{
+    match gang.end(target) {
+        Some(end) => end_refusal(gang.job(target), *end),
+        None => unreachable!(),
+    }
+}

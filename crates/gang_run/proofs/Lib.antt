@@ -1,0 +1,4 @@
+pub mod GangLemmas
+mod MakingLemmas
+mod OpenLemmas
+mod OpeningLemmas

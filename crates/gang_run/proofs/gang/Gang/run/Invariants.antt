@@ -1,0 +1,8 @@
+use Rattle.gang_run.specs.Gangs.{gang_togo, Playing}
+use Rattle.gang_run.proofs.gang.Gang.run.Given as goal
+
+abbrev pub invariant-rounds : goal.invariant-rounds
+invariant-rounds g l = Playing g.B.Bench l.fn.self l.fn.benches l.self l.benches
+
+abbrev pub decreases-rounds : goal.decreases-rounds
+decreases-rounds g l = gang_togo l.self

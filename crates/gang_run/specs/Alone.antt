@@ -1,0 +1,30 @@
+-- Each of many targets that are driven by turns ends as it could alone.
+use Rattle.std.specs.Prelude.{◌≡◌, ℕ, List, None}
+use Rattle.bench_model.specs.Pairs.{PairsInTurn}
+use Rattle.bench_model.specs.State.{BenchState}
+use Rattle.flash_session.specs.Moves.{Stand}
+use Rattle.gang_target.specs.declared.cursor.Place.TheVariants as place
+use Rattle.gang_target.specs.declared.ending.TargetEnd.{TargetEnd}
+use Rattle.gang_target.specs.declared.ending.TargetEnd.TheVariants as ended
+use Rattle.gang_target.specs.declared.target.GangTarget.{GangTarget}
+use Rattle.gang_target.specs.Alone.{FollowsAs}
+use Rattle.gang_target.specs.Guarded.{FileEnd, HasBody, IsAtClose}
+use Rattle.gang_target.specs.Rest.{all_legs}
+use Rattle.gang_target.specs.Targets.{legs_for, goal_for}
+use Rattle.gang_run.specs.declared.slot.Slot.{Slot}
+use Rattle.gang_run.specs.declared.slot.Slot.TheVariants as slot
+use Rattle.gang_run.specs.Slots.{Counts}
+
+-- Its end, its cells and its moments are an outcome of its own script. Its file is closed where it is done, and stands for its job where it
+-- is not; what a stop left of both is the job whole, and from a moment on the job whole or closed with the cells at the goal; a fault was
+-- counted where it is the end.
+pub record EndsAlone (a : Stand) (x : GangTarget) (s : BenchState) (new : Slot) (t : BenchState) (body : List ℕ) : Type 0 where
+  pub target : GangTarget
+  pub is : new ≡ slot.Target target
+  pub end : TargetEnd
+  pub place_is : target.place ≡ place.Ended end
+  pub follows : FollowsAs (all_legs (legs_for x (goal_for x s.file))) (goal_for x s.file) a end s t
+  pub file : FileEnd body end t.file
+  pub idle : end ≡ ended.Done → t.operation ≡ None
+  pub pairs : (at : ℕ) × PairsInTurn s t at (HasBody body) (IsAtClose body (goal_for x s.file))
+  pub counts : Counts (place.Ended end) s t

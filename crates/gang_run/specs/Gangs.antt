@@ -1,0 +1,84 @@
+-- A gang: its windows, its benches, and what turns do to them.
+use Rattle.std.specs.Prelude.{◌≡◌, ◌≢◌, ◌<◌, ◌≤◌, ℕ, Bool, true, false, IsTrue, List, [], length, get_or}
+use Rattle.std.specs.List.{sum_by}
+use Rattle.bench_model.specs.declared.bench.Bench.{Ghosts}
+use Rattle.flash_session.specs.declared.fault.SurveyFault.TheVariants as survey
+use Rattle.flash_session.specs.Moves.{Move, Stand}
+use Rattle.target_core.specs.Windows.{window_of}
+use Rattle.gang_target.specs.declared.ending.TargetEnd.TheVariants as ended
+use Rattle.gang_target.specs.declared.ending.Turn.TheVariants as turn
+use Rattle.gang_run.specs.declared.gang.Gang.{Gang}
+use Rattle.gang_run.specs.declared.slot.Slot.{Slot}
+use Rattle.gang_run.specs.declared.slot.Slot.TheVariants as slot
+use Rattle.gang_run.specs.Slots.{slot_turn, slot_togo, IsSlot, IsReady, SlotTurns, SlotKept, SlotStands, SlotSince}
+
+-- the place of a target; past the last one, one that was refused
+abbrev pub slot_at : Gang → ℕ → Slot
+slot_at g i = get_or g.slots.items i (slot.Refused (ended.Survey survey.StoreFault))
+
+-- two targets have two windows
+abbrev pub OtherWindow : Slot → Slot → Type 0
+OtherWindow (slot.Refused e) other = Unit {0}
+OtherWindow (slot.Target x) (slot.Refused e) = Unit {0}
+OtherWindow (slot.Target x) (slot.Target y) = x.window ≢ y.window
+
+pub record IsGang (g : Gang) : Type 0 where
+  pub apart : (i j : ℕ) → i ≢ j → OtherWindow (slot_at g i) (slot_at g j)
+  pub slots : (i : ℕ) → IsSlot (slot_at g i)
+
+-- the most turns that the gang still takes
+abbrev pub gang_togo : Gang → ℕ
+gang_togo g = sum_by slot_togo g.slots.items
+
+-- each target that hasn't ended fits its bench, of which the one file that a stop may leave stands for its job
+abbrev pub AreReady : {B : Type 0} → Ghosts B → Gang → List B → Type 0
+AreReady {B} G g benches = (i : ℕ) (d : B) → i < length benches → IsReady G.tells (slot_at g i) g.arena (G.state (get_or benches i d))
+
+-- the window of a target is as it was
+abbrev pub SameWindow : Slot → List (List ℕ) → List (List ℕ) → Type 0
+SameWindow (slot.Refused e) old new = Unit {0}
+SameWindow (slot.Target x) old new = window_of new x.window ≡ window_of old x.window
+
+-- one turn: the target's own bench and window alone are touched
+pub record OneTurn {B : Type 0} (G : Ghosts B) (target : ℕ) (old : Gang) (benches : List B) (new : Gang) (benches' : List B) : Type 0 where
+  pub turns : (d : B) → SlotTurns G (slot_at old target) old.arena (get_or benches target d) (slot_at new target) new.arena (get_or benches' target d)
+  pub slots : (i : ℕ) → i ≢ target → slot_at new i ≡ slot_at old i
+  pub others : (i : ℕ) (d : B) → i ≢ target → get_or benches' i d ≡ get_or benches i d
+  pub windows : (i : ℕ) → i ≢ target → SameWindow (slot_at old i) old.arena new.arena
+  pub count : length benches' ≡ length benches
+  pub places : length new.slots.items ≡ length old.slots.items
+  pub over : slot_turn (slot_at old target) ≡ turn.Ended → slot_turn (slot_at new target) ≡ turn.Ended
+  pub nearer : slot_turn (slot_at old target) ≡ turn.More → gang_togo new < gang_togo old
+  pub no_further : gang_togo new ≤ gang_togo old
+
+-- Each target went on from where it stood, over its own bench.
+abbrev pub AllSince : {B : Type 0} → Ghosts B → Gang → List B → Gang → List B → Type 0
+AllSince {B} G old benches new benches' = (i : ℕ) (d : B) (a : Stand) (way : List Move) → i < length benches → IsTrue G.tells
+    → SlotStands a way (slot_at old i) old.arena (G.state (get_or benches i d))
+    → SlotSince a way (slot_at old i) (G.state (get_or benches i d)) (slot_at new i) new.arena (G.state (get_or benches' i d))
+
+-- The bench of each target without a script is as it was, and faults were counted where they are ends, whether the benches tell their contents
+-- or not.
+abbrev pub AllKept : {B : Type 0} → Ghosts B → Gang → List B → Gang → List B → Type 0
+AllKept {B} G old benches new benches' = (i : ℕ) (d : B) → i < length benches → SlotKept G (slot_at old i) (get_or benches i d) (slot_at new i) (get_or benches' i d)
+
+-- how far turns have come
+pub record Playing {B : Type 0} (G : Ghosts B) (old : Gang) (benches : List B) (new : Gang) (benches' : List B) : Type 0 where
+  pub gang : IsGang new
+  pub places : length benches' ≡ length new.slots.items
+  pub count : length benches' ≡ length benches
+  pub ready : AreReady G new benches'
+  pub since : AllSince G old benches new benches'
+  pub kept : AllKept G old benches new benches'
+
+-- in a round, of which these targets had their turn
+pub record Rounding {B : Type 0} (G : Ghosts B) (old : Gang) (benches : List B) (new : Gang) (benches' : List B) (target : ℕ) (goes_on : Bool) : Type 0 where
+  pub gang : IsGang new
+  pub places : length benches' ≡ length new.slots.items
+  pub count : length benches' ≡ length benches
+  pub ready : AreReady G new benches'
+  -- whatever came before it
+  pub plays : (g : Gang) (first : List B) → Playing G g first old benches → Playing G g first new benches'
+  pub nearer : goes_on ≡ true → gang_togo new < gang_togo old
+  pub no_further : gang_togo new ≤ gang_togo old
+  pub ended : goes_on ≡ false → (i : ℕ) → i < target → slot_turn (slot_at new i) ≡ turn.Ended

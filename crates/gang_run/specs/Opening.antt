@@ -1,0 +1,97 @@
+-- What the opening of a gang leaves.
+use Rattle.std.specs.Prelude.{◌≡◌, ◌≤◌, ◌<◌, ℕ, Bool, true, false, IsTrue, List, length, get_or, Result, Err, None}
+use Rattle.bench_model.specs.declared.bench.Bench.{Ghosts}
+use Rattle.bench_model.specs.Calls.{SameOutside}
+use Rattle.bench_model.specs.Device.{HasDeviceCause}
+use Rattle.bench_model.specs.History.{LeftOnly}
+use Rattle.bench_model.specs.Pairs.{PairsLeave}
+use Rattle.bench_model.specs.State.{BenchState, Left, file_half}
+use Rattle.board_file.specs.Shown.{shown as board_of}
+use Rattle.job_file.specs.Counted.{IsCounted}
+use Rattle.job_text.specs.Stands.{StandsFor}
+use Rattle.flash_session.specs.declared.fault.SessionFault.{SessionFault}
+use Rattle.flash_session.specs.declared.fault.SurveyFault.{SurveyFault}
+use Rattle.flash_session.specs.declared.goal.Goal.TheVariants as to_goal
+use Rattle.flash_session.specs.Opened.{IsJobOf, IsSessionFault, IsSoundSession, ReadsIfRefused, is_session_store, is_session_device}
+use Rattle.flash_session.specs.Sessions.{job_legs}
+use Rattle.flash_session.specs.Starts.{start_of}
+use Rattle.flash_session.specs.Surveys.{Surveyed, HasSurveyed, is_survey_device, is_survey_store}
+use Rattle.gang_target.specs.declared.ending.TargetEnd.{TargetEnd}
+use Rattle.gang_target.specs.declared.ending.TargetEnd.TheVariants as ended
+use Rattle.gang_target.specs.declared.cursor.Cursor.TheVariants as at
+use Rattle.gang_target.specs.declared.cursor.Phase.TheVariants as stage
+use Rattle.gang_target.specs.declared.cursor.Place.TheVariants as place
+use Rattle.gang_target.specs.declared.target.GangTarget.{GangTarget}
+use Rattle.gang_target.specs.Rest.{all_legs}
+use Rattle.gang_target.specs.Targets.{legs_for, goal_for, point_for}
+use Rattle.gang_run.specs.declared.gang.Gang.{Gang}
+use Rattle.gang_run.specs.declared.slot.Slot.{Slot}
+use Rattle.gang_run.specs.declared.slot.Slot.TheVariants as slot
+use Rattle.gang_run.specs.Gangs.{slot_at}
+use Rattle.gang_run.specs.Slots.{OpensWithMemory, HasMemory}
+
+-- A bench was looked at, and an operation that was open on it broken off: the file as read, the cells outside the operation, and the pairs
+-- that a stop leaves are those of before.
+pub record IsLookedAt (tells : Bool) (s t : BenchState) : Type 0 where
+  pub file : IsTrue tells → t.file ≡ s.file
+  pub same : IsTrue tells → SameOutside s.operation s.cells t.cells
+  pub count : t.cell_count ≡ s.cell_count
+  pub pairs : PairsLeave s t (Left s)
+
+abbrev pub refused_so : SessionFault → Result (Unit {0}) SessionFault
+refused_so fault = Err fault
+
+abbrev pub unsurveyed_so : SurveyFault → Result (Unit {0}) SurveyFault
+unsurveyed_so fault = Err fault
+
+-- its job was refused as a session refuses it
+pub record IsUnopened (tells : Bool) (fault : SessionFault) (s t : BenchState) : Type 0 where
+  pub memory : OpensWithMemory fault
+  pub refused : IsTrue tells → IsSessionFault s.file s.cell_count fault
+  pub sound : IsSoundSession s.cell_count fault
+  pub reads : ReadsIfRefused tells s t (refused_so fault)
+  pub store : IsCounted s.store_faults t.store_faults (is_session_store (refused_so fault))
+  pub device : HasDeviceCause s.device_faults t.device_faults (is_session_device (refused_so fault))
+
+-- its cells were not surveyed, by a fault that was counted
+pub record IsUnsurveyed (tells : Bool) (fault : SurveyFault) (s t : BenchState) : Type 0 where
+  pub memory : HasMemory fault
+  pub job : IsTrue tells → IsJobOf s.file s.cell_count
+  pub store : IsCounted s.store_faults t.store_faults (is_survey_store (unsurveyed_so fault))
+  pub device : HasDeviceCause s.device_faults t.device_faults (is_survey_device (unsurveyed_so fault))
+
+abbrev pub IsRefused : Bool → TargetEnd → BenchState → BenchState → Type 0
+IsRefused tells ended.Done s t = ⊥
+IsRefused tells (ended.Open fault) s t = IsUnopened tells fault s t
+IsRefused tells (ended.Survey fault) s t = IsUnsurveyed tells fault s t
+IsRefused tells (ended.CallFailed number call e) s t = ⊥
+IsRefused tells (ended.Mismatch d) s t = ⊥
+IsRefused tells ended.StoreFault s t = ⊥
+IsRefused tells ended.DeviceFault s t = ⊥
+
+-- A target has made no move of the script that a session which opened and surveyed the same would play, to the new goal, and its machine
+-- stands where that script starts. No fault was counted.
+pub record Begins (tells : Bool) (x : GangTarget) (arena : List (List ℕ)) (s t : BenchState) : Type 0 where
+  pub place : x.place ≡ place.At (at.Begin false stage.Erase)
+  pub made : x.made ≡ 0
+  pub goal : x.task.goal ≡ to_goal.New
+  pub stands : IsTrue tells → StandsFor x.task.job s.file
+  pub only : IsTrue tells → LeftOnly t.file (file_half t)
+  pub idle : IsTrue tells → t.operation ≡ None
+  pub world : (cells : List ℕ) → (point_for x arena cells).world ≡ start_of (board_of x.task.job.board) cells
+  pub surveyed : Surveyed
+  pub found : HasSurveyed tells x.task.job to_goal.New t.file t.cells surveyed
+  pub legs : all_legs (legs_for x (goal_for x t.file)) ≡ job_legs x.task.job surveyed t.file
+  pub store : t.store_faults ≡ s.store_faults
+  pub device : t.device_faults ≡ s.device_faults
+
+abbrev pub IsOpened : Bool → Slot → List (List ℕ) → BenchState → BenchState → Type 0
+IsOpened tells (slot.Refused e) arena s t = IsLookedAt tells s t × IsRefused tells e s t
+IsOpened tells (slot.Target x) arena s t = IsLookedAt tells s t × Begins tells x arena s t
+
+-- each bench in turn
+abbrev pub AreOpened : {B : Type 0} → Ghosts B → List B → Gang → List B → Type 0
+AreOpened {B} G benches g benches' = (i : ℕ) (d : B) → i < length benches → IsOpened G.tells (slot_at g i) g.arena (G.state (get_or benches i d)) (G.state (get_or benches' i d))
+
+abbrev pub AreLookedAt : {B : Type 0} → Ghosts B → List B → List B → Type 0
+AreLookedAt {B} G benches benches' = (i : ℕ) (d : B) → i < length benches → IsLookedAt G.tells (G.state (get_or benches i d)) (G.state (get_or benches' i d))

@@ -1,0 +1,115 @@
+-- The opening of one place of a gang.
+use Rattle.std.specs.Prelude.{◌≡◌, ◌≢◌, ◌≤◌, ◌<◌, ◌++◌, ℕ, Bool, IsTrue, All, List, [], ◌∷◌, length, get_or, replicate, IfSome, Option, Some, None, Result, Ok, Err}
+use Rattle.bench_model.specs.declared.bench.Bench.{Ghosts}
+use Rattle.bench_model.specs.Device.{HasDeviceCause}
+use Rattle.bench_model.specs.State.{BenchState}
+use Rattle.board_file.specs.Limits.{most_ram}
+use Rattle.faults.specs.declared.out_of_memory.OutOfMemory.{OutOfMemory}
+use Rattle.job_file.specs.Counted.{IsCounted}
+use Rattle.job_text.specs.declared.job.Job.{Job}
+use Rattle.algo_calls.specs.Shows.{setup_at}
+use Rattle.target_core.specs.Windows.{window_of}
+use Rattle.flash_session.specs.declared.fault.SurveyFault.{SurveyFault}
+use Rattle.flash_session.specs.declared.fault.SurveyFault.TheVariants as survey
+use Rattle.flash_session.specs.declared.parts.Parts.{Parts}
+use Rattle.flash_session.specs.Surveys.{is_survey_device, is_survey_store}
+use Rattle.gang_target.specs.declared.ending.TargetEnd.{TargetEnd}
+use Rattle.gang_target.specs.declared.ending.TargetEnd.TheVariants as ended
+use Rattle.gang_target.specs.declared.target.GangTarget.{GangTarget}
+use Rattle.gang_target.specs.Begun.{IsBegun}
+use Rattle.gang_target.specs.Fit.{Fit}
+use Rattle.gang_run.specs.declared.slot.Slot.{Slot}
+use Rattle.gang_run.specs.declared.slot.Slot.TheVariants as slot
+use Rattle.gang_run.specs.Gangs.{OtherWindow}
+use Rattle.gang_run.specs.Slots.{HasMemory}
+use Rattle.gang_run.specs.Opening.{unsurveyed_so, IsLookedAt, IsRefused, Begins}
+
+-- so many bytes are a page of each region at least
+pub record HasPage (parts : Parts) (len : ℕ) : Type 0 where
+  pub first : (setup_at parts.first.calls).algorithm.device.page ≤ len
+  pub second : IfSome parts.second (λ w. (setup_at w.calls).algorithm.device.page ≤ len)
+
+-- it is a target that begins with what a session gave up, and has room for a page
+abbrev pub IsMade : Parts → (window : ℕ) → Slot → Type 0
+IsMade parts window (slot.Refused e) = ⊥
+IsMade parts window (slot.Target x) = IsBegun parts window x × HasPage parts (length x.page.items)
+
+-- the bytes of its RAM
+abbrev pub ram_for : GangTarget → ℕ
+ram_for x = x.task.job.board.ram_size
+
+-- with this window of zero bytes it fits its bench, before its first move
+pub record IsReadyIn (tells : Bool) (window : ℕ) (x : GangTarget) (s t : BenchState) : Type 0 where
+  pub window_is : x.window ≡ window
+  pub begins : (arena : List (List ℕ)) → window < length arena → window_of arena window ≡ replicate (ram_for x) 0 → Begins tells x arena s t × Fit tells x arena t
+
+-- no survey was made, by a fault that was counted
+pub record FailsSurvey (fault : SurveyFault) (s t : BenchState) : Type 0 where
+  pub memory : HasMemory fault
+  pub store : IsCounted s.store_faults t.store_faults (is_survey_store (unsurveyed_so fault))
+  pub device : HasDeviceCause s.device_faults t.device_faults (is_survey_device (unsurveyed_so fault))
+
+abbrev pub IsUnsurveyedEnd : TargetEnd → BenchState → BenchState → Type 0
+IsUnsurveyedEnd ended.Done s t = ⊥
+IsUnsurveyedEnd (ended.Open fault) s t = ⊥
+IsUnsurveyedEnd (ended.Survey fault) s t = FailsSurvey fault s t
+IsUnsurveyedEnd (ended.CallFailed number call e) s t = ⊥
+IsUnsurveyedEnd (ended.Mismatch d) s t = ⊥
+IsUnsurveyedEnd ended.StoreFault s t = ⊥
+IsUnsurveyedEnd ended.DeviceFault s t = ⊥
+
+-- the survey of a job that was opened on this bench
+abbrev pub Surveys : Bool → Job → (window : ℕ) → Slot → BenchState → BenchState → Type 0
+Surveys tells j window (slot.Refused e) s t = IsUnsurveyedEnd e s t
+Surveys tells j window (slot.Target x) s t = IsReadyIn tells window x s t × (x.task.job ≡ j)
+
+abbrev pub Opens : Bool → (window : ℕ) → Slot → BenchState → BenchState → Type 0
+Opens tells window (slot.Refused e) s t = IsRefused tells e s t
+Opens tells window (slot.Target x) s t = IsReadyIn tells window x s t
+
+-- one size more for a target
+abbrev pub sizes_with : Slot → List ℕ → List ℕ
+sizes_with (slot.Refused e) sizes = sizes
+sizes_with (slot.Target x) sizes = sizes ++ (ram_for x ∷ [])
+
+abbrev pub AddsWindow : Slot → List ℕ → List ℕ → Result (Unit {0}) OutOfMemory → Type 0
+AddsWindow s old new (Ok u) = new ≡ sizes_with s old
+AddsWindow s old new (Err e) = Unit {0}
+
+abbrev pub PutsSlot : Slot → List Slot → List ℕ → List Slot → List ℕ → Result (Unit {0}) OutOfMemory → Type 0
+PutsSlot s slots sizes slots' sizes' (Ok u) = (slots' ≡ slots ++ (s ∷ [])) × (sizes' ≡ sizes_with s sizes)
+PutsSlot s slots sizes slots' sizes' (Err e) = Unit {0}
+
+-- the place of a bench was added, with the next window
+pub record SlotAdded (tells : Bool) (slots : List Slot) (sizes : List ℕ) (s : BenchState) (slots' : List Slot) (sizes' : List ℕ) (t : BenchState) : Type 0 where
+  pub slot : Slot
+  pub slots_are : slots' ≡ slots ++ (slot ∷ [])
+  pub sizes_are : sizes' ≡ sizes_with slot sizes
+  pub opens : Opens tells (length sizes) slot s t
+
+abbrev pub AddsSlot : Bool → List Slot → List ℕ → BenchState → List Slot → List ℕ → BenchState → Result (Unit {0}) OutOfMemory → Type 0
+AddsSlot tells slots sizes s slots' sizes' t (Ok u) = SlotAdded tells slots sizes s slots' sizes' t
+AddsSlot tells slots sizes s slots' sizes' t (Err e) = Unit {0}
+
+-- ---- the places so far
+
+-- no place: one that was refused
+abbrev pub slot_in : List Slot → ℕ → Slot
+slot_in slots i = get_or slots i (slot.Refused (ended.Survey survey.StoreFault))
+
+-- it was opened on its bench, and its window will be among these
+abbrev pub OpensAmong : Bool → List ℕ → Slot → BenchState → BenchState → Type 0
+OpensAmong tells sizes (slot.Refused e) s t = IsRefused tells e s t
+OpensAmong tells sizes (slot.Target x) s t = (x.window < length sizes) × (get_or sizes x.window 0 ≡ ram_for x) × IsReadyIn tells x.window x s t
+
+-- the benches before this one were opened, and the others are as they were
+pub record Opening {B : Type 0} (G : Ghosts B) (first now : List B) (slots : List Slot) (sizes : List ℕ) (upto : ℕ) : Type 0 where
+  pub count : length now ≡ length first
+  pub within : upto ≤ length first
+  pub places : length slots ≡ upto
+  pub opened : (i : ℕ) (d : B) → i < upto → OpensAmong G.tells sizes (slot_in slots i) (G.state (get_or first i d)) (G.state (get_or now i d))
+  pub looked : (i : ℕ) (d : B) → i < upto → IsLookedAt G.tells (G.state (get_or first i d)) (G.state (get_or now i d))
+  pub still : (i : ℕ) (d : B) → upto ≤ i → get_or now i d ≡ get_or first i d
+  pub apart : (i j : ℕ) → i ≢ j → OtherWindow (slot_in slots i) (slot_in slots j)
+  pub few : length sizes ≤ upto
+  pub small : All (λ n. n ≤ most_ram) sizes

@@ -1,0 +1,190 @@
+-- One place of a gang.
+use Rattle.std.specs.Prelude.{◌≡◌, ℕ, Bool, IsTrue, IsSome, List, Option, Some, None}
+use Rattle.std.specs.Borrow.{Bor}
+use Rattle.bench_model.specs.declared.bench.Bench.{Ghosts}
+use Rattle.bench_model.specs.Device.{HasDeviceCause}
+use Rattle.bench_model.specs.History as history
+use Rattle.bench_model.specs.History.{LeftOnly}
+use Rattle.bench_model.specs.State.{BenchState, file_half}
+use Rattle.job_file.specs.Counted.{IsCounted}
+use Rattle.job_file.specs.declared.fault.OpenFault.TheVariants as opening
+use Rattle.job_text.specs.Files.{IsWhole}
+use Rattle.job_text.specs.Stands.{StandsFor}
+use Rattle.job_text.specs.declared.job.Job.{Job}
+use Rattle.flash_session.specs.declared.fault.SessionFault.{SessionFault}
+use Rattle.flash_session.specs.declared.fault.SessionFault.TheVariants as session
+use Rattle.flash_session.specs.declared.fault.SurveyFault.{SurveyFault}
+use Rattle.flash_session.specs.declared.fault.SurveyFault.TheVariants as survey
+use Rattle.flash_session.specs.Moves.{Move, Stand}
+use Rattle.gang_target.specs.declared.ending.TargetEnd.{TargetEnd}
+use Rattle.gang_target.specs.declared.ending.TargetEnd.TheVariants as ended
+use Rattle.gang_target.specs.declared.ending.Turn.{Turn}
+use Rattle.gang_target.specs.declared.ending.Turn.TheVariants as turn
+use Rattle.gang_target.specs.declared.cursor.Place.{Place}
+use Rattle.gang_target.specs.declared.cursor.Place.TheVariants as place
+use Rattle.gang_target.specs.declared.target.GangTarget.{GangTarget}
+use Rattle.gang_target.specs.Ended.{IsEndAt}
+use Rattle.gang_target.specs.Fit.{IsScriptEnd, Fit, togo}
+use Rattle.gang_target.specs.Guarded.{Guarded}
+use Rattle.gang_target.specs.Stands.{StandsOn}
+use Rattle.gang_target.specs.Takes.{TakesOn, SliceOf}
+use Rattle.gang_target.specs.Targets.{goal_for}
+use Rattle.gang_target.specs.Turns.{IsUnended, turn_of, is_device_place, is_store_place, SameTarget, GoesOn, Turns}
+use Rattle.gang_run.specs.declared.slot.Slot.{Slot}
+use Rattle.gang_run.specs.declared.slot.Slot.TheVariants as slot
+
+abbrev pub slot_turn : Slot → Turn
+slot_turn (slot.Refused e) = turn.Ended
+slot_turn (slot.Target x) = turn_of x.place
+
+abbrev pub slot_togo : Slot → ℕ
+slot_togo (slot.Refused e) = 0
+slot_togo (slot.Target x) = togo x
+
+-- ---- what it shows
+
+-- it is no want of memory
+abbrev pub OpensWithMemory : SessionFault → Type 0
+OpensWithMemory session.OutOfMemory = ⊥
+OpensWithMemory (session.Open opening.OutOfMemory) = ⊥
+OpensWithMemory (session.Open opening.NoJob) = Unit {0}
+OpensWithMemory (session.Open (opening.NotAJob at)) = Unit {0}
+OpensWithMemory (session.Open (opening.Damaged kept found)) = Unit {0}
+OpensWithMemory (session.Open opening.StoreFault) = Unit {0}
+OpensWithMemory (session.Open (opening.CellsDiffer said found)) = Unit {0}
+OpensWithMemory session.DeviceFault = Unit {0}
+
+abbrev pub HasMemory : SurveyFault → Type 0
+HasMemory survey.OutOfMemory = ⊥
+HasMemory survey.DeviceFault = Unit {0}
+HasMemory survey.StoreFault = Unit {0}
+
+-- an end without a script, which is never want of memory
+abbrev pub IsRefusal : TargetEnd → Type 0
+IsRefusal ended.Done = ⊥
+IsRefusal (ended.Open fault) = OpensWithMemory fault
+IsRefusal (ended.Survey fault) = HasMemory fault
+IsRefusal (ended.CallFailed number call e) = ⊥
+IsRefusal (ended.Mismatch d) = ⊥
+IsRefusal ended.StoreFault = ⊥
+IsRefusal ended.DeviceFault = ⊥
+
+abbrev pub EndsByScript : Place → Type 0
+EndsByScript (place.At c) = Unit {0}
+EndsByScript (place.In call len left next) = Unit {0}
+EndsByScript (place.Comparing at) = Unit {0}
+EndsByScript place.Closing = Unit {0}
+EndsByScript (place.Ended e) = IsScriptEnd e
+
+-- a target without a script was refused, and one with a script ends by it
+abbrev pub IsSlot : Slot → Type 0
+IsSlot (slot.Refused e) = IsRefusal e
+IsSlot (slot.Target x) = EndsByScript x.place
+
+-- none where it hasn't ended
+abbrev pub IsSlotEnd : Slot → Option (Bor TargetEnd) → Type 0
+IsSlotEnd (slot.Refused end) None = ⊥
+IsSlotEnd (slot.Refused end) (Some e) = e.now ≡ end
+IsSlotEnd (slot.Target x) found = IsEndAt x.place found
+
+-- none where it has no script
+abbrev pub IsSlotJob : Slot → Option (Bor Job) → Type 0
+IsSlotJob (slot.Refused end) None = Unit {0}
+IsSlotJob (slot.Refused end) (Some j) = ⊥
+IsSlotJob (slot.Target x) None = ⊥
+IsSlotJob (slot.Target x) (Some j) = j.now ≡ x.task.job
+
+-- how a target has ended, if it has
+abbrev pub place_end : Place → Option TargetEnd
+place_end (place.At c) = None
+place_end (place.In call len left next) = None
+place_end (place.Comparing at) = None
+place_end place.Closing = None
+place_end (place.Ended e) = Some e
+
+abbrev pub slot_end : Slot → Option TargetEnd
+slot_end (slot.Refused e) = Some e
+slot_end (slot.Target x) = place_end x.place
+
+abbrev pub IsNoJob : Option (Bor Job) → Type 0
+IsNoJob None = Unit {0}
+IsNoJob (Some j) = ⊥
+
+-- no job exactly where the end is Open or Survey
+abbrev pub HasJob : Option TargetEnd → Option (Bor Job) → Type 0
+HasJob None found = IsSome found
+HasJob (Some ended.Done) found = IsSome found
+HasJob (Some (ended.Open fault)) found = IsNoJob found
+HasJob (Some (ended.Survey fault)) found = IsNoJob found
+HasJob (Some (ended.CallFailed number call e)) found = IsSome found
+HasJob (Some (ended.Mismatch d)) found = IsSome found
+HasJob (Some ended.StoreFault) found = IsSome found
+HasJob (Some ended.DeviceFault) found = IsSome found
+
+-- ---- a turn
+
+-- what a turn asks of a target that hasn't ended: it fits its window and its bench, and the one file that a stop may leave stands for its
+-- job
+pub record Ready (tells : Bool) (x : GangTarget) (arena : List (List ℕ)) (b : BenchState) : Type 0 where
+  pub fit : Fit tells x arena b
+  pub stands : IsTrue tells → StandsFor x.task.job b.file
+  pub only : IsTrue tells → LeftOnly b.file (file_half b)
+
+abbrev pub IsReady : Bool → Slot → List (List ℕ) → BenchState → Type 0
+IsReady tells (slot.Refused e) arena b = Unit {0}
+IsReady tells (slot.Target x) arena b = IsUnended x.place → Ready tells x arena b
+
+-- a turn of a target that hasn't ended
+abbrev pub SlotGoes : Bool → Slot → List (List ℕ) → BenchState → Slot → List (List ℕ) → BenchState → Type 0
+SlotGoes tells (slot.Refused e) arena s new arena' t = Unit {0}
+SlotGoes tells (slot.Target x) arena s new arena' t = IsUnended x.place → (y : GangTarget) × (new ≡ slot.Target y) × Turns tells x arena s y arena' t
+
+-- a turn, which changes nothing where the target has ended
+pub record SlotTurns {B : Type 0} (G : Ghosts B) (old : Slot) (arena : List (List ℕ)) (bench : B) (new : Slot) (arena' : List (List ℕ)) (bench' : B) : Type 0 where
+  pub ended : slot_turn old ≡ turn.Ended → (new ≡ old) × (arena' ≡ arena) × (bench' ≡ bench)
+  pub goes : SlotGoes G.tells old arena (G.state bench) new arena' (G.state bench')
+
+-- it does one thing, with so many steps asked for
+abbrev pub SlotTakes : Bool → (steps : ℕ) → Slot → List (List ℕ) → BenchState → Slot → List (List ℕ) → BenchState → Type 0
+SlotTakes tells steps (slot.Refused e) arena s new arena' t = Unit {0}
+SlotTakes tells steps (slot.Target x) arena s new arena' t = IsUnended x.place → (y : GangTarget) × (new ≡ slot.Target y) × TakesOn steps s.cell_count x.place y.place × SliceOf tells steps x.place x arena s y arena' t
+
+-- ---- turns
+
+-- A fault was counted exactly where the target ended so.
+pub record Counts (p : Place) (s t : BenchState) : Type 0 where
+  pub device : HasDeviceCause s.device_faults t.device_faults (is_device_place p)
+  pub store : IsCounted s.store_faults t.store_faults (is_store_place p)
+
+-- A target that hadn't ended has the same work as before; this holds whether the bench tells its contents or not.
+pub record TargetKept (x : GangTarget) (s : BenchState) (new : Slot) (t : BenchState) : Type 0 where
+  pub target : GangTarget
+  pub is : new ≡ slot.Target target
+  pub task : target.task ≡ x.task
+  pub counts : Counts target.place s t
+
+-- the bench of a target without a script is as it was
+abbrev pub SlotKept : {B : Type 0} → Ghosts B → Slot → B → Slot → B → Type 0
+SlotKept G (slot.Refused e) bench new bench' = (new ≡ slot.Refused e) × (bench' ≡ bench)
+SlotKept G (slot.Target x) bench new bench' = IsUnended x.place → TargetKept x (G.state bench) new (G.state bench')
+
+-- where it stands that hasn't ended
+abbrev pub SlotStands : Stand → List Move → Slot → List (List ℕ) → BenchState → Type 0
+SlotStands a way (slot.Refused e) arena b = Unit {0}
+SlotStands a way (slot.Target x) arena b = IsUnended x.place × StandsOn a way (goal_for x b.file) x arena b
+
+-- a target went on from there, to the goal that the file gave
+pub record TargetSince (a : Stand) (way : List Move) (x : GangTarget) (s : BenchState) (new : Slot) (arena : List (List ℕ)) (t : BenchState) : Type 0 where
+  pub target : GangTarget
+  pub is : new ≡ slot.Target target
+  pub same : SameTarget x target
+  pub goes : GoesOn a way (goal_for x s.file) target arena s t
+  pub file : IsUnended target.place → t.file ≡ s.file
+  pub files : history.GoesOn (file_half s) (file_half t)
+  pub guarded : (body : List ℕ) → IsWhole body s.file → Guarded body (goal_for x s.file) target.place s t
+  pub counts : Counts target.place s t
+
+-- it went on from there
+abbrev pub SlotSince : Stand → List Move → Slot → BenchState → Slot → List (List ℕ) → BenchState → Type 0
+SlotSince a way (slot.Refused e) s new arena t = new ≡ slot.Refused e
+SlotSince a way (slot.Target x) s new arena t = TargetSince a way x s new arena t

@@ -1,0 +1,164 @@
+//! A gang of targets.
+ghost use Rattle.std.specs.Prelude.{◌≡◌, ◌<◌, ◌≤◌, ℕ, List, All, true, false, length, get_or, IfOk};
+ghost use Rattle.gang_run.specs.Gangs.{slot_at, IsGang, AreReady, OneTurn, AllSince, AllKept, Playing, gang_togo};
+ghost use Rattle.gang_run.specs.Opening.{AreOpened, AreLookedAt};
+ghost use Rattle.gang_run.specs.Slots.{slot_turn, SlotTakes, IsSlotEnd, IsSlotJob};
+ghost use Rattle.gang_run.specs.declared.gang.Gang.{Gang};
+ghost use Rattle.gang_target.specs.declared.ending.Turn.TheVariants as a_turn;
+
+use crate::opening::add_slot;
+use crate::slot::Slot;
+use bench_model::Bench;
+use faults::OutOfMemory;
+use gang_target::{TargetEnd, Turn};
+use job_text::Job;
+use ram_arena::Arena;
+use std::alloc::Global;
+
+/// Targets, with the windows of their RAM.
+#[derive(Drop)]
+pub struct Gang {
+    arena: Arena,
+    slots: Vec<Slot>,
+}
+
+/// A turn that is asked for: whose, and of how many steps at most.
+#[derive(Clone, Copy, Debug, PartialEq, Eq)]
+pub struct Asked {
+    pub target: usize,
+    pub steps: u64,
+}
+
+impl Gang {
+    /// Opens the job of each bench in order, and surveys it to its new goal. A refusal other than want of memory is that target's end. Then
+    /// it makes the RAM of each target that goes on, all in one allocation. There are 1 to 16 benches.
+    ///
+    /// # Errors
+    ///
+    /// `OutOfMemory` leaves the files as they were, and the cells too outside the operations that were open.
+    pub fn open<B: Bench>(alloc: Global, benches: &mut [B]) -> Result<Gang, OutOfMemory>
+        requires some { 1 ≤ length benches.old }
+        requires few { length benches.old ≤ 16 }
+        ensures opened { IfOk result (λ gang. AreOpened B.Bench benches.old gang benches.new) }
+        ensures gang { IfOk result IsGang }
+        ensures count { IfOk result (λ gang. length benches.new ≡ length gang.slots.items) }
+        ensures ready { IfOk result (λ gang. AreReady B.Bench gang benches.new) }
+        ensures looked { AreLookedAt B.Bench benches.old benches.new }
+        ensures benches { length benches.new ≡ length benches.old }
+    {
+        let mut slots = Vec::new(alloc);
+        let mut sizes = Vec::new(alloc);
+        for index in 0..benches.len() {
+            match add_slot(alloc, &mut benches[index], &mut slots, &mut sizes) {
+                Ok(()) => {}
+                Err(OutOfMemory) => return Err(OutOfMemory),
+            }
+        }
+        let arena = Arena::new(alloc, &sizes)?;
+        Ok(Gang { arena, slots })
+    }
+
+    /// One turn of a target: while a call runs, its next steps, at most so many; else one host action. A turn of a target that has ended
+    /// changes nothing. No bench and no window is touched but that target's own. It takes no memory.
+    pub fn turn<B: Bench>(&mut self, benches: &mut [B], target: usize, steps: u64) -> Turn
+        requires gang { IsGang self.old }
+        requires count { length benches.old ≡ length self.old.slots.items }
+        requires target { target < length benches.old }
+        requires steps { 1 ≤ steps }
+        requires ready { AreReady B.Bench self.old benches.old }
+        ensures result { result ≡ slot_turn (slot_at self.new target) }
+        ensures turn { OneTurn B.Bench target self.old benches.old self.new benches.new }
+        ensures one { (d : B) → SlotTakes B.tells steps (slot_at self.old target) self.old.arena (B.state (get_or benches.old target d)) (slot_at self.new target) self.new.arena (B.state (get_or benches.new target d)) }
+        ensures gang { IsGang self.new }
+        ensures ready { AreReady B.Bench self.new benches.new }
+    {
+        self.slots[target].turn(&mut self.arena, &mut benches[target], steps);
+        self.slots[target].state()
+    }
+
+    /// How a target has ended: none exactly where it has not.
+    pub fn end(&self, target: usize) -> Option<&TargetEnd>
+        requires { target < length self.now.slots.items }
+        ensures { IsSlotEnd (slot_at self.now target) result }
+    {
+        self.slots[target].end()
+    }
+
+    /// A target's job: none exactly where its end is `Open` or `Survey`. It takes no memory.
+    pub fn job(&self, target: usize) -> Option<&Job>
+        requires { target < length self.now.slots.items }
+        ensures { IsSlotJob (slot_at self.now target) result }
+    {
+        self.slots[target].job()
+    }
+
+    /// Turns, as they are asked for.
+    pub fn turns<B: Bench>(&mut self, benches: &mut [B], asked: &[Asked])
+        requires gang { IsGang self.old }
+        requires count { length benches.old ≡ length self.old.slots.items }
+        requires asked { All (λ x. (x.target < length benches.old) × (1 ≤ x.steps)) asked.now }
+        requires ready { AreReady B.Bench self.old benches.old }
+        ensures since { AllSince B.Bench self.old benches.old self.new benches.new }
+        ensures kept { AllKept B.Bench self.old benches.old self.new benches.new }
+        ensures gang { IsGang self.new }
+        ensures ready { AreReady B.Bench self.new benches.new }
+        ensures count { length benches.new ≡ length benches.old }
+        ensures places { length benches.new ≡ length self.new.slots.items }
+    {
+        for next in asked {
+            self.turn(benches, next.target, next.steps);
+        }
+    }
+
+    /// A turn of each target in order. Whether one has still to go on.
+    pub fn round<B: Bench>(&mut self, benches: &mut [B], steps: u64) -> bool
+        requires gang { IsGang self.old }
+        requires count { length benches.old ≡ length self.old.slots.items }
+        requires steps { 1 ≤ steps }
+        requires ready { AreReady B.Bench self.old benches.old }
+        ensures plays { (g : Gang) (first : List B) → Playing B.Bench g first self.old benches.old → Playing B.Bench g first self.new benches.new }
+        ensures gang { IsGang self.new }
+        ensures ready { AreReady B.Bench self.new benches.new }
+        ensures count { length benches.new ≡ length benches.old }
+        ensures places { length benches.new ≡ length self.new.slots.items }
+        ensures nearer { result ≡ true → gang_togo self.new < gang_togo self.old }
+        ensures ended { result ≡ false → (i : ℕ) → i < length benches.old → slot_turn (slot_at self.new i) ≡ a_turn.Ended }
+    {
+        let mut goes_on = false;
+        for target in 0..benches.len() {
+            goes_on = still(goes_on, self.turn(benches, target, steps));
+        }
+        goes_on
+    }
+
+    /// Rounds until all have ended.
+    pub fn run<B: Bench>(&mut self, benches: &mut [B], steps: u64)
+        requires gang { IsGang self.old }
+        requires count { length benches.old ≡ length self.old.slots.items }
+        requires steps { 1 ≤ steps }
+        requires ready { AreReady B.Bench self.old benches.old }
+        ensures since { AllSince B.Bench self.old benches.old self.new benches.new }
+        ensures kept { AllKept B.Bench self.old benches.old self.new benches.new }
+        ensures gang { IsGang self.new }
+        ensures count { length benches.new ≡ length benches.old }
+        ensures places { length benches.new ≡ length self.new.slots.items }
+        ensures ended { (i : ℕ) → i < length benches.old → slot_turn (slot_at self.new i) ≡ a_turn.Ended }
+    {
+        'rounds: loop {
+            if !self.round(benches, steps) {
+                return;
+            }
+        }
+    }
+}
+
+/// Whether one goes on, of those before and this one.
+fn still(goes_on: bool, turn: Turn) -> bool
+    ensures more { turn ≡ a_turn.More → result ≡ true }
+    ensures ended { turn ≡ a_turn.Ended → result ≡ goes_on }
+{
+    match turn {
+        Turn::More => true,
+        Turn::Ended => goes_on,
+    }
+}

@@ -1,0 +1,14 @@
+//! Several targets by turns, each with its own bench, over the windows of one arena.
+//!
+//! `specs/Gangs` says what a turn does to a gang and to its benches, and what any list of turns does. The laws say that each target ends as
+//! it could alone, after any list of turns.
+#![tactic(auto)]
+
+mod gang;
+mod law;
+mod opening;
+mod slot;
+
+pub use gang::{Asked, Gang};
+pub use gang_target::{TargetEnd, Turn};
+pub use law::{jobs_are_lent, targets_end_as_alone, turns_begin, turns_go_on};

@@ -1,0 +1,138 @@
+//! The opening of a gang.
+ghost use Rattle.std.specs.Prelude.{◌≡◌, length, IsTrue, IfOk, None};
+ghost use Rattle.bench_model.specs.Calls.{IsRead};
+ghost use Rattle.bench_model.specs.History.{LeftOnly};
+ghost use Rattle.bench_model.specs.Pairs.{PairsLeave};
+ghost use Rattle.bench_model.specs.State.{Left, file_half};
+ghost use Rattle.board_file.specs.Limits.{size_of};
+ghost use Rattle.job_text.specs.Stands.{StandsFor};
+ghost use Rattle.flash_session.specs.Sessions.{job_in};
+ghost use Rattle.gang_run.specs.Opening.{IsLookedAt};
+ghost use Rattle.gang_run.specs.Opens.{HasPage, IsMade, Surveys, Opens, AddsWindow, PutsSlot, AddsSlot};
+
+use crate::slot::Slot;
+use bench_model::Bench;
+use faults::OutOfMemory;
+use flash_session::{Goal, Parts, Session, SessionFault, SurveyFault};
+use gang_target::{TargetEnd, begin};
+use job_file::OpenFault;
+use std::alloc::Global;
+
+/// The bytes of a page of either region.
+fn longest_page(parts: &Parts) -> u32
+    ensures { HasPage parts.now result }
+{
+    let page = parts.first.calls.algorithm().device.page;
+    match &parts.second {
+        Some(work) => page.max(work.calls.algorithm().device.page),
+        None => page,
+    }
+}
+
+/// So many bytes, all zero.
+fn zeros(alloc: Global, len: usize) -> Result<Vec<u8>, OutOfMemory>
+    ensures { IfOk result (λ bytes. length bytes.items ≡ len) }
+{
+    Ok(vec![in alloc; 0u8; len]?)
+}
+
+/// A target of what a session gave up, with this window.
+fn make_slot(alloc: Global, parts: Parts, window: usize) -> Result<Slot, OutOfMemory>
+    ensures { IfOk result (IsMade parts window) }
+{
+    match zeros(alloc, longest_page(&parts) as usize) {
+        Ok(page) => Ok(Slot::Target(begin(parts, window, page))),
+        Err(OutOfMemory) => Err(OutOfMemory),
+    }
+}
+
+/// Surveys the job of a session to its new goal, and makes a target of it, with this window.
+fn survey_slot<B: Bench>(
+    alloc: Global,
+    bench: &mut B,
+    session: Session,
+    window: usize,
+) -> Result<Slot, OutOfMemory>
+    requires count { (B.state bench.old).cell_count ≡ size_of (job_in session).board.regions }
+    requires idle { IsTrue B.tells → (B.state bench.old).operation ≡ None }
+    requires stands { IsTrue B.tells → StandsFor (job_in session) (B.state bench.old).file }
+    requires only { IsTrue B.tells → LeftOnly (B.state bench.old).file (file_half (B.state bench.old)) }
+    ensures slot { IfOk result (λ slot. Surveys B.tells (job_in session) window slot (B.state bench.old) (B.state bench.new)) }
+    ensures reads { IsRead B.tells (B.state bench.old) (B.state bench.new) }
+    ensures pairs { PairsLeave (B.state bench.old) (B.state bench.new) (Left (B.state bench.old)) }
+{
+    let mut session = session;
+    match session.survey(alloc, bench, Goal::New) {
+        Ok(()) => {
+            let parts = session.into_parts();
+            make_slot(alloc, parts, window)
+        }
+        Err(SurveyFault::OutOfMemory) => Err(OutOfMemory),
+        Err(SurveyFault::DeviceFault) => Ok(Slot::Refused(TargetEnd::Survey(
+            SurveyFault::DeviceFault,
+        ))),
+        Err(SurveyFault::StoreFault) => Ok(Slot::Refused(TargetEnd::Survey(
+            SurveyFault::StoreFault,
+        ))),
+    }
+}
+
+/// Opens and surveys the job of a bench, and makes a target of it, with this window. A refusal other than want of memory is its end.
+fn open_slot<B: Bench>(alloc: Global, bench: &mut B, window: usize) -> Result<Slot, OutOfMemory>
+    ensures slot { IfOk result (λ slot. Opens B.tells window slot (B.state bench.old) (B.state bench.new)) }
+    ensures looked { IsLookedAt B.tells (B.state bench.old) (B.state bench.new) }
+{
+    match Session::open(alloc, bench) {
+        Ok(session) => survey_slot(alloc, bench, session, window),
+        Err(SessionFault::OutOfMemory | SessionFault::Open(OpenFault::OutOfMemory)) => {
+            Err(OutOfMemory)
+        }
+        Err(SessionFault::Open(fault)) => Ok(Slot::Refused(TargetEnd::Open(SessionFault::Open(
+            fault,
+        )))),
+        Err(SessionFault::DeviceFault) => Ok(Slot::Refused(TargetEnd::Open(
+            SessionFault::DeviceFault,
+        ))),
+    }
+}
+
+/// Adds the RAM of a target to the windows.
+fn add_window(slot: &Slot, sizes: &mut Vec<u32>) -> Result<(), OutOfMemory>
+    ensures { AddsWindow slot.now sizes.old.items sizes.new.items result }
+{
+    match slot {
+        Slot::Refused(_) => Ok(()),
+        Slot::Target(target) => {
+            sizes.push(target.job().board.ram_size)?;
+            Ok(())
+        }
+    }
+}
+
+/// Opens a bench, and adds its place and its window to those before it.
+pub(crate) fn add_slot<B: Bench>(
+    alloc: Global,
+    bench: &mut B,
+    slots: &mut Vec<Slot>,
+    sizes: &mut Vec<u32>,
+) -> Result<(), OutOfMemory>
+    ensures added { AddsSlot B.tells slots.old.items sizes.old.items (B.state bench.old) slots.new.items sizes.new.items (B.state bench.new) result }
+    ensures looked { IsLookedAt B.tells (B.state bench.old) (B.state bench.new) }
+{
+    match open_slot(alloc, bench, sizes.len()) {
+        Ok(slot) => put_slot(slot, slots, sizes),
+        Err(OutOfMemory) => Err(OutOfMemory),
+    }
+}
+
+/// Adds a place and its window.
+fn put_slot(slot: Slot, slots: &mut Vec<Slot>, sizes: &mut Vec<u32>) -> Result<(), OutOfMemory>
+    ensures { PutsSlot slot slots.old.items sizes.old.items slots.new.items sizes.new.items result }
+{
+    match add_window(&slot, sizes) {
+        Ok(()) => {}
+        Err(OutOfMemory) => return Err(OutOfMemory),
+    }
+    slots.push(slot)?;
+    Ok(())
+}

@@ -1,0 +1,65 @@
+//! One place of a gang.
+ghost use Rattle.std.specs.Prelude.{◌≤◌};
+ghost use Rattle.gang_run.specs.Slots.{IsReady, SlotTurns, SlotTakes, slot_turn, IsSlotEnd, IsSlotJob};
+
+use bench_model::Bench;
+use gang_target::{GangTarget, TargetEnd, Turn};
+use job_text::Job;
+use ram_arena::Arena;
+
+/// A target, or how one ended that has no script.
+#[derive(Drop)]
+pub(crate) enum Slot {
+    Refused(TargetEnd),
+    Target(GangTarget),
+}
+
+impl Slot {
+    ghost use Rattle.std.specs.Prelude.{◌≡◌};
+
+    /// Whether it has ended.
+    pub fn state(&self) -> Turn
+        ensures { result ≡ slot_turn self.now }
+    {
+        match self {
+            Slot::Refused(_) => Turn::Ended,
+            Slot::Target(target) => target.state(),
+        }
+    }
+
+    /// How it has ended: none where it has not.
+    pub fn end(&self) -> Option<&TargetEnd>
+        ensures { IsSlotEnd self.now result }
+    {
+        match self {
+            Slot::Refused(end) => Some(end),
+            Slot::Target(target) => target.end(),
+        }
+    }
+
+    /// Its job: none where it has no script.
+    pub fn job(&self) -> Option<&Job>
+        ensures { IsSlotJob self.now result }
+    {
+        match self {
+            Slot::Refused(_) => None,
+            Slot::Target(target) => Some(target.job()),
+        }
+    }
+
+    /// A turn, which changes nothing where it has ended.
+    pub fn turn<B: Bench>(&mut self, arena: &mut Arena, bench: &mut B, steps: u64)
+        requires ready { IsReady B.tells self.old arena.old (B.state bench.old) }
+        requires steps { 1 ≤ steps }
+        ensures turns { SlotTurns B.Bench self.old arena.old bench.old self.new arena.new bench.new }
+        ensures one { SlotTakes B.tells steps self.old arena.old (B.state bench.old) self.new arena.new (B.state bench.new) }
+    {
+        match self {
+            Slot::Refused(_) => {}
+            Slot::Target(target) => match target.state() {
+                Turn::Ended => {}
+                Turn::More => target.turn(arena, bench, steps),
+            },
+        }
+    }
+}

@@ -1,0 +1,25 @@
+use Rattle.std.proofs.Common.{◌∙◌, ◌≤◌, ℕ, List, length, refl, sym, ap, subst}
+use Rattle.flash_session.proofs.ReadLemmas.{kept_items}
+use Rattle.gang_target.specs.declared.ending.TargetEnd.TheVariants as ended
+use Rattle.gang_target.proofs.TakesLemmas.{prepares_so, ends_so}
+use Rattle.gang_target.proofs.TurnMade.{ready_turn, prepare_unread}
+use Rattle.gang_target.proofs.target.GangTarget.prepare.Goals as goal
+
+pub returns-in-Ok-clause-turns : goal.returns-in-Ok-clause-turns
+returns-in-Ok-clause-turns g c =
+    ready_turn g.B.Bench.tells c.args.self.now c.args.arena.now (g.B.Bench.state c.args.bench.now) c.requires.fit c.args.cursor c.requires.place c.args.call c.args.from c.args.len c.args.next c.requires.step (g.B.Bench.state c.prepare_from.new.bench) c.prepare_from.ensures.reads
+    (λ told x. g.met.B.Bench.as_told c.args.bench.now x told) _ c.prepare_from.new.arena c.in-Ok.left c.in-Ok.ensures.prepares
+    (kept_items c.args.self.now.page.len c.prepare_from.new.page c.args.self.now.page.items c.args.self.now.page.ok.0 (c.prepare_from.ensures.long ∙ ap (λ (l : List ℕ). length l) c.deref_mut.ensures.value)) refl (c.in-Ok.ensures.cause.on_ok refl)
+
+pub returns-in-Err-clause-turns : goal.returns-in-Err-clause-turns
+returns-in-Err-clause-turns g c =
+    prepare_unread g.B.Bench.tells c.args.self.now c.args.arena.now (g.B.Bench.state c.args.bench.now) c.requires.fit c.args.cursor c.requires.place c.args.call c.args.from c.args.len c.args.next c.requires.step (g.B.Bench.state c.prepare_from.new.bench) c.prepare_from.ensures.reads
+    (λ told x. g.met.B.Bench.as_told c.args.bench.now x told) _ c.prepare_from.new.arena c.in-Err.ensures.prepares
+    (kept_items c.args.self.now.page.len c.prepare_from.new.page c.args.self.now.page.items c.args.self.now.page.ok.0 (c.prepare_from.ensures.long ∙ ap (λ (l : List ℕ). length l) c.deref_mut.ensures.value)) refl
+    c.in-Err.ensures.cause.later (c.in-Err.ensures.cause.on_fault refl)
+
+pub returns-in-Ok-clause-one : goal.returns-in-Ok-clause-one
+returns-in-Ok-clause-one g c = prepares_so c.args.cursor c.args.call c.args.from c.args.len c.in-Ok.left c.args.next c.requires.kind
+
+pub returns-in-Err-clause-one : goal.returns-in-Err-clause-one
+returns-in-Err-clause-one g c = ends_so c.args.cursor ended.StoreFault

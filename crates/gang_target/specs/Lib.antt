@@ -1,0 +1,16 @@
+pub mod Rest
+pub mod Targets
+pub mod Steps
+pub mod Midway
+pub mod Stands
+pub mod Fit
+pub mod Turns
+pub mod Alone
+pub mod Guarded
+pub mod Items
+pub mod Turned
+pub mod Reads
+pub mod Prepared
+pub mod Ended
+pub mod Begun
+pub mod Takes

@@ -1,0 +1,79 @@
+//! A target before its first move.
+ghost use Rattle.std.specs.Prelude.{◌≡◌};
+ghost use Rattle.gang_target.specs.Begun.{IsPartFrom, AreFrom, IsBegun};
+
+use crate::cursor::{Cursor, Phase, Place};
+use crate::part::{Part, Task};
+use crate::target::GangTarget;
+use algo_calls::CallsIn;
+use flash_session::{Parts, Work};
+
+/// The calls of the work on a region, whose first cell is at this place, and the work without them.
+fn part_of(work: Work, start: u32) -> (CallsIn, Part)
+    ensures { IsPartFrom work start result.0 result.1 }
+{
+    let _sectors = work.geometry.sectors();
+    let _pages = work.geometry.pages();
+    let base = work.calls.algorithm().device.base;
+    let Work {
+        calls,
+        geometry,
+        plan,
+    } = work;
+    (
+        calls,
+        Part {
+            geometry,
+            plan,
+            base,
+            start,
+        },
+    )
+}
+
+/// And of that on the second region, where there is one.
+fn second_of(work: Option<Work>, start: u32) -> (Option<CallsIn>, Option<Part>)
+    ensures { AreFrom work start result.0 result.1 }
+{
+    match work {
+        Some(work) => {
+            let (calls, part) = part_of(work, start);
+            (Some(calls), Some(part))
+        }
+        None => (None, None),
+    }
+}
+
+/// A target of what a session gave up, before its first move, with its window and a buffer for a page. It takes no memory.
+pub fn begin(parts: Parts, window: usize, page: Vec<u8>) -> GangTarget
+    ensures begun { IsBegun parts window result }
+    ensures page { result.page ≡ page }
+{
+    let Parts {
+        job,
+        goal,
+        first,
+        second,
+    } = parts;
+    let start = first.geometry.size();
+    let (calls, one) = part_of(first, 0);
+    let (other, two) = second_of(second, start);
+    GangTarget {
+        calls,
+        second: false,
+        other,
+        window,
+        task: Task {
+            job,
+            goal,
+            first: one,
+            second: two,
+        },
+        page,
+        made: 0,
+        place: Place::At(Cursor::Begin {
+            second: false,
+            phase: Phase::Erase,
+        }),
+    }
+}

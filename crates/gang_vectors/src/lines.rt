@@ -1,0 +1,66 @@
+//! The lines of the gangs, with numbers in decimal digits, but for the address and the bytes of an image.
+//!
+//! - `gang NAME` begins a gang without targets.
+//! - `job FLM AT IMAGE COUNT`: a target with the begun job of the small board that puts the bytes IMAGE, in pairs of hexadecimal digits, to the
+//!   address AT. Its snapshot has each of the first COUNT cells at its place modulo 256, and FF behind them; so are its cells.
+//! - `torn VALUE FROM LEN`: so many cells of the last target hold this byte, as a stop may leave them. `fail NUMBER`: the call on its cells of this
+//!   number fails. `none`: its file is no job.
+//! - `alone`: carries the job of each target alone, and prints how it ends, and whether the cells are then the image over the snapshot.
+//! - `turns ORDER STEPS`: a gang that has turns of so many steps at most, in the order `forward`, `backward` or the one drawn by a number as
+//!   the seed.
+//! - `lists COUNT`: so many gangs, each with 64 turns that are drawn with their steps, and then rounds to the end.
+//! - `stops COUNT`: so many gangs, each stopped after turns that are drawn, with each pick. A second gang carries on what is left, and so does
+//!   each target alone.
+//! - `share`: two targets of the gang, of which each has its first operation before either has its last one.
+
+use crate::job::Job;
+use crate::orders::Order;
+use crate::share::share_turns;
+use crate::stops::stop_gangs;
+use crate::team::Team;
+use anyhow::{Context, Result, bail};
+
+/// Goes through the lines of a file.
+pub fn go_through(rt: &HostRuntime, text: &str) -> Result<()> {
+    let mut team = Team::new(rt.alloc());
+    for line in text.lines() {
+        if let Some(name) = line.strip_prefix("gang ") {
+            println!(rt; "{name}")?;
+            team = Team::new(rt.alloc());
+        } else if !line.is_empty() {
+            step(rt, &mut team, line)?;
+        }
+    }
+    Ok(())
+}
+
+/// Does what a line says.
+fn step(rt: &HostRuntime, team: &mut Team, line: &str) -> Result<()> {
+    let words = line.split_whitespace().collect::<Vec<&str>>(rt.alloc())?;
+    match words.as_slice() {
+        ["job", job @ ..] => team.add(Job::read(rt, job)?),
+        ["torn", value, from, len] => {
+            let job = team.last().context("no job")?;
+            job.tear(
+                u8::from_str_radix(value, 16)?,
+                from.parse::<usize>()?,
+                len.parse::<usize>()?,
+            )
+        }
+        ["fail", number] => {
+            team.last().context("no job")?.fail = number.parse::<u64>()?;
+            Ok(())
+        }
+        ["none"] => team.last().context("no job")?.spoil(rt.alloc()),
+        ["alone"] => team.carry_alone(rt),
+        ["turns", order, steps] => {
+            team.take_turns(rt.alloc(), Order::read(order)?, steps.parse::<u64>()?)?;
+            println!(rt; "{line}: as alone")?;
+            Ok(())
+        }
+        ["lists", count] => team.take_lists(rt, count.parse::<u32>()?),
+        ["stops", count] => stop_gangs(rt, team, count.parse::<u32>()?),
+        ["share"] => share_turns(rt, team),
+        _ => bail!("{line}: no such line"),
+    }
+}

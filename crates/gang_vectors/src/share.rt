@@ -1,0 +1,124 @@
+//! Targets that share their time.
+
+use crate::team::Team;
+use anyhow::{Context, Result, ensure};
+use bench_model::{Bench, DeviceFault, MemoryBench, StoreFault};
+use gang_run::Gang;
+use std::alloc::Global;
+use std::cell::Cell;
+
+/// A bench that passes every call on. With the first operation on its cells it adds 1 to a number, and it notes the number at each write of its
+/// file, the last of which closes the job.
+#[derive(Drop)]
+struct Noting<'a, B> {
+    inner: B,
+    begun: &'a Cell<u32>,
+    has_begun: bool,
+    noted: u32,
+}
+
+impl<'a, B> Noting<'a, B> {
+    /// Over a bench.
+    fn new(inner: B, begun: &'a Cell<u32>) -> Noting<'a, B> {
+        Noting {
+            inner,
+            begun,
+            has_begun: false,
+            noted: 0,
+        }
+    }
+}
+
+impl<'a, B: Bench> Bench for Noting<'a, B> {
+    ghost tells = { B.tells };
+
+    ghost state = { λ w. B.state w.inner };
+
+    ghost acts = { λ before act after. B.acts before.inner act after.inner };
+
+    ghost as_read = { λ w told. B.as_read w.inner told };
+
+    ghost as_told = { λ w cells told. B.as_told w.inner cells told };
+
+    ghost all_told = { λ w told. B.all_told w.inner told };
+
+    ghost few = { λ w. B.few w.inner };
+
+    ghost inside = { λ w told. B.inside w.inner told };
+
+    fn file_len(&mut self) -> Result<u64, StoreFault> {
+        self.inner.file_len()
+    }
+
+    fn file_read(&mut self, at: u64, out: &mut [u8]) -> Result<(), StoreFault> {
+        self.inner.file_read(at, out)
+    }
+
+    fn file_write(&mut self, at: u64, bytes: &[u8]) -> Result<(), StoreFault> {
+        self.noted = self.begun.get();
+        self.inner.file_write(at, bytes)
+    }
+
+    fn file_cut(&mut self, len: u64) -> Result<(), StoreFault> {
+        self.inner.file_cut(len)
+    }
+
+    fn file_sync(&mut self) -> Result<(), StoreFault> {
+        self.inner.file_sync()
+    }
+
+    fn cells_len(&self) -> u32 {
+        self.inner.cells_len()
+    }
+
+    fn cells_read(&mut self, at: u32, out: &mut [u8]) -> Result<(), DeviceFault> {
+        self.inner.cells_read(at, out)
+    }
+
+    fn cells_open(&mut self, at: u32, len: u32) -> Result<(), DeviceFault> {
+        if !self.has_begun {
+            self.has_begun = true;
+            self.begun.set(self.begun.get().wrapping_add(1));
+        }
+        self.inner.cells_open(at, len)
+    }
+
+    fn cells_settle(&mut self, bytes: &[u8]) -> Result<(), DeviceFault> {
+        self.inner.cells_settle(bytes)
+    }
+
+    fn cells_settle_fill(&mut self, value: u8) -> Result<(), DeviceFault> {
+        self.inner.cells_settle_fill(value)
+    }
+
+    fn cells_drop(&mut self) -> Result<(), DeviceFault> {
+        self.inner.cells_drop()
+    }
+}
+
+/// Drives two benches by turns to the end.
+fn drive<B: Bench>(alloc: Global, benches: &mut [B; 2]) -> Result<()> {
+    let mut gang = Gang::open(alloc, benches)?;
+    gang.run(benches, 1000);
+    Ok(())
+}
+
+/// The bench of the first job.
+fn bench(alloc: Global, team: &Team) -> Result<MemoryBench> {
+    team.jobs.first().context("no job")?.bench(alloc)
+}
+
+/// Drives the first job on two benches, of which each begins before either is closed.
+pub fn share_turns(rt: &HostRuntime, team: &Team) -> Result<()> {
+    let begun = Cell::new(0);
+    let mut benches = [
+        Noting::new(bench(rt.alloc(), team)?, &begun),
+        Noting::new(bench(rt.alloc(), team)?, &begun),
+    ];
+    drive(rt.alloc(), &mut benches)?;
+    for bench in benches.iter() {
+        ensure!(bench.noted == 2, "closed when {} had begun", bench.noted);
+    }
+    println!(rt; "both have begun when either is closed")?;
+    Ok(())
+}

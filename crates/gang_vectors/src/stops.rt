@@ -1,0 +1,74 @@
+//! Gangs that are stopped.
+
+use crate::gangs::play_drawn;
+use crate::orders::Order;
+use crate::team::Team;
+use anyhow::{Result, ensure};
+use bench_model::{MemoryBench, Pick};
+use gang_run::Gang;
+use std::alloc::Global;
+
+/// Drives benches by some turns, which are drawn by a seed, and stops the power.
+fn stop(alloc: Global, benches: &mut [MemoryBench], seed: u32, pick: Pick) -> Result<()> {
+    ensure!(
+        !benches.is_empty() && benches.len() <= 16,
+        "1 to 16 targets"
+    );
+    let mut gang = Gang::open(alloc, benches)?;
+    play_drawn(&mut gang, benches, seed, seed % 1024);
+    for bench in benches.iter_mut() {
+        bench.power_loss(pick);
+    }
+    Ok(())
+}
+
+/// What a stop of the gang leaves of the jobs.
+fn left_after(alloc: Global, team: &Team, seed: u32, pick: Pick) -> Result<Team> {
+    let mut benches = team.benches(alloc)?;
+    stop(alloc, &mut benches, seed, pick)?;
+    let mut left = Team::new(alloc);
+    for (job, bench) in team.jobs.iter().zip(benches.iter()) {
+        left.add(job.left(alloc, bench)?)?;
+    }
+    Ok(left)
+}
+
+/// How many jobs were closed before a stop, and how many are done after it.
+#[derive(Clone, Copy)]
+struct Tally {
+    closed: usize,
+    done: usize,
+}
+
+/// Stops a gang, and carries on what is left.
+fn carry_on(alloc: Global, team: &Team, seed: u32, pick: Pick, tally: &mut Tally) -> Result<()> {
+    let mut left = left_after(alloc, team, seed, pick)?;
+    for job in left.jobs.iter() {
+        if job.file.first() == Some(&0x00) {
+            ensure!(
+                job.cells.as_slice() == job.goal.as_slice(),
+                "closed, and other cells"
+            );
+            tally.closed = tally.closed.saturating_add(1);
+        }
+    }
+    left.learn(alloc)?;
+    left.take_turns(alloc, Order::Drawn(seed), 100)?;
+    tally.done = tally.done.saturating_add(left.done());
+    Ok(())
+}
+
+/// Stops so many gangs, with each pick, and carries on what is left. Prints how many jobs were closed before a stop or are done after it.
+pub fn stop_gangs(rt: &HostRuntime, team: &Team, count: u32) -> Result<()> {
+    let mut tally = Tally { closed: 0, done: 0 };
+    for number in 0..count {
+        let seed = number.wrapping_mul(2_654_435_769);
+        for pick in [Pick::AsWritten, Pick::AsOld, Pick::Filled { value: 0x5A }] {
+            carry_on(rt.alloc(), team, seed, pick, &mut tally)?;
+        }
+    }
+    ensure!(tally.closed > 0 && tally.done > 0, "no stop in the middle");
+    let reached = tally.closed.saturating_add(tally.done);
+    println!(rt; "{count} stops, three picks: {reached} reach their goals, as alone")?;
+    Ok(())
+}

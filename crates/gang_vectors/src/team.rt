@@ -1,0 +1,186 @@
+//! The targets of a gang, each with how it ends alone.
+ghost use Rattle.std.specs.Prelude.{◌≡◌, ◌≤◌, length, IfOk};
+
+use crate::alone::carry;
+use crate::gangs::{play, play_drawn};
+use crate::job::Job;
+use crate::orders::Order;
+use crate::report::print_end;
+use anyhow::{Context, Result, bail, ensure};
+use bench_model::MemoryBench;
+use gang_run::{Gang, TargetEnd};
+use std::alloc::Global;
+
+/// The most turns that a gang has here.
+const TURNS: u32 = 100_000_000;
+
+/// How a target ended, and the bench that it left.
+#[derive(Drop)]
+struct Alone {
+    end: TargetEnd,
+    bench: MemoryBench,
+}
+
+#[derive(Drop)]
+pub struct Team {
+    pub jobs: Vec<Job>,
+    alone: Vec<Alone>,
+}
+
+/// Whether a target that ended so has no job.
+fn is_refused(end: TargetEnd) -> bool {
+    match end {
+        TargetEnd::Open(_) | TargetEnd::Survey(_) => true,
+        _ => false,
+    }
+}
+
+/// Opens a gang, and gives it turns in an order until all have ended.
+fn drive(alloc: Global, benches: &mut [MemoryBench], order: Order, steps: u64) -> Result<Gang>
+    requires steps { 1 ≤ steps }
+    ensures { IfOk result (λ gang. length gang.slots.items ≡ length benches.new) }
+{
+    ensure!(
+        !benches.is_empty() && benches.len() <= 16,
+        "1 to 16 targets"
+    );
+    let mut gang = Gang::open(alloc, benches)?;
+    if !play(&mut gang, benches, order, steps, TURNS) {
+        bail!("a target goes on");
+    }
+    Ok(gang)
+}
+
+/// Opens a gang, gives it 64 turns that are drawn, and rounds to the end.
+fn drive_drawn(alloc: Global, benches: &mut [MemoryBench], seed: u32) -> Result<Gang>
+    ensures { IfOk result (λ gang. length gang.slots.items ≡ length benches.new) }
+{
+    ensure!(
+        !benches.is_empty() && benches.len() <= 16,
+        "1 to 16 targets"
+    );
+    let mut gang = Gang::open(alloc, benches)?;
+    play_drawn(&mut gang, benches, seed, 16);
+    gang.run(benches, 1000);
+    Ok(gang)
+}
+
+impl Team {
+    pub fn new(alloc: Global) -> Team {
+        Team {
+            jobs: Vec::new(alloc),
+            alone: Vec::new(alloc),
+        }
+    }
+
+    /// Adds a job.
+    pub fn add(&mut self, job: Job) -> Result<()> {
+        self.jobs.push(job)?;
+        Ok(())
+    }
+
+    /// The last job.
+    pub fn last(&mut self) -> Option<&mut Job> {
+        self.jobs.last_mut()
+    }
+
+    /// New benches for the jobs.
+    pub fn benches(&self, alloc: Global) -> Result<Vec<MemoryBench>> {
+        let mut benches = Vec::new(alloc);
+        for job in self.jobs.iter() {
+            benches.push(job.bench(alloc)?)?;
+        }
+        Ok(benches)
+    }
+
+    /// Carries each job alone.
+    pub fn learn(&mut self, alloc: Global) -> Result<()> {
+        for job in self.jobs.iter() {
+            let mut bench = job.bench(alloc)?;
+            let end = carry(alloc, &mut bench);
+            self.alone.push(Alone { end, bench })?;
+        }
+        Ok(())
+    }
+
+    /// Carries each job alone, and prints how it ends.
+    pub fn carry_alone(&mut self, rt: &HostRuntime) -> Result<()> {
+        self.learn(rt.alloc())?;
+        for (job, alone) in self.jobs.iter().zip(self.alone.iter()) {
+            print_end(rt, alone.end)?;
+            let reached = alone.bench.cells() == job.goal.as_slice();
+            ensure!(
+                reached || alone.end != TargetEnd::Done,
+                "done, and other cells"
+            );
+            println!(rt; "{}", if reached { ", the goal" } else { "" })?;
+        }
+        Ok(())
+    }
+
+    /// How many are done alone.
+    pub fn done(&self) -> usize {
+        let ends = self
+            .alone
+            .iter()
+            .filter(|alone| alone.end == TargetEnd::Done);
+        ends.count()
+    }
+
+    /// Looks whether a target ended as it does alone.
+    fn check_one(&self, target: usize, end: TargetEnd, bench: &MemoryBench) -> Result<()> {
+        let alone = self.alone.get(target).context("no such target")?;
+        ensure!(end == alone.end, "{target}: {end:?}, alone {:?}", alone.end);
+        ensure!(
+            bench.cells() == alone.bench.cells(),
+            "{target}: other cells"
+        );
+        ensure!(bench.file() == alone.bench.file(), "{target}: another file");
+        Ok(())
+    }
+
+    /// Looks whether each target of a gang ended as it does alone.
+    fn check(&self, gang: &Gang, benches: &[MemoryBench]) -> Result<()>
+        requires { length gang.now.slots.items ≡ length benches.now }
+    {
+        for target in 0..benches.len() {
+            let Some(end) = gang.end(target) else {
+                bail!("{target} goes on");
+            };
+            self.check_one(target, *end, &benches[target])?;
+            ensure!(
+                gang.job(target).is_none() == is_refused(*end),
+                "{target}: its job"
+            );
+        }
+        Ok(())
+    }
+
+    /// Drives the jobs by turns in an order.
+    pub fn take_turns(&self, alloc: Global, order: Order, steps: u64) -> Result<()> {
+        ensure!(steps != 0, "no steps");
+        let mut benches = self.benches(alloc)?;
+        let gang = drive(alloc, &mut benches, order, steps)?;
+        self.check(&gang, &benches)
+    }
+
+    /// Drives the jobs by a list of turns that is drawn.
+    fn take_list(&self, alloc: Global, seed: u32) -> Result<()> {
+        let mut benches = self.benches(alloc)?;
+        let gang = drive_drawn(alloc, &mut benches, seed)?;
+        self.check(&gang, &benches)
+    }
+
+    /// Drives the jobs by so many lists of turns, and prints how many ends there were, and how many done.
+    pub fn take_lists(&self, rt: &HostRuntime, count: u32) -> Result<()> {
+        let mut ends = 0usize;
+        let mut done = 0usize;
+        for seed in 0..count {
+            self.take_list(rt.alloc(), seed << 8)?;
+            ends = ends.saturating_add(self.jobs.len());
+            done = done.saturating_add(self.done());
+        }
+        println!(rt; "{count} lists: {ends} ends, {done} done, as alone")?;
+        Ok(())
+    }
+}
