@@ -4,7 +4,7 @@
 //! - `fill NAME COUNT BYTE` makes a file of so many bytes. `put NAME AT BYTES` lays bytes over those of a file, from the place AT on.
 //!   `copy FROM TO`.
 //! - `length NAME` prints how many bytes a file has.
-//! - `call JOB CELLS COMMAND WORDS`: a call with these arguments. Its words are printed, and then its status.
+//! - `call JOB CELLS COMMAND WORDS`, `call --gang JOB CELLS ..`: a call with these arguments. Its words are printed, and then its status.
 //! - `losses LOSS CELLS WORDS`: the job that these words begin on the cells of a file, with a loss of power after each of its calls, and
 //!   `killed CALLS LOSS CELLS WORDS`: the job killed after so many calls, and a loss after each call of the `resume` behind that (`losses`).
 
@@ -55,9 +55,9 @@ fn step(streams: HeldStreams, line: &str) -> Result<()> {
 fn run_line(streams: HeldStreams, line: &str) -> Result<()> {
     let rt = &streams.host();
     println!(rt; "{line}")?;
-    let mut arguments = Arguments::new(rt.alloc())?;
-    for (place, word) in line.split_whitespace().enumerate() {
-        arguments.take(place, Word::copy(rt.alloc(), word)?)?;
+    let mut arguments = Arguments::new(rt.alloc());
+    for word in line.split_whitespace() {
+        arguments.take(Word::copy(rt.alloc(), word)?)?;
     }
     let status = call(streams, arguments);
     println!(rt; "status {status}")?;

@@ -1,61 +1,114 @@
 //! The words of the command line.
-ghost use Rattle.std.specs.Prelude.{◌≡◌, ◌<◌, ◌++◌, ◌∷◌, [], OnOk};
+ghost use Rattle.std.specs.Prelude.{◌≡◌, ◌++◌, ◌∷◌, [], ◌↔◌, IsTrue, OnOk, drop, get_or};
+ghost use Rattle.flm_main.specs.Line.{job_name, cells_name, words_for_one, IsForGang, words_for_gang};
 
 use faults::OutOfMemory;
 use octets::Word;
 use std::alloc::Global;
 use std::env::{self, Args};
 use std::io::ErrorKind;
+use std::marker::Model;
 
-/// The job file's name, the cells file's name, and the command with its words.
+/// What stands in place of the job file's name where the words are for several devices.
+const GANG: &str = "--gang";
+
+/// The arguments of the program, of which the first is its own name. A contract sees the list of their bytes.
 #[derive(Drop)]
 pub struct Arguments {
-    pub job: Word,
-    pub cells: Word,
-    pub words: Vec<Word>,
+    line: Vec<Word>,
+}
+
+impl Model for Arguments {
+    ghost use Rattle.std.specs.Prelude.{ℕ, List};
+
+    ghost Value = { List (List ℕ) };
+
+    ghost view = { λ a. a.line.items };
 }
 
 impl Arguments {
-    /// Empty names, and no words.
-    pub fn new(alloc: Global) -> Result<Arguments, OutOfMemory> {
-        let job = Word::copy(alloc, "")?;
-        let cells = Word::copy(alloc, "")?;
-        Ok(Arguments {
-            job,
-            cells,
-            words: Vec::new(alloc),
-        })
+    /// No arguments.
+    pub fn new(alloc: Global) -> Arguments
+        ensures { result ≡ [] }
+    {
+        Arguments {
+            line: Vec::new(alloc),
+        }
     }
 
-    /// Takes the argument at this place: at 0 the program's own name, at 1 the job file's, at 2 the cells file's, and then the command
-    /// and its words in turn.
-    pub fn take(&mut self, place: usize, argument: Word) -> Result<(), OutOfMemory>
-        ensures job { OnOk result (place ≡ 1 → self.new.job ≡ argument) }
-        ensures cells { OnOk result (place ≡ 2 → self.new.cells ≡ argument) }
-        ensures words { OnOk result (2 < place → self.new.words.items ≡ self.old.words.items ++ argument ∷ []) }
+    /// Takes the next argument.
+    pub fn take(&mut self, argument: Word) -> Result<(), OutOfMemory>
+        ensures { OnOk result (self.new ≡ self.old ++ argument ∷ []) }
     {
-        match place {
-            0 => {}
-            1 => self.job = argument,
-            2 => self.cells = argument,
-            _ => self.words.push(argument)?,
-        }
+        self.line.push(argument)?;
         Ok(())
     }
 
     /// Takes all arguments.
     fn take_all(&mut self, alloc: Global, given: Args) -> Result<(), OutOfMemory> {
-        for (place, argument) in given.enumerate() {
-            self.take(place, Word::copy(alloc, argument.as_str())?)?;
+        for argument in given {
+            self.take(Word::copy(alloc, argument.as_str())?)?;
         }
         Ok(())
     }
+
+    /// The argument at this place. A missing one is empty.
+    fn text_at(&self, place: usize) -> &str
+        ensures { result.now ≡ get_or self.now place [] }
+    {
+        match self.line.get(place) {
+            Some(word) => word.text(),
+            None => "",
+        }
+    }
+
+    /// The arguments from this place on.
+    fn words_from(&self, place: usize) -> &[Word]
+        ensures { result.now ≡ drop place self.now }
+    {
+        let words = self.line.as_slice();
+        &words[place.min(words.len())..]
+    }
+
+    /// Whether they are for several devices.
+    pub fn are_for_gang(&self) -> bool
+        ensures { IsTrue result ↔ IsForGang self.now }
+    {
+        self.job() == GANG
+    }
+
+    /// The name of the one device's job file.
+    pub fn job(&self) -> &str
+        ensures { result.now ≡ job_name self.now }
+    {
+        self.text_at(1)
+    }
+
+    /// The name of its cells file.
+    pub fn cells(&self) -> &str
+        ensures { result.now ≡ cells_name self.now }
+    {
+        self.text_at(2)
+    }
+
+    /// Its command, with the words of that.
+    pub fn words(&self) -> &[Word]
+        ensures { result.now ≡ words_for_one self.now }
+    {
+        self.words_from(3)
+    }
+
+    /// The words for several devices: for each the names of its job file and its cells file, in turn.
+    pub fn gang_words(&self) -> &[Word]
+        ensures { result.now ≡ words_for_gang self.now }
+    {
+        self.words_from(2)
+    }
 }
 
-/// Reads the command line. Missing names are empty. Where a word isn't UTF-8 there are no names and no words, which fits no
-/// command.
+/// Reads the command line. Where a word isn't UTF-8 there are no arguments, which fits no command.
 pub fn read_arguments(rt: HostRuntime) -> Result<Arguments, OutOfMemory> {
-    let mut arguments = Arguments::new(rt.alloc())?;
+    let mut arguments = Arguments::new(rt.alloc());
     match env::args(&rt) {
         Ok(given) => arguments.take_all(rt.alloc(), given)?,
         Err(fault) if fault.kind() == ErrorKind::InvalidData => {}

@@ -2,6 +2,8 @@
 #![tactic(auto)]
 
 mod arguments;
+mod benches;
+mod pairs;
 mod runs;
 
 pub use arguments::Arguments;

@@ -1,4 +1,4 @@
-//! The flash programmer as a program: `flm_tool JOB CELLS COMMAND [WORDS]`.
+//! The flash programmer as a program: `flm_tool JOB CELLS COMMAND [WORDS]`, or `flm_tool --gang JOB CELLS [JOB CELLS ..]`.
 #![tactic(auto)]
 
 use std::process::ExitCode;

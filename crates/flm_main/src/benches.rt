@@ -1,0 +1,43 @@
+//! The benches of several devices.
+ghost use Rattle.std.specs.Prelude.{◌≡◌, ◌<◌, ◌+◌, ◌*◌, [], length, take, map, get_or, IfOk};
+ghost use Rattle.host_files.specs.Bench.{job_name_of};
+ghost use Rattle.flm_main.specs.Line.{job_names};
+
+use crate::pairs::{count_pairs, pair_at};
+use faults::OutOfMemory;
+use host_files::{FileBench, ProgressLine};
+use octets::Word;
+
+/// The bench of the pair of this index, beside those before it.
+fn open_bench(
+    rt: HostRuntime,
+    line: &ProgressLine,
+    words: &[Word],
+    index: usize,
+    others: &[FileBench],
+) -> Result<FileBench, OutOfMemory>
+    requires { 2 * index + 1 < length words.now }
+    ensures { IfOk result (λ bench. job_name_of bench ≡ get_or words.now (2 * index) []) }
+{
+    let pair = pair_at(words, index);
+    let job = Word::copy(rt.alloc(), pair.job.text())?;
+    let mut bench = FileBench::beside(rt, job, pair.cells.text(), others);
+    bench.show_on(line.share());
+    Ok(bench)
+}
+
+/// A bench for each whole pair of names among these words, in turn, at most 16.
+pub fn open_benches(
+    rt: HostRuntime,
+    line: &ProgressLine,
+    words: &[Word],
+) -> Result<Vec<FileBench>, OutOfMemory>
+    ensures { IfOk result (λ benches. map job_name_of benches.items ≡ take 16 (job_names words.now)) }
+{
+    let mut benches = Vec::new(rt.alloc());
+    for index in 0..count_pairs(words) {
+        let bench = open_bench(rt, line, words, index, benches.as_slice())?;
+        benches.push(bench)?;
+    }
+    Ok(benches)
+}
