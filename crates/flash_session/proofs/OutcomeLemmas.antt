@@ -12,7 +12,7 @@ use Rattle.flash_session.specs.declared.ending.Reached.{Reached}
 use Rattle.flash_session.specs.declared.ending.SessionEnd.{SessionEnd}
 use Rattle.flash_session.specs.declared.ending.SessionEnd.TheVariants as end
 use Rattle.flash_session.specs.declared.machines.Machines.{Machines}
-use Rattle.flash_session.specs.declared.task.Task.{Task}
+use Rattle.flash_session.specs.declared.errand.Errand.{Errand}
 use Rattle.flash_session.specs.declared.stopped.Stopped.{Stopped}
 use Rattle.flash_session.specs.declared.stopped.Stopped.TheVariants as stopped
 use Rattle.flash_session.specs.Differs.{IsFirstDifference, Compares}
@@ -92,7 +92,7 @@ one_outcome a moves goal end.StoreFault f c d one two = absurd one
 pub sound_stop : (x : Stopped) (number : ℕ) (call : Call) (e : CallEnd) → x ≡ stopped.Call number call e → IsStop (Err x) → IsNotDone number e
 sound_stop x number call e is stop = subst (λ (y : Stopped). IsStop (Err y)) is stop
 
-module _ (tells : Bool) (t : Task) (other : Option Task) (goal : List ℕ) (before after : Machines) (s w : BenchState) (told : IsTrue tells) where
+module _ (tells : Bool) (t : Errand) (other : Option Errand) (goal : List ℕ) (before after : Machines) (s w : BenchState) (told : IsTrue tells) where
   abbrev legs : List Leg
   legs = legs_on before t other goal
 

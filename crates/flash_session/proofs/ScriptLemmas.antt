@@ -5,7 +5,7 @@ use Rattle.bench_model.specs.State.{BenchState}
 use Rattle.algo_calls.specs.Setups.{Setup}
 use Rattle.flash_session.specs.declared.machines.Machines.{Machines}
 use Rattle.flash_session.specs.declared.stopped.Stopped.{Stopped}
-use Rattle.flash_session.specs.declared.task.Task.{Task}
+use Rattle.flash_session.specs.declared.errand.Errand as code
 use Rattle.flash_session.specs.Moves.{Move, Reset}
 use Rattle.flash_session.specs.Drivers.{setup_on, SameMachines, errand_in, leg_on, later_legs, legs_on}
 use Rattle.flash_session.specs.Plays.{AreAtBench, PlaysOn}
@@ -89,31 +89,31 @@ script_is : (l : Leg) (rest : List Leg) (torn : Torn) (more : List Torn) (last :
 unfolding script
 script_is l rest torn more last = ap (λ (m : List Move). m ++ (Reset l.setup last ∷ [])) (first_leg l rest torn more)
 
-abbrev pub SomeLater : Bool → Option Task → List ℕ → Machines → Result (Unit {0}) Stopped → Machines → BenchState → BenchState → Type 0
+abbrev pub SomeLater : Bool → Option code.Errand → List ℕ → Machines → Result (Unit {0}) Stopped → Machines → BenchState → BenchState → Type 0
 SomeLater tells other goal before result after s w = (torn : List Torn) × PlaysOn tells before (legs_of (later_legs before other goal) torn) result after s w
 
 -- there is no second region
-pub later_none : (tells : Bool) (other : Option Task) (goal : List ℕ) (m : Machines) (s : BenchState) → Told tells s → AreAtBench tells m s → other ≡ None → SomeLater tells other goal m (Ok tt) m s s
+pub later_none : (tells : Bool) (other : Option code.Errand) (goal : List ℕ) (m : Machines) (s : BenchState) → Told tells s → AreAtBench tells m s → other ≡ None → SomeLater tells other goal m (Ok tt) m s s
 later_none tells other goal m s law ready none =
-    ([], on_none tells m (legs_of (later_legs m other goal) []) s law ready (ap (λ (o : Option Task). legs_of (later_legs m o goal) []) none ∙ no_legs []))
+    ([], on_none tells m (legs_of (later_legs m other goal) []) s law ready (ap (λ (o : Option code.Errand). legs_of (later_legs m o goal) []) none ∙ no_legs []))
 
 -- or there is one
-pub later_some : (tells : Bool) (other : Option Task) (t : Task) (goal : List ℕ) (before after : Machines) (result : Result (Unit {0}) Stopped) (s w : BenchState) → other ≡ Some t
+pub later_some : (tells : Bool) (other : Option code.Errand) (t : code.Errand) (goal : List ℕ) (before after : Machines) (result : Result (Unit {0}) Stopped) (s w : BenchState) → other ≡ Some t
     → SomePhases tells true (errand_in t goal) before result after s w → SomeLater tells other goal before result after s w
 later_some tells other t goal before after result s w is some = (
   some.0 ∷ [],
   on_as tells before after (phases (setup_on before true) (errand_in t goal) some.0) (legs_of (later_legs before other goal) (some.0 ∷ [])) result s w
-      (sym (ap (λ (o : Option Task). legs_of (later_legs before o goal) (some.0 ∷ [])) is ∙ one_leg (leg_on before true t goal) some.0)) some.1,
+      (sym (ap (λ (o : Option code.Errand). legs_of (later_legs before o goal) (some.0 ∷ [])) is ∙ one_leg (leg_on before true t goal) some.0)) some.1,
 )
 
-later_same : (a b : Machines) (other : Option Task) (goal : List ℕ) → SameMachines a b → later_legs b other goal ≡ later_legs a other goal
+later_same : (a b : Machines) (other : Option code.Errand) (goal : List ℕ) → SameMachines a b → later_legs b other goal ≡ later_legs a other goal
 later_same a b None goal same = refl
 later_same a b (Some t) goal same = ap (λ (x : Setup). (let l : Leg = record { setup = x; errand = errand_in t goal } in l) ∷ []) (same.setups true)
 
-abbrev pub SomeScript : Bool → Task → Option Task → List ℕ → Machines → Result (Unit {0}) Stopped → Machines → BenchState → BenchState → Type 0
+abbrev pub SomeScript : Bool → code.Errand → Option code.Errand → List ℕ → Machines → Result (Unit {0}) Stopped → Machines → BenchState → BenchState → Type 0
 SomeScript tells t other goal before result after s w = (b : Broken) × PlaysOn tells before (script (legs_on before t other goal) b) result after s w
 
-module _ (tells : Bool) (t : Task) (other : Option Task) (goal : List ℕ) (before : Machines) (s : BenchState) where
+module _ (tells : Bool) (t : code.Errand) (other : Option code.Errand) (goal : List ℕ) (before : Machines) (s : BenchState) where
   abbrev front : Torn → List Move
   front torn = phases (setup_on before false) (errand_in t goal) torn
 

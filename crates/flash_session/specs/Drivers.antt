@@ -1,4 +1,4 @@
--- What drivers, the machines of a session and a task show.
+-- What drivers, the machines of a session and an errand show.
 use Rattle.std.specs.Prelude.{◌≡◌, ◌≤◌, ◌+◌, ℕ, Bool, true, false, not, IsTrue, is_some, length, List, [], ◌∷◌, Option, Some, None}
 use Rattle.flash_layout.specs.Maps.{Map}
 use Rattle.board_file.specs.Limits.{size_of}
@@ -9,7 +9,7 @@ use Rattle.algo_calls.specs.Setups.{Setup}
 use Rattle.algo_calls.specs.Shows.{setup_in, world_in, map_in}
 use Rattle.flash_session.specs.declared.driver.Driver.{Driver}
 use Rattle.flash_session.specs.declared.machines.Machines.{Machines}
-use Rattle.flash_session.specs.declared.task.Task.{Task}
+use Rattle.flash_session.specs.declared.errand.Errand as code
 use Rattle.flash_session.specs.declared.goal.Goal.{Goal}
 use Rattle.flash_session.specs.declared.work.RegionWork.{RegionWork}
 use Rattle.job_text.specs.declared.job.Job.{Job}
@@ -76,41 +76,41 @@ pub record IsTurned (before after : Machines) (c : Calls) : Type 0 where
   pub map : map_in after.driver.calls ≡ map_in c
   pub starts : (cells : List ℕ) → world_in after.driver.calls cells ≡ after_reset (setup_in c) (world_in c cells) None []
 
--- ---- the task of a region
+-- ---- the errand of a region
 
-abbrev pub planned_in : Task → Planned
+abbrev pub planned_in : code.Errand → Planned
 planned_in t = planned t.geometry.now t.base t.plan.now.made
 
 -- where its cells are
-abbrev pub site_in : Task → Site
+abbrev pub site_in : code.Errand → Site
 site_in t = record { start = t.start; layout = t.geometry.now }
 
 -- with the bytes of the goal of all cells
-abbrev pub errand_in : Task → List ℕ → Errand
+abbrev pub errand_in : code.Errand → List ℕ → Errand
 errand_in t goal = errand t.geometry.now t.base t.plan.now.made (part (site_in t) goal)
 
 -- what is to be done in a region, by the calls of its machine
-abbrev pub leg_on : Machines → Bool → Task → List ℕ → Leg
+abbrev pub leg_on : Machines → Bool → code.Errand → List ℕ → Leg
 leg_on m second t goal = leg (setup_on m second) (errand_in t goal)
 
 -- in the first region, and in the second where there is one
-abbrev pub later_legs : Machines → Option Task → List ℕ → List Leg
+abbrev pub later_legs : Machines → Option code.Errand → List ℕ → List Leg
 later_legs m None goal = []
 later_legs m (Some t) goal = leg_on m true t goal ∷ []
 
-abbrev pub legs_on : Machines → Task → Option Task → List ℕ → List Leg
+abbrev pub legs_on : Machines → code.Errand → Option code.Errand → List ℕ → List Leg
 legs_on m first second goal = leg_on m false first goal ∷ later_legs m second goal
 
--- the task is one of this region, whose cells are cells of the board, and the buffer has room for a page
-pub record IsTaskOn (m : Machines) (of_second : Bool) (t : Task) (page : List ℕ) : Type 0 where
+-- the errand is one of this region, whose cells are cells of the board, and the buffer has room for a page
+pub record IsErrandOn (m : Machines) (of_second : Bool) (t : code.Errand) (page : List ℕ) : Type 0 where
   pub place : t.second ≡ of_second
   pub there : IsTrue of_second → IsTrue (is_some m.other)
   pub fits : IsErrand (setup_on m of_second) (planned_in t)
   pub range : t.start + t.geometry.now.size ≤ size_of t.job.now.board.regions
   pub buffer : (setup_on m of_second).algorithm.device.page ≤ length page
 
--- the task is that of the work on a region
-pub record IsTaskOf (work : RegionWork) (of_second : Bool) (j : Job) (g : Goal) (t : Task) : Type 0 where
+-- the errand is that of the work on a region
+pub record IsErrandOf (work : RegionWork) (of_second : Bool) (j : Job) (g : Goal) (t : code.Errand) : Type 0 where
   pub geometry : t.geometry.now ≡ work.geometry
   pub plan : t.plan.now ≡ work.plan
   pub base : t.base ≡ work.base
@@ -119,8 +119,8 @@ pub record IsTaskOf (work : RegionWork) (of_second : Bool) (j : Job) (g : Goal) 
   pub job : t.job.now ≡ j
   pub goal : t.goal ≡ g
 
-abbrev pub AreTasksOf : Option RegionWork → Bool → Job → Goal → Option Task → Type 0
-AreTasksOf None of_second j g None = Unit {0}
-AreTasksOf None of_second j g (Some t) = ⊥
-AreTasksOf (Some work) of_second j g None = ⊥
-AreTasksOf (Some work) of_second j g (Some t) = IsTaskOf work of_second j g t
+abbrev pub AreErrandsOf : Option RegionWork → Bool → Job → Goal → Option code.Errand → Type 0
+AreErrandsOf None of_second j g None = Unit {0}
+AreErrandsOf None of_second j g (Some t) = ⊥
+AreErrandsOf (Some work) of_second j g None = ⊥
+AreErrandsOf (Some work) of_second j g (Some t) = IsErrandOf work of_second j g t

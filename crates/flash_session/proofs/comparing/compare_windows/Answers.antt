@@ -35,7 +35,7 @@ compare_window-requires g c = λ κs lives.
               so_far.reads.cells.count ∙ c.requires.1.1.1.0,
               (
                 λ told. so_far.reads.cells.operation told ∙ c.requires.1.1.1.1.0 told,
-                (goal_still g.B.Bench.tells c.args.task.now.job.now c.args.task.now.goal g.goal (g.B.Bench.state c.args.bench.now) (g.B.Bench.state c.loop-at.bench) c.requires.1.1.1.1.1 so_far.reads.file),
+                (goal_still g.B.Bench.tells c.args.errand.now.job.now c.args.errand.now.goal g.goal (g.B.Bench.state c.args.bench.now) (g.B.Bench.state c.loop-at.bench) c.requires.1.1.1.1.1 so_far.reads.file),
               ),
             ),
           ),
@@ -71,7 +71,7 @@ returns-in-Ok-Some-clause-ok g c =
     let size = c.window_end-end.result - at in
     let part : length (take size c.loop-at.wanted) ≡ size = omega (arith, length-take size c.loop-at.wanted, so_far.wanted_room) in
     differs_in g.B.Bench.tells s.cells now.cells g.goal at (length (take size c.loop-at.wanted)) s.cell_count c.in-Ok-Some.difference (omega (arith, part))
-    (λ told. has_length g.B.Bench.tells c.args.task.now.job.now c.args.task.now.goal g.goal s c.requires.1.1.1.1.1 told ∙ sym c.requires.1.1.1.0) so_far.reads.cells.cells so_far.same
+    (λ told. has_length g.B.Bench.tells c.args.errand.now.job.now c.args.errand.now.goal g.goal s c.requires.1.1.1.1.1 told ∙ sym c.requires.1.1.1.0) so_far.reads.cells.cells so_far.same
     (subst (λ (o : Option Difference). FindsIn g.B.Bench.tells now.cells g.goal at (length (take size c.loop-at.wanted)) o) c.in-Ok-Some.field-0-is c.in-Ok-Some.ensures.ok)
 
 pub returns-clause-ok : goal.returns-clause-ok
@@ -79,4 +79,4 @@ returns-clause-ok g c =
     let so_far = c.loop-at.invariant in
     let s = g.B.Bench.state c.args.bench.now in
     agreed g.B.Bench.tells s.cells g.goal c.loop-at.at s.cell_count (omega arith) so_far.within (g.met.B.Bench.all_told c.args.bench.now)
-    (λ told. has_length g.B.Bench.tells c.args.task.now.job.now c.args.task.now.goal g.goal s c.requires.1.1.1.1.1 told ∙ sym c.requires.1.1.1.0) so_far.same
+    (λ told. has_length g.B.Bench.tells c.args.errand.now.job.now c.args.errand.now.goal g.goal s c.requires.1.1.1.1.1 told ∙ sym c.requires.1.1.1.0) so_far.same

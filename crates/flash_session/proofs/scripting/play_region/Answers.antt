@@ -4,33 +4,33 @@ use Rattle.flash_session.proofs.Playing.{file_then}
 use Rattle.flash_session.specs.Drivers.{setup_on, errand_in, planned_in}
 use Rattle.flash_session.specs.Script.{erase_moves, page_moves, verify_moves}
 use Rattle.flash_session.proofs.Lists.{erase_calls, page_calls, verify_calls, phase_calls}
-use Rattle.flash_session.proofs.PhaseLemmas.{task_still}
+use Rattle.flash_session.proofs.PhaseLemmas.{errand_still}
 use Rattle.flash_session.proofs.ScriptLemmas.{region_first, region_second, region_third}
 use Rattle.flash_session.proofs.scripting.play_region.Goals as goal
 
 pub returns-in-Err-clause-plays : goal.returns-in-Err-clause-plays
-returns-in-Err-clause-plays g c = region_first g.B.Bench.tells c.args.task.now.second (errand_in c.args.task.now g.goal) c.args.machines.now _ c.in-Err.stop _ _ c.in-Err.ensures
+returns-in-Err-clause-plays g c = region_first g.B.Bench.tells c.args.errand.now.second (errand_in c.args.errand.now g.goal) c.args.machines.now _ c.in-Err.stop _ _ c.in-Err.ensures
 
 pub returns-in-Err-page_phase-clause-plays : goal.returns-in-Err-page_phase-clause-plays
 returns-in-Err-page_phase-clause-plays g c =
-    region_second g.B.Bench.tells c.args.task.now.second (errand_in c.args.task.now g.goal) c.args.machines.now _ tt _ _ c.in-Ok.ensures c.in-Err-page_phase.stop _ _ c.in-Err-page_phase.ensures
+    region_second g.B.Bench.tells c.args.errand.now.second (errand_in c.args.errand.now g.goal) c.args.machines.now _ tt _ _ c.in-Ok.ensures c.in-Err-page_phase.stop _ _ c.in-Err-page_phase.ensures
 
 pub returns-clause-plays : goal.returns-clause-plays
 returns-clause-plays g c =
-    region_third g.B.Bench.tells c.args.task.now.second (errand_in c.args.task.now g.goal) c.args.machines.now _ tt _ _ c.in-Ok.ensures tt _ _ _ _ _ c.in-Ok-page_phase.ensures c.verify_phase.ensures
+    region_third g.B.Bench.tells c.args.errand.now.second (errand_in c.args.errand.now g.goal) c.args.machines.now _ tt _ _ c.in-Ok.ensures tt _ _ _ _ _ c.in-Ok-page_phase.ensures c.verify_phase.ensures
 
 pub returns-in-Err-clause-made : goal.returns-in-Err-clause-made
 returns-in-Err-clause-made g c =
-    let x = setup_on c.args.machines.now c.args.task.now.second in
-    let p = planned_in c.args.task.now in
+    let x = setup_on c.args.machines.now c.args.errand.now.second in
+    let p = planned_in c.args.errand.now in
     omega (arith, c.in-Err.ensures.1.made, phase_calls x 1 c.in-Err.ensures.0 (erase_moves x p), erase_calls x p, c.sectors-sectors.ensures.count, c.sectors-sectors.ensures.limit)
 
 pub returns-in-Err-page_phase-clause-made : goal.returns-in-Err-page_phase-clause-made
 returns-in-Err-page_phase-clause-made g c =
-    let x = setup_on c.args.machines.now c.args.task.now.second in
-    let y = setup_on c.erase_phase.new.machines c.args.task.now.second in
-    let p = planned_in c.args.task.now in
-    let t = errand_in c.args.task.now g.goal in
+    let x = setup_on c.args.machines.now c.args.errand.now.second in
+    let y = setup_on c.erase_phase.new.machines c.args.errand.now.second in
+    let p = planned_in c.args.errand.now in
+    let t = errand_in c.args.errand.now g.goal in
     omega (
       arith,
       c.in-Ok.ensures.1.made,
@@ -47,11 +47,11 @@ returns-in-Err-page_phase-clause-made g c =
 
 pub returns-clause-made : goal.returns-clause-made
 returns-clause-made g c =
-    let x = setup_on c.args.machines.now c.args.task.now.second in
-    let y = setup_on c.erase_phase.new.machines c.args.task.now.second in
-    let z = setup_on c.page_phase.new.machines c.args.task.now.second in
-    let p = planned_in c.args.task.now in
-    let t = errand_in c.args.task.now g.goal in
+    let x = setup_on c.args.machines.now c.args.errand.now.second in
+    let y = setup_on c.erase_phase.new.machines c.args.errand.now.second in
+    let z = setup_on c.page_phase.new.machines c.args.errand.now.second in
+    let p = planned_in c.args.errand.now in
+    let t = errand_in c.args.errand.now g.goal in
     omega (
       arith,
       c.in-Ok.ensures.1.made,
@@ -74,8 +74,8 @@ erase_phase-requires-clause-room g c = omega (arith, c.requires.1.1.0, c.sectors
 
 pub page_phase-requires : goal.page_phase-requires
 page_phase-requires g c = λ κs lives.
-    let x = setup_on c.args.machines.now c.args.task.now.second in
-    let p = planned_in c.args.task.now in
+    let x = setup_on c.args.machines.now c.args.errand.now.second in
+    let p = planned_in c.args.errand.now in
     let one = c.in-Ok.ensures.1 in (
       lives,
       (
@@ -93,10 +93,10 @@ page_phase-requires g c = λ κs lives.
             c.pages-pages.ensures.limit,
           ),
           (
-            task_still c.args.machines.now c.erase_phase.new.machines c.args.task.now.second c.args.task.now c.args.page.now c.args.page.now one.same refl c.requires.1.1.1.0,
+            errand_still c.args.machines.now c.erase_phase.new.machines c.args.errand.now.second c.args.errand.now c.args.page.now c.args.page.now one.same refl c.requires.1.1.1.0,
             (
               λ e. cc,
-              (goal_still g.B.Bench.tells c.args.task.now.job.now c.args.task.now.goal g.goal (g.B.Bench.state c.args.bench.now) (g.B.Bench.state c.erase_phase.new.bench) c.requires.1.1.1.1 one.file),
+              (goal_still g.B.Bench.tells c.args.errand.now.job.now c.args.errand.now.goal g.goal (g.B.Bench.state c.args.bench.now) (g.B.Bench.state c.erase_phase.new.bench) c.requires.1.1.1.1 one.file),
             ),
           ),
         ),
@@ -105,13 +105,13 @@ page_phase-requires g c = λ κs lives.
 
 pub verify_phase-requires : goal.verify_phase-requires
 verify_phase-requires g c = λ κs lives.
-    let x = setup_on c.args.machines.now c.args.task.now.second in
-    let y = setup_on c.erase_phase.new.machines c.args.task.now.second in
-    let p = planned_in c.args.task.now in
-    let t = errand_in c.args.task.now g.goal in
+    let x = setup_on c.args.machines.now c.args.errand.now.second in
+    let y = setup_on c.erase_phase.new.machines c.args.errand.now.second in
+    let p = planned_in c.args.errand.now in
+    let t = errand_in c.args.errand.now g.goal in
     let one = c.in-Ok.ensures.1 in
     let two = c.in-Ok-page_phase.ensures.1 in
-    let still = task_still c.args.machines.now c.erase_phase.new.machines c.args.task.now.second c.args.task.now c.args.page.now c.args.page.now one.same refl c.requires.1.1.1.0 in (
+    let still = errand_still c.args.machines.now c.erase_phase.new.machines c.args.errand.now.second c.args.errand.now c.args.page.now c.args.page.now one.same refl c.requires.1.1.1.0 in (
       lives,
       (
         two.ready refl,
@@ -131,8 +131,8 @@ verify_phase-requires g c = λ κs lives.
             c.pages-pages.ensures.limit,
           ),
           (
-            task_still c.erase_phase.new.machines c.page_phase.new.machines c.args.task.now.second c.args.task.now c.args.page.now c.page_phase.new.page two.same c.page_phase.auto.page still,
-            (goal_still g.B.Bench.tells c.args.task.now.job.now c.args.task.now.goal g.goal (g.B.Bench.state c.args.bench.now) (g.B.Bench.state c.page_phase.new.bench) c.requires.1.1.1.1 (file_then one.file two.file)),
+            errand_still c.erase_phase.new.machines c.page_phase.new.machines c.args.errand.now.second c.args.errand.now c.args.page.now c.page_phase.new.page two.same c.page_phase.auto.page still,
+            (goal_still g.B.Bench.tells c.args.errand.now.job.now c.args.errand.now.goal g.goal (g.B.Bench.state c.args.bench.now) (g.B.Bench.state c.page_phase.new.bench) c.requires.1.1.1.1 (file_then one.file two.file)),
           ),
         ),
       ),
