@@ -10,8 +10,8 @@ use Rattle.erase_planner.specs.Plans.{IsLeastPlan}
 use Rattle.algo_calls.specs.Duties.{cells_before}
 use Rattle.job_text.specs.Fits.{all_fit}
 use Rattle.job_text.specs.declared.job.Job.{Job}
-use Rattle.flash_session.specs.declared.work.RegionWork.{RegionWork}
-use Rattle.flash_session.specs.declared.work.Work.{Work}
+use Rattle.flash_session.specs.declared.region_survey.RegionSurvey.{RegionSurvey}
+use Rattle.flash_session.specs.declared.region_survey.Survey.{Survey}
 use Rattle.flash_session.specs.declared.fault.SurveyFault.{SurveyFault}
 use Rattle.flash_session.specs.declared.fault.SurveyFault.TheVariants as survey
 use Rattle.bench_model.specs.Device.{HasDeviceCause}
@@ -20,7 +20,7 @@ use Rattle.flash_session.proofs.Playing.{cause_then, counted_then}
 use Rattle.flash_session.specs.Found.{IsFound, AreFound}
 use Rattle.flash_session.specs.Script.{Planned}
 use Rattle.flash_session.specs.Surveys.{planned_of, IsPlannedFor, ArePlannedFor, is_survey_store, is_survey_device}
-use Rattle.flash_session.specs.Works.{AreRegionWorks}
+use Rattle.flash_session.specs.SurveyFacts.{AreRegionSurveys}
 use Rattle.flash_session.proofs.JobLemmas.{sizes_are, second_start}
 use Rattle.flash_session.proofs.PartLemmas.{two_parts}
 use Rattle.flash_session.proofs.SurveyLemmas.{AreBytes}
@@ -36,7 +36,7 @@ plan_still tells b a c d g h p one two is = record {
   entry = is.entry;
 }
 
-found_still : (tells : Bool) (j : Job) (a : AlgorithmShown) (start : ℕ) (c d g h : List ℕ) (r : RegionWork) → (IsTrue tells → c ≡ d) → (IsTrue tells → g ≡ h) → IsFound tells j a start c g r → IsFound tells j a start d h r
+found_still : (tells : Bool) (j : Job) (a : AlgorithmShown) (start : ℕ) (c d g h : List ℕ) (r : RegionSurvey) → (IsTrue tells → c ≡ d) → (IsTrue tells → g ≡ h) → IsFound tells j a start c g r → IsFound tells j a start d h r
 found_still tells j a start c d g h r one two is =
     let mine : (x y : List ℕ) → x ≡ y → take a.device.size (drop start x) ≡ take a.device.size (drop start y) = λ x y same. ap (λ (l : List ℕ). take a.device.size (drop start l)) same in
     record {
@@ -48,7 +48,7 @@ found_still tells j a start c d g h r one two is =
     }
 
 -- cells and file that were only read are the same
-pub later_still : (tells : Bool) (j : Job) (start : ℕ) (algorithms : List AlgorithmShown) (c d g h : List ℕ) (works : List RegionWork) → (IsTrue tells → c ≡ d) → (IsTrue tells → g ≡ h)
+pub later_still : (tells : Bool) (j : Job) (start : ℕ) (algorithms : List AlgorithmShown) (c d g h : List ℕ) (works : List RegionSurvey) → (IsTrue tells → c ≡ d) → (IsTrue tells → g ≡ h)
     → AreFound tells j start algorithms c g works → AreFound tells j start algorithms d h works
 later_still tells j start [] c d g h [] one two are = tt
 later_still tells j start [] c d g h (r ∷ more) one two are = absurd are
@@ -56,11 +56,11 @@ later_still tells j start (a ∷ rest) c d g h [] one two are = absurd are
 later_still tells j start (a ∷ rest) c d g h (r ∷ more) one two are = (found_still tells j a start c d g h r one two are.0, later_still tells j (start + a.device.size) rest c d g h more one two are.1)
 
 -- one region, and those behind it
-pub found_then : (tells : Bool) (j : Job) (a : AlgorithmShown) (rest : List AlgorithmShown) (cells goal : List ℕ) (r : RegionWork) (more : List RegionWork) → IsFound tells j a 0 cells goal r → AreFound tells j a.device.size rest cells goal more
+pub found_then : (tells : Bool) (j : Job) (a : AlgorithmShown) (rest : List AlgorithmShown) (cells goal : List ℕ) (r : RegionSurvey) (more : List RegionSurvey) → IsFound tells j a 0 cells goal r → AreFound tells j a.device.size rest cells goal more
     → AreFound tells j 0 (a ∷ rest) cells goal (r ∷ more)
 found_then tells j a rest cells goal r more one later = let e : a.device.size ≡ 0 + a.device.size = omega arith in (one, subst (λ (n : ℕ). AreFound tells j n rest cells goal more) e later)
 
-pub works_found : (tells : Bool) (j : Job) (start : ℕ) (algorithms : List AlgorithmShown) (cells goal : List ℕ) (works : List RegionWork) → AreFound tells j start algorithms cells goal works → AreRegionWorks algorithms start works
+pub works_found : (tells : Bool) (j : Job) (start : ℕ) (algorithms : List AlgorithmShown) (cells goal : List ℕ) (works : List RegionSurvey) → AreFound tells j start algorithms cells goal works → AreRegionSurveys algorithms start works
 works_found tells j start [] cells goal [] are = tt
 works_found tells j start [] cells goal (r ∷ more) are = absurd are
 works_found tells j start (a ∷ rest) cells goal [] are = absurd are
@@ -71,7 +71,7 @@ abbrev of_one : (T : Type 0) → SurveyFault → Result T SurveyFault
 of_one T e = Err e
 
 abbrev Both : Type 0
-Both = Result Work SurveyFault
+Both = Result Survey SurveyFault
 
 abbrev pub of_both : SurveyFault → Both
 of_both e = Err e
@@ -87,13 +87,13 @@ same_device T survey.DeviceFault = refl
 same_device T survey.StoreFault = refl
 
 abbrev Second : Type 0
-Second = Option RegionWork
+Second = Option RegionSurvey
 
-pub first_store_err : (a b : ℕ) (r : Both) (e : SurveyFault) → r ≡ of_both e → IsCounted a b (is_survey_store (of_one RegionWork e)) → IsCounted a b (is_survey_store r)
-first_store_err a b r e is one = subst (λ (q : Both). IsCounted a b (is_survey_store q)) (sym is) (subst (λ (d : Bool). IsCounted a b d) (same_store RegionWork e) one)
+pub first_store_err : (a b : ℕ) (r : Both) (e : SurveyFault) → r ≡ of_both e → IsCounted a b (is_survey_store (of_one RegionSurvey e)) → IsCounted a b (is_survey_store r)
+first_store_err a b r e is one = subst (λ (q : Both). IsCounted a b (is_survey_store q)) (sym is) (subst (λ (d : Bool). IsCounted a b d) (same_store RegionSurvey e) one)
 
-pub first_device_err : (a b : ℕ) (r : Both) (e : SurveyFault) → r ≡ of_both e → HasDeviceCause a b (is_survey_device (of_one RegionWork e)) → HasDeviceCause a b (is_survey_device r)
-first_device_err a b r e is one = subst (λ (q : Both). HasDeviceCause a b (is_survey_device q)) (sym is) (subst (λ (d : Bool). HasDeviceCause a b d) (same_device RegionWork e) one)
+pub first_device_err : (a b : ℕ) (r : Both) (e : SurveyFault) → r ≡ of_both e → HasDeviceCause a b (is_survey_device (of_one RegionSurvey e)) → HasDeviceCause a b (is_survey_device r)
+first_device_err a b r e is one = subst (λ (q : Both). HasDeviceCause a b (is_survey_device q)) (sym is) (subst (λ (d : Bool). HasDeviceCause a b d) (same_device RegionSurvey e) one)
 
 pub store_err : (a b c : ℕ) (r : Both) (e : SurveyFault) → r ≡ of_both e → IsCounted a b false → IsCounted b c (is_survey_store (of_one Second e)) → IsCounted a c (is_survey_store r)
 store_err a b c r e is one two = subst (λ (q : Both). IsCounted a c (is_survey_store q)) (sym is) (counted_then a b c (is_survey_store (of_both e)) one (subst (λ (d : Bool). IsCounted b c d) (same_store Second e) two))
@@ -107,16 +107,16 @@ both_bytes n m at cells long is one two =
     subst (λ (l : List ℕ). AreBytes l) (sym (two_parts n m cells long))
     (All-append (λ v. v < 2 ^ 8) (take n cells) (take m (drop n cells)) one (subst (λ (k : ℕ). AreBytes (take m (drop k cells))) is two))
 
-module _ (tells : Bool) (j : Job) (cells goal : List ℕ) (long : IsTrue tells → length cells ≡ size_of j.board.regions) (goal_long : IsTrue tells → length goal ≡ size_of j.board.regions) (first : RegionWork) where
+module _ (tells : Bool) (j : Job) (cells goal : List ℕ) (long : IsTrue tells → length cells ≡ size_of j.board.regions) (goal_long : IsTrue tells → length goal ≡ size_of j.board.regions) (first : RegionSurvey) where
   abbrev b : BoardShown
   b = board_of j.board
 
-  pub record IsWhole (algorithms : List AlgorithmShown) (second : Option RegionWork) : Type 0 where
+  pub record IsWhole (algorithms : List AlgorithmShown) (second : Option RegionSurvey) : Type 0 where
     pub plans : ArePlannedFor tells b 0 algorithms cells goal (map planned_of (first ∷ option_to_list second))
     pub bytes : IsTrue tells → AreBytes cells
     pub wanted : IsTrue tells → AreBytes goal
 
-  pub whole_found : (algorithms : List AlgorithmShown) (second : Option RegionWork) → IsTrue (all_fit b j.board.regions algorithms) → AreFound tells j 0 algorithms cells goal (first ∷ option_to_list second) → IsWhole algorithms second
+  pub whole_found : (algorithms : List AlgorithmShown) (second : Option RegionSurvey) → IsTrue (all_fit b j.board.regions algorithms) → AreFound tells j 0 algorithms cells goal (first ∷ option_to_list second) → IsWhole algorithms second
   whole_found [] second fit are = absurd are
   whole_found (a ∷ []) None fit are =
       let total = sizes_are b j.board.regions (a ∷ []) fit in

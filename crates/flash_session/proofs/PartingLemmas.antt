@@ -10,16 +10,16 @@ use Rattle.algo_calls.specs.declared.calls.Calls.{Calls}
 use Rattle.algo_calls.specs.Setups.{Setup, setup_of}
 use Rattle.algo_calls.specs.Shows.{setup_in, map_in}
 use Rattle.flash_session.specs.declared.machines.Machines.{Machines}
-use Rattle.flash_session.specs.declared.parts.Work as parts
-use Rattle.flash_session.specs.declared.work.RegionWork.{RegionWork}
-use Rattle.flash_session.specs.declared.work.Work.{Work}
+use Rattle.flash_session.specs.declared.parts.Work.{Work}
+use Rattle.flash_session.specs.declared.region_survey.RegionSurvey.{RegionSurvey}
+use Rattle.flash_session.specs.declared.region_survey.Survey.{Survey}
 use Rattle.flash_session.specs.Drivers.{of_region, setup_on, map_on, setups_of, one_or_both}
 use Rattle.flash_session.specs.Parts.{ArePartsOf, GivesPart, GivesLater}
 use Rattle.flash_session.specs.Script.{Planned}
 use Rattle.flash_session.specs.Sessions.{shown_in}
 use Rattle.flash_session.specs.Starts.{setups_for, AreMachinesFor}
 use Rattle.flash_session.specs.Surveys.{planned_of, regions_of}
-use Rattle.flash_session.specs.Works.{IsRegionWork, AreRegionWorks, IsWork}
+use Rattle.flash_session.specs.SurveyFacts.{IsRegionSurvey, AreRegionSurveys, IsSurvey}
 use Rattle.flash_session.proofs.GoLemmas.{first_setup, second_setup}
 use Rattle.flash_session.proofs.JobLemmas.{counts_are}
 use Rattle.flash_session.proofs.Turning.{calls_moved}
@@ -38,7 +38,7 @@ module _ (j : Job) (m : Machines) (are : AreMachinesFor j m) (first : m.second �
   map_here : map_in m.driver.calls ≡ board_map (board_of j.board)
   map_here = sym (ap (λ (c : Calls). map_in c) (calls_moved m false first)) ∙ are.maps false
 
-  later_part : (o : Option Calls) (r : RegionWork) (c : AlgorithmShown) (start : ℕ) (q : Option parts.Work) → m.other ≡ o → (is_some o ≡ true) → setup_on m true ≡ setup_of c (board_of j.board) → IsRegionWork c start r → GivesLater (Some r) o q
+  later_part : (o : Option Calls) (r : RegionSurvey) (c : AlgorithmShown) (start : ℕ) (q : Option Work) → m.other ≡ o → (is_some o ≡ true) → setup_on m true ≡ setup_of c (board_of j.board) → IsRegionSurvey c start r → GivesLater (Some r) o q
       → ArePartsOf (board_of j.board) (c ∷ []) (planned_of r ∷ []) (option_to_list q)
   later_part None r c start q is some setup work gives = absurd (false≢true some)
   later_part (Some k) r c start None is some setup work gives = absurd gives
@@ -46,7 +46,7 @@ module _ (j : Job) (m : Machines) (are : AreMachinesFor j m) (first : m.second �
       let there : of_region true m.second m.driver.calls m.other ≡ k = ap (λ (o : Option Calls). of_region true m.second m.driver.calls o) is ∙ second_calls m.second m.driver.calls k first in
       (gives.gives (board_of j.board) c (sym (ap (λ (x : Calls). setup_in x) there) ∙ setup) (sym (ap (λ (x : Calls). map_in x) there) ∙ are.maps true) work.work, tt)
 
-  parts_by : (algorithms : List AlgorithmShown) (r : RegionWork) (second : Option RegionWork) (p : parts.Work) (q : Option parts.Work) → AreRegionWorks algorithms 0 (r ∷ option_to_list second) → setups_of m ≡ setups_for (board_of j.board) algorithms
+  parts_by : (algorithms : List AlgorithmShown) (r : RegionSurvey) (second : Option RegionSurvey) (p : Work) (q : Option Work) → AreRegionSurveys algorithms 0 (r ∷ option_to_list second) → setups_of m ≡ setups_for (board_of j.board) algorithms
       → GivesPart r m.driver.calls p → GivesLater second m.other q → ArePartsOf (board_of j.board) algorithms (map planned_of (r ∷ option_to_list second)) (p ∷ option_to_list q)
   parts_by [] r second p q works setups one later = absurd works
   parts_by (a ∷ []) r None p None works setups one later =
@@ -61,35 +61,35 @@ module _ (j : Job) (m : Machines) (are : AreMachinesFor j m) (first : m.second �
       )
   parts_by (a ∷ c ∷ d ∷ rest) r (Some s) p q works setups one later = absurd works.1.1
 
-pub parts_are : (j : Job) (m : Machines) (r : RegionWork) (second : Option RegionWork) (p : parts.Work) (q : Option parts.Work) → AreRegionWorks (algorithms_shown j.algorithms) 0 (r ∷ option_to_list second)
+pub parts_are : (j : Job) (m : Machines) (r : RegionSurvey) (second : Option RegionSurvey) (p : Work) (q : Option Work) → AreRegionSurveys (algorithms_shown j.algorithms) 0 (r ∷ option_to_list second)
     → AreMachinesFor j m → m.second ≡ false → GivesPart r m.driver.calls p → GivesLater second m.other q
     → ArePartsOf (board_of j.board) (algorithms_shown j.algorithms) (map planned_of (r ∷ option_to_list second)) (p ∷ option_to_list q)
 parts_are j m r second p q works are first one later = parts_by j m are first (algorithms_shown j.algorithms) r second p q works are.setups one later
 
 -- ---- what is lent
 
-works_count : (algorithms : List AlgorithmShown) (start : ℕ) (works : List RegionWork) → AreRegionWorks algorithms start works → length works ≡ length algorithms
+works_count : (algorithms : List AlgorithmShown) (start : ℕ) (works : List RegionSurvey) → AreRegionSurveys algorithms start works → length works ≡ length algorithms
 works_count [] start [] are = refl
 works_count [] start (r ∷ more) are = absurd are
 works_count (a ∷ rest) start [] are = absurd are
 works_count (a ∷ rest) start (r ∷ more) are = ap suc (works_count rest (start + a.device.size) more are.1)
 
--- a region of the board is one of the work
-pub region_inside : (j : Job) (w : Work) (region : ℕ) → IsWork j w → region < length j.board.regions → region < length (regions_of w)
+-- a region of the board is one of the survey
+pub region_inside : (j : Job) (w : Survey) (region : ℕ) → IsSurvey j w → region < length j.board.regions → region < length (regions_of w)
 region_inside j w region is less =
     omega (arith, less, works_count (algorithms_shown j.algorithms) 0 (regions_of w) is.regions, counts_are (board_of j.board) j.board.regions (algorithms_shown j.algorithms) j.fit)
 
-planned_at : (works : List RegionWork) (k : ℕ) (other : Planned) (r : RegionWork) → k < length works → get_or (map planned_of works) k other ≡ planned_of (get_or works k r)
+planned_at : (works : List RegionSurvey) (k : ℕ) (other : Planned) (r : RegionSurvey) → k < length works → get_or (map planned_of works) k other ≡ planned_of (get_or works k r)
 planned_at [] k other r less = absurd (omega (arith, less))
 planned_at (w ∷ works) zero other r less = refl
 planned_at (w ∷ works) (suc k) other r less = planned_at works k other r (omega (arith, less))
 
-module _ (o : Option Work) (w : Work) (k : ℕ) (r : RegionWork) (is : o ≡ Some w) (less : k < length (regions_of w)) (there : (other : RegionWork) → r ≡ get_or (regions_of w) k other) where
+module _ (o : Option Survey) (w : Survey) (k : ℕ) (r : RegionSurvey) (is : o ≡ Some w) (less : k < length (regions_of w)) (there : (other : RegionSurvey) → r ≡ get_or (regions_of w) k other) where
   found : (other : Planned) → planned_of r ≡ get_or (map planned_of (regions_of w)) k other
   found other = ap planned_of (there r) ∙ sym (planned_at (regions_of w) k other r less)
 
   pub plan_from : IfSome (shown_in o) (λ v. (other : Planned) → r.plan.made ≡ (get_or v.regions k other).plan)
-  plan_from = subst (λ (x : Option Work). IfSome (shown_in x) (λ v. (other : Planned) → r.plan.made ≡ (get_or v.regions k other).plan)) (sym is) (λ other. ap (λ (p : Planned). p.plan) (found other))
+  plan_from = subst (λ (x : Option Survey). IfSome (shown_in x) (λ v. (other : Planned) → r.plan.made ≡ (get_or v.regions k other).plan)) (sym is) (λ other. ap (λ (p : Planned). p.plan) (found other))
 
   pub layout_from : IfSome (shown_in o) (λ v. (other : Planned) → r.geometry ≡ (get_or v.regions k other).layout)
-  layout_from = subst (λ (x : Option Work). IfSome (shown_in x) (λ v. (other : Planned) → r.geometry ≡ (get_or v.regions k other).layout)) (sym is) (λ other. ap (λ (p : Planned). p.layout) (found other))
+  layout_from = subst (λ (x : Option Survey). IfSome (shown_in x) (λ v. (other : Planned) → r.geometry ≡ (get_or v.regions k other).layout)) (sym is) (λ other. ap (λ (p : Planned). p.layout) (found other))

@@ -11,7 +11,7 @@ use Rattle.flash_session.specs.declared.driver.Driver.{Driver}
 use Rattle.flash_session.specs.declared.machines.Machines.{Machines}
 use Rattle.flash_session.specs.declared.errand.Errand as code
 use Rattle.flash_session.specs.declared.goal.Goal.{Goal}
-use Rattle.flash_session.specs.declared.work.RegionWork.{RegionWork}
+use Rattle.flash_session.specs.declared.region_survey.RegionSurvey.{RegionSurvey}
 use Rattle.job_text.specs.declared.job.Job.{Job}
 use Rattle.flash_session.specs.Moves.{Stand, stand_at}
 use Rattle.flash_session.specs.Script.{Planned, planned, Errand, errand, IsErrand, Leg, leg}
@@ -109,18 +109,18 @@ pub record IsErrandOn (m : Machines) (of_second : Bool) (t : code.Errand) (page 
   pub range : t.start + t.geometry.now.size ≤ size_of t.job.now.board.regions
   pub buffer : (setup_on m of_second).algorithm.device.page ≤ length page
 
--- the errand is that of the work on a region
-pub record IsErrandOf (work : RegionWork) (of_second : Bool) (j : Job) (g : Goal) (t : code.Errand) : Type 0 where
-  pub geometry : t.geometry.now ≡ work.geometry
-  pub plan : t.plan.now ≡ work.plan
-  pub base : t.base ≡ work.base
-  pub start : t.start ≡ work.start
+-- the errand is that of the survey of a region
+pub record IsErrandOf (survey : RegionSurvey) (of_second : Bool) (j : Job) (g : Goal) (t : code.Errand) : Type 0 where
+  pub geometry : t.geometry.now ≡ survey.geometry
+  pub plan : t.plan.now ≡ survey.plan
+  pub base : t.base ≡ survey.base
+  pub start : t.start ≡ survey.start
   pub place : t.second ≡ of_second
   pub job : t.job.now ≡ j
   pub goal : t.goal ≡ g
 
-abbrev pub AreErrandsOf : Option RegionWork → Bool → Job → Goal → Option code.Errand → Type 0
+abbrev pub AreErrandsOf : Option RegionSurvey → Bool → Job → Goal → Option code.Errand → Type 0
 AreErrandsOf None of_second j g None = Unit {0}
 AreErrandsOf None of_second j g (Some t) = ⊥
-AreErrandsOf (Some work) of_second j g None = ⊥
-AreErrandsOf (Some work) of_second j g (Some t) = IsErrandOf work of_second j g t
+AreErrandsOf (Some survey) of_second j g None = ⊥
+AreErrandsOf (Some survey) of_second j g (Some t) = IsErrandOf survey of_second j g t

@@ -12,10 +12,10 @@ use Rattle.flash_session.specs.declared.parts.Parts.{Parts}
 use Rattle.flash_session.specs.declared.parts.Work.{Work}
 use Rattle.flash_session.specs.Script.{Planned}
 use Rattle.flash_layout.specs.Maps.{board_map}
-use Rattle.flash_session.specs.declared.work.RegionWork.{RegionWork}
+use Rattle.flash_session.specs.declared.region_survey.RegionSurvey.{RegionSurvey}
 use Rattle.flash_session.specs.Starts.{start_of}
 use Rattle.flash_session.specs.Surveys.{planned_of}
-use Rattle.flash_session.specs.Works.{IsWorkFor}
+use Rattle.flash_session.specs.SurveyFacts.{IsWorkFor}
 
 -- Work on a region of a board as a survey left it. With a RAM of zero bytes the machine is the board's target as after a reset.
 pub record IsPartOf (b : BoardShown) (a : AlgorithmShown) (p : Planned) (w : Work) : Type 0 where
@@ -36,10 +36,10 @@ abbrev pub works_in : Parts → List Work
 works_in p = p.first ∷ option_to_list p.second
 
 -- the work on a region and its calls give this
-pub record GivesPart (r : RegionWork) (c : Calls) (w : Work) : Type 0 where
+pub record GivesPart (r : RegionSurvey) (c : Calls) (w : Work) : Type 0 where
   pub gives : (b : BoardShown) (a : AlgorithmShown) → setup_in c ≡ setup_of a b → map_in c ≡ board_map b → IsWorkFor a r.geometry r.plan.made → IsPartOf b a (planned_of r) w
 
-abbrev pub GivesLater : Option RegionWork → Option Calls → Option Work → Type 0
+abbrev pub GivesLater : Option RegionSurvey → Option Calls → Option Work → Type 0
 GivesLater None c None = Unit {0}
 GivesLater None c (Some w) = ⊥
 GivesLater (Some r) None w = Unit {0}

@@ -4,27 +4,27 @@ ghost use Rattle.board_file.specs.Shown.{shown as board_of};
 ghost use Rattle.job_text.specs.Said.{algorithms_shown};
 ghost use Rattle.job_text.specs.declared.job.Job.{Job};
 ghost use Rattle.flash_session.specs.Parts.{GivesPart, GivesLater, ArePartsOf};
-ghost use Rattle.flash_session.specs.Surveys.{work_shown};
-ghost use Rattle.flash_session.specs.Works.{IsWork};
+ghost use Rattle.flash_session.specs.Surveys.{survey_shown};
+ghost use Rattle.flash_session.specs.SurveyFacts.{IsSurvey};
 
 use crate::driver::Driver;
 use crate::machines::Machines;
-use crate::parts;
-use crate::work::{RegionWork, Work};
+use crate::parts::Work;
+use crate::region_survey::{RegionSurvey, Survey};
 use algo_calls::Calls;
 
 /// The work on a region without its RAM, on a machine that starts anew.
-fn part_of(work: RegionWork, mut calls: Calls) -> parts::Work
-    ensures { GivesPart work calls result }
+fn part_of(survey: RegionSurvey, mut calls: Calls) -> Work
+    ensures { GivesPart survey calls result }
 {
-    let RegionWork {
+    let RegionSurvey {
         geometry,
         plan,
         base: _,
         start: _,
-    } = work;
+    } = survey;
     calls.restart();
-    parts::Work {
+    Work {
         calls: calls.into_calls_in(),
         geometry,
         plan,
@@ -32,12 +32,12 @@ fn part_of(work: RegionWork, mut calls: Calls) -> parts::Work
 }
 
 /// And on the second region, where there is one.
-fn second_part(work: Option<RegionWork>, calls: Option<Calls>) -> Option<parts::Work>
-    ensures { GivesLater work calls result }
+fn second_part(survey: Option<RegionSurvey>, calls: Option<Calls>) -> Option<Work>
+    ensures { GivesLater survey calls result }
 {
-    match work {
-        Some(work) => match calls {
-            Some(calls) => Some(part_of(work, calls)),
+    match survey {
+        Some(survey) => match calls {
+            Some(calls) => Some(part_of(survey, calls)),
             None => None,
         },
         None => None,
@@ -45,17 +45,17 @@ fn second_part(work: Option<RegionWork>, calls: Option<Calls>) -> Option<parts::
 }
 
 /// The work on each region without RAM and without the buffer, on machines that start anew.
-pub(crate) fn parts_of(work: Work) -> (parts::Work, Option<parts::Work>)
-    requires { IsTrue work.machines.second → IsTrue (is_some work.machines.other) }
-    ensures { (j : Job) → IsWork j work → ArePartsOf (board_of j.board) (algorithms_shown j.algorithms) (work_shown work).regions (result.0 ∷ option_to_list result.1) }
+pub(crate) fn parts_of(survey: Survey) -> (Work, Option<Work>)
+    requires { IsTrue survey.machines.second → IsTrue (is_some survey.machines.other) }
+    ensures { (j : Job) → IsSurvey j survey → ArePartsOf (board_of j.board) (algorithms_shown j.algorithms) (survey_shown survey).regions (result.0 ∷ option_to_list result.1) }
 {
-    let Work {
+    let Survey {
         first,
         second,
         goal: _,
         mut machines,
         page: _page,
-    } = work;
+    } = survey;
     machines.restart();
     let Machines {
         driver,

@@ -10,13 +10,13 @@ ghost use Rattle.job_text.specs.Stands.{StandsFor};
 ghost use Rattle.flash_session.specs.Found.{IsFound, AreFound};
 ghost use Rattle.flash_session.specs.Goals.{goal_in};
 ghost use Rattle.flash_session.specs.Starts.{later_shown};
-ghost use Rattle.flash_session.specs.Surveys.{HasSurveyed, work_shown, is_survey_device, is_survey_store};
-ghost use Rattle.flash_session.specs.Works.{HasRoom, IsWork};
+ghost use Rattle.flash_session.specs.Surveys.{HasSurveyed, survey_shown, is_survey_device, is_survey_store};
+ghost use Rattle.flash_session.specs.SurveyFacts.{HasRoom, IsSurvey};
 
 use crate::fault::SurveyFault;
 use crate::goal::Goal;
+use crate::region_survey::{Aim, RegionSurvey, Survey, read_and_plan, zeros};
 use crate::target::{algorithms_of, machines_for};
-use crate::work::{Aim, RegionWork, Work, read_and_plan, zeros};
 use bench_model::Bench;
 use erase_planner::Plan;
 use flm_descriptor::Algorithm;
@@ -41,7 +41,7 @@ fn survey_region<B: Bench>(
     algorithm: &Algorithm,
     start: u32,
     goal: Goal,
-) -> Result<RegionWork, SurveyFault>
+) -> Result<RegionSurvey, SurveyFault>
     requires inside { start + algorithm.now.device.size ≤ size_of job.now.board.regions }
     requires count { (B.state bench.old).cell_count ≡ size_of job.now.board.regions }
     requires idle { IsTrue B.tells → (B.state bench.old).operation ≡ None }
@@ -63,7 +63,7 @@ fn survey_region<B: Bench>(
         goal,
     };
     match read_and_plan(bench, &aim, &mut plan) {
-        Ok(()) => Ok(RegionWork {
+        Ok(()) => Ok(RegionSurvey {
             geometry,
             plan,
             base: algorithm.device.base,
@@ -81,7 +81,7 @@ fn survey_second<B: Bench>(
     first: &Algorithm,
     second: Option<&Algorithm>,
     goal: Goal,
-) -> Result<Option<RegionWork>, SurveyFault>
+) -> Result<Option<RegionSurvey>, SurveyFault>
     requires are { algorithms_shown job.now.algorithms ≡ algorithm_of first.now ∷ later_shown second }
     requires count { (B.state bench.old).cell_count ≡ size_of job.now.board.regions }
     requires idle { IsTrue B.tells → (B.state bench.old).operation ≡ None }
@@ -95,7 +95,7 @@ fn survey_second<B: Bench>(
         Some(algorithm) => {
             let start = first.device.size;
             match survey_region(alloc, bench, job, algorithm, start, goal) {
-                Ok(work) => Ok(Some(work)),
+                Ok(survey) => Ok(Some(survey)),
                 Err(fault) => Err(fault),
             }
         }
@@ -115,17 +115,17 @@ fn longest_page(first: &Algorithm, second: Option<&Algorithm>) -> u32
 }
 
 /// Surveys the regions of a job: takes all memory of a session, reads the cells, and makes the plans from them to a goal.
-pub(crate) fn work_for<B: Bench>(
+pub(crate) fn survey_for<B: Bench>(
     alloc: Global,
     bench: &mut B,
     job: &Job,
     goal: Goal,
-) -> Result<Work, SurveyFault>
+) -> Result<Survey, SurveyFault>
     requires count { (B.state bench.old).cell_count ≡ size_of job.now.board.regions }
     requires idle { IsTrue B.tells → (B.state bench.old).operation ≡ None }
     requires stands { IsTrue B.tells → StandsFor job.now (B.state bench.old).file }
-    ensures found { IfOk result (λ w. HasSurveyed B.tells job.now goal (B.state bench.old).file (B.state bench.old).cells (work_shown w)) }
-    ensures work { IfOk result (IsWork job.now) }
+    ensures found { IfOk result (λ w. HasSurveyed B.tells job.now goal (B.state bench.old).file (B.state bench.old).cells (survey_shown w)) }
+    ensures work { IfOk result (IsSurvey job.now) }
     ensures reads { IsRead B.tells (B.state bench.old) (B.state bench.new) }
     ensures store { IsCounted (B.state bench.old).store_faults (B.state bench.new).store_faults (is_survey_store result) }
     ensures device { HasDeviceCause (B.state bench.old).device_faults (B.state bench.new).device_faults (is_survey_device result) }
@@ -135,7 +135,7 @@ pub(crate) fn work_for<B: Bench>(
     let page = zeros(alloc, longest_page(algorithm, other) as usize)?;
     let first = survey_region(alloc, bench, job, algorithm, 0, goal)?;
     match survey_second(alloc, bench, job, algorithm, other, goal) {
-        Ok(second) => Ok(Work {
+        Ok(second) => Ok(Survey {
             first,
             second,
             goal,

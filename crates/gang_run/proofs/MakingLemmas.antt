@@ -20,7 +20,7 @@ use Rattle.flash_session.specs.Script.{Planned, Errand, Torn, Leg, leg, erase_mo
 use Rattle.flash_session.specs.Sessions.{leg_for, legs_for as session_legs}
 use Rattle.flash_session.specs.Starts.{start_of}
 use Rattle.flash_session.specs.Surveys.{IsPlannedFor, ArePlannedFor}
-use Rattle.flash_session.specs.Works.{HasRoom}
+use Rattle.flash_session.specs.SurveyFacts.{HasRoom}
 use Rattle.flash_session.proofs.JobLemmas.{total, second_start}
 use Rattle.flash_session.proofs.Lists.{calls_in-append, erase_calls, page_calls, verify_calls, phase_calls}
 use Rattle.gang_target.specs.declared.cursor.Cursor.TheVariants as at

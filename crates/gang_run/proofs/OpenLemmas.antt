@@ -38,7 +38,7 @@ use Rattle.flash_session.specs.Script.{Planned}
 use Rattle.flash_session.specs.Sessions.{job_legs, legs_for as session_legs}
 use Rattle.flash_session.specs.Starts.{start_of}
 use Rattle.flash_session.specs.Surveys.{Surveyed, ArePlannedFor, HasSurveyed, is_survey_device, is_survey_store}
-use Rattle.flash_session.specs.Works.{HasRoom}
+use Rattle.flash_session.specs.SurveyFacts.{HasRoom}
 use Rattle.flash_session.proofs.JobLemmas.{total, sizes_are}
 use Rattle.gang_target.specs.declared.cursor.Place.{Place}
 use Rattle.gang_target.specs.declared.ending.TargetEnd.{TargetEnd}

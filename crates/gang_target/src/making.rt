@@ -6,16 +6,16 @@ use crate::cursor::{Cursor, Phase, Place};
 use crate::part::{Part, Task};
 use crate::target::GangTarget;
 use algo_calls::CallsIn;
-use flash_session::{Parts, Work};
+use flash_session::{Parts, Survey};
 
 /// The calls of the work on a region, whose first cell is at this place, and the work without them.
-fn part_of(work: Work, start: u32) -> (CallsIn, Part)
+fn part_of(work: Survey, start: u32) -> (CallsIn, Part)
     ensures { IsPartFrom work start result.0 result.1 }
 {
     let _sectors = work.geometry.sectors();
     let _pages = work.geometry.pages();
     let base = work.calls.algorithm().device.base;
-    let Work {
+    let Survey {
         calls,
         geometry,
         plan,
@@ -32,7 +32,7 @@ fn part_of(work: Work, start: u32) -> (CallsIn, Part)
 }
 
 /// And of that on the second region, where there is one.
-fn second_of(work: Option<Work>, start: u32) -> (Option<CallsIn>, Option<Part>)
+fn second_of(work: Option<Survey>, start: u32) -> (Option<CallsIn>, Option<Part>)
     ensures { AreFrom work start result.0 result.1 }
 {
     match work {

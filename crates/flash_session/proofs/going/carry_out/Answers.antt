@@ -12,8 +12,8 @@ use Rattle.flash_session.specs.Outcome.{Follows, IsSound}
 use Rattle.flash_session.specs.Reads.{HasGoal}
 use Rattle.flash_session.specs.Sessions.{job_legs}
 use Rattle.flash_session.specs.Starts.{AreMachinesFor, job_start}
-use Rattle.flash_session.specs.Surveys.{work_shown}
-use Rattle.flash_session.specs.Works.{HasRoom}
+use Rattle.flash_session.specs.Surveys.{survey_shown}
+use Rattle.flash_session.specs.SurveyFacts.{HasRoom}
 use Rattle.flash_session.proofs.GoLemmas.{follows_as, room_as, errands_legs, first_ready, second_ready, errand_goal, later_goal, same_goal}
 use Rattle.flash_session.proofs.JobLemmas.{restarted, wants, still_for, are_twins}
 use Rattle.flash_session.proofs.ReadLemmas.{kept_items}
@@ -22,7 +22,7 @@ use Rattle.flash_session.proofs.going.carry_out.Goals as goal
 pub follow-requires : goal.follow-requires
 follow-requires g c = λ κs lives.
     let j = c.args.job.now in
-    let w = c.args.work.now in
+    let w = c.args.survey.now in
     let m = c.restart.new.self in
     let s = g.B.Bench.state c.args.bench.now in
     let work = c.requires.work in
@@ -64,7 +64,7 @@ follow-requires g c = λ κs lives.
 pub returns-clause-follows : goal.returns-clause-follows
 returns-clause-follows g c = λ told.
     let j = c.args.job.now in
-    let w = c.args.work.now in
+    let w = c.args.survey.now in
     let m = c.restart.new.self in
     let s = g.B.Bench.state c.args.bench.now in
     let t = g.B.Bench.state c.follow.new.bench in
@@ -74,7 +74,7 @@ returns-clause-follows g c = λ told.
     let wanted = goal_in j w.goal s.file in
     let at_first : Follows (legs_on m one two wanted) wanted (stand_of m.driver s.cells) c.follow.result s t =
     subst (λ (x : List ℕ). Follows (legs_on m one two x) x (stand_of m.driver s.cells) c.follow.result s t) (same_goal j w.goal w.first false one s.file c.errand_of-first.ensures) (c.follow.ensures.follows told) in
-    follows_as (legs_on m one two wanted) (job_legs j (work_shown w) s.file) wanted (stand_of m.driver s.cells) (job_start j s.cells) c.follow.result s t
+    follows_as (legs_on m one two wanted) (job_legs j (survey_shown w) s.file) wanted (stand_of m.driver s.cells) (job_start j s.cells) c.follow.result s t
     (errands_legs j w.goal (board_of j.board) m one w.first c.errand_of-first.ensures (algorithms_shown j.algorithms) w.second two wanted j.fit c.requires.work.regions are.setups c.second_errand-second.ensures)
     (c.restart.ensures.start s.cells ∙ restarted j w.machines s.cells c.requires.work.machines) at_first
 
@@ -84,7 +84,7 @@ returns-clause-sound g c = subst (λ (k : Job). IsSound (size_of k.board.regions
 pub returns-clause-work : goal.returns-clause-work
 returns-clause-work g c =
     let j = c.args.job.now in
-    let w = c.args.work.now in
+    let w = c.args.survey.now in
     record {
       regions = c.requires.work.regions;
       machines = still_for j c.restart.new.self c.follow.new.machines (still_for j w.machines c.restart.new.self c.requires.work.machines c.restart.ensures.same) c.follow.ensures.same;

@@ -4,5 +4,5 @@ use Rattle.flash_session.proofs.parting.parts_of.Goals as goal
 
 pub returns : goal.returns
 returns c = λ j work.
-    parts_are j c.restart.new.self c.args.work.first c.args.work.second c.part_of.result c.second_part.result work.regions (still_for j c.args.work.machines c.restart.new.self work.machines c.restart.ensures.same)
+    parts_are j c.restart.new.self c.args.survey.first c.args.survey.second c.part_of.result c.second_part.result work.regions (still_for j c.args.survey.machines c.restart.new.self work.machines c.restart.ensures.same)
     c.restart.ensures.first c.part_of.ensures c.second_part.ensures

@@ -2,8 +2,8 @@ use Rattle.flash_session.proofs.PartingLemmas.{region_inside, plan_from}
 use Rattle.flash_session.proofs.session.Session.plan_of.Goals as goal
 
 pub region-requires : goal.region-requires
-region-requires c = region_inside c.args.self.now.job c.in-Some.work c.args.region (c.args.self.now.works c.in-Some.work c.in-Some.is) c.requires.region
+region-requires c = region_inside c.args.self.now.job c.in-Some.survey c.args.region (c.args.self.now.works c.in-Some.survey c.in-Some.is) c.requires.region
 
 pub returns : goal.returns
 returns c =
-    plan_from c.args.self.now.work c.in-Some.work c.args.region c.region.result.now c.in-Some.is (region_inside c.args.self.now.job c.in-Some.work c.args.region (c.args.self.now.works c.in-Some.work c.in-Some.is) c.requires.region) c.region.ensures
+    plan_from c.args.self.now.survey c.in-Some.survey c.args.region c.region.result.now c.in-Some.is (region_inside c.args.self.now.job c.in-Some.survey c.args.region (c.args.self.now.works c.in-Some.survey c.in-Some.is) c.requires.region) c.region.ensures

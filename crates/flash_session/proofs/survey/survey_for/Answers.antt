@@ -7,13 +7,13 @@ use Rattle.flash_session.specs.Found.{AreFound}
 use Rattle.flash_session.specs.Goals.{goal_in}
 use Rattle.flash_session.specs.Starts.{later_shown}
 use Rattle.flash_session.specs.Surveys.{planned_of, ArePlannedFor}
-use Rattle.flash_session.specs.Works.{AreRegionWorks, HasRoom}
+use Rattle.flash_session.specs.SurveyFacts.{AreRegionSurveys, HasRoom}
 use Rattle.std.proofs.lemmas.Result.{err_from_is_err_and}
 use Rattle.flash_session.specs.declared.fault.SurveyFault.{SurveyFault}
 use Rattle.flash_session.proofs.FoundLemmas.{found_then, later_still, works_found, whole_found, of_both, first_store_err, first_device_err, store_err, device_err}
 use Rattle.flash_session.proofs.ReadLemmas.{read_then}
 use Rattle.flash_session.proofs.JobLemmas.{goal_length, sizes_are}
-use Rattle.flash_session.proofs.survey.work_for.Goals as goal
+use Rattle.flash_session.proofs.survey.survey_for.Goals as goal
 
 pub returns-in-Ok-clause-found : goal.returns-in-Ok-clause-found
 returns-in-Ok-clause-found g c =
@@ -55,7 +55,7 @@ returns-in-Ok-clause-work g c =
     let all : AreFound tells j 0 (a ∷ rest) s.cells wanted (first ∷ option_to_list second) = found_then tells j a rest s.cells wanted first (option_to_list second) c.in_ok-first.ensures.found later in
     let is = c.algorithms_of.ensures in
     record {
-      regions = subst (λ (l : List AlgorithmShown). AreRegionWorks l 0 (first ∷ option_to_list second)) (sym is) (works_found tells j 0 (a ∷ rest) s.cells wanted (first ∷ option_to_list second) all);
+      regions = subst (λ (l : List AlgorithmShown). AreRegionSurveys l 0 (first ∷ option_to_list second)) (sym is) (works_found tells j 0 (a ∷ rest) s.cells wanted (first ∷ option_to_list second) all);
       machines = c.in_ok-machines.ensures;
       page = subst (λ (l : List AlgorithmShown). HasRoom l (length c.in_ok-page.page.items)) (sym is) (subst (λ (n : ℕ). HasRoom (a ∷ rest) n) (sym c.in_ok-page.ensures) c.longest_page.ensures);
     }

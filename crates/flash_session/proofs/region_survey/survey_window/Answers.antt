@@ -1,6 +1,6 @@
 use Rattle.std.proofs.Common.{◌+◌, ◌++◌, ℕ, List, length, take, drop, subst}
 use Rattle.erase_planner.specs.Marks.{Fed}
-use Rattle.flash_session.proofs.work.survey_window.Goals as goal
+use Rattle.flash_session.proofs.region_survey.survey_window.Goals as goal
 
 pub returns-clause-fed : goal.returns-clause-fed
 returns-clause-fed g c = λ told o w fed.

@@ -6,7 +6,7 @@ use Rattle.erase_planner.specs.Plans.{IsLeastPlan}
 use Rattle.flash_session.specs.Goals.{goal_in}
 use Rattle.flash_session.proofs.ReadLemmas.{kept_room, read_here, read_then}
 use Rattle.flash_session.proofs.SurveyLemmas.{AreBytes, shifted, bytes_and, fed_and, no_bytes}
-use Rattle.flash_session.proofs.work.survey_windows.Goals as goal
+use Rattle.flash_session.proofs.region_survey.survey_windows.Goals as goal
 
 pub loop-at-init : goal.loop-at-init
 loop-at-init g c = record {

@@ -1,6 +1,6 @@
 use Rattle.std.proofs.Common.{Bool, subst}
 use Rattle.erase_planner.specs.Plans.{IsLeastPlan}
-use Rattle.flash_session.proofs.work.finish.Goals as goal
+use Rattle.flash_session.proofs.region_survey.finish.Goals as goal
 
 pub returns-clause-plan : goal.returns-clause-plan
 returns-clause-plan c = λ o w fed.

@@ -1,6 +1,6 @@
 use Rattle.std.proofs.Common.{arith}
 use Rattle.std.proofs.lemmas.Grind.{get_or_default_zero}
-use Rattle.flash_session.proofs.work.feed.Goals as goal
+use Rattle.flash_session.proofs.region_survey.feed.Goals as goal
 
 pub returns-clause-cells : goal.returns-clause-cells
 returns-clause-cells c = λ k d less. omega (arith, get_or_default_zero c.args.cells.now k d less, c.type_inv.cells k)
