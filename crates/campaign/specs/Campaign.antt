@@ -3,25 +3,25 @@ use Rattle.std.specs.Prelude.{◌≡◌, ◌⊎◌, ◌≤◌, ◌<◌, ℕ, Lis
 use Rattle.bench_model.specs.History.{left}
 use Rattle.bench_model.specs.State.{BenchState, file_half, cells_half, Left}
 use Rattle.job_text.specs.Files.{IsFree, IsWhole, IsClosed}
-use Rattle.campaign.specs.Stops.{Aim, IsUntouched, FirstCallStops, WorkStops, IsDone}
+use Rattle.campaign.specs.Stops.{CampaignJob, IsUntouched, FirstCallStops, WorkStops, IsDone}
 
 -- what a later call is asked for
-pub data Goal : Type 0 where
-  resume : Goal
-  revert : Goal
+pub data LaterCommand : Type 0 where
+  resume : LaterCommand
+  revert : LaterCommand
 
-abbrev pub goal_of : Aim → Goal → List ℕ
+abbrev pub goal_of : CampaignJob → LaterCommand → List ℕ
 goal_of aim resume = aim.laid
 goal_of aim revert = aim.snapshot
 
--- A later call, from its entry to its exit had no stop ended it: its status; `turn`, the moment from which it was at its
+-- A later call, from its entry to its exit had no stop ended it: its status; `closing`, the moment from which it was at its
 -- close, which is one past its exit where it never was; and `end`, the moment at which it ended or was stopped.
-pub record Call : Type 1 where
-  pub goal : Goal
+pub record LaterCall : Type 1 where
+  pub goal : LaterCommand
   pub old : BenchState
   pub new : BenchState
   pub status : ℕ
-  pub turn : ℕ
+  pub closing : ℕ
   pub end : ℕ
 
 -- the file as read and the cells as told are among what a stop may leave, as on every bench that tells its contents
@@ -31,40 +31,40 @@ pub record IsTold (b : BenchState) : Type 0 where
 
 -- The next call is entered with what the last one left when it ended or was stopped. Where every file that a stop may leave
 -- then stands for the job, the cells may have become any others meanwhile: the target may go on by itself.
-pub record IsEntered (aim : Aim) (new : BenchState) (end : ℕ) (next : BenchState) : Type 0 where
+pub record IsEntered (aim : CampaignJob) (new : BenchState) (end : ℕ) (next : BenchState) : Type 0 where
   pub told : IsTold next
   pub files : (f : List ℕ) → left (file_half next) f → new.files_at end f
   pub cells : ((c : List ℕ) → left (cells_half next) c → new.cells_at end c)
       ⊎ ((f : List ℕ) → left (file_half next) f → IsWhole aim.body f)
 
 -- a call that is never at its close, and leaves only what a stop at its entry may leave
-pub record StaysIdle (old new : BenchState) (turn : ℕ) : Type 0 where
-  pub never : new.moment < turn
+pub record StaysIdle (old new : BenchState) (closing : ℕ) : Type 0 where
+  pub never : new.moment < closing
   pub pairs : (k : ℕ) (f c : List ℕ) → old.moment ≤ k → k ≤ new.moment → new.files_at k f → new.cells_at k c → Left old f c
 
 -- What a later call keeps: on a file that stands for the job, where its close begins and what it leaves with status 0; on a
 -- free file, that it is idle and doesn't answer 0.
-pub record Keeps (aim : Aim) (call : Call) : Type 0 where
+pub record Keeps (aim : CampaignJob) (call : LaterCall) : Type 0 where
   pub later : call.old.moment ≤ call.end
   pub in_time : call.end ≤ call.new.moment
-  pub stands : IsWhole aim.body call.old.file → WorkStops call.old call.new call.turn aim.body (goal_of aim call.goal)
-  pub idle : IsFree call.old.file → StaysIdle call.old call.new call.turn
+  pub stands : IsWhole aim.body call.old.file → WorkStops call.old call.new call.closing aim.body (goal_of aim call.goal)
+  pub idle : IsFree call.old.file → StaysIdle call.old call.new call.closing
   pub zero : call.status ≡ 0 → IsWhole aim.body call.old.file → IsDone aim.body (goal_of aim call.goal) call.new
   pub not_free : call.status ≡ 0 → IsFree call.old.file → ⊥
 
 -- each of these calls is entered with what the one before it left
-abbrev pub AllGoOn : Aim → BenchState → ℕ → List Call → Type 0
+abbrev pub AllGoOn : CampaignJob → BenchState → ℕ → List LaterCall → Type 0
 AllGoOn aim new end [] = Unit {0}
 AllGoOn aim new end (call ∷ rest) = IsEntered aim new end call.old × Keeps aim call × AllGoOn aim call.new call.end rest
 
 -- a call of `program` or `begin` with its job, from `start` to `new`, and the later calls
 pub record Campaign : Type 1 where
-  pub aim : Aim
+  pub aim : CampaignJob
   pub start : BenchState
   pub new : BenchState
-  pub turn : ℕ
+  pub closing : ℕ
   pub end : ℕ
-  pub calls : List Call
+  pub calls : List LaterCall
 
 -- It begins where every file that a stop may leave is free.
 pub record IsCampaign (c : Campaign) : Type 0 where
@@ -72,12 +72,12 @@ pub record IsCampaign (c : Campaign) : Type 0 where
   pub free : (f : List ℕ) → left (file_half c.start) f → IsFree f
   pub later : c.start.moment ≤ c.end
   pub in_time : c.end ≤ c.new.moment
-  pub first : FirstCallStops c.start c.new c.turn c.aim
+  pub first : FirstCallStops c.start c.new c.closing c.aim
   pub calls : AllGoOn c.aim c.new c.end c.calls
 
 -- the goal of the last call that was at its close, once this one has come so far
 abbrev pub last_at : Option (List ℕ) → ℕ → List ℕ → ℕ → Option (List ℕ)
-last_at last turn goal k = if nat_le turn k then Some goal else last
+last_at last closing goal k = if nat_le closing k then Some goal else last
 
 -- the job is finished: its file is closed, and the cells are the goal of the last call that was at its close
 pub record IsFinished (body : List ℕ) (last : Option (List ℕ)) (file cells : List ℕ) : Type 0 where
@@ -85,21 +85,21 @@ pub record IsFinished (body : List ℕ) (last : Option (List ℕ)) (file cells :
   pub done : last ≡ Some cells
 
 -- untouched, whole or finished
-abbrev pub IsSafePair : BenchState → Aim → Option (List ℕ) → List ℕ → List ℕ → Type 0
+abbrev pub IsSafePair : BenchState → CampaignJob → Option (List ℕ) → List ℕ → List ℕ → Type 0
 IsSafePair start aim last f c = IsUntouched start f c ⊎ (IsWhole aim.body f ⊎ IsFinished aim.body last f c)
 
 -- each pair left in a call is
-abbrev pub IsSafe : BenchState → Aim → Option (List ℕ) → BenchState → BenchState → ℕ → List ℕ → Type 0
-IsSafe start aim last old new turn goal =
+abbrev pub IsSafe : BenchState → CampaignJob → Option (List ℕ) → BenchState → BenchState → ℕ → List ℕ → Type 0
+IsSafe start aim last old new closing goal =
     (k : ℕ) (f c : List ℕ) → old.moment ≤ k → k ≤ new.moment → new.files_at k f → new.cells_at k c
-    → IsSafePair start aim (last_at last turn goal k) f c
+    → IsSafePair start aim (last_at last closing goal k) f c
 
 -- each pair left in each of these calls is, and each of them that answers 0 leaves its goal
-abbrev pub AllSafe : BenchState → Aim → Option (List ℕ) → List Call → Type 0
+abbrev pub AllSafe : BenchState → CampaignJob → Option (List ℕ) → List LaterCall → Type 0
 AllSafe start aim last [] = Unit {0}
-AllSafe start aim last (call ∷ rest) = IsSafe start aim last call.old call.new call.turn (goal_of aim call.goal)
+AllSafe start aim last (call ∷ rest) = IsSafe start aim last call.old call.new call.closing (goal_of aim call.goal)
     × (call.status ≡ 0 → IsDone aim.body (goal_of aim call.goal) call.new)
-    × AllSafe start aim (last_at last call.turn (goal_of aim call.goal) call.end) rest
+    × AllSafe start aim (last_at last call.closing (goal_of aim call.goal) call.end) rest
 
 abbrev pub IsSafeCampaign : Campaign → Type 0
-IsSafeCampaign c = IsSafe c.start c.aim None c.start c.new c.turn c.aim.laid × AllSafe c.start c.aim (last_at None c.turn c.aim.laid c.end) c.calls
+IsSafeCampaign c = IsSafe c.start c.aim None c.start c.new c.closing c.aim.laid × AllSafe c.start c.aim (last_at None c.closing c.aim.laid c.end) c.calls

@@ -8,7 +8,7 @@ use Rattle.job_text.specs.Files.{IsFree, IsWhole, IsClosed}
 
 -- What a job is to a campaign: its body, and the cells that are wanted of it or brought back. `laid` is the image over the
 -- snapshot.
-pub record Aim : Type 0 where
+pub record CampaignJob : Type 0 where
   pub body : List ℕ
   pub laid : List ℕ
   pub snapshot : List ℕ
@@ -25,12 +25,12 @@ pub record IsAtClose (body goal file cells : List ℕ) : Type 0 where
   pub done : cells ≡ goal
 
 -- `program` or `begin` on a free file: before its close, to which `begin` never comes, each pair is untouched or whole
-pub record FirstCallStops (old new : BenchState) (turn : ℕ) (aim : Aim) : Type 0 where
-  pub pairs : PairsInTurn old new turn (λ f c. IsUntouched old f c ⊎ IsWhole aim.body f) (IsAtClose aim.body aim.laid)
+pub record FirstCallStops (old new : BenchState) (closing : ℕ) (aim : CampaignJob) : Type 0 where
+  pub pairs : PairsInTurn old new closing (λ f c. IsUntouched old f c ⊎ IsWhole aim.body f) (IsAtClose aim.body aim.laid)
 
 -- `resume` or `revert` on a file that stands for the job: before its close each pair is one of the entry, or whole
-pub record WorkStops (old new : BenchState) (turn : ℕ) (body goal : List ℕ) : Type 0 where
-  pub pairs : PairsInTurn old new turn (λ f c. Left old f c ⊎ IsWhole body f) (IsAtClose body goal)
+pub record WorkStops (old new : BenchState) (closing : ℕ) (body goal : List ℕ) : Type 0 where
+  pub pairs : PairsInTurn old new closing (λ f c. Left old f c ⊎ IsWhole body f) (IsAtClose body goal)
 
 -- what stands where such a call answers 0
 pub record IsDone (body goal : List ℕ) (new : BenchState) : Type 0 where

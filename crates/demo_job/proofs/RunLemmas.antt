@@ -43,9 +43,9 @@ left_pair seed t fresh lost is =
     let pairs = is.carries.stops.pairs in
     let now = (stopping_of is.begun).moment in
     ⊎_elim
-    (λ (less : now < is.carries.stops.turn). inl (pairs.before now (bench_of lost).file (bench_of lost).cells pairs.later (omega arith) less is.left.0 is.left.1))
-    (λ (past : is.carries.stops.turn ≤ now). inr (pairs.from now (bench_of lost).file (bench_of lost).cells past (omega arith) is.left.0 is.left.1))
-    (cases_lt now is.carries.stops.turn)
+    (λ (less : now < is.carries.stops.closing). inl (pairs.before now (bench_of lost).file (bench_of lost).cells pairs.later (omega arith) less is.left.0 is.left.1))
+    (λ (past : is.carries.stops.closing ≤ now). inr (pairs.from now (bench_of lost).file (bench_of lost).cells past (omega arith) is.left.0 is.left.1))
+    (cases_lt now is.carries.stops.closing)
 
 -- a file that a stop of a fresh bench leaves is free
 free_at : (seed : ℕ) (fresh : MemoryBench) → IsFresh seed (bench_of fresh) → (file : List ℕ) → left (file_half (bench_of fresh)) file → IsFree file

@@ -6,7 +6,7 @@ use Rattle.command_answers.specs.Call.{Call}
 use Rattle.command_words.specs.Files.{FilesAsked}
 use Rattle.command_words.specs.Words.{program, begin}
 use Rattle.job_commands.specs.GoOn.{GoOnAnswers}
-use Rattle.job_commands.specs.Law.{FirstAnswers, LaterCall, AllAnswer}
+use Rattle.job_commands.specs.Law.{FirstAnswers, FollowingCall, AllAnswer}
 use Rattle.flm_cli.specs.Answers.{Answers, AnswersFirst, AnswersLater}
 
 pub begins : (asked : FilesAsked) (call : Call) → AnswersFirst asked call → FirstAnswers asked call
@@ -19,6 +19,6 @@ goes_on : (goal : Goal) (call : Call) → AnswersLater goal call → GoOnAnswers
 goes_on New call answers = answers
 goes_on Old call answers = answers
 
-pub all_go_on : (later : List LaterCall) → AllAnswer AnswersLater later → AllAnswer GoOnAnswers later
+pub all_go_on : (later : List FollowingCall) → AllAnswer AnswersLater later → AllAnswer GoOnAnswers later
 all_go_on [] all = tt
 all_go_on (l ∷ rest) all = (goes_on l.goal l.call all.0, all_go_on rest all.1)

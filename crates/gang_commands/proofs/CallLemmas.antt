@@ -21,7 +21,7 @@ use Rattle.job_text.specs.declared.job.Job.{Job}
 use Rattle.job_file.specs.Counted.{IsCounted}
 use Rattle.job_file.specs.declared.fault.OpenFault.TheVariants as opening
 use Rattle.campaign.specs.Campaign.{Keeps}
-use Rattle.campaign.specs.Stops.{Aim, IsDone, WorkStops}
+use Rattle.campaign.specs.Stops.{CampaignJob, IsDone, WorkStops}
 use Rattle.flash_session.specs.declared.ending.Reached.{Reached}
 use Rattle.flash_session.specs.declared.ending.SessionEnd.{SessionEnd}
 use Rattle.flash_session.specs.declared.ending.SessionEnd.TheVariants as end
@@ -132,11 +132,11 @@ its_done G s x t c is =
       cells = reached.ends.1 ∙ its_goal c.job s c.stands;
     }
 
-abbrev KeepsFor : ℕ → BenchState → BenchState → Aim → Type 0
+abbrev KeepsFor : ℕ → BenchState → BenchState → CampaignJob → Type 0
 KeepsFor status s t aim = (turn : ℕ) × ((end : ℕ) → s.moment ≤ end → end ≤ t.moment → Keeps aim (as_resume status s t turn end))
 
 -- a bench that was only looked at
-looked_keeps : (status : ℕ) (s t : BenchState) (aim : Aim) → PairsLeave s t (Left s) → (status ≡ 0 → ⊥) → KeepsFor status s t aim
+looked_keeps : (status : ℕ) (s t : BenchState) (aim : CampaignJob) → PairsLeave s t (Left s) → (status ≡ 0 → ⊥) → KeepsFor status s t aim
 looked_keeps status s t aim pairs not_zero = (
   t.moment + 1,
   (λ end from to. record {

@@ -46,8 +46,8 @@ abbrev pub AllFinished : {B : Type 0} → Ghosts B → List B → List B → Typ
 AllFinished {B} G benches benches' = (i : ℕ) (d : B) → i < length benches → HasFinished (G.state (get_or benches i d)) (G.state (get_or benches' i d))
 
 -- a call of a gang as one of `resume` on this bench, which was at its close from `turn` on, and ended or was stopped at `end`
-abbrev pub as_resume : ℕ → BenchState → BenchState → ℕ → ℕ → campaign.Call
-as_resume status s t turn end = record { goal = campaign.resume; old = s; new = t; status = status; turn = turn; end = end }
+abbrev pub as_resume : ℕ → BenchState → BenchState → ℕ → ℕ → campaign.LaterCall
+as_resume status s t turn end = record { goal = campaign.resume; old = s; new = t; status = status; closing = turn; end = end }
 
 -- It keeps what a campaign of each job asks for, and a bench whose file stands for no job is left as a stop at entry may leave it.
 pub record KeepsOn (status : ℕ) (s t : BenchState) : Type 0 where

@@ -11,7 +11,7 @@ use Rattle.job_text.specs.Stands.{StandsFor, IsSomeJob, IsDamaged, IsNotAJob}
 use Rattle.job_text.specs.declared.job.Job.{Job}
 use Rattle.job_file.specs.declared.fault.OpenFault.{OpenFault}
 use Rattle.job_file.specs.declared.fault.OpenFault.TheVariants as opening
-use Rattle.campaign.specs.Stops.{Aim, WorkStops}
+use Rattle.campaign.specs.Stops.{CampaignJob, WorkStops}
 use Rattle.flash_session.specs.declared.fault.SessionFault.TheVariants as session
 use Rattle.flash_session.specs.declared.goal.Goal.TheVariants.{New}
 use Rattle.flash_session.specs.Goals.{overlaid, goal_in}
@@ -30,7 +30,7 @@ use Rattle.command_answers.specs.Places.{address_at}
 use Rattle.gang_commands.specs.Lines.{Outcome}
 
 -- what a job is to a campaign
-abbrev pub aim_of : text.Job → board.Shown → Aim
+abbrev pub aim_of : text.Job → board.Shown → CampaignJob
 aim_of job b = record { body = body_of job; laid = overlaid job.image b.regions job.snapshot; snapshot = job.snapshot }
 
 -- A job was opened and surveyed on its bench, which was then as `begun`, and carried by its own script to this end.

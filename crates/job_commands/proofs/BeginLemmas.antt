@@ -89,7 +89,7 @@ module _ (tells : Bool) (a b d : BenchState) (out : SinkCall) (w : Work) (idle :
         broken = rest.broken;
         comes = begun_comes rest.broken answer rest.comes;
         stops = record {
-          turn = rest.stops.turn;
+          closing = rest.stops.closing;
           pairs = turn_then (λ f c. IsUntouched a f c ⊎ IsWhole (body w) f) (λ f c. Left b f c ⊎ IsWhole (body w) f) (IsAtClose (body w) w.goal)
               (λ f c either. ⊎_elim (λ (at : Left b f c). inr (only f at.0)) (λ (is : IsWhole (body w) f). inr is) either)
               pairs rest.stops.pairs (λ k f le at. (on.past k f le).0 at) (λ k x le at. (rest.stops.path.goes_on.past k x le).0 at);

@@ -50,7 +50,7 @@ ends_early tells a x out First w answer surveyed comes yield pairs off = record 
   broken = nothing_broken;
   comes = comes;
   stops = record {
-    turn = x.moment + 1;
+    closing = x.moment + 1;
     pairs = never (λ f c. First f c ⊎ IsWhole (body w) f) (IsAtClose (body w) w.goal) pairs;
     broken_off = off.turn;
     at_entry = off.at_entry;
@@ -141,7 +141,7 @@ module _ (tells sinks : Bool) (a m d : BenchState) (p q r : SinkState) (w : Work
     broken = rest.broken;
     comes = comes_then rest.broken answer rest.comes;
     stops = record {
-      turn = rest.turn;
+      closing = rest.closing;
       pairs = turn_then (λ f c. First f c ⊎ IsWhole (body w) f) (λ f c. IsWhole (body w) f) (IsAtClose (body w) w.goal) (λ f c whole. inr whole)
           pairs rest.pairs (λ k f le at. (rest.files_past k f le).0 at) (λ k x le at. (rest.path.goes_on.past k x le).0 at);
       broken_off = off.turn;

@@ -68,7 +68,7 @@ module _ (tells : Bool) (w : Work) (s m : BenchState) (out : SinkCall) (answer :
   ends_in_script broken comes path local complete = record {
     broken = broken;
     comes = comes;
-    turn = m.moment + 1;
+    closing = m.moment + 1;
     pairs = never (λ f c. IsWhole (body w) f) (IsAtClose (body w) w.goal) (early path.goes_on);
     files_past = stay.moments.goes_on.past;
     path = path;
@@ -86,7 +86,7 @@ module _ (tells : Bool) (w : Work) (s m : BenchState) (out : SinkCall) (answer :
   ends_in_close d broken comes path local complete cells close = record {
     broken = broken;
     comes = comes;
-    turn = m.moment;
+    closing = m.moment;
     pairs = in_turn (λ f c. IsWhole (body w) f) (IsAtClose (body w) w.goal) (early path.goes_on)
         (pairs_as (λ f c. IsWholeOrClosed (body w) f × (c ≡ w.goal)) (IsAtClose (body w) w.goal) (λ f c both. record { whole_or_closed = both.0; done = both.1 }) close);
     files_past = (goes_then stay.moments.goes_on close.files).past;

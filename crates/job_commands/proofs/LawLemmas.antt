@@ -51,12 +51,12 @@ only_left : (tells : Bool) (a b : BenchState) → OnlyReads tells a b → (k : �
 only_left tells a b reads k f c from to f_at c_at = (reads.moments.each k f from to f_at, (reads.cells.half.same k c from to).0 c_at)
 
 -- a call that only looked, on a file that its campaign's job may have
-looked_keeps : (aim : stops.Aim) (goal : Goal) (call : Call) → IsTrue call.bench.tells → OnlyLooked call.bench call.out → (call.status ≡ 0 → ⊥) → KeepsFor aim goal call
+looked_keeps : (aim : stops.CampaignJob) (goal : Goal) (call : Call) → IsTrue call.bench.tells → OnlyLooked call.bench call.out → (call.status ≡ 0 → ⊥) → KeepsFor aim goal call
 looked_keeps aim goal call told looked not_zero =
     let reads = looked.reads told in
     let on : call.bench.before.moment ≤ call.bench.after.moment = reads.moments.goes_on.later in
     record {
-      turn = call.bench.after.moment + 1;
+      closing = call.bench.after.moment + 1;
       keeps = λ end from to. record {
         later = from;
         in_time = to;
@@ -78,15 +78,15 @@ looked_keeps aim goal call told looked not_zero =
     }
 
 -- a call that carries the campaign's job
-carried_keeps : (call : Call) (answer : Answer) (w : Work) (aim : stops.Aim) (goal : Goal) → (call.status ≡ 0 → answer ≡ done) → IsWhole (body w) call.bench.before.file
+carried_keeps : (call : Call) (answer : Answer) (w : Work) (aim : stops.CampaignJob) (goal : Goal) → (call.status ≡ 0 → answer ≡ done) → IsWhole (body w) call.bench.before.file
     → aim.body ≡ body w → goal_of aim (asked_by goal) ≡ w.goal → Carries call.bench call.out (Left call.bench.before) w answer → KeepsFor aim goal call
 carried_keeps call answer w aim goal zero_is whole bodies goals carries = record {
-  turn = carries.stops.turn;
+  closing = carries.stops.closing;
   keeps = λ end from to. record {
     later = from;
     in_time = to;
-    stands = λ is. subst (λ (b : List ℕ). WorkStops call.bench.before call.bench.after carries.stops.turn b (goal_of aim (asked_by goal))) (sym bodies)
-        (subst (λ (g : List ℕ). WorkStops call.bench.before call.bench.after carries.stops.turn (body w) g) (sym goals) (record { pairs = carries.stops.pairs }));
+    stands = λ is. subst (λ (b : List ℕ). WorkStops call.bench.before call.bench.after carries.stops.closing b (goal_of aim (asked_by goal))) (sym bodies)
+        (subst (λ (g : List ℕ). WorkStops call.bench.before call.bench.after carries.stops.closing (body w) g) (sym goals) (record { pairs = carries.stops.pairs }));
     idle = λ is_free. absurd (not_free w.job call.bench.before.file whole is_free);
     zero = λ zero is.
         let comes = subst (λ (a : Answer). Comes call.bench call.out w carries.broken a) (zero_is zero) carries.comes in
@@ -139,7 +139,7 @@ module _ (asked : FilesAsked) (call : Call) (answer : Answer) (files : FilesGive
       record {
         snapshot = replicate (size_of aim.board.regions) 0;
         is_job = aim_job asked.raw_at files aim has (replicate (size_of aim.board.regions) 0) is (length-replicate (size_of aim.board.regions) 0);
-        turn = call.bench.after.moment + 1;
+        closing = call.bench.after.moment + 1;
         stops = record {
           pairs = record {
             started = omega (arith, later);
@@ -155,7 +155,7 @@ module _ (asked : FilesAsked) (call : Call) (answer : Answer) (files : FilesGive
 
 program_stops : (call : Call) (answer : Answer) (files : FilesGiven) (aim : Aim) → Begins call.bench call.out files aim answer → FirstStops call files aim
 program_stops call answer files aim begins =
-    record { snapshot = begins.snapshot; is_job = begins.is_job; turn = begins.carries.stops.turn; stops = record { pairs = begins.carries.stops.pairs } }
+    record { snapshot = begins.snapshot; is_job = begins.is_job; closing = begins.carries.stops.closing; stops = record { pairs = begins.carries.stops.pairs } }
 
 -- `begin` is never at a close
 begin_stops : (call : Call) (answer : Answer) (files : FilesGiven) (aim : Aim) → Starts call.bench call.out files aim answer → FirstStops call files aim
@@ -165,7 +165,7 @@ begin_stops call answer files aim starts =
     record {
       snapshot = starts.snapshot;
       is_job = starts.is_job;
-      turn = call.bench.after.moment + 1;
+      closing = call.bench.after.moment + 1;
       stops = record { pairs = never (λ f c. IsUntouched call.bench.before f c ⊎ IsWhole body f) (IsAtClose its.body its.laid) starts.begins.pairs };
     }
 

@@ -115,8 +115,8 @@ pub record BrokenOff (old new : BenchState) (surveyed : List ℕ) : Type 0 where
 -- What a stop leaves, of a job that is carried on from pairs that have First.
 pub record Stops (bench : BenchCall) (First : List ℕ → List ℕ → Type 0) (w : Work) (broken : Broken) : Type 0 where
   -- before the close the pair is one of First's, or its file is whole; from there on the file is whole or closed, and the cells are the goal
-  pub turn : ℕ
-  pub pairs : PairsInTurn bench.before bench.after turn (λ f c. First f c ⊎ IsWhole (body w) f) (IsAtClose (body w) w.goal)
+  pub closing : ℕ
+  pub pairs : PairsInTurn bench.before bench.after closing (λ f c. First f c ⊎ IsWhole (body w) f) (IsAtClose (body w) w.goal)
   -- The moment at which the operation that was open at entry is broken off: a stop leaves the cells as surveyed, and nothing else. It is the
   -- entry where none was open, and it came where none is open at exit.
   pub broken_off : ℕ

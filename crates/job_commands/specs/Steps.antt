@@ -120,8 +120,8 @@ FinishComes bench out w broken (refused _) = ⊥
 pub record Finishes (bench : BenchCall) (out : SinkCall) (w : Work) (answer : Answer) : Type 0 where
   pub broken : Broken
   pub comes : FinishComes bench out w broken answer
-  pub turn : ℕ
-  pub pairs : PairsInTurn bench.before bench.after turn (λ f c. IsWhole (body w) f) (IsAtClose (body w) w.goal)
+  pub closing : ℕ
+  pub pairs : PairsInTurn bench.before bench.after closing (λ f c. IsWhole (body w) f) (IsAtClose (body w) w.goal)
   pub files_past : (k : ℕ) (f : List ℕ) → k ≤ bench.before.moment → bench.after.files_at k f ↔ bench.before.files_at k f
   pub path : Leaves (cells_half bench.before) (cells_half bench.after) (IsOnPath w broken)
   pub local : KeepsDuties w → Leaves (cells_half bench.before) (cells_half bench.after) (IsOutsidePlanAsSurveyed w)

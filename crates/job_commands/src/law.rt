@@ -7,7 +7,7 @@ ghost use Rattle.job_commands.specs.GoOn.{GoOnAnswers};
 ghost use Rattle.command_files.specs.Inputs.{FilesGiven};
 ghost use Rattle.command_files.specs.Files.{Aim};
 ghost use Rattle.job_commands.specs.Beginning.{HasTexts};
-ghost use Rattle.job_commands.specs.Law.{FirstAnswers, LaterKeeps, FirstKeeps, LaterCall, AllAnswer, IsFirst, IsSafeFrom};
+ghost use Rattle.job_commands.specs.Law.{FirstAnswers, LaterKeeps, FirstKeeps, FollowingCall, AllAnswer, IsFirst, IsSafeFrom};
 
 /// A call. It is a trait since a clause can't speak of each bench's history, and a ghost member can.
 pub trait OneCall {
@@ -24,7 +24,7 @@ pub fn calls_keep<C: OneCall>()
 pub trait Calls {
     ghost first: { Call };
 
-    ghost later: { List LaterCall };
+    ghost later: { List FollowingCall };
 }
 
 /// A call of `program` or `begin` and any list of calls of `resume` and `revert` that follow it, each of which may be stopped at any moment, are a
