@@ -4,13 +4,13 @@ use crate::driven::Driven;
 use anyhow::Result;
 use board_file::{SectorRun, read_board};
 use flash_controller::{Controller, State};
-use flash_layout::{Area, Layout};
+use flash_layout::{Area, FlashMap};
 use fpec_controller::{Fpec, State as FpecState};
 use std::alloc::Global;
 use std::fs;
 
 /// Two areas apart from each other: 4 cells in units of 2, and 4 cells in units of 4 that are 0 when they are erased.
-fn layout(alloc: Global) -> Result<Layout> {
+fn layout(alloc: Global) -> Result<FlashMap> {
     let first = Area {
         base: 0x0800_0000,
         size: 4,
@@ -24,7 +24,7 @@ fn layout(alloc: Global) -> Result<Layout> {
         unit: 4,
     };
     let run = SectorRun { count: 1, size: 4 };
-    Ok(Layout {
+    Ok(FlashMap {
         areas: vec![in alloc; first, second]?,
         runs: vec![in alloc; run, run]?,
         base: 0x4002_2000,

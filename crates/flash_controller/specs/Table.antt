@@ -14,7 +14,7 @@ use Rattle.flash_layout.specs.declared.work.Operation.{Operation}
 use Rattle.flash_layout.specs.Areas.{sector_of}
 use Rattle.flash_layout.specs.Cells.{value_of, cells_at}
 use Rattle.flash_layout.specs.Lock.{is_unlocked, next_lock, flag_value, kept}
-use Rattle.flash_layout.specs.Maps.{Map}
+use Rattle.flash_layout.specs.Maps.{FlashMap}
 use Rattle.flash_layout.specs.Work.{unit_work, tick_at}
 use Rattle.flash_controller.specs.declared.place.Place.{Place}
 use Rattle.flash_controller.specs.declared.place.Place.TheVariants as place
@@ -73,17 +73,17 @@ abbrev pub runs : State → Work → ℕ → ℕ → State
 runs s w at ticks = record s { operation = Some (record { work = w; place = at; ticks = ticks }) }
 
 -- the sector of ADDR, or RANGE where ADDR lies outside the flash
-abbrev pub erases_sector : Map → State → Option SectorCells → State
+abbrev pub erases_sector : FlashMap → State → Option SectorCells → State
 erases_sector map s None = record s { range = true }
 erases_sector map s (Some sector) = runs s (work.Fill sector.len sector.empty) sector.place map.erase_ticks
 
 -- all cells of the first area
-abbrev pub erases_chip : Map → State → List Area → State
+abbrev pub erases_chip : FlashMap → State → List Area → State
 erases_chip map s [] = with_sequence s
 erases_chip map s (a ∷ rest) = runs s (work.Fill a.size a.empty) 0 map.chip_ticks
 
 -- after a store to START: CMD 2 erases a sector, CMD 3 the chip
-unfoldable pub started : Map → State → ℕ → State
+unfoldable pub started : FlashMap → State → ℕ → State
 started map s value =
     if is_ready s && nat_eq value 1 && nat_eq s.command 2 then erases_sector map s (sector_of map.areas map.runs s.address)
     else if is_ready s && nat_eq value 1 && nat_eq s.command 3 then erases_chip map s map.areas
@@ -99,7 +99,7 @@ may_program s a width = is_unlocked s.lock && nat_eq s.command 1 && nat_eq width
 
 -- After a store to the flash while no operation runs: CMD 1 programs an empty unit; a unit that isn't empty sets NOTEMPTY,
 -- and all else SEQ.
-unfoldable pub programmed : Map → State → List ℕ → Found → ℕ → ℕ → State
+unfoldable pub programmed : FlashMap → State → List ℕ → Found → ℕ → ℕ → State
 programmed map s cells found width value =
     if may_program s found.area width then
     (if all_are found.area.empty (cells_at cells found.place width) then runs s (unit_work width value) found.place map.program_ticks
@@ -122,7 +122,7 @@ load_at s cells width place.Nowhere = Err bus.Fault
 abbrev pub Stored : Type 0
 Stored = Result (Unit {0}) BusEnd × State
 
-abbrev pub store_at : Map → State → List ℕ → ℕ → ℕ → Place → Stored
+abbrev pub store_at : FlashMap → State → List ℕ → ℕ → ℕ → Place → Stored
 store_at map s cells width value place.Key = (Ok tt, key_stored s value)
 store_at map s cells width value place.Status = (Ok tt, status_stored s value)
 store_at map s cells width value place.Command = (Ok tt, command_stored s value)
@@ -132,10 +132,10 @@ store_at map s cells width value (place.Flash found) =
     if is_running s then (Err bus.Fault, s) else (Ok tt, programmed map s cells found width value)
 store_at map s cells width value place.Nowhere = (Err bus.Fault, s)
 
-unfoldable pub load_row : Map → State → List ℕ → ℕ → ℕ → Result ℕ BusEnd
+unfoldable pub load_row : FlashMap → State → List ℕ → ℕ → ℕ → Result ℕ BusEnd
 load_row map s cells at width = load_at s cells width (place_of map at width)
 
-unfoldable pub store_row : Map → State → List ℕ → ℕ → ℕ → ℕ → Stored
+unfoldable pub store_row : FlashMap → State → List ℕ → ℕ → ℕ → ℕ → Stored
 store_row map s cells at width value = store_at map s cells width value (place_of map at width)
 
 -- a load or a store there looks at cells
@@ -144,7 +144,7 @@ reads s (place.Flash found) = not (is_running s)
 reads s _ = false
 
 -- a store there asks the device: for the cells of a unit that it may program, or to open an operation
-abbrev pub asks : Map → State → ℕ → ℕ → Place → Bool
+abbrev pub asks : FlashMap → State → ℕ → ℕ → Place → Bool
 asks map s width value (place.Flash found) = not (is_running s) && may_program s found.area width
 asks map s width value place.Start = not (is_running s) && is_running (started map s value)
 asks map s width value _ = false

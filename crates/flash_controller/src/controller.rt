@@ -19,14 +19,14 @@ use crate::state::State;
 use bench_model::{Bench, BusEnd, DeviceFault};
 use board_file::Board;
 use faults::OutOfMemory;
-use flash_layout::{Layout, Operation, read, settle};
+use flash_layout::{FlashMap, Operation, read, settle};
 use std::alloc::Global;
 
 /// The controller of a board: where its flash lies, and what it holds.
 #[derive(Debug, Drop)]
 pub struct Controller {
     /// Where the flash and the registers lie.
-    pub layout: Layout,
+    pub layout: FlashMap,
     /// The registers, and the operation that runs.
     pub state: State,
 }
@@ -37,7 +37,7 @@ impl Controller {
         ensures layout { IfOk result (λ controller. fc1_map controller.layout ≡ map_for kind.Fc1 (shown board.now)) }
         ensures state { IfOk result (λ controller. controller.state ≡ after_reset) }
     {
-        let layout = Layout::of(alloc, board)?;
+        let layout = FlashMap::of(alloc, board)?;
         let state = State::reset();
         Ok(Controller { layout, state })
     }

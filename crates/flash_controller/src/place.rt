@@ -2,7 +2,7 @@
 ghost use Rattle.std.specs.Prelude.{◌≡◌, IsTrue};
 ghost use Rattle.flash_controller.specs.Places.{fc1_map, place_of, is_register, PlaceInside};
 
-use flash_layout::{Found, Layout};
+use flash_layout::{FlashMap, Found};
 
 /// What an access goes to: one of the five registers, a cell of the flash, or nothing.
 #[derive(Clone, Copy, Debug, PartialEq, Eq)]
@@ -31,7 +31,7 @@ const BLOCK: u32 = 32;
 
 /// What an access of so many bytes goes to. The registers take words alone.
 #[tactic(auto, unfolding(crate::specs::Places::place_of))]
-pub fn place_of(layout: &Layout, at: u32, width: u32) -> Place
+pub fn place_of(layout: &FlashMap, at: u32, width: u32) -> Place
     ensures value { result ≡ place_of (fc1_map layout.now) at width }
     ensures word { IsTrue (is_register result) → width ≡ 4 }
     ensures inside { PlaceInside (fc1_map layout.now) at result }

@@ -7,11 +7,11 @@ use Rattle.bench_model.specs.Calls.{FileStays, SameOutside}
 use Rattle.bench_model.specs.Device.{is_device, HasDeviceCause}
 use Rattle.bench_model.specs.declared.bench_fault.BusEnd.{BusEnd}
 use Rattle.bench_model.specs.declared.bench_fault.DeviceFault.{DeviceFault}
-use Rattle.flash_layout.specs.Maps.{Map}
+use Rattle.flash_layout.specs.Maps.{FlashMap}
 use Rattle.flash_layout.specs.Areas.{cells_in}
 
 -- the bench has the cells of the map, and its open operation is the controller's, which has this range
-pub record Agrees (tells : Bool) (map : Map) (range : Option (ℕ × ℕ)) (b : BenchState) : Type 0 where
+pub record Agrees (tells : Bool) (map : FlashMap) (range : Option (ℕ × ℕ)) (b : BenchState) : Type 0 where
   pub count : b.cell_count ≡ cells_in map.areas
   pub operation : IsTrue tells → b.operation ≡ range
 
@@ -41,14 +41,14 @@ IsWidth width = (width ≡ 1) ⊎ ((width ≡ 2) ⊎ (width ≡ 4))
 
 -- How an access touches the bench. The open operation stays the controller's, which then has this range; a device fault
 -- comes only where its count rose, and leaves no operation open.
-pub record Touches {A : Type 0} (tells : Bool) (map : Map) (range : Option (ℕ × ℕ)) (s t : BenchState) (result : Result A BusEnd) : Type 0 where
+pub record Touches {A : Type 0} (tells : Bool) (map : FlashMap) (range : Option (ℕ × ℕ)) (s t : BenchState) (result : Result A BusEnd) : Type 0 where
   pub bench : Accesses tells s t
   pub agrees : Agrees tells map range t
   pub cause : HasDeviceCause s.device_faults t.device_faults (is_device result)
   pub idle : IsTrue tells → is_device result ≡ true → IsIdle s t
 
 -- How a tick touches the bench: as above, but for the cells of an operation that ends. A fault leaves the cells.
-pub record Ticks (tells : Bool) (map : Map) (range : Option (ℕ × ℕ)) (s t : BenchState) (result : Result (Unit {0}) DeviceFault) : Type 0 where
+pub record Ticks (tells : Bool) (map : FlashMap) (range : Option (ℕ × ℕ)) (s t : BenchState) (result : Result (Unit {0}) DeviceFault) : Type 0 where
   pub bench : Settles tells s t
   pub agrees : Agrees tells map range t
   pub err : IsTrue tells → OnErr result (t.cells ≡ s.cells)

@@ -6,12 +6,12 @@ use Rattle.board_file.specs.declared.quiet.QuietRange.{QuietRange}
 use Rattle.board_file.specs.declared.sectors.SectorRun.{SectorRun}
 use Rattle.board_file.specs.Shown.{Shown}
 use Rattle.flash_layout.specs.declared.area.Area.{Area}
-use Rattle.flash_layout.specs.declared.layout.Layout.{Layout}
+use Rattle.flash_layout.specs.declared.flash_map.FlashMap as code
 use Rattle.flash_layout.specs.Areas.{areas_of, runs_of}
 
 -- the controller's kind, the areas, the sectors of all of them, the address of the controller's registers, the ticks that programming a
 -- unit, erasing a sector and erasing an area take, and the quiet ranges
-pub record Map : Type 0 where
+pub record FlashMap : Type 0 where
   pub kind : ControllerKind
   pub areas : List Area
   pub runs : List SectorRun
@@ -21,8 +21,8 @@ pub record Map : Type 0 where
   pub chip_ticks : ℕ
   pub quiet : List QuietRange
 
--- the map of a layout, for a controller of this kind
-abbrev pub map_of : ControllerKind → Layout → Map
+-- the map as clauses have it, for a controller of this kind
+abbrev pub map_of : ControllerKind → code.FlashMap → FlashMap
 map_of kind l = record {
   kind = kind;
   areas = l.areas.items;
@@ -35,7 +35,7 @@ map_of kind l = record {
 }
 
 -- the map of a board's parts, for a controller of this kind, and of the board
-abbrev pub map_for : ControllerKind → Shown → Map
+abbrev pub map_for : ControllerKind → Shown → FlashMap
 map_for kind b = record {
   kind = kind;
   areas = areas_of b.regions;
@@ -47,7 +47,7 @@ map_for kind b = record {
   quiet = b.quiet;
 }
 
-abbrev pub board_map : Shown → Map
+abbrev pub board_map : Shown → FlashMap
 board_map b = map_for b.kind b
 
 -- the address lies in one of these quiet ranges

@@ -3,10 +3,10 @@ ghost use Rattle.std.specs.Prelude.{◌≡◌, Some};
 ghost use Rattle.flash_layout.specs.declared.area.Found.{Found};
 ghost use Rattle.flash_layout.specs.Areas.{find, HasSectorCells};
 
-use crate::Layout;
+use crate::FlashMap;
 
 /// An address in the flash has a sector of the board, which holds its cell and lies in the cells.
-pub fn address_has_sector(layout: &Layout, at: u32)
+pub fn address_has_sector(layout: &FlashMap, at: u32)
     ensures { (found : Found) → find layout.now.areas.items 0 at ≡ Some found → HasSectorCells layout.now.areas.items layout.now.runs.items at found }
 {
     let _layout = layout.find(at);

@@ -8,16 +8,14 @@
 
 mod area;
 mod cells;
+mod flash_map;
 mod law;
-mod layout;
 mod lock;
-mod of_board;
-mod quiet;
 mod work;
 
 pub use area::{Area, Found, SectorCells};
 pub use cells::{read, settle};
+pub use flash_map::FlashMap;
 pub use law::address_has_sector;
-pub use layout::Layout;
 pub use lock::{Lock, flag_value};
 pub use work::{Operation, Work, unit_work};

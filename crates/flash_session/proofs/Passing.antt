@@ -3,7 +3,7 @@ use Rattle.std.proofs.Common.{◌≡◌, ◌<◌, ◌≤◌, ◌+◌, ◌-◌, �
 use Rattle.std.proofs.lemmas.List.{get_or-take, get_or-drop, map-append}
 use Rattle.std.proofs.lemmas.Bool.{cases_lt}
 use Rattle.bench_model.specs.Calls.{SameOutside}
-use Rattle.flash_layout.specs.Maps.{Map}
+use Rattle.flash_layout.specs.Maps.{FlashMap}
 use Rattle.page_geometry.specs.Layout.{Layout, IsLayout}
 use Rattle.target_core.specs.World.{World}
 use Rattle.target_core.specs.Units.{state_op, state_reset}
@@ -79,7 +79,7 @@ pub record Passes (P : ℕ → Type 0) (a : Stand) (moves : List Move) (cells ol
 -- ---- a reset and a load with no operation open, and a phase
 
 -- the target of a board as after a reset over these cells, and with what then is loaded
-abbrev blank : Setup → ℕ → Map → List ℕ → World
+abbrev blank : Setup → ℕ → FlashMap → List ℕ → World
 blank s base map cells = record { ram_base = base; ram = replicate s.ram_size 0; map = map; state = state_reset map; cells = cells }
 
 reset_is : (s : Setup) (w : World) (torn : List ℕ) → state_op w.state ≡ None → reset_to s w torn ≡ blank s w.ram_base w.map w.cells

@@ -8,7 +8,7 @@ use Rattle.board_file.specs.Shown.{Shown as BoardShown}
 use Rattle.flm_descriptor.specs.Shown.{Shown as AlgorithmShown}
 use Rattle.flm_descriptor.specs.Shape.{Range, range_at}
 use Rattle.flash_layout.specs.Areas.{cells_in}
-use Rattle.flash_layout.specs.Maps.{Map, board_map}
+use Rattle.flash_layout.specs.Maps.{FlashMap, board_map}
 use Rattle.page_geometry.specs.Layout.{In, Layout, IsLayout}
 use Rattle.page_geometry.specs.Ideal.{Action, erasures, writes}
 use Rattle.page_geometry.specs.Ideal as act
@@ -190,7 +190,7 @@ module _ (P : ℕ → Type 0) (old : List ℕ) (b : BoardShown) (region : ℕ) (
   mine = part here cells
 
   begun_is : (x : World) → board_in x ≡ (b.ram_base, board_map b) → begun (setup_of a b) x ≡ ready b a x.cells
-  begun_is x same = ap (λ (p : ℕ × Map). let y : World = record { ram_base = p.0; ram = loaded (setup_of a b); map = p.1; state = state_reset p.1; cells = x.cells } in y) same
+  begun_is x same = ap (λ (p : ℕ × FlashMap). let y : World = record { ram_base = p.0; ram = loaded (setup_of a b); map = p.1; state = state_reset p.1; cells = x.cells } in y) same
 
   -- a phase over these cells
   work_here : (kind : Phase) (x : Stand) (torn : List ℕ) (moves : List Move) (want : List ℕ) → board_in x.world ≡ (b.ram_base, board_map b) → state_op x.world.state ≡ None

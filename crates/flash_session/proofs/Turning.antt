@@ -3,7 +3,7 @@ use Rattle.std.proofs.Common.{◌≡◌, ◌∙◌, inl, ⊎_elim, ℕ, Bool, tr
 use Rattle.bench_model.specs.State.{BenchState}
 use Rattle.bench_model.proofs.Moments.{leaves_as}
 use Rattle.flash_layout.specs.Areas.{cells_in}
-use Rattle.flash_layout.specs.Maps.{Map}
+use Rattle.flash_layout.specs.Maps.{FlashMap}
 use Rattle.target_core.specs.World.{World}
 use Rattle.target_core.specs.Units.{UnitState, state_op, state_reset}
 use Rattle.algo_calls.specs.declared.calls.Calls.{Calls}
@@ -230,7 +230,7 @@ turned_map false true here c new e = e
 turned_map true false here c new e = e
 turned_map true true here c new e = refl
 
-world_is : (base ram_base : ℕ) (ram bytes : List ℕ) (map areas : Map) (u v : UnitState) (cells held : List ℕ) → base ≡ ram_base → ram ≡ bytes → map ≡ areas → u ≡ v → cells ≡ held
+world_is : (base ram_base : ℕ) (ram bytes : List ℕ) (map areas : FlashMap) (u v : UnitState) (cells held : List ℕ) → base ≡ ram_base → ram ≡ bytes → map ≡ areas → u ≡ v → cells ≡ held
     → ◌≡◌ {A = World} (record { ram_base = base; ram = ram; map = map; state = u; cells = cells }) (record { ram_base = ram_base; ram = bytes; map = areas; state = v; cells = held })
 world_is base ram_base ram bytes map areas u v cells held one two three four five = rw (one, two, three, four, five) refl
 
@@ -240,7 +240,7 @@ fresh_is : (x y : Setup) (v w : World) (operation : Option (ℕ × ℕ)) (torn :
 unfolding after_reset
 fresh_is x y v w operation torn size base map cells =
     world_is v.ram_base w.ram_base (replicate x.ram_size 0) (replicate y.ram_size 0) v.map w.map (state_reset v.map) (state_reset w.map) v.cells (broken_off operation torn w.cells) base (ap (λ (n : ℕ). replicate n 0) size) map
-    (ap (λ (m : Map). state_reset m) map) cells
+    (ap (λ (m : FlashMap). state_reset m) map) cells
 
 world_from : World → Result Stand Failure → World
 world_from w (Ok b) = b.world
@@ -301,7 +301,7 @@ module _ (n m : Machines) (c : Calls) (is : n.other ≡ Some c) (turned : IsTurn
         stop = tt;
         ready = λ ok. record {
           agrees = record {
-            count = ready.agrees.count ∙ sym (ap (λ (p : Map). cells_in p.areas) same_map);
+            count = ready.agrees.count ∙ sym (ap (λ (p : FlashMap). cells_in p.areas) same_map);
             operation = λ told. idle told ∙ sym (ap (λ (w : World). state_op w.state) (new told) ∙ idle_after x a.world (state_op a.world.state) torn);
           };
           twins = twins_still n m turned_same ready.twins;

@@ -1,6 +1,6 @@
 -- What drivers, the machines of a session and an errand show.
 use Rattle.std.specs.Prelude.{◌≡◌, ◌≤◌, ◌+◌, ℕ, Bool, true, false, not, IsTrue, is_some, length, List, [], ◌∷◌, Option, Some, None}
-use Rattle.flash_layout.specs.Maps.{Map}
+use Rattle.flash_layout.specs.Maps.{FlashMap}
 use Rattle.board_file.specs.Limits.{size_of}
 use Rattle.algo_calls.specs.declared.calls.Calls.{Calls}
 use Rattle.algo_calls.specs.Duties.{Site, part}
@@ -42,7 +42,7 @@ calls_of m second = of_region second m.second m.driver.calls m.other
 abbrev pub setup_on : Machines → Bool → Setup
 setup_on m second = setup_in (calls_of m second)
 
-abbrev pub map_on : Machines → Bool → Map
+abbrev pub map_on : Machines → Bool → FlashMap
 map_on m second = map_in (calls_of m second)
 
 abbrev pub one_or_both : Bool → Setup → Setup → List Setup

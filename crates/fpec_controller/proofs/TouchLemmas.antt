@@ -7,7 +7,7 @@ use Rattle.bench_model.specs.History.{left}
 use Rattle.bench_model.specs.State.{BenchState, cells_half}
 use Rattle.bench_model.proofs.Moments.{leaves_here, file_stays_here}
 use Rattle.flash_layout.specs.Bench.{Accesses, Agrees, Touches}
-use Rattle.flash_layout.specs.Maps.{Map}
+use Rattle.flash_layout.specs.Maps.{FlashMap}
 
 accesses_here : (tells : Bool) (s : BenchState) → ((c : List ℕ) → IsTrue tells → left (cells_half s) c ↔ SameOutside s.operation s.cells c) → Accesses tells s s
 accesses_here tells s law = record {
@@ -19,7 +19,7 @@ accesses_here tells s law = record {
 }
 
 -- a call that ends otherwise than as a device fault
-pub untouched : {A : Type 0} (tells : Bool) (map : Map) (range : Option (ℕ × ℕ)) (s : BenchState) (result : Result A BusEnd)
+pub untouched : {A : Type 0} (tells : Bool) (map : FlashMap) (range : Option (ℕ × ℕ)) (s : BenchState) (result : Result A BusEnd)
     → ((c : List ℕ) → IsTrue tells → left (cells_half s) c ↔ SameOutside s.operation s.cells c) → Agrees tells map range s → is_device result ≡ false
     → Touches tells map range s s result
 untouched tells map range s result law agrees other = record {

@@ -12,7 +12,7 @@ use Rattle.flash_layout.specs.declared.work.Operation.{Operation}
 use Rattle.flash_layout.specs.Areas.{sector_of}
 use Rattle.flash_layout.specs.Cells.{value_of, cells_at}
 use Rattle.flash_layout.specs.Lock.{is_unlocked, next_lock, flag_value, kept}
-use Rattle.flash_layout.specs.Maps.{Map}
+use Rattle.flash_layout.specs.Maps.{FlashMap}
 use Rattle.flash_layout.specs.Work.{tick_at}
 use Rattle.fpec_controller.specs.declared.place.Place.{Place}
 use Rattle.fpec_controller.specs.declared.place.Place.TheVariants as place
@@ -78,17 +78,17 @@ abbrev pub runs : State → Work → ℕ → ℕ → State
 runs s w at ticks = record s { operation = Some (record { work = w; place = at; ticks = ticks }) }
 
 -- the sector of AR, where AR lies in the flash
-abbrev pub erases_sector : Map → State → Option SectorCells → State
+abbrev pub erases_sector : FlashMap → State → Option SectorCells → State
 erases_sector map s None = s
 erases_sector map s (Some sector) = runs s (work.Fill sector.len sector.empty) sector.place map.erase_ticks
 
 -- all cells of the first area
-abbrev pub erases_all : Map → State → List Area → State
+abbrev pub erases_all : FlashMap → State → List Area → State
 erases_all map s [] = s
 erases_all map s (a ∷ rest) = runs s (work.Fill a.size a.empty) 0 map.chip_ticks
 
 -- an erasure is started: PER alone erases a sector, MER alone all, and neither or both nothing
-unfoldable pub started : Map → State → State
+unfoldable pub started : FlashMap → State → State
 started map s =
     if s.erases_sector && not s.erases_all then erases_sector map s (sector_of map.areas map.runs s.address)
     else if s.erases_all && not s.erases_sector then erases_all map s map.areas
@@ -102,7 +102,7 @@ abbrev pub with_bits : State → ℕ → State
 with_bits s value = record s { programs = has_bit value 1; erases_sector = has_bit value 2; erases_all = has_bit value 4 }
 
 -- After a store to CR. While it is locked or an operation runs nothing changes; bit 7 locks it; and else bit 6 starts an erasure.
-unfoldable pub control_stored : Map → State → ℕ → State
+unfoldable pub control_stored : FlashMap → State → ℕ → State
 control_stored map s value =
     if not (is_unlocked s.lock) || is_running s then s
     else if has_bit value 128 then record (with_bits s value) { lock = lock.Locked }
@@ -120,7 +120,7 @@ half_of value = value % 0x10000
 
 -- After the store of a halfword to the flash while no operation runs: PG programs an erased halfword, and 0 over any; over any
 -- other halfword PGERR is set.
-unfoldable pub programmed : Map → State → List ℕ → ℕ → ℕ → State
+unfoldable pub programmed : FlashMap → State → List ℕ → ℕ → ℕ → State
 programmed map s cells at value =
     if may_program s then
     (if nat_eq (half_of value) 0 || nat_eq (value_of (cells_at cells at 2)) 0xFFFF then runs s (work.Half value) at map.program_ticks
@@ -146,7 +146,7 @@ load_at s cells width place.Nowhere = Err bus.Fault
 abbrev pub Stored : Type 0
 Stored = Result (Unit {0}) BusEnd × State
 
-abbrev pub store_at : Map → State → List ℕ → ℕ → ℕ → Place → Stored
+abbrev pub store_at : FlashMap → State → List ℕ → ℕ → ℕ → Place → Stored
 store_at map s cells width value place.AccessControl = (Ok tt, access_control_stored s value)
 store_at map s cells width value place.Key = (Ok tt, key_stored s value)
 store_at map s cells width value place.OptionKey = (Ok tt, s)
@@ -159,10 +159,10 @@ store_at map s cells width value (place.Flash found) =
     if is_running s || not (nat_eq width 2) then (Err bus.Fault, s) else (Ok tt, programmed map s cells found.place value)
 store_at map s cells width value place.Nowhere = (Err bus.Fault, s)
 
-unfoldable pub load_row : Map → State → List ℕ → ℕ → ℕ → Result ℕ BusEnd
+unfoldable pub load_row : FlashMap → State → List ℕ → ℕ → ℕ → Result ℕ BusEnd
 load_row map s cells at width = load_at s cells width (place_of map at width)
 
-unfoldable pub store_row : Map → State → List ℕ → ℕ → ℕ → ℕ → Stored
+unfoldable pub store_row : FlashMap → State → List ℕ → ℕ → ℕ → ℕ → Stored
 store_row map s cells at width value = store_at map s cells width value (place_of map at width)
 
 -- a load there looks at cells
@@ -176,7 +176,7 @@ compares s width value (place.Flash found) = not (is_running s) && nat_eq width 
 compares s width value _ = false
 
 -- a store there asks the device: for the cells of a halfword that it may program, or to open an operation
-abbrev pub asks : Map → State → ℕ → ℕ → Place → Bool
+abbrev pub asks : FlashMap → State → ℕ → ℕ → Place → Bool
 asks map s width value (place.Flash found) = not (is_running s) && nat_eq width 2 && may_program s
 asks map s width value place.Control = not (is_running s) && is_running (control_stored map s value)
 asks map s width value _ = false

@@ -19,7 +19,7 @@ use crate::state::State;
 use bench_model::{Bench, BusEnd, DeviceFault};
 use board_file::Board;
 use faults::OutOfMemory;
-use flash_layout::{Layout, Operation, read, settle};
+use flash_layout::{FlashMap, Operation, read, settle};
 use std::alloc::Global;
 
 /// WRPR: no sector is protected.
@@ -29,7 +29,7 @@ const UNPROTECTED: u32 = 0xFFFF_FFFF;
 #[derive(Debug, Drop)]
 pub struct Fpec {
     /// Where the flash and the registers lie.
-    pub layout: Layout,
+    pub layout: FlashMap,
     /// The registers, and the operation that runs.
     pub state: State,
 }
@@ -40,7 +40,7 @@ impl Fpec {
         ensures layout { IfOk result (λ fpec. fpec_map fpec.layout ≡ map_for kind.Fpec (shown board.now)) }
         ensures state { IfOk result (λ fpec. fpec.state ≡ after_reset) }
     {
-        let layout = Layout::of(alloc, board)?;
+        let layout = FlashMap::of(alloc, board)?;
         let state = State::reset();
         Ok(Fpec { layout, state })
     }

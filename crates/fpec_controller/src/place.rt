@@ -2,7 +2,7 @@
 ghost use Rattle.std.specs.Prelude.{◌≡◌, IsTrue};
 ghost use Rattle.fpec_controller.specs.Places.{fpec_map, place_of, is_register, PlaceInside};
 
-use flash_layout::{Found, Layout};
+use flash_layout::{FlashMap, Found};
 
 /// What an access goes to: one of the eight registers, a cell of the flash, or nothing.
 #[derive(Clone, Copy, Debug, PartialEq, Eq)]
@@ -37,7 +37,7 @@ const BLOCK: u32 = 64;
 
 /// What an access of so many bytes goes to. The registers take words alone.
 #[tactic(auto, unfolding(crate::specs::Places::place_of))]
-pub fn place_of(layout: &Layout, at: u32, width: u32) -> Place
+pub fn place_of(layout: &FlashMap, at: u32, width: u32) -> Place
     ensures value { result ≡ place_of (fpec_map layout.now) at width }
     ensures word { IsTrue (is_register result) → width ≡ 4 }
     ensures inside { PlaceInside (fpec_map layout.now) at result }

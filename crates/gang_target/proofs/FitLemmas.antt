@@ -7,7 +7,7 @@ use Rattle.bench_model.specs.Device.{HasDeviceCause}
 use Rattle.bench_model.proofs.Moments.{stays_adds_nothing}
 use Rattle.board_file.specs.Limits.{size_of}
 use Rattle.flash_layout.specs.Areas.{cells_in}
-use Rattle.flash_layout.specs.Maps.{Map}
+use Rattle.flash_layout.specs.Maps.{FlashMap}
 use Rattle.job_file.specs.Counted.{IsCounted}
 use Rattle.target_core.specs.Path.{Point}
 use Rattle.target_core.specs.Windows.{OnlyIn}
@@ -99,7 +99,7 @@ turn_made tells old new arena arena' start end fit same page twins map only fits
         scripted = scripted_same old new same page twins fit.scripted;
         fits = fits;
         agrees = agrees;
-        wanted = ap (λ (m : Map). cells_in m.areas) map ∙ fit.wanted ∙ sym size;
+        wanted = ap (λ (m : FlashMap). cells_in m.areas) map ∙ fit.wanted ∙ sym size;
         some = subst (λ (n : ℕ). 0 < n) (sym size) fit.some;
         place = subst (λ (n : ℕ). IsPlace tells (has_second new) new.second new.place n end) (sym size)
             (subst (λ (h : Bool). IsPlace tells h new.second new.place (size_for old) end) (sym (has_same old new same)) place);

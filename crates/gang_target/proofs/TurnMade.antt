@@ -10,7 +10,7 @@ use Rattle.bench_model.specs.Does.{StaysOpen}
 use Rattle.bench_model.proofs.Moments.{leaves_here, leaves_as, stays_leaves}
 use Rattle.flash_layout.specs.Areas.{cells_in}
 use Rattle.flash_layout.specs.Bench.{Settles}
-use Rattle.flash_layout.specs.Maps.{Map}
+use Rattle.flash_layout.specs.Maps.{FlashMap}
 use Rattle.job_file.specs.Counted.{IsCounted}
 use Rattle.job_file.specs.Stops.{IsWholeOrClosed}
 use Rattle.target_core.specs.declared.unit.Unit.{Unit as ControlUnit}
@@ -86,7 +86,7 @@ store_judged made call nx (call_end.Ended e) = refl
 store_judged made call nx call_end.DeviceFault = refl
 
 count_same : (tells : Bool) (old new : CallsIn) (s t : BenchState) → AgreesAt tells old s → map_of new ≡ map_of old → AgreesAt tells new t → t.cell_count ≡ s.cell_count
-count_same tells old new s t one same two = two.count ∙ ap (λ (m : Map). cells_in m.areas) same ∙ sym one.count
+count_same tells old new s t one same two = two.count ∙ ap (λ (m : FlashMap). cells_in m.areas) same ∙ sym one.count
 
 pub agrees_by : (tells : Bool) (old new : CallsIn) (s : BenchState) → new.machine.unit ≡ old.machine.unit → AgreesAt tells old s → AgreesAt tells new s
 agrees_by tells old new s same agrees = subst (λ (u : ControlUnit). UnitAgrees tells u s) (sym same) agrees
@@ -204,7 +204,7 @@ module _ (tells : Bool) (old : GangTarget) (arena : List (List ℕ)) (start : Be
 
     begun_agrees : AgreesAt tells fin end
     begun_agrees = agrees_by tells turned.calls fin end (ap (λ (k : CallsIn). k.machine.unit) load_same) (record {
-      count = now.count ∙ ap (λ (m : Map). cells_in m.areas) (sym turns.map);
+      count = now.count ∙ ap (λ (m : FlashMap). cells_in m.areas) (sym turns.map);
       operation = λ told.
           now.operation told
           ∙ ap (λ (w : World). state_op w.state) (gives told).leaves ∙ reset_idle s here.world start.operation (gives told).torn

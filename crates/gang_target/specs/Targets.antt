@@ -1,6 +1,6 @@
 -- What a target shows.
 use Rattle.std.specs.Prelude.{◌≡◌, ◌+◌, ℕ, Bool, true, false, is_some, unwrap_or, Option, Some, None, List}
-use Rattle.flash_layout.specs.Maps.{Map}
+use Rattle.flash_layout.specs.Maps.{FlashMap}
 use Rattle.target_core.specs.Units.{unit_map}
 use Rattle.target_core.specs.Path.{Point}
 use Rattle.algo_calls.specs.declared.calls_in.CallsIn.{CallsIn}
@@ -32,10 +32,10 @@ calls_on t second = of_region second t.second t.calls t.other
 abbrev pub setup_on : GangTarget → Bool → Setup
 setup_on t second = setup_at (calls_on t second)
 
-abbrev pub map_of : CallsIn → Map
+abbrev pub map_of : CallsIn → FlashMap
 map_of c = unit_map c.machine.unit
 
-abbrev pub map_on : GangTarget → Bool → Map
+abbrev pub map_on : GangTarget → Bool → FlashMap
 map_on t second = map_of (calls_on t second)
 
 -- what the calls of the region that moved last rest on

@@ -1,6 +1,6 @@
 use Rattle.flash_layout.specs.Areas.{cells_in}
 use Rattle.flash_layout.proofs.SectorLemmas.{sector_inside}
-use Rattle.flash_layout.proofs.layout.Layout.sector_of.Goals as goal
+use Rattle.flash_layout.proofs.flash_map.FlashMap.sector_of.Goals as goal
 
 pub returns-clause-inside : goal.returns-clause-inside
 returns-clause-inside c =

@@ -3,7 +3,7 @@ use Rattle.std.proofs.lemmas.List.{drop_all}
 use Rattle.flash_layout.specs.declared.area.Area.{Area}
 use Rattle.flash_layout.specs.Areas.{find}
 use Rattle.flash_layout.proofs.FindLemmas.{looked_found, looked_on, looked_none, access_inside}
-use Rattle.flash_layout.proofs.layout.Layout.find.Goals as goal
+use Rattle.flash_layout.proofs.flash_map.FlashMap.find.Goals as goal
 
 pub returns-then-holds-clause-value : goal.returns-then-holds-clause-value
 returns-then-holds-clause-value c =

@@ -1,5 +1,5 @@
 use Rattle.flash_layout.proofs.FindLemmas.{Looked}
-use Rattle.flash_layout.proofs.layout.Layout.find.Given as goal
+use Rattle.flash_layout.proofs.flash_map.FlashMap.find.Given as goal
 
 abbrev pub invariant-loop-area : goal.invariant-loop-area
 invariant-loop-area l = Looked l.area-items l.at l.area-index l.from

@@ -1,5 +1,5 @@
 use Rattle.flash_layout.proofs.BoardLemmas.{Taken}
-use Rattle.flash_layout.proofs.layout.Layout.of.Given as goal
+use Rattle.flash_layout.proofs.flash_map.FlashMap.of.Given as goal
 
 abbrev pub invariant-loop-region : goal.invariant-loop-region
 invariant-loop-region l = Taken l.board.regions l.region-index l.areas.items l.runs.items

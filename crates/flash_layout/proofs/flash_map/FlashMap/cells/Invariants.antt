@@ -1,5 +1,5 @@
 use Rattle.flash_layout.proofs.FindLemmas.{Counted}
-use Rattle.flash_layout.proofs.layout.Layout.cells.Given as goal
+use Rattle.flash_layout.proofs.flash_map.FlashMap.cells.Given as goal
 
 abbrev pub invariant-loop-area : goal.invariant-loop-area
 invariant-loop-area l = Counted l.area-items l.area-index l.cells

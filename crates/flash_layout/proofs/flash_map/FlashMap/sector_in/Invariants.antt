@@ -1,5 +1,5 @@
 use Rattle.flash_layout.proofs.SectorLemmas.{Passed}
-use Rattle.flash_layout.proofs.layout.Layout.sector_in.Given as goal
+use Rattle.flash_layout.proofs.flash_map.FlashMap.sector_in.Given as goal
 
 abbrev pub invariant-loop-run : goal.invariant-loop-run
 invariant-loop-run l = Passed l.run-items l.place l.run-index l.from

@@ -2,7 +2,7 @@ use Rattle.std.proofs.Common.{◌≡◌, subst, List, drop, []}
 use Rattle.std.proofs.lemmas.List.{drop_all}
 use Rattle.board_file.specs.declared.region.Region.{Region}
 use Rattle.flash_layout.proofs.BoardLemmas.{LaysOut, lays_out, all_taken}
-use Rattle.flash_layout.proofs.layout.Layout.of.Goals as goal
+use Rattle.flash_layout.proofs.flash_map.FlashMap.of.Goals as goal
 
 pub invariant_of-result : goal.invariant_of-result
 invariant_of-result c =
