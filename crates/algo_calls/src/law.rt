@@ -3,7 +3,7 @@ ghost use Rattle.std.specs.Prelude.{◌≡◌, ◌≤◌, ◌+◌, ◌-◌, ◌*
 ghost use Rattle.bench_model.specs.Calls.{SameOutside, written};
 ghost use Rattle.bench_model.specs.History.{Leaves};
 ghost use Rattle.bench_model.specs.State.{cells_half};
-ghost use Rattle.page_geometry.specs.Layout.{IsLayout};
+ghost use Rattle.page_geometry.specs.Geometry.{IsGeometry};
 ghost use Rattle.target_core.specs.declared.run.RunEnd.{RunEnd};
 ghost use Rattle.target_core.specs.Path.{Point};
 ghost use Rattle.target_core.specs.Runs.{BreaksOffOn, IsLeftOn, Piece, StandsOn};
@@ -66,7 +66,7 @@ pub fn resets_break_off<B: Bench>()
 /// change nothing leaves them all so. What a duty leaves of a contents is one contents, with the cells of every other region as they were.
 /// No call changes the board.
 pub fn kept_calls_stay_in_their_place()
-    ensures local { (s : Setup) (site : Site) (w : World) (d : Duty) → IsLayout site.layout → site.start + site.layout.size ≤ length w.cells → Keeps s site w d
+    ensures local { (s : Setup) (site : Site) (w : World) (d : Duty) → IsGeometry site.layout → site.start + site.layout.size ≤ length w.cells → Keeps s site w d
         → (c : List ℕ) → IsLeftOn (path_of s w (request_of s site.layout d)) c → SameOutside (place_of site d) w.cells c }
     ensures exact { (s : Setup) (site : Site) (d : Duty) (before x y : List ℕ) → Does s site before d x → Does s site before d y → x ≡ y }
     ensures others { (s : Setup) (site : Site) (d : Duty) (before x : List ℕ) → Does s site before d x → SameOutside (Some (site.start, site.layout.size)) before x }

@@ -12,7 +12,7 @@ use Rattle.algo_loader.specs.Places.{has_room}
 use Rattle.algo_calls.specs.Duties.{part, site_of}
 use Rattle.byte_map.specs.Image.{Run, over}
 use Rattle.byte_map.proofs.Overlays.{length-over}
-use Rattle.page_geometry.specs.Layout.{Layout}
+use Rattle.page_geometry.specs.Geometry.{Geometry}
 use Rattle.erase_planner.specs.Plans.{chosen}
 use Rattle.job_text.specs.Fits.{is_device_of, fits, all_fit}
 use Rattle.flash_session.specs.Goals.{overlaid}
@@ -21,10 +21,10 @@ use Rattle.demo_job.specs.Target.{Target}
 use Rattle.demo_job.specs.Run.{work_of}
 use Rattle.demo_job.proofs.MadeLemmas.{length-cells}
 
-pub chosen_as : {l m : Layout} (w : Weights) {b c : Bool} (empty : ℕ) {old cells want goal : List ℕ} → l ≡ m → b ≡ c → old ≡ cells → want ≡ goal
+pub chosen_as : {l m : Geometry} (w : Weights) {b c : Bool} (empty : ℕ) {old cells want goal : List ℕ} → l ≡ m → b ≡ c → old ≡ cells → want ≡ goal
     → chosen l w b empty old want ≡ chosen m w c empty cells goal
 chosen_as {l} {m} w {b} {c} empty {old} {cells} {want} {goal} layouts chips olds wants =
-    ap (λ (x : Layout). chosen x w b empty old want) layouts
+    ap (λ (x : Geometry). chosen x w b empty old want) layouts
     ∙ ap (λ (x : Bool). chosen m w x empty old want) chips
     ∙ ap (λ (x : List ℕ). chosen m w c empty x want) olds
     ∙ ap (λ (x : List ℕ). chosen m w c empty cells x) wants

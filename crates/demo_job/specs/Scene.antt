@@ -2,7 +2,7 @@
 use Rattle.std.specs.Prelude.{◌≡◌, ℕ, [], ◌∷◌}
 use Rattle.board_file.specs.Shown as board
 use Rattle.flm_descriptor.specs.Shown as flm
-use Rattle.page_geometry.specs.Layout.{Layout}
+use Rattle.page_geometry.specs.Geometry.{Geometry}
 use Rattle.erase_planner.specs.Plans.{Chosen}
 use Rattle.job_text.specs.Fits.{Suits}
 use Rattle.demo_job.specs.Made.{cells_of, image_of, laid_of, stop_of}
@@ -28,7 +28,7 @@ pub record IsScene (seed : ℕ) (scene : Scene) : Type 0 where
   pub size : scene.target.algorithm.device.size ≡ 65536
 
 -- the counts of a plan
-pub record IsCounted (l : Layout) (plan : Chosen) (counts : Counts) : Type 0 where
+pub record IsCounted (l : Geometry) (plan : Chosen) (counts : Counts) : Type 0 where
   pub sectors : counts.sectors ≡ erased l plan
   pub pages : counts.pages ≡ programmed l plan
   pub cost : counts.cost ≡ plan.cost

@@ -3,7 +3,7 @@ use Rattle.std.proofs.Common.{◌≡◌, ℕ, zero, suc, ◌+◌, ◌*◌, Bool,
 use Rattle.std.proofs.lemmas.Bool.{cases_Bool, and_parts}
 use Rattle.std.proofs.lemmas.List.FromFn.{map-range_with_len_more}
 use Rattle.std.specs.List.{range_with_len}
-use Rattle.page_geometry.specs.Layout.{Layout}
+use Rattle.page_geometry.specs.Geometry.{Geometry}
 use Rattle.page_geometry.specs.Cells.{count_below}
 use Rattle.page_geometry.specs.Ideal.{Action, EraseChip, erasures, writes}
 use Rattle.board_file.specs.declared.board.Weights.{Weights}
@@ -45,7 +45,7 @@ erasures_cost w [] s = omega arith
 erasures_cost w (true ∷ bs) s = let rest = erasures_cost w bs (s + 1) in omega (arith, rest)
 erasures_cost w (false ∷ bs) s = erasures_cost w bs (s + 1)
 
-writes_cost : (l : Layout) (w : Weights) (want : List ℕ) (bs : List Bool) (p : ℕ) → cost w (writes l want p bs) ≡ w.page * count_true bs
+writes_cost : (l : Geometry) (w : Weights) (want : List ℕ) (bs : List Bool) (p : ℕ) → cost w (writes l want p bs) ≡ w.page * count_true bs
 unfolding cost price writes count_true
 writes_cost l w want [] p = omega arith
 writes_cost l w want (true ∷ bs) p = let rest = writes_cost l w want bs (p + 1) in omega (arith, rest)
@@ -56,7 +56,7 @@ unfolding cost price
 chip_alone w = omega arith
 
 -- what the chosen plan costs as a list
-pub chosen_cost : (l : Layout) (w : Weights) (has_chip : Bool) (empty : ℕ) (cells want : List ℕ) → cost w (actions_of l want (chosen l w has_chip empty cells want)) ≡ (chosen l w has_chip empty cells want).cost
+pub chosen_cost : (l : Geometry) (w : Weights) (has_chip : Bool) (empty : ℕ) (cells want : List ℕ) → cost w (actions_of l want (chosen l w has_chip empty cells want)) ≡ (chosen l w has_chip empty cells want).cost
 unfolding chosen takes_chip by_chip by_sectors actions_of sectors_cost chip_cost
 chosen_cost l w has_chip empty cells want =
     elim (cases_Bool (takes_chip l w has_chip empty cells want)) [

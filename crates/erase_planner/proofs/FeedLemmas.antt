@@ -5,7 +5,7 @@ use Rattle.std.proofs.lemmas.Bool.{or_cases, or_left, or_right, cases_lt, cases_
 use Rattle.std.proofs.lemmas.List.{get_or_append_left, get_or-append_right}
 use Rattle.erase_planner.specs.declared.marks.Mark.{Mark}
 use Rattle.flm_descriptor.specs.Shape.{Range, range_at}
-use Rattle.page_geometry.specs.Layout.{In, Layout, IsLayout}
+use Rattle.page_geometry.specs.Geometry.{In, Geometry, IsGeometry}
 use Rattle.page_geometry.specs.Cells.{some_in, is_used, differs}
 use Rattle.page_geometry.proofs.TestLemmas.{same_tests, some_in_from, some_in_at}
 use Rattle.page_geometry.proofs.BuiltLemmas.{pushed_long}
@@ -44,7 +44,7 @@ pushed_same xs x n i e h = get_or_append_left xs (x ∷ []) 0 i (omega (arith, e
 pushed_last : (xs : List ℕ) (x n : ℕ) → length xs ≡ n → slice_index (xs ++ x ∷ []) n ≡ x
 pushed_last xs x n e = get_or-append_right xs (x ∷ []) n n 0 e (omega arith) ∙ (let z : n - n ≡ 0 = omega arith in ap (λ (i : ℕ). get_or (x ∷ []) i 0) z)
 
-module _ (l : Layout) (empty : ℕ) (old want : List ℕ) (n x y : ℕ) (old_long : length old ≡ n) (want_long : length want ≡ n) where
+module _ (l : Geometry) (empty : ℕ) (old want : List ℕ) (n x y : ℕ) (old_long : length old ≡ n) (want_long : length want ≡ n) where
   same_differs : (i : ℕ) → i < n → not (nat_eq (slice_index (old ++ x ∷ []) i) (slice_index (want ++ y ∷ []) i)) ≡ not (nat_eq (slice_index old i) (slice_index want i))
   same_differs i h = cc (pushed_same old x n i old_long h, pushed_same want y n i want_long h)
 
@@ -76,7 +76,7 @@ module _ (l : Layout) (empty : ℕ) (old want : List ℕ) (n x y : ℕ) (old_lon
       rw (pushed_long old n x old_long, pushed_long want n y want_long, old_long, want_long, a, b, c) refl
 
   -- one more byte changes the mark of its page alone
-  pub marks_more : IsLayout l → (marks : List Mark) → AreMarks l empty old want marks → (page : ℕ) → page < length l.pages → In n (range_at l.pages page)
+  pub marks_more : IsGeometry l → (marks : List Mark) → AreMarks l empty old want marks → (page : ℕ) → page < length l.pages → In n (range_at l.pages page)
       → AreMarks l empty (old ++ x ∷ []) (want ++ y ∷ []) (set marks page (marked (mark_at marks page)))
   marks_more good marks m page h inside =
       let none : Mark = record { differs = false; old_used = false; want_used = false } in
@@ -94,7 +94,7 @@ module _ (l : Layout) (empty : ℕ) (old want : List ℕ) (n x y : ℕ) (old_lon
       }
 
 -- before any byte the marks are blank
-pub mark_blank : (l : Layout) (empty p : ℕ) → mark_at [] p ≡ mark_of l empty [] [] p
+pub mark_blank : (l : Geometry) (empty p : ℕ) → mark_at [] p ≡ mark_of l empty [] [] p
 unfolding mark_of differs is_used
 mark_blank l empty p =
     let r = range_at l.pages p in

@@ -5,13 +5,13 @@ use Rattle.std.proofs.lemmas.List.FromFn.{map-range_with_len_more, get_or-map-ra
 use Rattle.std.specs.List.{range_with_len}
 use Rattle.erase_planner.specs.declared.marks.Mark.{Mark}
 use Rattle.flm_descriptor.specs.Shape.{range_at}
-use Rattle.page_geometry.specs.Layout.{In, Within, Layout, IsLayout, ArePagesOf}
+use Rattle.page_geometry.specs.Geometry.{In, Within, Geometry, IsGeometry, ArePagesOf}
 use Rattle.page_geometry.specs.Cells.{count_below}
 use Rattle.page_geometry.proofs.TestLemmas.{same_tests, some_below_from, some_below_at}
 use Rattle.erase_planner.specs.Plans.{has_page, tests}
 use Rattle.erase_planner.specs.Marks.{mark_at, needs_erasure, erases_by, lies_in, programs_by}
 use Rattle.erase_planner.proofs.SetLemmas.{within_from, has_page_from}
-use Rattle.page_geometry.proofs.LayoutLemmas.{page_within}
+use Rattle.page_geometry.proofs.GeometryLemmas.{page_within}
 
 map_same : (n a : ℕ) (t u : ℕ → Bool) → ((k : ℕ) → k < a + n → t k ≡ u k) → map t (range_with_len a n) ≡ map u (range_with_len a n)
 map_same zero a t u h = refl
@@ -40,13 +40,13 @@ tests_at n t k h = get_or-map-range_with_len t 0 n k k false h (zero-add k)
 
 -- ---- a sector by the marks of its pages
 
-pub erases_found : (l : Layout) (marks : List Mark) (s first count p : ℕ) → ArePagesOf l s first count → first ≤ p → p < first + count → needs_erasure (mark_at marks p) ≡ true → true ≡ erases_by l marks s
+pub erases_found : (l : Geometry) (marks : List Mark) (s first count p : ℕ) → ArePagesOf l s first count → first ≤ p → p < first + count → needs_erasure (mark_at marks p) ≡ true → true ≡ erases_by l marks s
 unfolding erases_by
 erases_found l marks s first count p are from under needs =
     sym (some_below_from (length l.pages) (λ q. has_page (range_at l.sectors s) (range_at l.pages q) && needs_erasure (mark_at marks q)) p
     (omega (arith, are.in_all, under)) (and_from _ _ (has_page_from _ _ (are.within p from under)) needs))
 
-pub erases_none : (l : Layout) (marks : List Mark) (s first count : ℕ) → ArePagesOf l s first count → ((p : ℕ) → first ≤ p → p < first + count → needs_erasure (mark_at marks p) ≡ false) → false ≡ erases_by l marks s
+pub erases_none : (l : Geometry) (marks : List Mark) (s first count : ℕ) → ArePagesOf l s first count → ((p : ℕ) → first ≤ p → p < first + count → needs_erasure (mark_at marks p) ≡ false) → false ≡ erases_by l marks s
 unfolding erases_by
 erases_none l marks s first count are none =
     sym (false_from_ne_true _ (λ e.
@@ -58,7 +58,7 @@ erases_none l marks s first count are none =
 
 -- ---- a page by its sector
 
-module _ (l : Layout) (good : IsLayout l) (sectors : List Bool) (p s i : ℕ) (hp : p < length l.pages) (hs : s < length l.sectors) (in_page : In i (range_at l.pages p)) (in_sector : In i (range_at l.sectors s)) where
+module _ (l : Geometry) (good : IsGeometry l) (sectors : List Bool) (p s i : ℕ) (hp : p < length l.pages) (hs : s < length l.sectors) (in_page : In i (range_at l.pages p)) (in_sector : In i (range_at l.sectors s)) where
   pub lies_is : lies_in l sectors p ≡ get_or sectors s false
   unfolding lies_in
   lies_is = same_tests _ _

@@ -4,7 +4,7 @@ use Rattle.std.proofs.lemmas.Bool.{cases_Bool, both_ways, false_from_ne_true, co
 use Rattle.erase_planner.specs.declared.marks.Mark.{Mark}
 use Rattle.board_file.specs.declared.board.Weights.{Weights}
 use Rattle.flm_descriptor.specs.Shape.{Range, range, range_at}
-use Rattle.page_geometry.specs.Layout.{In, Layout, IsLayout}
+use Rattle.page_geometry.specs.Geometry.{In, Geometry, IsGeometry}
 use Rattle.page_geometry.specs.Cells.{count_below, is_used, differs}
 use Rattle.page_geometry.proofs.TestLemmas.{same_tests, some_below_same, count_below_same, differs_from, differs_at, used_from, used_at}
 use Rattle.erase_planner.specs.Plans.{has_page, tests, must_erase, must_program, is_wanted, is_erased, once_erased, sectors_cost, chip_cost, takes_chip, by_sectors, by_chip, chosen, Chosen}
@@ -12,7 +12,7 @@ use Rattle.erase_planner.specs.Marks.{seen, mark_of, mark_at, AreMarks, erases_b
 use Rattle.erase_planner.proofs.SetLemmas.{once_at, is_erased_from, is_erased_at}
 use Rattle.erase_planner.proofs.FillLemmas.{tests_same, tests_at, programs_is}
 
-module _ (l : Layout) (good : IsLayout l) (empty : ℕ) (old want : List ℕ) (old_long : length old ≡ l.size) (want_long : length want ≡ l.size) (marks : List Mark) (m : AreMarks l empty old want marks) where
+module _ (l : Geometry) (good : IsGeometry l) (empty : ℕ) (old want : List ℕ) (old_long : length old ≡ l.size) (want_long : length want ≡ l.size) (marks : List Mark) (m : AreMarks l empty old want marks) where
   whole : (p n : ℕ) → p < length l.pages → n ≡ l.size → seen (range_at l.pages p) n ≡ range_at l.pages p
   whole p n hp e =
       let below = good.pages_part.below p hp in

@@ -1,14 +1,14 @@
 -- The law of the least plan.
 use Rattle.std.proofs.Common.{◌≡◌, ℕ, refl, sym, subst, Bool, List, length}
 use Rattle.board_file.specs.declared.board.Weights.{Weights}
-use Rattle.page_geometry.specs.Layout.{Layout, IsLayout}
+use Rattle.page_geometry.specs.Geometry.{Geometry, IsGeometry}
 use Rattle.erase_planner.specs.Plans.{chosen, Chosen, IsLeastPlan}
 use Rattle.erase_planner.proofs.LeastLemmas.{chosen_least}
 use Rattle.erase_planner.proofs.ReachLemmas.{chosen_reach}
 use Rattle.erase_planner.proofs.CostLemmas.{chosen_cost}
 
 -- the chosen plan is a plan, and none costs less
-pub least_plan : (l : Layout) → IsLayout l → (w : Weights) (has_chip : Bool) (empty : ℕ) (old want : List ℕ) → length old ≡ l.size → length want ≡ l.size → (plan : Chosen) → plan ≡ chosen l w has_chip empty old want → IsLeastPlan l w has_chip empty old want plan
+pub least_plan : (l : Geometry) → IsGeometry l → (w : Weights) (has_chip : Bool) (empty : ℕ) (old want : List ℕ) → length old ≡ l.size → length want ≡ l.size → (plan : Chosen) → plan ≡ chosen l w has_chip empty old want → IsLeastPlan l w has_chip empty old want plan
 least_plan l good w has_chip empty old want lo lw plan e =
     subst (λ (p : Chosen). IsLeastPlan l w has_chip empty old want p) (sym e) (record {
       chosen = refl;

@@ -3,13 +3,13 @@ use Rattle.std.proofs.Common.{◌≡◌, ℕ, ◌+◌, ◌*◌, ◌<◌, ◌≤�
 use Rattle.std.proofs.lemmas.Bool.{false≢true, cases_Bool, both_ways, ltb-true, ltb-false, cond-true, cond-false, and_parts}
 use Rattle.std.proofs.Math.Nat.{mul-le-mul_left}
 use Rattle.flm_descriptor.specs.Shape.{range_at}
-use Rattle.page_geometry.specs.Layout.{In, Layout, IsLayout}
+use Rattle.page_geometry.specs.Geometry.{In, Geometry, IsGeometry}
 use Rattle.page_geometry.specs.Cells.{count_below, is_used, differs, IsEmpty}
 use Rattle.page_geometry.specs.Ideal.{Action, EraseSector, EraseChip, ProgramPage}
 use Rattle.page_geometry.proofs.TestLemmas.{differs_at, differs_from, used_at, unused, count_below_le, count_below_or, count_below_one, count_below_none}
 use Rattle.board_file.specs.declared.board.Weights.{Weights}
 use Rattle.erase_planner.specs.Plans.{Leads, erases_chip, price, cost, must_erase, is_erased, once_erased, must_program, is_wanted, sectors_cost, chip_cost, takes_chip, by_sectors, by_chip, chosen, IsLeast}
-use Rattle.page_geometry.proofs.LayoutLemmas.{page_within}
+use Rattle.page_geometry.proofs.GeometryLemmas.{page_within}
 use Rattle.erase_planner.proofs.NeedLemmas.{erases, programs, kept, stays_empty, erased_empty, chip_empty}
 use Rattle.erase_planner.proofs.SetLemmas.{must_erase_at, must_erase_from, is_erased_at, is_erased_from, once_at}
 
@@ -64,7 +64,7 @@ chip_once (EraseChip ∷ rest) e = omega arith
 chip_once (EraseSector s ∷ rest) e = chip_once rest e
 chip_once (ProgramPage p bytes ∷ rest) e = chip_once rest e
 
-module _ (l : Layout) (good : IsLayout l) (w : Weights) (empty : ℕ) (cells want : List ℕ) (long : length cells ≡ l.size) where
+module _ (l : Geometry) (good : IsGeometry l) (w : Weights) (empty : ℕ) (cells want : List ℕ) (long : length cells ≡ l.size) where
   needs_erasure : (actions : List Action) → Leads l empty cells actions want → erases_chip actions ≡ false → (s : ℕ) → must_erase l empty cells want s ≡ true → erases s actions ≡ true
   needs_erasure actions leads nc s m =
       elim (cases_Bool (erases s actions)) [

@@ -2,7 +2,7 @@
 use Rattle.std.proofs.Common.{◌≡◌, ℕ, ◌<◌, Bool, true, false, ◌||◌, nat_eq, sym, ap, subst, arith, slice_index, ◌∙◌, List, [], ◌∷◌, length, inl, inr}
 use Rattle.std.proofs.lemmas.Bool.{false≢true, true≢false, or_cases, or_parts, eqb-true, eqb-false}
 use Rattle.flm_descriptor.specs.Shape.{range_at}
-use Rattle.page_geometry.specs.Layout.{In, Within, Layout, IsLayout}
+use Rattle.page_geometry.specs.Geometry.{In, Within, Geometry, IsGeometry}
 use Rattle.page_geometry.specs.Cells.{IsEmpty}
 use Rattle.page_geometry.specs.Ideal.{Action, EraseSector, EraseChip, ProgramPage, Acts}
 use Rattle.page_geometry.proofs.TestLemmas.{cases_in}
@@ -22,7 +22,7 @@ programs p (EraseSector t ∷ rest) = programs p rest
 programs p (EraseChip ∷ rest) = programs p rest
 programs p (ProgramPage q bytes ∷ rest) = nat_eq p q || programs p rest
 
-module _ (l : Layout) (good : IsLayout l) (empty : ℕ) (want : List ℕ) where
+module _ (l : Geometry) (good : IsGeometry l) (empty : ℕ) (want : List ℕ) where
   -- a page of a sector that isn't erased, and that isn't empty, stays to the end
   pub kept : (actions : List Action) (cells : List ℕ) (s p i : ℕ) → Leads l empty cells actions want → erases_chip actions ≡ false → erases s actions ≡ false
       → Within (range_at l.pages p) (range_at l.sectors s) → In i (range_at l.pages p) → (slice_index cells i ≡ empty → ⊥)

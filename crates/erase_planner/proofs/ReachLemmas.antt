@@ -5,7 +5,7 @@ use Rattle.std.proofs.lemmas.List.{same_lists, get_or_past, get_or_default}
 use Rattle.std.proofs.lemmas.List.FromFn.{get_or-map-range_with_len, length-map-range_with_len}
 use Rattle.std.specs.List.{range_with_len}
 use Rattle.flm_descriptor.specs.Shape.{Range, range_at}
-use Rattle.page_geometry.specs.Layout.{In, Layout, IsLayout}
+use Rattle.page_geometry.specs.Geometry.{In, Geometry, IsGeometry}
 use Rattle.page_geometry.specs.Cells.{is_used, differs, IsEmpty, Holds}
 use Rattle.page_geometry.specs.Ideal.{Action, EraseChip, Acts, erasures, bytes_in, writes}
 use Rattle.page_geometry.proofs.TestLemmas.{cases_in, differs_at, differs_from, same_in, unused}
@@ -55,13 +55,13 @@ bytes_at r cells i h =
 
 -- ---- actions one after another
 
-Leads_then : (l : Layout) (empty : ℕ) (xs ys : List Action) (cells mid want : List ℕ) → Leads l empty cells xs mid → Leads l empty mid ys want → Leads l empty cells (xs ++ ys) want
+Leads_then : (l : Geometry) (empty : ℕ) (xs ys : List Action) (cells mid want : List ℕ) → Leads l empty cells xs mid → Leads l empty mid ys want → Leads l empty cells (xs ++ ys) want
 unfolding Leads
 Leads_then l empty [] ys cells mid want first second = subst (λ (c : List ℕ). Leads l empty c ys want) (sym first) second
 Leads_then l empty (a ∷ xs) ys cells mid want first second =
     (first.0, first.1, Leads_then l empty xs ys first.0 mid want first.2 second)
 
-module _ (l : Layout) (good : IsLayout l) (empty : ℕ) where
+module _ (l : Geometry) (good : IsGeometry l) (empty : ℕ) where
   -- erasing each sector from `k` on that passes the test
   record Erased (t : ℕ → Bool) (n k : ℕ) (cells after : List ℕ) : Type 0 where
     leads : Leads l empty cells (erasures k (map t (range_with_len k n))) after
@@ -167,7 +167,7 @@ module _ (l : Layout) (good : IsLayout l) (empty : ℕ) where
 
 -- ---- the chosen plan is a plan
 
-erases_no_chip : (l : Layout) (want : List ℕ) (sectors pages : List Bool) (s p : ℕ) → erases_chip (erasures s sectors ++ writes l want p pages) ≡ false
+erases_no_chip : (l : Geometry) (want : List ℕ) (sectors pages : List Bool) (s p : ℕ) → erases_chip (erasures s sectors ++ writes l want p pages) ≡ false
 unfolding erases_chip erasures writes
 erases_no_chip l want [] [] s p = refl
 erases_no_chip l want [] (true ∷ pages) s p = erases_no_chip l want [] pages s (p + 1)
@@ -175,7 +175,7 @@ erases_no_chip l want [] (false ∷ pages) s p = erases_no_chip l want [] pages 
 erases_no_chip l want (true ∷ sectors) pages s p = erases_no_chip l want sectors pages (s + 1) p
 erases_no_chip l want (false ∷ sectors) pages s p = erases_no_chip l want sectors pages (s + 1) p
 
-module _ (l : Layout) (good : IsLayout l) (w : Weights) (empty : ℕ) (cells want : List ℕ) (long : length cells ≡ l.size) (want_long : length want ≡ l.size) where
+module _ (l : Geometry) (good : IsGeometry l) (w : Weights) (empty : ℕ) (cells want : List ℕ) (long : length cells ≡ l.size) (want_long : length want ≡ l.size) where
   -- a page to program is empty once the sectors are erased
   program_blank : (p i : ℕ) → p < length l.pages → must_program l empty cells want p ≡ true → In i (range_at l.pages p) → slice_index (once_erased l empty cells want) i ≡ empty
   unfolding must_program

@@ -3,7 +3,7 @@ use Rattle.std.proofs.Common.{◌≡◌, ℕ, ◌<◌, true, ◌&&◌, nat_le, n
 use Rattle.std.proofs.lemmas.Bool.{and_from, and_parts, le-leb, leb-true, lt-ltb, ltb-true}
 use Rattle.std.proofs.lemmas.List.FromFn.{get_or-map-range_with_len}
 use Rattle.flm_descriptor.specs.Shape.{Range, range_at}
-use Rattle.page_geometry.specs.Layout.{In, Within, Layout}
+use Rattle.page_geometry.specs.Geometry.{In, Within, Geometry}
 use Rattle.page_geometry.specs.Cells.{is_used, differs}
 use Rattle.page_geometry.proofs.TestLemmas.{some_below_from, some_below_at}
 use Rattle.erase_planner.specs.Plans.{has_page, must_erase, is_erased, once_erased}
@@ -16,7 +16,7 @@ within_from sector page e =
 pub has_page_from : (sector page : Range) → Within page sector → has_page sector page ≡ true
 has_page_from sector page w = and_from _ _ (le-leb _ _ w.0) (le-leb _ _ w.1)
 
-module _ (l : Layout) (empty : ℕ) (old want : List ℕ) where
+module _ (l : Geometry) (empty : ℕ) (old want : List ℕ) where
   pub must_erase_from : (s p : ℕ) → p < length l.pages → Within (range_at l.pages p) (range_at l.sectors s) → differs (range_at l.pages p) old want ≡ true → is_used empty (range_at l.pages p) old ≡ true → must_erase l empty old want s ≡ true
   unfolding must_erase
   must_erase_from s p hp w d u =

@@ -2,7 +2,7 @@
 use Rattle.std.specs.Prelude.{◌≡◌, ℕ, ◌<◌, ◌≤◌, Bool, false, not, ◌||◌, ◌&&◌, if◌then◌else◌, nat_eq, min, length, List, get_or}
 use Rattle.erase_planner.specs.declared.marks.Mark.{Mark}
 use Rattle.flm_descriptor.specs.Shape.{Range, range, range_at}
-use Rattle.page_geometry.specs.Layout.{In, Layout}
+use Rattle.page_geometry.specs.Geometry.{In, Geometry}
 use Rattle.page_geometry.specs.Cells.{some_below, is_used, differs}
 use Rattle.erase_planner.specs.Plans.{Chosen, has_page}
 
@@ -11,7 +11,7 @@ abbrev pub seen : Range → ℕ → Range
 seen r n = range r.start (min r.stop n)
 
 -- what the bytes so far say of a page: old and wanted bytes differ, an old byte isn't empty, a wanted byte isn't empty
-unfoldable pub mark_of : Layout → ℕ → List ℕ → List ℕ → ℕ → Mark
+unfoldable pub mark_of : Geometry → ℕ → List ℕ → List ℕ → ℕ → Mark
 mark_of l empty old want p = record {
   differs = differs (seen (range_at l.pages p) (length old)) old want;
   old_used = is_used empty (seen (range_at l.pages p) (length old)) old;
@@ -27,7 +27,7 @@ abbrev pub mark_at : List Mark → ℕ → Mark
 mark_at marks p = get_or marks p (record { differs = false; old_used = false; want_used = false })
 
 -- the marks are those of the bytes so far
-pub record AreMarks (l : Layout) (empty : ℕ) (old want : List ℕ) (marks : List Mark) : Type 0 where
+pub record AreMarks (l : Geometry) (empty : ℕ) (old want : List ℕ) (marks : List Mark) : Type 0 where
   pub long : length marks ≡ length l.pages
   pub each : (p : ℕ) → p < length l.pages → mark_at marks p ≡ mark_of l empty old want p
 
@@ -41,13 +41,13 @@ pub record PlanView : Type 0 where
   pub pages_spare : ℕ
 
 -- the plan was fed these bytes
-pub record Fed (l : Layout) (empty : ℕ) (plan : PlanView) (old want : List ℕ) : Type 0 where
+pub record Fed (l : Geometry) (empty : ℕ) (plan : PlanView) (old want : List ℕ) : Type 0 where
   pub marked : AreMarks l empty old want plan.marks
   pub old_long : length old ≡ plan.count
   pub want_long : length want ≡ plan.count
 
 -- there is room for the device's sectors and pages
-abbrev pub Covers : Layout → PlanView → Type 0
+abbrev pub Covers : Geometry → PlanView → Type 0
 Covers l plan = (length l.sectors ≤ plan.sectors_spare) × (length l.pages ≤ plan.pages_spare)
 
 -- no room is lost
@@ -55,7 +55,7 @@ abbrev pub SpareStays : PlanView → PlanView → Type 0
 SpareStays before after = (before.sectors_spare ≤ after.sectors_spare) × (before.pages_spare ≤ after.pages_spare)
 
 -- the place is in the page, which ends at `stop`
-pub record IsPageAt (l : Layout) (place page stop : ℕ) : Type 0 where
+pub record IsPageAt (l : Geometry) (place page stop : ℕ) : Type 0 where
   pub number : page < length l.pages
   pub inside : In place (range_at l.pages page)
   pub end : stop ≡ (range_at l.pages page).stop
@@ -67,16 +67,16 @@ abbrev pub needs_erasure : Mark → Bool
 needs_erasure m = m.differs && m.old_used
 
 -- a page of the sector must change and isn't empty
-unfoldable pub erases_by : Layout → List Mark → ℕ → Bool
+unfoldable pub erases_by : Geometry → List Mark → ℕ → Bool
 erases_by l marks s =
     some_below (length l.pages) (λ p. has_page (range_at l.sectors s) (range_at l.pages p) && needs_erasure (mark_at marks p))
 
 -- the page lies in a sector of the set
-unfoldable pub lies_in : Layout → List Bool → ℕ → Bool
+unfoldable pub lies_in : Geometry → List Bool → ℕ → Bool
 lies_in l sectors p = some_below (length l.sectors) (λ s. get_or sectors s false && has_page (range_at l.sectors s) (range_at l.pages p))
 
 -- the page differs once the sectors of the set are empty
-unfoldable pub programs_by : Layout → List Mark → List Bool → ℕ → Bool
+unfoldable pub programs_by : Geometry → List Mark → List Bool → ℕ → Bool
 programs_by l marks sectors p = if lies_in l sectors p then (mark_at marks p).want_used else (mark_at marks p).differs
 
 -- the page isn't empty in the end

@@ -3,14 +3,14 @@ use Rattle.std.specs.Prelude.{◌≡◌, ℕ, ◌+◌, ◌*◌, ◌≤◌, if◌
 use Rattle.std.specs.List.{range_with_len}
 use Rattle.flm_descriptor.specs.Shape.{Range, range_at}
 use Rattle.board_file.specs.declared.board.Weights.{Weights}
-use Rattle.page_geometry.specs.Layout.{Layout}
+use Rattle.page_geometry.specs.Geometry.{Geometry}
 use Rattle.page_geometry.specs.Cells.{some_below, count_below, is_used, differs}
 use Rattle.page_geometry.specs.Ideal.{Action, EraseSector, EraseChip, ProgramPage, Acts, erasures, writes}
 
 -- ---- plans
 
 -- the actions, in turn, lead the ideal device from the one contents to the other
-unfoldable pub Leads : Layout → ℕ → List ℕ → List Action → List ℕ → Type 0
+unfoldable pub Leads : Geometry → ℕ → List ℕ → List Action → List ℕ → Type 0
 Leads l empty cells [] want = cells ≡ want
 Leads l empty cells (a ∷ rest) want = (mid : List ℕ) × Acts l empty cells a mid × Leads l empty mid rest want
 
@@ -21,7 +21,7 @@ erases_chip (EraseChip ∷ rest) = true
 erases_chip (ProgramPage p bytes ∷ rest) = erases_chip rest
 
 -- a plan from the one contents to the other; the chip is erased only where the algorithm can
-pub record IsPlan (l : Layout) (empty : ℕ) (has_chip : Bool) (cells : List ℕ) (actions : List Action) (want : List ℕ) : Type 0 where
+pub record IsPlan (l : Geometry) (empty : ℕ) (has_chip : Bool) (cells : List ℕ) (actions : List Action) (want : List ℕ) : Type 0 where
   pub leads : Leads l empty cells actions want
   pub lawful : erases_chip actions ≡ true → has_chip ≡ true
 
@@ -42,40 +42,40 @@ abbrev pub has_page : Range → Range → Bool
 has_page sector page = nat_le sector.start page.start && nat_le page.stop sector.stop
 
 -- the sectors to erase: a page of the sector must change and isn't empty
-unfoldable pub must_erase : Layout → ℕ → List ℕ → List ℕ → ℕ → Bool
+unfoldable pub must_erase : Geometry → ℕ → List ℕ → List ℕ → ℕ → Bool
 must_erase l empty old want s =
     some_below (length l.pages) (λ p. has_page (range_at l.sectors s) (range_at l.pages p)
     && (differs (range_at l.pages p) old want && is_used empty (range_at l.pages p) old))
 
 -- the place is in a sector that must be erased
-unfoldable pub is_erased : Layout → ℕ → List ℕ → List ℕ → ℕ → Bool
+unfoldable pub is_erased : Geometry → ℕ → List ℕ → List ℕ → ℕ → Bool
 is_erased l empty old want i =
     some_below (length l.sectors) (λ s. must_erase l empty old want s
     && (nat_le (range_at l.sectors s).start i && nat_lt i (range_at l.sectors s).stop))
 
 -- the contents once these sectors are empty
-unfoldable pub once_erased : Layout → ℕ → List ℕ → List ℕ → List ℕ
+unfoldable pub once_erased : Geometry → ℕ → List ℕ → List ℕ → List ℕ
 once_erased l empty old want =
     map (λ i. if is_erased l empty old want i then empty else slice_index old i) (range_with_len 0 (length old))
 
 -- the pages to program: the page differs from what is wanted once these sectors are empty
-unfoldable pub must_program : Layout → ℕ → List ℕ → List ℕ → ℕ → Bool
+unfoldable pub must_program : Geometry → ℕ → List ℕ → List ℕ → ℕ → Bool
 must_program l empty old want p = differs (range_at l.pages p) (once_erased l empty old want) want
 
 -- the pages to program after the chip is erased: the page is wanted to be other than empty
-unfoldable pub is_wanted : Layout → ℕ → List ℕ → ℕ → Bool
+unfoldable pub is_wanted : Geometry → ℕ → List ℕ → ℕ → Bool
 is_wanted l empty want p = is_used empty (range_at l.pages p) want
 
-unfoldable pub sectors_cost : Layout → Weights → ℕ → List ℕ → List ℕ → ℕ
+unfoldable pub sectors_cost : Geometry → Weights → ℕ → List ℕ → List ℕ → ℕ
 sectors_cost l w empty old want =
     w.sector * count_below (length l.sectors) (must_erase l empty old want)
     + w.page * count_below (length l.pages) (must_program l empty old want)
 
-unfoldable pub chip_cost : Layout → Weights → ℕ → List ℕ → ℕ
+unfoldable pub chip_cost : Geometry → Weights → ℕ → List ℕ → ℕ
 chip_cost l w empty want = w.chip + w.page * count_below (length l.pages) (is_wanted l empty want)
 
 -- the chip is erased exactly where that can be and costs strictly less
-unfoldable pub takes_chip : Layout → Weights → Bool → ℕ → List ℕ → List ℕ → Bool
+unfoldable pub takes_chip : Geometry → Weights → Bool → ℕ → List ℕ → List ℕ → Bool
 takes_chip l w has_chip empty old want = has_chip && nat_lt (chip_cost l w empty want) (sectors_cost l w empty old want)
 
 -- a plan: whether the chip is erased, the set of sectors to erase, the set of pages to program, and what it costs; element `k`
@@ -97,7 +97,7 @@ nothing = made_of false [] [] 0
 abbrev pub tests : ℕ → (ℕ → Bool) → List Bool
 tests n test = map test (range_with_len 0 n)
 
-unfoldable pub by_sectors : Layout → Weights → ℕ → List ℕ → List ℕ → Chosen
+unfoldable pub by_sectors : Geometry → Weights → ℕ → List ℕ → List ℕ → Chosen
 by_sectors l w empty old want = record {
   chip = false;
   sectors = tests (length l.sectors) (must_erase l empty old want);
@@ -105,7 +105,7 @@ by_sectors l w empty old want = record {
   cost = sectors_cost l w empty old want;
 }
 
-unfoldable pub by_chip : Layout → Weights → ℕ → List ℕ → List ℕ → Chosen
+unfoldable pub by_chip : Geometry → Weights → ℕ → List ℕ → List ℕ → Chosen
 by_chip l w empty old want = record {
   chip = true;
   sectors = tests (length l.sectors) (λ s. false);
@@ -113,19 +113,19 @@ by_chip l w empty old want = record {
   cost = chip_cost l w empty want;
 }
 
-unfoldable pub chosen : Layout → Weights → Bool → ℕ → List ℕ → List ℕ → Chosen
+unfoldable pub chosen : Geometry → Weights → Bool → ℕ → List ℕ → List ℕ → Chosen
 chosen l w has_chip empty old want =
     if takes_chip l w has_chip empty old want then by_chip l w empty old want else by_sectors l w empty old want
 
 -- ---- what is said of it
 
 -- a plan as a list: erasures, then page writes, in rising order
-unfoldable pub actions_of : Layout → List ℕ → Chosen → List Action
+unfoldable pub actions_of : Geometry → List ℕ → Chosen → List Action
 actions_of l want plan =
     (if plan.chip then EraseChip ∷ [] else erasures 0 plan.sectors) ++ writes l want 0 plan.pages
 
 -- no plan from the one contents to the other costs less than this number
-abbrev pub IsLeast : Layout → Weights → ℕ → Bool → List ℕ → List ℕ → ℕ → Type 0
+abbrev pub IsLeast : Geometry → Weights → ℕ → Bool → List ℕ → List ℕ → ℕ → Type 0
 IsLeast l w empty has_chip cells want least =
     (actions : List Action) → IsPlan l empty has_chip cells actions want → least ≤ cost w actions
 
@@ -135,7 +135,7 @@ IsEmptyPlan plan = (plan.chip ≡ false) × ((s : ℕ) → get_or plan.sectors s
 
 -- the plan is the chosen one, with its cost; as a list it leads from the old contents to the wanted ones and costs that much;
 -- and no plan costs less
-pub record IsLeastPlan (l : Layout) (w : Weights) (has_chip : Bool) (empty : ℕ) (old want : List ℕ) (plan : Chosen) : Type 0 where
+pub record IsLeastPlan (l : Geometry) (w : Weights) (has_chip : Bool) (empty : ℕ) (old want : List ℕ) (plan : Chosen) : Type 0 where
   pub chosen : plan ≡ chosen l w has_chip empty old want
   pub leads : IsPlan l empty has_chip old (actions_of l want plan) want
   pub priced : cost w (actions_of l want plan) ≡ plan.cost

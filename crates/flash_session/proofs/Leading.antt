@@ -4,7 +4,7 @@ use Rattle.std.proofs.lemmas.Grind.{get_or_default_zero}
 use Rattle.std.proofs.lemmas.List.{take_at, drop_at, get_or-take, get_or-drop}
 use Rattle.std.proofs.lemmas.Bool.{cases_lt}
 use Rattle.flm_descriptor.specs.Shape.{range_at}
-use Rattle.page_geometry.specs.Layout.{In, Layout}
+use Rattle.page_geometry.specs.Geometry.{In, Geometry}
 use Rattle.page_geometry.specs.Ideal.{Action, EraseSector, EraseChip, ProgramPage, Acts, erasures}
 use Rattle.page_geometry.proofs.TestLemmas.{cases_in}
 use Rattle.erase_planner.specs.Plans.{Leads}
@@ -116,7 +116,7 @@ led_verifies s site held cells set = led_checks s site held cells set 0
 
 -- ---- the contents between two phases
 
-pub leads_split : (l : Layout) (empty : ℕ) (xs ys : List Action) (cells want : List ℕ) → Leads l empty cells (xs ++ ys) want
+pub leads_split : (l : Geometry) (empty : ℕ) (xs ys : List Action) (cells want : List ℕ) → Leads l empty cells (xs ++ ys) want
     → (mid : List ℕ) × Leads l empty cells xs mid × Leads l empty mid ys want
 unfolding Leads
 leads_split l empty [] ys cells want leads = (cells, refl, leads)
@@ -124,7 +124,7 @@ leads_split l empty (a ∷ xs) ys cells want leads =
     let more : (mid : List ℕ) × Leads l empty leads.0 xs mid × Leads l empty mid ys want = leads_split l empty xs ys leads.0 want leads.2 in
     (more.0, (leads.0, leads.1, more.1), more.2)
 
-pub leads_length : (l : Layout) (empty : ℕ) (actions : List Action) (cells want : List ℕ) → Leads l empty cells actions want → length want ≡ length cells
+pub leads_length : (l : Geometry) (empty : ℕ) (actions : List Action) (cells want : List ℕ) → Leads l empty cells actions want → length want ≡ length cells
 unfolding Leads
 leads_length l empty [] cells want leads = ap (λ (c : List ℕ). length c) (sym leads)
 leads_length l empty (a ∷ rest) cells want leads = leads_length l empty rest leads.0 want leads.2 ∙ acts_length l empty a cells leads.0 leads.1
@@ -138,25 +138,25 @@ byte_at cells i bytes less = bytes i 0 less
 bytes_from : (cells : List ℕ) → ((i : ℕ) → i < length cells → slice_index cells i < 2 ^ 8) → AreBytes cells
 bytes_from cells each = λ k d less. omega (arith, get_or_default_zero cells k d less, each k less)
 
-sector_bytes : (l : Layout) (empty k : ℕ) (before x : List ℕ) → empty < 2 ^ 8 → AreBytes before → Acts l empty before (EraseSector k) x → AreBytes x
+sector_bytes : (l : Geometry) (empty k : ℕ) (before x : List ℕ) → empty < 2 ^ 8 → AreBytes before → Acts l empty before (EraseSector k) x → AreBytes x
 unfolding Acts
 sector_bytes l empty k before x small bytes acts = bytes_from x (λ i less. ⊎_elim
     (λ (inside : In i (range_at l.sectors k)). omega (arith, small, acts.1 i inside))
     (λ (outside : In i (range_at l.sectors k) → ⊥). omega (arith, acts.2.1 i outside, byte_at before i bytes (omega (arith, less, acts.2.0))))
     (cases_in i (range_at l.sectors k)))
 
-erasures_bytes : (l : Layout) (empty : ℕ) (bs : List Bool) (k : ℕ) (cells want : List ℕ) → empty < 2 ^ 8 → AreBytes cells → Leads l empty cells (erasures k bs) want → AreBytes want
+erasures_bytes : (l : Geometry) (empty : ℕ) (bs : List Bool) (k : ℕ) (cells want : List ℕ) → empty < 2 ^ 8 → AreBytes cells → Leads l empty cells (erasures k bs) want → AreBytes want
 unfolding Leads erasures
 erasures_bytes l empty [] k cells want small bytes leads = subst (λ (c : List ℕ). AreBytes c) leads bytes
 erasures_bytes l empty (true ∷ bs) k cells want small bytes leads = erasures_bytes l empty bs (k + 1) leads.0 want small (sector_bytes l empty k cells leads.0 small bytes leads.1) leads.2
 erasures_bytes l empty (false ∷ bs) k cells want small bytes leads = erasures_bytes l empty bs (k + 1) cells want small bytes leads
 
-chip_bytes : (l : Layout) (empty : ℕ) (cells want : List ℕ) → empty < 2 ^ 8 → Leads l empty cells (EraseChip ∷ []) want → AreBytes want
+chip_bytes : (l : Geometry) (empty : ℕ) (cells want : List ℕ) → empty < 2 ^ 8 → Leads l empty cells (EraseChip ∷ []) want → AreBytes want
 unfolding Leads Acts
 chip_bytes l empty cells want small leads = subst (λ (c : List ℕ). AreBytes c) leads.2 (bytes_from leads.0 (λ i less. omega (arith, small, leads.1.1 i less)))
 
 -- erasures leave bytes
-pub erased_bytes : (l : Layout) (empty : ℕ) (chip : Bool) (set : List Bool) (cells want : List ℕ) → empty < 2 ^ 8 → AreBytes cells → Leads l empty cells (cond chip (EraseChip ∷ []) (erasures 0 set)) want → AreBytes want
+pub erased_bytes : (l : Geometry) (empty : ℕ) (chip : Bool) (set : List Bool) (cells want : List ℕ) → empty < 2 ^ 8 → AreBytes cells → Leads l empty cells (cond chip (EraseChip ∷ []) (erasures 0 set)) want → AreBytes want
 erased_bytes l empty true set cells want small bytes leads = chip_bytes l empty cells want small leads
 erased_bytes l empty false set cells want small bytes leads = erasures_bytes l empty set 0 cells want small bytes leads
 

@@ -8,7 +8,7 @@ use Rattle.bench_model.proofs.Moments.{leaves_as}
 use Rattle.board_file.specs.Shown.{Shown as BoardShown}
 use Rattle.flm_descriptor.specs.Shown.{Shown as AlgorithmShown}
 use Rattle.flash_layout.specs.Maps.{board_map}
-use Rattle.page_geometry.specs.Layout.{Layout}
+use Rattle.page_geometry.specs.Geometry.{Geometry}
 use Rattle.erase_planner.specs.Plans.{Chosen, IsLeastPlan}
 use Rattle.target_core.specs.Units.{state_op}
 use Rattle.algo_calls.specs.Setups.{Setup, setup_of}
@@ -40,9 +40,9 @@ script_is : (l : Leg) (rest : List Leg) (b : Broken) → script (l ∷ rest) b �
 unfolding script
 script_is l rest b = refl
 
-planned_is : (x : Setup) (p : Planned) (l : Layout) (base : ℕ) (goal : List ℕ) → p.layout ≡ l → p.base ≡ base → leg x (errand l base p.plan goal) ≡ leg x (record { planned = p; goal = goal })
+planned_is : (x : Setup) (p : Planned) (l : Geometry) (base : ℕ) (goal : List ℕ) → p.layout ≡ l → p.base ≡ base → leg x (errand l base p.plan goal) ≡ leg x (record { planned = p; goal = goal })
 planned_is x p l base goal one two =
-    ap (λ (k : Layout). leg x (errand k base p.plan goal)) (sym one) ∙ ap (λ (c : ℕ). leg x (errand p.layout c p.plan goal)) (sym two)
+    ap (λ (k : Geometry). leg x (errand k base p.plan goal)) (sym one) ∙ ap (λ (c : ℕ). leg x (errand p.layout c p.plan goal)) (sym two)
 
 module _ (b : BoardShown) (goal : List ℕ) where
   -- a region is served on the cells that those before it leave, to its part of the goal

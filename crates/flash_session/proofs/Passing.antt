@@ -4,7 +4,7 @@ use Rattle.std.proofs.lemmas.List.{get_or-take, get_or-drop, map-append}
 use Rattle.std.proofs.lemmas.Bool.{cases_lt}
 use Rattle.bench_model.specs.Calls.{SameOutside}
 use Rattle.flash_layout.specs.Maps.{FlashMap}
-use Rattle.page_geometry.specs.Layout.{Layout, IsLayout}
+use Rattle.page_geometry.specs.Geometry.{Geometry, IsGeometry}
 use Rattle.target_core.specs.World.{World}
 use Rattle.target_core.specs.Units.{state_op, state_reset}
 use Rattle.target_core.proofs.UnitLemmas.{fresh_idle}
@@ -95,7 +95,7 @@ begun s w = record { ram_base = w.ram_base; ram = loaded s; map = w.map; state =
 abbrev pub whole_phase : ℕ → List Duty → List Duty
 whole_phase kind works = Quiet (asked (Init kind) []) ∷ (works ++ Quiet (asked (UnInit kind) []) ∷ [])
 
-phase_list : (s : Setup) (l : Layout) (kind : ℕ) (torn : List ℕ) (moves : List Move) (works : List Duty) → (moves ≡ [] → ⊥) → moves ≡ map (move_of s l) works
+phase_list : (s : Setup) (l : Geometry) (kind : ℕ) (torn : List ℕ) (moves : List Move) (works : List Duty) → (moves ≡ [] → ⊥) → moves ≡ map (move_of s l) works
     → phase s kind torn moves ≡ (Reset s torn ∷ Load s ∷ []) ++ map (move_of s l) (whole_phase kind works)
 phase_list s l kind torn moves works some is =
     phase_is s kind torn moves some
@@ -149,14 +149,14 @@ module _ (P : ℕ → Type 0) (old : List ℕ) where
       run_one a (move_of s site.layout d)
       ∙ done_run (is_done (end_of s a.world r)) b b (failure (a.calls + 1) r.call (end_of s a.world r) (after s a.world r)) (ap is_done keeps.done) refl
 
-  call_local : (s : Setup) (site : Site) (a : Stand) (d : Duty) → IsLayout site.layout → IsAmong site a.world.cells → PlaceIn P (place_of site d) → SameBut P old a.world.cells → Keeps s site a.world d → Local P a (move_of s site.layout d ∷ []) old
+  call_local : (s : Setup) (site : Site) (a : Stand) (d : Duty) → IsGeometry site.layout → IsAmong site a.world.cells → PlaceIn P (place_of site d) → SameBut P old a.world.cells → Keeps s site a.world d → Local P a (move_of s site.layout d ∷ []) old
   call_local s site a d good long covers start keeps w at c left =
       let r = request_of s site.layout d in
       let of : IsPointOf (path_of s a.world r) w = one_point a (move_of s site.layout d) w at in
       let on : IsLeftOn (path_of s a.world r) c = record { number = of.number; within = of.within; left = subst (λ (x : World). StopLeaves x c) of.is left } in
       but_then P old a.world.cells c start (but_outside P (place_of site d) a.world.cells c covers (kept_local s site a.world d good long keeps c on))
 
-  call_same : (s : Setup) (site : Site) (a : Stand) (d : Duty) → IsLayout site.layout → IsAmong site a.world.cells → PlaceIn P (place_of site d) → SameBut P old a.world.cells → Keeps s site a.world d
+  call_same : (s : Setup) (site : Site) (a : Stand) (d : Duty) → IsGeometry site.layout → IsAmong site a.world.cells → PlaceIn P (place_of site d) → SameBut P old a.world.cells → Keeps s site a.world d
       → SameBut P old (after s a.world (request_of s site.layout d)).cells
   unfolding after
   call_same s site a d good long covers start keeps =
@@ -166,7 +166,7 @@ module _ (P : ℕ → Type 0) (old : List ℕ) where
       but_then P old a.world.cells last.cells start (but_outside P (place_of site d) a.world.cells last.cells covers (kept_local s site a.world d good long keeps last.cells on))
 
   -- calls in turn that keep their duties, which lead the ideal device to some contents
-  pub passes_duties : (s : Setup) (site : Site) (good : IsLayout site.layout) (ds : List Duty) (a : Stand) (want : List ℕ) → IsAmong site a.world.cells → state_op a.world.state ≡ None → KeepAll s site a.world ds → Led s site a.world.cells ds want
+  pub passes_duties : (s : Setup) (site : Site) (good : IsGeometry site.layout) (ds : List Duty) (a : Stand) (want : List ℕ) → IsAmong site a.world.cells → state_op a.world.state ≡ None → KeepAll s site a.world ds → Led s site a.world.cells ds want
       → PlacesIn P site ds → SameBut P old a.world.cells → Passes P a (map (move_of s site.layout) ds) want old
   unfolding KeepAll Led
   passes_duties s site good [] a want long idle keep led covers start = passes_none a [] want refl idle led (subst (λ (c : List ℕ). SameBut P old c) led start)
@@ -224,7 +224,7 @@ module _ (P : ℕ → Type 0) (old : List ℕ) where
       (passes_then a (Reset s torn ∷ []) (Load s ∷ []) a.world.cells a.world.cells (passes_reset s a torn idle start)
       (λ b quiet is board. subst (λ (c : List ℕ). Passes P b (Load s ∷ []) c old) is (passes_load s b quiet (subst (λ (c : List ℕ). SameBut P old c) (sym is) start)))).local
 
-  pub passes_phase : (s : Setup) (site : Site) (good : IsLayout site.layout) (kind : ℕ) (torn : List ℕ) (moves : List Move) (works : List Duty) (a : Stand) (want : List ℕ) → moves ≡ map (move_of s site.layout) works
+  pub passes_phase : (s : Setup) (site : Site) (good : IsGeometry site.layout) (kind : ℕ) (torn : List ℕ) (moves : List Move) (works : List Duty) (a : Stand) (want : List ℕ) → moves ≡ map (move_of s site.layout) works
       → IsAmong site a.world.cells → state_op a.world.state ≡ None → ((works ≡ [] → ⊥) → KeepAll s site (begun s a.world) (whole_phase kind works)) → Led s site a.world.cells works want
       → PlacesIn P site works → SameBut P old a.world.cells → Passes P a (phase s kind torn moves) want old
   unfolding Led

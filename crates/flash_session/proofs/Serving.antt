@@ -9,7 +9,7 @@ use Rattle.flm_descriptor.specs.Shown.{Shown as AlgorithmShown}
 use Rattle.flm_descriptor.specs.Shape.{Range, range_at}
 use Rattle.flash_layout.specs.Areas.{cells_in}
 use Rattle.flash_layout.specs.Maps.{FlashMap, board_map}
-use Rattle.page_geometry.specs.Layout.{In, Layout, IsLayout}
+use Rattle.page_geometry.specs.Geometry.{In, Geometry, IsGeometry}
 use Rattle.page_geometry.specs.Ideal.{Action, erasures, writes}
 use Rattle.page_geometry.specs.Ideal as act
 use Rattle.erase_planner.specs.Plans.{Chosen, Leads, erases_chip, actions_of, must_erase, must_program, is_wanted, takes_chip, by_sectors, by_chip, chosen, IsLeastPlan}
@@ -29,27 +29,27 @@ use Rattle.flash_session.proofs.Passing.{PlacesIn, Passes, passes_none, passes_t
 
 -- ---- the sets of a plan
 
-either_sectors : (l : Layout) (d : Bool) (x y : Chosen) → length x.sectors ≡ length l.sectors → length y.sectors ≡ length l.sectors → length (cond d x y).sectors ≡ length l.sectors
+either_sectors : (l : Geometry) (d : Bool) (x y : Chosen) → length x.sectors ≡ length l.sectors → length y.sectors ≡ length l.sectors → length (cond d x y).sectors ≡ length l.sectors
 either_sectors l true x y one two = one
 either_sectors l false x y one two = two
 
-either_pages : (l : Layout) (d : Bool) (x y : Chosen) → length x.pages ≡ length l.pages → length y.pages ≡ length l.pages → length (cond d x y).pages ≡ length l.pages
+either_pages : (l : Geometry) (d : Bool) (x y : Chosen) → length x.pages ≡ length l.pages → length y.pages ≡ length l.pages → length (cond d x y).pages ≡ length l.pages
 either_pages l true x y one two = one
 either_pages l false x y one two = two
 
-chosen_sectors : (l : Layout) (w : Weights) (has_chip : Bool) (empty : ℕ) (old want : List ℕ) → length (chosen l w has_chip empty old want).sectors ≡ length l.sectors
+chosen_sectors : (l : Geometry) (w : Weights) (has_chip : Bool) (empty : ℕ) (old want : List ℕ) → length (chosen l w has_chip empty old want).sectors ≡ length l.sectors
 unfolding chosen by_chip by_sectors
 chosen_sectors l w has_chip empty old want =
     either_sectors l (takes_chip l w has_chip empty old want) (by_chip l w empty old want) (by_sectors l w empty old want)
     (length-map-range_with_len (λ (k : ℕ). false) 0 (length l.sectors)) (length-map-range_with_len (must_erase l empty old want) 0 (length l.sectors))
 
-chosen_pages : (l : Layout) (w : Weights) (has_chip : Bool) (empty : ℕ) (old want : List ℕ) → length (chosen l w has_chip empty old want).pages ≡ length l.pages
+chosen_pages : (l : Geometry) (w : Weights) (has_chip : Bool) (empty : ℕ) (old want : List ℕ) → length (chosen l w has_chip empty old want).pages ≡ length l.pages
 unfolding chosen by_chip by_sectors
 chosen_pages l w has_chip empty old want =
     either_pages l (takes_chip l w has_chip empty old want) (by_chip l w empty old want) (by_sectors l w empty old want)
     (length-map-range_with_len (is_wanted l empty want) 0 (length l.pages)) (length-map-range_with_len (must_program l empty old want) 0 (length l.pages))
 
-chip_first : (l : Layout) (want : List ℕ) (plan : Chosen) → plan.chip ≡ true → erases_chip (actions_of l want plan) ≡ true
+chip_first : (l : Geometry) (want : List ℕ) (plan : Chosen) → plan.chip ≡ true → erases_chip (actions_of l want plan) ≡ true
 unfolding erases_chip actions_of
 chip_first l want plan is = rw is refl
 
@@ -102,13 +102,13 @@ check_places P s site held (true ∷ bs) k = (tt, check_places P s site held bs 
 check_places P s site held (false ∷ bs) k = check_places P s site held bs (k + 1)
 
 -- a place of a sector or page that is in the plan
-in_sector : (P : ℕ → Type 0) (site : Site) (plan : Chosen) → IsLayout site.layout → length plan.sectors ≡ length site.layout.sectors → Covers P site plan
+in_sector : (P : ℕ → Type 0) (site : Site) (plan : Chosen) → IsGeometry site.layout → length plan.sectors ≡ length site.layout.sectors → Covers P site plan
     → (k : ℕ) → get_or plan.sectors k false ≡ true → (i : ℕ) → In i (range_at site.layout.sectors k) → P (site.start + i)
 in_sector P site plan good long covers k is i h =
     let less : k < length site.layout.sectors = omega (arith, below_length plan.sectors k is, long) in
     covers (site.start + i) (record { at = i; is = refl; inside = omega (arith, h.1, good.sectors_part.below k less); planned = inr (inl (k, is, h)) })
 
-in_page : (P : ℕ → Type 0) (site : Site) (plan : Chosen) → IsLayout site.layout → length plan.pages ≡ length site.layout.pages → Covers P site plan
+in_page : (P : ℕ → Type 0) (site : Site) (plan : Chosen) → IsGeometry site.layout → length plan.pages ≡ length site.layout.pages → Covers P site plan
     → (k : ℕ) → get_or plan.pages k false ≡ true → (i : ℕ) → In i (range_at site.layout.pages k) → P (site.start + i)
 in_page P site plan good long covers k is i h =
     let less : k < length site.layout.pages = omega (arith, below_length plan.pages k is, long) in
@@ -117,7 +117,7 @@ in_page P site plan good long covers k is i h =
 from_zero : (rs : List Range) (i k : ℕ) → In i (range_at rs (0 + k)) → In i (range_at rs k)
 from_zero rs i k h = let z : 0 + k ≡ k = omega arith in subst (λ (n : ℕ). In i (range_at rs n)) z h
 
-erasing_places : (P : ℕ → Type 0) (s : Setup) (site : Site) (plan : Chosen) (held : List ℕ) (chip : Bool) → IsLayout site.layout → length plan.sectors ≡ length site.layout.sectors → Covers P site plan
+erasing_places : (P : ℕ → Type 0) (s : Setup) (site : Site) (plan : Chosen) (held : List ℕ) (chip : Bool) → IsGeometry site.layout → length plan.sectors ≡ length site.layout.sectors → Covers P site plan
     → (chip ≡ true → plan.chip ≡ true) → PlacesIn P site (works_of s site.layout held (cond chip ErasesChip (Erases plan.sectors)))
 unfolding works_of
 erasing_places P s site plan held true good long covers is = (
@@ -127,7 +127,7 @@ erasing_places P s site plan held true good long covers is = (
 erasing_places P s site plan held false good long covers is =
     sector_places P site plan.sectors 0 (λ k in_set i h. in_sector P site plan good long covers k in_set i (from_zero site.layout.sectors i k h))
 
-programming_places : (P : ℕ → Type 0) (s : Setup) (site : Site) (plan : Chosen) (held goal : List ℕ) → IsLayout site.layout → length plan.pages ≡ length site.layout.pages → Covers P site plan
+programming_places : (P : ℕ → Type 0) (s : Setup) (site : Site) (plan : Chosen) (held goal : List ℕ) → IsGeometry site.layout → length plan.pages ≡ length site.layout.pages → Covers P site plan
     → PlacesIn P site (works_of s site.layout held (Programs plan.pages goal))
 unfolding works_of
 programming_places P s site plan held goal good long covers =
@@ -151,11 +151,11 @@ programming_led : (s : Setup) (site : Site) (cells goal : List ℕ) (set : List 
 unfolding works_of
 programming_led s site cells goal set among leads = led_actions s site (writes site.layout goal 0 set) cells goal among leads
 
-split_actions : (l : Layout) (goal : List ℕ) (plan : Chosen) → actions_of l goal plan ≡ cond plan.chip (act.EraseChip ∷ []) (erasures 0 plan.sectors) ++ writes l goal 0 plan.pages
+split_actions : (l : Geometry) (goal : List ℕ) (plan : Chosen) → actions_of l goal plan ≡ cond plan.chip (act.EraseChip ∷ []) (erasures 0 plan.sectors) ++ writes l goal 0 plan.pages
 unfolding actions_of
 split_actions l goal plan = refl
 
-may_erase : (s : Setup) (l : Layout) (chip : Bool) (set : List Bool) → (chip ≡ true → is_some s.algorithm.entries.erase_chip ≡ true) → length set ≡ length l.sectors → MayAsk s l (cond chip ErasesChip (Erases set))
+may_erase : (s : Setup) (l : Geometry) (chip : Bool) (set : List Bool) → (chip ≡ true → is_some s.algorithm.entries.erase_chip ≡ true) → length set ≡ length l.sectors → MayAsk s l (cond chip ErasesChip (Erases set))
 may_erase s l true set entry long = entry refl
 may_erase s l false set entry long = long
 
@@ -172,7 +172,7 @@ phases_are s t b = refl
 -- the cells are those before the region's first call, and the goal is the region's
 pub record IsRegionServed (b : BoardShown) (region : ℕ) (a : AlgorithmShown) (w : Weights) (plan : Chosen) (goal cells : List ℕ) : Type 0 where
   pub serves : Serves b a region
-  pub lawful : IsLayout (device_of a)
+  pub lawful : IsGeometry (device_of a)
   pub count : length cells ≡ cells_in (board_map b).areas
   pub among : IsAmong (site_of b a region) cells
   pub goal_size : length goal ≡ (device_of a).size

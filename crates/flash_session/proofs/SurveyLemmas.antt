@@ -4,7 +4,7 @@ use Rattle.std.proofs.Math.Seq.{take-add}
 use Rattle.std.proofs.lemmas.List.{drop-drop}
 use Rattle.std.proofs.lemmas.List.Elements.{All-append}
 use Rattle.bench_model.specs.State.{BenchState}
-use Rattle.page_geometry.specs.Layout.{Layout}
+use Rattle.page_geometry.specs.Geometry.{Geometry}
 use Rattle.erase_planner.specs.Marks.{PlanView, Fed, Covers}
 use Rattle.bench_model.specs.Calls.{IsRead}
 
@@ -12,7 +12,7 @@ abbrev pub AreBytes : List ℕ → Type 0
 AreBytes cells = All (λ v. v < 2 ^ 8) cells
 
 -- the region whose cells these are was surveyed up to here
-pub record SurveyedTo (tells : Bool) (l : Layout) (empty : ℕ) (mine goal : List ℕ) (start now : BenchState) (plan : PlanView) (cells wanted : List ℕ) (at : ℕ) : Type 0 where
+pub record SurveyedTo (tells : Bool) (l : Geometry) (empty : ℕ) (mine goal : List ℕ) (start now : BenchState) (plan : PlanView) (cells wanted : List ℕ) (at : ℕ) : Type 0 where
   pub within : at ≤ l.size
   pub cells_room : length cells ≡ 4096
   pub wanted_room : length wanted ≡ 4096
@@ -42,7 +42,7 @@ bytes_and at end len cells now le size same front part =
     subst (λ (l : List ℕ). AreBytes l) (front_and at end len cells now le size same) (All-append (λ v. v < 2 ^ 8) (take at cells) (take len (drop at now)) front part)
 
 -- what was fed, and a part more
-pub fed_and : (l : Layout) (empty : ℕ) (plan new : PlanView) (at end len : ℕ) (cells now goal goal_now : List ℕ) → at ≤ end → len ≡ end - at → now ≡ cells → goal_now ≡ goal → Fed l empty plan (take at cells) (take at goal)
+pub fed_and : (l : Geometry) (empty : ℕ) (plan new : PlanView) (at end len : ℕ) (cells now goal goal_now : List ℕ) → at ≤ end → len ≡ end - at → now ≡ cells → goal_now ≡ goal → Fed l empty plan (take at cells) (take at goal)
     → ((o w : List ℕ) → Fed l empty plan o w → Fed l empty new (o ++ take len (drop at now)) (w ++ take len (drop at goal_now))) → Fed l empty new (take end cells) (take end goal)
 fed_and l empty plan new at end len cells now goal goal_now le size same wanted fed more =
     subst (λ (w : List ℕ). Fed l empty new (take end cells) w) (front_and at end len goal goal_now le size wanted)

@@ -4,18 +4,18 @@ use Rattle.bench_model.specs.Calls.{CellsStay}
 use Rattle.bench_model.specs.History.{Leaves}
 use Rattle.bench_model.specs.State.{BenchState, cells_half}
 use Rattle.flm_descriptor.specs.Shape.{range_at}
-use Rattle.page_geometry.specs.Layout.{In, Layout}
+use Rattle.page_geometry.specs.Geometry.{In, Geometry}
 use Rattle.erase_planner.specs.Plans.{Chosen}
 use Rattle.flash_session.specs.Script.{Planned}
 
 -- the place of a region is in a sector or a page of the plan; with a plan that erases the chip each place is
-abbrev pub IsInPlan : Layout → Chosen → ℕ → Type 0
+abbrev pub IsInPlan : Geometry → Chosen → ℕ → Type 0
 IsInPlan l plan i = (plan.chip ≡ true)
     ⊎ (((k : ℕ) × (get_or plan.sectors k false ≡ true) × In i (range_at l.sectors k))
     ⊎ ((k : ℕ) × (get_or plan.pages k false ≡ true) × In i (range_at l.pages k)))
 
 -- the place is one of a region whose cells begin at this one, and is in the region's plan
-pub record IsInRegionPlan (start : ℕ) (l : Layout) (plan : Chosen) (i : ℕ) : Type 0 where
+pub record IsInRegionPlan (start : ℕ) (l : Geometry) (plan : Chosen) (i : ℕ) : Type 0 where
   pub at : ℕ
   pub is : i ≡ start + at
   pub inside : at < l.size

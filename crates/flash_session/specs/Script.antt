@@ -1,7 +1,7 @@
 -- The script: the moves by which a target is to reach the goal.
 use Rattle.std.specs.Prelude.{◌≤◌, ◌+◌, ◌-◌, ◌^◌, ℕ, zero, suc, Bool, true, false, if◌then◌else◌, IsTrue, is_some, List, [], ◌∷◌, ◌++◌, length, take, drop, get_or}
 use Rattle.flm_descriptor.specs.Shape.{Range, range_at}
-use Rattle.page_geometry.specs.Layout.{Layout, PagesFit}
+use Rattle.page_geometry.specs.Geometry.{Geometry, PagesFit}
 use Rattle.erase_planner.specs.Plans.{Chosen}
 use Rattle.algo_calls.specs.declared.call.Call.{Call}
 use Rattle.algo_calls.specs.declared.call.Call.TheVariants.{Init, UnInit, EraseSector, EraseChip, ProgramPage, Verify}
@@ -10,7 +10,7 @@ use Rattle.flash_session.specs.Moves.{Move, Reset, Load, Make}
 
 -- a plan of a region: its sectors and pages, the address of its first byte, and what to erase and to program
 pub record Planned : Type 0 where
-  pub layout : Layout
+  pub layout : Geometry
   pub base : ℕ
   pub plan : Chosen
 
@@ -19,10 +19,10 @@ pub record Errand : Type 0 where
   pub planned : Planned
   pub goal : List ℕ
 
-abbrev pub planned : Layout → ℕ → Chosen → Planned
+abbrev pub planned : Geometry → ℕ → Chosen → Planned
 planned layout base plan = record { layout = layout; base = base; plan = plan }
 
-abbrev pub errand : Layout → ℕ → Chosen → List ℕ → Errand
+abbrev pub errand : Geometry → ℕ → Chosen → List ℕ → Errand
 errand layout base plan goal = record { planned = planned layout base plan; goal = goal }
 
 -- the moves for each number below this, in rising order

@@ -15,7 +15,7 @@ use Rattle.board_file.proofs.Laws.{region_at}
 use Rattle.board_file.specs.Shown as board
 use Rattle.flm_descriptor.specs.Shown as flm
 use Rattle.flm_descriptor.specs.declared.algorithm.Algorithm.{Algorithm}
-use Rattle.page_geometry.specs.Layout.{Layout}
+use Rattle.page_geometry.specs.Geometry.{Geometry}
 use Rattle.erase_planner.specs.Plans.{Chosen}
 use Rattle.erase_planner.specs.Marks.{Covers, PlanView}
 use Rattle.report_text.specs.Plan.{plan_text}
@@ -149,10 +149,10 @@ pub written_back : (len : ℕ) (new old : List ℕ) → len ≡ length new → t
 written_back len new old same = take-append-le len new (drop (length new) old) (omega arith) ∙ take_all len new (omega arith)
 
 -- the text of a plan that was chosen
-pub text_is : (weights : Weights) (algorithm : flm.Shown) (image : List Run) (base : ℕ) (cells : List ℕ) (geometry : Layout) (plan : Chosen)
+pub text_is : (weights : Weights) (algorithm : flm.Shown) (image : List Run) (base : ℕ) (cells : List ℕ) (geometry : Geometry) (plan : Chosen)
     → geometry ≡ layout_of algorithm → plan ≡ plan_for weights algorithm image base cells → plan_text geometry base plan ≡ text_for weights algorithm image base cells
 text_is weights algorithm image base cells geometry plan geometry_is plan_is =
-    ap (λ (l : Layout). plan_text l base plan) geometry_is ∙ ap (λ (p : Chosen). plan_text (layout_of algorithm) base p) plan_is
+    ap (λ (l : Geometry). plan_text l base plan) geometry_is ∙ ap (λ (p : Chosen). plan_text (layout_of algorithm) base p) plan_is
 
 -- The exits before it.
 
@@ -416,7 +416,7 @@ room_here room = record { geometry = refl; plan = refl; goal = refl; cells = ref
 pub room_stays : (algorithm : flm.Shown) (old new : Room) → HasRoomFor algorithm old → IsRoomStill old new → HasRoomFor algorithm new
 room_stays algorithm old new has still = record {
   geometry = still.geometry ∙ has.geometry;
-  covers = subst (λ (l : Layout). Covers l new.plan) (sym still.geometry) (subst (λ (p : PlanView). Covers old.geometry p) (sym still.plan) has.covers);
+  covers = subst (λ (l : Geometry). Covers l new.plan) (sym still.geometry) (subst (λ (p : PlanView). Covers old.geometry p) (sym still.plan) has.covers);
   cells = still.cells ∙ has.cells;
   goal = ap length still.goal ∙ has.goal;
 }
@@ -431,7 +431,7 @@ two_regions regions r s two = only_two regions r s (omega (arith, two)) (omega (
 -- What is printed.
 
 -- the plan that was chosen in a room
-made_text : (wanted : Wanted) (algorithm : Algorithm) (base : ℕ) (made old : Room) (geometry : Layout) (plan : Chosen) → HasRoomFor (flm.shown algorithm) made
+made_text : (wanted : Wanted) (algorithm : Algorithm) (base : ℕ) (made old : Room) (geometry : Geometry) (plan : Chosen) → HasRoomFor (flm.shown algorithm) made
     → IsRoomStill made old → geometry ≡ old.geometry → plan ≡ plan_for wanted.board.weights (flm.shown algorithm) wanted.image base old.cells.items
     → plan_text geometry base plan ≡ text_for wanted.board.weights (flm.shown algorithm) wanted.image base old.cells.items
 made_text wanted algorithm base made old geometry plan has still geometry_is plan_is =
@@ -446,7 +446,7 @@ module _ (wanted : Wanted) (region : Region) (algorithm : Algorithm) (base : ℕ
     pub only_cells : (count : ℕ) → size_of wanted.board.regions ≡ count → length old.cells.items ≡ count
     only_cells count is = room_cells ∙ sym (size_of_one wanted.board.regions region only) ∙ is
 
-    pub only_text : (geometry : Layout) (plan : Chosen) → geometry ≡ old.geometry
+    pub only_text : (geometry : Geometry) (plan : Chosen) → geometry ≡ old.geometry
         → plan ≡ plan_for wanted.board.weights (flm.shown algorithm) wanted.image base old.cells.items → plan_text geometry base plan ≡ text_of (aim_of wanted) old.cells.items
     only_text geometry plan geometry_is plan_is =
         made_text wanted algorithm base made old geometry plan has still geometry_is plan_is
@@ -462,7 +462,7 @@ module _ (wanted : Wanted) (region : Region) (algorithm : Algorithm) (base : ℕ
     pub both_cells : (count : ℕ) → size_of wanted.board.regions ≡ count → length (old.cells.items ++ old'.cells.items) ≡ count
     both_cells count is = omega (arith, length-append old.cells.items old'.cells.items, room_cells, other_cells, size_of_two wanted.board.regions region region' are, is)
 
-    pub both_text : (geometry geometry' : Layout) (plan plan' : Chosen) → geometry ≡ old.geometry → geometry' ≡ old'.geometry
+    pub both_text : (geometry geometry' : Geometry) (plan plan' : Chosen) → geometry ≡ old.geometry → geometry' ≡ old'.geometry
         → plan ≡ plan_for wanted.board.weights (flm.shown algorithm) wanted.image base old.cells.items
         → plan' ≡ plan_for wanted.board.weights (flm.shown algorithm') wanted.image base' old'.cells.items
         → (region_text base ++ plan_text geometry base plan) ++ (region_text base' ++ plan_text geometry' base' plan') ≡ text_of (aim_of wanted) (old.cells.items ++ old'.cells.items)
@@ -481,4 +481,4 @@ module _ (wanted : Wanted) (region : Region) (algorithm : Algorithm) (base : ℕ
 
 -- a room's geometry is as large as the device that it is for
 pub room_size : (algorithm : flm.Shown) (room : Room) → HasRoomFor algorithm room → room.geometry.size ≡ algorithm.device.size
-room_size algorithm room has = ap (λ (l : Layout). l.size) has.geometry
+room_size algorithm room has = ap (λ (l : Geometry). l.size) has.geometry

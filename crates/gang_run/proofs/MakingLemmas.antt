@@ -5,7 +5,7 @@ use Rattle.board_file.specs.Shown.{Shown as BoardShown}
 use Rattle.flm_descriptor.specs.Shown.{Shown as AlgorithmShown}
 use Rattle.flash_layout.specs.Maps.{board_map}
 use Rattle.job_text.specs.Fits.{all_fit}
-use Rattle.page_geometry.specs.Layout.{Layout, PagesFit}
+use Rattle.page_geometry.specs.Geometry.{Geometry, PagesFit}
 use Rattle.target_core.specs.World.{World}
 use Rattle.target_core.specs.Windows.{window_of}
 use Rattle.algo_calls.specs.declared.calls_in.CallsIn.{CallsIn}
@@ -41,7 +41,7 @@ module _ (b : BoardShown) (a : AlgorithmShown) (pl : Planned) (w : Work) (start 
   setup_is = ap (λ (k : CallsIn). setup_at k) from.calls ∙ is.setup
 
   layout_size : p.geometry.size ≡ a.device.size
-  layout_size = ap (λ (l : Layout). l.size) from.geometry ∙ is.fits.size
+  layout_size = ap (λ (l : Geometry). l.size) from.geometry ∙ is.fits.size
 
   base_is : p.base ≡ a.device.base
   base_is = from.base ∙ ap (λ (s : Setup). s.algorithm.device.base) is.setup
@@ -53,7 +53,7 @@ module _ (b : BoardShown) (a : AlgorithmShown) (pl : Planned) (w : Work) (start 
   part_on size page range room = record {
     errand = record {
       end = end_is;
-      pages = subst (λ (s : Setup). PagesFit s.algorithm.device.page p.geometry) (sym setup_is) (subst (λ (l : Layout). PagesFit a.device.page l) (sym from.geometry) is.fits.fit);
+      pages = subst (λ (s : Setup). PagesFit s.algorithm.device.page p.geometry) (sym setup_is) (subst (λ (l : Geometry). PagesFit a.device.page l) (sym from.geometry) is.fits.fit);
       chip = λ chip. ap (λ (s : Setup). is_some s.algorithm.entries.erase_chip) setup_is ∙ is.fits.entry (ap (λ x. x.made.chip) (sym from.plan) ∙ chip);
     };
     range = omega (arith, from.place, layout_size, range);

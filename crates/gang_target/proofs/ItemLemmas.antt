@@ -1,7 +1,7 @@
 -- The next call of a phase in a region.
 use Rattle.std.proofs.Common.{◌≡◌, ◌<◌, ◌≤◌, ◌+◌, ◌-◌, ◌^◌, ◌∙◌, ℕ, Bool, true, false, cond, IsTrue, is_some, Option, Some, None, List, [], ◌∷◌, ◌++◌, length, take, drop, get_or, nat_eq, refl, sym, ap, subst, arith}
 use Rattle.flm_descriptor.specs.Shape.{range_at}
-use Rattle.page_geometry.specs.Layout.{IsAt, IsLayout}
+use Rattle.page_geometry.specs.Geometry.{IsAt, IsGeometry}
 use Rattle.algo_calls.specs.declared.call.Call.{Call}
 use Rattle.algo_calls.specs.declared.call.Call.TheVariants as call
 use Rattle.algo_calls.specs.Setups.{Setup}
@@ -48,7 +48,7 @@ module _ (s : Setup) (g : Part) where
   may_page true place bytes entry fit = (entry refl, fit)
   may_page false place bytes entry fit = fit
 
-  pub page_next : (v : Bool) (index k place len : ℕ) (c : Call) → c ≡ page_call v (g.base + place) → IsErrand s (planned_in g) → (IsTrue v → IsTrue (is_some s.algorithm.entries.verify)) → IsLayout g.geometry
+  pub page_next : (v : Bool) (index k place len : ℕ) (c : Call) → c ≡ page_call v (g.base + place) → IsErrand s (planned_in g) → (IsTrue v → IsTrue (is_some s.algorithm.entries.verify)) → IsGeometry g.geometry
       → k < length g.geometry.pages → get_or g.plan.made.pages k false ≡ true → ((goal : List ℕ) → pages_on v s g goal index ≡ pages_on v s g goal k)
       → IsAt (range_at g.geometry.pages k) place len → k + 1 < 2 ^ 32 → IsNext s g (pages_on v s g) index (record { call = c; from = place; len = len; index = k })
   page_next v index k place len c call_is errand entry lawful less is same range room =

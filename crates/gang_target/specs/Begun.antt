@@ -1,6 +1,6 @@
 -- A target before its first move.
 use Rattle.std.specs.Prelude.{◌≡◌, ◌≤◌, ℕ, false, length, Option, Some, None}
-use Rattle.page_geometry.specs.Layout.{IsLayout}
+use Rattle.page_geometry.specs.Geometry.{IsGeometry}
 use Rattle.algo_calls.specs.declared.calls_in.CallsIn.{CallsIn}
 use Rattle.algo_calls.specs.Shows.{setup_at}
 use Rattle.flash_session.specs.declared.parts.Parts.{Parts}

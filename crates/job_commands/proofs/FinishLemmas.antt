@@ -8,7 +8,7 @@ use Rattle.bench_model.proofs.Moments.{goes_then, pairs_of, pairs_as, stays_leav
 use Rattle.byte_map.specs.Image.{Run}
 use Rattle.board_file.specs.Shown as board
 use Rattle.flm_descriptor.specs.Shown as flm
-use Rattle.page_geometry.specs.Layout.{Layout}
+use Rattle.page_geometry.specs.Geometry.{Geometry}
 use Rattle.erase_planner.specs.Plans.{Chosen, chosen}
 use Rattle.outside_io.specs.State.{SinkState}
 use Rattle.readback.specs.declared.compare.Difference.{Difference}
@@ -108,9 +108,9 @@ module _ (tells : Bool) (told : IsTrue tells) (j : code.Job) (goal : Goal) (text
   -- the plan that was made for a region is the chosen one
   one_chosen : (b : board.Shown) (region : ℕ) (a : flm.Shown) (old new : List ℕ) (p : Planned) → IsPlannedFor tells b a (part (site_of b a region) old) (part (site_of b a region) new) p → p ≡ plan_in b region a old new
   one_chosen b region a old new p is =
-      ap (λ (l : Layout). planned l p.base p.plan) is.layout ∙ ap (λ (n : ℕ). planned (layout_of a) n p.plan) is.base
+      ap (λ (l : Geometry). planned l p.base p.plan) is.layout ∙ ap (λ (n : ℕ). planned (layout_of a) n p.plan) is.base
       ∙ ap (λ (c : Chosen). planned (layout_of a) a.device.base c) ((is.plan told).chosen
-      ∙ ap (λ (l : Layout). chosen l b.weights (is_some a.entries.erase_chip) a.device.empty (part (site_of b a region) old) (part (site_of b a region) new)) is.layout)
+      ∙ ap (λ (l : Geometry). chosen l b.weights (is_some a.entries.erase_chip) a.device.empty (part (site_of b a region) old) (part (site_of b a region) new)) is.layout)
 
   all_chosen : (b : board.Shown) (region : ℕ) (algorithms : List flm.Shown) (old new : List ℕ) (plans : List Planned)
       → ArePlannedFor tells b region algorithms old new plans → plans ≡ plans_in b region algorithms old new

@@ -6,7 +6,7 @@ use Rattle.outside_io.specs.State.{SinkState}
 use Rattle.outside_io.specs.declared.sink.OutputFault.{OutputFault}
 use Rattle.outside_io.specs.Puts.{Puts}
 use Rattle.outside_io.proofs.PutTexts.{puts_as, puts_then, puts_stops, puts_failed}
-use Rattle.page_geometry.specs.Layout.{Layout}
+use Rattle.page_geometry.specs.Geometry.{Geometry}
 use Rattle.erase_planner.specs.Plans.{Chosen}
 use Rattle.board_file.specs.declared.region.Region.{Region}
 use Rattle.board_file.specs.Limits.{size_of}
@@ -111,7 +111,7 @@ fill b (r ∷ rs) (a ∷ rest) (p ∷ more) are fit =
     let both = and_parts (fits b r a) (all_fit b rs rest) fit in
     let device = and_parts (is_device_of r a.device) (has_room a b) both.0 in
     let same = and_parts (r.base == a.device.base) (r.size == a.device.size) device.0 in
-    let size : p.layout.size ≡ a.device.size = ap (λ (l : Layout). l.size) are.0.layout in
+    let size : p.layout.size ≡ a.device.size = ap (λ (l : Geometry). l.size) are.0.layout in
     omega (
       arith,
       sum_by-cons (λ (p : Planned). p.layout.size) p more,
@@ -181,7 +181,7 @@ plan_at (x ∷ xs) (p ∷ more) zero a other are less is = subst (λ (y : Algori
 plan_at (x ∷ xs) (p ∷ more) (suc n) a other are less is = plan_at xs more n a other are.1 (omega (arith, less)) is
 
 module _ (algorithms : List Algorithm) (region : ℕ) (a : Algorithm) (less : region < length algorithms) (is : a ≡ get_or algorithms region a)
-    (geometry : Layout) where
+    (geometry : Geometry) where
   -- its addresses are below 2 ^ 32
   pub fits_memory : (plan : Chosen) (o : Option Surveyed) → IsSomeAnd o (λ v. ArePlansFor (algorithms_shown algorithms) v.regions)
       → IfSome o (λ v. (other : Planned) → geometry ≡ (get_or v.regions region other).layout) → a.device.base + geometry.size ≤ 2 ^ 32
@@ -189,7 +189,7 @@ module _ (algorithms : List Algorithm) (region : ℕ) (a : Algorithm) (less : re
   fits_memory plan (Some v) are lays =
       let other = planned geometry 0 plan in
       let its = plan_at algorithms v.regions region a other are less is in
-      let size : geometry.size ≡ a.device.size = ap (λ (l : Layout). l.size) (lays other ∙ its.layout) in
+      let size : geometry.size ≡ a.device.size = ap (λ (l : Geometry). l.size) (lays other ∙ its.layout) in
       omega (arith, size, a.in_memory)
 
   pub text_at : (plan : Chosen) (o : Option Surveyed) → IsSomeAnd o (λ v. ArePlansFor (algorithms_shown algorithms) v.regions)
@@ -198,7 +198,7 @@ module _ (algorithms : List Algorithm) (region : ℕ) (a : Algorithm) (less : re
   text_at plan None are lays plans = tt
   text_at plan (Some v) are lays plans = λ other.
       let its = plan_at algorithms v.regions region a other are less is in
-      ap (λ (l : Layout). plan_text l a.device.base plan) (lays other) ∙ ap (λ (n : ℕ). plan_text (get_or v.regions region other).layout n plan) (sym its.base)
+      ap (λ (l : Geometry). plan_text l a.device.base plan) (lays other) ∙ ap (λ (n : ℕ). plan_text (get_or v.regions region other).layout n plan) (sym its.base)
       ∙ ap (λ (c : Chosen). plan_text (get_or v.regions region other).layout (get_or v.regions region other).base c) (plans other)
 
 -- what is put of a plan is put of each that has its text

@@ -1,7 +1,7 @@
 -- What the work on a job prints, on every bench.
 use Rattle.std.specs.Prelude.{◌≡◌, ◌≤◌, ◌⊎◌, ◌++◌, ℕ, List, [], ◌∷◌, length, sum_by}
 use Rattle.flm_descriptor.specs.Shown as flm
-use Rattle.page_geometry.specs.Layout.{IsLayout}
+use Rattle.page_geometry.specs.Geometry.{IsGeometry}
 use Rattle.flash_session.specs.Script.{Planned}
 use Rattle.report_text.specs.Refusal.{store_fault, device_fault, output_fault, call_failed, mismatch}
 use Rattle.command_answers.specs.Call.{SinkCall, TookNothing, TookAll, TookPart, TookPartBehind, Answer, done, refused}
@@ -11,7 +11,7 @@ use Rattle.job_commands.specs.Carry.{done_text}
 -- the plan is one for the device of an algorithm
 pub record IsPlanFor (a : flm.Shown) (p : Planned) : Type 0 where
   pub layout : p.layout ≡ layout_of a
-  pub lawful : IsLayout p.layout
+  pub lawful : IsGeometry p.layout
   pub base : p.base ≡ a.device.base
 
 -- each is one for the device of the algorithm in its place
@@ -23,7 +23,7 @@ ArePlansFor algorithms plans = ⊥
 -- the sectors and pages of each are lawful
 abbrev pub AreLawful : List Planned → Type 0
 AreLawful [] = Unit {0}
-AreLawful (p ∷ rest) = IsLayout p.layout × AreLawful rest
+AreLawful (p ∷ rest) = IsGeometry p.layout × AreLawful rest
 
 -- The text of the plans of one region or two, which have so many cells together; of the text this holds.
 pub record OfSomePlans (count : ℕ) (Printed : List ℕ → Type 0) : Type 0 where

@@ -3,7 +3,7 @@ use Rattle.std.specs.Prelude.{◌≡◌, ◌+◌, ℕ, List, [], ◌∷◌, map,
 use Rattle.bench_model.specs.State.{BenchState}
 use Rattle.board_file.specs.Shown as board
 use Rattle.flm_descriptor.specs.Shown as flm
-use Rattle.page_geometry.specs.Layout.{Layout}
+use Rattle.page_geometry.specs.Geometry.{Geometry}
 use Rattle.erase_planner.specs.Plans.{chosen}
 use Rattle.readback.specs.declared.compare.Difference.{Difference}
 use Rattle.algo_calls.specs.declared.call.Call.{Call}
@@ -39,7 +39,7 @@ body w = body_of w.job
 -- The plans.
 
 -- the sectors and pages of an algorithm's device
-abbrev pub layout_of : flm.Shown → Layout
+abbrev pub layout_of : flm.Shown → Geometry
 layout_of a = device_of a
 
 -- the plan that is chosen for a region of a board, from its part of these cells to its part of the goal

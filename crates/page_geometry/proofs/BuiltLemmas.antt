@@ -5,11 +5,11 @@ use Rattle.std.proofs.lemmas.List.{take_more, take_all, length-append, get_or_ap
 use Rattle.flm_descriptor.specs.declared.items.SectorItem.{SectorItem}
 use Rattle.flm_descriptor.specs.declared.geometry.Run.{Run}
 use Rattle.flm_descriptor.specs.Shape.{pieces, cut, shape, pages_of, runs_of, item_end, IsLawful, run_at, sectors_before, pages_before}
-use Rattle.page_geometry.specs.Layout.{layout}
-use Rattle.page_geometry.specs.Table.{IsTable, layout_of}
+use Rattle.page_geometry.specs.Geometry.{shape_geometry}
+use Rattle.page_geometry.specs.Table.{IsTable, runs_geometry}
 use Rattle.flm_descriptor.proofs.RunLemmas.{sectors_next, pages_next, sectors_all, pages_all, sectors_rise, pages_rise, sectors_none, pages_none}
 use Rattle.flm_descriptor.proofs.ItemLemmas.{no_item, end_next, end_last, length-runs, runs_at, offset_is, size_is}
-use Rattle.page_geometry.proofs.LayoutLemmas.{layout_lawful}
+use Rattle.page_geometry.proofs.GeometryLemmas.{geometry_lawful}
 
 -- the tables of the first `n` runs
 pub record Built (size page : ℕ) (items : List SectorItem) (n : ℕ) (runs : List Run) (starts firsts page_firsts : List ℕ) (sectors pages : ℕ) : Type 0 where
@@ -140,10 +140,10 @@ module _ (size page : ℕ) (items : List SectorItem) (lawful : IsLawful (shape s
         pages_are = b.pages_are ∙ pages_all page all n (omega (arith, long, whole));
         sectors_limit = omega (arith, b.sectors_are, sectors_bound n (omega (arith, whole)));
         pages_limit = omega (arith, b.pages_are, pages_bound n (omega (arith, whole)));
-        good = layout_lawful (shape size page items) lawful;
+        good = geometry_lawful (shape size page items) lawful;
       })
 
   pub built_layout : (n : ℕ) (runs : List Run) (starts firsts page_firsts : List ℕ) (sectors pages : ℕ) → n ≡ length items → Built size page items n runs starts firsts page_firsts sectors pages
-      → layout_of size page runs ≡ layout (shape size page items)
+      → runs_geometry size page runs ≡ shape_geometry (shape size page items)
   built_layout n runs starts firsts page_firsts sectors pages whole b =
-      ap (layout_of size page) (b.runs_are ∙ take_all n (runs_of size items) (omega (arith, length-runs size items, whole)))
+      ap (runs_geometry size page) (b.runs_are ∙ take_all n (runs_of size items) (omega (arith, length-runs size items, whole)))

@@ -5,7 +5,7 @@ use Rattle.std.proofs.lemmas.List.{get_or_append_left, get_or-append_right, leng
 use Rattle.std.specs.List.{range_with_len}
 use Rattle.flm_descriptor.specs.Shape.{Range, range, pieces, piece, cut, pages_of, range_at}
 use Rattle.flm_descriptor.proofs.CutLemmas.{pieces_below, pieces_above, length-cut, cut_at}
-use Rattle.page_geometry.specs.Layout.{In, Within, IsPartition}
+use Rattle.page_geometry.specs.Geometry.{In, Within, IsPartition}
 
 -- the ranges follow one another from `a` to `b`, and none is empty
 unfoldable pub Chains : ℕ → List Range → ℕ → Type 0

@@ -6,7 +6,7 @@ use Rattle.std.proofs.lemmas.Bool.{cases_lt}
 use Rattle.flm_descriptor.specs.declared.geometry.Run.{Run}
 use Rattle.flm_descriptor.specs.Shape.{pieces, piece, cut, sectors_of, pages_of, run_at, sectors_before, pages_before}
 use Rattle.flm_descriptor.proofs.CutLemmas.{pieces_above}
-use Rattle.page_geometry.specs.Layout.{In}
+use Rattle.page_geometry.specs.Geometry.{In}
 use Rattle.page_geometry.specs.Table.{AreRuns, AreFirstSectors, AreFirstPages}
 use Rattle.flm_descriptor.proofs.RunLemmas.{sectors_next, pages_next, sectors_all, pages_all, sectors_none, pages_none, sectors_rise, pages_rise, run_find_page, pieces_some}
 

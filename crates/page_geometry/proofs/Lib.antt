@@ -1,6 +1,6 @@
 pub mod TestLemmas
 pub mod ChainLemmas
-pub mod LayoutLemmas
+pub mod GeometryLemmas
 pub mod FindLemmas
 pub mod NumberLemmas
 pub mod BuiltLemmas

@@ -5,8 +5,8 @@ use Rattle.std.proofs.lemmas.Nat.{mod_below}
 use Rattle.flm_descriptor.specs.declared.geometry.Run.{Run}
 use Rattle.flm_descriptor.specs.Shape.{Range, pieces, piece, sectors_of, pages_of, range_at, run_at, sectors_before, pages_before}
 use Rattle.flm_descriptor.proofs.CutLemmas.{pieces_below, pieces_above}
-use Rattle.page_geometry.specs.Layout.{In, Within, IsLayout, ArePagesOf}
-use Rattle.page_geometry.specs.Table.{AreFirstSectors, AreFirstPages, layout_of}
+use Rattle.page_geometry.specs.Geometry.{In, Within, IsGeometry, ArePagesOf}
+use Rattle.page_geometry.specs.Table.{AreFirstSectors, AreFirstPages, runs_geometry}
 use Rattle.flm_descriptor.proofs.RunLemmas.{sector_here, page_here, run_page_in}
 
 pub number_sector : (runs : List Run) (firsts : List ℕ) (t : AreFirstSectors runs firsts) (at k : ℕ) → at < length runs → k < pieces (run_at runs at).step (run_at runs at).start (run_at runs at).stop
@@ -38,10 +38,10 @@ place_piece page start stop place some from under =
     let low : start + (place - start) / page * page ≤ place = omega (arith, parts, from) in
     (pieces_above page start stop ((place - start) / page) some (omega (arith, low, under)), (low, omega (arith, parts, less, under, from)))
 
-pub sector_pages_are : (size page : ℕ) (runs : List Run) (first_sectors first_pages : List ℕ) → AreFirstSectors runs first_sectors → (t : AreFirstPages page runs first_pages) → IsLayout (layout_of size page runs)
+pub sector_pages_are : (size page : ℕ) (runs : List Run) (first_sectors first_pages : List ℕ) → AreFirstSectors runs first_sectors → (t : AreFirstPages page runs first_pages) → IsGeometry (runs_geometry size page runs)
     → (at j sector each count : ℕ) → at < length runs → j < pieces (run_at runs at).step (run_at runs at).start (run_at runs at).stop → sectors_before runs at + j ≡ sector → each ≡ pieces page 0 (run_at runs at).step
     → count ≡ pieces page (piece (run_at runs at).step (run_at runs at).start (run_at runs at).stop j).start (piece (run_at runs at).step (run_at runs at).start (run_at runs at).stop j).stop
-    → ArePagesOf (layout_of size page runs) sector (slice_index first_pages at + j * each) count
+    → ArePagesOf (runs_geometry size page runs) sector (slice_index first_pages at + j * each) count
 sector_pages_are size page runs first_sectors first_pages ts t good at j sector each count h lj number e counted =
     let run = run_at runs at in
     let s = piece run.step run.start run.stop j in

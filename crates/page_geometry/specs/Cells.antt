@@ -1,7 +1,7 @@
 -- Facts on the cells of a range, as a page: whether they are all empty, and whether two contents differ there.
 use Rattle.std.specs.Prelude.{◌≡◌, ℕ, ◌+◌, ◌-◌, if◌then◌else◌, Bool, false, not, ◌&&◌, ◌||◌, nat_eq, nat_le, List, zero, suc, slice_index}
 use Rattle.flm_descriptor.specs.Shape.{Range}
-use Rattle.page_geometry.specs.Layout.{In}
+use Rattle.page_geometry.specs.Geometry.{In}
 
 -- some number below `n` passes the test
 unfoldable pub some_below : ℕ → (ℕ → Bool) → Bool

@@ -2,7 +2,7 @@
 use Rattle.std.specs.Prelude.{◌≡◌, ℕ, ◌+◌, ◌-◌, ◌<◌, Bool, true, false, length, List, [], ◌∷◌, map, slice_index}
 use Rattle.std.specs.List.{range_with_len}
 use Rattle.flm_descriptor.specs.Shape.{Range, range_at}
-use Rattle.page_geometry.specs.Layout.{In, Layout}
+use Rattle.page_geometry.specs.Geometry.{In, Geometry}
 use Rattle.page_geometry.specs.Cells.{IsEmpty, Holds}
 
 -- what a flash algorithm is asked to do: erase a sector by its number, erase the chip, or program a page by its number with bytes
@@ -17,7 +17,7 @@ Stays r before after = (length after ≡ length before) × ((i : ℕ) → ¬ In 
 
 -- the action leads from the one contents to the other: a sector or the chip is empty after its erasure; a page that is empty
 -- before holds the bytes after its programming; all else stays
-unfoldable pub Acts : Layout → ℕ → List ℕ → Action → List ℕ → Type 0
+unfoldable pub Acts : Geometry → ℕ → List ℕ → Action → List ℕ → Type 0
 Acts l empty before (EraseSector s) after =
     (s < length l.sectors) × IsEmpty empty (range_at l.sectors s) after × Stays (range_at l.sectors s) before after
 Acts l empty before EraseChip after =
@@ -37,7 +37,7 @@ unfoldable pub bytes_in : Range → List ℕ → List ℕ
 bytes_in r cells = map (λ i. slice_index cells i) (range_with_len r.start (r.stop - r.start))
 
 -- writes of the pages of a set with their bytes of `want`, from number `p` on, in rising order
-unfoldable pub writes : Layout → List ℕ → ℕ → List Bool → List Action
+unfoldable pub writes : Geometry → List ℕ → ℕ → List Bool → List Action
 writes l want p [] = []
 writes l want p (true ∷ rest) = ProgramPage p (bytes_in (range_at l.pages p) want) ∷ writes l want (p + 1) rest
 writes l want p (false ∷ rest) = writes l want (p + 1) rest

@@ -1,4 +1,4 @@
-pub mod Layout
+pub mod Geometry
 pub mod Table
 pub mod Cells
 pub mod Ideal

@@ -2,11 +2,11 @@
 use Rattle.std.specs.Prelude.{◌≡◌, ℕ, ◌+◌, ◌<◌, ◌≤◌, min, length, List, slice_index}
 use Rattle.flm_descriptor.specs.declared.geometry.Run.{Run}
 use Rattle.flm_descriptor.specs.Shape.{sectors_of, pages_of, run_at, sectors_before, pages_before}
-use Rattle.page_geometry.specs.Layout.{Layout, IsLayout}
+use Rattle.page_geometry.specs.Geometry.{Geometry, IsGeometry}
 
 -- the device whose sectors lie in these runs
-abbrev pub layout_of : ℕ → ℕ → List Run → Layout
-layout_of size page runs = record { size = size; sectors = sectors_of runs; pages = pages_of page (sectors_of runs) }
+abbrev pub runs_geometry : ℕ → ℕ → List Run → Geometry
+runs_geometry size page runs = record { size = size; sectors = sectors_of runs; pages = pages_of page (sectors_of runs) }
 
 -- the runs rise from 0, each to the next one or to the device's end
 pub record AreRuns (size : ℕ) (runs : List Run) (starts : List ℕ) : Type 0 where
@@ -46,4 +46,4 @@ pub record IsTable (size page : ℕ) (runs : List Run) (starts first_sectors fir
   pub pages_are : pages ≡ length (pages_of page (sectors_of runs))
   pub sectors_limit : sectors ≤ 65536
   pub pages_limit : pages ≤ 1048576
-  pub good : IsLayout (layout_of size page runs)
+  pub good : IsGeometry (runs_geometry size page runs)

@@ -1,7 +1,7 @@
 //! The geometry of a device.
 ghost use Rattle.std.specs.Prelude.{◌≡◌, ◌+◌, ◌<◌, ◌≤◌, length, IfOk, MatchOption};
 ghost use Rattle.flm_descriptor.specs.Shape.{range_at, shape, IsLawful};
-ghost use Rattle.page_geometry.specs.Layout.{In, IsAt, layout, ArePagesOf, IsLayout, PagesFit};
+ghost use Rattle.page_geometry.specs.Geometry.{In, IsAt, shape_geometry, ArePagesOf, IsGeometry, PagesFit};
 
 use crate::lookup::{page_number, page_range, sector_number, sector_pages, sector_range};
 use crate::pieces::{count_pages, count_pieces, stop_of};
@@ -27,12 +27,12 @@ pub struct Geometry {
 }
 
 impl Model for Geometry {
-    ghost use Rattle.page_geometry.specs.Layout.{Layout};
-    ghost use Rattle.page_geometry.specs.Table.{IsTable, layout_of};
+    ghost use Rattle.page_geometry.specs.Geometry.{Geometry};
+    ghost use Rattle.page_geometry.specs.Table.{IsTable, runs_geometry};
 
-    ghost Value = { Layout };
+    ghost Value = { Geometry };
 
-    ghost view = { λ g. layout_of g.size g.page g.runs.items };
+    ghost view = { λ g. runs_geometry g.size g.page g.runs.items };
 
     ghost invariant = { λ g. IsTable g.size g.page g.runs.items g.starts.items g.first_sectors.items g.first_pages.items g.sectors g.pages };
 }
@@ -40,8 +40,8 @@ impl Model for Geometry {
 impl Geometry {
     /// The geometry of an algorithm's device.
     pub fn of(alloc: Global, algorithm: &Algorithm) -> Result<Geometry, OutOfMemory>
-        ensures geometry { IfOk result (λ g. g ≡ layout (shape algorithm.now.device.size algorithm.now.device.page algorithm.now.items)) }
-        ensures lawful { IfOk result (λ g. IsLayout g) }
+        ensures geometry { IfOk result (λ g. g ≡ shape_geometry (shape algorithm.now.device.size algorithm.now.device.page algorithm.now.items)) }
+        ensures lawful { IfOk result (λ g. IsGeometry g) }
         ensures fit { IfOk result (λ g. PagesFit algorithm.now.device.page g) }
     {
         build(
@@ -64,7 +64,7 @@ impl Geometry {
     pub fn sectors(&self) -> u32
         ensures count { result ≡ length self.now.sectors }
         ensures limit { result ≤ 65536 }
-        ensures lawful { IsLayout self.now }
+        ensures lawful { IsGeometry self.now }
     {
         self.sectors
     }
@@ -73,7 +73,7 @@ impl Geometry {
     pub fn pages(&self) -> u32
         ensures count { result ≡ length self.now.pages }
         ensures limit { result ≤ 1048576 }
-        ensures lawful { IsLayout self.now }
+        ensures lawful { IsGeometry self.now }
     {
         self.pages
     }
@@ -148,8 +148,8 @@ impl Geometry {
 /// The geometry of a device of `size` bytes, with pages of `page` bytes and these items.
 fn build(alloc: Global, size: u32, page: u32, items: &[SectorItem]) -> Result<Geometry, OutOfMemory>
     requires { IsLawful (shape size page items.now) }
-    ensures geometry { IfOk result (λ g. g ≡ layout (shape size page items.now)) }
-    ensures lawful { IfOk result (λ g. IsLayout g) }
+    ensures geometry { IfOk result (λ g. g ≡ shape_geometry (shape size page items.now)) }
+    ensures lawful { IfOk result (λ g. IsGeometry g) }
     ensures fit { IfOk result (λ g. PagesFit page g) }
 {
     let mut runs = Vec::new(alloc);

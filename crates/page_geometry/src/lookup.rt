@@ -1,8 +1,8 @@
 //! Look-ups in the tables of a geometry: one search over the runs, and divisions. Nothing walks over sectors or pages.
 ghost use Rattle.std.specs.Prelude.{◌≡◌, ℕ, ◌+◌, ◌*◌, ◌<◌, ◌≤◌, length, slice_index};
 ghost use Rattle.flm_descriptor.specs.Shape.{pieces, piece, sectors_of, pages_of, range_at, run_at, sectors_before, pages_before};
-ghost use Rattle.page_geometry.specs.Layout.{In, IsLayout, IsAt, ArePagesOf};
-ghost use Rattle.page_geometry.specs.Table.{AreRuns, AreFirstSectors, AreFirstPages, layout_of};
+ghost use Rattle.page_geometry.specs.Geometry.{In, IsGeometry, IsAt, ArePagesOf};
+ghost use Rattle.page_geometry.specs.Table.{AreRuns, AreFirstSectors, AreFirstPages, runs_geometry};
 
 use crate::pieces::{count_pieces, piece_at};
 use flm_descriptor::Run;
@@ -140,9 +140,9 @@ pub fn sector_pages(
     requires sectors { AreFirstSectors runs.now first_sectors.now }
     requires pages { AreFirstPages page runs.now first_pages.now }
     requires few { length (pages_of page (sectors_of runs.now)) ≤ 1048576 }
-    requires good { IsLayout (layout_of size page runs.now) }
+    requires good { IsGeometry (runs_geometry size page runs.now) }
     requires sector { sector < length (sectors_of runs.now) }
-    ensures { ArePagesOf (layout_of size page runs.now) sector result.0 result.1 }
+    ensures { ArePagesOf (runs_geometry size page runs.now) sector result.0 result.1 }
 {
     let (at, index) = find_sector(runs, first_sectors, sector);
     let run = runs[at];

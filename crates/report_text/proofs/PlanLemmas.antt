@@ -4,7 +4,7 @@ use Rattle.std.specs.Prelude.{codes}
 use Rattle.outside_io.specs.State.{SinkState}
 use Rattle.outside_io.specs.declared.sink.OutputFault.{OutputFault}
 use Rattle.flm_descriptor.specs.Shape.{Range, range_at}
-use Rattle.page_geometry.specs.Layout.{Layout, IsPartition, IsAt}
+use Rattle.page_geometry.specs.Geometry.{Geometry, IsPartition, IsAt}
 use Rattle.erase_planner.specs.Plans.{Chosen, IsEmptyPlan}
 use Rattle.outside_io.specs.Gathers.{Gathers}
 use Rattle.report_text.specs.Plan.{is_none, asks_nothing, kind_text, texts_below, action_text, member_text, set_text, erase_text}
@@ -121,10 +121,10 @@ pub kind_sectors : (plan : Chosen) → (IsEmptyPlan plan → ⊥) → plan.chip 
 unfolding kind_text
 kind_sectors plan some chip = rw (something_is plan some, chip) refl
 
-pub erase_chip : (l : Layout) (base : ℕ) (plan : Chosen) → plan.chip ≡ true → codes "erase chip\n" ≡ erase_text l base plan
+pub erase_chip : (l : Geometry) (base : ℕ) (plan : Chosen) → plan.chip ≡ true → codes "erase chip\n" ≡ erase_text l base plan
 unfolding erase_text
 erase_chip l base plan chip = rw chip refl
 
-pub erase_sectors : (l : Layout) (base : ℕ) (plan : Chosen) → plan.chip ≡ false → set_text (codes "erase") base l.sectors plan.sectors ≡ erase_text l base plan
+pub erase_sectors : (l : Geometry) (base : ℕ) (plan : Chosen) → plan.chip ≡ false → set_text (codes "erase") base l.sectors plan.sectors ≡ erase_text l base plan
 unfolding erase_text
 erase_sectors l base plan chip = rw chip refl

@@ -3,7 +3,7 @@ use Rattle.std.specs.Prelude.{ℕ, ◌+◌, ◌-◌, zero, suc, Bool, false, not
 use Rattle.std.specs.List.{concat, list_any}
 use Rattle.octets.specs.Digit.{hex_text}
 use Rattle.flm_descriptor.specs.Shape.{Range, range_at}
-use Rattle.page_geometry.specs.Layout.{Layout}
+use Rattle.page_geometry.specs.Geometry.{Geometry}
 use Rattle.erase_planner.specs.Plans.{Chosen}
 
 -- whether a set has no number
@@ -37,12 +37,12 @@ unfoldable pub set_text : List ℕ → ℕ → List Range → List Bool → List
 set_text name base ranges set = texts_below (length ranges) (member_text name base ranges set)
 
 -- the chip, or the sectors
-unfoldable pub erase_text : Layout → ℕ → Chosen → List ℕ
+unfoldable pub erase_text : Geometry → ℕ → Chosen → List ℕ
 erase_text l base plan = if plan.chip then codes "erase chip\n" else set_text (codes "erase") base l.sectors plan.sectors
 
 unfoldable pub cost_text : ℕ → List ℕ
 cost_text cost = concat (codes "cost " ∷ decimal cost ∷ codes "\n" ∷ [])
 
 -- the whole text of a plan for a device whose first byte has the address `base`
-unfoldable pub plan_text : Layout → ℕ → Chosen → List ℕ
+unfoldable pub plan_text : Geometry → ℕ → Chosen → List ℕ
 plan_text l base plan = kind_text plan ++ erase_text l base plan ++ set_text (codes "program") base l.pages plan.pages ++ cost_text plan.cost

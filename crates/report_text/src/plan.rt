@@ -1,7 +1,7 @@
 //! The text of a plan.
 ghost use Rattle.std.specs.Prelude.{◌≡◌, ◌≤◌, ◌<◌, ◌+◌, ◌-◌, ◌^◌, codes, length};
 ghost use Rattle.flm_descriptor.specs.Shape.{range_at};
-ghost use Rattle.page_geometry.specs.Layout.{IsLayout};
+ghost use Rattle.page_geometry.specs.Geometry.{IsGeometry};
 ghost use Rattle.report_text.specs.Plan.{kind_text, action_text, member_text, set_text, erase_text, cost_text, plan_text};
 ghost use Rattle.outside_io.specs.Gathers.{Gathers};
 ghost use Rattle.outside_io.specs.Puts.{Puts};
@@ -101,7 +101,7 @@ fn gather_sector<O: Sink>(
     plan: &Plan,
     index: u32,
 ) -> Result<(), OutputFault>
-    requires lawful { IsLayout geometry.now }
+    requires lawful { IsGeometry geometry.now }
     requires fits { base + geometry.now.size ≤ 2 ^ 32 }
     requires number { index < length geometry.now.sectors }
     ensures { Gathers O.tells (O.state out.old) (O.state out.new) text.old text.new (member_text (codes "erase") base geometry.now.sectors plan.now.made.sectors index) result }
@@ -139,7 +139,7 @@ fn gather_page<O: Sink>(
     plan: &Plan,
     index: u32,
 ) -> Result<(), OutputFault>
-    requires lawful { IsLayout geometry.now }
+    requires lawful { IsGeometry geometry.now }
     requires fits { base + geometry.now.size ≤ 2 ^ 32 }
     requires number { index < length geometry.now.pages }
     ensures { Gathers O.tells (O.state out.old) (O.state out.new) text.old text.new (member_text (codes "program") base geometry.now.pages plan.now.made.pages index) result }

@@ -1,5 +1,5 @@
 use Rattle.std.proofs.Common.{◌≡◌, ◌∙◌, sym, ap, ℕ, List, length}
-use Rattle.page_geometry.specs.Layout.{Layout}
+use Rattle.page_geometry.specs.Geometry.{Geometry}
 use Rattle.demo_job.specs.Made.{cells_of}
 use Rattle.demo_job.specs.Run.{work_of}
 use Rattle.demo_job.specs.Scene.{target_of}
@@ -11,7 +11,7 @@ pub plan_into-requires : goal.plan_into-requires
 plan_into-requires c =
     let seed = c.args.seed in
     let scene = c.requires.scene in
-    let size : c.args.geometry.now.size ≡ 65536 = ap (λ (l : Layout). l.size) c.requires.geometry ∙ scene.size in
+    let size : c.args.geometry.now.size ≡ 65536 = ap (λ (l : Geometry). l.size) c.requires.geometry ∙ scene.size in
     record {
       covers = c.in_ok-reserve.ensures.covers;
       old = ap (λ (l : List ℕ). length l) (c.deref.ensures.value ∙ scene.cells) ∙ length-cells seed ∙ sym size;

@@ -3,7 +3,7 @@ use Rattle.page_geometry.specs.Cells.{count_below}
 use Rattle.erase_planner.specs.Plans.{tests}
 use Rattle.erase_planner.specs.Marks.{erases_by, programs_by, wanted_by}
 use Rattle.erase_planner.proofs.FillLemmas.{tests_long}
-use Rattle.page_geometry.specs.Layout.{Layout}
+use Rattle.page_geometry.specs.Geometry.{Geometry}
 use Rattle.erase_planner.proofs.FinishLemmas.{finish_sectors, finish_chip}
 use Rattle.erase_planner.proofs.choose.choose.Goals as goal
 
@@ -13,7 +13,7 @@ fill_pages-programmed-requires-clause-set c =
 
 pub returns-then-chip-clause-least : goal.returns-then-chip-clause-least
 returns-then-chip-clause-least c empty o w lo lw m =
-    let l : Layout = c.args.geometry.now in
+    let l : Geometry = c.args.geometry.now in
     let given : List Bool = tests (length l.sectors) (erases_by l c.args.marks.now) in
     let set = c.deref.ensures.value ∙ c.fill_sectors-erased.ensures.set in
     let total : c.cost_of.result + c.cost_of-2.result ≡ c.args.weights.now.sector * count_below (length l.sectors) (erases_by l c.args.marks.now) + c.args.weights.now.page * count_below (length l.pages) (programs_by l c.args.marks.now given) =
@@ -28,7 +28,7 @@ returns-then-chip-clause-least c empty o w lo lw m =
 
 pub returns-else-chip-clause-least : goal.returns-else-chip-clause-least
 returns-else-chip-clause-least c empty o w lo lw m =
-    let l : Layout = c.args.geometry.now in
+    let l : Geometry = c.args.geometry.now in
     let given : List Bool = tests (length l.sectors) (erases_by l c.args.marks.now) in
     let set = c.deref.ensures.value ∙ c.fill_sectors-erased.ensures.set in
     let total : c.cost_of.result + c.cost_of-2.result ≡ c.args.weights.now.sector * count_below (length l.sectors) (erases_by l c.args.marks.now) + c.args.weights.now.page * count_below (length l.pages) (programs_by l c.args.marks.now given) =

@@ -1,10 +1,10 @@
 use Rattle.std.proofs.Common.{ℕ, ◌<◌, length, arith}
-use Rattle.page_geometry.specs.Layout.{In, Layout, IsLayout, IsAt}
+use Rattle.page_geometry.specs.Geometry.{In, Geometry, IsGeometry, IsAt}
 use Rattle.flm_descriptor.specs.Shape.{range_at}
 use Rattle.erase_planner.proofs.FillLemmas.{programs_yes, programs_no}
 use Rattle.erase_planner.proofs.choose.must_program.Goals as goal
 
-first_in : (l : Layout) → IsLayout l → (p place len : ℕ) → p < length l.pages → IsAt (range_at l.pages p) place len → In place (range_at l.pages p)
+first_in : (l : Geometry) → IsGeometry l → (p place len : ℕ) → p < length l.pages → IsAt (range_at l.pages p) place len → In place (range_at l.pages p)
 first_in l good p place len h at = let some = good.pages_part.some p h in (omega (arith, at.0), omega (arith, at.0, some))
 
 pub returns-then-sectors-sector : goal.returns-then-sectors-sector

@@ -1,5 +1,5 @@
 use Rattle.std.proofs.Common.{◌≡◌, ◌∙◌, ◌++◌, sym, ap, arith, length}
-use Rattle.page_geometry.specs.Layout.{Layout}
+use Rattle.page_geometry.specs.Geometry.{Geometry}
 use Rattle.outside_io.proofs.PutTexts.{puts_as}
 use Rattle.command_files.specs.Steps.{aim_of}
 use Rattle.command_files.proofs.WantedLemmas.{only_two, size_of_two}
@@ -55,7 +55,7 @@ put_both-requires-clause-first g c =
     let its = c.base_of-base.ensures in
     let size = first_sized wanted.board.regions wanted.algorithms.items its.region c.algorithm_at-algorithm.result.now c.requires.sized its.is c.algorithm_at-algorithm.ensures in
     let room = room_size _ _ c.in-Ok.ensures.0 in
-    omega (arith, its.ends, size, room, ap (λ (l : Layout). l.size) (c.choose_plan.ensures.geometry ∙ c.survey_both.ensures.stays.geometry))
+    omega (arith, its.ends, size, room, ap (λ (l : Geometry). l.size) (c.choose_plan.ensures.geometry ∙ c.survey_both.ensures.stays.geometry))
 
 pub put_both-requires-clause-second : goal.put_both-requires-clause-second
 put_both-requires-clause-second g c =
@@ -64,7 +64,7 @@ put_both-requires-clause-second g c =
     let size = second_sized wanted.board.regions wanted.algorithms.items its.region c.algorithm_at-other_algorithm.result.now c.requires.sized its.is
     c.algorithm_at-other_algorithm.ensures in
     let room = room_size _ _ c.in-Ok.ensures.1 in
-    omega (arith, its.ends, size, room, ap (λ (l : Layout). l.size) (c.choose_plan-2.ensures.geometry ∙ c.survey_both.ensures.other_stays.geometry))
+    omega (arith, its.ends, size, room, ap (λ (l : Geometry). l.size) (c.choose_plan-2.ensures.geometry ∙ c.survey_both.ensures.other_stays.geometry))
 
 pub returns-then-is_err : goal.returns-then-is_err
 returns-then-is_err g c =

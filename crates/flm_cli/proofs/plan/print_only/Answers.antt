@@ -1,5 +1,5 @@
 use Rattle.std.proofs.Common.{◌≡◌, ◌∙◌, sym, ap, arith, length}
-use Rattle.page_geometry.specs.Layout.{Layout}
+use Rattle.page_geometry.specs.Geometry.{Geometry}
 use Rattle.outside_io.proofs.PutTexts.{puts_as}
 use Rattle.command_files.specs.Steps.{aim_of}
 use Rattle.command_files.proofs.WantedLemmas.{only_one, size_of_one}
@@ -37,7 +37,7 @@ put_plan-requires g c =
     let its = c.base_of-base.ensures in
     let size = first_sized wanted.board.regions wanted.algorithms.items its.region c.algorithm_at-algorithm.result.now c.requires.sized its.is c.algorithm_at-algorithm.ensures in
     let room = room_size _ _ c.in-Ok.ensures in
-    omega (arith, its.ends, size, room, ap (λ (l : Layout). l.size) (c.choose_plan.ensures.geometry ∙ c.survey.ensures.stays.geometry))
+    omega (arith, its.ends, size, room, ap (λ (l : Geometry). l.size) (c.choose_plan.ensures.geometry ∙ c.survey.ensures.stays.geometry))
 
 pub returns-in-Ok-put_plan : goal.returns-in-Ok-put_plan
 returns-in-Ok-put_plan g c =

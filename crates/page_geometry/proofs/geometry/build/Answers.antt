@@ -1,7 +1,7 @@
 use Rattle.std.proofs.Common.{◌+◌, arith}
 use Rattle.page_geometry.proofs.BuiltLemmas.{built_none, built_more, built_small, built_table, built_layout, step_some}
 use Rattle.flm_descriptor.specs.Shape.{sectors_of}
-use Rattle.page_geometry.proofs.LayoutLemmas.{pages_fit}
+use Rattle.page_geometry.proofs.GeometryLemmas.{pages_fit}
 use Rattle.page_geometry.proofs.geometry.build.Goals as goal
 
 pub loop-index-init : goal.loop-index-init

@@ -1,6 +1,6 @@
 use Rattle.std.proofs.Common.{◌-◌, subst, sym, arith}
 use Rattle.flm_descriptor.specs.Shape.{Range}
-use Rattle.page_geometry.specs.Layout.{IsAt}
+use Rattle.page_geometry.specs.Geometry.{IsAt}
 use Rattle.page_geometry.proofs.NumberLemmas.{number_range}
 use Rattle.page_geometry.proofs.lookup.page_range.Goals as goal
 

@@ -1,6 +1,6 @@
 use Rattle.std.proofs.Common.{subst, sym, arith}
 use Rattle.flm_descriptor.specs.Shape.{Range}
-use Rattle.page_geometry.specs.Layout.{In}
+use Rattle.page_geometry.specs.Geometry.{In}
 use Rattle.page_geometry.proofs.NumberLemmas.{number_sector}
 use Rattle.page_geometry.proofs.lookup.sector_number.Goals as goal
 

@@ -1,6 +1,6 @@
 use Rattle.std.proofs.Common.{◌-◌, subst, sym, arith, ◌∙◌, ap}
 use Rattle.flm_descriptor.specs.Shape.{Range, sectors_of, range_at}
-use Rattle.page_geometry.specs.Layout.{IsAt}
+use Rattle.page_geometry.specs.Geometry.{IsAt}
 use Rattle.flm_descriptor.proofs.RunLemmas.{sector_here}
 use Rattle.page_geometry.proofs.lookup.sector_range.Goals as goal
 

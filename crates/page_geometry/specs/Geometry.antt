@@ -18,22 +18,22 @@ pub record IsPartition (size : ℕ) (rs : List Range) : Type 0 where
   pub apart : (j k i : ℕ) → In i (range_at rs j) → In i (range_at rs k) → j ≡ k
 
 -- the places of a device, from 0 before `size`, as sectors and as pages
-pub record Layout : Type 0 where
+pub record Geometry : Type 0 where
   pub size : ℕ
   pub sectors : List Range
   pub pages : List Range
 
-abbrev pub layout : Shape → Layout
-layout s = record { size = s.size; sectors = sectors s; pages = pages s }
+abbrev pub shape_geometry : Shape → Geometry
+shape_geometry s = record { size = s.size; sectors = sectors s; pages = pages s }
 
 -- the sectors and the pages partition the device, and each page lies in a sector
-pub record IsLayout (l : Layout) : Type 0 where
+pub record IsGeometry (l : Geometry) : Type 0 where
   pub sectors_part : IsPartition l.size l.sectors
   pub pages_part : IsPartition l.size l.pages
   pub nested : (p : ℕ) → p < length l.pages → (s : ℕ) × (s < length l.sectors) × Within (range_at l.pages p) (range_at l.sectors s)
 
 -- no page is longer than `page` bytes
-abbrev pub PagesFit : ℕ → Layout → Type 0
+abbrev pub PagesFit : ℕ → Geometry → Type 0
 PagesFit page l = (p : ℕ) → p < length l.pages → (range_at l.pages p).stop ≤ (range_at l.pages p).start + page
 
 -- the pair is the place and the length of the range
@@ -41,7 +41,7 @@ abbrev pub IsAt : Range → ℕ → ℕ → Type 0
 IsAt r place len = (place ≡ r.start) × (place + len ≡ r.stop)
 
 -- the pages that lie in the sector are the `count` pages from `first` on
-pub record ArePagesOf (l : Layout) (sector first count : ℕ) : Type 0 where
+pub record ArePagesOf (l : Geometry) (sector first count : ℕ) : Type 0 where
   pub in_all : first + count ≤ length l.pages
   pub within : (p : ℕ) → first ≤ p → p < first + count → Within (range_at l.pages p) (range_at l.sectors sector)
   pub all : (p : ℕ) → p < length l.pages → Within (range_at l.pages p) (range_at l.sectors sector) → (first ≤ p) × (p < first + count)

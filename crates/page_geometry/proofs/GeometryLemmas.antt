@@ -5,7 +5,7 @@ use Rattle.std.proofs.lemmas.List.{get_or_append_left, get_or-append_right, leng
 use Rattle.flm_descriptor.specs.declared.items.SectorItem.{SectorItem}
 use Rattle.flm_descriptor.specs.Shape.{Range, range, range_at, Shape, IsLawful, item_end, runs_of, sectors_of, pages_of, sectors, pages, pieces, cut, offset_at, size_at}
 use Rattle.flm_descriptor.proofs.CutLemmas.{length-cut, cut_at}
-use Rattle.page_geometry.specs.Layout.{In, Within, Layout, IsLayout, PagesFit, layout}
+use Rattle.page_geometry.specs.Geometry.{In, Within, Geometry, IsGeometry, PagesFit, shape_geometry}
 use Rattle.page_geometry.proofs.ChainLemmas.{Chains, chains_append, cut_chains, pages_chain, pages_nested, partition}
 
 -- the items rise, and none has size 0
@@ -44,8 +44,8 @@ whole_chain size (item ∷ rest) some begins up =
     subst (λ (n : ℕ). Chains n (sectors_of (runs_of size (item ∷ rest))) size) e (sectors_chain size item rest up)
 
 -- a lawful shape's sectors and pages partition the device
-pub layout_lawful : (s : Shape) → IsLawful s → IsLayout (layout s)
-layout_lawful s lawful =
+pub geometry_lawful : (s : Shape) → IsLawful s → IsGeometry (shape_geometry s)
+geometry_lawful s lawful =
     let chain = whole_chain s.size s.items lawful.items_some lawful.begins (rising s.items lawful.rise lawful.sizes) in
     record {
       sectors_part = partition s.size (sectors s) chain;
@@ -70,12 +70,12 @@ pages_fit page (r ∷ ss) p h =
           subst (λ (x : Range). goal x) (sym e) (pages_fit page ss (p - n) (omega (arith, h, all, long, there))))
     ]
 
--- no page of a shape's layout is longer than its pages are to be
-pub layout_fits : (s : Shape) → PagesFit s.page (layout s)
-layout_fits s = pages_fit s.page (sectors s)
+-- no page of a shape's geometry is longer than its pages are to be
+pub geometry_fits : (s : Shape) → PagesFit s.page (shape_geometry s)
+geometry_fits s = pages_fit s.page (sectors s)
 
 -- a page one of whose places lies in a sector lies in it whole
-pub page_within : (l : Layout) → IsLayout l → (s p i : ℕ) → p < length l.pages → In i (range_at l.pages p) → In i (range_at l.sectors s) → Within (range_at l.pages p) (range_at l.sectors s)
+pub page_within : (l : Geometry) → IsGeometry l → (s p i : ℕ) → p < length l.pages → In i (range_at l.pages p) → In i (range_at l.sectors s) → Within (range_at l.pages p) (range_at l.sectors s)
 page_within l good s p i inside in_page in_sector =
     let x = good.nested p inside in
     let same : x.0 ≡ s = good.sectors_part.apart x.0 s i (omega (arith, x.2.0, in_page.0), omega (arith, x.2.1, in_page.1)) in_sector in
