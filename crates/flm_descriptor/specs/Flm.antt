@@ -11,7 +11,7 @@ use Rattle.faults.specs.Results.{◌>>=◌}
 use Rattle.flm_descriptor.specs.Results.{outer, unless}
 use Rattle.flm_descriptor.specs.Shape.{shape}
 use Rattle.flm_descriptor.specs.Shown.{Shown}
-use Rattle.flm_descriptor.specs.Parts.{Contents, sections_of, contents_of, symbols_of, entries_of, layout_of, place_of}
+use Rattle.flm_descriptor.specs.Parts.{Contents, sections_of, contents_of, symbols_of, entries_of, data_places, place_of}
 use Rattle.flm_descriptor.specs.Described.{device_of, items_of}
 use Rattle.flm_descriptor.specs.Limits.{page_fault, gap_fault, order_fault, size_fault, device_fault}
 
@@ -42,15 +42,15 @@ algorithm_of bytes sections contents = do
   symbols ← symbols_of bytes
   entries ← entries_of sections.code symbols
   at ← place_of sections.descriptor name.FlashDevice symbols.device symbols.device
-  layout ← layout_of sections
+  places ← data_places sections
   described ← described_of contents.descriptor at
   Ok (record {
     code = contents.code;
     init_data = contents.init_data;
-    data_at = layout.data_at;
-    zero_at = layout.zero_at;
-    zero_len = layout.zero_len;
-    static_base = layout.static_base;
+    data_at = places.data_at;
+    zero_at = places.zero_at;
+    zero_len = places.zero_len;
+    static_base = places.static_base;
     entries = entries;
     device = described.device;
     items = described.items;

@@ -10,7 +10,7 @@ use Rattle.flm_descriptor.specs.declared.fault.Name.{Name}
 use Rattle.flm_descriptor.specs.declared.fault.Name.TheVariants as name
 use Rattle.flm_descriptor.specs.declared.parts.Sections.{Sections}
 use Rattle.flm_descriptor.specs.declared.parts.Symbols.{Symbols}
-use Rattle.flm_descriptor.specs.declared.parts.Layout.{Layout}
+use Rattle.flm_descriptor.specs.declared.parts.DataPlaces.{DataPlaces}
 use Rattle.flm_descriptor.specs.declared.algorithm.Entries.{Entries}
 use Rattle.faults.specs.Results.{◌>>=◌}
 use Rattle.flm_descriptor.specs.Results.{from_elf}
@@ -160,8 +160,8 @@ size_or_none None = 0
 size_or_none (Some section) = section.size
 
 -- the places of data and zeroed data from the start of the code; the static base is that of the data, or of the zeroed data
-unfoldable pub layout_of : Sections → Result Layout FlmFault
-layout_of sections = do
+unfoldable pub data_places : Sections → Result DataPlaces FlmFault
+data_places sections = do
   code_end ← end_after sections.code.addr (Some sections.code)
   data_end ← end_after code_end sections.init_data
   zero_end ← end_after data_end sections.zeroed

@@ -3,7 +3,7 @@ ghost use Rattle.std.specs.Prelude.{◌≡◌, ◌<◌, ℕ, Some, codes, length
 ghost use Rattle.flm_descriptor.specs.Lawful.{AreInside, AreInOrder};
 ghost use Rattle.elf32.specs.Tables.{section_of, section_part};
 ghost use Rattle.flm_descriptor.specs.Results.{from_elf, Gives};
-ghost use Rattle.flm_descriptor.specs.Parts.{AreLong, AreTyped, contents_of, end_after, entries_of, entry_of, holds, layout_of, needed, needed_value, optional_entry, optional_part, optional_value, place_of, present, sections_of, size_or_none, start_or, symbols_of, text_of};
+ghost use Rattle.flm_descriptor.specs.Parts.{AreLong, AreTyped, contents_of, end_after, entries_of, entry_of, holds, data_places, needed, needed_value, optional_entry, optional_part, optional_value, place_of, present, sections_of, size_or_none, start_or, symbols_of, text_of};
 ghost use Rattle.flm_descriptor.specs.Seen.{seen};
 
 use crate::algorithm::Entries;
@@ -41,7 +41,7 @@ pub struct Symbols {
 
 /// The places of data and zeroed data from the start of the code, the zeroed data's length, and the static base.
 #[derive(Clone, Copy)]
-pub struct Layout {
+pub struct DataPlaces {
     pub data_at: u32,
     pub zero_at: u32,
     pub zero_len: u32,
@@ -258,9 +258,9 @@ fn size_or_none(section: Option<Section>) -> u32
 }
 
 /// Where data and zeroed data stand behind the code.
-#[tactic(auto, unfolding(crate::specs::Parts::layout_of))]
-pub fn lay_out(sections: &Sections) -> Result<Layout, FlmFault>
-    ensures layout { result ≡ layout_of sections.now }
+#[tactic(auto, unfolding(crate::specs::Parts::data_places))]
+pub fn lay_out(sections: &Sections) -> Result<DataPlaces, FlmFault>
+    ensures layout { result ≡ data_places sections.now }
     ensures ordered { IfOk result (λ l. AreInOrder sections.now.code.size (size_or_none sections.now.init_data) l.data_at l.zero_at l.zero_len) }
 {
     let base = sections.code.addr;
@@ -274,7 +274,7 @@ pub fn lay_out(sections: &Sections) -> Result<Layout, FlmFault>
     } else {
         zeroed
     };
-    Ok(Layout {
+    Ok(DataPlaces {
         data_at: data - base,
         zero_at: zeroed - base,
         zero_len: size_or_none(sections.zeroed),

@@ -72,7 +72,7 @@ fn algorithm(
         symbols.device,
         symbols.device,
     )?;
-    let layout = lay_out(sections)?;
+    let places = lay_out(sections)?;
     let description = describe(alloc, contents.descriptor, at)?;
     let code = Bytes::copy(alloc, contents.code)?;
     let init_data = Bytes::copy(alloc, contents.init_data)?;
@@ -80,10 +80,10 @@ fn algorithm(
     Ok(Algorithm {
         code,
         init_data,
-        data_at: layout.data_at,
-        zero_at: layout.zero_at,
-        zero_len: layout.zero_len,
-        static_base: layout.static_base,
+        data_at: places.data_at,
+        zero_at: places.zero_at,
+        zero_len: places.zero_len,
+        static_base: places.static_base,
         entries,
         device,
         items,

@@ -15,7 +15,7 @@ use Rattle.flm_descriptor.specs.declared.fault.Name.{Name}
 use Rattle.flm_descriptor.specs.declared.fault.Name.TheVariants as name
 use Rattle.flm_descriptor.specs.declared.parts.Sections.{Sections}
 use Rattle.flm_descriptor.specs.Lawful.{addresses, AreInside}
-use Rattle.flm_descriptor.specs.Parts.{text_of, sections_of, present, contents_of, optional_part, layout_of, end_after, start_or, size_or_none, place_of, entry_of, entries_of, optional_entry}
+use Rattle.flm_descriptor.specs.Parts.{text_of, sections_of, present, contents_of, optional_part, data_places, end_after, start_or, size_or_none, place_of, entry_of, entries_of, optional_entry}
 use Rattle.flm_descriptor.specs.Results.{from_elf}
 use Rattle.flm_forge.specs.declared.sizes.Sizes.{Sizes}
 use Rattle.flm_forge.specs.Places.{code_at, init_data_at, descriptor_at, descriptor_addr}
@@ -116,9 +116,9 @@ base_present c stored zeroed true d none at behind = start_present (c + stored.s
 base_present c stored zeroed false d some at behind = at
 
 pub layout_is : (m : Made) → m.sizes.code + m.sizes.init_data + m.sizes.zero_len < addresses
-    → layout_of (read_sections m.sizes)
+    → data_places (read_sections m.sizes)
     ≡ Ok (record { data_at = m.sizes.code; zero_at = m.sizes.code + m.sizes.init_data; zero_len = m.sizes.zero_len; static_base = m.sizes.code })
-unfolding layout_of
+unfolding data_places
 layout_is m ends =
     let s = m.sizes in
     let stored = read_header (init_data_header s) in

@@ -13,7 +13,7 @@ use Rattle.flm_descriptor.specs.declared.parts.Sections.{Sections}
 use Rattle.flm_descriptor.specs.Results.{outer, unless}
 use Rattle.flm_descriptor.specs.Shape.{Shape, shape, sectors, pages}
 use Rattle.flm_descriptor.specs.Shown.{Shown}
-use Rattle.flm_descriptor.specs.Parts.{Contents, sections_of, contents_of, symbols_of, entries_of, layout_of, place_of}
+use Rattle.flm_descriptor.specs.Parts.{Contents, sections_of, contents_of, symbols_of, entries_of, data_places, place_of}
 use Rattle.flm_descriptor.specs.Described.{device_of, items_of}
 use Rattle.flm_descriptor.specs.Lawful.{addresses}
 use Rattle.flm_descriptor.specs.Limits.{page_fault, gap_fault, order_fault, size_fault, device_fault}
@@ -76,7 +76,7 @@ of_parts bytes sections contents a e =
     let symbols = bind_ok (symbols_of bytes) _ a e in
     let entries = bind_ok (entries_of sections.code symbols.0) _ a symbols.2 in
     let at = bind_ok (place_of sections.descriptor name.FlashDevice symbols.0.device symbols.0.device) _ a entries.2 in
-    let layout = bind_ok (layout_of sections) _ a at.2 in
+    let layout = bind_ok (data_places sections) _ a at.2 in
     let said = bind_ok (described_of contents.descriptor at.0) _ a layout.2 in
     let same : said.0.device ≡ a.device = ap (λ (r : Result Shown FlmFault). device_in r said.0.device) said.2 in
     subst IsInMemory same (described contents.descriptor at.0 said.0 said.1)
