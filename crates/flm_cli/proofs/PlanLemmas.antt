@@ -34,8 +34,8 @@ use Rattle.command_answers.specs.Reading.{ShowsFiles}
 use Rattle.job_commands.specs.Work.{layout_of}
 use Rattle.flm_cli.specs.Plan.{plan_for, text_for, plans_for, text_of, PlanLeaves, IsPlanned, ShowsPlan, IsDueForPlan, PlanEnds}
 use Rattle.device_dump.specs.Looks.{LooksAtCells, PrintsText, PrintsNothing}
-use Rattle.flm_cli.specs.Steps.{AreSized, HasRoomFor, IsBaseAt, IsRoomStill, IsPrinted, Printed, PlansCells}
-use Rattle.flm_cli.specs.declared.plan.Room.{Room}
+use Rattle.flm_cli.specs.Steps.{AreSized, AreBuffersFor, IsBaseAt, AreBuffersStill, IsPrinted, Printed, PlansCells}
+use Rattle.flm_cli.specs.declared.plan.PlanBuffers.{PlanBuffers}
 use Rattle.command_answers.proofs.ReadingLemmas.{answers_yielding, answers_refused, answers_worked}
 use Rattle.command_answers.proofs.AnswerLemmas.{unraised, never_store, did_nothing, plain_lawful, untaken_lawful}
 use Rattle.flm_cli.proofs.FoundLemmas.{is_early}
@@ -406,15 +406,15 @@ module _ (bench : BenchCall) (inputs : InputsCall) (out : SinkCall) (asked : Fil
         (planned_shows answer plans.printed) (planned_due answer plans.leaves.prints plans.printed);
   }
 
--- The rooms.
+-- The buffers.
 
 -- nothing was read into it
-pub room_here : (room : Room) → IsRoomStill room room
-room_here room = record { geometry = refl; plan = refl; goal = refl; cells = refl }
+pub buffers_here : (buffers : PlanBuffers) → AreBuffersStill buffers buffers
+buffers_here buffers = record { geometry = refl; plan = refl; goal = refl; cells = refl }
 
--- a room that was read into is one for the same algorithm
-pub room_stays : (algorithm : flm.Shown) (old new : Room) → HasRoomFor algorithm old → IsRoomStill old new → HasRoomFor algorithm new
-room_stays algorithm old new has still = record {
+-- buffers that were read into are buffers for the same algorithm
+pub buffers_stay : (algorithm : flm.Shown) (old new : PlanBuffers) → AreBuffersFor algorithm old → AreBuffersStill old new → AreBuffersFor algorithm new
+buffers_stay algorithm old new has still = record {
   geometry = still.geometry ∙ has.geometry;
   covers = subst (λ (l : Geometry). Covers l new.plan) (sym still.geometry) (subst (λ (p : PlanView). Covers old.geometry p) (sym still.plan) has.covers);
   cells = still.cells ∙ has.cells;
@@ -430,37 +430,37 @@ two_regions regions r s two = only_two regions r s (omega (arith, two)) (omega (
 
 -- What is printed.
 
--- the plan that was chosen in a room
-made_text : (wanted : Wanted) (algorithm : Algorithm) (base : ℕ) (made old : Room) (geometry : Geometry) (plan : Chosen) → HasRoomFor (flm.shown algorithm) made
-    → IsRoomStill made old → geometry ≡ old.geometry → plan ≡ plan_for wanted.board.weights (flm.shown algorithm) wanted.image base old.cells.items
+-- the plan that was chosen in buffers
+made_text : (wanted : Wanted) (algorithm : Algorithm) (base : ℕ) (made old : PlanBuffers) (geometry : Geometry) (plan : Chosen) → AreBuffersFor (flm.shown algorithm) made
+    → AreBuffersStill made old → geometry ≡ old.geometry → plan ≡ plan_for wanted.board.weights (flm.shown algorithm) wanted.image base old.cells.items
     → plan_text geometry base plan ≡ text_for wanted.board.weights (flm.shown algorithm) wanted.image base old.cells.items
 made_text wanted algorithm base made old geometry plan has still geometry_is plan_is =
     text_is wanted.board.weights (flm.shown algorithm) wanted.image base old.cells.items geometry plan (geometry_is ∙ still.geometry ∙ has.geometry) plan_is
 
-module _ (wanted : Wanted) (region : Region) (algorithm : Algorithm) (base : ℕ) (made old : Room) (base_is : base ≡ region.base)
-    (size : algorithm.device.size ≡ region.size) (has : HasRoomFor (flm.shown algorithm) made) (still : IsRoomStill made old) where
-  room_cells : length old.cells.items ≡ region.size
-  room_cells = still.cells ∙ has.cells ∙ size
+module _ (wanted : Wanted) (region : Region) (algorithm : Algorithm) (base : ℕ) (made old : PlanBuffers) (base_is : base ≡ region.base)
+    (size : algorithm.device.size ≡ region.size) (has : AreBuffersFor (flm.shown algorithm) made) (still : AreBuffersStill made old) where
+  buffers_cells : length old.cells.items ≡ region.size
+  buffers_cells = still.cells ∙ has.cells ∙ size
 
   module _ (only : wanted.board.regions ≡ region ∷ []) (one : wanted.algorithms.items ≡ algorithm ∷ []) where
     pub only_cells : (count : ℕ) → size_of wanted.board.regions ≡ count → length old.cells.items ≡ count
-    only_cells count is = room_cells ∙ sym (size_of_one wanted.board.regions region only) ∙ is
+    only_cells count is = buffers_cells ∙ sym (size_of_one wanted.board.regions region only) ∙ is
 
     pub only_text : (geometry : Geometry) (plan : Chosen) → geometry ≡ old.geometry
         → plan ≡ plan_for wanted.board.weights (flm.shown algorithm) wanted.image base old.cells.items → plan_text geometry base plan ≡ text_of (aim_of wanted) old.cells.items
     only_text geometry plan geometry_is plan_is =
         made_text wanted algorithm base made old geometry plan has still geometry_is plan_is
         ∙ ap (λ (n : ℕ). text_for wanted.board.weights (flm.shown algorithm) wanted.image n old.cells.items) base_is
-        ∙ text_of_one wanted region algorithm old.cells.items only one room_cells
+        ∙ text_of_one wanted region algorithm old.cells.items only one buffers_cells
 
-  module _ (region' : Region) (algorithm' : Algorithm) (base' : ℕ) (made' old' : Room) (base_is' : base' ≡ region'.base)
-      (size' : algorithm'.device.size ≡ region'.size) (has' : HasRoomFor (flm.shown algorithm') made') (still' : IsRoomStill made' old')
+  module _ (region' : Region) (algorithm' : Algorithm) (base' : ℕ) (made' old' : PlanBuffers) (base_is' : base' ≡ region'.base)
+      (size' : algorithm'.device.size ≡ region'.size) (has' : AreBuffersFor (flm.shown algorithm') made') (still' : AreBuffersStill made' old')
       (are : wanted.board.regions ≡ region ∷ region' ∷ []) (items : wanted.algorithms.items ≡ algorithm ∷ algorithm' ∷ []) where
     other_cells : length old'.cells.items ≡ region'.size
     other_cells = still'.cells ∙ has'.cells ∙ size'
 
     pub both_cells : (count : ℕ) → size_of wanted.board.regions ≡ count → length (old.cells.items ++ old'.cells.items) ≡ count
-    both_cells count is = omega (arith, length-append old.cells.items old'.cells.items, room_cells, other_cells, size_of_two wanted.board.regions region region' are, is)
+    both_cells count is = omega (arith, length-append old.cells.items old'.cells.items, buffers_cells, other_cells, size_of_two wanted.board.regions region region' are, is)
 
     pub both_text : (geometry geometry' : Geometry) (plan plan' : Chosen) → geometry ≡ old.geometry → geometry' ≡ old'.geometry
         → plan ≡ plan_for wanted.board.weights (flm.shown algorithm) wanted.image base old.cells.items
@@ -477,8 +477,8 @@ module _ (wanted : Wanted) (region : Region) (algorithm : Algorithm) (base : ℕ
         ++ (region_text base' ++ text_for w (flm.shown algorithm') image base' old'.cells.items)) base_is
         ∙ ap (λ (n : ℕ). (region_text region.base ++ text_for w (flm.shown algorithm) image region.base old.cells.items)
         ++ (region_text n ++ text_for w (flm.shown algorithm') image n old'.cells.items)) base_is'
-        ∙ text_of_two wanted region region' algorithm algorithm' old.cells.items old'.cells.items are items room_cells other_cells
+        ∙ text_of_two wanted region region' algorithm algorithm' old.cells.items old'.cells.items are items buffers_cells other_cells
 
--- a room's geometry is as large as the device that it is for
-pub room_size : (algorithm : flm.Shown) (room : Room) → HasRoomFor algorithm room → room.geometry.size ≡ algorithm.device.size
-room_size algorithm room has = ap (λ (l : Geometry). l.size) has.geometry
+-- the geometry of buffers is as large as the device that they are for
+pub buffers_size : (algorithm : flm.Shown) (buffers : PlanBuffers) → AreBuffersFor algorithm buffers → buffers.geometry.size ≡ algorithm.device.size
+buffers_size algorithm buffers has = ap (λ (l : Geometry). l.size) has.geometry

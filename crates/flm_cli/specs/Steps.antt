@@ -16,7 +16,7 @@ use Rattle.device_dump.specs.Looks.{PrintsText}
 use Rattle.flm_cli.specs.Plan.{PlanLeaves}
 use Rattle.command_answers.specs.Places.{address_at}
 use Rattle.flm_cli.specs.Verify.{CellsAgree, IsLeastDifference}
-use Rattle.flm_cli.specs.declared.plan.Room.{Room}
+use Rattle.flm_cli.specs.declared.plan.PlanBuffers.{PlanBuffers}
 
 -- None where each cell is the image's byte wherever it has one, else the least place where one isn't, by its address
 abbrev pub FindsInImage : Bool → List ℕ → List Region → List Run → Option Difference → Type 0
@@ -70,14 +70,14 @@ TellsFound base (Ok (Some d)) out answer = SaysNothing out (refused (differs (ba
 -- The steps of `plan`.
 
 -- memory for the plan of an algorithm's device: as many old and wanted cells, and a plan with room for each sector and page
-pub record HasRoomFor (algorithm : flm.Shown) (room : Room) : Type 0 where
-  pub geometry : room.geometry ≡ layout_of algorithm
-  pub covers : Covers room.geometry room.plan
-  pub cells : length room.cells.items ≡ algorithm.device.size
-  pub goal : length room.goal.items ≡ algorithm.device.size
+pub record AreBuffersFor (algorithm : flm.Shown) (buffers : PlanBuffers) : Type 0 where
+  pub geometry : buffers.geometry ≡ layout_of algorithm
+  pub covers : Covers buffers.geometry buffers.plan
+  pub cells : length buffers.cells.items ≡ algorithm.device.size
+  pub goal : length buffers.goal.items ≡ algorithm.device.size
 
--- the room is as it was, but for what its cells hold, which are as many
-pub record IsRoomStill (old new : Room) : Type 0 where
+-- the buffers are as they were, but for what the cells hold, which are as many
+pub record AreBuffersStill (old new : PlanBuffers) : Type 0 where
   pub geometry : new.geometry ≡ old.geometry
   pub plan : new.plan ≡ old.plan
   pub goal : new.goal.items ≡ old.goal.items

@@ -13,7 +13,7 @@ ghost use Rattle.command_files.specs.Steps.{aim_of};
 ghost use Rattle.command_answers.specs.Call.{bench_call, sink_call};
 ghost use Rattle.flm_cli.specs.Plan.{plan_for, text_of, PlanEnds};
 ghost use Rattle.command_answers.specs.Shown.{answer_of};
-ghost use Rattle.flm_cli.specs.Steps.{AreSized, HasRoomFor, IsBaseAt, IsRoomStill, PlansCells};
+ghost use Rattle.flm_cli.specs.Steps.{AreSized, AreBuffersFor, IsBaseAt, AreBuffersStill, PlansCells};
 ghost use Rattle.device_dump.specs.Looks.{LooksAtCells};
 
 use bench_model::{Bench, DeviceFault};
@@ -58,7 +58,7 @@ pub fn plan<'a, B: Bench, I: Inputs, O: Sink>(
 
 /// What the plan for a device is made in: the geometry of the device, the plan, the cells as they are, and as they are to be.
 #[derive(Drop)]
-pub struct Room {
+pub struct PlanBuffers {
     pub geometry: Geometry,
     pub plan: Plan,
     pub cells: Vec<u8>,
@@ -98,14 +98,14 @@ fn print_only<'a, B: Bench, O: Sink>(
 {
     let base = base_of(&wanted.board, 0);
     let algorithm = algorithm_at(wanted, 0);
-    let Ok(mut room) = make_room(alloc, algorithm) else {
+    let Ok(mut buffers) = make_buffers(alloc, algorithm) else {
         return Err(Refusal::OutOfMemory);
     };
-    if survey(bench, &mut room).is_err() {
+    if survey(bench, &mut buffers).is_err() {
         return Err(Refusal::DeviceFault);
     }
-    choose_plan(wanted, algorithm, base, &mut room);
-    match put_plan(out, &room.geometry, base, &room.plan) {
+    choose_plan(wanted, algorithm, base, &mut buffers);
+    match put_plan(out, &buffers.geometry, base, &buffers.plan) {
         Ok(()) => Ok(()),
         Err(_) => Err(Refusal::OutputFault),
     }
@@ -128,15 +128,15 @@ fn print_both<'a, B: Bench, O: Sink>(
     let other_base = base_of(&wanted.board, 1);
     let algorithm = algorithm_at(wanted, 0);
     let other_algorithm = algorithm_at(wanted, 1);
-    let Ok((mut room, mut other_room)) = make_rooms(alloc, algorithm, other_algorithm) else {
+    let Ok((mut buffers, mut other_buffers)) = make_both_buffers(alloc, algorithm, other_algorithm) else {
         return Err(Refusal::OutOfMemory);
     };
-    if survey_both(bench, &mut room, algorithm.device.size, &mut other_room).is_err() {
+    if survey_both(bench, &mut buffers, algorithm.device.size, &mut other_buffers).is_err() {
         return Err(Refusal::DeviceFault);
     }
-    choose_plan(wanted, algorithm, base, &mut room);
-    choose_plan(wanted, other_algorithm, other_base, &mut other_room);
-    match put_both(out, base, &room, other_base, &other_room) {
+    choose_plan(wanted, algorithm, base, &mut buffers);
+    choose_plan(wanted, other_algorithm, other_base, &mut other_buffers);
+    match put_both(out, base, &buffers, other_base, &other_buffers) {
         Ok(()) => Ok(()),
         Err(_) => Err(Refusal::OutputFault),
     }
@@ -162,38 +162,38 @@ fn algorithm_at(wanted: &Wanted, index: usize) -> &Algorithm
 fn put_both<O: Sink>(
     out: &mut O,
     base: u32,
-    room: &Room,
+    buffers: &PlanBuffers,
     other_base: u32,
-    other_room: &Room,
+    other_buffers: &PlanBuffers,
 ) -> Result<(), OutputFault>
-    requires first { base + room.now.geometry.size ≤ 2 ^ 32 }
-    requires second { other_base + other_room.now.geometry.size ≤ 2 ^ 32 }
+    requires first { base + buffers.now.geometry.size ≤ 2 ^ 32 }
+    requires second { other_base + other_buffers.now.geometry.size ≤ 2 ^ 32 }
     ensures { Puts O.tells (O.state out.old) (O.state out.new)
-        ((region_text base ++ plan_text room.now.geometry base room.now.plan.made)
-        ++ (region_text other_base ++ plan_text other_room.now.geometry other_base other_room.now.plan.made)) result }
+        ((region_text base ++ plan_text buffers.now.geometry base buffers.now.plan.made)
+        ++ (region_text other_base ++ plan_text other_buffers.now.geometry other_base other_buffers.now.plan.made)) result }
 {
-    put_named(out, base, room)?;
-    put_named(out, other_base, other_room)
+    put_named(out, base, buffers)?;
+    put_named(out, other_base, other_buffers)
 }
 
 /// Puts the line of a region and its plan.
-fn put_named<O: Sink>(out: &mut O, base: u32, room: &Room) -> Result<(), OutputFault>
-    requires { base + room.now.geometry.size ≤ 2 ^ 32 }
-    ensures { Puts O.tells (O.state out.old) (O.state out.new) (region_text base ++ plan_text room.now.geometry base room.now.plan.made) result }
+fn put_named<O: Sink>(out: &mut O, base: u32, buffers: &PlanBuffers) -> Result<(), OutputFault>
+    requires { base + buffers.now.geometry.size ≤ 2 ^ 32 }
+    ensures { Puts O.tells (O.state out.old) (O.state out.new) (region_text base ++ plan_text buffers.now.geometry base buffers.now.plan.made) result }
 {
     put_region(out, base)?;
-    put_plan(out, &room.geometry, base, &room.plan)
+    put_plan(out, &buffers.geometry, base, &buffers.plan)
 }
 
 /// Takes the memory for a plan of an algorithm's device.
-fn make_room(alloc: Global, algorithm: &Algorithm) -> Result<Room, OutOfMemory>
-    ensures { IfOk result (HasRoomFor (shown algorithm.now)) }
+fn make_buffers(alloc: Global, algorithm: &Algorithm) -> Result<PlanBuffers, OutOfMemory>
+    ensures { IfOk result (AreBuffersFor (shown algorithm.now)) }
 {
     let geometry = Geometry::of(alloc, algorithm)?;
     let mut plan = Plan::new(alloc);
     plan.reserve(&geometry)?;
     let size = algorithm.device.size as usize;
-    Ok(Room {
+    Ok(PlanBuffers {
         geometry,
         plan,
         cells: vec![in alloc; 0; size]?,
@@ -202,72 +202,72 @@ fn make_room(alloc: Global, algorithm: &Algorithm) -> Result<Room, OutOfMemory>
 }
 
 /// The same for two algorithms.
-fn make_rooms(
+fn make_both_buffers(
     alloc: Global,
     algorithm: &Algorithm,
     other: &Algorithm,
-) -> Result<(Room, Room), OutOfMemory>
-    ensures { IfOk result (λ rooms. HasRoomFor (shown algorithm.now) rooms.0 × HasRoomFor (shown other.now) rooms.1) }
+) -> Result<(PlanBuffers, PlanBuffers), OutOfMemory>
+    ensures { IfOk result (λ both. AreBuffersFor (shown algorithm.now) both.0 × AreBuffersFor (shown other.now) both.1) }
 {
-    Ok((make_room(alloc, algorithm)?, make_room(alloc, other)?))
+    Ok((make_buffers(alloc, algorithm)?, make_buffers(alloc, other)?))
 }
 
 /// Breaks off an open operation, and reads all cells.
-fn survey<B: Bench>(bench: &mut B, room: &mut Room) -> Result<(), DeviceFault>
-    requires { length room.old.cells.items ≡ (B.state bench.old).cell_count }
-    ensures surveyed { IsTrue B.tells → OnOk result ((B.state bench.new).cells ≡ room.new.cells.items) }
-    ensures stays { IsRoomStill room.old room.new }
+fn survey<B: Bench>(bench: &mut B, buffers: &mut PlanBuffers) -> Result<(), DeviceFault>
+    requires { length buffers.old.cells.items ≡ (B.state bench.old).cell_count }
+    ensures surveyed { IsTrue B.tells → OnOk result ((B.state bench.new).cells ≡ buffers.new.cells.items) }
+    ensures stays { AreBuffersStill buffers.old buffers.new }
     ensures looks { LooksAtCells (bench_call B.tells (B.state bench.old) (B.state bench.new)) result }
 {
     bench.cells_drop()?;
-    read_room(bench, 0, room)
+    read_buffers(bench, 0, buffers)
 }
 
-/// The same of two regions, each into its own room. The cells of the second begin at place `start`.
+/// The same of two regions, each into its own buffers. The cells of the second begin at place `start`.
 fn survey_both<B: Bench>(
     bench: &mut B,
-    room: &mut Room,
+    buffers: &mut PlanBuffers,
     start: u32,
-    other_room: &mut Room,
+    other_buffers: &mut PlanBuffers,
 ) -> Result<(), DeviceFault>
-    requires first { length room.old.cells.items ≡ start }
-    requires cells { start + length other_room.old.cells.items ≡ (B.state bench.old).cell_count }
-    ensures surveyed { IsTrue B.tells → OnOk result ((B.state bench.new).cells ≡ room.new.cells.items ++ other_room.new.cells.items) }
-    ensures stays { IsRoomStill room.old room.new }
-    ensures other_stays { IsRoomStill other_room.old other_room.new }
+    requires first { length buffers.old.cells.items ≡ start }
+    requires cells { start + length other_buffers.old.cells.items ≡ (B.state bench.old).cell_count }
+    ensures surveyed { IsTrue B.tells → OnOk result ((B.state bench.new).cells ≡ buffers.new.cells.items ++ other_buffers.new.cells.items) }
+    ensures stays { AreBuffersStill buffers.old buffers.new }
+    ensures other_stays { AreBuffersStill other_buffers.old other_buffers.new }
     ensures looks { LooksAtCells (bench_call B.tells (B.state bench.old) (B.state bench.new)) result }
 {
     bench.cells_drop()?;
-    read_room(bench, 0, room)?;
-    read_room(bench, start, other_room)
+    read_buffers(bench, 0, buffers)?;
+    read_buffers(bench, start, other_buffers)
 }
 
 /// Reads the cells from one place on.
-fn read_room<B: Bench>(bench: &mut B, at: u32, room: &mut Room) -> Result<(), DeviceFault>
-    requires range { at + length room.old.cells.items ≤ (B.state bench.old).cell_count }
+fn read_buffers<B: Bench>(bench: &mut B, at: u32, buffers: &mut PlanBuffers) -> Result<(), DeviceFault>
+    requires range { at + length buffers.old.cells.items ≤ (B.state bench.old).cell_count }
     requires idle { IsTrue B.tells → (B.state bench.old).operation ≡ None }
-    ensures reads { ReadsCells B.tells (B.state bench.old) (B.state bench.new) at room.old.cells.items room.new.cells.items result }
-    ensures stays { IsRoomStill room.old room.new }
+    ensures reads { ReadsCells B.tells (B.state bench.old) (B.state bench.new) at buffers.old.cells.items buffers.new.cells.items result }
+    ensures stays { AreBuffersStill buffers.old buffers.new }
 {
-    read_cells(bench, at, &mut room.cells)
+    read_cells(bench, at, &mut buffers.cells)
 }
 
-/// Chooses the plan from the cells in a room to the image laid over them, of which the first has the address `base`.
-fn choose_plan(wanted: &Wanted, algorithm: &Algorithm, base: u32, room: &mut Room)
-    requires fits { HasRoomFor (shown algorithm.now) room.old }
+/// Chooses the plan from the cells in the buffers to the image laid over them, of which the first has the address `base`.
+fn choose_plan(wanted: &Wanted, algorithm: &Algorithm, base: u32, buffers: &mut PlanBuffers)
+    requires fits { AreBuffersFor (shown algorithm.now) buffers.old }
     requires ends { base + algorithm.now.device.size ≤ 2 ^ 32 }
-    ensures plan { room.new.plan.made ≡ plan_for wanted.now.board.weights (shown algorithm.now) wanted.now.image base room.old.cells.items }
-    ensures geometry { room.new.geometry ≡ room.old.geometry }
+    ensures plan { buffers.new.plan.made ≡ plan_for wanted.now.board.weights (shown algorithm.now) wanted.now.image base buffers.old.cells.items }
+    ensures geometry { buffers.new.geometry ≡ buffers.old.geometry }
 {
-    room.goal.copy_from_slice(&room.cells);
-    wanted.image.overlay_into(base, &mut room.goal);
+    buffers.goal.copy_from_slice(&buffers.cells);
+    wanted.image.overlay_into(base, &mut buffers.goal);
     plan_into(
-        &room.geometry,
+        &buffers.geometry,
         &wanted.board.weights,
         algorithm.entries.erase_chip.is_some(),
-        &room.cells,
-        &room.goal,
+        &buffers.cells,
+        &buffers.goal,
         algorithm.device.empty,
-        &mut room.plan,
+        &mut buffers.plan,
     );
 }

@@ -5,7 +5,7 @@ use Rattle.command_files.specs.Steps.{aim_of}
 use Rattle.command_files.proofs.WantedLemmas.{only_two, size_of_two}
 use Rattle.command_answers.specs.Call.{bench_call}
 use Rattle.flm_cli.specs.Plan.{text_of}
-use Rattle.flm_cli.proofs.PlanLemmas.{plans_fault, plans_done, plans_cut, first_sized, second_sized, items_many, two_regions, room_stays, room_size, both_cells, both_text}
+use Rattle.flm_cli.proofs.PlanLemmas.{plans_fault, plans_done, plans_cut, first_sized, second_sized, items_many, two_regions, buffers_stay, buffers_size, both_cells, both_text}
 use Rattle.flm_cli.proofs.plan.print_both.Goals as goal
 
 pub algorithm_at-algorithm-requires : goal.algorithm_at-algorithm-requires
@@ -29,7 +29,7 @@ survey_both-requires-clause-cells g c =
     omega (arith, c.in-Ok.ensures.1.cells, size, other, size_of_two wanted.board.regions one.region two.region are, c.requires.cells)
 
 pub choose_plan-requires-clause-fits : goal.choose_plan-requires-clause-fits
-choose_plan-requires-clause-fits g c = room_stays _ _ _ c.in-Ok.ensures.0 c.survey_both.ensures.stays
+choose_plan-requires-clause-fits g c = buffers_stay _ _ _ c.in-Ok.ensures.0 c.survey_both.ensures.stays
 
 pub choose_plan-requires-clause-ends : goal.choose_plan-requires-clause-ends
 choose_plan-requires-clause-ends g c =
@@ -39,7 +39,7 @@ choose_plan-requires-clause-ends g c =
     omega (arith, its.ends, size)
 
 pub choose_plan-requires-2-clause-fits : goal.choose_plan-requires-2-clause-fits
-choose_plan-requires-2-clause-fits g c = room_stays _ _ _ c.in-Ok.ensures.1 c.survey_both.ensures.other_stays
+choose_plan-requires-2-clause-fits g c = buffers_stay _ _ _ c.in-Ok.ensures.1 c.survey_both.ensures.other_stays
 
 pub choose_plan-requires-2-clause-ends : goal.choose_plan-requires-2-clause-ends
 choose_plan-requires-2-clause-ends g c =
@@ -54,8 +54,8 @@ put_both-requires-clause-first g c =
     let wanted = c.args.wanted.now in
     let its = c.base_of-base.ensures in
     let size = first_sized wanted.board.regions wanted.algorithms.items its.region c.algorithm_at-algorithm.result.now c.requires.sized its.is c.algorithm_at-algorithm.ensures in
-    let room = room_size _ _ c.in-Ok.ensures.0 in
-    omega (arith, its.ends, size, room, ap (λ (l : Geometry). l.size) (c.choose_plan.ensures.geometry ∙ c.survey_both.ensures.stays.geometry))
+    let buffers = buffers_size _ _ c.in-Ok.ensures.0 in
+    omega (arith, its.ends, size, buffers, ap (λ (l : Geometry). l.size) (c.choose_plan.ensures.geometry ∙ c.survey_both.ensures.stays.geometry))
 
 pub put_both-requires-clause-second : goal.put_both-requires-clause-second
 put_both-requires-clause-second g c =
@@ -63,8 +63,8 @@ put_both-requires-clause-second g c =
     let its = c.base_of-other_base.ensures in
     let size = second_sized wanted.board.regions wanted.algorithms.items its.region c.algorithm_at-other_algorithm.result.now c.requires.sized its.is
     c.algorithm_at-other_algorithm.ensures in
-    let room = room_size _ _ c.in-Ok.ensures.1 in
-    omega (arith, its.ends, size, room, ap (λ (l : Geometry). l.size) (c.choose_plan-2.ensures.geometry ∙ c.survey_both.ensures.other_stays.geometry))
+    let buffers = buffers_size _ _ c.in-Ok.ensures.1 in
+    omega (arith, its.ends, size, buffers, ap (λ (l : Geometry). l.size) (c.choose_plan-2.ensures.geometry ∙ c.survey_both.ensures.other_stays.geometry))
 
 pub returns-then-is_err : goal.returns-then-is_err
 returns-then-is_err g c =
@@ -79,8 +79,8 @@ returns-in-Ok-put_both g c =
     let two = c.base_of-other_base.ensures in
     let x = c.algorithm_at-algorithm.result.now in
     let y = c.algorithm_at-other_algorithm.result.now in
-    let old = c.survey_both.new.room in
-    let other = c.survey_both.new.other_room in
+    let old = c.survey_both.new.buffers in
+    let other = c.survey_both.new.other_buffers in
     let are = two_regions wanted.board.regions one.region two.region c.requires.two one.is two.is in
     let size = first_sized wanted.board.regions wanted.algorithms.items one.region x c.requires.sized one.is c.algorithm_at-algorithm.ensures in
     let size' = second_sized wanted.board.regions wanted.algorithms.items two.region y c.requires.sized two.is c.algorithm_at-other_algorithm.ensures in
@@ -103,8 +103,8 @@ returns g c =
     let two = c.base_of-other_base.ensures in
     let x = c.algorithm_at-algorithm.result.now in
     let y = c.algorithm_at-other_algorithm.result.now in
-    let old = c.survey_both.new.room in
-    let other = c.survey_both.new.other_room in
+    let old = c.survey_both.new.buffers in
+    let other = c.survey_both.new.other_buffers in
     let are = two_regions wanted.board.regions one.region two.region c.requires.two one.is two.is in
     let size = first_sized wanted.board.regions wanted.algorithms.items one.region x c.requires.sized one.is c.algorithm_at-algorithm.ensures in
     let size' = second_sized wanted.board.regions wanted.algorithms.items two.region y c.requires.sized two.is c.algorithm_at-other_algorithm.ensures in

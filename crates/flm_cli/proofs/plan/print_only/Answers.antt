@@ -5,7 +5,7 @@ use Rattle.command_files.specs.Steps.{aim_of}
 use Rattle.command_files.proofs.WantedLemmas.{only_one, size_of_one}
 use Rattle.command_answers.specs.Call.{bench_call}
 use Rattle.flm_cli.specs.Plan.{text_of}
-use Rattle.flm_cli.proofs.PlanLemmas.{plans_done, plans_cut, first_sized, items_many, one_region, room_stays, room_size, only_cells, only_text}
+use Rattle.flm_cli.proofs.PlanLemmas.{plans_done, plans_cut, first_sized, items_many, one_region, buffers_stay, buffers_size, only_cells, only_text}
 use Rattle.flm_cli.proofs.plan.print_only.Goals as goal
 
 pub algorithm_at-algorithm-requires : goal.algorithm_at-algorithm-requires
@@ -22,7 +22,7 @@ survey-requires g c =
     c.in-Ok.ensures.cells ∙ size ∙ sym (size_of_one wanted.board.regions its.region only) ∙ c.requires.cells
 
 pub choose_plan-requires-clause-fits : goal.choose_plan-requires-clause-fits
-choose_plan-requires-clause-fits g c = room_stays _ _ _ c.in-Ok.ensures c.survey.ensures.stays
+choose_plan-requires-clause-fits g c = buffers_stay _ _ _ c.in-Ok.ensures c.survey.ensures.stays
 
 pub choose_plan-requires-clause-ends : goal.choose_plan-requires-clause-ends
 choose_plan-requires-clause-ends g c =
@@ -36,8 +36,8 @@ put_plan-requires g c =
     let wanted = c.args.wanted.now in
     let its = c.base_of-base.ensures in
     let size = first_sized wanted.board.regions wanted.algorithms.items its.region c.algorithm_at-algorithm.result.now c.requires.sized its.is c.algorithm_at-algorithm.ensures in
-    let room = room_size _ _ c.in-Ok.ensures in
-    omega (arith, its.ends, size, room, ap (λ (l : Geometry). l.size) (c.choose_plan.ensures.geometry ∙ c.survey.ensures.stays.geometry))
+    let buffers = buffers_size _ _ c.in-Ok.ensures in
+    omega (arith, its.ends, size, buffers, ap (λ (l : Geometry). l.size) (c.choose_plan.ensures.geometry ∙ c.survey.ensures.stays.geometry))
 
 pub returns-in-Ok-put_plan : goal.returns-in-Ok-put_plan
 returns-in-Ok-put_plan g c =
@@ -45,7 +45,7 @@ returns-in-Ok-put_plan g c =
     let bench = bench_call g.B.Bench.tells (g.B.Bench.state c.args.bench.now) (g.B.Bench.state c.survey.new.bench) in
     let its = c.base_of-base.ensures in
     let algorithm = c.algorithm_at-algorithm.result.now in
-    let old = c.survey.new.room in
+    let old = c.survey.new.buffers in
     let only = one_region wanted.board.regions its.region c.requires.one its.is in
     let size = first_sized wanted.board.regions wanted.algorithms.items its.region algorithm c.requires.sized its.is c.algorithm_at-algorithm.ensures in
     let one = only_one wanted.algorithms.items algorithm (items_many wanted.board.regions wanted.algorithms.items c.requires.sized ∙ c.requires.one) c.algorithm_at-algorithm.ensures in
@@ -61,7 +61,7 @@ returns g c =
     let bench = bench_call g.B.Bench.tells (g.B.Bench.state c.args.bench.now) (g.B.Bench.state c.survey.new.bench) in
     let its = c.base_of-base.ensures in
     let algorithm = c.algorithm_at-algorithm.result.now in
-    let old = c.survey.new.room in
+    let old = c.survey.new.buffers in
     let only = one_region wanted.board.regions its.region c.requires.one its.is in
     let size = first_sized wanted.board.regions wanted.algorithms.items its.region algorithm c.requires.sized its.is c.algorithm_at-algorithm.ensures in
     let one = only_one wanted.algorithms.items algorithm (items_many wanted.board.regions wanted.algorithms.items c.requires.sized ∙ c.requires.one) c.algorithm_at-algorithm.ensures in

@@ -9,8 +9,8 @@ returns-in_err-cells_drop-clause-looks g c =
     rw is (looks_dropped c.in_err-cells_drop.field-0.0 c.in_err-cells_drop.ensures.does)
 
 pub returns-clause-surveyed : goal.returns-clause-surveyed
-returns-clause-surveyed g c = all_read c.args.room.now.cells.items c.read_room.new.room.cells.items c.read_room.result c.read_room.ensures.reads
+returns-clause-surveyed g c = all_read c.args.buffers.now.cells.items c.read_buffers.new.buffers.cells.items c.read_buffers.result c.read_buffers.ensures.reads
     (λ told. g.met.B.Bench.all_told c.cells_drop.new.self told ∙ c.in_ok-cells_drop.ensures.does.count ∙ sym c.requires)
 
 pub returns-clause-looks : goal.returns-clause-looks
-returns-clause-looks g c = looks_by _ c.in_ok-cells_drop.ensures.does (only_reads c.read_room.ensures.reads) c.read_room.result c.read_room.ensures.reads.cause
+returns-clause-looks g c = looks_by _ c.in_ok-cells_drop.ensures.does (only_reads c.read_buffers.ensures.reads) c.read_buffers.result c.read_buffers.ensures.reads.cause
