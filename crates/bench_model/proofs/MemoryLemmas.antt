@@ -5,7 +5,7 @@ use Rattle.std.proofs.lemmas.Bool.{false≢true}
 use Rattle.std.specs.Prelude.{IfSome, Ok}
 use Rattle.std.specs.Option.{ForSome}
 use Rattle.faults.specs.Counts.{HasCause}
-use Rattle.faults.specs.Numbers.{Numbered, went}
+use Rattle.faults.specs.FailingCalls.{Numbered, went}
 use Rattle.bench_model.specs.History.{left, Leaves, AddsNothing, Stays, LeftOnly}
 use Rattle.bench_model.specs.Calls.{written, Torn, Cut, Follows, SameOutside, IsOpen}
 use Rattle.bench_model.specs.Kept.{Kept, IsLeft, all_synced, after_write, after_cut}

@@ -1,6 +1,6 @@
 -- Exactly what each call does to a bench in memory: when it fails, what it reads, and all that it leaves.
 use Rattle.std.specs.Prelude.{◌≡◌, ◌≤◌, ◌+◌, ℕ, List, length, take, drop, replicate, Option, Some, None, ⊤, Result, OnOk, OnErr}
-use Rattle.faults.specs.Numbers.{Ends}
+use Rattle.faults.specs.FailingCalls.{Ends}
 use Rattle.bench_model.specs.Act.{Act, FileLen, FileRead, FileWrite, FileCut, FileSync, CellsRead, CellsOpen, CellsSettle, CellsSettleFill, CellsDrop}
 use Rattle.bench_model.specs.Calls.{written}
 use Rattle.bench_model.specs.Record.{HasRoom, in_range, broken, wrote, cut, synced, opened, settled, filled, broken_off}

@@ -2,7 +2,7 @@
 use Rattle.std.specs.Prelude.{ℕ, List, Option, None, slice_get, [], length, max}
 use Rattle.faults.specs.Counts.{raised}
 use Rattle.bench_model.specs.State.{BenchState}
-use Rattle.faults.specs.Numbers.{Numbered, unused, went, failed}
+use Rattle.faults.specs.FailingCalls.{Numbered, unused, went, failed}
 use Rattle.bench_model.specs.Record.{Event, Recorded, at_rest, noted}
 use Rattle.bench_model.specs.Memory.{memory_state}
 use Rattle.bench_model.specs.declared.memory.MemoryBench.{MemoryBench}

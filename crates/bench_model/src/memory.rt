@@ -10,7 +10,7 @@ use crate::lay::{overwrite, replace, settle, settle_fill};
 use crate::pick::Pick;
 use crate::record::Record;
 use crate::{Bench, DeviceFault, StoreFault};
-use faults::{Numbers, OutOfMemory};
+use faults::{FailingCalls, OutOfMemory};
 use std::alloc::Global;
 
 /// A bench in memory, for tests and for devices that are emulated in a test. It tells its contents.
@@ -24,8 +24,8 @@ pub struct MemoryBench {
     operation: Option<(u32, u32)>,
     history: Record,
     file_room: u64,
-    store: Numbers,
-    device: Numbers,
+    store: FailingCalls,
+    device: FailingCalls,
     garbage: Vec<u8>,
     breaks: u64,
 
@@ -71,8 +71,8 @@ impl MemoryBench {
             operation: None,
             history: Record::new(alloc, file, cells, call_room, longest)?,
             file_room,
-            store: Numbers::new(alloc, store_fails)?,
-            device: Numbers::new(alloc, device_fails)?,
+            store: FailingCalls::new(alloc, store_fails)?,
+            device: FailingCalls::new(alloc, device_fails)?,
             garbage: garbage.to_vec(alloc)?,
             breaks: 0,
         })
@@ -181,14 +181,14 @@ impl Bench for MemoryBench {
     ghost inside = { λ m told. m.in_step.in_range };
 
     fn file_len(&mut self) -> Result<u64, StoreFault> {
-        if !self.store.goes(true) {
+        if !self.store.next_goes(true) {
             return Err(StoreFault);
         }
         Ok(self.file.len() as u64)
     }
 
     fn file_read(&mut self, at: u64, out: &mut [u8]) -> Result<(), StoreFault> {
-        if !self.store.goes(true) {
+        if !self.store.next_goes(true) {
             return Err(StoreFault);
         }
         let at = at as usize;
@@ -199,7 +199,7 @@ impl Bench for MemoryBench {
     fn file_write(&mut self, at: u64, bytes: &[u8]) -> Result<(), StoreFault> {
         let len = bytes.len();
         let room = can_write(&self.history, self.file_room, at, len);
-        if !self.store.goes(room) {
+        if !self.store.next_goes(room) {
             return Err(StoreFault);
         }
         overwrite(&mut self.file, at as usize, bytes);
@@ -209,7 +209,7 @@ impl Bench for MemoryBench {
 
     fn file_cut(&mut self, len: u64) -> Result<(), StoreFault> {
         let room = self.history.has_room(0);
-        if !self.store.goes(room) {
+        if !self.store.next_goes(room) {
             return Err(StoreFault);
         }
         self.file.truncate(len as usize);
@@ -219,7 +219,7 @@ impl Bench for MemoryBench {
 
     fn file_sync(&mut self) -> Result<(), StoreFault> {
         let room = self.history.has_room(0);
-        if !self.store.goes(room) {
+        if !self.store.next_goes(room) {
             return Err(StoreFault);
         }
         self.history.note_sync(&self.file);
@@ -231,7 +231,7 @@ impl Bench for MemoryBench {
     }
 
     fn cells_read(&mut self, at: u32, out: &mut [u8]) -> Result<(), DeviceFault> {
-        if !self.device.goes(true) {
+        if !self.device.next_goes(true) {
             return Err(DeviceFault);
         }
         let at = at as usize;
@@ -241,7 +241,7 @@ impl Bench for MemoryBench {
 
     fn cells_open(&mut self, at: u32, len: u32) -> Result<(), DeviceFault> {
         let room = self.history.has_room(0);
-        if !self.device.goes(room) {
+        if !self.device.next_goes(room) {
             return Err(DeviceFault);
         }
         self.history.note(Change::Opened(at, len), &[]);
@@ -254,7 +254,7 @@ impl Bench for MemoryBench {
             unreachable!()
         };
         let room = self.history.has_room(bytes.len());
-        if !self.device.goes(room) {
+        if !self.device.next_goes(room) {
             return Err(DeviceFault);
         }
         settle(&mut self.cells, at as usize, bytes);
@@ -269,7 +269,7 @@ impl Bench for MemoryBench {
             unreachable!()
         };
         let room = self.history.has_room(0);
-        if !self.device.goes(room) {
+        if !self.device.next_goes(room) {
             return Err(DeviceFault);
         }
         settle_fill(&mut self.cells, at as usize, len as usize, value);
@@ -280,13 +280,13 @@ impl Bench for MemoryBench {
 
     fn cells_drop(&mut self) -> Result<(), DeviceFault> {
         let Some((at, len)) = self.operation else {
-            if !self.device.goes(true) {
+            if !self.device.next_goes(true) {
                 return Err(DeviceFault);
             }
             return Ok(());
         };
         let room = self.history.has_room(0);
-        if !self.device.goes(room) {
+        if !self.device.next_goes(room) {
             return Err(DeviceFault);
         }
         let byte = byte_at(&self.garbage, self.breaks);

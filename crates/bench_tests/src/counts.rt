@@ -1,5 +1,5 @@
 //! Counts of faults, and calls that are to fail by their numbers.
-use faults::{FaultCount, Numbers};
+use faults::{FailingCalls, FaultCount};
 use std::test::Fail;
 
 #[test]
@@ -13,10 +13,10 @@ fn counts_faults(rt: HostRuntime) {
 
 #[test]
 fn calls_go_and_fail_by_their_numbers(rt: HostRuntime) -> Result<(), Fail> {
-    let mut numbers = Numbers::new(rt.alloc(), &[2])?;
+    let mut numbers = FailingCalls::new(rt.alloc(), &[2])?;
     let mut went = [false; 4];
     for (i, room) in [true, true, false, true].iter().enumerate() {
-        went[i] = numbers.goes(*room);
+        went[i] = numbers.next_goes(*room);
     }
     assert_eq!(rt; went, [true, false, false, true]);
     Ok(())

@@ -43,5 +43,5 @@ returns-clause-does c =
       count = ap length c.leave.ensures ∙ long;
       moments = ended_adds_nothing m.history r' e is m.file.items m.cells.items m.operation m.in_step new step only;
       file = record { file = refl; faults = refl; half = file_stays_after m.history r' e is refl };
-      cause = went_cause tt m.device c.goes-2.new.self (c.goes-2.ensures.goes c.if-not-goes-2.false).0;
+      cause = went_cause tt m.device c.next_goes-2.new.self (c.next_goes-2.ensures.goes c.if-not-next_goes-2.false).0;
     }

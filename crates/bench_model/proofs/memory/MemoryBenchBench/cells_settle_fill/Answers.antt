@@ -46,5 +46,5 @@ returns-clause-does c =
       count = ap length c.settle_fill.ensures.items ∙ long;
       moments = ended_adds_nothing m.history r' e is m.file.items m.cells.items m.operation m.in_step new step only;
       file = record { file = refl; faults = refl; half = file_stays_after m.history r' e is refl };
-      cause = went_cause tt m.device c.goes.new.self (c.goes.ensures.goes c.if-not-goes.false).0;
+      cause = went_cause tt m.device c.next_goes.new.self (c.next_goes.ensures.goes c.if-not-next_goes.false).0;
     }

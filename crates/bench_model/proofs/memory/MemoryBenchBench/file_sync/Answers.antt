@@ -29,5 +29,5 @@ returns-clause-does c =
       file = λ told. refl;
       moments = synced_adds_nothing m.history r' e is m.file.items m.cells.items m.operation m.in_step refl;
       cells = record { cells = refl; operation = refl; count = refl; faults = refl; half = cells_stay_after m.history r' e is (λ x. ((λ at. at), (λ at. at))) };
-      cause = went_cause tt m.store c.goes.new.self (c.goes.ensures.goes c.if-not-goes.false).0;
+      cause = went_cause tt m.store c.next_goes.new.self (c.next_goes.ensures.goes c.if-not-next_goes.false).0;
     }

@@ -10,7 +10,7 @@ invariant_of-self-2 c =
     let e = wrote c.args.at c.args.bytes.now in
     let r' = c.note.new.self in
     let is = c.note.ensures in
-    let room : c.args.at + length c.args.bytes.now ≤ m.file_room = (c.can_write-room.ensures.0 (c.goes.ensures.goes c.if-not-goes.false).1).0 in
+    let room : c.args.at + length c.args.bytes.now ≤ m.file_room = (c.can_write-room.ensures.0 (c.next_goes.ensures.goes c.if-not-next_goes.false).1).0 in
     record {
       in_step = subst (λ (f : List ℕ). InStep (held_now r') f m.cells.items m.operation) (sym c.overwrite.ensures.items)
           (in_step_after m.history r' e is _ _ _ (step_wrote (held_now m.history) m.file.items m.cells.items m.operation m.in_step c.args.at c.args.bytes.now (c.requires refl)));
@@ -32,5 +32,5 @@ returns-clause-does c =
       err = λ told. tt;
       moments = wrote_leaves m.history r' e is m.file.items m.cells.items m.operation m.in_step c.args.at c.args.bytes.now (c.requires refl) refl;
       cells = record { cells = refl; operation = refl; count = refl; faults = refl; half = cells_stay_after m.history r' e is (λ x. ((λ at. at), (λ at. at))) };
-      cause = went_cause tt m.store c.goes.new.self (c.goes.ensures.goes c.if-not-goes.false).0;
+      cause = went_cause tt m.store c.next_goes.new.self (c.next_goes.ensures.goes c.if-not-next_goes.false).0;
     }

@@ -1,7 +1,7 @@
 //! Calls that are to fail by their numbers, as tests ask it of objects in memory.
 ghost use Rattle.std.specs.Prelude.{◌≡◌, ◌≤◌, ◌⊎◌, ◌↔◌, IsTrue, IfOk, false};
 ghost use Rattle.faults.specs.Counts.{Rose};
-ghost use Rattle.faults.specs.Numbers.{unused, IsDue, went, failed};
+ghost use Rattle.faults.specs.FailingCalls.{unused, IsDue, went, failed};
 
 use crate::{FaultCount, OutOfMemory};
 use std::alloc::Global;
@@ -9,16 +9,16 @@ use std::marker::Model;
 
 /// Counts calls from 1, and the faults among them. A call whose number is among given ones is to fail.
 #[derive(Drop)]
-pub struct Numbers {
+pub struct FailingCalls {
     calls: u64,
     fails: Vec<u64>,
     faults: FaultCount,
 }
 
-impl Model for Numbers {
+impl Model for FailingCalls {
     ghost use Rattle.std.specs.Prelude.{◌≤◌};
     ghost use Rattle.faults.specs.Counts.{greatest};
-    ghost use Rattle.faults.specs.Numbers.{Numbered};
+    ghost use Rattle.faults.specs.FailingCalls.{Numbered};
 
     ghost Value = { Numbered };
 
@@ -27,12 +27,12 @@ impl Model for Numbers {
     ghost invariant = { λ n. n.faults ≤ greatest };
 }
 
-impl Numbers {
+impl FailingCalls {
     /// No call so far. `fails` are the numbers of the calls, counted from 1, that are to fail.
-    pub fn new(alloc: Global, fails: &[u64]) -> Result<Numbers, OutOfMemory>
+    pub fn new(alloc: Global, fails: &[u64]) -> Result<FailingCalls, OutOfMemory>
         ensures { IfOk result (λ n. n ≡ unused fails.now) }
     {
-        Ok(Numbers {
+        Ok(FailingCalls {
             calls: 0,
             fails: fails.to_vec(alloc)?,
             faults: FaultCount::new(),
@@ -63,7 +63,7 @@ impl Numbers {
     }
 
     /// Counts a call, and whether it goes through: it fails where its number is to fail or there is no room for it.
-    pub fn goes(&mut self, room: bool) -> bool
+    pub fn next_goes(&mut self, room: bool) -> bool
         ensures goes { IsTrue result → (self.new ≡ went self.old) × IsTrue room × (IsDue self.old → ⊥) }
         ensures rose { result ≡ false → (self.old.faults ≤ self.new.faults) × Rose self.old.faults self.new.faults }
         ensures fails { result ≡ false → (self.new ≡ failed self.old) × ((room ≡ false) ⊎ IsDue self.old) }
