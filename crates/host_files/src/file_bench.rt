@@ -4,7 +4,7 @@ ghost use Rattle.std.specs.Prelude.{◌≡◌};
 use crate::cells_file::CellsFile;
 use crate::file_id::FileId;
 use crate::host_disk::HostDisk;
-use crate::job_store::JobFile;
+use crate::job_file::JobFile;
 use crate::progress_line::ProgressLine;
 use bench_model::{Bench, DeviceFault, StoreFault};
 use disk_files::{DiskBench, WindowedDisk};

@@ -2,7 +2,7 @@
 ghost use Rattle.std.specs.Prelude.{◌≡◌};
 
 use crate::cells_file::CellsFile;
-use crate::job_store::JobFile;
+use crate::job_file::JobFile;
 use disk_files::Disk;
 use std::io;
 

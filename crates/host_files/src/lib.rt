@@ -8,7 +8,7 @@ mod file_inputs;
 mod file_lock;
 mod host_disk;
 mod host_source;
-mod job_store;
+mod job_file;
 mod progress_line;
 mod std_sink;
 mod streams;

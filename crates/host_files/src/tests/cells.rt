@@ -4,7 +4,7 @@ use super::{Temporary, pattern};
 use crate::cells_file::CellsFile;
 use crate::file_bench::FileBench;
 use crate::host_disk::HostDisk;
-use crate::job_store::JobFile;
+use crate::job_file::JobFile;
 use bench_model::Bench;
 use disk_files::{Disk, WindowedDisk};
 use faults::OutOfMemory;
