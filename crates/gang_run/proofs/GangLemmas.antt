@@ -38,7 +38,7 @@ use Rattle.gang_target.specs.Guarded.{Guarded}
 use Rattle.gang_target.specs.Rest.{Legs, all_legs}
 use Rattle.gang_target.specs.Stands.{HasEnded, Stands, StandsOn}
 use Rattle.gang_target.specs.Takes.{TakesOn, SliceOf}
-use Rattle.gang_target.specs.Targets.{setup_for, point_for, legs_for, has_second, size_for, goal_for}
+use Rattle.gang_target.specs.Targets.{setup_now, point_for, legs_for, has_second, size_for, goal_for}
 use Rattle.gang_target.specs.Turns.{IsUnended, turn_of, is_device_place, is_store_place, SameTarget, GoesOn, Turns, FileTurn}
 use Rattle.gang_target.proofs.AloneLemmas.{goes_here, ends_alone}
 use Rattle.gang_target.proofs.FitLemmas.{goal_same}
@@ -56,7 +56,7 @@ use Rattle.gang_run.specs.Slots.{slot_turn, slot_togo, place_end, slot_end, IsRe
 -- it stands as it did while its window is as it was
 pub stands_in : (a : Stand) (way : List Move) (goal : List ℕ) (x : GangTarget) (arena arena' : List (List ℕ)) (b : BenchState) → window_of arena' x.window ≡ window_of arena x.window → StandsOn a way goal x arena b → StandsOn a way goal x arena' b
 stands_in a way goal x arena arena' b same stands =
-    subst (λ (ram : List ℕ). Stands (legs_for x goal) goal (setup_for x) a way x.place x.made (point_in (with_ram x.calls.machine ram) b.cells) x.calls.machine.return_at b) (sym same) stands
+    subst (λ (ram : List ℕ). Stands (legs_for x goal) goal (setup_now x) a way x.place x.made (point_in (with_ram x.calls.machine ram) b.cells) x.calls.machine.return_at b) (sym same) stands
 
 goes_in : (a : Stand) (way : List Move) (goal : List ℕ) (x : GangTarget) (arena arena' : List (List ℕ)) (s t : BenchState) → window_of arena' x.window ≡ window_of arena x.window → GoesOn a way goal x arena s t → GoesOn a way goal x arena' s t
 goes_in a way goal x arena arena' s t same goes = record { more = goes.more; stands = stands_in a (way ++ goes.more) goal x arena arena' t same goes.stands; moments = goes.moments }
@@ -621,7 +621,7 @@ alone_of a x s new arena t body whole since over =
     let ends : (e : TargetEnd) × (y.place ≡ place.Ended e) = ended_at y.place (ap slot_turn (sym since.is) ∙ over) in
     let goes : GoesOn a [] goal y arena s t = since.goes in
     let has : HasEnded (all_legs (legs_for y goal)) goal a goes.more ends.0 t =
-    subst (λ (p : Place). Stands (legs_for y goal) goal (setup_for y) a goes.more p y.made (point_for y arena t.cells) y.calls.machine.return_at t) ends.1 goes.stands in
+    subst (λ (p : Place). Stands (legs_for y goal) goal (setup_now y) a goes.more p y.made (point_for y arena t.cells) y.calls.machine.return_at t) ends.1 goes.stands in
     let guarded : Guarded body goal (place.Ended ends.0) s t = subst (λ (p : Place). Guarded body goal p s t) ends.1 (since.guarded body whole) in
     record {
       target = y;

@@ -21,7 +21,7 @@ use Rattle.gang_target.specs.declared.ending.TargetEnd.TheVariants as ended
 use Rattle.gang_target.specs.declared.cursor.Place.{Place}
 use Rattle.gang_target.specs.declared.cursor.Place.TheVariants as place
 use Rattle.gang_target.specs.declared.target.GangTarget.{GangTarget}
-use Rattle.gang_target.specs.Targets.{setup_for, point_for, legs_for}
+use Rattle.gang_target.specs.Targets.{setup_now, point_for, legs_for}
 use Rattle.gang_target.specs.Fit.{Fit}
 use Rattle.gang_target.specs.Turns.{IsUnended, GoesOn}
 use Rattle.gang_target.specs.Rest.{Legs, all_legs, rest_of}
@@ -85,7 +85,7 @@ goes_here tells told a way goal x arena now going fit law stands =
     (leaves_here (cells_half now) (IsLeftOnWay a way)
     (λ c at. record {
       at = here.world;
-      on = on_now (legs_for x goal) goal (setup_for x) a way x.place x.made here x.calls.machine.return_at now going stands;
+      on = on_now (legs_for x goal) goal (setup_now x) a way x.place x.made here x.calls.machine.return_at now going stands;
       left = subst (λ (o : Option (ℕ × ℕ)). SameOutside o now.cells c) (fit.agrees.operation told) ((law c).0 at);
     }))
 
@@ -93,7 +93,7 @@ pub stands_first : (x : GangTarget) (goal : List ℕ) (arena : List (List ℕ)) 
 stands_first x goal arena now is made =
     let here : Point = point_for x arena now.cells in
     let a : Stand = stand_at 0 here.world in
-    let P : Place → ℕ → Type 0 = λ p n. Stands (legs_for x goal) goal (setup_for x) a [] p n here x.calls.machine.return_at now in
+    let P : Place → ℕ → Type 0 = λ p n. Stands (legs_for x goal) goal (setup_now x) a [] p n here x.calls.machine.return_at now in
     subst (λ (p : Place). P p x.made) (sym is) (subst (λ (n : ℕ). P (place.At (at.Begin false stage.Erase)) n) (sym made) (first_way (legs_for x goal), run_none a))
 
 -- ---- a target that goes on stands at a point of its own script's path, whatever the resets to come leave

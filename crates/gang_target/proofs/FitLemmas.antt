@@ -24,7 +24,7 @@ use Rattle.gang_target.specs.Fit.{legs_of, calls_ahead, turns_ahead, togo, IsPla
 use Rattle.gang_target.specs.Rest.{Legs, with_torn, unbroken}
 use Rattle.gang_target.specs.Stands.{Stands, StandsOn}
 use Rattle.flash_session.specs.Goals.{goal_in}
-use Rattle.gang_target.specs.Targets.{setup_on, map_of, setup_for, part_in, point_for, legs_for, has_second, size_for, goal_for}
+use Rattle.gang_target.specs.Targets.{setup_on, map_of, setup_now, part_in, point_for, legs_for, has_second, size_for, goal_for}
 use Rattle.gang_target.specs.Turns.{SameTarget, GoesOn, Turns, FileTurn, is_device_place, is_store_place}
 use Rattle.gang_target.proofs.MachineLemmas.{has_same, legs_same}
 
@@ -57,9 +57,9 @@ file_kept tells s t stays = record { file = λ told. stays.file; moments = stays
 -- ---- where it stands, by the script of before
 
 pub stands_same : (old new : GangTarget) (a : Stand) (way : List Move) (goal : List ℕ) (arena : List (List ℕ)) (now : BenchState) → SameTarget old new
-    → Stands (legs_for old goal) goal (setup_for new) a way new.place new.made (point_for new arena now.cells) new.calls.machine.return_at now → StandsOn a way goal new arena now
+    → Stands (legs_for old goal) goal (setup_now new) a way new.place new.made (point_for new arena now.cells) new.calls.machine.return_at now → StandsOn a way goal new arena now
 stands_same old new a way goal arena now same stands =
-    subst (λ (l : Legs). Stands l goal (setup_for new) a way new.place new.made (point_for new arena now.cells) new.calls.machine.return_at now) (sym (legs_same old new same goal)) stands
+    subst (λ (l : Legs). Stands l goal (setup_now new) a way new.place new.made (point_for new arena now.cells) new.calls.machine.return_at now) (sym (legs_same old new same goal)) stands
 
 size_same : (old new : GangTarget) → SameTarget old new → size_for new ≡ size_for old
 size_same old new same = ap (λ (t : Task). size_of t.job.board.regions) same.task

@@ -15,7 +15,7 @@ use Rattle.gang_target.specs.declared.ending.Turn.TheVariants as turn
 use Rattle.gang_target.specs.declared.target.GangTarget.{GangTarget}
 use Rattle.gang_target.specs.Fit.{Fit, IsPlace}
 use Rattle.gang_target.specs.Stands.{Stands, StandsOn}
-use Rattle.gang_target.specs.Targets.{setup_for, point_for, legs_for, has_second, size_for, goal_for}
+use Rattle.gang_target.specs.Targets.{setup_now, point_for, legs_for, has_second, size_for, goal_for}
 use Rattle.gang_target.specs.Turns.{IsUnended, turn_of, ClosedFile, IsDone, KeepsFile, FileTurn, Closes, GoesOn, Turns}
 use Rattle.gang_target.specs.Guarded.{HasBody, IsAtClose, FileAt, Guarded}
 
@@ -104,7 +104,7 @@ module _ (tells : Bool) (told : IsTrue tells) (a : Stand) (way : List Move) (x y
   -- the close
   at_close : x.place ≡ place.Closing → Closes tells y.place t u → IsWhole body t.file → PairsLeave s t (HasBody body) → Guarded body goal y.place s u
   at_close is closes whole before =
-      let standing = subst (λ (q : Place). Stands (legs_for x goal) goal (setup_for x) a way q x.made (point_for x arena t.cells) x.calls.machine.return_at t) is stands in
+      let standing = subst (λ (q : Place). Stands (legs_for x goal) goal (setup_now x) a way q x.made (point_for x arena t.cells) x.calls.machine.return_at t) is stands in
       let idle : t.operation ≡ None = subst (λ (q : Place). IsPlace tells (has_second x) x.second q (size_for x) t) is fit.place told in
       let files : Leaves (file_half t) (file_half u) (IsWholeOrClosed body) =
       subst (λ (b : List ℕ). Leaves (file_half t) (file_half u) (IsWholeOrClosed b)) (ap (λ (f : List ℕ). drop 1 f) whole) (closes.moments told) in

@@ -14,7 +14,7 @@ use Rattle.gang_target.specs.declared.target.GangTarget.{GangTarget}
 use Rattle.gang_target.specs.Fit.{AreTwins}
 use Rattle.gang_target.specs.Rest.{Legs}
 use Rattle.flash_session.specs.Script.{leg}
-use Rattle.gang_target.specs.Targets.{errand_in, later_leg, of_region, calls_on, setup_on, map_of, map_on, setup_for, has_second, legs_for}
+use Rattle.gang_target.specs.Targets.{errand_in, later_leg, of_region, calls_on, setup_on, map_of, map_on, setup_now, has_second, legs_for}
 use Rattle.gang_target.specs.Turned.{IsExchanged, TurnsTo}
 use Rattle.gang_target.specs.Turns.{SameTarget}
 use Rattle.gang_target.proofs.StepLemmas.{moved_region, setup_moved}
@@ -101,7 +101,7 @@ pub map_moved : (g : GangTarget) (r : Bool) → g.second ≡ r → map_on g r �
 map_moved g r is = ap (λ (m : Bool). map_of (of_region r m g.calls g.other)) is ∙ ap (λ (c : CallsIn). map_of c) (moved_region r g.calls g.other)
 
 -- the RAM's size by the calls of a region, and by those at hand
-pub size_on : (g : GangTarget) → AreTwins g → (r : Bool) → (setup_on g r).ram_size ≡ (setup_for g).ram_size
+pub size_on : (g : GangTarget) → AreTwins g → (r : Bool) → (setup_on g r).ram_size ≡ (setup_now g).ram_size
 size_on g twins r = twin_size g twins r g.second ∙ ap (λ (s : Setup). s.ram_size) (setup_moved g g.second refl)
 
 -- a reset is the same by each setup with a RAM of one size
@@ -183,7 +183,7 @@ module _ (a : GangTarget) (arena : List (List ℕ)) (b : GangTarget) (arena' : L
   has : IsTrue (has_second a)
   has = sym twins.there ∙ some_true a.other c is
 
-  size_is : (setup_at c).ram_size ≡ (setup_for a).ram_size
+  size_is : (setup_at c).ram_size ≡ (setup_now a).ram_size
   size_is = sym (ap (λ (k : CallsIn). (setup_at k).ram_size) calls_are) ∙ size_on a twins (not a.second)
 
   map_is : map_of c ≡ map_of a.calls
@@ -202,9 +202,9 @@ module _ (a : GangTarget) (arena : List (List ℕ)) (b : GangTarget) (arena' : L
     rest = turned.rest ∙ ap (λ (o : Option CallsIn). record a { calls = b.calls; other = o; second = not a.second }) (sym other_is) ∙ ap (λ (m : Bool). record a { calls = b.calls; other = b.other; second = m }) (sym second_is);
     stands = λ w operation torn cells left.
         turned.starts cells
-        ∙ fresh_is (setup_at c) (setup_for a) (world_at c arena a.window cells) w operation torn size_is
-        (base_is ∙ ap (λ (x : World). x.ram_base) left ∙ base_left (setup_for a) w operation torn)
-        (map_is ∙ ap (λ (x : World). x.map) left ∙ map_left (setup_for a) w operation torn)
+        ∙ fresh_is (setup_at c) (setup_now a) (world_at c arena a.window cells) w operation torn size_is
+        (base_is ∙ ap (λ (x : World). x.ram_base) left ∙ base_left (setup_now a) w operation torn)
+        (map_is ∙ ap (λ (x : World). x.map) left ∙ map_left (setup_now a) w operation torn)
         (ap (λ (x : World). x.cells) left);
     map = turned.map ∙ map_is;
     only = turned.only;

@@ -20,7 +20,7 @@ use Rattle.gang_target.specs.Fit.{IsPartOn, IsScripted}
 use Rattle.gang_target.specs.Items.{calls_on_phase}
 use Rattle.gang_target.specs.Rest.{calls_from, phase_calls, Legs, leg_at, later_than, rest_of, with_torn, with_last, after, after_region, kind_of}
 use Rattle.gang_target.specs.Steps.{bytes_at, IsAsked, IsNext, IsItem, IsCursor, IsStepOf, IsStep, IsStepBehind, IsPhaseFrom, has_phase}
-use Rattle.gang_target.specs.Targets.{of_region, setup_on, setup_for, part_in, errand_in, later_leg, legs_for, has_second, size_for}
+use Rattle.gang_target.specs.Targets.{of_region, setup_on, setup_now, part_in, errand_in, later_leg, legs_for, has_second, size_for}
 use Rattle.gang_target.proofs.ItemLemmas.{no_bytes}
 use Rattle.flash_session.proofs.PartLemmas.{part_at}
 use Rattle.gang_target.proofs.RestLemmas.{calls_all, begin_is, skip_is, behind_is, after_is, init_is, call_is, uninit_is}
@@ -32,7 +32,7 @@ pub moved_region : (moved : Bool) (here : CallsIn) (other : Option CallsIn) → 
 moved_region false here other = refl
 moved_region true here other = refl
 
-pub setup_moved : (g : GangTarget) (r : Bool) → g.second ≡ r → setup_on g r ≡ setup_for g
+pub setup_moved : (g : GangTarget) (r : Bool) → g.second ≡ r → setup_on g r ≡ setup_now g
 setup_moved g r is = ap (λ (m : Bool). setup_at (of_region r m g.calls g.other)) is ∙ ap (λ (c : CallsIn). setup_at c) (moved_region r g.calls g.other)
 
 second_leg : (o : Option Part) (s : Setup) (goal : List ℕ) (m : Leg) (p : Part) → IsTrue (is_some o) → unwrap_or (later_leg s o goal) m ≡ leg s (errand_in (unwrap_or o p) goal)
@@ -127,10 +127,10 @@ module _ (g : GangTarget) where
 
   -- ---- a call
 
-  setup_here : (r : Bool) → g.second ≡ r → (IsTrue r → IsTrue (has_second g)) → (goal : List ℕ) → (leg_at (legs goal) r).setup ≡ setup_for g
+  setup_here : (r : Bool) → g.second ≡ r → (IsTrue r → IsTrue (has_second g)) → (goal : List ℕ) → (leg_at (legs goal) r).setup ≡ setup_now g
   setup_here r moved there goal = ap (λ (m : Leg). m.setup) (leg_is r there goal) ∙ setup_moved g r moved
 
-  without : (c : Call) → ((bytes : List ℕ) → bytes ≡ [] → MayAsk (setup_for g) c bytes) → IsAsked g c 0 0
+  without : (c : Call) → ((bytes : List ℕ) → bytes ≡ [] → MayAsk (setup_now g) c bytes) → IsAsked g c 0 0
   without c may = record { within = omega arith; fits = omega arith; may = λ bytes none. may bytes (no_bytes bytes none) }
 
   pub step_init : (r : Bool) (p : Phase) → IsCursor (has_second g) g.second (at.Init r p) → IsStep g (at.Init r p) (step.Call (call.Init (kind_of p)) 0 0 (at.Calls r p 0))
@@ -146,7 +146,7 @@ module _ (g : GangTarget) where
     λ goal b.
         uninit_is (legs goal) r p index (subst (λ (m : Leg). calls_from m.setup m.errand p index ≡ []) (sym (leg_is r is.1 goal)) (none goal)) b
         ∙ ap (λ (s : Setup). Make s (call.UnInit (kind_of p)) [] ∷ rest_of (legs goal) (after (is_some (legs goal).second) r p) b) (setup_here r is.0 is.1 goal)
-        ∙ ap (λ (h : Bool). Make (setup_for g) (call.UnInit (kind_of p)) [] ∷ rest_of (legs goal) (after h r p) b) (has_is goal),
+        ∙ ap (λ (h : Bool). Make (setup_now g) (call.UnInit (kind_of p)) [] ∷ rest_of (legs goal) (after h r p) b) (has_is goal),
     without (call.UnInit (kind_of p)) (λ bytes none. none),
     after_cursor (has_second g) g.second r p is.1,
   )
@@ -160,9 +160,9 @@ module _ (g : GangTarget) where
       let moves = λ (goal : List ℕ).
       next.moves goal
       ∙ ap (λ (s : Setup). Make s item.call (bytes_at (errand_in there goal).goal item.from item.len) ∷ calls_on_phase p (setup_on g r) there goal (item.index + 1)) (setup_moved g r is.0)
-      ∙ ap (λ (l : List ℕ). Make (setup_for g) item.call l ∷ calls_on_phase p (setup_on g r) there goal (item.index + 1)) (sym (part_at there.start there.geometry.size item.from item.len goal next.within)) in (
-        λ goal b. call_is (legs goal) r p index (item.index + 1) (Make (setup_for g) item.call (bytes_at goal (there.start + item.from) item.len))
-            (subst (λ (m : Leg). calls_from m.setup m.errand p index ≡ Make (setup_for g) item.call (bytes_at goal (there.start + item.from) item.len) ∷ calls_from m.setup m.errand p (item.index + 1)) (sym (leg_is r is.1 goal)) (moves goal)) b,
+      ∙ ap (λ (l : List ℕ). Make (setup_now g) item.call l ∷ calls_on_phase p (setup_on g r) there goal (item.index + 1)) (sym (part_at there.start there.geometry.size item.from item.len goal next.within)) in (
+        λ goal b. call_is (legs goal) r p index (item.index + 1) (Make (setup_now g) item.call (bytes_at goal (there.start + item.from) item.len))
+            (subst (λ (m : Leg). calls_from m.setup m.errand p index ≡ Make (setup_now g) item.call (bytes_at goal (there.start + item.from) item.len) ∷ calls_from m.setup m.errand p (item.index + 1)) (sym (leg_is r is.1 goal)) (moves goal)) b,
         record {
           within = omega (arith, on.range, next.within);
           fits = omega (arith, on.buffer, next.fits);

@@ -58,7 +58,7 @@ use Rattle.gang_target.specs.Prepared.{IsPrepared}
 use Rattle.gang_target.specs.Rest.{Legs, all_legs, rest_of, unbroken}
 use Rattle.gang_target.specs.Stands.{OnWay, none, InCall, HasEnded, EndIs, Stands, StandsOn}
 use Rattle.gang_target.specs.Steps.{bytes_at, IsCursor, IsStep}
-use Rattle.gang_target.specs.Targets.{setup_on, map_of, setup_for, point_for, legs_for, has_second, size_for, goal_for}
+use Rattle.gang_target.specs.Targets.{setup_on, map_of, setup_now, point_for, legs_for, has_second, size_for, goal_for}
 use Rattle.gang_target.specs.Turned.{TurnsTo}
 use Rattle.gang_target.specs.Turns.{SameTarget, GoesOn, Turns, FileTurn, Closes, EndFile, IsDone, KeepsFile, judged, made_by, is_device_place, is_store_place, is_device_target, is_store_target}
 use Rattle.gang_target.proofs.CallEnds.{Came, came, call_moments}
@@ -102,7 +102,7 @@ not_done made call nx call_end.DeviceFault is = is
 
 module _ (tells : Bool) (old : GangTarget) (arena : List (List ℕ)) (start : BenchState) (fit : Fit tells old arena start) where
   abbrev s : Setup
-  s = setup_for old
+  s = setup_now old
 
   abbrev goal : List ℕ
   goal = goal_for old start.file
@@ -337,7 +337,7 @@ module _ (tells : Bool) (old : GangTarget) (arena : List (List ℕ)) (start : Be
           let rest = λ (b : Broken). next.0 goal b ∙ ap (λ (l : List ℕ). Make s call l ∷ rest_of legs nx b) (sym (prepared.are told)) in
           let there : Point = point_for ready arena1 end.cells in
           let first : Point = first_point s here.world (asked call bytes) in
-          let stands' : Stands legs goal (setup_for ready) a (way ++ more) (place.In call len left_over nx) ready.made there ready.calls.machine.return_at end = (
+          let stands' : Stands legs goal (setup_now ready) a (way ++ more) (place.In call len left_over nx) ready.made there ready.calls.machine.return_at end = (
             way_on legs way (rest_of legs c) (rest_of legs nx) (Make s call bytes) on.0 rest,
             subst (λ (y : Setup). InCall y a (way ++ more) call len left_over ready.made there ready.calls.machine.return_at) (sym prepared.setup) (record {
               done = way;
@@ -354,7 +354,7 @@ module _ (tells : Bool) (old : GangTarget) (arena : List (List ℕ)) (start : Be
           ) in
           record {
             more = more;
-            stands = stands_same old ready a (way ++ more) goal arena1 end ready_same (subst (λ (p : Place). Stands legs goal (setup_for ready) a (way ++ more) p ready.made there ready.calls.machine.return_at end) (sym ready_place_is) stands');
+            stands = stands_same old ready a (way ++ more) goal arena1 end ready_same (subst (λ (p : Place). Stands legs goal (setup_now ready) a (way ++ more) p ready.made there ready.calls.machine.return_at end) (sym ready_place_is) stands');
             moments = quiet told a way more on.1;
           }
         where
@@ -393,7 +393,7 @@ module _ (tells : Bool) (old : GangTarget) (arena : List (List ℕ)) (start : Be
           let on = stood (place.At c) is a way stands in
           no_more a way goal unread arena1 start end
           (stands_same old unread a way goal arena1 end unread_same
-          (subst (λ (p : Place). Stands legs goal (setup_for unread) a way p unread.made (point_for unread arena1 end.cells) unread.calls.machine.return_at end) (sym unread_place)
+          (subst (λ (p : Place). Stands legs goal (setup_now unread) a way p unread.made (point_for unread arena1 end.cells) unread.calls.machine.return_at end) (sym unread_place)
           (broke_off legs goal a way (rest_of legs c) on.0 ended.StoreFault old.made here.world end on.1 reads.cells.cells (reads.cells.operation ∙ fit.agrees.operation told) (λ moves off. off))))
           (subst (λ (m : List Move). Leaves (cells_half start) (cells_half end) (IsLeftOnWay a m)) (append-nil way) (quiet told a way [] on.1))
 
@@ -509,7 +509,7 @@ module _ (tells : Bool) (old : GangTarget) (arena : List (List ℕ)) (start : Be
           let moved : Came a way old.made call ending there.world end =
           subst (λ (l : List Move). Came a l old.made call ending there.world end) (sym x.is) (came s a x.done call x.bytes old.made x.before x.ran ending there.world start end gives) in
           no_more a way goal came_to arena1 start end
-          (stands_same old came_to a way goal arena1 end came_same (judged_stands legs goal (setup_for came_to) a way call old.made nx ending there fin.machine.return_at end on.0 moved refl))
+          (stands_same old came_to a way goal arena1 end came_same (judged_stands legs goal (setup_now came_to) a way call old.made nx ending there fin.machine.return_at end on.0 moved refl))
           (subst (λ (l : List Move). Leaves (cells_half start) (cells_half end) (IsLeftOnWay a l)) (sym x.is) (call_moments s a x.done call x.bytes old.made x.before x.ran start end gives.moments))
 
       pub came_turn : (new : GangTarget) → new ≡ came_to → Turns tells old arena start new arena1 end

@@ -18,7 +18,7 @@ use Rattle.gang_target.specs.declared.ending.TargetEnd.TheVariants as ended
 use Rattle.gang_target.specs.declared.target.GangTarget.{GangTarget}
 use Rattle.gang_target.specs.Midway.{Midway}
 use Rattle.gang_target.specs.Rest.{Legs, all_legs, rest_of}
-use Rattle.gang_target.specs.Targets.{setup_for, legs_for, point_for}
+use Rattle.gang_target.specs.Targets.{setup_now, legs_for, point_for}
 
 -- Whatever the resets that are still to come leave, there is one script that begins with these moves and goes on with the rest.
 abbrev pub OnWay : Legs → List Move → (Broken → List Move) → Type 0
@@ -66,4 +66,4 @@ Stands l goal s a way (place.Ended e) made here return_at now = HasEnded (all_le
 
 -- a target to this goal, with its window of the arena, on a bench
 abbrev pub StandsOn : Stand → List Move → (goal : List ℕ) → GangTarget → List (List ℕ) → BenchState → Type 0
-StandsOn a way goal t arena now = Stands (legs_for t goal) goal (setup_for t) a way t.place t.made (point_for t arena now.cells) t.calls.machine.return_at now
+StandsOn a way goal t arena now = Stands (legs_for t goal) goal (setup_now t) a way t.place t.made (point_for t arena now.cells) t.calls.machine.return_at now

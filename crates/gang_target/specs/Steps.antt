@@ -14,7 +14,7 @@ use Rattle.gang_target.specs.declared.cursor.Step.TheVariants as step
 use Rattle.gang_target.specs.declared.part.Part.{Part}
 use Rattle.gang_target.specs.declared.target.GangTarget.{GangTarget}
 use Rattle.gang_target.specs.Rest.{phase_calls, leg_at, later_than, rest_of, with_torn, with_last}
-use Rattle.gang_target.specs.Targets.{setup_for, setup_on, legs_for, size_for, has_second, errand_in}
+use Rattle.gang_target.specs.Targets.{setup_now, setup_on, legs_for, size_for, has_second, errand_in}
 
 -- the bytes of a call
 abbrev pub bytes_at : List ℕ → ℕ → ℕ → List ℕ
@@ -46,7 +46,7 @@ has_phase t r p false = (goal : List ℕ) → phase_calls (leg_at (legs_for t go
 pub record IsAsked (t : GangTarget) (call : Call) (from len : ℕ) : Type 0 where
   pub within : from + len ≤ size_for t
   pub fits : len ≤ length t.page.items
-  pub may : (bytes : List ℕ) → length bytes ≡ len → MayAsk (setup_for t) call bytes
+  pub may : (bytes : List ℕ) → length bytes ≡ len → MayAsk (setup_now t) call bytes
 
 -- a target whose second region's machine moved last, or whose first one's did, may stand here
 abbrev pub IsCursor : (has moved : Bool) → Cursor → Type 0
@@ -61,7 +61,7 @@ IsStepOf t rest (step.Begin r p) =
     ((goal : List ℕ) (b : Broken) (torn : List ℕ) → rest goal (with_torn r p torn b) ≡ Reset (setup_on t r) torn ∷ Load (setup_on t r) ∷ rest_of (legs_for t goal) (at.Init r p) b)
     × (IsTrue r → IsTrue (has_second t))
 IsStepOf t rest (step.Call call from len next) =
-    ((goal : List ℕ) (b : Broken) → rest goal b ≡ Make (setup_for t) call (bytes_at goal from len) ∷ rest_of (legs_for t goal) next b)
+    ((goal : List ℕ) (b : Broken) → rest goal b ≡ Make (setup_now t) call (bytes_at goal from len) ∷ rest_of (legs_for t goal) next b)
     × IsAsked t call from len × IsCursor (has_second t) t.second next
 IsStepOf t rest step.Last = (goal : List ℕ) (b : Broken) (torn : List ℕ) → rest goal (with_last torn b) ≡ Reset (setup_on t false) torn ∷ []
 

@@ -39,8 +39,8 @@ abbrev pub map_on : GangTarget → Bool → FlashMap
 map_on t second = map_of (calls_on t second)
 
 -- what the calls of the region that moved last rest on
-abbrev pub setup_for : GangTarget → Setup
-setup_for t = setup_at t.calls
+abbrev pub setup_now : GangTarget → Setup
+setup_now t = setup_at t.calls
 
 -- where its machine stands, with its window of the arena and over these cells
 abbrev pub point_for : GangTarget → List (List ℕ) → List ℕ → Point

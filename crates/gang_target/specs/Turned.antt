@@ -6,7 +6,7 @@ use Rattle.algo_calls.specs.Calls.{after_reset}
 use Rattle.algo_calls.specs.Shows.{setup_at, world_at, Fits}
 use Rattle.algo_calls.specs.declared.calls_in.CallsIn.{CallsIn}
 use Rattle.gang_target.specs.declared.target.GangTarget.{GangTarget}
-use Rattle.gang_target.specs.Targets.{setup_for, map_of}
+use Rattle.gang_target.specs.Targets.{setup_now, map_of}
 use Rattle.gang_target.specs.Turns.{SameTarget}
 use Rattle.gang_target.specs.Fit.{AreTwins}
 
@@ -25,8 +25,8 @@ pub record TurnsTo (second : Bool) (old : GangTarget) (arena : List (List ℕ)) 
   pub twins : AreTwins new
   pub moved : new.second ≡ second
   pub rest : new ≡ record old { calls = new.calls; other = new.other; second = new.second }
-  pub stands : (w : World) (operation : Option (ℕ × ℕ)) (torn cells : List ℕ) → world_at old.calls arena old.window cells ≡ after_reset (setup_for old) w operation torn
-      → world_at new.calls arena' old.window cells ≡ after_reset (setup_for old) w operation torn
+  pub stands : (w : World) (operation : Option (ℕ × ℕ)) (torn cells : List ℕ) → world_at old.calls arena old.window cells ≡ after_reset (setup_now old) w operation torn
+      → world_at new.calls arena' old.window cells ≡ after_reset (setup_now old) w operation torn
   pub map : map_of new.calls ≡ map_of old.calls
   pub only : OnlyIn old.window arena arena'
   pub fits : Fits new.calls arena' old.window

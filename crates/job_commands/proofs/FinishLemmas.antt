@@ -40,7 +40,7 @@ use Rattle.command_answers.specs.Answered.{IsUnless}
 use Rattle.command_answers.specs.Places.{address_at}
 use Rattle.job_commands.specs.Work.{Work, body, layout_of, plan_in, plans_in, plans_of, legs_of, start_for, Ends, IsOnPath, KeepsDuties, IsOutsidePlanAsSurveyed}
 use Rattle.job_commands.specs.Carry.{HasReached, done_text}
-use Rattle.job_commands.specs.GoOn.{goal_cells}
+use Rattle.job_commands.specs.GoOn.{goal_in as text_goal_in}
 use Rattle.job_commands.specs.Steps.{session_work, FinishComes, Finishes}
 
 -- what a stop of a close leaves, to the goal of a survey
@@ -101,7 +101,7 @@ module _ (tells : Bool) (told : IsTrue tells) (j : code.Job) (goal : Goal) (text
   abbrev its_work : Work
   its_work = session_work goal j text cells
 
-  pub same_goal : (g : Goal) → goal_in j g file ≡ goal_cells g text (board.shown j.board)
+  pub same_goal : (g : Goal) → goal_in j g file ≡ text_goal_in g text (board.shown j.board)
   same_goal New = ap (λ (r : List Run). overlaid r j.board.regions (snapshot_in j file)) (sym image) ∙ ap (λ (c : List ℕ). overlaid text.image j.board.regions c) (sym snapshot)
   same_goal Old = sym snapshot
 

@@ -25,7 +25,7 @@ use Rattle.command_answers.specs.Answered.{yields, Refuses, OnlyLooked, StandsEa
 use Rattle.command_answers.proofs.FileLemmas.{not_free}
 use Rattle.job_commands.specs.Work.{Work, body}
 use Rattle.job_commands.specs.Carry.{Comes, Carries}
-use Rattle.job_commands.specs.GoOn.{goal_cells, work_to, GoOnAnswers}
+use Rattle.job_commands.specs.GoOn.{goal_in, work_to, GoOnAnswers}
 use Rattle.job_commands.specs.Beginning.{HasTexts, job_for, OverFile}
 use Rattle.job_commands.specs.Program.{Begins, ProgramAnswers}
 use Rattle.job_commands.specs.Begin.{Starts, BeginAnswers}
@@ -99,7 +99,7 @@ carried_keeps call answer w aim goal zero_is whole bodies goals carries = record
   };
 }
 
-same_goal : (goal : Goal) (job : Job) (b : board.Shown) → goal_of (aim_of job b) (asked_by goal) ≡ goal_cells goal job b
+same_goal : (goal : Goal) (job : Job) (b : board.Shown) → goal_of (aim_of job b) (asked_by goal) ≡ goal_in goal job b
 same_goal New job b = refl
 same_goal Old job b = refl
 

@@ -20,13 +20,13 @@ use Rattle.job_commands.specs.Answers.{IsSound}
 use Rattle.job_commands.specs.Printed.{PrintsWork}
 
 -- the cells that a job is to leave: its image laid over its snapshot, or the snapshot
-abbrev pub goal_cells : Goal → Job → board.Shown → List ℕ
-goal_cells New job b = overlaid job.image b.regions job.snapshot
-goal_cells Old job b = job.snapshot
+abbrev pub goal_in : Goal → Job → board.Shown → List ℕ
+goal_in New job b = overlaid job.image b.regions job.snapshot
+goal_in Old job b = job.snapshot
 
 -- the work to that goal, with the cells as surveyed
 abbrev pub work_to : Goal → Job → board.Shown → List flm.Shown → List ℕ → Work
-work_to goal job b algorithms surveyed = work_on job b algorithms surveyed (goal_cells goal job b)
+work_to goal job b algorithms surveyed = work_on job b algorithms surveyed (goal_in goal job b)
 
 -- By what the file is. A file that is free, damaged or no job, or stands for a job of another number of cells, is refused, and was only
 -- looked at; the job of a file is carried to the goal.
