@@ -34,18 +34,18 @@ IsEnd a moves goal end.StoreFault cells = ⊥
 
 -- and on a bench, where a fault of the device or of the job file breaks the moves off at a point of their path
 abbrev pub EndsIn : Stand → List Move → List ℕ → SessionEnd → BenchState → Type 0
-EndsIn a moves goal (end.Reached r) now = IsEnd a moves goal (end.Reached r) now.cells
-EndsIn a moves goal (end.Mismatch d) now = IsEnd a moves goal (end.Mismatch d) now.cells
-EndsIn a moves goal (end.CallFailed number call e) now = IsEnd a moves goal (end.CallFailed number call e) now.cells
-EndsIn a moves goal end.DeviceFault now = BreaksOff a moves now
-EndsIn a moves goal end.StoreFault now = BreaksOff a moves now
+EndsIn a moves goal (end.Reached r) new = IsEnd a moves goal (end.Reached r) new.cells
+EndsIn a moves goal (end.Mismatch d) new = IsEnd a moves goal (end.Mismatch d) new.cells
+EndsIn a moves goal (end.CallFailed number call e) new = IsEnd a moves goal (end.CallFailed number call e) new.cells
+EndsIn a moves goal end.DeviceFault new = BreaksOff a moves new
+EndsIn a moves goal end.StoreFault new = BreaksOff a moves new
 
 -- With one choice of what broken-off operations leave, the end, the cells and each moment are those of the script of these regions. The
 -- goal is that of all cells.
-pub record Follows (legs : List Leg) (goal : List ℕ) (a : Stand) (e : SessionEnd) (start now : BenchState) : Type 0 where
+pub record Follows (legs : List Leg) (goal : List ℕ) (a : Stand) (e : SessionEnd) (old new : BenchState) : Type 0 where
   pub broken : Broken
-  pub ends : EndsIn a (script legs broken) goal e now
-  pub moments : Leaves (cells_half start) (cells_half now) (IsLeftOnWay a (script legs broken))
+  pub ends : EndsIn a (script legs broken) goal e new
+  pub moments : Leaves (cells_half old) (cells_half new) (IsLeftOnWay a (script legs broken))
 
 abbrev pub is_device_end : SessionEnd → Bool
 is_device_end (end.Reached r) = false
