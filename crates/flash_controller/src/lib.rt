@@ -8,7 +8,6 @@
 mod controller;
 mod flash;
 mod place;
-mod start;
 mod state;
 
 pub use controller::Controller;

@@ -6,8 +6,6 @@
 //! operation on the cells.
 #![tactic(auto)]
 
-mod control;
-mod flash;
 mod fpec;
 mod place;
 mod state;
