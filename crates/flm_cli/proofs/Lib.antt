@@ -5,7 +5,7 @@ pub mod InspectLemmas
 pub mod LooksLemmas
 pub mod PlanLemmas
 pub mod TopLemmas
-pub mod UnlikeLemmas
+pub mod DifferenceLemmas
 pub mod VerifyLemmas
 pub mod LawLemmas
 pub mod PlaceLemmas

@@ -7,7 +7,6 @@ mod inspect;
 mod law;
 mod plan;
 mod top;
-mod unlike;
 mod verify;
 
 pub use demo_job::{Demo, DemoLines, demo_run, made_cells, put_demo};

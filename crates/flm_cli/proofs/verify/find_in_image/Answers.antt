@@ -1,7 +1,7 @@
 use Rattle.std.proofs.Common.{rules, ◌≡◌, Err}
 use Rattle.device_dump.proofs.LooksLemmas.{looks_dropped, looks_by}
 use Rattle.flm_cli.proofs.LooksLemmas.{found_in_image}
-use Rattle.flm_cli.proofs.unlike.find_in_image.Goals as goal
+use Rattle.flm_cli.proofs.verify.find_in_image.Goals as goal
 
 pub returns-in_err-cells_drop-clause-looks : goal.returns-in_err-cells_drop-clause-looks
 returns-in_err-cells_drop-clause-looks g c =

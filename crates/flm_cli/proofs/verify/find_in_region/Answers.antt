@@ -1,6 +1,6 @@
 use Rattle.std.proofs.Common.{refl, sym, arith, ◌∙◌}
-use Rattle.flm_cli.proofs.UnlikeLemmas.{run_ends, runs_then, runs_differ, all_agree}
-use Rattle.flm_cli.proofs.unlike.find_in_region.Goals as goal
+use Rattle.flm_cli.proofs.DifferenceLemmas.{run_ends, runs_then, runs_differ, all_agree}
+use Rattle.flm_cli.proofs.verify.find_in_region.Goals as goal
 
 pub find_in_run-requires-clause-run_ends : goal.find_in_run-requires-clause-run_ends
 find_in_run-requires-clause-run_ends g c =

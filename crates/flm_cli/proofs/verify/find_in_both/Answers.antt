@@ -4,7 +4,7 @@ use Rattle.readback.proofs.ReadbackLemmas.{only_reads_cells_then}
 use Rattle.command_files.proofs.WantedLemmas.{size_of_two}
 use Rattle.flm_cli.proofs.PlanLemmas.{two_regions}
 use Rattle.flm_cli.proofs.PlaceLemmas.{first_differs, second_finds}
-use Rattle.flm_cli.proofs.unlike.find_in_both.Goals as goal
+use Rattle.flm_cli.proofs.verify.find_in_both.Goals as goal
 
 pub find_in_region-requires-clause-fits : goal.find_in_region-requires-clause-fits
 find_in_region-requires-clause-fits g c =

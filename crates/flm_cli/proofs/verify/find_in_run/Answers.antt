@@ -1,6 +1,6 @@
 use Rattle.std.proofs.Common.{rules, ◌≡◌, refl, arith}
-use Rattle.flm_cli.proofs.UnlikeLemmas.{clip_none, clip_same, clip_differs}
-use Rattle.flm_cli.proofs.unlike.find_in_run.Goals as goal
+use Rattle.flm_cli.proofs.DifferenceLemmas.{clip_none, clip_same, clip_differs}
+use Rattle.flm_cli.proofs.verify.find_in_run.Goals as goal
 
 pub returns-then-end-from-clause-ok : goal.returns-then-end-from-clause-ok
 returns-then-end-from-clause-ok g c =

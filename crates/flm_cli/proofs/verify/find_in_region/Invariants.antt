@@ -1,5 +1,5 @@
-use Rattle.flm_cli.proofs.UnlikeLemmas.{RunsSoFar}
-use Rattle.flm_cli.proofs.unlike.find_in_region.Given as goal
+use Rattle.flm_cli.proofs.DifferenceLemmas.{RunsSoFar}
+use Rattle.flm_cli.proofs.verify.find_in_region.Given as goal
 
 abbrev pub invariant-loop-index : goal.invariant-loop-index
 invariant-loop-index g l =

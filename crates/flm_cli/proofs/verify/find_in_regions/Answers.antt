@@ -1,7 +1,7 @@
 use Rattle.std.proofs.Common.{◌≡◌, ◌∙◌, sym, ap, arith, length}
 use Rattle.command_files.proofs.WantedLemmas.{only_one, size_of_one}
 use Rattle.flm_cli.proofs.PlaceLemmas.{one_finds}
-use Rattle.flm_cli.proofs.unlike.find_in_regions.Goals as goal
+use Rattle.flm_cli.proofs.verify.find_in_regions.Goals as goal
 
 pub find_in_region-requires-clause-fits : goal.find_in_region-requires-clause-fits
 find_in_region-requires-clause-fits g c =
