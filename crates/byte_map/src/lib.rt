@@ -4,7 +4,7 @@
 mod chunk;
 mod conflict;
 mod fault;
-mod joining;
+mod join;
 mod law;
 mod map;
 mod overlay;

@@ -4,7 +4,7 @@ ghost use Rattle.byte_map.specs.Image.{addresses, byte_at, over, AreMaximal};
 
 use crate::conflict::find_clash;
 use crate::fault::LayFault;
-use crate::joining::join;
+use crate::join::join;
 use crate::overlay::overlay;
 use crate::run_list::RunList;
 use crate::search::find_touched;

@@ -8,8 +8,8 @@ ghost use Rattle.outside_io.specs.Puts.{Puts};
 ghost use Rattle.device_dump.specs.Dump.{text_in, DumpEnds};
 ghost use Rattle.device_dump.specs.Steps.{DumpsCells, PutsCells};
 
+use crate::cell_survey::survey;
 use crate::cells::{know_bytes, map_of_cells};
-use crate::looking::survey;
 use bench_model::Bench;
 use board_file::{Board, Region};
 use byte_map::ByteMap;

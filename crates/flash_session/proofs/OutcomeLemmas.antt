@@ -8,9 +8,9 @@ use Rattle.readback.specs.declared.compare.Difference.{Difference}
 use Rattle.algo_calls.specs.declared.call.Call.{Call}
 use Rattle.algo_calls.specs.declared.call.CallEnd.{CallEnd}
 use Rattle.algo_calls.specs.Shows.{world_in}
-use Rattle.flash_session.specs.declared.ending.Reached.{Reached}
-use Rattle.flash_session.specs.declared.ending.SessionEnd.{SessionEnd}
-use Rattle.flash_session.specs.declared.ending.SessionEnd.TheVariants as end
+use Rattle.flash_session.specs.declared.session_end.Reached.{Reached}
+use Rattle.flash_session.specs.declared.session_end.SessionEnd.{SessionEnd}
+use Rattle.flash_session.specs.declared.session_end.SessionEnd.TheVariants as end
 use Rattle.flash_session.specs.declared.machines.Machines.{Machines}
 use Rattle.flash_session.specs.declared.errand.Errand.{Errand}
 use Rattle.flash_session.specs.declared.stopped.Stopped.{Stopped}

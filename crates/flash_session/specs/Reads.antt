@@ -3,8 +3,8 @@ use Rattle.std.specs.Prelude.{◌≡◌, Bool, true, false, IsTrue, ℕ, List, R
 use Rattle.bench_model.specs.State.{BenchState}
 use Rattle.job_text.specs.Stands.{StandsFor}
 use Rattle.job_text.specs.declared.job.Job.{Job}
-use Rattle.flash_session.specs.declared.comparing.Unread.{Unread}
-use Rattle.flash_session.specs.declared.comparing.Unread.TheVariants as unread
+use Rattle.flash_session.specs.declared.compare.Unread.{Unread}
+use Rattle.flash_session.specs.declared.compare.Unread.TheVariants as unread
 use Rattle.flash_session.specs.declared.goal.Goal.{Goal}
 use Rattle.flash_session.specs.Goals.{goal_in}
 

@@ -3,16 +3,16 @@
 //! leaves; the law says that this is what a campaign asks of its calls.
 #![tactic(auto)]
 
-mod beginning;
-mod carrying;
-mod going_on;
+mod carry;
+mod first_commands;
+mod job_begin;
+mod later_commands;
 mod law;
-mod printing;
-mod programming;
+mod put_plans;
 mod refusals;
-mod starting;
+mod start;
 
-pub use beginning::begin_job;
-pub use going_on::go_on;
+pub use first_commands::{begin, program};
+pub use job_begin::begin_job;
+pub use later_commands::go_on;
 pub use law::{Calls, OneCall, calls_are_safe, calls_keep};
-pub use programming::{begin, program};

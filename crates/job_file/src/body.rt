@@ -15,8 +15,8 @@ ghost use Rattle.job_file.specs.Counted.{IsCounted, is_store_fault, is_device_fa
 ghost use Rattle.job_file.specs.Stops.{IsShut, KeepsGate, Appends};
 
 use crate::fault::BeginFault;
-use crate::hashing::hash_front;
-use crate::reading::{PIECE, piece_end};
+use crate::hash_front::hash_front;
+use crate::pieces::{PIECE, piece_end};
 use bench_model::{Bench, StoreFault};
 use byte_map::ByteMap;
 use job_text::{JobParts, run_head};

@@ -14,7 +14,7 @@ ghost use Rattle.job_file.specs.Readers.{Fails, Gives, is_read_fault, head_read,
 use crate::damage::{find_damage, read_format};
 use crate::fault::{LookFault, ReadFault};
 use crate::image::read_runs;
-use crate::reading::PIECE;
+use crate::pieces::PIECE;
 use crate::texts::{Said, read_said};
 use bench_model::{Bench, StoreFault};
 use faults::OutOfMemory;

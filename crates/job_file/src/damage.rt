@@ -8,7 +8,7 @@ ghost use Rattle.job_text.specs.Reading.{is_second, format_in};
 ghost use Rattle.job_text.specs.Shown.{IsDamage};
 ghost use Rattle.job_file.specs.Readers.{AreHashes, Differs};
 
-use crate::reading::{PIECE, piece_end};
+use crate::pieces::{PIECE, piece_end};
 use bench_model::{Bench, StoreFault};
 use job_text::{Damage, Format, format_of};
 use sha2::{Digest, Sha256};

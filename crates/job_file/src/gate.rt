@@ -12,7 +12,7 @@ ghost use Rattle.job_file.specs.Unopened.{UnopenedAtDeviceFault};
 
 use crate::body::put_hashed;
 use crate::fault::BeginFault;
-use crate::reading::PIECE;
+use crate::pieces::PIECE;
 use bench_model::{Bench, StoreFault, cut_synced, write_synced};
 use job_text::JobParts;
 

@@ -13,7 +13,7 @@ ghost use Rattle.job_file.specs.Counted.{IsCounted};
 ghost use Rattle.job_file.specs.Readers.{Fails, Gives, is_read_fault, IsNoVerdict, IsPlaced, IsLaid, AddsRun};
 
 use crate::fault::ReadFault;
-use crate::reading::{PIECE, piece_end};
+use crate::pieces::{PIECE, piece_end};
 use bench_model::{Bench, StoreFault};
 use board_file::Region;
 use byte_map::ByteMap;

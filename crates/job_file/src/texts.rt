@@ -12,7 +12,7 @@ ghost use Rattle.job_file.specs.Counted.{IsCounted};
 ghost use Rattle.job_file.specs.Readers.{Gives, is_read_fault, board_read, algorithm_read, file_there, second_there, texts_there, SecondFits, CountsFiles};
 
 use crate::fault::ReadFault;
-use crate::reading::read_text;
+use crate::pieces::read_text;
 use bench_model::Bench;
 use board_file::Board;
 use flm_descriptor::Algorithm;

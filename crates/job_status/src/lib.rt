@@ -1,6 +1,6 @@
 //! The command `status`: the job in the file, as `job_file` opens it.
 #![tactic(auto)]
 
-mod telling;
+mod status_command;
 
-pub use telling::{open_refusal, status};
+pub use status_command::{open_refusal, status};

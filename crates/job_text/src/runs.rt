@@ -10,7 +10,7 @@ ghost use Rattle.job_text.specs.Shown.{Gives};
 
 use crate::fault::JobFault;
 use crate::fields::{take_number, take_text};
-use crate::fitting::covers;
+use crate::fit::covers;
 use board_file::Region;
 use byte_map::{ByteMap, LayFault};
 use faults::OutOfMemory;

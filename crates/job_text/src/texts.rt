@@ -11,7 +11,7 @@ ghost use Rattle.job_text.specs.Shown.{Gives};
 
 use crate::fault::JobFault;
 use crate::fields::take_text;
-use crate::fitting::fits_in;
+use crate::fit::fits_in;
 use crate::head::{Head, Places};
 use board_file::{Board, BoardFault, read_board};
 use flm_descriptor::{Algorithm, FlmFault, read_flm};

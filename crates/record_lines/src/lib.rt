@@ -8,13 +8,13 @@ mod digits;
 mod fault;
 mod gathered;
 mod law;
-mod laying;
 mod payload;
 mod reader;
+mod record_cells;
 
 pub use digits::{all_digits, byte_sum, decode};
 pub use fault::{ClashFault, LineFault, TextFault};
 pub use law::texts_have_one_reading;
-pub use laying::lay_cells;
 pub use payload::Payload;
 pub use reader::{RecordFormat, read_records};
+pub use record_cells::lay_cells;

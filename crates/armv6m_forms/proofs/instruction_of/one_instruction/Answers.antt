@@ -1,0 +1,5 @@
+use Rattle.armv6m_forms.proofs.RowLemmas.{one_for_each}
+use Rattle.armv6m_forms.proofs.instruction_of.one_instruction.Goals as goal
+
+pub returns : goal.returns
+returns c = one_for_each

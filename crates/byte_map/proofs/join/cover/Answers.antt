@@ -1,0 +1,7 @@
+use Rattle.byte_map.proofs.Grown.{lays_covered}
+use Rattle.byte_map.proofs.join.cover.Goals as goal
+
+pub returns-clause-ok : goal.returns-clause-ok
+returns-clause-ok c =
+    lays_covered _ c.args.runs.now c.remove.new.self c.args.first c.args.last c.requires.can c.requires.some c.requires.begins c.requires.ends
+    (rw (← c.in_ok-run.ensures, ← c.replace.ensures) c.remove.ensures)

@@ -1,0 +1,16 @@
+use Rattle.std.proofs.Common.{rules, ◌≡◌, ◌∙◌, sym, Err}
+use Rattle.device_dump.proofs.LooksLemmas.{looks_dropped, looks_by, only_reads, all_read}
+use Rattle.device_dump.proofs.cell_survey.survey.Goals as goal
+
+pub returns-in_err-cells_drop-clause-looks : goal.returns-in_err-cells_drop-clause-looks
+returns-in_err-cells_drop-clause-looks g c =
+    let u = c.from_residual.ensures in
+    let is : c.from_residual.result ≡ Err c.in_err-cells_drop.field-0.0 = search rules in
+    rw is (looks_dropped c.in_err-cells_drop.field-0.0 c.in_err-cells_drop.ensures.does)
+
+pub returns-clause-surveyed : goal.returns-clause-surveyed
+returns-clause-surveyed g c = all_read c.args.cells.now c.read_cells.new.out c.read_cells.result c.read_cells.ensures
+    (λ told. g.met.B.Bench.all_told c.cells_drop.new.self told ∙ c.in_ok-cells_drop.ensures.does.count ∙ sym c.requires)
+
+pub returns-clause-looks : goal.returns-clause-looks
+returns-clause-looks g c = looks_by _ c.in_ok-cells_drop.ensures.does (only_reads c.read_cells.ensures) c.read_cells.result c.read_cells.ensures.cause

@@ -1,0 +1,89 @@
+use Rattle.std.proofs.Common.{◌≡◌, ◌<◌, ◌∙◌, ℕ, refl, sym, ap, subst, arith, drop, length, List, Some}
+use Rattle.board_file.specs.declared.region.Region.{Region}
+use Rattle.board_file.specs.Limits.{size_of}
+use Rattle.board_file.proofs.Laws.{region_at}
+use Rattle.command_answers.specs.Places.{address_at}
+use Rattle.bench_model.specs.History.{LeftOnly}
+use Rattle.bench_model.specs.State.{file_half}
+use Rattle.bench_model.proofs.Moments.{still_only}
+use Rattle.job_text.specs.Files.{IsWhole}
+use Rattle.job_commands.proofs.SurveyLemmas.{whole_behind}
+use Rattle.job_text.specs.declared.job.Job as code
+use Rattle.flash_session.specs.Sessions.{job_in, surveyed}
+use Rattle.job_commands.proofs.FinishLemmas.{closed_as, ends_mismatch, ends_failed, ends_at_fault, ends_unread, ends_done, ends_cut, ends_unclosed}
+use Rattle.job_commands.proofs.carry.finish.Goals as goal
+
+pub returns-in-Mismatch-clause-sound : goal.returns-in-Mismatch-clause-sound
+returns-in-Mismatch-clause-sound g c = c.in-Mismatch.ensures.sound.1
+
+pub returns-in-Ok-put_end-clause-prints : goal.returns-in-Ok-put_end-clause-prints
+returns-in-Ok-put_end-clause-prints g c = record { taken = c.in-Ok-put_end.ensures.ok; faults = c.in-Ok-put_end.ensures.cause.on_ok refl }
+
+pub returns-in-Err-put_end-clause-prints : goal.returns-in-Err-put_end-clause-prints
+returns-in-Err-put_end-clause-prints g c = record { taken = c.in-Err-put_end.ensures.err; later = c.in-Err-put_end.ensures.cause.later; rose = c.in-Err-put_end.ensures.cause.on_fault refl }
+
+pub returns-in-CallFailed-clause-sound : goal.returns-in-CallFailed-clause-sound
+returns-in-CallFailed-clause-sound g c = c.in-CallFailed.ensures.sound
+
+pub returns-in-Mismatch-clause-told : goal.returns-in-Mismatch-clause-told
+returns-in-Mismatch-clause-told g c = λ told goal stands has.
+    ends_mismatch g.B.Bench.tells g.O.Sink.tells told (job_in c.args.session.now) goal (g.B.Bench.state c.args.bench.now) (g.B.Bench.state c.go.new.bench)
+    (g.O.Sink.state c.args.out.now) stands (c.requires.only told) c.go.ensures.file (surveyed c.args.session.now) has (c.go.ensures.local told) c.in-Mismatch.difference
+    c.address_of.result (subst (λ (rs : List Region). address_at rs c.in-Mismatch.difference.at ≡ Some c.address_of.result) (c.as_slice.ensures ∙ ap (λ (k : code.Job). k.board.regions) (c.job.ensures ∙ c.go.ensures.job)) c.address_of.ensures) (c.in-Mismatch.ensures.follows told) (c.in-Mismatch.ensures.reaches told)
+
+pub returns-in-CallFailed-clause-told : goal.returns-in-CallFailed-clause-told
+returns-in-CallFailed-clause-told g c = λ told goal stands has.
+    ends_failed g.B.Bench.tells g.O.Sink.tells told (job_in c.args.session.now) goal (g.B.Bench.state c.args.bench.now) (g.B.Bench.state c.go.new.bench)
+    (g.O.Sink.state c.args.out.now) stands (c.requires.only told) c.go.ensures.file (surveyed c.args.session.now) has (c.go.ensures.local told) c.in-CallFailed.number c.in-CallFailed.call c.in-CallFailed.end
+    (c.in-CallFailed.ensures.follows told) (c.in-CallFailed.ensures.reaches told)
+
+pub returns-in-DeviceFault-clause-told : goal.returns-in-DeviceFault-clause-told
+returns-in-DeviceFault-clause-told g c = λ told goal stands has.
+    ends_at_fault g.B.Bench.tells g.O.Sink.tells told (job_in c.args.session.now) goal (g.B.Bench.state c.args.bench.now) (g.B.Bench.state c.go.new.bench)
+    (g.O.Sink.state c.args.out.now) stands (c.requires.only told) c.go.ensures.file (surveyed c.args.session.now) has (c.go.ensures.local told) (c.in-DeviceFault.ensures.follows told)
+
+pub returns-in-StoreFault-clause-told : goal.returns-in-StoreFault-clause-told
+returns-in-StoreFault-clause-told g c = λ told goal stands has.
+    ends_unread g.B.Bench.tells g.O.Sink.tells told (job_in c.args.session.now) goal (g.B.Bench.state c.args.bench.now) (g.B.Bench.state c.go.new.bench)
+    (g.O.Sink.state c.args.out.now) stands (c.requires.only told) c.go.ensures.file (surveyed c.args.session.now) has (c.go.ensures.local told) (c.in-StoreFault.ensures.follows told)
+
+pub returns-in-Ok-put_end-clause-told : goal.returns-in-Ok-put_end-clause-told
+returns-in-Ok-put_end-clause-told g c = λ told goal stands has.
+    ends_done g.B.Bench.tells g.O.Sink.tells told (job_in c.args.session.now) goal (g.B.Bench.state c.args.bench.now) (g.B.Bench.state c.go.new.bench)
+    (g.O.Sink.state c.args.out.now) stands (c.requires.only told) c.go.ensures.file (surveyed c.args.session.now) has (c.go.ensures.local told) (g.B.Bench.state c.close.new.bench) c.in-Reached.reached
+    (c.in-Reached.ensures.follows told) (c.in-Reached.ensures.idle told tt) c.close.ensures.cells (closed_as (g.B.Bench.state c.go.new.bench) (g.B.Bench.state c.close.new.bench) (job_in c.go.new.self) (job_in c.args.session.now) (surveyed c.go.new.self) (surveyed c.args.session.now) c.go.ensures.job c.go.ensures.work (c.close.ensures.pairs told))
+    (g.O.Sink.state c.put_end.new.out) (c.in-Ok.ensures.ok told).0 (record { taken = c.in-Ok-put_end.ensures.ok; faults = c.in-Ok-put_end.ensures.cause.on_ok refl })
+
+pub returns-in-Err-put_end-clause-told : goal.returns-in-Err-put_end-clause-told
+returns-in-Err-put_end-clause-told g c = λ told goal stands has.
+    ends_cut g.B.Bench.tells g.O.Sink.tells told (job_in c.args.session.now) goal (g.B.Bench.state c.args.bench.now) (g.B.Bench.state c.go.new.bench)
+    (g.O.Sink.state c.args.out.now) stands (c.requires.only told) c.go.ensures.file (surveyed c.args.session.now) has (c.go.ensures.local told) (g.B.Bench.state c.close.new.bench) c.in-Reached.reached
+    (c.in-Reached.ensures.follows told) (c.in-Reached.ensures.idle told tt) c.close.ensures.cells (closed_as (g.B.Bench.state c.go.new.bench) (g.B.Bench.state c.close.new.bench) (job_in c.go.new.self) (job_in c.args.session.now) (surveyed c.go.new.self) (surveyed c.args.session.now) c.go.ensures.job c.go.ensures.work (c.close.ensures.pairs told))
+    (g.O.Sink.state c.put_end.new.out) (c.in-Ok.ensures.ok told).0
+    (record { taken = c.in-Err-put_end.ensures.err; later = c.in-Err-put_end.ensures.cause.later; rose = c.in-Err-put_end.ensures.cause.on_fault refl })
+
+pub returns-in-Err-clause-told : goal.returns-in-Err-clause-told
+returns-in-Err-clause-told g c = λ told goal stands has.
+    ends_unclosed g.B.Bench.tells g.O.Sink.tells told (job_in c.args.session.now) goal (g.B.Bench.state c.args.bench.now) (g.B.Bench.state c.go.new.bench)
+    (g.O.Sink.state c.args.out.now) stands (c.requires.only told) c.go.ensures.file (surveyed c.args.session.now) has (c.go.ensures.local told) (g.B.Bench.state c.close.new.bench) c.in-Reached.reached
+    (c.in-Reached.ensures.follows told) (c.in-Reached.ensures.idle told tt) c.close.ensures.cells (closed_as (g.B.Bench.state c.go.new.bench) (g.B.Bench.state c.close.new.bench) (job_in c.go.new.self) (job_in c.args.session.now) (surveyed c.go.new.self) (surveyed c.args.session.now) c.go.ensures.job c.go.ensures.work (c.close.ensures.pairs told)) (c.in-Err.ensures.err told)
+
+pub close-requires-clause-whole : goal.close-requires-clause-whole
+close-requires-clause-whole g c = λ told.
+    subst (λ (l : List ℕ). IsWhole (drop 1 l) l) (sym (c.go.ensures.file.file told)) (whole_behind _ (g.B.Bench.state c.args.bench.now).file (c.requires.stands told).whole)
+
+pub close-requires-clause-only : goal.close-requires-clause-only
+close-requires-clause-only g c = λ told.
+    subst (λ (l : List ℕ). LeftOnly l (file_half (g.B.Bench.state c.go.new.bench))) (sym (c.go.ensures.file.file told))
+    (still_only (g.B.Bench.state c.args.bench.now).file c.go.ensures.file.moments (c.requires.only told))
+
+pub address_of-requires-clause-inside : goal.address_of-requires-clause-inside
+address_of-requires-clause-inside g c =
+    let regions : c.as_slice.result.now ≡ (job_in c.args.session.now).board.regions = c.as_slice.ensures ∙ ap (λ (k : code.Job). k.board.regions) (c.job.ensures ∙ c.go.ensures.job) in
+    subst (λ (rs : List Region). c.in-Mismatch.difference.at < size_of rs) (sym regions) c.in-Mismatch.ensures.sound.0
+
+pub address_of-requires-clause-few : goal.address_of-requires-clause-few
+address_of-requires-clause-few g c = omega (arith, ap length c.as_slice.ensures, c.job.result.now.board.few_regions)
+
+pub address_of-requires-clause-fit : goal.address_of-requires-clause-fit
+address_of-requires-clause-fit g c = λ k d less. (region_at c.as_slice.result.now k d less (rw c.as_slice.ensures c.job.result.now.board.regions_fit)).ends

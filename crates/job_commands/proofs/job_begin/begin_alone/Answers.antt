@@ -1,0 +1,94 @@
+use Rattle.std.proofs.Common.{rules, ◌≡◌, refl, Err}
+use Rattle.report_text.specs.Shown.{shown}
+use Rattle.command_answers.specs.Call.{bench_call, sink_call}
+use Rattle.job_commands.specs.Begin.{begun_text}
+use Rattle.job_commands.proofs.KindLemmas.{start_alone, start_before}
+use Rattle.job_commands.proofs.PrintLemmas.{start_prints_begun}
+use Rattle.job_commands.proofs.CountLemmas.{put_counted, unput_counted}
+use Rattle.job_commands.proofs.StartLemmas.{starts_with, starts_put, starts_cut}
+use Rattle.job_commands.proofs.job_begin.begin_alone.Goals as goal
+
+pub returns-in_err-start-clause-told : goal.returns-in_err-start-clause-told
+returns-in_err-start-clause-told g c =
+    let a = g.B.Bench.state c.args.bench.now in
+    let b = g.B.Bench.state c.start.new.bench in
+    let o = g.O.Sink.state c.args.out.now in
+    let is : c.from_residual.result ≡ Err c.in_err-start.field-0.0 = search rules in
+    rw is (λ told. starts_with (bench_call g.B.Bench.tells a b) (sink_call g.O.Sink.tells o o) begun_text c.args.parts.now (shown c.in_err-start.field-0.0)
+    c.in_err-start.ensures.kind (c.in_err-start.ensures.told told g.O.Sink.tells o))
+
+pub returns-in_err-start-clause-early : goal.returns-in_err-start-clause-early
+returns-in_err-start-clause-early g c =
+    let is : c.from_residual.result ≡ Err c.in_err-start.field-0.0 = search rules in
+    rw is (c.in_err-start.ensures.early g.O.Sink.tells (g.O.Sink.state c.args.out.now))
+
+pub returns-in_err-start-clause-kind : goal.returns-in_err-start-clause-kind
+returns-in_err-start-clause-kind g c =
+    let is : c.from_residual.result ≡ Err c.in_err-start.field-0.0 = search rules in
+    rw is (start_alone (shown c.in_err-start.field-0.0) c.in_err-start.ensures.kind)
+
+pub returns-in_err-start-clause-prints : goal.returns-in_err-start-clause-prints
+returns-in_err-start-clause-prints g c =
+    let o = g.O.Sink.state c.args.out.now in
+    let is : c.from_residual.result ≡ Err c.in_err-start.field-0.0 = search rules in
+    rw is (start_prints_begun (g.B.Bench.state c.args.bench.now).cell_count (sink_call g.O.Sink.tells o o) (shown c.in_err-start.field-0.0) c.in_err-start.ensures.kind
+    (record { taken = refl; faults = refl }))
+
+pub returns-in_err-start-clause-sized : goal.returns-in_err-start-clause-sized
+returns-in_err-start-clause-sized g c =
+    let is : c.from_residual.result ≡ Err c.in_err-start.field-0.0 = search rules in
+    rw is (λ its. absurd (start_before (shown c.in_err-start.field-0.0) c.in_err-start.ensures.kind its))
+
+pub returns-in_err-start-clause-sound : goal.returns-in_err-start-clause-sound
+returns-in_err-start-clause-sound g c =
+    let is : c.from_residual.result ≡ Err c.in_err-start.field-0.0 = search rules in
+    rw is c.in_err-start.ensures.sound
+
+pub returns-in_err-start-clause-counts : goal.returns-in_err-start-clause-counts
+returns-in_err-start-clause-counts g c =
+    let is : c.from_residual.result ≡ Err c.in_err-start.field-0.0 = search rules in
+    rw is (c.in_err-start.ensures.counts g.O.Sink.tells (g.O.Sink.state c.args.out.now))
+
+pub returns-in-Ok-clause-told : goal.returns-in-Ok-clause-told
+returns-in-Ok-clause-told g c = λ told.
+    let a = g.B.Bench.state c.args.bench.now in
+    let b = g.B.Bench.state c.start.new.bench in
+    let p = g.O.Sink.state c.args.out.now in
+    let r = g.O.Sink.state c.put_end.new.out in
+    let puts = c.in-Ok.ensures in
+    starts_put g.B.Bench.tells g.O.Sink.tells a b p r begun_text c.args.parts.now (c.in_ok-start.ensures.sized refl) (c.in_ok-start.ensures.told told g.O.Sink.tells p)
+    (record { taken = puts.ok; faults = puts.cause.on_ok refl })
+
+pub returns-in-Err-clause-told : goal.returns-in-Err-clause-told
+returns-in-Err-clause-told g c = λ told.
+    let a = g.B.Bench.state c.args.bench.now in
+    let b = g.B.Bench.state c.start.new.bench in
+    let p = g.O.Sink.state c.args.out.now in
+    let r = g.O.Sink.state c.put_end.new.out in
+    let puts = c.in-Err.ensures in
+    starts_cut g.B.Bench.tells g.O.Sink.tells a b p r begun_text c.args.parts.now (c.in_ok-start.ensures.sized refl) (c.in_ok-start.ensures.told told g.O.Sink.tells p)
+    (record { taken = puts.err; later = puts.cause.later; rose = puts.cause.on_fault refl })
+
+pub returns-in-Ok-clause-prints : goal.returns-in-Ok-clause-prints
+returns-in-Ok-clause-prints g c = record { taken = c.in-Ok.ensures.ok; faults = c.in-Ok.ensures.cause.on_ok refl }
+
+pub returns-in-Err-clause-prints : goal.returns-in-Err-clause-prints
+returns-in-Err-clause-prints g c = record { taken = c.in-Err.ensures.err; later = c.in-Err.ensures.cause.later; rose = c.in-Err.ensures.cause.on_fault refl }
+
+pub returns-in-Ok-clause-sized : goal.returns-in-Ok-clause-sized
+returns-in-Ok-clause-sized g c = λ its. c.in_ok-start.ensures.sized refl
+
+pub returns-in-Err-clause-sized : goal.returns-in-Err-clause-sized
+returns-in-Err-clause-sized g c = λ its. c.in_ok-start.ensures.sized refl
+
+pub returns-in-Ok-clause-counts : goal.returns-in-Ok-clause-counts
+returns-in-Ok-clause-counts g c =
+    let p = g.O.Sink.state c.args.out.now in
+    put_counted g.B.Bench.tells g.O.Sink.tells (g.B.Bench.state c.args.bench.now) (g.B.Bench.state c.start.new.bench) p (g.O.Sink.state c.put_end.new.out)
+    (c.in_ok-start.ensures.counts g.O.Sink.tells p) (c.in-Ok.ensures.cause.on_ok refl)
+
+pub returns-in-Err-clause-counts : goal.returns-in-Err-clause-counts
+returns-in-Err-clause-counts g c =
+    let p = g.O.Sink.state c.args.out.now in
+    unput_counted g.B.Bench.tells g.O.Sink.tells (g.B.Bench.state c.args.bench.now) (g.B.Bench.state c.start.new.bench) p (g.O.Sink.state c.put_end.new.out)
+    (c.in_ok-start.ensures.counts g.O.Sink.tells p) (c.in-Err.ensures.cause.on_fault refl) c.in-Err.ensures.cause.later

@@ -1,0 +1,84 @@
+//! The commands that begin a job of files: `program` carries it to its image, and `begin` goes no further.
+ghost use Rattle.std.specs.Prelude.{◌≡◌, All, IsSome, option_copied};
+ghost use Rattle.board_file.specs.Limits.{size_of};
+ghost use Rattle.command_words.specs.Files.{names_in};
+ghost use Rattle.command_words.specs.Requested.{files_of};
+ghost use Rattle.command_files.specs.Inputs.{inputs_call};
+ghost use Rattle.command_files.specs.Steps.{task_aim};
+ghost use Rattle.command_answers.specs.Call.{bench_call, sink_call};
+ghost use Rattle.command_answers.specs.Shown.{answer_of};
+ghost use Rattle.job_commands.specs.Program.{ProgramEnds};
+ghost use Rattle.job_commands.specs.Begin.{BeginEnds};
+
+use crate::job_begin::{begin_alone, begin_job};
+use bench_model::Bench;
+use command_files::{Task, cells_of, read_task};
+use command_words::FileNames;
+use job_text::JobParts;
+use octets::Bytes;
+use outside_io::{Inputs, Sink};
+use report_text::Refusal;
+use std::alloc::Global;
+
+/// `program [--raw-at ADDR] BOARD FLM... IMAGE...`: begins a job over a free file, with the union of images in the regions of the board,
+/// and carries it to its end: the cells are then the image laid over what they were.
+pub fn program<'a, B: Bench, I: Inputs, O: Sink>(
+    alloc: Global,
+    names: &FileNames<'a>,
+    bench: &mut B,
+    inputs: &mut I,
+    out: &mut O,
+) -> Result<(), Refusal<'a>>
+    requires has_flm { IsSome (files_of names.now).flm }
+    requires may_take { All (I.may_take inputs.old) (names_in (files_of names.now)) }
+    ensures { ProgramEnds (files_of names.now) (bench_call B.tells (B.state bench.old) (B.state bench.new))
+        (inputs_call I.tells (I.state inputs.old) (I.state inputs.new)) (sink_call O.tells (O.state out.old) (O.state out.new)) (answer_of result) }
+{
+    let task = read_task(alloc, names, inputs)?;
+    begin_job(alloc, &parts_of(&task), bench, out)
+}
+
+/// `begin [--raw-at ADDR] BOARD FLM... IMAGE...`: begins the job that `program` begins with these names, prints `begun`, and ends: no call
+/// of an algorithm is made, and no cell changes but in the range of an operation that was open.
+pub fn begin<'a, B: Bench, I: Inputs, O: Sink>(
+    alloc: Global,
+    names: &FileNames<'a>,
+    bench: &mut B,
+    inputs: &mut I,
+    out: &mut O,
+) -> Result<(), Refusal<'a>>
+    requires has_flm { IsSome (files_of names.now).flm }
+    requires may_take { All (I.may_take inputs.old) (names_in (files_of names.now)) }
+    ensures { BeginEnds (files_of names.now) (bench_call B.tells (B.state bench.old) (B.state bench.new))
+        (inputs_call I.tells (I.state inputs.old) (I.state inputs.new)) (sink_call O.tells (O.state out.old) (O.state out.new)) (answer_of result) }
+{
+    let task = read_task(alloc, names, inputs)?;
+    begin_alone(alloc, &parts_of(&task), bench, out)
+}
+
+/// The parts of the job that a task wants.
+fn parts_of(task: &Task) -> JobParts<'_>
+    ensures board { result.board.now ≡ task.now.board_text }
+    ensures flm { result.flm.now ≡ task.now.flm }
+    ensures second { option_copied result.second ≡ task.now.second }
+    ensures image { result.image.now ≡ (task_aim task.now).image }
+    ensures size { result.size ≡ size_of (task_aim task.now).board.regions }
+{
+    JobParts {
+        board: task.board_text.bytes(),
+        flm: task.flm.bytes(),
+        second: text_of(&task.second),
+        image: &task.wanted.image,
+        size: cells_of(&task.wanted.board),
+    }
+}
+
+/// The bytes of a text, where there is one.
+fn text_of(text: &Option<Bytes>) -> Option<&[u8]>
+    ensures { option_copied result ≡ text.now }
+{
+    match text {
+        Some(text) => Some(text.bytes()),
+        None => None,
+    }
+}

@@ -1,0 +1,26 @@
+//! `resume` and `revert`: they go on with the job in the file.
+ghost use Rattle.command_files.specs.Inputs.{InputsCall, TakesNothing};
+ghost use Rattle.command_answers.specs.Call.{bench_call, sink_call};
+ghost use Rattle.command_answers.specs.Shown.{answer_of};
+ghost use Rattle.job_commands.specs.GoOn.{GoOnEnds};
+
+use crate::carry::carry;
+use bench_model::Bench;
+use flash_session::Goal;
+use outside_io::Sink;
+use report_text::Refusal;
+use std::alloc::Global;
+
+/// Carries the job in the file to its image (`Goal::New`, `resume`), or back to its snapshot (`Goal::Old`, `revert`). No input is
+/// taken.
+pub fn go_on<'a, B: Bench, O: Sink>(
+    alloc: Global,
+    goal: Goal,
+    bench: &mut B,
+    out: &mut O,
+) -> Result<(), Refusal<'a>>
+    ensures { (inputs : InputsCall) → TakesNothing inputs → GoOnEnds goal (bench_call B.tells (B.state bench.old) (B.state bench.new)) inputs
+        (sink_call O.tells (O.state out.old) (O.state out.new)) (answer_of result) }
+{
+    carry(alloc, goal, bench, out)
+}
