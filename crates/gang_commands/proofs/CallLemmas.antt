@@ -41,8 +41,8 @@ use Rattle.flash_session.specs.Surveys.{Surveyed, HasSurveyed}
 use Rattle.command_answers.specs.Call.{SinkCall}
 use Rattle.command_answers.proofs.FileLemmas.{AreOne, not_free, one_job}
 use Rattle.report_text.specs.Refusal.{status_of}
-use Rattle.gang_target.specs.declared.ending.TargetEnd.{TargetEnd}
-use Rattle.gang_target.specs.declared.ending.TargetEnd.TheVariants as ended
+use Rattle.gang_target.specs.declared.target_end.TargetEnd.{TargetEnd}
+use Rattle.gang_target.specs.declared.target_end.TargetEnd.TheVariants as ended
 use Rattle.gang_target.specs.Alone.{FollowsAs}
 use Rattle.gang_target.specs.Guarded.{FileEnd}
 use Rattle.gang_run.specs.declared.gang.Gang.{Gang}

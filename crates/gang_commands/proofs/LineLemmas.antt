@@ -8,7 +8,7 @@ use Rattle.outside_io.proofs.PutTexts.{puts_nothing, puts_as, puts_then, puts_st
 use Rattle.report_text.specs.Refusal.{Refusal, status_of, out_of_memory, usage, input_fault, image_too_long, image_refused, image_misplaced, flm_refused, other_device, no_room, board_refused, job_open, no_job, not_a_job, damaged, cells_differ, store_fault, device_fault, output_fault, call_failed, mismatch, differs}
 use Rattle.report_text.specs.Target.{target_line}
 use Rattle.flash_session.specs.declared.fault.SurveyFault.TheVariants as survey
-use Rattle.gang_target.specs.declared.ending.TargetEnd.TheVariants as ended
+use Rattle.gang_target.specs.declared.target_end.TargetEnd.TheVariants as ended
 use Rattle.gang_run.specs.declared.gang.Gang.{Gang}
 use Rattle.gang_run.specs.declared.slot.Slot.TheVariants as slot
 use Rattle.gang_run.specs.Gangs.{slot_at}

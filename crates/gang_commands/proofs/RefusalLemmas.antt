@@ -11,8 +11,8 @@ use Rattle.command_answers.specs.Places.{address_at}
 use Rattle.job_text.specs.declared.job.Job.{Job}
 use Rattle.gang_target.specs.declared.cursor.Place.{Place}
 use Rattle.gang_target.specs.declared.cursor.Place.TheVariants as place
-use Rattle.gang_target.specs.declared.ending.TargetEnd.{TargetEnd}
-use Rattle.gang_target.specs.declared.ending.Turn.TheVariants as turn
+use Rattle.gang_target.specs.declared.target_end.TargetEnd.{TargetEnd}
+use Rattle.gang_target.specs.declared.target_end.Turn.TheVariants as turn
 use Rattle.gang_target.specs.Ended.{IsEndAt}
 use Rattle.gang_target.specs.Turns.{turn_of}
 use Rattle.gang_run.specs.declared.slot.Slot.{Slot}

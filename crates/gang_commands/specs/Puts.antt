@@ -9,9 +9,9 @@ use Rattle.report_text.specs.Refusal.{Refusal, status_of}
 use Rattle.command_answers.specs.Call.{SinkCall, TookAll, TookPart}
 use Rattle.gang_target.specs.declared.cursor.Place.{Place}
 use Rattle.gang_target.specs.declared.cursor.Place.TheVariants as place
-use Rattle.gang_target.specs.declared.ending.TargetEnd.{TargetEnd}
-use Rattle.gang_target.specs.declared.ending.TargetEnd.TheVariants as ended
-use Rattle.gang_target.specs.declared.ending.Turn.TheVariants as turn
+use Rattle.gang_target.specs.declared.target_end.TargetEnd.{TargetEnd}
+use Rattle.gang_target.specs.declared.target_end.TargetEnd.TheVariants as ended
+use Rattle.gang_target.specs.declared.target_end.Turn.TheVariants as turn
 use Rattle.gang_run.specs.declared.gang.Gang.{Gang}
 use Rattle.gang_run.specs.declared.slot.Slot.{Slot}
 use Rattle.gang_run.specs.declared.slot.Slot.TheVariants as slot

@@ -26,10 +26,10 @@ use Rattle.flash_session.specs.Script.{Leg}
 use Rattle.flash_session.proofs.Playing.{left_more}
 use Rattle.gang_target.specs.declared.cursor.Place.{Place}
 use Rattle.gang_target.specs.declared.cursor.Place.TheVariants as place
-use Rattle.gang_target.specs.declared.ending.TargetEnd.{TargetEnd}
-use Rattle.gang_target.specs.declared.ending.TargetEnd.TheVariants as ended
-use Rattle.gang_target.specs.declared.ending.Turn.{Turn}
-use Rattle.gang_target.specs.declared.ending.Turn.TheVariants as turn
+use Rattle.gang_target.specs.declared.target_end.TargetEnd.{TargetEnd}
+use Rattle.gang_target.specs.declared.target_end.TargetEnd.TheVariants as ended
+use Rattle.gang_target.specs.declared.target_end.Turn.{Turn}
+use Rattle.gang_target.specs.declared.target_end.Turn.TheVariants as turn
 use Rattle.gang_target.specs.declared.part.Task.{Task}
 use Rattle.gang_target.specs.declared.target.GangTarget.{GangTarget}
 use Rattle.gang_target.specs.Alone.{FollowsAs}

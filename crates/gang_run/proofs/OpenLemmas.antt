@@ -41,8 +41,8 @@ use Rattle.flash_session.specs.Surveys.{Surveyed, ArePlannedFor, HasSurveyed, is
 use Rattle.flash_session.specs.SurveyFacts.{HasRoom}
 use Rattle.flash_session.proofs.JobLemmas.{total, sizes_are}
 use Rattle.gang_target.specs.declared.cursor.Place.{Place}
-use Rattle.gang_target.specs.declared.ending.TargetEnd.{TargetEnd}
-use Rattle.gang_target.specs.declared.ending.TargetEnd.TheVariants as ended
+use Rattle.gang_target.specs.declared.target_end.TargetEnd.{TargetEnd}
+use Rattle.gang_target.specs.declared.target_end.TargetEnd.TheVariants as ended
 use Rattle.gang_target.specs.declared.target.GangTarget.{GangTarget}
 use Rattle.gang_target.specs.Begun.{IsBegun}
 use Rattle.gang_target.specs.Fit.{legs_of, calls_ahead, IsPlace, IsScripted, Fit}

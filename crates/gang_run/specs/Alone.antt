@@ -4,8 +4,8 @@ use Rattle.bench_model.specs.Pairs.{PairsInTurn}
 use Rattle.bench_model.specs.State.{BenchState}
 use Rattle.flash_session.specs.Moves.{Stand}
 use Rattle.gang_target.specs.declared.cursor.Place.TheVariants as place
-use Rattle.gang_target.specs.declared.ending.TargetEnd.{TargetEnd}
-use Rattle.gang_target.specs.declared.ending.TargetEnd.TheVariants as ended
+use Rattle.gang_target.specs.declared.target_end.TargetEnd.{TargetEnd}
+use Rattle.gang_target.specs.declared.target_end.TargetEnd.TheVariants as ended
 use Rattle.gang_target.specs.declared.target.GangTarget.{GangTarget}
 use Rattle.gang_target.specs.Alone.{FollowsAs}
 use Rattle.gang_target.specs.Guarded.{FileEnd, HasBody, IsAtClose}

@@ -5,8 +5,8 @@ use Rattle.bench_model.specs.declared.bench.Bench.{Ghosts}
 use Rattle.flash_session.specs.declared.fault.SurveyFault.TheVariants as survey
 use Rattle.flash_session.specs.Moves.{Move, Stand}
 use Rattle.target_core.specs.Windows.{window_of}
-use Rattle.gang_target.specs.declared.ending.TargetEnd.TheVariants as ended
-use Rattle.gang_target.specs.declared.ending.Turn.TheVariants as turn
+use Rattle.gang_target.specs.declared.target_end.TargetEnd.TheVariants as ended
+use Rattle.gang_target.specs.declared.target_end.Turn.TheVariants as turn
 use Rattle.gang_run.specs.declared.gang.Gang.{Gang}
 use Rattle.gang_run.specs.declared.slot.Slot.{Slot}
 use Rattle.gang_run.specs.declared.slot.Slot.TheVariants as slot

@@ -13,8 +13,8 @@ use Rattle.flash_session.specs.declared.fault.SurveyFault.{SurveyFault}
 use Rattle.flash_session.specs.declared.fault.SurveyFault.TheVariants as survey
 use Rattle.flash_session.specs.declared.parts.Parts.{Parts}
 use Rattle.flash_session.specs.Surveys.{is_survey_device, is_survey_store}
-use Rattle.gang_target.specs.declared.ending.TargetEnd.{TargetEnd}
-use Rattle.gang_target.specs.declared.ending.TargetEnd.TheVariants as ended
+use Rattle.gang_target.specs.declared.target_end.TargetEnd.{TargetEnd}
+use Rattle.gang_target.specs.declared.target_end.TargetEnd.TheVariants as ended
 use Rattle.gang_target.specs.declared.target.GangTarget.{GangTarget}
 use Rattle.gang_target.specs.Begun.{IsBegun}
 use Rattle.gang_target.specs.Fit.{Fit}

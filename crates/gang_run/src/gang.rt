@@ -4,9 +4,9 @@ ghost use Rattle.gang_run.specs.Gangs.{slot_at, IsGang, AreReady, OneTurn, AllSi
 ghost use Rattle.gang_run.specs.Opening.{AreOpened, AreLookedAt};
 ghost use Rattle.gang_run.specs.Slots.{slot_turn, SlotTakes, IsSlotEnd, IsSlotJob};
 ghost use Rattle.gang_run.specs.declared.gang.Gang.{Gang};
-ghost use Rattle.gang_target.specs.declared.ending.Turn.TheVariants as a_turn;
+ghost use Rattle.gang_target.specs.declared.target_end.Turn.TheVariants as a_turn;
 
-use crate::opening::add_slot;
+use crate::open_slots::add_slot;
 use crate::slot::Slot;
 use bench_model::Bench;
 use faults::OutOfMemory;

@@ -4,7 +4,7 @@ ghost use Rattle.std.specs.Borrow.{Bor};
 ghost use Rattle.job_text.specs.declared.job.Job.{Job};
 ghost use Rattle.job_text.specs.Files.{IsWhole};
 ghost use Rattle.flash_session.specs.Moves.{Stand};
-ghost use Rattle.gang_target.specs.declared.ending.Turn.TheVariants as turn;
+ghost use Rattle.gang_target.specs.declared.target_end.Turn.TheVariants as turn;
 ghost use Rattle.gang_target.specs.declared.target.GangTarget.{GangTarget};
 ghost use Rattle.gang_target.specs.Stands.{StandsOn};
 ghost use Rattle.gang_target.specs.Targets.{goal_for};

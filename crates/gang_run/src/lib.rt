@@ -6,7 +6,7 @@
 
 mod gang;
 mod law;
-mod opening;
+mod open_slots;
 mod slot;
 
 pub use gang::{Asked, Gang};

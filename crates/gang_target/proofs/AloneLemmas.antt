@@ -16,8 +16,8 @@ use Rattle.flash_session.specs.Moves.{Move, Make, Stand, stand_at, IsPointOf, Is
 use Rattle.flash_session.specs.Script.{Leg, Broken, script}
 use Rattle.gang_target.specs.declared.cursor.Phase.TheVariants as stage
 use Rattle.gang_target.specs.declared.cursor.Cursor.TheVariants as at
-use Rattle.gang_target.specs.declared.ending.TargetEnd.{TargetEnd}
-use Rattle.gang_target.specs.declared.ending.TargetEnd.TheVariants as ended
+use Rattle.gang_target.specs.declared.target_end.TargetEnd.{TargetEnd}
+use Rattle.gang_target.specs.declared.target_end.TargetEnd.TheVariants as ended
 use Rattle.gang_target.specs.declared.cursor.Place.{Place}
 use Rattle.gang_target.specs.declared.cursor.Place.TheVariants as place
 use Rattle.gang_target.specs.declared.target.GangTarget.{GangTarget}

@@ -15,7 +15,7 @@ use Rattle.gang_target.specs.declared.cursor.Cursor.TheVariants as at
 use Rattle.gang_target.specs.declared.cursor.Place.{Place}
 use Rattle.gang_target.specs.declared.cursor.Place.TheVariants as place
 use Rattle.gang_target.specs.declared.cursor.Step.TheVariants as step
-use Rattle.gang_target.specs.declared.ending.TargetEnd.{TargetEnd}
+use Rattle.gang_target.specs.declared.target_end.TargetEnd.{TargetEnd}
 use Rattle.gang_target.specs.declared.target.GangTarget.{GangTarget}
 use Rattle.gang_target.specs.Takes.{IsKind, FromCursor, FromCall, TakesOn, Slice, SliceOf}
 use Rattle.gang_target.specs.Turns.{judged, Judges}

@@ -27,8 +27,8 @@ use Rattle.gang_target.specs.declared.cursor.Phase.{Phase}
 use Rattle.gang_target.specs.declared.cursor.Cursor.{Cursor}
 use Rattle.gang_target.specs.declared.cursor.Cursor.TheVariants as at
 use Rattle.gang_target.specs.declared.cursor.Place.{Place}
-use Rattle.gang_target.specs.declared.ending.TargetEnd.{TargetEnd}
-use Rattle.gang_target.specs.declared.ending.TargetEnd.TheVariants as ended
+use Rattle.gang_target.specs.declared.target_end.TargetEnd.{TargetEnd}
+use Rattle.gang_target.specs.declared.target_end.TargetEnd.TheVariants as ended
 use Rattle.gang_target.specs.Rest.{Legs, all_legs, rest_of, with_torn, with_last, unbroken}
 use Rattle.gang_target.specs.declared.target.GangTarget.{GangTarget}
 use Rattle.gang_target.specs.Stands.{OnWay, none, EndIs, HasEnded, Stands, StandsOn}

@@ -48,9 +48,9 @@ use Rattle.gang_target.specs.declared.cursor.Cursor.TheVariants as at
 use Rattle.gang_target.specs.declared.cursor.Place.{Place}
 use Rattle.gang_target.specs.declared.cursor.Place.TheVariants as place
 use Rattle.gang_target.specs.declared.cursor.Step.TheVariants as step
-use Rattle.gang_target.specs.declared.ending.TargetEnd.{TargetEnd}
-use Rattle.gang_target.specs.declared.ending.TargetEnd.TheVariants as ended
-use Rattle.gang_target.specs.declared.ending.Turn.TheVariants as turn
+use Rattle.gang_target.specs.declared.target_end.TargetEnd.{TargetEnd}
+use Rattle.gang_target.specs.declared.target_end.TargetEnd.TheVariants as ended
+use Rattle.gang_target.specs.declared.target_end.Turn.TheVariants as turn
 use Rattle.gang_target.specs.declared.target.GangTarget.{GangTarget}
 use Rattle.gang_target.specs.Fit.{legs_of, calls_ahead, turns_in, turns_ahead, togo, IsScriptEnd, IsPlace, Fit}
 use Rattle.gang_target.specs.Midway.{Midway}

@@ -2,8 +2,8 @@
 use Rattle.std.proofs.Common.{◌≡◌, ℕ, true, false, Option, Err, subst}
 use Rattle.readback.specs.declared.compare.Difference.{Difference}
 use Rattle.job_file.specs.Counted.{IsCounted}
-use Rattle.gang_target.specs.declared.reading.Unread.{Unread}
-use Rattle.gang_target.specs.declared.reading.Unread.TheVariants as unread
+use Rattle.gang_target.specs.declared.windows.Unread.{Unread}
+use Rattle.gang_target.specs.declared.windows.Unread.TheVariants as unread
 use Rattle.gang_target.specs.Reads.{is_unread_store, is_unread_device}
 
 module _ (u : Unread) (before now : ℕ) where

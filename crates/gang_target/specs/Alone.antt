@@ -6,8 +6,8 @@ use Rattle.flash_session.specs.declared.session_end.SessionEnd.TheVariants as en
 use Rattle.flash_session.specs.Moves.{Stand}
 use Rattle.flash_session.specs.Outcome.{Follows}
 use Rattle.flash_session.specs.Script.{Leg}
-use Rattle.gang_target.specs.declared.ending.TargetEnd.{TargetEnd}
-use Rattle.gang_target.specs.declared.ending.TargetEnd.TheVariants as ended
+use Rattle.gang_target.specs.declared.target_end.TargetEnd.{TargetEnd}
+use Rattle.gang_target.specs.declared.target_end.TargetEnd.TheVariants as ended
 
 -- Its end, its cells and each of its moments are an outcome of its own script. Done is Reached.
 abbrev pub FollowsAs : List Leg → (goal : List ℕ) → Stand → TargetEnd → BenchState → BenchState → Type 0

@@ -9,8 +9,8 @@ use Rattle.flash_session.specs.Script.{IsErrand}
 use Rattle.target_core.specs.Units.{unit_cells}
 use Rattle.gang_target.specs.declared.cursor.Place.{Place}
 use Rattle.gang_target.specs.declared.cursor.Place.TheVariants as place
-use Rattle.gang_target.specs.declared.ending.TargetEnd.{TargetEnd}
-use Rattle.gang_target.specs.declared.ending.TargetEnd.TheVariants as ended
+use Rattle.gang_target.specs.declared.target_end.TargetEnd.{TargetEnd}
+use Rattle.gang_target.specs.declared.target_end.TargetEnd.TheVariants as ended
 use Rattle.gang_target.specs.declared.part.Part.{Part}
 use Rattle.gang_target.specs.declared.target.GangTarget.{GangTarget}
 use Rattle.gang_target.specs.Rest.{Legs, rest_of, unbroken}

@@ -1,7 +1,7 @@
 -- What a comparison of cells with a goal may end in.
 use Rattle.std.specs.Prelude.{Bool, true, false, Result, Ok, Err}
-use Rattle.gang_target.specs.declared.reading.Unread.{Unread}
-use Rattle.gang_target.specs.declared.reading.Unread.TheVariants as unread
+use Rattle.gang_target.specs.declared.windows.Unread.{Unread}
+use Rattle.gang_target.specs.declared.windows.Unread.TheVariants as unread
 
 abbrev pub is_unread_store : {T : Type 0} → Result T Unread → Bool
 is_unread_store (Ok x) = false

@@ -13,8 +13,8 @@ use Rattle.flash_session.specs.Plays.{BreaksOff}
 use Rattle.flash_session.specs.Script.{Leg, Broken, script}
 use Rattle.gang_target.specs.declared.cursor.Place.{Place}
 use Rattle.gang_target.specs.declared.cursor.Place.TheVariants as place
-use Rattle.gang_target.specs.declared.ending.TargetEnd.{TargetEnd}
-use Rattle.gang_target.specs.declared.ending.TargetEnd.TheVariants as ended
+use Rattle.gang_target.specs.declared.target_end.TargetEnd.{TargetEnd}
+use Rattle.gang_target.specs.declared.target_end.TargetEnd.TheVariants as ended
 use Rattle.gang_target.specs.declared.target.GangTarget.{GangTarget}
 use Rattle.gang_target.specs.Midway.{Midway}
 use Rattle.gang_target.specs.Rest.{Legs, all_legs, rest_of}

@@ -15,10 +15,10 @@ use Rattle.algo_calls.specs.Ends.{call_end_of, success_of}
 use Rattle.gang_target.specs.declared.cursor.Cursor.{Cursor}
 use Rattle.gang_target.specs.declared.cursor.Place.{Place}
 use Rattle.gang_target.specs.declared.cursor.Place.TheVariants as place
-use Rattle.gang_target.specs.declared.ending.TargetEnd.{TargetEnd}
-use Rattle.gang_target.specs.declared.ending.TargetEnd.TheVariants as ended
-use Rattle.gang_target.specs.declared.ending.Turn.{Turn}
-use Rattle.gang_target.specs.declared.ending.Turn.TheVariants as turn
+use Rattle.gang_target.specs.declared.target_end.TargetEnd.{TargetEnd}
+use Rattle.gang_target.specs.declared.target_end.TargetEnd.TheVariants as ended
+use Rattle.gang_target.specs.declared.target_end.Turn.{Turn}
+use Rattle.gang_target.specs.declared.target_end.Turn.TheVariants as turn
 use Rattle.flash_session.specs.Moves.{Move, Stand, IsLeftOnWay}
 use Rattle.gang_target.specs.declared.target.GangTarget.{GangTarget}
 use Rattle.gang_target.specs.Fit.{Fit, togo}

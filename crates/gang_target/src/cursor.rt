@@ -1,5 +1,5 @@
 //! Where a target stands.
-use crate::ending::TargetEnd;
+use crate::target_end::TargetEnd;
 use algo_calls::Call;
 
 /// A phase of a script in a region.

@@ -7,7 +7,7 @@ ghost use Rattle.flash_session.specs.Script.{Leg, Broken, script};
 ghost use Rattle.gang_target.specs.declared.cursor.Cursor.TheVariants as at;
 ghost use Rattle.gang_target.specs.declared.cursor.Phase.TheVariants as stage;
 ghost use Rattle.gang_target.specs.declared.cursor.Place.TheVariants as place;
-ghost use Rattle.gang_target.specs.declared.ending.TargetEnd.{TargetEnd};
+ghost use Rattle.gang_target.specs.declared.target_end.TargetEnd.{TargetEnd};
 ghost use Rattle.gang_target.specs.declared.target.GangTarget.{GangTarget};
 ghost use Rattle.gang_target.specs.Alone.{FollowsAs};
 ghost use Rattle.gang_target.specs.Rest.{all_legs};

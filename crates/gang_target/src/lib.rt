@@ -6,16 +6,16 @@
 #![tactic(auto)]
 
 mod cursor;
-mod ending;
 mod law;
-mod making;
 mod part;
-mod reading;
 mod target;
+mod target_begin;
+mod target_end;
+mod windows;
 
 pub use cursor::{Cursor, Phase, Place};
-pub use ending::{TargetEnd, Turn};
 pub use law::{targets_begin, targets_end_as_alone, targets_stand_on_their_path};
-pub use making::begin;
 pub use part::{Part, Task};
 pub use target::GangTarget;
+pub use target_begin::begin;
+pub use target_end::{TargetEnd, Turn};

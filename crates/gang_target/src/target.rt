@@ -26,9 +26,9 @@ ghost use Rattle.gang_target.specs.Turned.{IsExchanged, TurnsTo};
 ghost use Rattle.gang_target.specs.Turns.{Turns, IsUnended, turn_of, Judges};
 
 use crate::cursor::{Cursor, Item, Phase, Place, Step};
-use crate::ending::{TargetEnd, Turn};
 use crate::part::Task;
-use crate::reading::{Unread, WINDOW, compare_window, read_bytes};
+use crate::target_end::{TargetEnd, Turn};
+use crate::windows::{Unread, WINDOW, compare_window, read_bytes};
 use algo_calls::{Call, CallEnd, CallsIn};
 use bench_model::{Bench, DeviceFault, StoreFault};
 use job_file::CloseFault;

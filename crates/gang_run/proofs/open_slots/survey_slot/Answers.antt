@@ -1,7 +1,7 @@
 use Rattle.std.proofs.Common.{refl}
 use Rattle.flash_session.specs.Sessions.{job_in, surveyed}
 use Rattle.gang_run.proofs.OpenLemmas.{surveyed_so}
-use Rattle.gang_run.proofs.opening.survey_slot.Goals as goal
+use Rattle.gang_run.proofs.open_slots.survey_slot.Goals as goal
 
 pub returns-in-Ok-clause-slot : goal.returns-in-Ok-clause-slot
 returns-in-Ok-clause-slot g c =

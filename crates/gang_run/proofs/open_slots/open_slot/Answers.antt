@@ -2,7 +2,7 @@ use Rattle.std.proofs.Common.{refl}
 use Rattle.flash_session.specs.declared.session.Session.{Session}
 use Rattle.flash_session.specs.Sessions.{job_in}
 use Rattle.gang_run.proofs.OpenLemmas.{opens_then, looked_then, unopened_device}
-use Rattle.gang_run.proofs.opening.open_slot.Goals as goal
+use Rattle.gang_run.proofs.open_slots.open_slot.Goals as goal
 
 pub returns-in-Ok-clause-slot : goal.returns-in-Ok-clause-slot
 returns-in-Ok-clause-slot g c =
