@@ -82,7 +82,11 @@ fn errand_of<'a>(survey: &'a RegionSurvey, second: bool, job: &'a Job, goal: Goa
 }
 
 /// And in the second region, where there is one.
-fn second_errand<'a>(survey: &'a Option<RegionSurvey>, job: &'a Job, goal: Goal) -> Option<Errand<'a>>
+fn second_errand<'a>(
+    survey: &'a Option<RegionSurvey>,
+    job: &'a Job,
+    goal: Goal,
+) -> Option<Errand<'a>>
     ensures { AreErrandsOf survey.now true job.now goal result }
 {
     match survey {
@@ -110,5 +114,11 @@ pub(crate) fn carry_out<B: Bench>(survey: &mut Survey, job: &Job, bench: &mut B)
     survey.machines.restart();
     let first = errand_of(&survey.first, false, job, survey.goal);
     let second = second_errand(&survey.second, job, survey.goal);
-    follow(&mut survey.machines, bench, &first, &second, &mut survey.page)
+    follow(
+        &mut survey.machines,
+        bench,
+        &first,
+        &second,
+        &mut survey.page,
+    )
 }

@@ -88,7 +88,10 @@ fn compare_windows<B: Bench>(
 }
 
 /// Compares all cells with the goal of an errand: none where they are equal, else the least place that differs. It takes no memory.
-pub(crate) fn compare<B: Bench>(bench: &mut B, errand: &Errand) -> Result<Option<Difference>, Unread>
+pub(crate) fn compare<B: Bench>(
+    bench: &mut B,
+    errand: &Errand,
+) -> Result<Option<Difference>, Unread>
     ghost goal: { List ℕ }
     requires size { (B.state bench.old).cell_count ≡ size_of errand.now.job.now.board.regions }
     requires idle { IsTrue B.tells → (B.state bench.old).operation ≡ None }

@@ -128,10 +128,18 @@ fn print_both<'a, B: Bench, O: Sink>(
     let other_base = base_of(&wanted.board, 1);
     let algorithm = algorithm_at(wanted, 0);
     let other_algorithm = algorithm_at(wanted, 1);
-    let Ok((mut buffers, mut other_buffers)) = make_both_buffers(alloc, algorithm, other_algorithm) else {
+    let Ok((mut buffers, mut other_buffers)) = make_both_buffers(alloc, algorithm, other_algorithm)
+    else {
         return Err(Refusal::OutOfMemory);
     };
-    if survey_both(bench, &mut buffers, algorithm.device.size, &mut other_buffers).is_err() {
+    if survey_both(
+        bench,
+        &mut buffers,
+        algorithm.device.size,
+        &mut other_buffers,
+    )
+    .is_err()
+    {
         return Err(Refusal::DeviceFault);
     }
     choose_plan(wanted, algorithm, base, &mut buffers);
@@ -243,7 +251,11 @@ fn survey_both<B: Bench>(
 }
 
 /// Reads the cells from one place on.
-fn read_buffers<B: Bench>(bench: &mut B, at: u32, buffers: &mut PlanBuffers) -> Result<(), DeviceFault>
+fn read_buffers<B: Bench>(
+    bench: &mut B,
+    at: u32,
+    buffers: &mut PlanBuffers,
+) -> Result<(), DeviceFault>
     requires range { at + length buffers.old.cells.items ≤ (B.state bench.old).cell_count }
     requires idle { IsTrue B.tells → (B.state bench.old).operation ≡ None }
     ensures reads { ReadsCells B.tells (B.state bench.old) (B.state bench.new) at buffers.old.cells.items buffers.new.cells.items result }

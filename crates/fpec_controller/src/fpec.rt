@@ -328,12 +328,7 @@ impl Fpec {
 
     /// The store of a halfword to the flash where no operation runs.
     #[tactic(auto, unfolding(crate::specs::Table::programmed))]
-    fn flash_store<B: Bench>(
-        &mut self,
-        bench: &mut B,
-        place: u32,
-        value: u32,
-    ) -> Result<(), BusEnd>
+    fn flash_store<B: Bench>(&mut self, bench: &mut B, place: u32, value: u32) -> Result<(), BusEnd>
         requires agrees { Agrees B.tells (fpec_map self.old.layout) (range_of self.old.state.operation) (B.state bench.old) }
         requires idle { self.old.state.operation ≡ None }
         requires range { place + 2 ≤ cells_in self.old.layout.areas.items }
