@@ -92,7 +92,8 @@ impl CallsIn {
     #[tactic(auto, unfolding(crate::specs::Frames::loaded))]
     pub fn load(&mut self, arena: &mut Arena, window: usize)
         requires { Fits self.old arena.old window }
-        ensures leaves { (cells : List ℕ) → world_at self.new arena.new window cells ≡ after_load (setup_at self.old) (world_at self.old arena.old window cells) }
+        ensures leaves { (cells : List ℕ) → world_at self.new arena.new window cells ≡ after_load (setup_at self.old)
+            (world_at self.old arena.old window cells) }
         ensures others { OnlyIn window arena.old arena.new }
         ensures ram { Fits self.new arena.new window }
         ensures same { self.new ≡ self.old }
@@ -111,7 +112,8 @@ impl CallsIn {
     ) -> Result<(), DeviceFault>
         requires window { Fits self.old arena.old window }
         requires cells { (B.state bench.old).cell_count ≡ unit_cells self.old.machine.unit }
-        ensures ok { IsTrue B.tells → OnOk result (ResetGives (setup_at self.old) (world_at self.old arena.old window (B.state bench.old).cells) (B.state bench.old).operation (world_at self.new arena.new window (B.state bench.new).cells)) }
+        ensures ok { IsTrue B.tells → OnOk result (ResetGives (setup_at self.old) (world_at self.old arena.old window (B.state bench.old).cells)
+            (B.state bench.old).operation (world_at self.new arena.new window (B.state bench.new).cells)) }
         ensures err { OnErr result ((self.new ≡ self.old) × (arena.new ≡ arena.old)) }
         ensures err_cells { IsTrue B.tells → OnErr result (StaysOpen (B.state bench.old) (B.state bench.new)) }
         ensures setup { setup_at self.new ≡ setup_at self.old }
@@ -130,7 +132,8 @@ impl CallsIn {
     #[tactic(auto, unfolding(crate::specs::Calls::after_reset))]
     pub fn restart(&mut self, arena: &mut Arena, window: usize)
         requires { Fits self.old arena.old window }
-        ensures world { (cells : List ℕ) → world_at self.new arena.new window cells ≡ after_reset (setup_at self.old) (world_at self.old arena.old window cells) None [] }
+        ensures world { (cells : List ℕ) → world_at self.new arena.new window cells ≡ after_reset (setup_at self.old)
+            (world_at self.old arena.old window cells) None [] }
         ensures setup { setup_at self.new ≡ setup_at self.old }
         ensures map { unit_map self.new.machine.unit ≡ unit_map self.old.machine.unit }
         ensures others { OnlyIn window arena.old arena.new }
@@ -207,7 +210,8 @@ impl CallsIn {
     fn hand_over(&mut self, arena: &mut Arena, window: usize, call: Call, bytes: &[u8]) -> Frame
         requires window { Fits self.old arena.old window }
         requires bytes { length bytes.now ≤ (setup_at self.old).algorithm.device.page }
-        ensures first { (cells : List ℕ) → point_in (after_start (over self.new.machine arena.new window) result) cells ≡ first_point (setup_at self.old) (world_at self.old arena.old window cells) (asked call bytes.now) }
+        ensures first { (cells : List ℕ) → point_in (after_start (over self.new.machine arena.new window) result) cells ≡ first_point (setup_at self.old)
+            (world_at self.old arena.old window cells) (asked call bytes.now) }
         ensures return_at { result.return_at ≡ (setup_at self.old).layout.return_at }
         ensures others { OnlyIn window arena.old arena.new }
         ensures ram { Fits self.new arena.new window }
@@ -224,7 +228,8 @@ impl CallsIn {
         requires window { Fits self.old arena.old window }
         requires may { MayAsk (setup_at self.old) call.now bytes.now }
         ensures fuel { result ≡ fuel_of (setup_at self.old) call.now }
-        ensures first { (cells : List ℕ) → point_at self.new arena.new window cells ≡ first_point (setup_at self.old) (world_at self.old arena.old window cells) (asked call.now bytes.now) }
+        ensures first { (cells : List ℕ) → point_at self.new arena.new window cells ≡ first_point (setup_at self.old)
+            (world_at self.old arena.old window cells) (asked call.now bytes.now) }
         ensures return_at { self.new.machine.return_at ≡ (setup_at self.old).layout.return_at }
         ensures setup { setup_at self.new ≡ setup_at self.old }
         ensures unit { self.new.machine.unit ≡ self.old.machine.unit }
@@ -320,7 +325,8 @@ impl CallsIn {
     ) -> CallEnd
         requires window { Fits self.old arena.old window }
         requires agrees { AgreesAt B.tells self.old (B.state bench.old) }
-        ensures { CalledAt B.tells self.old arena.old window (B.state bench.old) (asked (a_call.EraseSector at) []) result self.new arena.new (B.state bench.new) }
+        ensures { CalledAt B.tells self.old arena.old window (B.state bench.old) (asked (a_call.EraseSector at) []) result self.new
+            arena.new (B.state bench.new) }
     {
         self.call(arena, window, bench, Call::EraseSector { at }, &[])
     }
@@ -352,7 +358,8 @@ impl CallsIn {
         requires window { Fits self.old arena.old window }
         requires agrees { AgreesAt B.tells self.old (B.state bench.old) }
         requires bytes { length bytes.now ≤ (setup_at self.old).algorithm.device.page }
-        ensures { CalledAt B.tells self.old arena.old window (B.state bench.old) (asked (a_call.ProgramPage at) bytes.now) result self.new arena.new (B.state bench.new) }
+        ensures { CalledAt B.tells self.old arena.old window (B.state bench.old) (asked (a_call.ProgramPage at) bytes.now) result self.new
+            arena.new (B.state bench.new) }
     {
         self.call(arena, window, bench, Call::ProgramPage { at }, bytes)
     }
@@ -371,7 +378,8 @@ impl CallsIn {
         requires agrees { AgreesAt B.tells self.old (B.state bench.old) }
         requires bytes { length bytes.now ≤ (setup_at self.old).algorithm.device.page }
         requires entry { IsSome (setup_at self.old).algorithm.entries.verify }
-        ensures { CalledAt B.tells self.old arena.old window (B.state bench.old) (asked (a_call.Verify at) bytes.now) result self.new arena.new (B.state bench.new) }
+        ensures { CalledAt B.tells self.old arena.old window (B.state bench.old) (asked (a_call.Verify at) bytes.now) result self.new
+            arena.new (B.state bench.new) }
     {
         self.call(arena, window, bench, Call::Verify { at }, bytes)
     }

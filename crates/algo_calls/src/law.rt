@@ -24,7 +24,8 @@ use bench_model::Bench;
 /// end is told by that of its run, and never names a return or a fault of the device as the way in which a run ended otherwise. Two calls
 /// from one target with one request end alike, unless a device failed.
 pub fn calls_have_one_end<B: Bench>()
-    ensures begins { (s : Setup) (w : World) (r : Request) → (path_of s w r).first.world ≡ record w { ram = written (s.layout.buffer_at - s.layout.return_at) r.bytes w.ram } }
+    ensures begins { (s : Setup) (w : World) (r : Request) → (path_of s w r).first.world
+        ≡ record w { ram = written (s.layout.buffer_at - s.layout.return_at) r.bytes w.ram } }
     ensures ends { (s : Setup) (w : World) (r : Request) → EndsExactly (success_of r.call (length r.bytes)) (run_end_in s w r) (end_of s w r) }
     ensures from_code { (s : Setup) (w : World) (r : Request) → IsFromCode (end_of s w r) }
     ensures within { (s : Setup) (w : World) (r : Request) → (path_of s w r).last ≤ 2 * fuel_of s r.call + 1 }
@@ -66,9 +67,11 @@ pub fn resets_break_off<B: Bench>()
 /// change nothing leaves them all so. What a duty leaves of a contents is one contents, with the cells of every other region as they were.
 /// No call changes the board.
 pub fn kept_calls_stay_in_their_place()
-    ensures local { (s : Setup) (site : Site) (w : World) (d : Duty) → IsGeometry site.layout → site.start + site.layout.size ≤ length w.cells → Keeps s site w d
+    ensures local { (s : Setup) (site : Site) (w : World) (d : Duty) → IsGeometry site.layout → site.start + site.layout.size
+        ≤ length w.cells → Keeps s site w d
         → (c : List ℕ) → IsLeftOn (path_of s w (request_of s site.layout d)) c → SameOutside (place_of site d) w.cells c }
     ensures exact { (s : Setup) (site : Site) (d : Duty) (before x y : List ℕ) → Does s site before d x → Does s site before d y → x ≡ y }
-    ensures others { (s : Setup) (site : Site) (d : Duty) (before x : List ℕ) → Does s site before d x → SameOutside (Some (site.start, site.layout.size)) before x }
+    ensures others { (s : Setup) (site : Site) (d : Duty) (before x : List ℕ) → Does s site before d x
+        → SameOutside (Some (site.start, site.layout.size)) before x }
     ensures board { (s : Setup) (w : World) (r : Request) → ((after s w r).ram_base ≡ w.ram_base) × ((after s w r).map ≡ w.map) }
 {}

@@ -52,7 +52,8 @@ fn round_up(number: u64) -> u64
 /// another within the RAM, with a buffer for a page and a whole stack; buffer and stack are aligned.
 pub fn place(algorithm: &Algorithm, board: &Board) -> Result<Layout, NoRoom>
     ensures exact { result ≡ placed (algorithm_of algorithm.now) (board_of board.now) }
-    ensures parts { IfOk result (λ layout. IsLaidOut (algorithm.now.zero_at + algorithm.now.zero_len) algorithm.now.device.page board.now.ram_base board.now.ram_size layout) }
+    ensures parts { IfOk result (λ layout. IsLaidOut (algorithm.now.zero_at + algorithm.now.zero_len) algorithm.now.device.page
+        board.now.ram_base board.now.ram_size layout) }
     ensures stack { IfOk result (λ layout. HasStack algorithm.now.device.page board.now.stack board.now.ram_base board.now.ram_size layout) }
 {
     let parts = u64::from(CODE_FROM) + u64::from(algorithm.zero_at) + u64::from(algorithm.zero_len);

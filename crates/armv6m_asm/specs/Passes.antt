@@ -8,7 +8,8 @@ use Rattle.armv6m_asm.specs.declared.fault.AsmFault.{AsmFault}
 use Rattle.armv6m_asm.specs.declared.fault.AsmFault.TheVariants.{BadWord, TwiceLabel, NoLabel, OutOfReach, OutOfMemory}
 use Rattle.armv6m_asm.specs.Usable.{IsUsable}
 use Rattle.armv6m_asm.specs.Label.{names_of}
-use Rattle.armv6m_asm.specs.Assembly.{width, size_of, place_after, labels_of, AreOnce, IsFirstTwice, named_by, IsFirstMissing, IsCodeOf, AreBytesOf, GoesBeyond, IsFirstBeyond, AreRead, IsFirstBad}
+use Rattle.armv6m_asm.specs.Assembly.{width, size_of, place_after, labels_of, AreOnce, IsFirstTwice, named_by, IsFirstMissing, IsCodeOf, AreBytesOf, GoesBeyond}
+use Rattle.armv6m_asm.specs.Assembly.{IsFirstBeyond, AreRead, IsFirstBad}
 
 -- ---- lines
 

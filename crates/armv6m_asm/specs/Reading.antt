@@ -1,6 +1,7 @@
 -- The operands that tokens spell, as a function that proofs compute with. Only clauses of private functions cite it: what
 -- is read is stated in Statement, and proofs/OperandLemmas has that both are the same.
-use Rattle.std.specs.Prelude.{◌<◌, ◌+◌, ◌^◌, ◌==◌, ◌&&◌, ℕ, Bool, true, false, nat_lt, List, [], ◌∷◌, map, take, drop, length, codes, Option, Some, None, option_and_then, option_map, if◌then◌else◌}
+use Rattle.std.specs.Prelude.{◌<◌, ◌+◌, ◌^◌, ◌==◌, ◌&&◌, ℕ, Bool, true, false, nat_lt, List, [], ◌∷◌, map, take, drop, length, codes, Option, Some, None}
+use Rattle.std.specs.Prelude.{option_and_then, option_map, if◌then◌else◌}
 use Rattle.std.specs.List.{list_all, find, range_with_len}
 use Rattle.std.specs.Char.{digit_value}
 use Rattle.std.specs.Str.Parse.{digits_value}
@@ -9,7 +10,8 @@ use Rattle.armv6m_forms.specs.declared.form.Operands.{Operands}
 use Rattle.armv6m_forms.specs.declared.form.Operands.TheVariants as operands
 use Rattle.armv6m_forms.specs.Text.{register_text, special_text}
 use Rattle.armv6m_asm.specs.declared.symbol.Symbol.{Symbol}
-use Rattle.armv6m_asm.specs.declared.symbol.Symbol.TheVariants.{Register, Special, Number, Interrupts, Comma, Hash, Exclamation, OpenBracket, CloseBracket, OpenBrace, CloseBrace, Other}
+use Rattle.armv6m_asm.specs.declared.symbol.Symbol.TheVariants.{Register, Special, Number, Interrupts, Comma, Hash, Exclamation, OpenBracket, CloseBracket}
+use Rattle.armv6m_asm.specs.declared.symbol.Symbol.TheVariants.{OpenBrace, CloseBrace, Other}
 use Rattle.armv6m_asm.specs.Token.{Token, word, mark, tokens_of}
 
 -- ---- words

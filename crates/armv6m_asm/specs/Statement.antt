@@ -1,5 +1,6 @@
 -- The statement of a line, by its tokens.
-use Rattle.std.specs.Prelude.{◌≡◌, ◌⊎◌, ◌<◌, ◌^◌, ◌&&◌, ◌||◌, ℕ, Bool, false, IsTrue, nat_eq, List, [], ◌∷◌, ◌++◌, length, All, sum_by, codes, Option, Some, None}
+use Rattle.std.specs.Prelude.{◌≡◌, ◌⊎◌, ◌<◌, ◌^◌, ◌&&◌, ◌||◌, ℕ, Bool, false, IsTrue, nat_eq, List, [], ◌∷◌, ◌++◌, length, All, sum_by, codes, Option, Some}
+use Rattle.std.specs.Prelude.{None}
 use Rattle.std.specs.List.{list_all, join_by, IsDistinct}
 use Rattle.std.specs.Borrow.{Bor}
 use Rattle.std.specs.Str.Parse.{IsNumeral, digits_value}

@@ -69,7 +69,8 @@ impl Labels {
 
     /// The place of the first label of that name.
     pub fn get(&self, name: &[u8]) -> Option<u32>
-        ensures cases { MatchOption result (Contains (names_of self.now) name.now → ⊥) (λ place. Contains self.now (record { name = name.now; place = place })) }
+        ensures cases { MatchOption result (Contains (names_of self.now) name.now → ⊥)
+            (λ place. Contains self.now (record { name = name.now; place = place })) }
         ensures first { IfSome result (IsFirstNamed self.now name.now) }
     {
         for label in &self.items {

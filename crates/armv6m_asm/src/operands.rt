@@ -3,7 +3,8 @@ ghost use Rattle.std.specs.Prelude.{◌≡◌, MatchOption};
 ghost use Rattle.armv6m_forms.specs.declared.form.Operands.{Operands};
 ghost use Rattle.armv6m_asm.specs.Statement.{Spell};
 ghost use Rattle.armv6m_asm.specs.Token.{tokens_of};
-ghost use Rattle.armv6m_asm.specs.Reading.{symbols_of, at_end, closed, to_special, updated, in_brackets, indexed, third, after_two, second, after_one, operands_of};
+ghost use Rattle.armv6m_asm.specs.Reading.{symbols_of, at_end, closed, to_special, updated, in_brackets, indexed, third, after_two, second, after_one};
+ghost use Rattle.armv6m_asm.specs.Reading.{operands_of};
 
 use crate::list::last_list;
 use crate::symbol::{

@@ -18,7 +18,8 @@ use armv6m_forms::{Aim, instruction, read_branch, read_mnemonic};
 
 /// The operation that a text is, and none where it is none.
 pub(crate) fn read_operation(line: &[u8]) -> Option<Operation<'_>>
-    ensures { MatchOption result ((operation : Operation) → AreOperation operation (tokens_of line.now) → ⊥) (λ operation. AreOperation operation (tokens_of line.now)) }
+    ensures { MatchOption result ((operation : Operation) → AreOperation operation (tokens_of line.now) → ⊥)
+        (λ operation. AreOperation operation (tokens_of line.now)) }
 {
     if is_end(line) {
         return Some(Operation::Nothing);

@@ -1,6 +1,7 @@
 //! What the tokens of operands are.
 ghost use Rattle.std.specs.Prelude.{◌≡◌, ◌↔◌, [], ◌∷◌, ◌<◌, codes, Some, None, IsTrue, IfSome, MatchOption};
-ghost use Rattle.armv6m_asm.specs.Reading.{symbol_of, symbols_of, mark_symbol, IsLow, register_first, number_first, behind_comma, behind_open_brace, behind_close_bracket};
+ghost use Rattle.armv6m_asm.specs.Reading.{symbol_of, symbols_of, mark_symbol, IsLow, register_first, number_first, behind_comma, behind_open_brace};
+ghost use Rattle.armv6m_asm.specs.Reading.{behind_close_bracket};
 ghost use Rattle.armv6m_asm.specs.Scanned.{token_of};
 ghost use Rattle.armv6m_asm.specs.Token.{word};
 
@@ -76,7 +77,8 @@ pub(crate) fn skip_comma(line: &[u8]) -> Option<&[u8]>
 
 /// What follows the opening brace that a line begins with.
 pub(crate) fn skip_open_brace(line: &[u8]) -> Option<&[u8]>
-    ensures { MatchOption result (behind_open_brace (symbols_of line.now) ≡ None) (λ rest. behind_open_brace (symbols_of line.now) ≡ Some (symbols_of rest.now)) }
+    ensures { MatchOption result (behind_open_brace (symbols_of line.now) ≡ None)
+        (λ rest. behind_open_brace (symbols_of line.now) ≡ Some (symbols_of rest.now)) }
 {
     match split_symbol(line)? {
         (Symbol::OpenBrace, rest) => Some(rest),
@@ -86,7 +88,8 @@ pub(crate) fn skip_open_brace(line: &[u8]) -> Option<&[u8]>
 
 /// What follows the closing bracket that a line begins with.
 pub(crate) fn skip_close_bracket(line: &[u8]) -> Option<&[u8]>
-    ensures { MatchOption result (behind_close_bracket (symbols_of line.now) ≡ None) (λ rest. behind_close_bracket (symbols_of line.now) ≡ Some (symbols_of rest.now)) }
+    ensures { MatchOption result (behind_close_bracket (symbols_of line.now) ≡ None)
+        (λ rest. behind_close_bracket (symbols_of line.now) ≡ Some (symbols_of rest.now)) }
 {
     match split_symbol(line)? {
         (Symbol::CloseBracket, rest) => Some(rest),

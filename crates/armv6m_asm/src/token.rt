@@ -44,7 +44,8 @@ pub(crate) fn split_word(line: &[u8]) -> Option<(&[u8], &[u8])>
 
 /// What follows the mark that a line begins with, where it is this byte.
 pub(crate) fn skip_mark(line: &[u8], wanted: u8) -> Option<&[u8]>
-    ensures { MatchOption result ((rest : List Piece) → tokens_of line.now ≢ mark wanted ∷ rest) (λ rest. tokens_of line.now ≡ mark wanted ∷ tokens_of rest.now) }
+    ensures { MatchOption result ((rest : List Piece) → tokens_of line.now ≢ mark wanted ∷ rest)
+        (λ rest. tokens_of line.now ≡ mark wanted ∷ tokens_of rest.now) }
 {
     match split_token(line)? {
         (Token::Mark { byte }, rest) if byte == wanted => Some(rest),

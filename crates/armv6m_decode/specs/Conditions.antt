@@ -1,7 +1,8 @@
 -- The conditions by their codes: Armv6-M Architecture Reference Manual, A6.3 "Conditional execution".
 use Rattle.std.specs.Prelude.{ℕ, nat_eq, if◌then◌else◌}
 use Rattle.armv6m_decode.specs.declared.condition.Condition.{Condition}
-use Rattle.armv6m_decode.specs.declared.condition.Condition.TheVariants.{Equal, NotEqual, CarrySet, CarryClear, Minus, Plus, Overflow, NoOverflow, Higher, LowerOrSame, GreaterOrEqual, LessThan, GreaterThan, LessOrEqual}
+use Rattle.armv6m_decode.specs.declared.condition.Condition.TheVariants.{Equal, NotEqual, CarrySet, CarryClear, Minus, Plus, Overflow, NoOverflow, Higher}
+use Rattle.armv6m_decode.specs.declared.condition.Condition.TheVariants.{LowerOrSame, GreaterOrEqual, LessThan, GreaterThan, LessOrEqual}
 
 abbrev pub condition_code : Condition → ℕ
 condition_code Equal = 0

@@ -48,4 +48,5 @@ first_fit_pair [] first second = None
 first_fit_pair (r ∷ rs) first second = if fits_pair r first second then Some (r.form first second) else first_fit_pair rs first second
 
 abbrev pub AtMostOneFitsPair : List PairRow → Type 0
-AtMostOneFitsPair rows = (i j first second : ℕ) (r s : PairRow) → slice_get rows i ≡ Some r → slice_get rows j ≡ Some s → IsTrue (fits_pair r first second) → IsTrue (fits_pair s first second) → i ≡ j
+AtMostOneFitsPair rows = (i j first second : ℕ) (r s : PairRow) → slice_get rows i ≡ Some r → slice_get rows j ≡ Some s → IsTrue (fits_pair r first second)
+    → IsTrue (fits_pair s first second) → i ≡ j

@@ -4,12 +4,14 @@ use Rattle.std.specs.List.{filter, range_with_len, join_by}
 use Rattle.octets.specs.Digit.{hex_text}
 use Rattle.armv6m_alu.specs.Bits.{is_bit_set}
 use Rattle.armv6m_decode.specs.declared.condition.Condition.{Condition}
-use Rattle.armv6m_decode.specs.declared.condition.Condition.TheVariants.{Equal, NotEqual, CarrySet, CarryClear, Minus, Plus, Overflow, NoOverflow, Higher, LowerOrSame, GreaterOrEqual, LessThan, GreaterThan, LessOrEqual}
+use Rattle.armv6m_decode.specs.declared.condition.Condition.TheVariants.{Equal, NotEqual, CarrySet, CarryClear, Minus, Plus, Overflow, NoOverflow, Higher}
+use Rattle.armv6m_decode.specs.declared.condition.Condition.TheVariants.{LowerOrSame, GreaterOrEqual, LessThan, GreaterThan, LessOrEqual}
 use Rattle.armv6m_decode.specs.declared.registers.TheConstants.{SP, LR, PC, APSR, MSP, PRIMASK}
 use Rattle.armv6m_forms.specs.declared.mnemonic.Mnemonic.{Mnemonic}
 use Rattle.armv6m_forms.specs.declared.mnemonic.Mnemonic.TheVariants as mnemonic
 use Rattle.armv6m_forms.specs.declared.form.Operands.{Operands}
-use Rattle.armv6m_forms.specs.declared.form.Operands.TheVariants.{None, One, Two, Three, Immediate, OneImmediate, TwoImmediate, ByRegister, ByOffset, List as RegisterList, BaseList, UpdatedList, Interrupts, FromSpecial, ToSpecial}
+use Rattle.armv6m_forms.specs.declared.form.Operands.TheVariants.{None, One, Two, Three, Immediate, OneImmediate, TwoImmediate, ByRegister, ByOffset}
+use Rattle.armv6m_forms.specs.declared.form.Operands.TheVariants.{List as RegisterList, BaseList, UpdatedList, Interrupts, FromSpecial, ToSpecial}
 use Rattle.armv6m_forms.specs.declared.form.Aim.{Aim}
 use Rattle.armv6m_forms.specs.declared.form.Aim.TheVariants.{Branch, BranchIf, BranchLink, Load, Address}
 use Rattle.armv6m_forms.specs.declared.form.Form.{Form}
@@ -105,7 +107,8 @@ aim_text (Address d) = codes "ADR"
 -- a register (A5.1.2); numbers from 16 on, which no instruction has, are written likewise
 unfoldable pub register_text : ℕ → List ℕ
 register_text register =
-    if nat_eq register SP then codes "SP" else if nat_eq register LR then codes "LR" else if nat_eq register PC then codes "PC" else codes "R" ++ decimal register
+    if nat_eq register SP then codes "SP" else if nat_eq register LR then codes "LR" else if nat_eq register PC then codes "PC"
+    else codes "R" ++ decimal register
 
 -- ---- operands
 
@@ -119,7 +122,8 @@ immediate_text immediate = codes "#" ++ decimal immediate
 -- the special registers that this profile has, by their numbers (B5.1.1); any other is written by its number
 unfoldable pub special_text : ℕ → List ℕ
 special_text special =
-    if nat_eq special APSR then codes "APSR" else if nat_eq special MSP then codes "MSP" else if nat_eq special PRIMASK then codes "PRIMASK" else immediate_text special
+    if nat_eq special APSR then codes "APSR" else if nat_eq special MSP then codes "MSP"
+    else if nat_eq special PRIMASK then codes "PRIMASK" else immediate_text special
 
 -- the registers below an end whose bits are set, in rising order
 unfoldable pub listed_below : ℕ → ℕ → List ℕ

@@ -21,7 +21,8 @@ pub fn one_instruction()
 /// The instruction that a mnemonic and operands without a target stand for (A6.7), and `None` exactly where there is none: where
 /// the mnemonic takes no such operands, or one doesn't fit the row's field.
 pub fn instruction(mnemonic: Mnemonic, operands: Operands) -> Option<Instr>
-    ensures { MatchOption result ((at : ℕ) → HasNoInstruction at (Form.Plain mnemonic operands)) (λ instr. (at : ℕ) → StandsFor instr at (Form.Plain mnemonic operands)) }
+    ensures { MatchOption result ((at : ℕ) → HasNoInstruction at (Form.Plain mnemonic operands))
+        (λ instr. (at : ℕ) → StandsFor instr at (Form.Plain mnemonic operands)) }
 {
     match operands {
         Operands::None => rows::none(mnemonic),

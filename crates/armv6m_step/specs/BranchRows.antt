@@ -3,7 +3,8 @@ use Rattle.std.specs.Prelude.{ℕ, Bool, not, ◌&&◌, ◌||◌, if◌then◌el
 use Rattle.armv6m_decode.specs.declared.instr.Branch.{Branch}
 use Rattle.armv6m_decode.specs.declared.instr.Branch.TheVariants.{Bx, Blx, Bcc, B, Bl}
 use Rattle.armv6m_decode.specs.declared.condition.Condition.{Condition}
-use Rattle.armv6m_decode.specs.declared.condition.Condition.TheVariants.{Equal, NotEqual, CarrySet, CarryClear, Minus, Plus, Overflow, NoOverflow, Higher, LowerOrSame, GreaterOrEqual, LessThan, GreaterThan, LessOrEqual}
+use Rattle.armv6m_decode.specs.declared.condition.Condition.TheVariants.{Equal, NotEqual, CarrySet, CarryClear, Minus, Plus, Overflow, NoOverflow, Higher}
+use Rattle.armv6m_decode.specs.declared.condition.Condition.TheVariants.{LowerOrSame, GreaterOrEqual, LessThan, GreaterThan, LessOrEqual}
 use Rattle.armv6m_decode.specs.declared.registers.TheConstants.{LR}
 use Rattle.armv6m_decode.specs.Targets.{branch_target}
 use Rattle.armv6m_step.specs.declared.core_state.Core.{Core}

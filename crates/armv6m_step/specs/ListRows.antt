@@ -74,10 +74,12 @@ many core next (Ldm n list) =
 
 unfoldable pub StoresEach : {B : Type 0} → Acts B → Core → ℕ → List ℕ → B → Result (Unit {0}) Stop → B → Type 0
 StoresEach {B} acts core at rs before (Ok x) mid =
-    (then' : Meaning) (e : StepEnd) (core' : Core) (after : B) → Runs acts then' core mid e core' after → Runs acts (store_each core at rs then') core before e core' after
+    (then' : Meaning) (e : StepEnd) (core' : Core) (after : B) → Runs acts then' core mid e core' after
+    → Runs acts (store_each core at rs then') core before e core' after
 StoresEach acts core at rs before (Err s) after = (then' : Meaning) → Runs acts (store_each core at rs then') core before (stop_end s) core after
 
 unfoldable pub LoadsEach : {B : Type 0} → Acts B → Core → ℕ → List ℕ → B → Result Core Stop → B → Type 0
 LoadsEach {B} acts core at rs before (Ok filled) mid =
-    (then' : Core → Meaning) (e : StepEnd) (core' : Core) (after : B) → Runs acts (then' filled) core mid e core' after → Runs acts (load_each core at rs then') core before e core' after
+    (then' : Core → Meaning) (e : StepEnd) (core' : Core) (after : B) → Runs acts (then' filled) core mid e core' after
+    → Runs acts (load_each core at rs then') core before e core' after
 LoadsEach acts core at rs before (Err s) after = (then' : Core → Meaning) → Runs acts (load_each core at rs then') core before (stop_end s) core after

@@ -24,7 +24,8 @@ none_fails r (Load width at) = load_fails_none r (loaded_from r width at)
 none_fails r (Store width at v) = store_fails_none r (stored_in r width at v)
 
 -- the bus counts no faults
-pub memory_counted : (before : Ram) (access : Access) (answer : Result ℕ BusEnd) (after : Ram) → memory_acts before access answer after → HasDeviceCause 0 0 (is_device answer)
+pub memory_counted : (before : Ram) (access : Access) (answer : Result ℕ BusEnd) (after : Ram) → memory_acts before access answer after
+    → HasDeviceCause 0 0 (is_device answer)
 memory_counted before access answer after acts =
     let none : is_device answer ≡ false = ap is_device acts.answered ∙ none_fails before access in
     record { later = omega arith; on_device = λ at_fault. cc; on_other = λ other. refl }

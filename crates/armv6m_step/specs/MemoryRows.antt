@@ -3,7 +3,9 @@ use Rattle.std.specs.Prelude.{ℕ, ◌*◌, ◌%◌, ◌^◌, Ok}
 use Rattle.armv6m_alu.specs.Bits.{sign_extended}
 use Rattle.armv6m_decode.specs.Targets.{literal_target}
 use Rattle.armv6m_decode.specs.declared.instr.Memory.{Memory}
-use Rattle.armv6m_decode.specs.declared.instr.Memory.TheVariants.{LdrLiteral, StrRegister, StrhRegister, StrbRegister, LdrsbRegister, LdrRegister, LdrhRegister, LdrbRegister, LdrshRegister, StrImmediate, LdrImmediate, StrbImmediate, LdrbImmediate, StrhImmediate, LdrhImmediate, StrSp, LdrSp}
+use Rattle.armv6m_decode.specs.declared.instr.Memory.TheVariants.{LdrLiteral, StrRegister, StrhRegister, StrbRegister, LdrsbRegister, LdrRegister, LdrhRegister}
+use Rattle.armv6m_decode.specs.declared.instr.Memory.TheVariants.{LdrbRegister, LdrshRegister, StrImmediate, LdrImmediate, StrbImmediate, LdrbImmediate}
+use Rattle.armv6m_decode.specs.declared.instr.Memory.TheVariants.{StrhImmediate, LdrhImmediate, StrSp, LdrSp}
 use Rattle.armv6m_decode.specs.declared.registers.TheConstants.{SP}
 use Rattle.armv6m_step.specs.declared.core_state.Core.{Core}
 use Rattle.armv6m_step.specs.Registers.{reg, written, moved, pc_of}

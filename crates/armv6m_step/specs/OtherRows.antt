@@ -5,7 +5,8 @@ use Rattle.armv6m_alu.specs.Bits.{is_bit_set, sign_extended}
 use Rattle.armv6m_alu.specs.Sums.{number_of}
 use Rattle.armv6m_decode.specs.Targets.{literal_target}
 use Rattle.armv6m_decode.specs.declared.instr.Other.{Other}
-use Rattle.armv6m_decode.specs.declared.instr.Other.TheVariants.{Adr, AddFromSp, AddToSp, SubFromSp, Sxth, Sxtb, Uxth, Uxtb, Cpsie, Cpsid, Rev, Rev16, Revsh, Bkpt, Nop, Yield, Wfe, Wfi, Sev, Udf, Svc, Mrs, Msr, Dsb, Dmb, Isb}
+use Rattle.armv6m_decode.specs.declared.instr.Other.TheVariants.{Adr, AddFromSp, AddToSp, SubFromSp, Sxth, Sxtb, Uxth, Uxtb, Cpsie, Cpsid, Rev, Rev16, Revsh}
+use Rattle.armv6m_decode.specs.declared.instr.Other.TheVariants.{Bkpt, Nop, Yield, Wfe, Wfi, Sev, Udf, Svc, Mrs, Msr, Dsb, Dmb, Isb}
 use Rattle.armv6m_decode.specs.declared.registers.TheConstants.{SP, PC, APSR, MSP, PRIMASK}
 use Rattle.armv6m_step.specs.declared.core_state.Core.{Core}
 use Rattle.armv6m_step.specs.Ends.{Break, Outcome}

@@ -1,6 +1,7 @@
 -- Bytes at the addresses from a base on, little-endian: where an access lies in them, what it reads and what it writes, and how a
 -- bus of nothing else answers.
-use Rattle.std.specs.Prelude.{ℕ, ◌+◌, ◌-◌, ◌*◌, ◌/◌, ◌%◌, ◌||◌, nat_eq, nat_lt, if◌then◌else◌, Option, Some, None, Result, Ok, Err, List, length, slice_index, slice_set, option_map}
+use Rattle.std.specs.Prelude.{ℕ, ◌+◌, ◌-◌, ◌*◌, ◌/◌, ◌%◌, ◌||◌, nat_eq, nat_lt, if◌then◌else◌, Option, Some, None, Result, Ok, Err, List, length, slice_index}
+use Rattle.std.specs.Prelude.{slice_set, option_map}
 use Rattle.bench_model.specs.declared.bench_fault.BusEnd.{BusEnd}
 use Rattle.bench_model.specs.declared.bench_fault.BusEnd.TheVariants.{Fault}
 use Rattle.armv6m_step.specs.Access.{Access, Load, Store}

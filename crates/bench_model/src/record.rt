@@ -1,5 +1,6 @@
 //! The record of a bench in memory.
-ghost use Rattle.std.specs.Prelude.{◌≡◌, ◌≤◌, ◌+◌, ◌<◌, ◌↔◌, ◌++◌, [], ◌∷◌, length, replicate, false, true, slice_index, slice_index_or, ℕ, IsTrue, IfOk, vec_len, vec_capacity};
+ghost use Rattle.std.specs.Prelude.{◌≡◌, ◌≤◌, ◌+◌, ◌<◌, ◌↔◌, ◌++◌, [], ◌∷◌, length, replicate, false, true, slice_index, slice_index_or, ℕ, IsTrue, IfOk};
+ghost use Rattle.std.specs.Prelude.{vec_len, vec_capacity};
 ghost use Rattle.bench_model.specs.Record.{handed, event_of, noted, synced, HasRoom, CanMark, marked, marked_by, at_rest, held_now};
 ghost use Rattle.bench_model.specs.Kept.{IsFilled};
 
@@ -37,7 +38,8 @@ impl Model for Record {
 
     ghost Value = { Recorded };
 
-    ghost view = { λ r. record { made = at_rest r.made_file.items r.made_cells.items; events = events_of r.changes.items r.handed.items; used = r.used; room = r.room; longest = r.longest } };
+    ghost view = { λ r. record { made = at_rest r.made_file.items r.made_cells.items; events = events_of r.changes.items r.handed.items; used = r.used;
+        room = r.room; longest = r.longest } };
 
     ghost invariant = { λ r. IsSound (at_rest r.made_file.items r.made_cells.items) r.changes.items r.handed.items r.synced.items r.marks.items
         r.used r.room r.longest (vec_capacity r.changes) (vec_capacity r.handed) (vec_capacity r.made_file) (vec_capacity r.synced) (vec_capacity r.marks) };

@@ -2,7 +2,8 @@
 ghost use Rattle.std.specs.Prelude.{◌≡◌, ◌<◌, ◌≤◌, ◌+◌, ◌++◌, false, not, List, None, map, option_map, length, IsTrue, IfOk, IfSome};
 ghost use Rattle.std.specs.List.{list_all, list_any};
 ghost use Rattle.board_file.specs.Answer.{Gives};
-ghost use Rattle.board_file.specs.Limits.{run_fits, region_fits, cells_of, sectors_of, size_of, sectors_in, fixed_parts, quiet_parts, named_overlap, parts_of, overlap, ends_late, is_short, are_quiet_too_big, most_ram, most_regions, most_cells, most_sectors};
+ghost use Rattle.board_file.specs.Limits.{run_fits, region_fits, cells_of, sectors_of, size_of, sectors_in, fixed_parts, quiet_parts, named_overlap, parts_of};
+ghost use Rattle.board_file.specs.Limits.{overlap, ends_late, is_short, are_quiet_too_big, most_ram, most_regions, most_cells, most_sectors};
 ghost use Rattle.board_file.specs.Table.{addresses};
 ghost use Rattle.board_file.specs.Written.{runs_shown, region_shown, quiets_shown};
 ghost use Rattle.board_file.specs.Small.{small, small_region, small_regions, unless_too_big};
@@ -233,7 +234,8 @@ pub(crate) fn limited(
 ) -> Result<WithinLimits, BoardFault>
     requires some { 0 < length written.now }
     requires ram { 0 < parts_written.now.ram_size }
-    ensures said { Gives (λ x. x.regions) result (limited parts_written.now.ram_base parts_written.now.ram_size parts_written.now.kind parts_written.now.controller_base (quiets_shown quiet.now) (map region_shown written.now)) }
+    ensures said { Gives (λ x. x.regions) result (limited parts_written.now.ram_base parts_written.now.ram_size parts_written.now.kind
+        parts_written.now.controller_base (quiets_shown quiet.now) (map region_shown written.now)) }
     ensures same { IfOk result (λ x. x.regions ≡ map region_shown written.now) }
     ensures quiet { IfOk result (λ x. x.quiet ≡ quiets_shown quiet.now) }
     ensures quiet_is_small { IfOk result (λ x. are_quiet_too_big x.quiet ≡ false) }
@@ -244,7 +246,8 @@ pub(crate) fn limited(
     ensures few_regions { IfOk result (λ x. length x.regions ≤ most_regions) }
     ensures few_cells { IfOk result (λ x. size_of x.regions ≤ most_cells) }
     ensures few_sectors { IfOk result (λ x. sectors_in x.regions ≤ most_sectors) }
-    ensures apart { IfOk result (λ x. overlap (parts_of parts_written.now.ram_base parts_written.now.ram_size x.regions parts_written.now.kind parts_written.now.controller_base x.quiet) ≡ None) }
+    ensures apart { IfOk result (λ x. overlap (parts_of parts_written.now.ram_base parts_written.now.ram_size x.regions parts_written.now.kind
+        parts_written.now.controller_base x.quiet) ≡ None) }
 {
     if written.len() > MOST_REGIONS {
         return Err(BoardFault::ManyRegions);

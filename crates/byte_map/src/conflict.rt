@@ -18,7 +18,8 @@ pub struct Clash {
 /// The first byte of a piece, `bytes` from `at` on, that differs from the run's.
 fn first_clash(run: &RunBuffer, at: u32, bytes: &[u8]) -> Option<Clash>
     requires { at + length bytes.now ≤ addresses }
-    ensures { let piece : Run = record { at = at; bytes = bytes.now } in MatchOption result (AgreesWithRun piece run.now addresses) (λ c. ClashesWithRun piece run.now c.at c.old c.new) }
+    ensures { let piece : Run = record { at = at; bytes = bytes.now } in MatchOption result (AgreesWithRun piece run.now addresses)
+        (λ c. ClashesWithRun piece run.now c.at c.old c.new) }
 {
     let start = run.at().max(at);
     let end = run.end().min(u64::from(at) + bytes.len() as u64);
@@ -42,7 +43,8 @@ pub fn find_clash(runs: &RunList, first: usize, last: usize, at: u32, bytes: &[u
     requires fits { at + length bytes.now ≤ addresses }
     requires maximal { AreMaximal 0 addresses runs.now }
     requires touches { Touches (record { at = at; bytes = bytes.now }) runs.now first last }
-    ensures { let piece : Run = record { at = at; bytes = bytes.now } in MatchOption result (AgreesBelow piece runs.now addresses) (λ c. IsFirstClash piece runs.now c.at c.old c.new) }
+    ensures { let piece : Run = record { at = at; bytes = bytes.now } in MatchOption result (AgreesBelow piece runs.now addresses)
+        (λ c. IsFirstClash piece runs.now c.at c.old c.new) }
 {
     for index in first..last {
         if let Some(clash) = first_clash(runs.get(index), at, bytes) {

@@ -159,7 +159,8 @@ impl RunList {
     pub fn append(&mut self, index: usize, middle: &[u8], end: &[u8]) -> Result<(), AllocError>
         requires within { index < length self.old }
         requires fits { end_of (run_at self.old index) + (length middle.now + length end.now) ≤ addresses }
-        ensures ok { let run = run_at self.old index in OnOk result (self.new ≡ set self.old index (record { at = run.at; bytes = run.bytes ++ (middle.now ++ end.now) })) }
+        ensures ok { let run = run_at self.old index in OnOk result (self.new
+            ≡ set self.old index (record { at = run.at; bytes = run.bytes ++ (middle.now ++ end.now) })) }
         ensures err { OnErr result (self.new ≡ self.old) }
     {
         let count = count_of(&self.tree);
@@ -175,7 +176,8 @@ impl RunList {
     pub fn prepend(&mut self, index: usize, front: &[u8], middle: &[u8]) -> Result<(), AllocError>
         requires within { index < length self.old }
         requires fits { length front.now + length middle.now ≤ (run_at self.old index).at }
-        ensures ok { let run = run_at self.old index in OnOk result (self.new ≡ set self.old index (record { at = run.at - (length front.now + length middle.now); bytes = front.now ++ (middle.now ++ run.bytes) })) }
+        ensures ok { let run = run_at self.old index in OnOk result (self.new
+            ≡ set self.old index (record { at = run.at - (length front.now + length middle.now); bytes = front.now ++ (middle.now ++ run.bytes) })) }
         ensures err { OnErr result (self.new ≡ self.old) }
     {
         let count = count_of(&self.tree);

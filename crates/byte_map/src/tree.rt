@@ -465,7 +465,8 @@ pub fn remove(side: Side, index: usize) -> Side
 pub fn append(side: &mut Side, index: usize, middle: &[u8], end: &[u8]) -> Result<(), AllocError>
     requires within { index < length (runs_of side.old) }
     requires fits { end_of (run_at (runs_of side.old) index) + (length middle.now + length end.now) ≤ addresses }
-    ensures ok { let run = run_at (runs_of side.old) index in OnOk result (runs_of side.new ≡ set (runs_of side.old) index (record { at = run.at; bytes = run.bytes ++ (middle.now ++ end.now) })) }
+    ensures ok { let run = run_at (runs_of side.old) index in OnOk result
+        (runs_of side.new ≡ set (runs_of side.old) index (record { at = run.at; bytes = run.bytes ++ (middle.now ++ end.now) })) }
     ensures err { OnErr result (runs_of side.new ≡ runs_of side.old) }
 {
     let Some(top) = side else { unreachable!() };
@@ -487,7 +488,9 @@ pub fn append(side: &mut Side, index: usize, middle: &[u8], end: &[u8]) -> Resul
 pub fn prepend(side: &mut Side, index: usize, front: &[u8], middle: &[u8]) -> Result<(), AllocError>
     requires within { index < length (runs_of side.old) }
     requires fits { length front.now + length middle.now ≤ (run_at (runs_of side.old) index).at }
-    ensures ok { let run = run_at (runs_of side.old) index in OnOk result (runs_of side.new ≡ set (runs_of side.old) index (record { at = run.at - (length front.now + length middle.now); bytes = front.now ++ (middle.now ++ run.bytes) })) }
+    ensures ok { let run = run_at (runs_of side.old) index in OnOk result
+        (runs_of side.new ≡ set (runs_of side.old) index (record { at = run.at - (length front.now + length middle.now);
+        bytes = front.now ++ (middle.now ++ run.bytes) })) }
     ensures err { OnErr result (runs_of side.new ≡ runs_of side.old) }
 {
     let Some(top) = side else { unreachable!() };

@@ -2,7 +2,9 @@
 use Rattle.std.specs.Prelude.{◌≡◌, ◌≤◌, ◌<◌, ◌⊎◌, ℕ, Bool, true, false, IsTrue, List, Option, Some, None}
 use Rattle.faults.specs.Counts.{Rose}
 use Rattle.bench_model.specs.Calls.{OnlyReads}
-use Rattle.report_text.specs.Refusal.{Refusal, out_of_memory, usage, input_fault, image_too_long, flm_refused, other_device, no_room, board_refused, image_refused, image_misplaced, job_open, no_job, not_a_job, damaged, cells_differ, store_fault, device_fault, output_fault, call_failed, mismatch, differs}
+use Rattle.report_text.specs.Refusal.{Refusal, out_of_memory, usage, input_fault, image_too_long, flm_refused, other_device, no_room, board_refused}
+use Rattle.report_text.specs.Refusal.{image_refused, image_misplaced, job_open, no_job, not_a_job, damaged, cells_differ, store_fault, device_fault}
+use Rattle.report_text.specs.Refusal.{output_fault, call_failed, mismatch, differs}
 use Rattle.command_files.specs.Inputs.{InputsCall, IsUntaken}
 use Rattle.command_answers.specs.Call.{BenchCall, SinkCall, Call, TookNothing, IsUntouched, Answer, done, refused, Says}
 
@@ -227,7 +229,8 @@ IsOf has (refused refusal) = has refusal ≡ true
 -- What holds of the work of each command of this scope that has these refusals and may ask for these files, whatever the objects tell:
 -- which refusals it has, its counts of faults, what stands after an early refusal, that it asks for no other file, and that no take
 -- failed but the one whose fault it answers.
-pub record EndsLawfully (scope : Scope) (bench : BenchCall) (inputs : InputsCall) (out : SinkCall) (has : Refusal → Bool) (names : List (List ℕ)) (answer : Answer) : Type 0 where
+pub record EndsLawfully (scope : Scope) (bench : BenchCall) (inputs : InputsCall) (out : SinkCall) (has : Refusal → Bool) (names : List (List ℕ))
+    (answer : Answer) : Type 0 where
   pub kind : IsOf has answer
   pub counts : AreCounted bench inputs out answer
   pub stands : StandsEarly scope bench out answer

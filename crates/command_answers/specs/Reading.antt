@@ -1,6 +1,7 @@
 -- What a command on files answers, as far as the files go: one form for each command that has a board, images, and FLM files or none.
 use Rattle.std.specs.Prelude.{IsTrue}
-use Rattle.report_text.specs.Refusal.{Refusal, out_of_memory, usage, input_fault, flm_refused, other_device, no_room, board_refused, image_refused, image_misplaced}
+use Rattle.report_text.specs.Refusal.{Refusal, out_of_memory, usage, input_fault, flm_refused, other_device, no_room, board_refused, image_refused}
+use Rattle.report_text.specs.Refusal.{image_misplaced}
 use Rattle.command_words.specs.Files.{FilesAsked}
 use Rattle.command_files.specs.Inputs.{InputsCall, FilesGiven, AreFiles, Given}
 use Rattle.command_files.specs.Files.{Aim, IsAim, IsRefused}
@@ -28,7 +29,8 @@ ShowsFiles inputs asked Holds (refused (image_misplaced fault)) = Given inputs a
 ShowsFiles inputs asked Holds _ = Given inputs asked (WantAnAim asked Holds)
 
 -- A command on files: what each answer shows, and what comes of files that want something.
-pub record AnswersFiles (bench : BenchCall) (inputs : InputsCall) (out : SinkCall) (asked : FilesAsked) (answer : Answer) (Holds Goes : FilesGiven → Aim → Type 0) : Type 0 where
+pub record AnswersFiles (bench : BenchCall) (inputs : InputsCall) (out : SinkCall) (asked : FilesAsked) (answer : Answer)
+    (Holds Goes : FilesGiven → Aim → Type 0) : Type 0 where
   pub shows : ShowsFiles inputs asked Holds answer
   -- the other direction, where the inputs tell: with these files under the names
   pub refuses : (files : FilesGiven) (refusal : Refusal) → IsTrue inputs.tells → AreFiles inputs asked files → IsRefused asked files refusal

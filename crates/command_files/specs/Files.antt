@@ -1,6 +1,7 @@
 -- What a command's files say: an image, for a board and by an algorithm for each of its regions where the command has FLM files; or why
 -- they are refused.
-use Rattle.std.specs.Prelude.{◌≡◌, ◌≢◌, ◌≤◌, ◌<◌, ◌-◌, ◌⊎◌, ℕ, List, [], ◌∷◌, ◌++◌, map, length, take, drop, Option, option_to_list, Some, None, IsSome, Ok, Err}
+use Rattle.std.specs.Prelude.{◌≡◌, ◌≢◌, ◌≤◌, ◌<◌, ◌-◌, ◌⊎◌, ℕ, List, [], ◌∷◌, ◌++◌, map, length, take, drop, Option, option_to_list, Some, None, IsSome, Ok}
+use Rattle.std.specs.Prelude.{Err}
 use Rattle.byte_map.specs.Image.{Run}
 use Rattle.board_file.specs.declared.region.Region.{Region}
 use Rattle.board_file.specs.Shown as board

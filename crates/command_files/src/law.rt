@@ -9,5 +9,6 @@ ghost use Rattle.command_files.specs.Files.{Aim, IsAim, IsRefused};
 pub fn files_say_one_thing()
     ensures aim { (asked : FilesAsked) (files : FilesGiven) (one other : Aim) → IsAim asked.raw_at files one → IsAim asked.raw_at files other → one ≡ other }
     ensures refusal { (asked : FilesAsked) (files : FilesGiven) (one other : Refusal) → IsRefused asked files one → IsRefused asked files other → one ≡ other }
-    ensures never_both { (asked : FilesAsked) (files : FilesGiven) (aim : Aim) (refusal : Refusal) → IsAim asked.raw_at files aim → IsRefused asked files refusal → ⊥ }
+    ensures never_both { (asked : FilesAsked) (files : FilesGiven) (aim : Aim) (refusal : Refusal) → IsAim asked.raw_at files aim
+        → IsRefused asked files refusal → ⊥ }
 {}

@@ -45,7 +45,8 @@ pub fn take_one<'a, I: Inputs>(
     inputs: &mut I,
 ) -> Result<Bytes, Refusal<'a>>
     requires { I.may_take inputs.old name.now }
-    ensures takes { TakesEach (inputs_call I.tells (I.state inputs.old) (I.state inputs.new)) (name.now ∷ []) (result_map_both (λ file. file ∷ []) (λ e. e) result) }
+    ensures takes { TakesEach (inputs_call I.tells (I.state inputs.old) (I.state inputs.new)) (name.now ∷ [])
+        (result_map_both (λ file. file ∷ []) (λ e. e) result) }
     ensures short { IfOk result (λ file. length file ≤ LONGEST) }
     ensures stands { (other : List ℕ) → (I.state inputs.new).stands other ≡ (I.state inputs.old).stands other }
     ensures leave { (other : List ℕ) → I.may_take inputs.new other ↔ I.may_take inputs.old other }
@@ -86,7 +87,8 @@ fn take_each<'a, I: Inputs>(
     inputs: &mut I,
 ) -> Result<Vec<Bytes>, Refusal<'a>>
     requires { All (I.may_take inputs.old) (names_of names.now) }
-    ensures takes { TakesEach (inputs_call I.tells (I.state inputs.old) (I.state inputs.new)) (names_of names.now) (result_map_both (λ files. files.items) (λ e. e) result) }
+    ensures takes { TakesEach (inputs_call I.tells (I.state inputs.old) (I.state inputs.new)) (names_of names.now)
+        (result_map_both (λ files. files.items) (λ e. e) result) }
     ensures short { IfOk result (λ files. All (λ bytes. length bytes ≤ LONGEST) files.items) }
 {
     let mut files = Vec::new(alloc);

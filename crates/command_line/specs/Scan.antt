@@ -45,7 +45,8 @@ abbrev mutual
 
 -- the names of the commands
 abbrev pub commands : List Text
-commands = codes "program" ∷ codes "begin" ∷ codes "resume" ∷ codes "revert" ∷ codes "plan" ∷ codes "verify" ∷ codes "compare" ∷ codes "status" ∷ codes "inspect" ∷ codes "dump" ∷ codes "demo" ∷ []
+commands = codes "program" ∷ codes "begin" ∷ codes "resume" ∷ codes "revert" ∷ codes "plan" ∷ codes "verify" ∷ codes "compare" ∷ codes "status"
+    ∷ codes "inspect" ∷ codes "dump" ∷ codes "demo" ∷ []
 
 -- the command that the first word names
 abbrev pub command_of : Text → Option Text

@@ -1,6 +1,7 @@
 -- The words behind the name of a command.
 use Rattle.std.specs.Prelude.{ℕ, List, [], ◌∷◌, Option, Some, None}
-use Rattle.command_words.specs.Words.{form_text, Positional, HasOneNumber, HasBoardAndImages, HasTargetAndImages, Command, program, begin, resume, revert, plan, verify, compare, status, inspect, dump, demo}
+use Rattle.command_words.specs.Words.{form_text, Positional, HasOneNumber, HasBoardAndImages, HasTargetAndImages, Command, program, begin, resume, revert, plan}
+use Rattle.command_words.specs.Words.{verify, compare, status, inspect, dump, demo}
 use Rattle.command_words.specs.declared.command.CommandName.{CommandName}
 use Rattle.command_words.specs.declared.command.CommandName.TheVariants.{Program, Begin, Resume, Revert, Plan, Verify, Compare, Status, Inspect, Dump, Demo}
 

@@ -127,7 +127,8 @@ fn only_name(line: &Line) -> Option<&Word>
 /// The form and the board of `dump`: the two positional words, where there are exactly two and no address.
 fn form_and_board(line: &Line) -> Option<(TextForm, &Word)>
     ensures some { IfSome result (λ p. (others : List (List ℕ)) → Spells others line.now → Positional others (form_text p.0 ∷ p.1.now ∷ [])) }
-    ensures none { IfNone result ((others : List (List ℕ)) → Spells others line.now → (form : TextForm) (board : List ℕ) → Positional others (form_text form ∷ board ∷ []) → ⊥) }
+    ensures none { IfNone result ((others : List (List ℕ)) → Spells others line.now → (form : TextForm) (board : List ℕ)
+        → Positional others (form_text form ∷ board ∷ []) → ⊥) }
 {
     if !has_no_address(line) {
         return None;

@@ -75,7 +75,8 @@ pub record ArePartsOf (seed : ℕ) (t : Target) (parts : JobParts) : Type 0 wher
 
 -- The job of a seed was begun over a bench round this one that lets as many calls through as the seed says. The first call on it is the
 -- job's: it syncs the job file.
-pub record BeginsOver {B : Type 0} (tells : Bool) (acts : B → Act → B → Type 0) (state : B → BenchState) (seed : ℕ) (t : Target) (fresh : B) (begun : StopBench B) (answer : Answer) : Type 0 where
+pub record BeginsOver {B : Type 0} (tells : Bool) (acts : B → Act → B → Type 0) (state : B → BenchState) (seed : ℕ) (t : Target) (fresh : B)
+    (begun : StopBench B) (answer : Answer) : Type 0 where
   pub first : StopBench B
   pub inner : first.inner ≡ fresh
   pub calls : first.calls ≡ stop_of seed

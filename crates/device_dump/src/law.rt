@@ -10,9 +10,11 @@ ghost use Rattle.device_dump.specs.Dump.{text_in};
 
 /// Cells have one map. Its text in either form is read, as any image file is, as that map and as no other.
 pub fn dumps_are_read_as_their_cells()
-    ensures one { (regions : List Region) (cells : List ℕ) (map other : List Run) → IsMapOfCells regions cells map → IsMapOfCells regions cells other → map ≡ other }
+    ensures one { (regions : List Region) (cells : List ℕ) (map other : List Run) → IsMapOfCells regions cells map
+        → IsMapOfCells regions cells other → map ≡ other }
     ensures read { (form : TextForm) (regions : List Region) (cells : List ℕ) (map : List Run) → All (λ byte. byte < 256) cells → IsMapOfCells regions cells map
         → IsAnyImage None (text_in form map) map }
-    ensures alone { (form : TextForm) (regions : List Region) (cells : List ℕ) (map other : List Run) → All (λ byte. byte < 256) cells → IsMapOfCells regions cells map
+    ensures alone { (form : TextForm) (regions : List Region) (cells : List ℕ) (map other : List Run) → All (λ byte. byte < 256) cells
+        → IsMapOfCells regions cells map
         → IsAnyImage None (text_in form map) other → other ≡ map }
 {}

@@ -7,14 +7,17 @@ use Rattle.bench_model.specs.Calls.{SameOutside}
 -- these bytes are those cells, but for the range of an operation
 pub record DiffersInside (operation : Option (ℕ × ℕ)) (cells bytes : List ℕ) : Type 0 where
   pub idle : operation ≡ None → bytes ≡ cells
-  pub within : ForSome operation (λ range. (length bytes ≡ length cells) × (take range.0 bytes ≡ take range.0 cells) × (drop (range.0 + range.1) bytes ≡ drop (range.0 + range.1) cells))
+  pub within : ForSome operation (λ range. (length bytes ≡ length cells) × (take range.0 bytes ≡ take range.0 cells)
+      × (drop (range.0 + range.1) bytes ≡ drop (range.0 + range.1) cells))
 
 pub outside_of : (operation : Option (ℕ × ℕ)) (cells bytes : List ℕ) → DiffersInside operation cells bytes → SameOutside operation cells bytes
 outside_of None cells bytes differs = differs.idle refl
 outside_of (Some range) cells bytes differs = differs.within range refl
 
-pub same_outside : {told operation : Option (ℕ × ℕ)} {cells bytes : List ℕ} → told ≡ operation → DiffersInside operation cells bytes → SameOutside told cells bytes
-same_outside {told} {operation} {cells} {bytes} same differs = subst (λ (o : Option (ℕ × ℕ)). SameOutside o cells bytes) (sym same) (outside_of operation cells bytes differs)
+pub same_outside : {told operation : Option (ℕ × ℕ)} {cells bytes : List ℕ} → told ≡ operation → DiffersInside operation cells bytes
+    → SameOutside told cells bytes
+same_outside {told} {operation} {cells} {bytes} same differs = subst (λ (o : Option (ℕ × ℕ)). SameOutside o cells bytes) (sym same)
+    (outside_of operation cells bytes differs)
 
 pub differs_inside : (operation : Option (ℕ × ℕ)) (cells bytes : List ℕ) → SameOutside operation cells bytes → DiffersInside operation cells bytes
 differs_inside None cells bytes same = record { idle = λ is. same; within = λ range is. cc }

@@ -5,14 +5,16 @@ ghost use Rattle.bench_model.specs.History.{left};
 ghost use Rattle.bench_model.specs.Calls.{SameOutside};
 ghost use Rattle.disk_files.specs.DiskState.{DiskState, job_half, range_half};
 ghost use Rattle.disk_files.specs.Fails.{CallEnds, CallMayStop, FileSyncEnds, CellsSyncEnds};
-ghost use Rattle.disk_files.specs.DiskDoes.{OnlyReadsJob, ReadsSome, WritesSome, WritesJob, SetsJobLength, SyncsJob, SyncsFolder, SyncsBytes, WritesBytes, ReadsBytes, OpensRange, ClosesRange, InRange};
+ghost use Rattle.disk_files.specs.DiskDoes.{OnlyReadsJob, ReadsSome, WritesSome, WritesJob, SetsJobLength, SyncsJob, SyncsFolder, SyncsBytes, WritesBytes};
+ghost use Rattle.disk_files.specs.DiskDoes.{ReadsBytes, OpensRange, ClosesRange, InRange};
 
 use std::io;
 
 /// A job file and a cells file. Offsets and lengths are in bytes, of which one is a cell.
 ///
 /// Each call may fail, and counts that. What it may leave then is said by its clauses as well. A read or a write that a signal interrupted is
-/// no error: it can be made again. Once a sync has failed no later one of the same file brings anything to the disk for sure. The job file's entry in its folder has to be
+/// no error: it can be made again. Once a sync has failed no later one of the same file brings anything to the disk for sure. The job
+/// file's entry in its folder has to be
 /// on the disk before any other call on it than `job_open` and `folder_sync`.
 pub trait Disk {
     /// Whether it tells its contents.

@@ -73,10 +73,14 @@ impl<B: Bench> MemoryDisk<B> {
 
     /// Puts the bytes of an open range into the bench.
     fn end_range(&mut self) -> io::Result<()>
-        ensures does { ClosesRange B.tells (disk_over (B.state self.old.bench) self.old.entry self.old.bytes.items self.old.unsynced self.old.earlier self.old.errors self.old.file_whole)
-            (disk_over (B.state self.new.bench) self.new.entry self.new.bytes.items self.new.unsynced self.new.earlier self.new.errors self.new.file_whole) result }
-        ensures fails { CallEnds (disk_over (B.state self.old.bench) self.old.entry self.old.bytes.items self.old.unsynced self.old.earlier self.old.errors self.old.file_whole)
-            (disk_over (B.state self.new.bench) self.new.entry self.new.bytes.items self.new.unsynced self.new.earlier self.new.errors self.new.file_whole) result }
+        ensures does { ClosesRange B.tells (disk_over (B.state self.old.bench) self.old.entry self.old.bytes.items self.old.unsynced self.old.earlier
+            self.old.errors self.old.file_whole)
+            (disk_over (B.state self.new.bench) self.new.entry self.new.bytes.items self.new.unsynced self.new.earlier self.new.errors self.new.file_whole)
+            result }
+        ensures fails { CallEnds (disk_over (B.state self.old.bench) self.old.entry self.old.bytes.items self.old.unsynced self.old.earlier
+            self.old.errors self.old.file_whole)
+            (disk_over (B.state self.new.bench) self.new.entry self.new.bytes.items self.new.unsynced self.new.earlier self.new.errors self.new.file_whole)
+            result }
     {
         let Some((at, len)) = self.operation else {
             return Ok(());

@@ -54,7 +54,8 @@ impl Window {
 
     /// Fills `out` with the cells from the place `at` on, and says whether it has them all. Else `out` stays.
     pub fn copy(&self, at: u64, out: &mut [u8]) -> bool
-        ensures whole { (held : List ℕ) → IsCopy self.now.at self.now.len self.now.bytes.items held → IsTrue result → out.new ≡ take (length out.old) (drop at held) }
+        ensures whole { (held : List ℕ) → IsCopy self.now.at self.now.len self.now.bytes.items held → IsTrue result
+            → out.new ≡ take (length out.old) (drop at held) }
         ensures stays { result ≡ false → out.new ≡ out.old }
     {
         match self.index(at, out.len()) {

@@ -1,7 +1,8 @@
 //! The ELF header's fields, and the entries of the tables that it names. Each takes a file whose header or table is whole.
 ghost use Rattle.std.specs.Prelude.{◌≡◌, ◌≤◌, ◌<◌, ◌+◌, ◌*◌, length};
 ghost use Rattle.elf32.specs.Fields.{words};
-ghost use Rattle.elf32.specs.Format.{e_machine, e_phoff, e_shoff, e_phentsize, e_phnum, e_shentsize, e_shnum, e_shstrndx, section_at, section_name_at, segment_at, symbol_at, symbol_name_at, symbol_section};
+ghost use Rattle.elf32.specs.Format.{e_machine, e_phoff, e_shoff, e_phentsize, e_phnum, e_shentsize, e_shnum, e_shstrndx, section_at, section_name_at};
+ghost use Rattle.elf32.specs.Format.{segment_at, symbol_at, symbol_name_at, symbol_section};
 
 use crate::entries::{Section, Segment, Symbol};
 use crate::fields::{half, word};

@@ -77,7 +77,8 @@ fn last_end(table: &[u8]) -> usize
 fn string(rest: &[u8], limit: usize) -> Option<&[u8]>
     requires limit { limit < 2 ^ 63 }
     requires ends { position_or_len is_zero rest.now < length rest.now }
-    ensures { MatchOption result (limit < position_or_len is_zero rest.now) (λ text. (text.now ≡ before_first is_zero rest.now) × (position_or_len is_zero rest.now ≤ limit)) }
+    ensures { MatchOption result (limit < position_or_len is_zero rest.now)
+        (λ text. (text.now ≡ before_first is_zero rest.now) × (position_or_len is_zero rest.now ≤ limit)) }
 {
     let window = &rest[..rest.len().min(limit + 1)];
     let len = zero_place(window)?;

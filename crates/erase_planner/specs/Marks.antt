@@ -20,7 +20,11 @@ mark_of l empty old want p = record {
 
 -- the mark of a page after one more byte
 abbrev pub with_byte : ℕ → ℕ → ℕ → Mark → Mark
-with_byte empty x y m = record { differs = m.differs || not (nat_eq x y); old_used = m.old_used || not (nat_eq x empty); want_used = m.want_used || not (nat_eq y empty) }
+with_byte empty x y m = record {
+  differs = m.differs || not (nat_eq x y);
+  old_used = m.old_used || not (nat_eq x empty);
+  want_used = m.want_used || not (nat_eq y empty);
+}
 
 -- the mark of a page; past the end a blank one
 abbrev pub mark_at : List Mark → ℕ → Mark

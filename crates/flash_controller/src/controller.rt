@@ -12,7 +12,8 @@ ghost use Rattle.flash_layout.specs.Maps.{map_for};
 ghost use Rattle.flash_controller.specs.Calls.{LoadIs, StoreIs, Leads};
 ghost use Rattle.flash_controller.specs.Places.{fc1_map, place_of};
 ghost use Rattle.flash_layout.specs.Work.{range_of, settles, tick_at, work_len};
-ghost use Rattle.flash_controller.specs.Table.{load_row, tick_row, after_reset, done, running, reads, asks, may_program, erases_sector, erases_chip, programmed, started, is_running};
+ghost use Rattle.flash_controller.specs.Table.{load_row, tick_row, after_reset, done, running, reads, asks, may_program, erases_sector, erases_chip};
+ghost use Rattle.flash_controller.specs.Table.{programmed, started, is_running};
 ghost use Rattle.flash_controller.specs.declared.place.Place.TheVariants as place;
 
 use crate::flash::is_empty;
@@ -57,7 +58,8 @@ impl Controller {
         requires width { IsWidth width }
         requires aligned { at % width ≡ 0 }
         ensures row { IsTrue B.tells → LoadIs (fc1_map self.old.layout) self.old.state (B.state bench.old).cells at width result }
-        ensures elsewhere { reads self.old.state (place_of (fc1_map self.old.layout) at width) ≡ false → result ≡ load_row (fc1_map self.old.layout) self.old.state [] at width }
+        ensures elsewhere { reads self.old.state (place_of (fc1_map self.old.layout) at width) ≡ false
+            → result ≡ load_row (fc1_map self.old.layout) self.old.state [] at width }
         ensures same { self.new ≡ self.old }
         ensures byte { width ≡ 1 → IfOk result (λ value. value < 2 ^ 8) }
         ensures half { width ≡ 2 → IfOk result (λ value. value < 2 ^ 16) }
@@ -92,8 +94,10 @@ impl Controller {
         requires width { IsWidth width }
         requires aligned { at % width ≡ 0 }
         ensures row { IsTrue B.tells → StoreIs (fc1_map self.old.layout) self.old.state (B.state bench.old).cells at width value result self.new.state }
-        ensures elsewhere { reads self.old.state (place_of (fc1_map self.old.layout) at width) ≡ false → StoreIs (fc1_map self.old.layout) self.old.state [] at width value result self.new.state }
-        ensures quiet { asks (fc1_map self.old.layout) self.old.state width value (place_of (fc1_map self.old.layout) at width) ≡ false → is_device result ≡ false }
+        ensures elsewhere { reads self.old.state (place_of (fc1_map self.old.layout) at width) ≡ false
+            → StoreIs (fc1_map self.old.layout) self.old.state [] at width value result self.new.state }
+        ensures quiet { asks (fc1_map self.old.layout) self.old.state width value (place_of (fc1_map self.old.layout) at width)
+            ≡ false → is_device result ≡ false }
         ensures device { is_device result ≡ true → self.new.state ≡ self.old.state }
         ensures layout { self.new.layout ≡ self.old.layout }
         ensures touches { Touches B.tells (fc1_map self.new.layout) (range_of self.new.state.operation) (B.state bench.old) (B.state bench.new) result }
@@ -152,7 +156,8 @@ impl Controller {
     ) -> Result<(), DeviceFault>
         requires agrees { Agrees B.tells (fc1_map self.old.layout) (range_of (Some operation)) (B.state bench.old) }
         requires runs { self.old.state.operation ≡ Some operation }
-        ensures ok { IsTrue B.tells → OnOk result ((self.new.state, (B.state bench.new).cells) ≡ tick_at (done self.old.state) (running self.old.state) (B.state bench.old).cells operation operation.ticks) }
+        ensures ok { IsTrue B.tells → OnOk result ((self.new.state, (B.state bench.new).cells) ≡ tick_at (done self.old.state) (running self.old.state)
+            (B.state bench.old).cells operation operation.ticks) }
         ensures state { OnOk result (self.new.state ≡ (tick_at (done self.old.state) (running self.old.state) [] operation operation.ticks).0) }
         ensures quiet { 1 < operation.ticks → result ≡ Ok tt }
         ensures err { OnErr result (self.new.state ≡ self.old.state) }
@@ -240,8 +245,10 @@ impl Controller {
     fn erase_sector<B: Bench>(&mut self, bench: &mut B) -> Result<(), BusEnd>
         requires agrees { Agrees B.tells (fc1_map self.old.layout) (range_of self.old.state.operation) (B.state bench.old) }
         requires idle { self.old.state.operation ≡ None }
-        ensures leads { Leads (erases_sector (fc1_map self.old.layout) self.old.state (sector_of self.old.layout.areas.items self.old.layout.runs.items self.old.state.address)) self.old.state result self.new.state }
-        ensures quiet { is_running (erases_sector (fc1_map self.old.layout) self.old.state (sector_of self.old.layout.areas.items self.old.layout.runs.items self.old.state.address)) ≡ false → is_device result ≡ false }
+        ensures leads { Leads (erases_sector (fc1_map self.old.layout) self.old.state
+            (sector_of self.old.layout.areas.items self.old.layout.runs.items self.old.state.address)) self.old.state result self.new.state }
+        ensures quiet { is_running (erases_sector (fc1_map self.old.layout) self.old.state
+            (sector_of self.old.layout.areas.items self.old.layout.runs.items self.old.state.address)) ≡ false → is_device result ≡ false }
         ensures layout { self.new.layout ≡ self.old.layout }
         ensures touches { Touches B.tells (fc1_map self.new.layout) (range_of self.new.state.operation) (B.state bench.old) (B.state bench.new) result }
     {
@@ -290,7 +297,8 @@ impl Controller {
         requires width { width ≤ 4 }
         requires range { found.place + width ≤ cells_in self.old.layout.areas.items }
         requires unit { (found.area.unit ≡ 2) ⊎ (found.area.unit ≡ 4) }
-        ensures leads { IsTrue B.tells → Leads (programmed (fc1_map self.old.layout) self.old.state (B.state bench.old).cells found width value) self.old.state result self.new.state }
+        ensures leads { IsTrue B.tells → Leads (programmed (fc1_map self.old.layout) self.old.state (B.state bench.old).cells found width value)
+            self.old.state result self.new.state }
         ensures device { is_device result ≡ true → self.new.state ≡ self.old.state }
         ensures quiet { may_program self.old.state found.area width ≡ false → is_device result ≡ false }
         ensures layout { self.new.layout ≡ self.old.layout }
@@ -318,7 +326,8 @@ impl Controller {
         requires width { width ≤ 4 }
         requires range { found.place + width ≤ cells_in self.old.layout.areas.items }
         requires unit { (found.area.unit ≡ 2) ⊎ (found.area.unit ≡ 4) }
-        ensures leads { IsTrue B.tells → Leads (programmed (fc1_map self.old.layout) self.old.state (B.state bench.old).cells found width value) self.old.state result self.new.state }
+        ensures leads { IsTrue B.tells → Leads (programmed (fc1_map self.old.layout) self.old.state (B.state bench.old).cells found width value)
+            self.old.state result self.new.state }
         ensures device { is_device result ≡ true → self.new.state ≡ self.old.state }
         ensures layout { self.new.layout ≡ self.old.layout }
         ensures touches { Touches B.tells (fc1_map self.new.layout) (range_of self.new.state.operation) (B.state bench.old) (B.state bench.new) result }

@@ -1,6 +1,7 @@
 //! The registers, and the operation that runs.
 ghost use Rattle.std.specs.Prelude.{◌≡◌};
-ghost use Rattle.flash_controller.specs.Table.{is_ready, is_running, status, key_stored, status_stored, command_stored, address_stored, with_sequence, after_reset, may_program};
+ghost use Rattle.flash_controller.specs.Table.{is_ready, is_running, status, key_stored, status_stored, command_stored, address_stored, with_sequence};
+ghost use Rattle.flash_controller.specs.Table.{after_reset, may_program};
 
 use flash_layout::{Area, Lock, Operation, flag_value};
 

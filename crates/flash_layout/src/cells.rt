@@ -58,7 +58,8 @@ pub fn read<B: Bench>(bench: &mut B, place: u32, width: u32) -> Result<u32, BusE
 /// Ends the operation on the bench with what it leaves.
 pub fn settle<B: Bench>(bench: &mut B, operation: &Operation) -> Result<(), DeviceFault>
     requires { IsTrue B.tells → (B.state bench.old).operation ≡ range_of (Some operation.now) }
-    ensures ok { IsTrue B.tells → OnOk result (((B.state bench.new).operation ≡ None) × ((B.state bench.new).cells ≡ written operation.now.place (work_bytes operation.now.work) (B.state bench.old).cells)) }
+    ensures ok { IsTrue B.tells → OnOk result (((B.state bench.new).operation ≡ None)
+        × ((B.state bench.new).cells ≡ written operation.now.place (work_bytes operation.now.work) (B.state bench.old).cells)) }
     ensures err { IsTrue B.tells → OnErr result (StaysOpen (B.state bench.old) (B.state bench.new)) }
     ensures bench { Settles B.tells (B.state bench.old) (B.state bench.new) }
     ensures cause { HasCause (B.state bench.old).device_faults (B.state bench.new).device_faults result }

@@ -20,7 +20,8 @@ use Rattle.flash_session.specs.SurveyFacts.{IsWorkFor}
 -- Work on a region of a board as a survey left it. With a RAM of zero bytes the machine is the board's target as after a reset.
 pub record IsPartOf (b : BoardShown) (a : AlgorithmShown) (p : Planned) (w : Work) : Type 0 where
   pub setup : setup_at w.calls ≡ setup_of a b
-  pub starts : (windows : List (List ℕ)) (i : ℕ) (cells : List ℕ) → window_of windows i ≡ replicate b.ram_size 0 → world_at w.calls windows i cells ≡ start_of b cells
+  pub starts : (windows : List (List ℕ)) (i : ℕ) (cells : List ℕ) → window_of windows i ≡ replicate b.ram_size 0
+      → world_at w.calls windows i cells ≡ start_of b cells
   pub cells : unit_cells w.calls.machine.unit ≡ size_of b.regions
   pub fits : IsWorkFor a w.geometry w.plan.made
   pub layout : w.geometry ≡ p.layout
@@ -37,7 +38,8 @@ works_in p = p.first ∷ option_to_list p.second
 
 -- the work on a region and its calls give this
 pub record GivesPart (r : RegionSurvey) (c : Calls) (w : Work) : Type 0 where
-  pub gives : (b : BoardShown) (a : AlgorithmShown) → setup_in c ≡ setup_of a b → map_in c ≡ board_map b → IsWorkFor a r.geometry r.plan.made → IsPartOf b a (planned_of r) w
+  pub gives : (b : BoardShown) (a : AlgorithmShown) → setup_in c ≡ setup_of a b → map_in c ≡ board_map b → IsWorkFor a r.geometry r.plan.made
+      → IsPartOf b a (planned_of r) w
 
 abbrev pub GivesLater : Option RegionSurvey → Option Calls → Option Work → Type 0
 GivesLater None c None = Unit {0}

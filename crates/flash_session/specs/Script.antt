@@ -1,5 +1,6 @@
 -- The script: the moves by which a target is to reach the goal.
-use Rattle.std.specs.Prelude.{◌≤◌, ◌+◌, ◌-◌, ◌^◌, ℕ, zero, suc, Bool, true, false, if◌then◌else◌, IsTrue, is_some, List, [], ◌∷◌, ◌++◌, length, take, drop, get_or}
+use Rattle.std.specs.Prelude.{◌≤◌, ◌+◌, ◌-◌, ◌^◌, ℕ, zero, suc, Bool, true, false, if◌then◌else◌, IsTrue, is_some, List, [], ◌∷◌, ◌++◌, length, take, drop}
+use Rattle.std.specs.Prelude.{get_or}
 use Rattle.flm_descriptor.specs.Shape.{Range, range_at}
 use Rattle.page_geometry.specs.Geometry.{Geometry, PagesFit}
 use Rattle.erase_planner.specs.Plans.{Chosen}

@@ -41,7 +41,8 @@ pub(crate) fn follow<B: Bench>(
     requires count { (B.state bench.old).cell_count ≡ size_of first.now.job.now.board.regions }
     requires goal { HasGoal B.tells first.now.job.now first.now.goal goal (B.state bench.old) }
     requires later { ForSome second.now (λ t. HasGoal B.tells t.job.now t.goal goal (B.state bench.old)) }
-    ensures follows { IsTrue B.tells → Follows (legs_on machines.old first.now second.now goal) goal (stand_of machines.old.driver (B.state bench.old).cells) result (B.state bench.old) (B.state bench.new) }
+    ensures follows { IsTrue B.tells → Follows (legs_on machines.old first.now second.now goal) goal (stand_of machines.old.driver (B.state bench.old).cells)
+        result (B.state bench.old) (B.state bench.new) }
     ensures idle { IsTrue B.tells → IsCompared result → (B.state bench.new).operation ≡ None }
     ensures sound { IsSound (size_of first.now.job.now.board.regions) result }
     ensures same { SameMachines machines.old machines.new }

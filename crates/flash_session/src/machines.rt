@@ -45,7 +45,8 @@ impl Machines {
         requires { IsTrue self.old.second → IsTrue (is_some self.old.other) }
         ensures same { SameMachines self.old self.new }
         ensures first { self.new.second ≡ false }
-        ensures start { (cells : List ℕ) → stand_of self.new.driver cells ≡ stand_at 0 (after_reset (setup_on self.old false) (world_in (calls_of self.old false) cells) None []) }
+        ensures start { (cells : List ℕ) → stand_of self.new.driver cells
+            ≡ stand_at 0 (after_reset (setup_on self.old false) (world_in (calls_of self.old false) cells) None []) }
     {
         self.driver.made = 0;
         if self.second {
@@ -79,7 +80,8 @@ impl Machines {
     pub fn reset_for<B: Bench>(&mut self, bench: &mut B, second: bool) -> Result<(), Stopped>
         requires at_bench { AreAtBench B.tells self.old (B.state bench.old) }
         requires there { IsTrue second → IsTrue (is_some self.old.other) }
-        ensures plays { (torn : List ℕ) × PlaysOn B.tells self.old (Reset (setup_on self.old second) torn ∷ []) result self.new (B.state bench.old) (B.state bench.new) }
+        ensures plays { (torn : List ℕ) × PlaysOn B.tells self.old (Reset (setup_on self.old second) torn ∷ []) result self.new
+            (B.state bench.old) (B.state bench.new) }
         ensures moved { OnOk result (self.new.second ≡ second) }
         ensures idle { IsTrue B.tells → OnOk result ((B.state bench.new).operation ≡ None) }
     {
@@ -98,7 +100,8 @@ impl Machines {
         requires at_bench { AreAtBench B.tells self.old (B.state bench.old) }
         requires there { IsTrue second → IsTrue (is_some self.old.other) }
         requires room { self.old.driver.made + 1 < 2 ^ 32 }
-        ensures plays { (torn : List ℕ) × PlaysOn B.tells self.old (Reset (setup_on self.old second) torn ∷ Load (setup_on self.old second) ∷ Make (setup_on self.old second) (Init kind) [] ∷ []) result self.new (B.state bench.old) (B.state bench.new) }
+        ensures plays { (torn : List ℕ) × PlaysOn B.tells self.old (Reset (setup_on self.old second) torn ∷ Load (setup_on self.old second)
+            ∷ Make (setup_on self.old second) (Init kind) [] ∷ []) result self.new (B.state bench.old) (B.state bench.new) }
         ensures moved { OnOk result (self.new.second ≡ second) }
     {
         match self.reset_for(bench, second) {

@@ -75,7 +75,8 @@ fn second_part(survey: Option<RegionSurvey>, calls: Option<Calls>) -> Option<Wor
 /// The work on each region without RAM and without the buffer, on machines that start anew.
 pub(crate) fn parts_of(survey: Survey) -> (Work, Option<Work>)
     requires { IsTrue survey.machines.second → IsTrue (is_some survey.machines.other) }
-    ensures { (j : Job) → IsSurvey j survey → ArePartsOf (board_of j.board) (algorithms_shown j.algorithms) (survey_shown survey).regions (result.0 ∷ option_to_list result.1) }
+    ensures { (j : Job) → IsSurvey j survey → ArePartsOf (board_of j.board) (algorithms_shown j.algorithms) (survey_shown survey).regions
+        (result.0 ∷ option_to_list result.1) }
 {
     let Survey {
         first,

@@ -46,7 +46,8 @@ fn survey_region<B: Bench>(
     requires count { (B.state bench.old).cell_count ≡ size_of job.now.board.regions }
     requires idle { IsTrue B.tells → (B.state bench.old).operation ≡ None }
     requires stands { IsTrue B.tells → StandsFor job.now (B.state bench.old).file }
-    ensures found { IfOk result (λ r. IsFound B.tells job.now (algorithm_of algorithm.now) start (B.state bench.old).cells (goal_in job.now goal (B.state bench.old).file) r) }
+    ensures found { IfOk result (λ r. IsFound B.tells job.now (algorithm_of algorithm.now) start (B.state bench.old).cells
+        (goal_in job.now goal (B.state bench.old).file) r) }
     ensures reads { IsRead B.tells (B.state bench.old) (B.state bench.new) }
     ensures store { IsCounted (B.state bench.old).store_faults (B.state bench.new).store_faults (is_survey_store result) }
     ensures device { HasDeviceCause (B.state bench.old).device_faults (B.state bench.new).device_faults (is_survey_device result) }
@@ -86,7 +87,8 @@ fn survey_second<B: Bench>(
     requires count { (B.state bench.old).cell_count ≡ size_of job.now.board.regions }
     requires idle { IsTrue B.tells → (B.state bench.old).operation ≡ None }
     requires stands { IsTrue B.tells → StandsFor job.now (B.state bench.old).file }
-    ensures found { IfOk result (λ r. AreFound B.tells job.now first.now.device.size (later_shown second.entry) (B.state bench.old).cells (goal_in job.now goal (B.state bench.old).file) (option_to_list r)) }
+    ensures found { IfOk result (λ r. AreFound B.tells job.now first.now.device.size (later_shown second.entry) (B.state bench.old).cells
+        (goal_in job.now goal (B.state bench.old).file) (option_to_list r)) }
     ensures reads { IsRead B.tells (B.state bench.old) (B.state bench.new) }
     ensures store { IsCounted (B.state bench.old).store_faults (B.state bench.new).store_faults (is_survey_store result) }
     ensures device { HasDeviceCause (B.state bench.old).device_faults (B.state bench.new).device_faults (is_survey_device result) }

@@ -1,5 +1,6 @@
 -- What the steps of the commands answer.
-use Rattle.std.specs.Prelude.{◌≡◌, ◌≢◌, ◌≤◌, ◌<◌, ◌+◌, ◌^◌, ◌⊎◌, ℕ, Bool, IsTrue, List, [], ◌∷◌, length, slice_get, slice_index, Option, Some, None, Result, Ok, Err, OnOk, OnErr}
+use Rattle.std.specs.Prelude.{◌≡◌, ◌≢◌, ◌≤◌, ◌<◌, ◌+◌, ◌^◌, ◌⊎◌, ℕ, Bool, IsTrue, List, [], ◌∷◌, length, slice_get, slice_index, Option, Some, None, Result, Ok}
+use Rattle.std.specs.Prelude.{Err, OnOk, OnErr}
 use Rattle.bench_model.specs.declared.bench_fault.DeviceFault.{DeviceFault}
 use Rattle.byte_map.specs.Image.{Run, byte_at}
 use Rattle.board_file.specs.declared.region.Region.{Region}

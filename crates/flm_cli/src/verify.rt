@@ -159,7 +159,8 @@ fn find_in_run<B: Bench>(
     requires run_ends { at + length bytes.now ≤ 2 ^ 32 }
     requires room { 0 < length window.old }
     requires idle { IsTrue B.tells → (B.state bench.old).operation ≡ None }
-    ensures ok { IfOk result (FindsInRegion B.tells (B.state bench.old).cells start region.now.base region.now.size (record { at = at; bytes = bytes.now } ∷ [])) }
+    ensures ok { IfOk result (FindsInRegion B.tells (B.state bench.old).cells start region.now.base region.now.size
+        (record { at = at; bytes = bytes.now } ∷ [])) }
     ensures bench { OnlyReadsCells B.tells (B.state bench.old) (B.state bench.new) }
     ensures cause { HasCause (B.state bench.old).device_faults (B.state bench.new).device_faults result }
 {

@@ -1,5 +1,6 @@
 -- The description of the device in memory (`FlashOS.h`, `struct FlashDevice`): its fields at their offsets, and sector items.
-use Rattle.std.specs.Prelude.{ℕ, ◌+◌, ◌-◌, ◌*◌, ◌/◌, ◌==◌, ◌&&◌, nat_lt, min, Bool, List, length, take, drop, map, slice_index, Option, Some, None, Result, Ok, Err, if◌then◌else◌}
+use Rattle.std.specs.Prelude.{ℕ, ◌+◌, ◌-◌, ◌*◌, ◌/◌, ◌==◌, ◌&&◌, nat_lt, min, Bool, List, length, take, drop, map, slice_index, Option, Some, None, Result, Ok}
+use Rattle.std.specs.Prelude.{Err, if◌then◌else◌}
 use Rattle.std.specs.List.{before_first, range_with_len}
 use Rattle.octets.specs.Field.{field16, field32}
 use Rattle.elf32.specs.Search.{first_below}

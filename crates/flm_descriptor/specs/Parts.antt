@@ -1,5 +1,6 @@
 -- The named sections and symbols of an FLM file (Open-CMSIS-Pack, flash programming algorithms), and where they lie.
-use Rattle.std.specs.Prelude.{◌≡◌, length, IfSome, ℕ, ◌+◌, ◌-◌, ◌%◌, ◌==◌, ◌&&◌, ◌||◌, nat_lt, nat_le, Bool, List, [], codes, Option, Some, None, is_some, Result, Ok, Err, if◌then◌else◌}
+use Rattle.std.specs.Prelude.{◌≡◌, length, IfSome, ℕ, ◌+◌, ◌-◌, ◌%◌, ◌==◌, ◌&&◌, ◌||◌, nat_lt, nat_le, Bool, List, [], codes, Option, Some, None, is_some}
+use Rattle.std.specs.Prelude.{Result, Ok, Err, if◌then◌else◌}
 use Rattle.std.specs.Option.{option_map}
 use Rattle.elf32.specs.declared.entries.Section.{Section}
 use Rattle.elf32.specs.declared.entries.Symbol.{Symbol}

@@ -11,5 +11,6 @@ pub fn pieces_stand_in_order()
 
 /// A page of a run is found by division: the quotient by the pages of a full sector is its sector, the remainder its number there.
 pub fn pages_stand_by_division()
-    ensures { (page : ℕ) (run : Run) (q : ℕ) → 1 ≤ page → 1 ≤ run.step → q < length (pages_of page (cut run.step run.start run.stop)) → IsByDivision page run q }
+    ensures { (page : ℕ) (run : Run) (q : ℕ) → 1 ≤ page → 1 ≤ run.step → q < length (pages_of page (cut run.step run.start run.stop))
+        → IsByDivision page run q }
 {}

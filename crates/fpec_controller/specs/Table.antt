@@ -1,6 +1,7 @@
 -- The table of the controller FPEC: for a state and an access, what the access answers and the state after it; a tick; and
 -- the state after a reset. No access changes a cell: it opens an operation, which a tick settles.
-use Rattle.std.specs.Prelude.{ℕ, Bool, true, false, not, ◌&&◌, ◌||◌, nat_eq, if◌then◌else◌, ◌+◌, ◌/◌, ◌%◌, List, [], ◌∷◌, Option, Some, None, is_some, Result, Ok, Err}
+use Rattle.std.specs.Prelude.{ℕ, Bool, true, false, not, ◌&&◌, ◌||◌, nat_eq, if◌then◌else◌, ◌+◌, ◌/◌, ◌%◌, List, [], ◌∷◌, Option, Some, None, is_some, Result}
+use Rattle.std.specs.Prelude.{Ok, Err}
 use Rattle.bench_model.specs.declared.bench_fault.BusEnd.{BusEnd}
 use Rattle.bench_model.specs.declared.bench_fault.BusEnd.TheVariants as bus
 use Rattle.flash_layout.specs.declared.area.Area.{Area}

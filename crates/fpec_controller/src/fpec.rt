@@ -12,7 +12,8 @@ ghost use Rattle.flash_layout.specs.Maps.{map_for};
 ghost use Rattle.fpec_controller.specs.Calls.{LoadIs, StoreIs, Leads};
 ghost use Rattle.fpec_controller.specs.Places.{fpec_map, place_of};
 ghost use Rattle.flash_layout.specs.Work.{range_of, settles, tick_at, work_len};
-ghost use Rattle.fpec_controller.specs.Table.{load_row, tick_row, after_reset, done, running, reads, compares, asks, control_stored, erases_sector, erases_all, started, is_running, half_of, may_program, programmed};
+ghost use Rattle.fpec_controller.specs.Table.{load_row, tick_row, after_reset, done, running, reads, compares, asks, control_stored, erases_sector, erases_all};
+ghost use Rattle.fpec_controller.specs.Table.{started, is_running, half_of, may_program, programmed};
 ghost use Rattle.bench_model.specs.declared.bench_fault.BusEnd.TheVariants as bus;
 ghost use Rattle.flash_layout.specs.Cells.{value_of, cells_at};
 
@@ -66,7 +67,8 @@ impl Fpec {
         requires width { IsWidth width }
         requires aligned { at % width ≡ 0 }
         ensures row { IsTrue B.tells → LoadIs (fpec_map self.old.layout) self.old.state (B.state bench.old).cells at width result }
-        ensures elsewhere { reads self.old.state (place_of (fpec_map self.old.layout) at width) ≡ false → result ≡ load_row (fpec_map self.old.layout) self.old.state [] at width }
+        ensures elsewhere { reads self.old.state (place_of (fpec_map self.old.layout) at width) ≡ false
+            → result ≡ load_row (fpec_map self.old.layout) self.old.state [] at width }
         ensures same { self.new ≡ self.old }
         ensures byte { width ≡ 1 → IfOk result (λ value. value < 2 ^ 8) }
         ensures half { width ≡ 2 → IfOk result (λ value. value < 2 ^ 16) }
@@ -103,8 +105,10 @@ impl Fpec {
         requires width { IsWidth width }
         requires aligned { at % width ≡ 0 }
         ensures row { IsTrue B.tells → StoreIs (fpec_map self.old.layout) self.old.state (B.state bench.old).cells at width value result self.new.state }
-        ensures elsewhere { compares self.old.state width value (place_of (fpec_map self.old.layout) at width) ≡ false → StoreIs (fpec_map self.old.layout) self.old.state [] at width value result self.new.state }
-        ensures quiet { asks (fpec_map self.old.layout) self.old.state width value (place_of (fpec_map self.old.layout) at width) ≡ false → is_device result ≡ false }
+        ensures elsewhere { compares self.old.state width value (place_of (fpec_map self.old.layout) at width) ≡ false
+            → StoreIs (fpec_map self.old.layout) self.old.state [] at width value result self.new.state }
+        ensures quiet { asks (fpec_map self.old.layout) self.old.state width value (place_of (fpec_map self.old.layout) at width)
+            ≡ false → is_device result ≡ false }
         ensures device { is_device result ≡ true → self.new.state ≡ self.old.state }
         ensures layout { self.new.layout ≡ self.old.layout }
         ensures touches { Touches B.tells (fpec_map self.new.layout) (range_of self.new.state.operation) (B.state bench.old) (B.state bench.new) result }
@@ -164,7 +168,8 @@ impl Fpec {
     ) -> Result<(), DeviceFault>
         requires agrees { Agrees B.tells (fpec_map self.old.layout) (range_of (Some operation)) (B.state bench.old) }
         requires runs { self.old.state.operation ≡ Some operation }
-        ensures ok { IsTrue B.tells → OnOk result ((self.new.state, (B.state bench.new).cells) ≡ tick_at (done self.old.state) (running self.old.state) (B.state bench.old).cells operation operation.ticks) }
+        ensures ok { IsTrue B.tells → OnOk result ((self.new.state, (B.state bench.new).cells) ≡ tick_at (done self.old.state) (running self.old.state)
+            (B.state bench.old).cells operation operation.ticks) }
         ensures state { OnOk result (self.new.state ≡ (tick_at (done self.old.state) (running self.old.state) [] operation operation.ticks).0) }
         ensures quiet { 1 < operation.ticks → result ≡ Ok tt }
         ensures err { OnErr result (self.new.state ≡ self.old.state) }
@@ -242,7 +247,8 @@ impl Fpec {
     fn control_stored<B: Bench>(&mut self, bench: &mut B, value: u32) -> Result<(), BusEnd>
         requires agrees { Agrees B.tells (fpec_map self.old.layout) (range_of self.old.state.operation) (B.state bench.old) }
         ensures leads { Leads (control_stored (fpec_map self.old.layout) self.old.state value) self.old.state result self.new.state }
-        ensures quiet { is_running self.old.state ≡ false → is_running (control_stored (fpec_map self.old.layout) self.old.state value) ≡ false → is_device result ≡ false }
+        ensures quiet { is_running self.old.state ≡ false → is_running (control_stored (fpec_map self.old.layout) self.old.state value)
+            ≡ false → is_device result ≡ false }
         ensures busy { is_running self.old.state ≡ true → is_device result ≡ false }
         ensures layout { self.new.layout ≡ self.old.layout }
         ensures touches { Touches B.tells (fpec_map self.new.layout) (range_of self.new.state.operation) (B.state bench.old) (B.state bench.new) result }
@@ -289,8 +295,10 @@ impl Fpec {
         requires agrees { Agrees B.tells (fpec_map self.old.layout) (range_of self.old.state.operation) (B.state bench.old) }
         requires idle { self.old.state.operation ≡ None }
         requires still { state.operation ≡ None }
-        ensures leads { Leads (erases_sector (fpec_map self.old.layout) state (sector_of self.old.layout.areas.items self.old.layout.runs.items state.address)) self.old.state result self.new.state }
-        ensures quiet { is_running (erases_sector (fpec_map self.old.layout) state (sector_of self.old.layout.areas.items self.old.layout.runs.items state.address)) ≡ false → is_device result ≡ false }
+        ensures leads { Leads (erases_sector (fpec_map self.old.layout) state (sector_of self.old.layout.areas.items self.old.layout.runs.items state.address))
+            self.old.state result self.new.state }
+        ensures quiet { is_running (erases_sector (fpec_map self.old.layout) state
+            (sector_of self.old.layout.areas.items self.old.layout.runs.items state.address)) ≡ false → is_device result ≡ false }
         ensures layout { self.new.layout ≡ self.old.layout }
         ensures touches { Touches B.tells (fpec_map self.new.layout) (range_of self.new.state.operation) (B.state bench.old) (B.state bench.new) result }
     {
@@ -332,8 +340,10 @@ impl Fpec {
         requires agrees { Agrees B.tells (fpec_map self.old.layout) (range_of self.old.state.operation) (B.state bench.old) }
         requires idle { self.old.state.operation ≡ None }
         requires range { place + 2 ≤ cells_in self.old.layout.areas.items }
-        ensures leads { IsTrue B.tells → Leads (programmed (fpec_map self.old.layout) self.old.state (B.state bench.old).cells place value) self.old.state result self.new.state }
-        ensures elsewhere { may_program self.old.state ≡ false → Leads (programmed (fpec_map self.old.layout) self.old.state [] place value) self.old.state result self.new.state }
+        ensures leads { IsTrue B.tells → Leads (programmed (fpec_map self.old.layout) self.old.state (B.state bench.old).cells place value)
+            self.old.state result self.new.state }
+        ensures elsewhere { may_program self.old.state ≡ false → Leads (programmed (fpec_map self.old.layout) self.old.state [] place value)
+            self.old.state result self.new.state }
         ensures zero { half_of value ≡ 0 → Leads (programmed (fpec_map self.old.layout) self.old.state [] place value) self.old.state result self.new.state }
         ensures device { is_device result ≡ true → self.new.state ≡ self.old.state }
         ensures quiet { may_program self.old.state ≡ false → is_device result ≡ false }
@@ -358,7 +368,8 @@ fn can_program<B: Bench>(bench: &mut B, place: u32, value: u32) -> Result<bool, 
     requires range { place + 2 ≤ (B.state bench.old).cell_count }
     requires idle { IsTrue B.tells → (B.state bench.old).operation ≡ None }
     ensures zero { half_of value ≡ 0 → result ≡ Ok true }
-    ensures ok { IsTrue B.tells → (result ≡ Err bus.Device) ⊎ (result ≡ Ok (nat_eq (half_of value) 0 || nat_eq (value_of (cells_at (B.state bench.old).cells place 2)) 0xFFFF)) }
+    ensures ok { IsTrue B.tells → (result ≡ Err bus.Device) ⊎ (result ≡ Ok
+        (nat_eq (half_of value) 0 || nat_eq (value_of (cells_at (B.state bench.old).cells place 2)) 0xFFFF)) }
     ensures bench { Accesses B.tells (B.state bench.old) (B.state bench.new) }
     ensures operation { IsTrue B.tells → (B.state bench.new).operation ≡ (B.state bench.old).operation }
     ensures cause { HasDeviceCause (B.state bench.old).device_faults (B.state bench.new).device_faults (is_device result) }

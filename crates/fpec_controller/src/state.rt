@@ -1,6 +1,7 @@
 //! The registers, and the operation that runs.
 ghost use Rattle.std.specs.Prelude.{◌≡◌, ◌<◌};
-ghost use Rattle.fpec_controller.specs.Table.{is_running, is_erasure, status, control, access_control_stored, key_stored, status_stored, address_stored, with_bits, after_reset, has_bit, may_program};
+ghost use Rattle.fpec_controller.specs.Table.{is_running, is_erasure, status, control, access_control_stored, key_stored, status_stored, address_stored};
+ghost use Rattle.fpec_controller.specs.Table.{with_bits, after_reset, has_bit, may_program};
 
 use flash_layout::{Lock, Operation, Work, flag_value};
 

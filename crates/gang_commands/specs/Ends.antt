@@ -29,7 +29,8 @@ pub record EndsOn {B : Type 0} (G : Ghosts B) (s : BenchState) (x : Outcome) (t 
   pub comes_by : IsTrue G.tells → ComesBy s x.end
 
 abbrev pub AllEndOn : {B : Type 0} → Ghosts B → List B → List Outcome → List B → Type 0
-AllEndOn {B} G benches ends benches' = (i : ℕ) (d : B) (x : Outcome) → i < length benches → EndsOn G (G.state (get_or benches i d)) (get_or ends i x) (G.state (get_or benches' i d))
+AllEndOn {B} G benches ends benches' = (i : ℕ) (d : B) (x : Outcome) → i < length benches → EndsOn G (G.state (get_or benches i d)) (get_or ends i x)
+    (G.state (get_or benches' i d))
 
 -- ---- what follows for each bench
 

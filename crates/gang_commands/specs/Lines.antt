@@ -8,7 +8,8 @@ use Rattle.flash_session.specs.declared.fault.SurveyFault.{SurveyFault}
 use Rattle.flash_session.specs.declared.fault.SurveyFault.TheVariants as survey
 use Rattle.gang_target.specs.declared.target_end.TargetEnd.{TargetEnd}
 use Rattle.gang_target.specs.declared.target_end.TargetEnd.TheVariants as ended
-use Rattle.report_text.specs.Refusal.{Refusal, status_of, out_of_memory, no_job, not_a_job, damaged, cells_differ, store_fault, device_fault, call_failed, mismatch}
+use Rattle.report_text.specs.Refusal.{Refusal, status_of, out_of_memory, no_job, not_a_job, damaged, cells_differ, store_fault, device_fault, call_failed}
+use Rattle.report_text.specs.Refusal.{mismatch}
 use Rattle.report_text.specs.Target.{target_line}
 use Rattle.command_answers.specs.Places.{address_at}
 

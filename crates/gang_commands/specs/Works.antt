@@ -77,7 +77,8 @@ pub record ComesBy (s : BenchState) (e : TargetEnd) : Type 0 where
   pub free : IsFree s.file → IsRefusedBy e opening.NoJob
   pub not_job : (at : ℕ) → IsNotAJob at s.file → IsRefusedBy e (opening.NotAJob at)
   pub is_damaged : (kept found : List ℕ) → IsDamaged kept found s.file → IsRefusedBy e (opening.Damaged kept found)
-  pub other_size : (some : IsSomeJob s.file) → size_of some.board.regions ≢ s.cell_count → IsRefusedBy e (opening.CellsDiffer (size_of some.board.regions) s.cell_count)
+  pub other_size : (some : IsSomeJob s.file) → size_of some.board.regions ≢ s.cell_count
+      → IsRefusedBy e (opening.CellsDiffer (size_of some.board.regions) s.cell_count)
 
 -- Faults.
 

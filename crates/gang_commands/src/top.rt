@@ -38,11 +38,13 @@ pub fn flmgang<B: Bench, O: Sink, E: Sink>(
     out: &mut O,
     err: &mut E,
 ) -> u8
-    ensures answers { Answers B.Bench (length words.now) benches.old benches.new (sink_call O.tells (O.state out.old) (O.state out.new)) (sink_call E.tells (E.state err.old) (E.state err.new)) result }
+    ensures answers { Answers B.Bench (length words.now) benches.old benches.new (sink_call O.tells (O.state out.old) (O.state out.new))
+        (sink_call E.tells (E.state err.old) (E.state err.new)) result }
     ensures usage { (result ≡ 2) ↔ (DoFit (length words.now) (length benches.old) → ⊥) }
     ensures finished { IsTrue B.tells → result ≡ 0 → AllFinished B.Bench benches.old benches.new }
     ensures campaigns { IsTrue B.tells → AllKeep B.Bench result benches.old benches.new }
-    ensures complete { IsTrue B.tells → DoFit (length words.now) (length benches.old) → AllServed B.Bench benches.old → NoneRoseIn B.Bench benches.old benches.new
+    ensures complete { IsTrue B.tells → DoFit (length words.now) (length benches.old) → AllServed B.Bench benches.old
+        → NoneRoseIn B.Bench benches.old benches.new
         → (Rose (O.state out.old).faults (O.state out.new).faults → ⊥) → (result ≡ 0) ⊎ (result ≡ 1) }
 {
     if !do_fit(words.len(), benches.len()) {
@@ -69,7 +71,8 @@ fn run<B: Bench, O: Sink, E: Sink>(gang: Gang, benches: &mut [B], out: &mut O, e
     requires count { length benches.old ≡ length gang.slots.items }
     requires few { length benches.old ≤ 16 }
     requires ready { AreReady B.Bench gang benches.old }
-    ensures { Runs B.Bench gang benches.old benches.new (sink_call O.tells (O.state out.old) (O.state out.new)) (sink_call E.tells (E.state err.old) (E.state err.new)) result }
+    ensures { Runs B.Bench gang benches.old benches.new (sink_call O.tells (O.state out.old) (O.state out.new))
+        (sink_call E.tells (E.state err.old) (E.state err.new)) result }
 {
     let mut gang = gang;
     gang.run(benches, STEPS);

@@ -60,7 +60,8 @@ AllSince {B} G old benches new benches' = (i : ℕ) (d : B) (a : Stand) (way : L
 -- The bench of each target without a script is as it was, and faults were counted where they are ends, whether the benches tell their contents
 -- or not.
 abbrev pub AllKept : {B : Type 0} → Ghosts B → Gang → List B → Gang → List B → Type 0
-AllKept {B} G old benches new benches' = (i : ℕ) (d : B) → i < length benches → SlotKept G (slot_at old i) (get_or benches i d) (slot_at new i) (get_or benches' i d)
+AllKept {B} G old benches new benches' = (i : ℕ) (d : B) → i < length benches → SlotKept G (slot_at old i) (get_or benches i d)
+    (slot_at new i) (get_or benches' i d)
 
 -- how far turns have come
 pub record Playing {B : Type 0} (G : Ghosts B) (old : Gang) (benches : List B) (new : Gang) (benches' : List B) : Type 0 where

@@ -91,7 +91,8 @@ IsOpened tells (slot.Target x) arena s t = IsLookedAt tells s t × Begins tells 
 
 -- each bench in turn
 abbrev pub AreOpened : {B : Type 0} → Ghosts B → List B → Gang → List B → Type 0
-AreOpened {B} G benches g benches' = (i : ℕ) (d : B) → i < length benches → IsOpened G.tells (slot_at g i) g.arena (G.state (get_or benches i d)) (G.state (get_or benches' i d))
+AreOpened {B} G benches g benches' = (i : ℕ) (d : B) → i < length benches → IsOpened G.tells (slot_at g i) g.arena (G.state (get_or benches i d))
+    (G.state (get_or benches' i d))
 
 abbrev pub AreLookedAt : {B : Type 0} → Ghosts B → List B → List B → Type 0
 AreLookedAt {B} G benches benches' = (i : ℕ) (d : B) → i < length benches → IsLookedAt G.tells (G.state (get_or benches i d)) (G.state (get_or benches' i d))

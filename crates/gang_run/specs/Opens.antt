@@ -1,5 +1,6 @@
 -- The opening of one place of a gang.
-use Rattle.std.specs.Prelude.{◌≡◌, ◌≢◌, ◌≤◌, ◌<◌, ◌++◌, ℕ, Bool, IsTrue, All, List, [], ◌∷◌, length, get_or, replicate, IfSome, Option, Some, None, Result, Ok, Err}
+use Rattle.std.specs.Prelude.{◌≡◌, ◌≢◌, ◌≤◌, ◌<◌, ◌++◌, ℕ, Bool, IsTrue, All, List, [], ◌∷◌, length, get_or, replicate, IfSome, Option, Some, None, Result, Ok}
+use Rattle.std.specs.Prelude.{Err}
 use Rattle.bench_model.specs.declared.bench.Bench.{Ghosts}
 use Rattle.bench_model.specs.Device.{HasDeviceCause}
 use Rattle.bench_model.specs.State.{BenchState}
@@ -41,7 +42,8 @@ ram_for x = x.task.job.board.ram_size
 -- with this window of zero bytes it fits its bench, before its first move
 pub record IsReadyIn (tells : Bool) (window : ℕ) (x : GangTarget) (s t : BenchState) : Type 0 where
   pub window_is : x.window ≡ window
-  pub begins : (arena : List (List ℕ)) → window < length arena → window_of arena window ≡ replicate (ram_for x) 0 → Begins tells x arena s t × Fit tells x arena t
+  pub begins : (arena : List (List ℕ)) → window < length arena → window_of arena window ≡ replicate (ram_for x) 0
+      → Begins tells x arena s t × Fit tells x arena t
 
 -- no survey was made, by a fault that was counted
 pub record FailsSurvey (fault : SurveyFault) (s t : BenchState) : Type 0 where

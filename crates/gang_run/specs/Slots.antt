@@ -140,14 +140,16 @@ SlotGoes tells (slot.Refused e) arena s new arena' t = Unit {0}
 SlotGoes tells (slot.Target x) arena s new arena' t = IsUnended x.place → (y : GangTarget) × (new ≡ slot.Target y) × Turns tells x arena s y arena' t
 
 -- a turn, which changes nothing where the target has ended
-pub record SlotTurns {B : Type 0} (G : Ghosts B) (old : Slot) (arena : List (List ℕ)) (bench : B) (new : Slot) (arena' : List (List ℕ)) (bench' : B) : Type 0 where
+pub record SlotTurns {B : Type 0} (G : Ghosts B) (old : Slot) (arena : List (List ℕ)) (bench : B) (new : Slot)
+    (arena' : List (List ℕ)) (bench' : B) : Type 0 where
   pub ended : slot_turn old ≡ turn.Ended → (new ≡ old) × (arena' ≡ arena) × (bench' ≡ bench)
   pub goes : SlotGoes G.tells old arena (G.state bench) new arena' (G.state bench')
 
 -- it does one thing, with so many steps asked for
 abbrev pub SlotTakes : Bool → (steps : ℕ) → Slot → List (List ℕ) → BenchState → Slot → List (List ℕ) → BenchState → Type 0
 SlotTakes tells steps (slot.Refused e) arena s new arena' t = Unit {0}
-SlotTakes tells steps (slot.Target x) arena s new arena' t = IsUnended x.place → (y : GangTarget) × (new ≡ slot.Target y) × TakesOn steps s.cell_count x.place y.place × SliceOf tells steps x.place x arena s y arena' t
+SlotTakes tells steps (slot.Target x) arena s new arena' t = IsUnended x.place → (y : GangTarget) × (new ≡ slot.Target y)
+    × TakesOn steps s.cell_count x.place y.place × SliceOf tells steps x.place x arena s y arena' t
 
 -- ---- turns
 

@@ -68,7 +68,8 @@ impl Gang {
         requires ready { AreReady B.Bench self.old benches.old }
         ensures result { result ≡ slot_turn (slot_at self.new target) }
         ensures turn { OneTurn B.Bench target self.old benches.old self.new benches.new }
-        ensures one { (d : B) → SlotTakes B.tells steps (slot_at self.old target) self.old.arena (B.state (get_or benches.old target d)) (slot_at self.new target) self.new.arena (B.state (get_or benches.new target d)) }
+        ensures one { (d : B) → SlotTakes B.tells steps (slot_at self.old target) self.old.arena (B.state (get_or benches.old target d))
+            (slot_at self.new target) self.new.arena (B.state (get_or benches.new target d)) }
         ensures gang { IsGang self.new }
         ensures ready { AreReady B.Bench self.new benches.new }
     {

@@ -24,19 +24,23 @@ pub fn jobs_are_lent()
 
 /// Before any turn each target stands where it stands.
 pub fn turns_begin<B: Bench>()
-    ensures { (g : Gang) (benches : List B) → IsGang g → length benches ≡ length g.slots.items → AreReady B.Bench g benches → Playing B.Bench g benches g benches }
+    ensures { (g : Gang) (benches : List B) → IsGang g → length benches ≡ length g.slots.items → AreReady B.Bench g benches
+        → Playing B.Bench g benches g benches }
 {}
 
 /// With one turn more each target still went on from where it stood. So it did after any list of turns.
 pub fn turns_go_on<B: Bench>()
-    ensures { (old mid new : Gang) (benches between after : List B) (target : ℕ) → Playing B.Bench old benches mid between → OneTurn B.Bench target mid between new after → IsGang new → AreReady B.Bench new after
+    ensures { (old mid new : Gang) (benches between after : List B) (target : ℕ) → Playing B.Bench old benches mid between
+        → OneTurn B.Bench target mid between new after → IsGang new → AreReady B.Bench new after
         → Playing B.Bench old benches new after }
 {}
 
 /// After any turns each target that has ended, and had made no move before them, ended as it could alone.
 pub fn targets_end_as_alone<B: Bench>()
-    ensures { (old new : Gang) (benches after : List B) (i : ℕ) (d : B) (a : Stand) (x : GangTarget) (body : List ℕ) → IsTrue B.tells → AllSince B.Bench old benches new after → i < length benches
-        → slot_at old i ≡ slot.Target x → IsUnended x.place → StandsOn a [] (goal_for x (B.state (get_or benches i d)).file) x old.arena (B.state (get_or benches i d)) → IsWhole body (B.state (get_or benches i d)).file
+    ensures { (old new : Gang) (benches after : List B) (i : ℕ) (d : B) (a : Stand) (x : GangTarget) (body : List ℕ) → IsTrue B.tells
+        → AllSince B.Bench old benches new after → i < length benches
+        → slot_at old i ≡ slot.Target x → IsUnended x.place → StandsOn a [] (goal_for x (B.state (get_or benches i d)).file) x old.arena
+        (B.state (get_or benches i d)) → IsWhole body (B.state (get_or benches i d)).file
         → slot_turn (slot_at new i) ≡ turn.Ended
         → EndsAlone a x (B.state (get_or benches i d)) (slot_at new i) (B.state (get_or after i d)) body }
 {}

@@ -12,7 +12,8 @@ use Rattle.algo_calls.specs.Shows.{setup_at, point_at, world_at, Fits}
 use Rattle.gang_target.specs.Steps.{bytes_at}
 
 -- it stands at the first point of the call with these bytes, which are those of the goal where they are told
-pub record IsPrepared (tells : Bool) (old : CallsIn) (arena : List (List ℕ)) (window : ℕ) (goal : List ℕ) (call : Call) (from len left : ℕ) (new : CallsIn) (arena' : List (List ℕ)) : Type 0 where
+pub record IsPrepared (tells : Bool) (old : CallsIn) (arena : List (List ℕ)) (window : ℕ) (goal : List ℕ) (call : Call) (from len left : ℕ) (new : CallsIn)
+    (arena' : List (List ℕ)) : Type 0 where
   pub bytes : List ℕ
   pub long : length bytes ≡ len
   pub are : IsTrue tells → bytes ≡ bytes_at goal from len
@@ -25,6 +26,7 @@ pub record IsPrepared (tells : Bool) (old : CallsIn) (arena : List (List ℕ)) (
   pub fits : Fits new arena' window
 
 -- or it is as it was, since the bytes could not be read
-abbrev pub Prepares : Bool → CallsIn → List (List ℕ) → (window : ℕ) → (goal : List ℕ) → Call → (from len : ℕ) → Result ℕ StoreFault → CallsIn → List (List ℕ) → Type 0
+abbrev pub Prepares : Bool → CallsIn → List (List ℕ) → (window : ℕ) → (goal : List ℕ) → Call → (from len : ℕ) → Result ℕ StoreFault
+    → CallsIn → List (List ℕ) → Type 0
 Prepares tells old arena window goal call from len (Ok left) new arena' = IsPrepared tells old arena window goal call from len left new arena'
 Prepares tells old arena window goal call from len (Err e) new arena' = (new ≡ old) × (arena' ≡ arena)

@@ -1,9 +1,11 @@
 -- The rest of a script from where a target stands in it, as the list of its moves.
-use Rattle.std.specs.Prelude.{◌+◌, ◌-◌, ℕ, zero, suc, Bool, true, false, nat_eq, if◌then◌else◌, is_some, unwrap_or, Option, Some, None, List, [], ◌∷◌, ◌++◌, length, option_to_list}
+use Rattle.std.specs.Prelude.{◌+◌, ◌-◌, ℕ, zero, suc, Bool, true, false, nat_eq, if◌then◌else◌, is_some, unwrap_or, Option, Some, None, List, [], ◌∷◌, ◌++◌}
+use Rattle.std.specs.Prelude.{length, option_to_list}
 use Rattle.algo_calls.specs.declared.call.Call.TheVariants as call
 use Rattle.algo_calls.specs.Setups.{Setup}
 use Rattle.flash_session.specs.Moves.{Move, Reset, Load, Make}
-use Rattle.flash_session.specs.Script.{Errand, Torn, Leg, Broken, torn_first, torn_rest, sector_moves, erase_moves, page_at, page_moves, has_verify, verify_moves, phase}
+use Rattle.flash_session.specs.Script.{Errand, Torn, Leg, Broken, torn_first, torn_rest, sector_moves, erase_moves, page_at, page_moves, has_verify}
+use Rattle.flash_session.specs.Script.{verify_moves, phase}
 use Rattle.gang_target.specs.declared.cursor.Phase.{Phase}
 use Rattle.gang_target.specs.declared.cursor.Phase.TheVariants as stage
 use Rattle.gang_target.specs.declared.cursor.Cursor.{Cursor}

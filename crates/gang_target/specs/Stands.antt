@@ -60,7 +60,8 @@ pub record HasEnded (legs : List Leg) (goal : List ℕ) (a : Stand) (way : List 
 abbrev pub Stands : Legs → (goal : List ℕ) → Setup → Stand → List Move → Place → ℕ → Point → ℕ → BenchState → Type 0
 Stands l goal s a way (place.At c) made here return_at now = OnWay l way (rest_of l c) × (run a way ≡ Ok (stand_at made here.world))
 Stands l goal s a way (place.In call len left next) made here return_at now = OnWay l way (rest_of l next) × InCall s a way call len left made here return_at
-Stands l goal s a way (place.Comparing at) made here return_at now = OnWay l way none × (run a way ≡ Ok (stand_at made here.world)) × (take at here.world.cells ≡ take at goal)
+Stands l goal s a way (place.Comparing at) made here return_at now = OnWay l way none × (run a way ≡ Ok (stand_at made here.world))
+    × (take at here.world.cells ≡ take at goal)
 Stands l goal s a way place.Closing made here return_at now = OnWay l way none × (run a way ≡ Ok (stand_at made here.world)) × (here.world.cells ≡ goal)
 Stands l goal s a way (place.Ended e) made here return_at now = HasEnded (all_legs l) goal a way e now
 

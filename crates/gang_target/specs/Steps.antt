@@ -58,7 +58,8 @@ IsCursor has moved at.Last = Unit {0}
 -- the first move of these, with each goal and whatever the resets that are still to come leave
 abbrev pub IsStepOf : GangTarget → (rest : List ℕ → Broken → List Move) → Step → Type 0
 IsStepOf t rest (step.Begin r p) =
-    ((goal : List ℕ) (b : Broken) (torn : List ℕ) → rest goal (with_torn r p torn b) ≡ Reset (setup_on t r) torn ∷ Load (setup_on t r) ∷ rest_of (legs_for t goal) (at.Init r p) b)
+    ((goal : List ℕ) (b : Broken) (torn : List ℕ) → rest goal (with_torn r p torn b) ≡ Reset (setup_on t r) torn ∷ Load (setup_on t r)
+    ∷ rest_of (legs_for t goal) (at.Init r p) b)
     × (IsTrue r → IsTrue (has_second t))
 IsStepOf t rest (step.Call call from len next) =
     ((goal : List ℕ) (b : Broken) → rest goal b ≡ Make (setup_now t) call (bytes_at goal from len) ∷ rest_of (legs_for t goal) next b)
@@ -76,4 +77,5 @@ IsStepBehind t r x = IsStepOf t (λ goal. later_than (legs_for t goal) r) x
 -- the first phase of a region from one on that has calls, or none
 abbrev pub IsPhaseFrom : GangTarget → Bool → Phase → Option Phase → Type 0
 IsPhaseFrom t r p None = (goal : List ℕ) (b : Broken) → rest_of (legs_for t goal) (at.Begin r p) b ≡ later_than (legs_for t goal) r b
-IsPhaseFrom t r p (Some q) = ((goal : List ℕ) (b : Broken) → rest_of (legs_for t goal) (at.Begin r p) b ≡ rest_of (legs_for t goal) (at.Begin r q) b) × has_phase t r q true
+IsPhaseFrom t r p (Some q) = ((goal : List ℕ) (b : Broken) → rest_of (legs_for t goal) (at.Begin r p) b ≡ rest_of (legs_for t goal) (at.Begin r q) b)
+    × has_phase t r q true

@@ -115,12 +115,14 @@ IsBehind made call len left next slice.More new = new ≡ place.In call len left
 IsBehind made call len left next (slice.Ended e) new = new ≡ judged made call next (call_end_of (success_of call len) e)
 
 -- The target went on in its call by so many steps, or by fewer where the call's run ended in them; then it was judged.
-pub record Slice (tells : Bool) (steps : ℕ) (call : Call) (len left : ℕ) (next : Cursor) (old : GangTarget) (arena : List (List ℕ)) (start : BenchState) (new : GangTarget) (arena' : List (List ℕ)) (end : BenchState) : Type 0 where
+pub record Slice (tells : Bool) (steps : ℕ) (call : Call) (len left : ℕ) (next : Cursor) (old : GangTarget) (arena : List (List ℕ)) (start : BenchState)
+    (new : GangTarget) (arena' : List (List ℕ)) (end : BenchState) : Type 0 where
   pub rest : ℕ
   pub cut : SliceEnd
   pub falls : rest ≤ left
   pub few : left ≤ rest + steps
-  pub run : IsTrue tells → SliceFrom old.calls.machine.return_at (point_for old arena start.cells) start left rest steps cut (point_for new arena' end.cells) end
+  pub run : IsTrue tells → SliceFrom old.calls.machine.return_at (point_for old arena start.cells) start left rest steps cut
+      (point_for new arena' end.cells) end
   pub behind : IsBehind old.made call len rest next cut new.place
 
 abbrev pub SliceOf : Bool → (steps : ℕ) → Place → GangTarget → List (List ℕ) → BenchState → GangTarget → List (List ℕ) → BenchState → Type 0

@@ -25,7 +25,8 @@ pub record TurnsTo (second : Bool) (old : GangTarget) (arena : List (List ℕ)) 
   pub twins : AreTwins new
   pub moved : new.second ≡ second
   pub rest : new ≡ record old { calls = new.calls; other = new.other; second = new.second }
-  pub stands : (w : World) (operation : Option (ℕ × ℕ)) (torn cells : List ℕ) → world_at old.calls arena old.window cells ≡ after_reset (setup_now old) w operation torn
+  pub stands : (w : World) (operation : Option (ℕ × ℕ)) (torn cells : List ℕ) → world_at old.calls arena old.window cells
+      ≡ after_reset (setup_now old) w operation torn
       → world_at new.calls arena' old.window cells ≡ after_reset (setup_now old) w operation torn
   pub map : map_of new.calls ≡ map_of old.calls
   pub only : OnlyIn old.window arena arena'

@@ -90,7 +90,8 @@ made_by made call_end.DeviceFault = made
 
 abbrev pub Judges : GangTarget → Call → ℕ → Cursor → RunEnd → GangTarget → Type 0
 Judges old call len next end new =
-    new ≡ record old { made = made_by old.made (call_end_of (success_of call len) end); place = judged old.made call next (call_end_of (success_of call len) end) }
+    new ≡ record old { made = made_by old.made (call_end_of (success_of call len) end);
+    place = judged old.made call next (call_end_of (success_of call len) end) }
 
 -- what the close leaves of the file
 abbrev pub EndFile : TargetEnd → List ℕ → List ℕ → Type 0
@@ -137,8 +138,10 @@ FileTurn tells place.Closing new start end = Closes tells new start end
 FileTurn tells (place.Ended e) new start end = KeepsFile tells new start end
 
 -- a turn of a target that hasn't ended
-pub record Turns (tells : Bool) (old : GangTarget) (arena : List (List ℕ)) (start : BenchState) (new : GangTarget) (arena' : List (List ℕ)) (end : BenchState) : Type 0 where
-  pub told : IsTrue tells → (a : Stand) (way : List Move) → StandsOn a way (goal_for old start.file) old arena start → GoesOn a way (goal_for old start.file) new arena' start end
+pub record Turns (tells : Bool) (old : GangTarget) (arena : List (List ℕ)) (start : BenchState) (new : GangTarget) (arena' : List (List ℕ))
+    (end : BenchState) : Type 0 where
+  pub told : IsTrue tells → (a : Stand) (way : List Move) → StandsOn a way (goal_for old start.file) old arena start
+      → GoesOn a way (goal_for old start.file) new arena' start end
   pub same : SameTarget old new
   pub only : OnlyIn old.window arena arena'
   pub fit : Fit tells new arena' end

@@ -31,6 +31,7 @@ pub fn targets_begin<B: Bench>()
 
 /// A target that goes on stands at a point of its own script's path, whatever the resets that are still to come leave.
 pub fn targets_stand_on_their_path<B: Bench>()
-    ensures { (x : GangTarget) (goal : List ℕ) (arena : List (List ℕ)) (a : Stand) (way : List Move) (now : B) → IsUnended x.place → StandsOn a way goal x arena (B.state now)
+    ensures { (x : GangTarget) (goal : List ℕ) (arena : List (List ℕ)) (a : Stand) (way : List Move) (now : B) → IsUnended x.place
+        → StandsOn a way goal x arena (B.state now)
         → (b : Broken) → (whole : Broken) × IsOnPath a (script (all_legs (legs_for x goal)) whole) (point_for x arena (B.state now).cells).world }
 {}

@@ -137,7 +137,8 @@ impl Part {
     /// The next page to program or to verify.
     fn page_item(&self, verifies: bool, index: u32) -> Option<Item>
         requires { self.now.base + self.now.geometry.size ≤ 2 ^ 32 }
-        ensures { (s : Setup) → IsErrand s (planned_in self.now) → (IsTrue verifies → IsTrue (is_some s.algorithm.entries.verify)) → IsItem s self.now (pages_on verifies s self.now) index result }
+        ensures { (s : Setup) → IsErrand s (planned_in self.now) → (IsTrue verifies → IsTrue (is_some s.algorithm.entries.verify))
+            → IsItem s self.now (pages_on verifies s self.now) index result }
     {
         let _lawful = self.geometry.pages();
         match self.find_page(index) {
@@ -157,7 +158,8 @@ impl Part {
     /// The next call of a phase, by an algorithm that can verify or cannot.
     pub(crate) fn item(&self, can_verify: bool, phase: Phase, index: u32) -> Option<Item>
         requires { self.now.base + self.now.geometry.size ≤ 2 ^ 32 }
-        ensures { (s : Setup) → IsErrand s (planned_in self.now) → can_verify ≡ has_verify s → IsItem s self.now (calls_on_phase phase s self.now) index result }
+        ensures { (s : Setup) → IsErrand s (planned_in self.now) → can_verify ≡ has_verify s
+            → IsItem s self.now (calls_on_phase phase s self.now) index result }
     {
         match phase {
             Phase::Erase => self.erase_item(index),

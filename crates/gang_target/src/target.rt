@@ -78,7 +78,8 @@ impl GangTarget {
     fn item(&self, second: bool, phase: Phase, index: u32) -> Option<Item>
         requires scripted { IsScripted self.now }
         requires there { IsTrue second → IsTrue (has_second self.now) }
-        ensures { IsItem (setup_on self.now second) (part_in self.now.task second) (calls_on_phase phase (setup_on self.now second) (part_in self.now.task second)) index result }
+        ensures { IsItem (setup_on self.now second) (part_in self.now.task second)
+            (calls_on_phase phase (setup_on self.now second) (part_in self.now.task second)) index result }
     {
         let can_verify = self.can_verify(second);
         self.task.part(second).item(can_verify, phase, index)
@@ -298,7 +299,8 @@ fn prepare_with<B: Bench>(
     requires may { (b : List ℕ) → length b ≡ length bytes.old → MayAsk (setup_at calls.old) call b }
     requires range { from + length bytes.old ≤ size_of task.now.job.board.regions }
     requires stands { IsTrue B.tells → StandsFor task.now.job (B.state bench.old).file }
-    ensures prepares { Prepares B.tells calls.old arena.old window (goal_in task.now.job task.now.goal (B.state bench.old).file) call from (length bytes.old) result calls.new arena.new }
+    ensures prepares { Prepares B.tells calls.old arena.old window (goal_in task.now.job task.now.goal (B.state bench.old).file) call from
+        (length bytes.old) result calls.new arena.new }
     ensures long { length bytes.new ≡ length bytes.old }
     ensures reads { OnlyReads B.tells (B.state bench.old) (B.state bench.new) }
     ensures cause { HasCause (B.state bench.old).store_faults (B.state bench.new).store_faults result }
@@ -326,7 +328,8 @@ fn prepare_from<B: Bench>(
     requires room { len ≤ length page.old }
     requires range { from + len ≤ size_of task.now.job.board.regions }
     requires stands { IsTrue B.tells → StandsFor task.now.job (B.state bench.old).file }
-    ensures prepares { Prepares B.tells calls.old arena.old window (goal_in task.now.job task.now.goal (B.state bench.old).file) call from len result calls.new arena.new }
+    ensures prepares { Prepares B.tells calls.old arena.old window (goal_in task.now.job task.now.goal (B.state bench.old).file) call from
+        len result calls.new arena.new }
     ensures long { length page.new ≡ length page.old }
     ensures reads { OnlyReads B.tells (B.state bench.old) (B.state bench.new) }
     ensures cause { HasCause (B.state bench.old).store_faults (B.state bench.new).store_faults result }

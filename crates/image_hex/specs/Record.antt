@@ -1,5 +1,6 @@
 -- The record of a line, by the Intel Hexadecimal Object File Format Specification, revision A (1988).
-use Rattle.std.specs.Prelude.{◌+◌, ◌-◌, ◌*◌, ◌%◌, ◌==◌, ◌&&◌, ◌||◌, not, ℕ, nat_lt, List, [], ◌∷◌, length, slice_index, slice_range, take, drop, sum, Option, Some, None, Result, Ok, Err, if◌then◌else◌}
+use Rattle.std.specs.Prelude.{◌+◌, ◌-◌, ◌*◌, ◌%◌, ◌==◌, ◌&&◌, ◌||◌, not, ℕ, nat_lt, List, [], ◌∷◌, length, slice_index, slice_range, take, drop, sum, Option}
+use Rattle.std.specs.Prelude.{Some, None, Result, Ok, Err, if◌then◌else◌}
 use Rattle.std.specs.List.{list_all}
 use Rattle.record_lines.specs.Digits.{is_hex_digit, pairs}
 use Rattle.image_hex.specs.declared.fault.HexKind.{HexKind}

@@ -55,8 +55,10 @@ fn way_behind(base: Base, offset: u16) -> Way
 /// Adds the bytes of a data record to an image.
 pub fn lay_data(map: &mut ByteMap, base: Base, offset: u16, bytes: &[u8]) -> Result<(), ClashFault>
     requires { length bytes.now ≤ 255 }
-    ensures ok { OnOk result ((before : List Cell) → IsImageOf before map.old → (first_clash before (data_cells base offset bytes.now) ≡ None) × IsImageOf (data_cells base offset bytes.now ++ before) map.new) }
-    ensures err { IfErr result (λ fault. (before : List Cell) → IsImageOf before map.old → IsClashFault fault (first_clash before (data_cells base offset bytes.now))) }
+    ensures ok { OnOk result ((before : List Cell) → IsImageOf before map.old → (first_clash before (data_cells base offset bytes.now) ≡ None)
+        × IsImageOf (data_cells base offset bytes.now ++ before) map.new) }
+    ensures err { IfErr result (λ fault. (before : List Cell) → IsImageOf before map.old
+        → IsClashFault fault (first_clash before (data_cells base offset bytes.now))) }
 {
     let way = way_behind(base, offset);
     let count = way.room.min(bytes.len() as u64) as usize;

@@ -9,7 +9,8 @@ ghost use Rattle.image_hex.specs.Hex.{hex, IsHexFault};
 /// is no fault of a text. So a text with an image is read as it, or there was no memory.
 pub fn hex_has_one_reading()
     ensures image { (lines : List (List ℕ)) (a b : List Run) → IsImageOfText hex lines a → IsImageOfText hex lines b → a ≡ b }
-    ensures apart { (lines : List (List ℕ)) (image : List Run) (line : ℕ) (kind : HexKind) → IsImageOfText hex lines image → IsHexFault lines line kind → kind ≡ HexKind.OutOfMemory }
+    ensures apart { (lines : List (List ℕ)) (image : List Run) (line : ℕ) (kind : HexKind) → IsImageOfText hex lines image → IsHexFault lines line kind
+        → kind ≡ HexKind.OutOfMemory }
     ensures fault { (lines : List (List ℕ)) (line other : ℕ) (a b : HexKind) → IsHexFault lines line a → IsHexFault lines other b
         → a ≢ HexKind.OutOfMemory → b ≢ HexKind.OutOfMemory → (line ≡ other) × (a ≡ b) }
 {}

@@ -1,6 +1,7 @@
 -- The image of a UF2 file, by Microsoft's specification of the USB Flashing Format (UF2), "File format": a file is a list of blocks
 -- of 512 bytes, each of 32-bit little-endian numbers around 476 bytes of data.
-use Rattle.std.specs.Prelude.{◌≡◌, ◌≢◌, ◌≤◌, ◌<◌, ◌+◌, ◌*◌, ◌/◌, ◌%◌, ◌==◌, ◌&&◌, ℕ, zero, suc, Bool, true, false, List, [], ◌∷◌, ◌++◌, length, slice_range, if◌then◌else◌}
+use Rattle.std.specs.Prelude.{◌≡◌, ◌≢◌, ◌≤◌, ◌<◌, ◌+◌, ◌*◌, ◌/◌, ◌%◌, ◌==◌, ◌&&◌, ℕ, zero, suc, Bool, true, false, List, [], ◌∷◌, ◌++◌, length, slice_range}
+use Rattle.std.specs.Prelude.{if◌then◌else◌}
 use Rattle.octets.specs.Field.{field32}
 use Rattle.byte_map.specs.Image.{addresses, Run, end_of}
 use Rattle.byte_map.specs.Laying.{IsLayFault}

@@ -40,7 +40,8 @@ pub fn uf2_files_have_one_image()
 /// at most beside that.
 pub fn files_of_any_form_have_one_image()
     ensures image { (raw_at : Option ℕ) (bytes : List ℕ) (one two : List Run) → IsAnyImage raw_at bytes one → IsAnyImage raw_at bytes two → one ≡ two }
-    ensures alone { (raw_at : Option ℕ) (bytes : List ℕ) (image : List Run) (fault : AnyFault) → IsAnyImage raw_at bytes image → IsAnyFault raw_at bytes fault → fault ≡ AnyFault.OutOfMemory }
+    ensures alone { (raw_at : Option ℕ) (bytes : List ℕ) (image : List Run) (fault : AnyFault) → IsAnyImage raw_at bytes image → IsAnyFault raw_at bytes fault
+        → fault ≡ AnyFault.OutOfMemory }
     ensures fault { (raw_at : Option ℕ) (bytes : List ℕ) (one two : AnyFault) → IsAnyFault raw_at bytes one → IsAnyFault raw_at bytes two
         → one ≢ AnyFault.OutOfMemory → two ≢ AnyFault.OutOfMemory → one ≡ two }
 {}
@@ -48,6 +49,8 @@ pub fn files_of_any_form_have_one_image()
 /// The union of the images of files has a byte at an address exactly where an image of one of them has it there,
 /// whatever the order of the files.
 pub fn unions_have_the_bytes_of_files()
-    ensures from { (raw_at : Option ℕ) (files : List (List ℕ)) (n : ℕ) (union : List Run) (a byte : ℕ) → IsUnionBefore raw_at files n union → byte_at union a ≡ Some byte → HasByte raw_at files n a byte }
-    ensures to { (raw_at : Option ℕ) (files : List (List ℕ)) (n : ℕ) (union : List Run) (a byte : ℕ) → IsUnionBefore raw_at files n union → HasByte raw_at files n a byte → byte_at union a ≡ Some byte }
+    ensures from { (raw_at : Option ℕ) (files : List (List ℕ)) (n : ℕ) (union : List Run) (a byte : ℕ) → IsUnionBefore raw_at files n union
+        → byte_at union a ≡ Some byte → HasByte raw_at files n a byte }
+    ensures to { (raw_at : Option ℕ) (files : List (List ℕ)) (n : ℕ) (union : List Run) (a byte : ℕ) → IsUnionBefore raw_at files n union
+        → HasByte raw_at files n a byte → byte_at union a ≡ Some byte }
 {}

@@ -56,7 +56,8 @@ IsSegmentFault bytes k image NoForm = ⊥
 IsSegmentFault bytes k image (Hex fault) = ⊥
 IsSegmentFault bytes k image (Srec fault) = ⊥
 IsSegmentFault bytes k image (Elf fault) = segment_part bytes k ≡ Err fault
-IsSegmentFault bytes k image (Conflict at old new) = (segment_part bytes k ≡ Ok (piece_at bytes k).bytes) × IsLayFault (piece_at bytes k) image (lay.Conflict at old new)
+IsSegmentFault bytes k image (Conflict at old new) = (segment_part bytes k ≡ Ok (piece_at bytes k).bytes)
+    × IsLayFault (piece_at bytes k) image (lay.Conflict at old new)
 IsSegmentFault bytes k image (PastEnd at) = (segment_part bytes k ≡ Ok (piece_at bytes k).bytes) × IsLayFault (piece_at bytes k) image (lay.PastEnd at)
 IsSegmentFault bytes k image (OutsideDevice at) = ⊥
 IsSegmentFault bytes k image EmptyImage = ⊥

@@ -1,6 +1,7 @@
 -- The record of a line, by Motorola's description of its S-record format (M68000 Family Programmer's Reference Manual,
 -- appendix C).
-use Rattle.std.specs.Prelude.{◌+◌, ◌-◌, ◌*◌, ◌%◌, ◌==◌, ◌&&◌, ◌||◌, not, ℕ, nat_lt, nat_le, Bool, List, [], ◌∷◌, length, slice_index, slice_range, take, sum, Option, Some, None, Result, Ok, Err, if◌then◌else◌}
+use Rattle.std.specs.Prelude.{◌+◌, ◌-◌, ◌*◌, ◌%◌, ◌==◌, ◌&&◌, ◌||◌, not, ℕ, nat_lt, nat_le, Bool, List, [], ◌∷◌, length, slice_index, slice_range, take, sum}
+use Rattle.std.specs.Prelude.{Option, Some, None, Result, Ok, Err, if◌then◌else◌}
 use Rattle.std.specs.List.{list_all}
 use Rattle.record_lines.specs.Digits.{is_hex_digit, pairs}
 use Rattle.image_srec.specs.declared.fault.SrecKind.{SrecKind}
@@ -53,7 +54,8 @@ abbrev pub read_digits : ℕ → List ℕ → Reading
 read_digits value digits =
     if not (list_all is_hex_digit digits) then Err BadDigit
     else if value == 4 then Err (BadType value)
-    else if nat_lt (length digits) 2 || (not (length digits == 2 + 2 * slice_index (pairs digits) 0) || not (is_long_enough value (slice_index (pairs digits) 0))) then Err BadLength
+    else if nat_lt (length digits) 2 || (not (length digits == 2 + 2 * slice_index (pairs digits) 0) || not
+    (is_long_enough value (slice_index (pairs digits) 0))) then Err BadLength
     else checked value (pairs digits)
 
 -- a line: a capital S, a decimal digit for the type, and digits

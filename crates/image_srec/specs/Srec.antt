@@ -3,7 +3,8 @@ use Rattle.std.specs.Prelude.{◌≡◌, ◌+◌, ◌^◌, ◌==◌, ℕ, nat_lt
 use Rattle.record_lines.specs.Cells.{Cell, Clash, cells_from}
 use Rattle.record_lines.specs.Format.{Format, IsFaultOfLine, HasNoEnd}
 use Rattle.image_srec.specs.declared.fault.SrecKind.{SrecKind}
-use Rattle.image_srec.specs.declared.fault.SrecKind.TheVariants.{NotRecord, BadDigit, BadLength, BadSum, BadType, CountDiffers, PastEnd, Conflict, NoEnd, OutOfMemory}
+use Rattle.image_srec.specs.declared.fault.SrecKind.TheVariants.{NotRecord, BadDigit, BadLength, BadSum, BadType, CountDiffers, PastEnd, Conflict, NoEnd}
+use Rattle.image_srec.specs.declared.fault.SrecKind.TheVariants.{OutOfMemory}
 use Rattle.image_srec.specs.declared.record.Seen.{Seen}
 use Rattle.image_srec.specs.declared.record.SrecRecord.{SrecRecord}
 use Rattle.image_srec.specs.declared.record.SrecRecord.TheVariants.{Header, Data, Count, End}

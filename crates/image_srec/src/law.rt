@@ -9,7 +9,8 @@ ghost use Rattle.image_srec.specs.Srec.{srec, IsSrecFault};
 /// is no fault of a text. So a text with an image is read as it, or there was no memory.
 pub fn srec_has_one_reading()
     ensures image { (lines : List (List ℕ)) (a b : List Run) → IsImageOfText srec lines a → IsImageOfText srec lines b → a ≡ b }
-    ensures apart { (lines : List (List ℕ)) (image : List Run) (line : ℕ) (kind : SrecKind) → IsImageOfText srec lines image → IsSrecFault lines line kind → kind ≡ SrecKind.OutOfMemory }
+    ensures apart { (lines : List (List ℕ)) (image : List Run) (line : ℕ) (kind : SrecKind) → IsImageOfText srec lines image → IsSrecFault lines line kind
+        → kind ≡ SrecKind.OutOfMemory }
     ensures fault { (lines : List (List ℕ)) (line other : ℕ) (a b : SrecKind) → IsSrecFault lines line a → IsSrecFault lines other b
         → a ≢ SrecKind.OutOfMemory → b ≢ SrecKind.OutOfMemory → (line ≡ other) × (a ≡ b) }
 {}

@@ -21,7 +21,8 @@ use Rattle.flash_session.specs.declared.fault.SurveyFault.TheVariants as survey
 use Rattle.flash_session.specs.declared.goal.Goal.{Goal}
 use Rattle.flash_session.specs.declared.goal.Goal.TheVariants.{New}
 use Rattle.flash_session.specs.Script.{Broken}
-use Rattle.report_text.specs.Refusal.{Refusal, out_of_memory, job_open, no_job, not_a_job, damaged, cells_differ, store_fault, device_fault, output_fault, call_failed, mismatch}
+use Rattle.report_text.specs.Refusal.{Refusal, out_of_memory, job_open, no_job, not_a_job, damaged, cells_differ, store_fault, device_fault, output_fault}
+use Rattle.report_text.specs.Refusal.{call_failed, mismatch}
 use Rattle.command_answers.specs.Call.{BenchCall, SinkCall, TookNothing, TookAll, TookPart, Answer, done, refused}
 use Rattle.command_answers.specs.Answered.{store, device, output, IsCounted, IsUnless}
 use Rattle.job_commands.specs.Work.{Work, body, Fails, Misses, Breaks, IsOnPath, KeepsDuties, IsOutsidePlanAsSurveyed}
@@ -110,10 +111,12 @@ session_work goal j text cells = work_to goal text (board.shown j.board) (algori
 -- From the script on, where the plans are printed: when each answer comes.
 abbrev pub FinishComes : BenchCall → SinkCall → Work → Broken → Answer → Type 0
 FinishComes bench out w broken done = HasClosed bench.after w broken × TookAll out done_text
-FinishComes bench out w broken (refused store_fault) = ((HasJob bench.after w × Breaks w broken bench.after) ⊎ ((HasJob bench.after w ⊎ IsFree bench.after.file) × HasReached bench.after w broken)) × TookNothing out
+FinishComes bench out w broken (refused store_fault) = ((HasJob bench.after w × Breaks w broken bench.after)
+    ⊎ ((HasJob bench.after w ⊎ IsFree bench.after.file) × HasReached bench.after w broken)) × TookNothing out
 FinishComes bench out w broken (refused device_fault) = HasJob bench.after w × Breaks w broken bench.after × TookNothing out
 FinishComes bench out w broken (refused output_fault) = HasClosed bench.after w broken × TookPart out done_text
-FinishComes bench out w broken (refused (call_failed number call end)) = HasJob bench.after w × Fails w broken number call end bench.after.cells × TookNothing out
+FinishComes bench out w broken (refused (call_failed number call end)) = HasJob bench.after w
+    × Fails w broken number call end bench.after.cells × TookNothing out
 FinishComes bench out w broken (refused (mismatch at wanted found)) = HasJob bench.after w × Misses w broken at wanted found bench.after.cells × TookNothing out
 FinishComes bench out w broken (refused _) = ⊥
 

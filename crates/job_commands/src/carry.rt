@@ -59,7 +59,8 @@ fn finish<'a, B: Bench, O: Sink>(
     ensures prints { PrintsEnd (sink_call O.tells (O.state out.old) (O.state out.new)) (answer_of result) }
     ensures sound { IsSound (answer_of result) }
     ensures goes_on { IsTrue B.tells → GoesOn (file_half (B.state bench.old)) (file_half (B.state bench.new)) }
-    ensures counts { BenchCounted (bench_call B.tells (B.state bench.old) (B.state bench.new)) (sink_call O.tells (O.state out.old) (O.state out.new)) (answer_of result) }
+    ensures counts { BenchCounted (bench_call B.tells (B.state bench.old) (B.state bench.new))
+        (sink_call O.tells (O.state out.old) (O.state out.new)) (answer_of result) }
 {
     match session.go(bench) {
         SessionEnd::Reached(reached) => match reached.close(session, bench) {
@@ -91,12 +92,14 @@ pub(crate) fn carry<'a, B: Bench, O: Sink>(
 ) -> Result<(), Refusal<'a>>
     ensures told { IsTrue B.tells → GoesOnFrom goal (bench_call B.tells (B.state bench.old) (B.state bench.new))
         (sink_call O.tells (O.state out.old) (O.state out.new)) (answer_of result) }
-    ensures early { StandsEarly on_job_file (bench_call B.tells (B.state bench.old) (B.state bench.new)) (sink_call O.tells (O.state out.old) (O.state out.new)) (answer_of result) }
+    ensures early { StandsEarly on_job_file (bench_call B.tells (B.state bench.old) (B.state bench.new))
+        (sink_call O.tells (O.state out.old) (O.state out.new)) (answer_of result) }
     ensures kind { IsOf has_resume (answer_of result) }
     ensures prints { PrintsWork (B.state bench.old).cell_count (sink_call O.tells (O.state out.old) (O.state out.new)) (answer_of result) }
     ensures sound { IsSound (answer_of result) }
     ensures goes_on { IsTrue B.tells → GoesOn (file_half (B.state bench.old)) (file_half (B.state bench.new)) }
-    ensures counts { BenchCounted (bench_call B.tells (B.state bench.old) (B.state bench.new)) (sink_call O.tells (O.state out.old) (O.state out.new)) (answer_of result) }
+    ensures counts { BenchCounted (bench_call B.tells (B.state bench.old) (B.state bench.new))
+        (sink_call O.tells (O.state out.old) (O.state out.new)) (answer_of result) }
 {
     let mut session = match Session::open(alloc, bench) {
         Ok(session) => session,

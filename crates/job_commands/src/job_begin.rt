@@ -29,13 +29,15 @@ pub fn begin_job<'a, B: Bench, O: Sink>(
     requires { AreParts parts.now }
     ensures told { IsTrue B.tells → BeginsParts (bench_call B.tells (B.state bench.old) (B.state bench.new))
         (sink_call O.tells (O.state out.old) (O.state out.new)) parts.now (answer_of result) }
-    ensures early { StandsEarly on_job_file (bench_call B.tells (B.state bench.old) (B.state bench.new)) (sink_call O.tells (O.state out.old) (O.state out.new)) (answer_of result) }
+    ensures early { StandsEarly on_job_file (bench_call B.tells (B.state bench.old) (B.state bench.new))
+        (sink_call O.tells (O.state out.old) (O.state out.new)) (answer_of result) }
     ensures kind { IsOf has_work (answer_of result) }
     ensures prints { PrintsWork (B.state bench.old).cell_count (sink_call O.tells (O.state out.old) (O.state out.new)) (answer_of result) }
     ensures sized { is_of_work (answer_of result) ≡ true → parts.now.size ≡ (B.state bench.old).cell_count }
     ensures sound { IsSound (answer_of result) }
     ensures first { SyncsFirst B.acts bench.old }
-    ensures counts { BenchCounted (bench_call B.tells (B.state bench.old) (B.state bench.new)) (sink_call O.tells (O.state out.old) (O.state out.new)) (answer_of result) }
+    ensures counts { BenchCounted (bench_call B.tells (B.state bench.old) (B.state bench.new))
+        (sink_call O.tells (O.state out.old) (O.state out.new)) (answer_of result) }
 {
     start(alloc, parts, bench)?;
     after_begin(carry(alloc, Goal::New, bench, out))
@@ -51,12 +53,14 @@ pub(crate) fn begin_alone<'a, B: Bench, O: Sink>(
     requires { AreParts parts.now }
     ensures told { IsTrue B.tells → StartsParts (bench_call B.tells (B.state bench.old) (B.state bench.new))
         (sink_call O.tells (O.state out.old) (O.state out.new)) begun_text parts.now (answer_of result) }
-    ensures early { StandsEarly on_job_file (bench_call B.tells (B.state bench.old) (B.state bench.new)) (sink_call O.tells (O.state out.old) (O.state out.new)) (answer_of result) }
+    ensures early { StandsEarly on_job_file (bench_call B.tells (B.state bench.old) (B.state bench.new))
+        (sink_call O.tells (O.state out.old) (O.state out.new)) (answer_of result) }
     ensures kind { IsOf has_alone (answer_of result) }
     ensures prints { PrintsBegun (B.state bench.old).cell_count (sink_call O.tells (O.state out.old) (O.state out.new)) (answer_of result) }
     ensures sized { is_of_work (answer_of result) ≡ true → parts.now.size ≡ (B.state bench.old).cell_count }
     ensures sound { IsSound (answer_of result) }
-    ensures counts { BenchCounted (bench_call B.tells (B.state bench.old) (B.state bench.new)) (sink_call O.tells (O.state out.old) (O.state out.new)) (answer_of result) }
+    ensures counts { BenchCounted (bench_call B.tells (B.state bench.old) (B.state bench.new))
+        (sink_call O.tells (O.state out.old) (O.state out.new)) (answer_of result) }
 {
     start(alloc, parts, bench)?;
     match put_end(out, End::Begun) {

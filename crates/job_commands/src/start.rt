@@ -25,12 +25,14 @@ pub(crate) fn start<'a, B: Bench>(
     requires { AreParts parts.now }
     ensures told { IsTrue B.tells → (told : Bool) (o : SinkState) → StartsParts (bench_call B.tells (B.state bench.old) (B.state bench.new))
         (sink_call told o o) [] parts.now (answer_of result) }
-    ensures early { (told : Bool) (o : SinkState) → StandsEarly on_job_file (bench_call B.tells (B.state bench.old) (B.state bench.new)) (sink_call told o o) (answer_of result) }
+    ensures early { (told : Bool) (o : SinkState) → StandsEarly on_job_file (bench_call B.tells (B.state bench.old) (B.state bench.new))
+        (sink_call told o o) (answer_of result) }
     ensures kind { IsOf has_start (answer_of result) }
     ensures sized { IsOk result → parts.now.size ≡ (B.state bench.old).cell_count }
     ensures sound { IsSound (answer_of result) }
     ensures first { SyncsFirst B.acts bench.old }
-    ensures counts { (told : Bool) (o : SinkState) → BenchCounted (bench_call B.tells (B.state bench.old) (B.state bench.new)) (sink_call told o o) (answer_of result) }
+    ensures counts { (told : Bool) (o : SinkState) → BenchCounted (bench_call B.tells (B.state bench.old) (B.state bench.new))
+        (sink_call told o o) (answer_of result) }
     ensures count { (B.state bench.new).cell_count ≡ (B.state bench.old).cell_count }
 {
     match begin(alloc, bench, parts) {

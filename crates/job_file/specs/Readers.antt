@@ -1,5 +1,6 @@
 -- What the readers of a file on a bench answer, against the definitions.
-use Rattle.std.specs.Prelude.{◌≡◌, ◌≢◌, ◌⊎◌, ◌≤◌, ◌<◌, ◌+◌, ◌^◌, ◌==◌, ◌||◌, ℕ, Bool, true, false, not, IsTrue, List, [], ◌∷◌, ◌++◌, length, take, drop, get_or, slice_get, nat_lt, nat_le, nat_eq, bytes_eq, Option, Some, None, Result, Ok, Err}
+use Rattle.std.specs.Prelude.{◌≡◌, ◌≢◌, ◌⊎◌, ◌≤◌, ◌<◌, ◌+◌, ◌^◌, ◌==◌, ◌||◌, ℕ, Bool, true, false, not, IsTrue, List, [], ◌∷◌, ◌++◌, length, take, drop, get_or}
+use Rattle.std.specs.Prelude.{slice_get, nat_lt, nat_le, nat_eq, bytes_eq, Option, Some, None, Result, Ok, Err}
 use Rattle.std.specs.List.{concat, flat_map}
 use Rattle.faults.specs.Results.{◌>>=◌}
 use Rattle.byte_map.specs.Image.{Run, addresses}

@@ -214,8 +214,10 @@ fn copy_cells<B: Bench>(
     requires idle { IsTrue B.tells → (B.state bench.old).operation ≡ None }
     requires end { IsTrue B.tells → length (B.state bench.old).file ≡ to }
     requires behind { 1 ≤ to }
-    ensures ok { IsTrue B.tells → OnOk result ((B.state bench.new).file ≡ (B.state bench.old).file ++ take (length window.old) (drop at (B.state bench.old).cells)) }
-    ensures hash { IsTrue B.tells → OnOk result ((m : List ℕ) → Holds256 hasher.old m → Holds256 hasher.new (m ++ take (length window.old) (drop at (B.state bench.old).cells))) }
+    ensures ok { IsTrue B.tells → OnOk result ((B.state bench.new).file ≡ (B.state bench.old).file ++ take (length window.old)
+        (drop at (B.state bench.old).cells)) }
+    ensures hash { IsTrue B.tells → OnOk result ((m : List ℕ) → Holds256 hasher.old m
+        → Holds256 hasher.new (m ++ take (length window.old) (drop at (B.state bench.old).cells))) }
     ensures moments { Leaves (file_half (B.state bench.old)) (file_half (B.state bench.new)) (Follows KeepsGate (file_half (B.state bench.old))) }
     ensures cells { CellsAreRead B.tells (B.state bench.old) (B.state bench.new) }
     ensures fault { IfErr result IsFault }

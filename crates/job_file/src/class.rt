@@ -51,7 +51,8 @@ fn read_head_into<B: Bench>(
     requires told { IsTrue B.tells → length (B.state bench.old).file ≡ whole }
     requires room { length bytes.old ≡ head_len format }
     requires long { head_len format + 1 ≤ whole }
-    ensures said { IsTrue B.tells → Gives (λ h. (h, drop (head_len format) (drop 1 (B.state bench.old).file))) result (head_at whole format (drop 1 (B.state bench.old).file)) }
+    ensures said { IsTrue B.tells → Gives (λ h. (h, drop (head_len format) (drop 1 (B.state bench.old).file))) result
+        (head_at whole format (drop 1 (B.state bench.old).file)) }
     ensures text { IsTrue B.tells → IfOk result (λ h. IsHeadOf format h (take (head_len format) (drop 1 (B.state bench.old).file))) }
     ensures reads { OnlyReads B.tells (B.state bench.old) (B.state bench.new) }
     ensures counted { IsCounted (B.state bench.old).store_faults (B.state bench.new).store_faults (is_read_fault result) }
@@ -65,7 +66,8 @@ fn read_head_into<B: Bench>(
 /// The head of a job of a format, in a file of so many bytes.
 fn read_head<B: Bench>(bench: &mut B, whole: u64, format: Format) -> Result<Head, ReadFault>
     requires told { IsTrue B.tells → length (B.state bench.old).file ≡ whole }
-    ensures said { IsTrue B.tells → Gives (λ h. (h, drop (places_of format).front (B.state bench.old).file)) result (head_read whole format (drop 1 (B.state bench.old).file)) }
+    ensures said { IsTrue B.tells → Gives (λ h. (h, drop (places_of format).front (B.state bench.old).file)) result
+        (head_read whole format (drop 1 (B.state bench.old).file)) }
     ensures text { IsTrue B.tells → IfOk result (λ h. IsHeadOf format h (take (head_len format) (drop 1 (B.state bench.old).file))) }
     ensures long { IfOk result (λ h. (places_of format).front ≤ whole) }
     ensures reads { OnlyReads B.tells (B.state bench.old) (B.state bench.new) }

@@ -50,7 +50,8 @@ fn hash_window<B: Bench>(
 ) -> Result<(), StoreFault>
     requires told { IsTrue B.tells → from + length window.old ≤ length (B.state bench.old).file }
     requires bound { from + length window.old < 2 ^ 64 }
-    ensures ok { IsTrue B.tells → OnOk result ((m : List ℕ) → Holds256 hasher.old m → Holds256 hasher.new (m ++ take (length window.old) (drop from (B.state bench.old).file))) }
+    ensures ok { IsTrue B.tells → OnOk result ((m : List ℕ) → Holds256 hasher.old m
+        → Holds256 hasher.new (m ++ take (length window.old) (drop from (B.state bench.old).file))) }
     ensures reads { OnlyReads B.tells (B.state bench.old) (B.state bench.new) }
     ensures cause { HasCause (B.state bench.old).store_faults (B.state bench.new).store_faults result }
 {

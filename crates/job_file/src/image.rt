@@ -76,7 +76,8 @@ fn read_run_head<B: Bench>(
 ) -> Result<(u32, u32), ReadFault>
     requires told { IsTrue B.tells → length (B.state bench.old).file ≡ whole }
     requires within { at ≤ whole }
-    ensures said { IsTrue B.tells → Gives (λ x. (run_of x.0 (take x.1 (drop (at + 8) (B.state bench.old).file)), drop (at + 8 + x.1) (B.state bench.old).file)) result
+    ensures said { IsTrue B.tells → Gives (λ x. (run_of x.0 (take x.1 (drop (at + 8) (B.state bench.old).file)), drop (at + 8 + x.1) (B.state bench.old).file))
+        result
         (run_at whole regions.now low (drop at (B.state bench.old).file)) }
     ensures text { IsTrue B.tells → IfOk result (λ x. take 8 (drop at (B.state bench.old).file) ≡ field x.0 ++ field x.1) }
     ensures placed { IfOk result (λ x. IsPlaced whole regions.now low at x.0 x.1) }
@@ -196,7 +197,8 @@ pub(crate) fn read_runs<B: Bench>(
     requires told { IsTrue B.tells → length (B.state bench.old).file ≡ whole }
     requires within { start ≤ whole }
     requires room { length window.old ≡ PIECE }
-    ensures gives { IsTrue B.tells → Gives (λ x. (x.0, drop x.1 (B.state bench.old).file)) result (runs_at whole regions.now count 0 (drop start (B.state bench.old).file)) }
+    ensures gives { IsTrue B.tells → Gives (λ x. (x.0, drop x.1 (B.state bench.old).file)) result
+        (runs_at whole regions.now count 0 (drop start (B.state bench.old).file)) }
     ensures text { IsTrue B.tells → IfOk result (λ x. drop start (B.state bench.old).file ≡ flat_map run_text x.0 ++ drop x.1 (B.state bench.old).file) }
     ensures count { IfOk result (λ x. length x.0 ≡ count) }
     ensures inside { IfOk result (λ x. LiesIn regions.now x.0) }

@@ -1,5 +1,6 @@
 -- Reading a job file from left to right: the job, or the offset that shows the first check that fails.
-use Rattle.std.specs.Prelude.{◌+◌, ◌-◌, ℕ, zero, suc, Bool, true, false, not, ◌&&◌, ◌||◌, ◌==◌, List, [], ◌∷◌, length, map, take, drop, Option, Some, None, Result, Ok, Err, nat_lt, nat_le, nat_eq, slice_get, bytes_eq, if◌then◌else◌}
+use Rattle.std.specs.Prelude.{◌+◌, ◌-◌, ℕ, zero, suc, Bool, true, false, not, ◌&&◌, ◌||◌, ◌==◌, List, [], ◌∷◌, length, map, take, drop, Option, Some, None}
+use Rattle.std.specs.Prelude.{Result, Ok, Err, nat_lt, nat_le, nat_eq, slice_get, bytes_eq, if◌then◌else◌}
 use Rattle.std.specs.List.{starts_with}
 use Rattle.sha2.specs.Sha256.{sha256}
 use Rattle.octets.specs.Field.{field32}

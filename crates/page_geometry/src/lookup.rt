@@ -47,7 +47,8 @@ pub fn find_page(page: u32, runs: &[Run], firsts: &[u32], index: u32) -> (usize,
     requires index { index < length (pages_of page (sectors_of runs.now)) }
     ensures run { result.0 < length runs.now }
     ensures sector { let run = run_at runs.now result.0 in result.1 < pieces run.step run.start run.stop }
-    ensures page { let run = run_at runs.now result.0 in let sector = piece run.step run.start run.stop result.1 in result.2 < pieces page sector.start sector.stop }
+    ensures page { let run = run_at runs.now result.0 in let sector = piece run.step run.start run.stop result.1 in result.2
+        < pieces page sector.start sector.stop }
     ensures number { pages_before page runs.now result.0 + (result.1 * pieces page 0 (run_at runs.now result.0).step + result.2) ≡ index }
 {
     let at = last_at_most(firsts, index);

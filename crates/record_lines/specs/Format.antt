@@ -108,7 +108,8 @@ pub record HasNoEnd {C R F : Type 0} (f : Format C R F) (lines : List (List ℕ)
 
 -- taking a line that reads so, behind lines that know c and have the cells `before`: nothing is at fault with it, it ends the text or
 -- not, `known` is known behind it, and the image has its bytes besides
-pub record TakesLine {C R F : Type 0} (f : Format C R F) (reading : Result (Option R) F) (before : List Cell) (c known : C) (ends : Bool) (image : List Run) : Type 0 where
+pub record TakesLine {C R F : Type 0} (f : Format C R F) (reading : Result (Option R) F) (before : List Cell) (c known : C) (ends : Bool)
+    (image : List Run) : Type 0 where
   pub right : line_fault f c before reading ≡ None
   pub ends_is : line_ends f reading ≡ ends
   pub known_is : known ≡ f.behind reading c

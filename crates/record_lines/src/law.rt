@@ -10,6 +10,8 @@ use crate::reader::RecordFormat;
 /// is no fault of a text.
 pub fn texts_have_one_reading<S: RecordFormat>()
     ensures image { (lines : List (List ℕ)) (a b : List Run) → IsImageOfText S.format lines a → IsImageOfText S.format lines b → a ≡ b }
-    ensures apart { (lines : List (List ℕ)) (image : List Run) (fault : TextFault S.Fault) → IsImageOfText S.format lines image → IsTextFault S.format lines fault → IsMemoryFault fault }
-    ensures fault { (lines : List (List ℕ)) (a b : TextFault S.Fault) → IsTextFault S.format lines a → IsTextFault S.format lines b → (IsMemoryFault a → ⊥) → (IsMemoryFault b → ⊥) → a ≡ b }
+    ensures apart { (lines : List (List ℕ)) (image : List Run) (fault : TextFault S.Fault) → IsImageOfText S.format lines image
+        → IsTextFault S.format lines fault → IsMemoryFault fault }
+    ensures fault { (lines : List (List ℕ)) (a b : TextFault S.Fault) → IsTextFault S.format lines a → IsTextFault S.format lines b → (IsMemoryFault a → ⊥)
+        → (IsMemoryFault b → ⊥) → a ≡ b }
 {}

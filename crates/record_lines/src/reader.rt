@@ -30,8 +30,10 @@ pub trait RecordFormat: Drop {
     /// Takes one line, and says whether it ends the text.
     fn take_line(&mut self, map: &mut ByteMap, line: &[u8]) -> Result<bool, LineFault<Self::Fault>>
         requires { 0 < room self.old }
-        ensures ok { IfOk result (λ ends. (before : List Cell) → IsImageOf before map.old → TakesLine format (format.read line.now) before self.old self.new ends map.new) }
-        ensures err { IfErr result (λ fault. (before : List Cell) → IsImageOf before map.old → IsLineFault format (format.read line.now) before self.old fault) }
+        ensures ok { IfOk result (λ ends. (before : List Cell) → IsImageOf before map.old
+            → TakesLine format (format.read line.now) before self.old self.new ends map.new) }
+        ensures err { IfErr result (λ fault. (before : List Cell) → IsImageOf before map.old
+            → IsLineFault format (format.read line.now) before self.old fault) }
         ensures room { room self.old ≤ room self.new + 1 };
 }
 

@@ -10,7 +10,8 @@ use byte_map::{ByteMap, LayFault};
 /// them besides. Else it answers the first clash, or that no memory was left.
 pub fn lay_cells(map: &mut ByteMap, at: u32, bytes: &[u8]) -> Result<(), ClashFault>
     requires { at + length bytes.now ≤ 2 ^ 32 }
-    ensures ok { OnOk result ((before : List Cell) → IsImageOf before map.old → (first_clash before (cells_from at bytes.now) ≡ None) × IsImageOf (cells_from at bytes.now ++ before) map.new) }
+    ensures ok { OnOk result ((before : List Cell) → IsImageOf before map.old → (first_clash before (cells_from at bytes.now) ≡ None)
+        × IsImageOf (cells_from at bytes.now ++ before) map.new) }
     ensures err { IfErr result (λ fault. (before : List Cell) → IsImageOf before map.old → IsClashFault fault (first_clash before (cells_from at bytes.now))) }
 {
     match map.lay(at, bytes) {

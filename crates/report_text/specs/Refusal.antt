@@ -75,7 +75,8 @@ status_of (differs place wanted found) = 13
 
 -- a place or an address, with the byte that is wanted there and the one that was found
 unfoldable pub difference_text : List ℕ → ℕ → ℕ → ℕ → List ℕ
-difference_text what at wanted found = concat (what ∷ codes " at " ∷ hex_text 8 at ∷ codes " wanted " ∷ hex_text 2 wanted ∷ codes " found " ∷ hex_text 2 found ∷ [])
+difference_text what at wanted found = concat (what ∷ codes " at " ∷ hex_text 8 at ∷ codes " wanted " ∷ hex_text 2 wanted
+    ∷ codes " found " ∷ hex_text 2 found ∷ [])
 
 -- the digits of a hash
 abbrev pub hash_text : List ℕ → List ℕ

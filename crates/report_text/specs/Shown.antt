@@ -1,7 +1,9 @@
 -- The refusal that a value of the program is.
 use Rattle.report_text.specs.Refusal as refusal
 use Rattle.report_text.specs.declared.refusal.Refusal.{Refusal}
-use Rattle.report_text.specs.declared.refusal.Refusal.TheVariants.{OutOfMemory, Usage, InputFault, ImageTooLong, ImageRefused, ImageMisplaced, FlmRefused, OtherDevice, NoRoom, BoardRefused, JobOpen, NoJob, NotAJob, Damaged, CellsDiffer, StoreFault, DeviceFault, OutputFault, CallFailed, Mismatch, Differs}
+use Rattle.report_text.specs.declared.refusal.Refusal.TheVariants.{OutOfMemory, Usage, InputFault, ImageTooLong, ImageRefused, ImageMisplaced, FlmRefused}
+use Rattle.report_text.specs.declared.refusal.Refusal.TheVariants.{OtherDevice, NoRoom, BoardRefused, JobOpen, NoJob, NotAJob, Damaged, CellsDiffer, StoreFault}
+use Rattle.report_text.specs.declared.refusal.Refusal.TheVariants.{DeviceFault, OutputFault, CallFailed, Mismatch, Differs}
 
 abbrev pub shown : Refusal → refusal.Refusal
 shown OutOfMemory = refusal.out_of_memory

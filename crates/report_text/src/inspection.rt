@@ -3,7 +3,8 @@ ghost use Rattle.std.specs.Prelude.{◌≡◌, [], ◌∷◌, length};
 ghost use Rattle.std.specs.List.{flat_map};
 ghost use Rattle.flm_descriptor.specs.Shape.{sectors, shape};
 ghost use Rattle.flm_descriptor.specs.Shown.{shown};
-ghost use Rattle.report_text.specs.Inspection.{printable, name_text, kind_text, values_text, device_text, count_text, item_text, parts_text, entry_text, optional_entry_text, entries_text, inspection_text};
+ghost use Rattle.report_text.specs.Inspection.{printable, name_text, kind_text, values_text, device_text, count_text, item_text, parts_text, entry_text};
+ghost use Rattle.report_text.specs.Inspection.{optional_entry_text, entries_text, inspection_text};
 ghost use Rattle.outside_io.specs.Puts.{Puts};
 
 use crate::pieces::put_pieces;

@@ -84,7 +84,8 @@ fn gather_sectors<O: Sink>(
     plan: &Plan,
 ) -> Result<(), OutputFault>
     requires { base + geometry.now.size ≤ 2 ^ 32 }
-    ensures { Gathers O.tells (O.state out.old) (O.state out.new) text.old text.new (set_text (codes "erase") base geometry.now.sectors plan.now.made.sectors) result }
+    ensures { Gathers O.tells (O.state out.old) (O.state out.new) text.old text.new
+        (set_text (codes "erase") base geometry.now.sectors plan.now.made.sectors) result }
 {
     for index in 0..geometry.sectors() {
         gather_sector(out, text, geometry, base, plan, index)?;
@@ -104,7 +105,8 @@ fn gather_sector<O: Sink>(
     requires lawful { IsGeometry geometry.now }
     requires fits { base + geometry.now.size ≤ 2 ^ 32 }
     requires number { index < length geometry.now.sectors }
-    ensures { Gathers O.tells (O.state out.old) (O.state out.new) text.old text.new (member_text (codes "erase") base geometry.now.sectors plan.now.made.sectors index) result }
+    ensures { Gathers O.tells (O.state out.old) (O.state out.new) text.old text.new
+        (member_text (codes "erase") base geometry.now.sectors plan.now.made.sectors index) result }
 {
     if !plan.sector_in(index) {
         return Ok(());
@@ -122,7 +124,8 @@ fn gather_pages<O: Sink>(
     plan: &Plan,
 ) -> Result<(), OutputFault>
     requires { base + geometry.now.size ≤ 2 ^ 32 }
-    ensures { Gathers O.tells (O.state out.old) (O.state out.new) text.old text.new (set_text (codes "program") base geometry.now.pages plan.now.made.pages) result }
+    ensures { Gathers O.tells (O.state out.old) (O.state out.new) text.old text.new
+        (set_text (codes "program") base geometry.now.pages plan.now.made.pages) result }
 {
     for index in 0..geometry.pages() {
         gather_page(out, text, geometry, base, plan, index)?;
@@ -142,7 +145,8 @@ fn gather_page<O: Sink>(
     requires lawful { IsGeometry geometry.now }
     requires fits { base + geometry.now.size ≤ 2 ^ 32 }
     requires number { index < length geometry.now.pages }
-    ensures { Gathers O.tells (O.state out.old) (O.state out.new) text.old text.new (member_text (codes "program") base geometry.now.pages plan.now.made.pages index) result }
+    ensures { Gathers O.tells (O.state out.old) (O.state out.new) text.old text.new
+        (member_text (codes "program") base geometry.now.pages plan.now.made.pages index) result }
 {
     if !plan.page_in(index) {
         return Ok(());

@@ -46,7 +46,10 @@ after_start t f = record t { core = core_at f.regs; return_at = f.return_at }
 
 -- the point at which a target over these cells stands
 abbrev pub point_in : Standing → List ℕ → Point
-point_in t cells = record { core = t.core; world = record { ram_base = t.ram_base; ram = t.ram; map = unit_map t.unit; state = unit_state t.unit; cells = cells } }
+point_in t cells = record {
+  core = t.core;
+  world = record { ram_base = t.ram_base; ram = t.ram; map = unit_map t.unit; state = unit_state t.unit; cells = cells };
+}
 
 -- A slice of a run goes from one point to another and ends so, and the fuel that is left fell by the steps that went.
 pub record SliceFrom (return_at : ℕ) (first : Point) (start : BenchState) (left left' steps : ℕ) (e : SliceEnd) (last : Point) (end : BenchState) : Type 0 where
@@ -63,7 +66,8 @@ abbrev pub Sliced : {B : Type 0} → (B → BenchState) → ℕ → List ℕ →
 Sliced state return_at [] first start fuel e last end = ⊥
 Sliced {B} state return_at (steps ∷ more) first start fuel e last end =
     ((left : ℕ) × SliceFrom return_at first (state start) fuel left steps (slice.Ended e) last (state end))
-    ⊎ ((left : ℕ) × (between : Point) × (turn : B) × (left ≤ fuel) × SliceFrom return_at first (state start) fuel left steps slice.More between (state turn) × Sliced state return_at more between turn left e last end)
+    ⊎ ((left : ℕ) × (between : Point) × (turn : B) × (left ≤ fuel) × SliceFrom return_at first (state start) fuel left steps slice.More between (state turn)
+    × Sliced state return_at more between turn left e last end)
 
 -- A slice that ended with more to do made all its steps, and left fuel: so it went on, where it was to make any.
 abbrev pub GoesOn : SliceEnd → ℕ → ℕ → ℕ → Type 0

@@ -26,9 +26,11 @@ pub fn runs_have_one_end<B: Bench>()
 pub fn slices_are_one_run<B: Bench>()
     ensures on { (return_at fuel : ℕ) (first : Point) (made : ℕ) → made ≤ fuel → GoesTo return_at fuel first made → GoesOnAs return_at fuel first made }
     ensures last { (return_at : ℕ) (first last : Point) (start end : B) (fuel left steps : ℕ) (e : RunEnd)
-        → SliceFrom return_at first (B.state start) fuel left steps (Ended e) last (B.state end) → RunGives return_at fuel first (B.state start) e last (B.state end) }
+        → SliceFrom return_at first (B.state start) fuel left steps (Ended e) last (B.state end)
+        → RunGives return_at fuel first (B.state start) e last (B.state end) }
     ensures first { (return_at : ℕ) (first between last : Point) (start turn end : B) (fuel left steps : ℕ) (e : RunEnd) → left ≤ fuel
-        → SliceFrom return_at first (B.state start) fuel left steps More between (B.state turn) → RunGives return_at left between (B.state turn) e last (B.state end)
+        → SliceFrom return_at first (B.state start) fuel left steps More between (B.state turn)
+        → RunGives return_at left between (B.state turn) e last (B.state end)
         → RunGives return_at fuel first (B.state start) e last (B.state end) }
     ensures cuts { (return_at : ℕ) (cuts : List ℕ) (first last : Point) (start end : B) (fuel : ℕ) (e : RunEnd)
         → Sliced B.state return_at cuts first start fuel e last end → RunGives return_at fuel first (B.state start) e last (B.state end) }

@@ -211,7 +211,8 @@ impl Machine {
     ) -> SliceEnd
         requires window { IsRam arena.old window self.old.ram_size }
         requires agrees { UnitAgrees B.tells self.old.unit (B.state bench.old) }
-        ensures run { IsTrue B.tells → SliceGives (over self.old arena.old window) (B.state bench.old) left.old left.new steps result (over self.new arena.new window) (B.state bench.new) }
+        ensures run { IsTrue B.tells → SliceGives (over self.old arena.old window) (B.state bench.old) left.old left.new steps result
+            (over self.new arena.new window) (B.state bench.new) }
         ensures left { left.new ≤ left.old }
         ensures steps { left.old ≤ left.new + steps }
         ensures more { GoesOn result left.old left.new steps }
@@ -255,7 +256,9 @@ impl Machine {
     ) -> RunEnd
         requires window { IsRam arena.old window self.old.ram_size }
         requires agrees { UnitAgrees B.tells self.old.unit (B.state bench.old) }
-        ensures run { IsTrue B.tells → RunGives frame.now.return_at fuel (point_in (after_start (over self.old arena.old window) frame.now) (B.state bench.old).cells) (B.state bench.old) result (point_in (over self.new arena.new window) (B.state bench.new).cells) (B.state bench.new) }
+        ensures run { IsTrue B.tells → RunGives frame.now.return_at fuel
+            (point_in (after_start (over self.old arena.old window) frame.now) (B.state bench.old).cells) (B.state bench.old) result
+            (point_in (over self.new arena.new window) (B.state bench.new).cells) (B.state bench.new) }
         ensures file { FileStays (B.state bench.old) (B.state bench.new) }
         ensures agrees { UnitAgrees B.tells self.new.unit (B.state bench.new) }
         ensures cause { HasDeviceCause (B.state bench.old).device_faults (B.state bench.new).device_faults (is_device_end result) }

@@ -141,7 +141,8 @@ impl Target {
     /// Starts with a frame and runs on until an end holds, by at most `fuel` steps.
     pub fn run<B: Bench>(&mut self, bench: &mut B, frame: &Frame, fuel: u64) -> RunEnd
         requires { UnitAgrees B.tells (stands self.old).unit (B.state bench.old) }
-        ensures run { IsTrue B.tells → RunGives frame.now.return_at fuel (point_in (after_start (stands self.old) frame.now) (B.state bench.old).cells) (B.state bench.old) result (point_in (stands self.new) (B.state bench.new).cells) (B.state bench.new) }
+        ensures run { IsTrue B.tells → RunGives frame.now.return_at fuel (point_in (after_start (stands self.old) frame.now) (B.state bench.old).cells)
+            (B.state bench.old) result (point_in (stands self.new) (B.state bench.new).cells) (B.state bench.new) }
         ensures file { FileStays (B.state bench.old) (B.state bench.new) }
         ensures agrees { UnitAgrees B.tells (stands self.new).unit (B.state bench.new) }
         ensures cause { HasDeviceCause (B.state bench.old).device_faults (B.state bench.new).device_faults (is_device_end result) }
