@@ -27,6 +27,7 @@ fn know_texts(words: &[Word])
     ensures { AreTexts words.now }
 {
     'words: for word in words {
+        // what is lent as a `str` is text
         let _text = word.text();
     }
 }

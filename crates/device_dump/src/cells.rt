@@ -13,6 +13,7 @@ use std::alloc::Global;
 pub fn know_bytes(cells: &[u8])
     ensures { All (λ byte. byte < 256) cells.now }
 {
+    // the slice is read, and with it that each item is a byte
     let _count = cells.len();
 }
 

@@ -27,6 +27,7 @@ pub fn choose(
     ensures pages_spare { vec_capacity pages.old ≤ vec_capacity pages.new }
 {
     let sector_count = geometry.sectors();
+    // `lawful` of this call: sectors and pages are partitions of the device
     let _pages = geometry.pages();
     let erased = fill_sectors(geometry, marks, sectors);
     let programmed = fill_pages(geometry, marks, sectors, pages);
@@ -66,6 +67,7 @@ fn must_erase(geometry: &Geometry, marks: &[Mark], sector: u32) -> bool
     requires sector { sector < length geometry.now.sectors }
     ensures { result ≡ erases_by geometry.now marks.now sector }
 {
+    // `limit` of this call: the numbers of pages are far below 2^32
     let _pages = geometry.pages();
     let (first, count) = geometry.pages_of(sector);
     for page in first..first + count {
@@ -84,6 +86,7 @@ fn must_program(geometry: &Geometry, marks: &[Mark], sectors: &[bool], page: u32
     requires page { page < length geometry.now.pages }
     ensures { result ≡ programs_by geometry.now marks.now sectors.now page }
 {
+    // `lawful` of this call: the page lies in the sector of its first byte
     let _pages = geometry.pages();
     let (place, _) = geometry.page(page);
     let mark = marks[page as usize];

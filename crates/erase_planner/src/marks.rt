@@ -103,6 +103,7 @@ pub fn feed_marks(
         → AreMarks geometry.now empty (o ++ old.now) (w ++ want.now) marks.new }
     ensures long { length marks.new ≡ length geometry.now.pages }
 {
+    // `lawful` of this call: each place is in exactly one page. `limit` of the next: places are far below 2^32
     let _pages = geometry.pages();
     let _size = geometry.size();
     let mut place = at;

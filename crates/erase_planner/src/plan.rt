@@ -130,6 +130,7 @@ pub fn plan_feed(geometry: &Geometry, empty: u8, old: &[u8], want: &[u8], plan: 
     ensures made { plan.new.made ≡ plan.old.made }
     ensures spare { SpareStays plan.old plan.new }
 {
+    // `limit` of this call: as many bytes as the device has are a u32
     let _size = geometry.size();
     feed_marks(geometry, empty, plan.fed, old, want, &mut plan.marks);
     plan.fed += old.len() as u32;
@@ -145,6 +146,7 @@ pub fn plan_finish(geometry: &Geometry, weights: &Weights, has_chip: bool, plan:
     ensures marks { plan.new.marks ≡ [] }
     ensures spare { SpareStays plan.old plan.new }
 {
+    // `lawful` of this call: on such sectors and pages the plan costs least
     let _lawful = geometry.pages();
     let (chip, cost) = choose(
         geometry,

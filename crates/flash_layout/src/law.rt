@@ -9,5 +9,6 @@ use crate::FlashMap;
 pub fn address_has_sector(layout: &FlashMap, at: u32)
     ensures { (found : Found) → find layout.now.areas.items 0 at ≡ Some found → HasSectorCells layout.now.areas.items layout.now.runs.items at found }
 {
+    // the map is read, and with it the facts that each keeps
     let _layout = layout.find(at);
 }

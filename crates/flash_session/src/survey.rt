@@ -52,6 +52,7 @@ fn survey_region<B: Bench>(
     ensures store { IsCounted (B.state bench.old).store_faults (B.state bench.new).store_faults (is_survey_store result) }
     ensures device { HasDeviceCause (B.state bench.old).device_faults (B.state bench.new).device_faults (is_survey_device result) }
 {
+    // `byte` of this call: what an erased cell holds is a byte
     let _empty = empty_of(algorithm);
     let geometry = Geometry::of(alloc, algorithm)?;
     let mut plan = Plan::new(alloc);

@@ -88,6 +88,7 @@ impl Part {
         requires { self.now.base + self.now.geometry.size ≤ 2 ^ 32 }
         ensures { (s : Setup) → IsItem s self.now (sectors_on s self.now) index result }
     {
+        // `lawful` and `limit` of this call: a sector ends within the region, and its number is below 2^32
         let _lawful = self.geometry.sectors();
         match self.find_sector(index) {
             None => None,
@@ -140,6 +141,7 @@ impl Part {
         ensures { (s : Setup) → IsErrand s (planned_in self.now) → (IsTrue verifies → IsTrue (is_some s.algorithm.entries.verify))
             → IsItem s self.now (pages_on verifies s self.now) index result }
     {
+        // `lawful` and `limit` of this call: a page ends within the region, and its number is below 2^32
         let _lawful = self.geometry.pages();
         match self.find_page(index) {
             None => None,

@@ -12,6 +12,7 @@ use flash_session::{Parts, Survey};
 fn part_of(work: Survey, start: u32) -> (CallsIn, Part)
     ensures { IsPartFrom work start result.0 result.1 }
 {
+    // `limit` of these two calls: the part has so few sectors and pages
     let _sectors = work.geometry.sectors();
     let _pages = work.geometry.pages();
     let base = work.calls.algorithm().device.base;
