@@ -1,4 +1,4 @@
--- A bench in memory with an empty record.
+-- A bench in memory with an empty record. A new bench, and one after a loss of the power, have one.
 use Rattle.std.proofs.Common.{◌≡◌, ◌∙◌, subst, sym, refl, ℕ, List, [], None}
 use Rattle.bench_model.specs.Record.{Recorded, at_rest}
 use Rattle.bench_model.specs.Memory.{memory_state}

@@ -1,4 +1,4 @@
--- What each recorded call does to a bench in memory.
+-- What each recorded call does to a bench in memory. Each call of `MemoryBench` keeps what the trait asks of it by its lemma here.
 use Rattle.std.proofs.Common.{◌≡◌, ◌↔◌, ◌<◌, ◌≤◌, ◌+◌, ◌∙◌, ap, subst, sym, refl, ℕ, List, ◌++◌, length, take, drop, replicate, Option, Some, None, arith, append_assoc, length-append, length-take, length-drop}
 use Rattle.std.proofs.lemmas.List.{take_at, drop_at, length-replicate}
 use Rattle.std.proofs.lemmas.Bool.{false≢true}

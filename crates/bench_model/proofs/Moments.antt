@@ -1,4 +1,4 @@
--- How a run of calls goes on, for one half and for both.
+-- How a run of calls goes on, for one half and for both. Every crate that calls a bench twice joins what a stop may leave by them.
 use Rattle.std.proofs.Common.{◌<◌, ◌≡◌, ◌↔◌, ◌+◌, ⊎_elim, ◌≤◌, ◌∙◌, subst, refl, ℕ, List, Bool, arith}
 use Rattle.std.proofs.lemmas.Bool.{cases_lt}
 use Rattle.bench_model.specs.History.{Half, left, GoesOn, Leaves, AddsNothing, Stays, LeftOnly}

@@ -1,4 +1,4 @@
--- Where a piece and a map have unequal bytes.
+-- Where a piece and a map have unequal bytes. `add` refuses a piece at the least such place.
 use Rattle.std.proofs.Common.{◌≡◌, ⊎_elim, ◌≤◌, ◌<◌, ◌^◌, ℕ, List, length, Some, None, sym, ap, subst, ◌∙◌, cond, Bool, true, false, arith}
 use Rattle.std.specs.Prelude.{IsTrue}
 use Rattle.std.proofs.lemmas.Bool.{cases_lt}

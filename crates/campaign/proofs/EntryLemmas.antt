@@ -1,4 +1,4 @@
--- How the next call is entered.
+-- How the next call is entered. A call that returned and one that was stopped, with and without a target that went on, are entries of the next.
 use Rattle.std.proofs.Common.{inl, inr, ◌∙◌, ℕ, List, sym, subst}
 use Rattle.bench_model.specs.History.{left, LeftOnly}
 use Rattle.bench_model.specs.State.{BenchState, file_half, cells_half}

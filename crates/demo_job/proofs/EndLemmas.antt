@@ -1,4 +1,4 @@
--- The rows of the answers of a demonstration.
+-- The rows of the answers of a demonstration. The top call tells by them what `demo` answers.
 use Rattle.std.proofs.Common.{◌≡◌, ◌∙◌, sym, subst, refl, arith, inl, inr, ◌⊎◌, ◌<◌, ◌≤◌, ⊎_elim, ℕ, true, List, [], Some, ◌^◌, ◌-◌}
 use Rattle.faults.specs.Counts.{Rose}
 use Rattle.report_text.specs.Refusal.{out_of_memory, no_job, not_a_job, damaged, cells_differ, store_fault, device_fault, output_fault, call_failed, mismatch}

@@ -1,4 +1,4 @@
--- One sector more, and how long the cells are.
+-- One sector more, and how long the cells are. The geometry of a made device and its cells grow so.
 use Rattle.std.proofs.Common.{◌≡◌, refl, sym, ap, arith, ◌∙◌, ◌+◌, ◌*◌, ◌%◌, ◌^◌, ◌≤◌, subst, ◌==◌, ℕ, zero, suc, Bool, true, false, cond, List, [], ◌∷◌, ◌++◌, length, append_assoc, append-nil, length-append}
 use Rattle.std.specs.Prelude.{replicate}
 use Rattle.std.proofs.lemmas.List.{length-replicate}

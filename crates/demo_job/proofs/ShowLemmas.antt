@@ -1,4 +1,4 @@
--- What is shown of a run.
+-- What is shown of a run. For the lines that a demonstration returns.
 use Rattle.std.proofs.Common.{◌≡◌, ◌∙◌, refl, sym, ap, ℕ, Bool, true, false, List, [], None, Result, Ok, Err}
 use Rattle.std.specs.Prelude.{IsTrue, ◌↔◌, nat_eq, IfOk}
 use Rattle.std.specs.Cmp.Lexicographic.{pointwise, same_text, other_text}

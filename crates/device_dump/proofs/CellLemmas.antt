@@ -1,4 +1,4 @@
--- Cells as a map, region after region.
+-- Cells as a map, region after region. For `map_of_cells`, and for the law that a dump is read as its cells.
 use Rattle.std.proofs.Common.{◌≡◌, ◌<◌, ◌≤◌, ◌+◌, ◌-◌, ◌∙◌, sym, ap, refl, arith, ℕ, Bool, true, false, cond, List, [], ◌∷◌, length, get_or, take, drop, Option, Some, None}
 use Rattle.std.specs.Prelude.{slice_range}
 use Rattle.std.proofs.lemmas.List.{drop_all, drop_more, drop-drop}

@@ -1,4 +1,4 @@
--- Whole writes of cells, in as many calls as they take.
+-- Whole writes of cells, in as many calls as they take. `write_range` and `fill_range` go on by them.
 use Rattle.std.proofs.Common.{replicate, ◌≡◌, ◌≤◌, ◌+◌, ◌∙◌, ap, sym, subst, refl, ℕ, List, Bool, IsTrue, ◌++◌, length, take, drop, arith, append_assoc, append-nil, length-take, length-drop, length-append, Option, Some, None}
 use Rattle.std.proofs.lemmas.List.{take-append-drop, take_all, take_at, drop_at, drop-drop, length-replicate, replicate-append-replicate}
 use Rattle.bench_model.specs.Calls.{written, Torn}

@@ -1,4 +1,4 @@
--- When several calls of the files fail.
+-- When several calls of the files fail. Loops over calls count their faults by them.
 use Rattle.std.proofs.Common.{◌≡◌, ◌≤◌, ◌+◌, ◌∙◌, inl, inr, ⊎_elim, sym, refl, ℕ, Bool, IsTrue, arith, Result, Ok, Err, IsOk, IsErr}
 use Rattle.std.proofs.lemmas.Bool.{false≢true}
 use Rattle.faults.specs.Counts.{Rose}

@@ -1,4 +1,4 @@
--- A call after one that only read or synced.
+-- A call after one that only read or synced. `file_write` goes on so after a call that left the file as it was.
 use Rattle.std.proofs.Common.{refl, ℕ, List, arith}
 use Rattle.bench_model.specs.History.{Half, left, Leaves, AddsNothing, Stays}
 use Rattle.bench_model.specs.Calls.{Follows, Cut}

@@ -1,4 +1,4 @@
--- Windows of cells.
+-- Windows of cells. A window that was read before answers as the file does.
 use Rattle.std.proofs.Common.{◌≡◌, ◌≤◌, ◌+◌, ◌-◌, ◌∙◌, ⊎_elim, ap, sym, subst, refl, ℕ, List, ◌++◌, length, take, drop, arith, append_assoc, length-take, length-drop, length-append}
 use Rattle.std.proofs.lemmas.Bool.{cases_lt}
 use Rattle.std.proofs.lemmas.List.{take-take, drop-drop, drop-take, take-append-drop, take_all, take_at, drop_at}

@@ -1,4 +1,4 @@
--- Whole writes, in as many calls as they take.
+-- Whole writes, in as many calls as they take. `write_all` goes on by them, and all that is written in pieces.
 use Rattle.std.proofs.Common.{◌≡◌, ◌≤◌, ◌+◌, ◌-◌, ◌∙◌, ap, sym, subst, refl, ℕ, List, Bool, IsTrue, ◌++◌, length, take, drop, arith, append-nil, append_assoc, length-take, length-drop, length-append}
 use Rattle.std.proofs.lemmas.List.{take-take, drop-drop, drop-take, take-append-drop, take_all}
 use Rattle.bench_model.specs.History.{Leaves}

@@ -1,4 +1,4 @@
--- What a map with borrowed names finds.
+-- What a map with borrowed names finds. So looking a name up answers as a scan of the table does.
 use Rattle.std.proofs.Common.{◌≡◌, ℕ, ◌==◌, ◌&&◌, Bool, true, false, is_some, List, [], ◌∷◌, ◌++◌, Some, refl, ap, cond}
 use Rattle.std.specs.Str.{bytes_eq}
 use Rattle.std.specs.Borrow.{Bor}

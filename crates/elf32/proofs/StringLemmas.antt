@@ -1,4 +1,4 @@
--- Laws of strings in tables.
+-- Laws of strings in tables. A name is the bytes up to the first zero.
 use Rattle.std.proofs.Common.{◌≡◌, ℕ, ◌+◌, ◌-◌, ◌<◌, ◌≤◌, Bool, true, false, List, length, take, drop, get_or, Option, Some, None, refl, sym, ap, ◌∙◌, arith, cond, min, ltb, ⊎_elim}
 use Rattle.std.specs.Prelude.{position, MatchOption}
 use Rattle.std.specs.Borrow.{Bor}

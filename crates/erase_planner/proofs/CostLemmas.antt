@@ -1,4 +1,4 @@
--- What the chosen plan costs as a list.
+-- What the chosen plan costs as a list. `LawLemmas` compares it with any other list.
 use Rattle.std.proofs.Common.{◌≡◌, ℕ, zero, suc, ◌+◌, ◌*◌, Bool, true, false, nat_lt, cond, refl, ap, subst, arith, ◌∙◌, List, [], ◌∷◌, ◌++◌, map, length, inl, inr, zero-add}
 use Rattle.std.proofs.lemmas.Bool.{cases_Bool, and_parts}
 use Rattle.std.proofs.lemmas.List.FromFn.{map-range_with_len_more}

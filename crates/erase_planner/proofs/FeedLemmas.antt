@@ -1,4 +1,4 @@
--- What one more byte does to the marks.
+-- What one more byte does to the marks. `feed_marks` goes on by them.
 use Rattle.std.proofs.Common.{get_or-set_same, get_or-set_other, ◌≡◌, ℕ, ◌+◌, ◌-◌, ◌<◌, Bool, true, false, not, ◌||◌, nat_eq, refl, sym, ap, subst, arith, slice_index, ◌∙◌, List, [], ◌∷◌, ◌++◌, length, get_or, set, inl, inr}
 use Rattle.std.proofs.Math.ListN.{length-set}
 use Rattle.std.proofs.lemmas.Bool.{or_cases, or_left, or_right, cases_lt, cases_eq, false_from_ne_true}

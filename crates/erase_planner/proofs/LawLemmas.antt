@@ -1,4 +1,4 @@
--- The law of the least plan.
+-- The law of the least plan. `plan_finish: least` is this law.
 use Rattle.std.proofs.Common.{◌≡◌, ℕ, refl, sym, subst, Bool, List, length}
 use Rattle.board_file.specs.declared.board.Weights.{Weights}
 use Rattle.page_geometry.specs.Geometry.{Geometry, IsGeometry}

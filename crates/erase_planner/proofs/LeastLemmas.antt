@@ -1,4 +1,4 @@
--- No list of actions costs less than the chosen plan.
+-- No list of actions costs less than the chosen plan. It is the second half of `LawLemmas`: `ReachLemmas` has the first.
 use Rattle.std.proofs.Common.{◌≡◌, ℕ, ◌+◌, ◌*◌, ◌<◌, ◌≤◌, Bool, true, false, nat_eq, nat_lt, refl, sym, arith, slice_index, ◌∙◌, List, [], ◌∷◌, length, inl, inr}
 use Rattle.std.proofs.lemmas.Bool.{false≢true, cases_Bool, both_ways, ltb-true, ltb-false, cond-true, cond-false, and_parts}
 use Rattle.std.proofs.Math.Nat.{mul-le-mul_left}

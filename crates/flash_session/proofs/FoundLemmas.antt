@@ -1,4 +1,4 @@
--- What the surveys of a job's regions found, one after the other, is the survey of the job.
+-- What the surveys of a job's regions found, one after the other, is the survey of the job. `survey_for` joins its two surveys by them.
 use Rattle.std.proofs.Common.{◌≡◌, ◌<◌, ◌≤◌, ◌+◌, ◌^◌, ◌∙◌, ℕ, Bool, false, IsTrue, is_some, Result, Err, List, [], ◌∷◌, map, option_to_list, length, take, drop, Option, Some, None, refl, sym, ap, subst, arith}
 use Rattle.std.proofs.lemmas.List.{take_all}
 use Rattle.std.proofs.lemmas.List.Elements.{All-append}

@@ -1,4 +1,4 @@
--- An image laid over the cells of regions, part by part.
+-- An image laid over the cells of regions, part by part. `want_into` lays the image so, and each window or page of a goal is a part of what it lays.
 use Rattle.std.proofs.Common.{◌≡◌, ◌<◌, ◌≤◌, ◌+◌, ◌-◌, ◌++◌, ◌∙◌, ⊎_elim, min, ℕ, zero, suc, Bool, IsTrue, All, List, [], ◌∷◌, length, take, drop, refl, sym, ap, subst, arith, length-take, length-drop}
 use Rattle.std.proofs.lemmas.Bool.{cases_lt}
 use Rattle.std.proofs.lemmas.List.{append-nil, drop-append-le, drop-drop, drop-take, drop_all, take-append-le, take-take, take_all}

@@ -1,4 +1,4 @@
--- Duties as the ideal device does them: from one contents to another.
+-- Duties as the ideal device does them: from one contents to another. `Serving` leads the cells of a region through the phases of its plan by them.
 use Rattle.std.proofs.Common.{◌≡◌, ◌<◌, ◌≤◌, ◌+◌, ◌-◌, ◌^◌, ◌∙◌, ⊎_elim, ℕ, Bool, true, false, cond, All, List, [], ◌∷◌, ◌++◌, map, length, take, drop, get_or, slice_index, Some, refl, sym, ap, subst, append_assoc, length-append, length-take, length-drop, arith}
 use Rattle.std.proofs.lemmas.Grind.{get_or_default_zero}
 use Rattle.std.proofs.lemmas.List.{take_at, drop_at, get_or-take, get_or-drop}
@@ -24,18 +24,22 @@ put site x cells = take site.start cells ++ (x ++ drop (site.start + site.layout
 abbrev pub IsAmong : Site → List ℕ → Type 0
 IsAmong site cells = site.start + site.layout.size ≤ length cells
 
+-- a region's part of the cells is as long as the region
 pub part_long : (site : Site) (cells : List ℕ) → IsAmong site cells → length (part site cells) ≡ site.layout.size
 part_long site cells among = omega (arith, among, length-take site.layout.size (drop site.start cells), length-drop site.start cells)
 
+-- and what lies in front of it is as long as its place says
 front_long : (site : Site) (cells : List ℕ) → IsAmong site cells → length (take site.start cells) ≡ site.start
 front_long site cells among = omega (arith, among, length-take site.start cells)
 
+-- what was put into a region is its part
 pub put_part : (site : Site) (x cells : List ℕ) → IsAmong site cells → length x ≡ site.layout.size → part site (put site x cells) ≡ x
 put_part site x cells among long =
     let rest = drop (site.start + site.layout.size) cells in
     ap (λ (l : List ℕ). take site.layout.size l) (drop_at (take site.start cells) (x ++ rest) site.start (front_long site cells among))
     ∙ take_at x rest site.layout.size long
 
+-- the cells outside the region stay
 pub put_outside : (site : Site) (x cells : List ℕ) → IsAmong site cells → length x ≡ site.layout.size → SameOutside (Some (site.start, site.layout.size)) cells (put site x cells)
 put_outside site x cells among long =
     let front = take site.start cells in
@@ -47,15 +51,18 @@ put_outside site x cells among long =
       ap (drop (site.start + site.layout.size)) (sym (append_assoc front x rest)) ∙ drop_at (front ++ x) rest (site.start + site.layout.size) ends,
     )
 
+-- and there are as many
 pub put_long : (site : Site) (x cells : List ℕ) → IsAmong site cells → length x ≡ site.layout.size → length (put site x cells) ≡ length cells
 put_long site x cells among long = (put_outside site x cells among long).0
 
+-- of two contents put into a region the later one stays
 pub put_again : (site : Site) (x y cells : List ℕ) → IsAmong site cells → length y ≡ site.layout.size → put site x (put site y cells) ≡ put site x cells
 put_again site x y cells among long =
     let same = put_outside site y cells among long in
     ap (λ (l : List ℕ). l ++ (x ++ drop (site.start + site.layout.size) (put site y cells))) same.1
     ∙ ap (λ (l : List ℕ). take site.start cells ++ (x ++ l)) same.2
 
+-- a region's own part put into it changes nothing
 put_self : (site : Site) (x cells : List ℕ) → part site cells ≡ x → cells ≡ put site x cells
 put_self site x cells is = in_three site cells ∙ ap (λ (l : List ℕ). put site l cells) is
 
@@ -64,12 +71,14 @@ unfoldable pub Led : Setup → Site → List ℕ → List Duty → List ℕ → 
 Led s site cells [] want = cells ≡ want
 Led s site cells (d ∷ rest) want = (mid : List ℕ) × Does s site cells d mid × IsReady s site cells d × Led s site mid rest want
 
+-- so each has at its turn what it may count on
 pub led_ready : (s : Setup) (site : Site) (ds : List Duty) (cells want : List ℕ) → Led s site cells ds want → AreReady s site cells ds
 unfolding Led AreReady
 led_ready s site [] cells want led = tt
 led_ready s site (d ∷ rest) cells want led =
     (led.2, λ x does. led_ready s site rest x want (subst (λ (c : List ℕ). Led s site c rest want) (does_same s site d cells led.0 x led.1 does) led.3))
 
+-- two lists of duties, one after the other
 pub led_then : (s : Setup) (site : Site) (xs ys : List Duty) (cells mid want : List ℕ) → Led s site cells xs mid → Led s site mid ys want → Led s site cells (xs ++ ys) want
 unfolding Led
 led_then s site [] ys cells mid want one two = subst (λ (c : List ℕ). Led s site c ys want) (sym one) two
@@ -80,6 +89,7 @@ pub led_quiet : (s : Setup) (site : Site) (r : Request) (cells : List ℕ) → L
 unfolding Led
 led_quiet s site r cells = (cells, refl, tt, refl)
 
+-- an action that the ideal device can do has what it may count on
 ready_action : (s : Setup) (site : Site) (a : Action) (before x : List ℕ) → Acts site.layout s.algorithm.device.empty (part site before) a x → IsReady s site before (Acting a)
 unfolding Acts
 ready_action s site (EraseSector k) before x acts = tt
@@ -104,18 +114,21 @@ led_actions s site (a ∷ rest) cells want among leads =
     led_actions s site rest mid want mid_among (subst (λ (y : List ℕ). Leads site.layout s.algorithm.device.empty y rest want) (sym is) leads.2) in
     (mid, does, ready_action s site a cells leads.0 leads.1, subst (λ (c : List ℕ). Led s site mid (map Acting rest) c) (put_again site want leads.0 cells among long) others)
 
+-- checks change nothing
 led_checks : (s : Setup) (site : Site) (held cells : List ℕ) (bs : List Bool) (k : ℕ) → Led s site cells (checks s site.layout held k bs) cells
 unfolding checks Led
 led_checks s site held cells [] k = refl
 led_checks s site held cells (true ∷ bs) k = (cells, refl, tt, led_checks s site held cells bs (k + 1))
 led_checks s site held cells (false ∷ bs) k = led_checks s site held cells bs (k + 1)
 
+-- so the third phase changes nothing
 pub led_verifies : (s : Setup) (site : Site) (held cells : List ℕ) (set : List Bool) → Led s site cells (works_of s site.layout held (Verifies set)) cells
 unfolding works_of
 led_verifies s site held cells set = led_checks s site held cells set 0
 
 -- ---- the contents between two phases
 
+-- actions in two lists have contents between them
 pub leads_split : (l : Geometry) (empty : ℕ) (xs ys : List Action) (cells want : List ℕ) → Leads l empty cells (xs ++ ys) want
     → (mid : List ℕ) × Leads l empty cells xs mid × Leads l empty mid ys want
 unfolding Leads
@@ -124,20 +137,25 @@ leads_split l empty (a ∷ xs) ys cells want leads =
     let more : (mid : List ℕ) × Leads l empty leads.0 xs mid × Leads l empty mid ys want = leads_split l empty xs ys leads.0 want leads.2 in
     (more.0, (leads.0, leads.1, more.1), more.2)
 
+-- actions leave as many cells
 pub leads_length : (l : Geometry) (empty : ℕ) (actions : List Action) (cells want : List ℕ) → Leads l empty cells actions want → length want ≡ length cells
 unfolding Leads
 leads_length l empty [] cells want leads = ap (λ (c : List ℕ). length c) (sym leads)
 leads_length l empty (a ∷ rest) cells want leads = leads_length l empty rest leads.0 want leads.2 ∙ acts_length l empty a cells leads.0 leads.1
 
+-- each cell is a byte
 abbrev pub AreBytes : List ℕ → Type 0
 AreBytes cells = All (λ v. v < 2 ^ 8) cells
 
+-- so at each place
 byte_at : (cells : List ℕ) (i : ℕ) → AreBytes cells → i < length cells → slice_index cells i < 2 ^ 8
 byte_at cells i bytes less = bytes i 0 less
 
+-- and from each place
 bytes_from : (cells : List ℕ) → ((i : ℕ) → i < length cells → slice_index cells i < 2 ^ 8) → AreBytes cells
 bytes_from cells each = λ k d less. omega (arith, get_or_default_zero cells k d less, each k less)
 
+-- an erased sector leaves bytes
 sector_bytes : (l : Geometry) (empty k : ℕ) (before x : List ℕ) → empty < 2 ^ 8 → AreBytes before → Acts l empty before (EraseSector k) x → AreBytes x
 unfolding Acts
 sector_bytes l empty k before x small bytes acts = bytes_from x (λ i less. ⊎_elim
@@ -145,12 +163,14 @@ sector_bytes l empty k before x small bytes acts = bytes_from x (λ i less. ⊎_
     (λ (outside : In i (range_at l.sectors k) → ⊥). omega (arith, acts.2.1 i outside, byte_at before i bytes (omega (arith, less, acts.2.0))))
     (cases_in i (range_at l.sectors k)))
 
+-- and so do erased sectors
 erasures_bytes : (l : Geometry) (empty : ℕ) (bs : List Bool) (k : ℕ) (cells want : List ℕ) → empty < 2 ^ 8 → AreBytes cells → Leads l empty cells (erasures k bs) want → AreBytes want
 unfolding Leads erasures
 erasures_bytes l empty [] k cells want small bytes leads = subst (λ (c : List ℕ). AreBytes c) leads bytes
 erasures_bytes l empty (true ∷ bs) k cells want small bytes leads = erasures_bytes l empty bs (k + 1) leads.0 want small (sector_bytes l empty k cells leads.0 small bytes leads.1) leads.2
 erasures_bytes l empty (false ∷ bs) k cells want small bytes leads = erasures_bytes l empty bs (k + 1) cells want small bytes leads
 
+-- and an erased chip
 chip_bytes : (l : Geometry) (empty : ℕ) (cells want : List ℕ) → empty < 2 ^ 8 → Leads l empty cells (EraseChip ∷ []) want → AreBytes want
 unfolding Leads Acts
 chip_bytes l empty cells want small leads = subst (λ (c : List ℕ). AreBytes c) leads.2 (bytes_from leads.0 (λ i less. omega (arith, small, leads.1.1 i less)))
@@ -162,14 +182,17 @@ erased_bytes l empty false set cells want small bytes leads = erasures_bytes l e
 
 -- ---- bytes of a region among bytes
 
+-- a place of a region is one of all cells
 part_at : (site : Site) (cells : List ℕ) (i : ℕ) → i < site.layout.size → slice_index (part site cells) i ≡ slice_index cells (site.start + i)
 part_at site cells i less = get_or-take site.layout.size (drop site.start cells) i 0 less ∙ get_or-drop site.start cells i 0
 
+-- a part of bytes is bytes
 pub part_bytes : (site : Site) (cells : List ℕ) → IsAmong site cells → AreBytes cells → AreBytes (part site cells)
 part_bytes site cells among bytes = bytes_from (part site cells) (λ i less.
     let long = part_long site cells among in
     omega (arith, part_at site cells i (omega (arith, less, long)), byte_at cells (site.start + i) bytes (omega (arith, less, long, among))))
 
+-- and bytes put among bytes are bytes
 pub put_bytes : (site : Site) (x cells : List ℕ) → IsAmong site cells → length x ≡ site.layout.size → AreBytes cells → AreBytes x → AreBytes (put site x cells)
 put_bytes site x cells among long bytes these = bytes_from y (λ i less. ⊎_elim
     (λ (before : i < site.start).

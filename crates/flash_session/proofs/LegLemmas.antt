@@ -1,5 +1,5 @@
 -- Region after region: where each algorithm keeps its duties, the script goes to the goal of all cells, and leaves what lies outside the
--- plans.
+-- plans. `ServedLemmas` makes the clauses of `Session::go` of it.
 use Rattle.std.proofs.Common.{◌≡◌, ◌≤◌, ◌+◌, ◌-◌, ◌∙◌, ⊎_elim, ℕ, false, is_some, List, [], ◌∷◌, ◌++◌, length, take, drop, None, refl, sym, ap, subst, length-append, length-take, length-drop, arith}
 use Rattle.std.proofs.lemmas.List.{drop-drop, drop_all, take_all, take_at, append-nil}
 use Rattle.bench_model.specs.History.{Leaves}

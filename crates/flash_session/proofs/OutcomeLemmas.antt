@@ -1,4 +1,5 @@
 -- How a script ends on a bench, and that it ends so once what broken-off operations leave is given.
+-- `follow` ends by them; the law `moves_have_one_end` is the last.
 use Rattle.std.proofs.Common.{◌≡◌, ◌<◌, ◌≤◌, ◌∙◌, ⊎_elim, ℕ, Bool, IsTrue, List, get_or, Option, Result, Ok, Err, Some, None, refl, sym, ap, subst, arith}
 use Rattle.std.proofs.lemmas.List.{get_or-take}
 use Rattle.std.proofs.lemmas.Bool.{cases_lt}

@@ -1,4 +1,5 @@
 -- The work of a session that is given up is one piece for each region, and what a session lends of a region is that of its survey.
+-- For `into_parts`, and for `plan_of` and `geometry_of`.
 use Rattle.std.proofs.Common.{◌≡◌, ◌<◌, ◌+◌, ◌∙◌, ℕ, zero, suc, Bool, true, false, is_some, List, [], ◌∷◌, map, length, get_or, option_to_list, Option, Some, None, IfSome, refl, sym, ap, subst, arith}
 use Rattle.std.proofs.lemmas.Bool.{false≢true}
 use Rattle.board_file.specs.Shown.{shown as board_of}

@@ -1,4 +1,5 @@
 -- Moves that go to their end, and meanwhile change no cell but at some places, whatever a stop of the power leaves.
+-- `Serving` has it of the phases of a region, and `LegLemmas` of a whole script.
 use Rattle.std.proofs.Common.{◌≡◌, ◌<◌, ◌≤◌, ◌+◌, ◌-◌, ◌∙◌, ⊎_elim, ℕ, List, [], ◌∷◌, ◌++◌, map, length, replicate, get_or, Option, Some, None, Result, Ok, refl, sym, ap, subst, arith}
 use Rattle.std.proofs.lemmas.List.{get_or-take, get_or-drop, map-append}
 use Rattle.std.proofs.lemmas.Bool.{cases_lt}

@@ -1,4 +1,4 @@
--- Reads one after the other, and windows of cells and goal.
+-- Reads one after the other, and windows of cells and goal. Surveys and the comparison read cells and goal in windows, and go on by them.
 use Rattle.std.proofs.Common.{◌≡◌, ◌<◌, ◌≤◌, ◌+◌, ◌-◌, ◌++◌, ◌∙◌, ℕ, Bool, IsTrue, List, length, take, drop, get_or, Some, None, refl, sym, ap, arith, length-append}
 use Rattle.std.proofs.Math.Seq.{take-add}
 use Rattle.std.proofs.lemmas.List.{get_or-take, get_or-drop, take_all, length-take, length-drop, take-take}

@@ -1,4 +1,5 @@
 -- A script by the machines of a board's regions, in its pieces.
+-- `play_region`, `play_second` and `play` go from phase to phase and from region to region by them.
 use Rattle.std.proofs.Common.{◌≡◌, ◌∙◌, ℕ, Bool, true, false, List, [], ◌∷◌, ◌++◌, Option, Some, None, Result, Ok, Err, refl, sym, ap}
 use Rattle.std.proofs.lemmas.List.{append-nil}
 use Rattle.bench_model.specs.State.{BenchState}

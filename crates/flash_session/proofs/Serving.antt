@@ -1,4 +1,5 @@
 -- Where an algorithm keeps its duties for a region, the phases of its plan lead to the region's goal, and leave what lies outside the plan.
+-- The clauses `reaches` and `local` of `Session::go` rest on it: the goal is reached, and nothing else is changed.
 use Rattle.std.proofs.Common.{◌≡◌, ◌<◌, ◌≤◌, ◌+◌, ◌-◌, ◌^◌, ◌∙◌, ⊎_elim, inl, inr, ℕ, suc, Bool, true, false, cond, is_some, List, [], ◌∷◌, ◌++◌, map, length, get_or, None, refl, sym, ap, subst, arith}
 use Rattle.std.proofs.lemmas.Bool.{cases_lt}
 use Rattle.std.proofs.lemmas.List.{get_or_past}
@@ -29,26 +30,31 @@ use Rattle.flash_session.proofs.Passing.{PlacesIn, Passes, passes_none, passes_t
 
 -- ---- the sets of a plan
 
+-- whichever of two plans is taken has a truth value for each sector
 either_sectors : (l : Geometry) (d : Bool) (x y : Chosen) → length x.sectors ≡ length l.sectors → length y.sectors ≡ length l.sectors → length (cond d x y).sectors ≡ length l.sectors
 either_sectors l true x y one two = one
 either_sectors l false x y one two = two
 
+-- and one for each page
 either_pages : (l : Geometry) (d : Bool) (x y : Chosen) → length x.pages ≡ length l.pages → length y.pages ≡ length l.pages → length (cond d x y).pages ≡ length l.pages
 either_pages l true x y one two = one
 either_pages l false x y one two = two
 
+-- so has the chosen plan: for each sector
 chosen_sectors : (l : Geometry) (w : Weights) (has_chip : Bool) (empty : ℕ) (old want : List ℕ) → length (chosen l w has_chip empty old want).sectors ≡ length l.sectors
 unfolding chosen by_chip by_sectors
 chosen_sectors l w has_chip empty old want =
     either_sectors l (takes_chip l w has_chip empty old want) (by_chip l w empty old want) (by_sectors l w empty old want)
     (length-map-range_with_len (λ (k : ℕ). false) 0 (length l.sectors)) (length-map-range_with_len (must_erase l empty old want) 0 (length l.sectors))
 
+-- and for each page
 chosen_pages : (l : Geometry) (w : Weights) (has_chip : Bool) (empty : ℕ) (old want : List ℕ) → length (chosen l w has_chip empty old want).pages ≡ length l.pages
 unfolding chosen by_chip by_sectors
 chosen_pages l w has_chip empty old want =
     either_pages l (takes_chip l w has_chip empty old want) (by_chip l w empty old want) (by_sectors l w empty old want)
     (length-map-range_with_len (is_wanted l empty want) 0 (length l.pages)) (length-map-range_with_len (must_program l empty old want) 0 (length l.pages))
 
+-- a plan that erases the chip does so in its list of actions
 chip_first : (l : Geometry) (want : List ℕ) (plan : Chosen) → plan.chip ≡ true → erases_chip (actions_of l want plan) ≡ true
 unfolding erases_chip actions_of
 chip_first l want plan is = rw is refl
@@ -66,9 +72,11 @@ below_length bs k is = ⊎_elim
 abbrev pub Covers : (ℕ → Type 0) → Site → Chosen → Type 0
 Covers P site plan = (i : ℕ) → IsInRegionPlan site.start site.layout plan i → P i
 
+-- a place in the range of a duty, counted from where the region begins
 in_span : (site : Site) (r : Range) (i : ℕ) → (span site r).0 ≤ i → i < (span site r).0 + (span site r).1 → In (i - site.start) r × (i ≡ site.start + (i - site.start))
 in_span site r i from below = ((omega (arith, from), omega (arith, from, below)), omega (arith, from))
 
+-- the operations of erasures open within P, where the sectors of the set lie within it
 sector_places : (P : ℕ → Type 0) (site : Site) (bs : List Bool) (k : ℕ)
     → ((j : ℕ) → get_or bs j false ≡ true → (i : ℕ) → In i (range_at site.layout.sectors (k + j)) → P (site.start + i)) → PlacesIn P site (map Acting (erasures k bs))
 unfolding erasures
@@ -82,6 +90,7 @@ sector_places P site (true ∷ bs) k all = (
 )
 sector_places P site (false ∷ bs) k all = sector_places P site bs (k + 1) (λ j is i h. all (suc j) is i (let z : k + 1 + j ≡ k + suc j = omega arith in subst (λ (n : ℕ). In i (range_at site.layout.sectors n)) z h))
 
+-- those of writes likewise, with the pages
 page_places : (P : ℕ → Type 0) (site : Site) (goal : List ℕ) (bs : List Bool) (k : ℕ)
     → ((j : ℕ) → get_or bs j false ≡ true → (i : ℕ) → In i (range_at site.layout.pages (k + j)) → P (site.start + i)) → PlacesIn P site (map Acting (writes site.layout goal k bs))
 unfolding writes
@@ -95,6 +104,7 @@ page_places P site goal (true ∷ bs) k all = (
 )
 page_places P site goal (false ∷ bs) k all = page_places P site goal bs (k + 1) (λ j is i h. all (suc j) is i (let z : k + 1 + j ≡ k + suc j = omega arith in subst (λ (n : ℕ). In i (range_at site.layout.pages n)) z h))
 
+-- and checks open none
 check_places : (P : ℕ → Type 0) (s : Setup) (site : Site) (held : List ℕ) (bs : List Bool) (k : ℕ) → PlacesIn P site (checks s site.layout held k bs)
 unfolding checks
 check_places P s site held [] k = tt
@@ -108,15 +118,18 @@ in_sector P site plan good long covers k is i h =
     let less : k < length site.layout.sectors = omega (arith, below_length plan.sectors k is, long) in
     covers (site.start + i) (record { at = i; is = refl; inside = omega (arith, h.1, good.sectors_part.below k less); planned = inr (inl (k, is, h)) })
 
+-- and so with a page
 in_page : (P : ℕ → Type 0) (site : Site) (plan : Chosen) → IsGeometry site.layout → length plan.pages ≡ length site.layout.pages → Covers P site plan
     → (k : ℕ) → get_or plan.pages k false ≡ true → (i : ℕ) → In i (range_at site.layout.pages k) → P (site.start + i)
 in_page P site plan good long covers k is i h =
     let less : k < length site.layout.pages = omega (arith, below_length plan.pages k is, long) in
     covers (site.start + i) (record { at = i; is = refl; inside = omega (arith, h.1, good.pages_part.below k less); planned = inr (inr (k, is, h)) })
 
+-- a set is counted from number 0 on
 from_zero : (rs : List Range) (i k : ℕ) → In i (range_at rs (0 + k)) → In i (range_at rs k)
 from_zero rs i k h = let z : 0 + k ≡ k = omega arith in subst (λ (n : ℕ). In i (range_at rs n)) z h
 
+-- the first phase of a plan opens its operations at places of the plan alone
 erasing_places : (P : ℕ → Type 0) (s : Setup) (site : Site) (plan : Chosen) (held : List ℕ) (chip : Bool) → IsGeometry site.layout → length plan.sectors ≡ length site.layout.sectors → Covers P site plan
     → (chip ≡ true → plan.chip ≡ true) → PlacesIn P site (works_of s site.layout held (cond chip ErasesChip (Erases plan.sectors)))
 unfolding works_of
@@ -127,18 +140,21 @@ erasing_places P s site plan held true good long covers is = (
 erasing_places P s site plan held false good long covers is =
     sector_places P site plan.sectors 0 (λ k in_set i h. in_sector P site plan good long covers k in_set i (from_zero site.layout.sectors i k h))
 
+-- so does the second
 programming_places : (P : ℕ → Type 0) (s : Setup) (site : Site) (plan : Chosen) (held goal : List ℕ) → IsGeometry site.layout → length plan.pages ≡ length site.layout.pages → Covers P site plan
     → PlacesIn P site (works_of s site.layout held (Programs plan.pages goal))
 unfolding works_of
 programming_places P s site plan held goal good long covers =
     page_places P site goal plan.pages 0 (λ k in_set i h. in_page P site plan good long covers k in_set i (from_zero site.layout.pages i k h))
 
+-- and the third opens none
 verifying_places : (P : ℕ → Type 0) (s : Setup) (site : Site) (held : List ℕ) (set : List Bool) → PlacesIn P site (works_of s site.layout held (Verifies set))
 unfolding works_of
 verifying_places P s site held set = check_places P s site held set 0
 
 -- ---- what the phases of a plan lead to
 
+-- the first phase leads from the cells to those with the erased contents in the region
 erasing_led : (s : Setup) (site : Site) (cells mid : List ℕ) (chip : Bool) (set : List Bool) → IsAmong site cells
     → Leads site.layout s.algorithm.device.empty (part site cells) (cond chip (act.EraseChip ∷ []) (erasures 0 set)) mid
     → Led s site cells (works_of s site.layout (part site cells) (cond chip ErasesChip (Erases set))) (put site mid cells)
@@ -146,23 +162,28 @@ unfolding works_of
 erasing_led s site cells mid true set among leads = led_actions s site (act.EraseChip ∷ []) cells mid among leads
 erasing_led s site cells mid false set among leads = led_actions s site (erasures 0 set) cells mid among leads
 
+-- and the second to those with the goal in it
 programming_led : (s : Setup) (site : Site) (cells goal : List ℕ) (set : List Bool) → IsAmong site cells → Leads site.layout s.algorithm.device.empty (part site cells) (writes site.layout goal 0 set) goal
     → Led s site cells (works_of s site.layout (part site cells) (Programs set goal)) (put site goal cells)
 unfolding works_of
 programming_led s site cells goal set among leads = led_actions s site (writes site.layout goal 0 set) cells goal among leads
 
+-- the actions of a plan are its erasures, and then its writes
 split_actions : (l : Geometry) (goal : List ℕ) (plan : Chosen) → actions_of l goal plan ≡ cond plan.chip (act.EraseChip ∷ []) (erasures 0 plan.sectors) ++ writes l goal 0 plan.pages
 unfolding actions_of
 split_actions l goal plan = refl
 
+-- the first phase asks for nothing that the algorithm has no entry for
 may_erase : (s : Setup) (l : Geometry) (chip : Bool) (set : List Bool) → (chip ≡ true → is_some s.algorithm.entries.erase_chip ≡ true) → length set ≡ length l.sectors → MayAsk s l (cond chip ErasesChip (Erases set))
 may_erase s l true set entry long = entry refl
 may_erase s l false set entry long = long
 
+-- of the chip or of sectors, the first phase is of kind 1
 erasing_kind : (chip : Bool) (set : List Bool) → kind_of (cond chip ErasesChip (Erases set)) ≡ 1
 erasing_kind true set = refl
 erasing_kind false set = refl
 
+-- what a region is to go through, phase by phase
 phases_are : (s : Setup) (t : Errand) (b : Torn) → phases s t b ≡ phase s 1 b.erase (erase_moves s t.planned) ++ (phase s 2 b.program (page_moves false s t) ++ phase s 3 b.verify (verify_moves s t))
 unfolding phases
 phases_are s t b = refl
@@ -189,6 +210,7 @@ module _ (P : ℕ → Type 0) (old : List ℕ) (b : BoardShown) (region : ℕ) (
   abbrev mine : List ℕ
   mine = part here cells
 
+  -- behind reset and load the world is the one in which an algorithm keeps its duties
   begun_is : (x : World) → board_in x ≡ (b.ram_base, board_map b) → begun (setup_of a b) x ≡ ready b a x.cells
   begun_is x same = ap (λ (p : ℕ × FlashMap). let y : World = record { ram_base = p.0; ram = loaded (setup_of a b); map = p.1; state = state_reset p.1; cells = x.cells } in y) same
 
@@ -206,6 +228,7 @@ module _ (P : ℕ → Type 0) (old : List ℕ) (b : BoardShown) (region : ℕ) (
       (is.serves.keeps x.world.cells kind (long ∙ is.count) bytes may some (led_ready s here works x.world.cells want led)))
       led places start
 
+  -- and over cells that are known to be these
   work : (kind : Phase) (x : Stand) (torn : List ℕ) (moves : List Move) (want now held : List ℕ) → x.world.cells ≡ now → part here now ≡ held → board_in x.world ≡ (b.ram_base, board_map b) → state_op x.world.state ≡ None
       → moves ≡ map (move_of (setup_of a b) (device_of a)) (works_of (setup_of a b) (device_of a) held kind) → length now ≡ length cells → AreBytes now
       → MayAsk (setup_of a b) (device_of a) kind → Led (setup_of a b) here now (works_of (setup_of a b) (device_of a) held kind) want
@@ -223,21 +246,26 @@ module _ (P : ℕ → Type 0) (old : List ℕ) (b : BoardShown) (region : ℕ) (
       (subst (λ (c : List ℕ). PlacesIn P here (works_of s l c kind)) held_is places)
       (subst (λ (c : List ℕ). SameBut P old c) (sym same) start)
 
+  -- the sets of the plan have a truth value for each page
   pages_long : length plan.pages ≡ length (device_of a).pages
   pages_long = ap (λ (p : Chosen). length p.pages) is.least.chosen ∙ chosen_pages (device_of a) w (is_some a.entries.erase_chip) a.device.empty mine goal
 
+  -- and for each sector
   sectors_long : length plan.sectors ≡ length (device_of a).sectors
   sectors_long = ap (λ (p : Chosen). length p.sectors) is.least.chosen ∙ chosen_sectors (device_of a) w (is_some a.entries.erase_chip) a.device.empty mine goal
 
   abbrev region_errand : Errand
   region_errand = errand (device_of a) a.device.base plan goal
 
+  -- the cells that the script is to reach in this region
   abbrev reached : List ℕ
   reached = put here goal cells
 
+  -- they are as many
   reached_long : length reached ≡ length cells
   reached_long = put_long here goal cells is.among is.goal_size
 
+  -- the third phase, where the algorithm can verify, changes nothing
   check_passes : (d : Bool) (x : Stand) (torn : List ℕ) → d ≡ has_verify (setup_of a b) → x.world.cells ≡ reached → board_in x.world ≡ (b.ram_base, board_map b) → state_op x.world.state ≡ None → SameBut P old reached
       → Passes P x (phase (setup_of a b) 3 torn (cond d (page_moves true (setup_of a b) region_errand) [])) reached old
   check_passes true x torn entry same board idle start =

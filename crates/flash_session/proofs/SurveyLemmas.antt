@@ -1,4 +1,4 @@
--- A survey of a region window by window.
+-- A survey of a region window by window. `survey_windows` feeds the plan window by window, and `survey_region` ends so.
 use Rattle.std.proofs.Common.{◌≡◌, ◌<◌, ◌≤◌, ◌+◌, ◌-◌, ◌++◌, ◌∙◌, ◌^◌, ℕ, Bool, IsTrue, All, List, [], length, take, drop, sym, ap, subst, arith}
 use Rattle.std.proofs.Math.Seq.{take-add}
 use Rattle.std.proofs.lemmas.List.{drop-drop}

@@ -1,4 +1,5 @@
 -- Moves by the machines of a board's regions, one list after the other, and the turn from one machine to the other at a reset.
+-- For `Machines`, whose two machines take turns.
 use Rattle.std.proofs.Common.{◌≡◌, ◌∙◌, inl, ⊎_elim, ℕ, Bool, true, false, not, IsTrue, is_some, List, [], ◌∷◌, ◌++◌, replicate, Option, Some, None, IsSomeAnd, Result, Ok, Err, refl, sym, ap, subst, arith}
 use Rattle.bench_model.specs.State.{BenchState}
 use Rattle.bench_model.proofs.Moments.{leaves_as}

@@ -1,4 +1,4 @@
--- From what a comparison found to the end of the work.
+-- From what a comparison found to the end of the work. `compare` and `verify` end so.
 use Rattle.std.proofs.Common.{◌≡◌, ◌<◌, ◌+◌, ◌^◌, sym, subst, refl, ℕ, IfOk, Option, Some, None, Result, Ok, Err}
 use Rattle.std.specs.Option.{ForSome}
 use Rattle.std.specs.Result.{ForOk}

@@ -1,4 +1,4 @@
--- The cells of a region against an image, run by run.
+-- The cells of a region against an image, run by run. `find_in_region` and `find_in_run` go on by them.
 use Rattle.std.proofs.Common.{◌≡◌, ◌≢◌, ◌<◌, ◌≤◌, ◌+◌, ◌^◌, ◌++◌, ◌∙◌, sym, ap, subst, refl, arith, inl, inr, ◌⊎◌, ⊎_elim, ℕ, Bool, true, false, IsTrue, List, [], ◌∷◌, ◌-◌, max, min, length, length-drop, take, drop, get_or, slice_get, slice_index, Option, Some, None, is_some, IfOk, Result, Ok, Err}
 use Rattle.std.proofs.lemmas.List.{take_more, take_all, length-take-le, length-take, get_or-take, get_or-drop}
 use Rattle.std.proofs.Math.Seq.{take-length}

@@ -1,4 +1,4 @@
--- From the steps of `inspect` to its end.
+-- From the steps of `inspect` to its end. Each step that may end `inspect` has its lemma.
 use Rattle.std.proofs.Common.{◌≡◌, ◌⊎◌, ◌∙◌, sym, ap, subst, refl, inl, inr, ℕ, Bool, true, IsTrue, List, [], ◌∷◌, Err, Some}
 use Rattle.bench_model.specs.State.{BenchState}
 use Rattle.outside_io.specs.State.{SinkState}

@@ -1,4 +1,4 @@
--- From the regions one by one to all cells.
+-- From the regions one by one to all cells. `find_in_regions` and `find_in_both` count places over both regions by them.
 use Rattle.std.proofs.Common.{◌≡◌, ◌≢◌, ◌<◌, ◌≤◌, ◌+◌, ◌-◌, ◌∙◌, sym, ap, subst, refl, arith, ⊎_elim, ℕ, Bool, true, false, IsTrue, nat_lt, if◌then◌else◌, List, [], ◌∷◌, slice_index, Option, Some, None, is_some, Result, Ok, Err, IfOk}
 use Rattle.bench_model.specs.declared.bench_fault.DeviceFault.{DeviceFault}
 use Rattle.std.proofs.lemmas.Bool.{cases_lt}

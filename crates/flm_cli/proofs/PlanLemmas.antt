@@ -1,4 +1,4 @@
--- From the steps of `plan` to its end.
+-- From the steps of `plan` to its end. Each step that may end `plan` has its lemma.
 use Rattle.std.proofs.Common.{◌≡◌, ◌≢◌, ◌<◌, ◌≤◌, ◌+◌, ◌-◌, ◌^◌, ◌∙◌, ⊎_elim, ◌⊎◌, sym, ap, subst, refl, arith, inl, inr, ℕ, zero, suc, Bool, true, false, IsTrue, IsSome, OnOk, List, [], ◌∷◌, ◌++◌, map, length, take, drop, get_or, slice_get, append-nil, Option, option_to_list, Some, None, Result, Ok, Err, is_err}
 use Rattle.std.specs.List.{list_all}
 use Rattle.std.proofs.lemmas.List.{take_all, take_at, drop_at, take-append-le, length-take-le, length-append}

@@ -1,4 +1,4 @@
--- From the steps of `verify` to its end.
+-- From the steps of `verify` to its end. Each step that may end `verify` has its lemma.
 use Rattle.std.proofs.Common.{◌≡◌, ◌≢◌, ◌<◌, ◌≤◌, ◌^◌, ◌∙◌, ⊎_elim, sym, ap, subst, refl, arith, inl, inr, ℕ, Bool, true, IsTrue, IsSome, List, [], ◌∷◌, length, slice_index, option_to_list, Option, Some, None}
 use Rattle.std.proofs.lemmas.Bool.{cases_lt}
 use Rattle.bench_model.specs.State.{BenchState}

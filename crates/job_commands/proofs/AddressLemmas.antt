@@ -1,4 +1,4 @@
--- The address of a place in one or two regions.
+-- The address of a place in one or two regions. `address_of` names a cell that differs by it.
 use Rattle.std.proofs.Common.{◌≡◌, ◌<◌, ◌≤◌, ◌+◌, ◌-◌, ◌∙◌, sym, ap, subst, refl, arith, ℕ, Bool, true, false, All, nat_lt, if◌then◌else◌, List, [], ◌∷◌, length, get_or, Option, Some, None}
 use Rattle.std.proofs.lemmas.Bool.Decides.{nat_tests}
 use Rattle.std.proofs.lemmas.List.Sums.{sum_by-cons}

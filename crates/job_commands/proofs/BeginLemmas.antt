@@ -1,4 +1,4 @@
--- A job was begun (a to b), and is carried (b to d).
+-- A job was begun (a to b), and is carried (b to d). `begin_job` joins both stretches by them.
 use Rattle.std.proofs.Common.{arith, ◌≡◌, ◌⊎◌, ⊎_elim, inl, inr, refl, ◌∙◌, ℕ, Bool, true, List, [], ◌∷◌, length, IsTrue, Option, None, sym, subst}
 use Rattle.outside_io.specs.State.{SinkState}
 use Rattle.bench_model.specs.History.{GoesOn, Leaves, LeftOnly}

@@ -1,4 +1,4 @@
--- The counts of faults of a job's work.
+-- The counts of faults of a job's work. Each command tells by them whether a fault was counted.
 use Rattle.std.proofs.Common.{◌≡◌, ◌≤◌, ◌<◌, ◌∙◌, ⊎_elim, refl, sym, ap, subst, arith, ℕ, Bool, false, List, Option, Some, None, IfSome, IsSomeAnd, Ok, Err}
 use Rattle.std.proofs.lemmas.Bool.{cases_lt}
 use Rattle.faults.specs.Counts.{Rose}

@@ -1,4 +1,4 @@
--- Which refusals a step has.
+-- Which refusals a step has. A command refuses as its steps do, and has no other refusal.
 use Rattle.std.proofs.Common.{◌≡◌, refl, true, ℕ}
 use Rattle.job_file.specs.declared.fault.OpenFault.TheVariants as opening
 use Rattle.job_file.specs.declared.fault.BeginFault.{BeginFault}

@@ -1,4 +1,4 @@
--- What a call answers is what a campaign asks of it.
+-- What a call answers is what a campaign asks of it. For the law `calls_keep`.
 use Rattle.std.proofs.Common.{◌≡◌, ◌≢◌, ⊎_elim, inl, inr, refl, ◌⊎◌, ◌≤◌, ◌+◌, ◌∙◌, ℕ, Bool, true, List, ◌∷◌, replicate, IsTrue, sym, ap, subst, arith}
 use Rattle.std.proofs.lemmas.Bool.{cases_eq}
 use Rattle.std.proofs.lemmas.List.{length-replicate}

@@ -1,4 +1,4 @@
--- What the work on a job prints, by its steps.
+-- What the work on a job prints, by its steps. What stands on `out` when a command ends, step by step.
 use Rattle.std.proofs.Common.{◌≡◌, ◌≤◌, ◌<◌, ◌+◌, ◌^◌, ◌++◌, ◌==◌, ◌∙◌, inl, inr, refl, sym, ap, subst, arith, append-nil, ℕ, zero, suc, Bool, true, false, List, [], ◌∷◌, length, get_or, sum_by, Option, Some, None, IfSome, IsSome, IsSomeAnd, Result, Ok, Err, IsErr}
 use Rattle.std.proofs.lemmas.Bool.{and_parts, eqb-true}
 use Rattle.std.proofs.lemmas.List.Sums.{sum_by-cons}

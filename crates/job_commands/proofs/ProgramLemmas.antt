@@ -1,4 +1,4 @@
--- From the steps of `program` and `begin` to their ends.
+-- From the steps of `program` and `begin` to their ends. Each step that may end them has its lemma.
 use Rattle.std.proofs.Common.{◌≡◌, ◌≢◌, ◌≤◌, ◌⊎◌, ⊎_elim, ◌∙◌, inl, inr, refl, sym, subst, ℕ, Bool, true, false, IsTrue, List, length, Option, option_copied, None}
 use Rattle.std.specs.Option.{ForSome}
 use Rattle.bench_model.specs.History.{left}

@@ -1,4 +1,4 @@
--- A job is begun (a to b), by a call of the job file.
+-- A job is begun (a to b), by a call of the job file. `start` is the same for both commands that begin a job.
 use Rattle.std.proofs.Common.{◌≡◌, ◌⊎◌, ⊎_elim, inl, inr, refl, ◌∙◌, append-nil, ℕ, Bool, List, [], ◌∷◌, length, IsTrue, None, Err, sym, ap, subst}
 use Rattle.outside_io.specs.State.{SinkState}
 use Rattle.bench_model.specs.History.{left, Leaves, LeftOnly}

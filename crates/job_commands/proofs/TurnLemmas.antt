@@ -1,4 +1,4 @@
--- A stretch of moments before pairs, or cells, in turn.
+-- A stretch of moments before pairs, or cells, in turn. A command joins what a stop may leave of its steps by them.
 use Rattle.std.proofs.Common.{◌≡◌, ◌∙◌, ⊎_elim, refl, sym, subst, ◌≤◌, ◌<◌, ◌+◌, ℕ, List, Option, Some, None, arith}
 use Rattle.std.proofs.lemmas.Bool.{cases_lt}
 use Rattle.bench_model.specs.History.{left, Leaves}

@@ -1,4 +1,4 @@
--- The parts of a body are put one behind the other.
+-- The parts of a body are put one behind the other. `put_body` and its parts write it so.
 use Rattle.std.proofs.Common.{◌≡◌, ◌≤◌, ◌<◌, ◌+◌, ◌-◌, ◌*◌, ◌^◌, ◌∙◌, ℕ, Bool, IsTrue, List, [], ◌∷◌, ◌++◌, length, take, drop, Result, Ok, Err, refl, sym, ap, arith, append_assoc, length-append}
 use Rattle.std.specs.List.{flat_map}
 use Rattle.std.specs.Prelude.{slice_get, Some}

@@ -1,4 +1,4 @@
--- What the steps of `put_job` leave.
+-- What the steps of `put_job` leave. So a stop at any of them leaves the file free or whole.
 use Rattle.std.proofs.Common.{◌≡◌, ◌≢◌, inl, inr, ◌≤◌, ◌+◌, ℕ, List, [], ◌∷◌, ◌++◌, length, take, refl, sym, ◌∙◌, ap, arith}
 use Rattle.std.proofs.lemmas.List.{drop_all, append-nil}
 use Rattle.std.proofs.lemmas.Bool.{cases_eq}

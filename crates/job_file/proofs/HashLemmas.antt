@@ -1,4 +1,4 @@
--- A file is hashed window by window.
+-- A file is hashed window by window. `put_hashed` and `find_damage` hash so.
 use Rattle.std.proofs.Common.{◌≡◌, ◌≤◌, ◌<◌, ◌+◌, ◌-◌, ◌++◌, ◌∙◌, ℕ, List, Bool, true, false, not, ◌&&◌, nat_eq, leb, IsTrue, if◌then◌else◌, length, take, drop, Option, Some, None, Bor, refl, sym, ap, subst, arith}
 use Rattle.std.specs.Prelude.{bytes_eq, option_copied}
 use Rattle.std.specs.List.{concat}

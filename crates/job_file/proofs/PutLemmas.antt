@@ -1,4 +1,4 @@
--- A body is written behind a closed gate.
+-- A body is written behind a closed gate. While the gate is closed, whatever a stop leaves is a free file.
 use Rattle.std.proofs.Common.{◌≡◌, ◌≤◌, ◌+◌, ◌-◌, ◌++◌, ◌∷◌, ◌∙◌, ℕ, List, Bool, IsTrue, length, take, drop, refl, sym, ap, subst, arith, append_assoc}
 use Rattle.std.proofs.lemmas.List.{append-nil, take_all}
 use Rattle.std.proofs.Math.Seq.{take-add}

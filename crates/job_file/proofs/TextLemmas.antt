@@ -1,4 +1,4 @@
--- The snapshot in the file of a job.
+-- The snapshot in the file of a job. `snapshot_into` reads bytes of it.
 use Rattle.std.proofs.Common.{◌≡◌, ◌≤◌, ◌+◌, ℕ, Bool, true, false, leb, ltb, List, [], ◌∷◌, length, refl, sym, ap, ◌∙◌, arith}
 use Rattle.std.specs.List.{list_any}
 use Rattle.std.proofs.lemmas.Bool.{leb-true, ltb-true, and_parts}

@@ -1,4 +1,4 @@
--- The texts of a job, one behind the other.
+-- The texts of a job, one behind the other. `read_said` takes them so.
 use Rattle.std.proofs.Common.{◌≡◌, ◌≢◌, ◌≤◌, ◌+◌, ◌∙◌, ℕ, Bool, true, false, not, ◌||◌, cond, nat_eq, IsTrue, List, ◌++◌, length, take, drop, slice_get, Option, Some, None, Result, Ok, Err, refl, sym, ap, subst, arith}
 use Rattle.std.proofs.lemmas.Bool.{eq-eqb, ne_eqb}
 use Rattle.std.proofs.lemmas.List.{length-drop, drop-drop}

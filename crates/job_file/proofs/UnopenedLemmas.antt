@@ -1,4 +1,4 @@
--- Before the gate is opened.
+-- Before the gate is opened. For `begin`, which has prepared all by then.
 use Rattle.std.proofs.Common.{◌≡◌, ⊎_elim, inl, inr, false, Result, Ok, Err}
 use Rattle.bench_model.specs.History.{Half, left, Leaves, AddsNothing}
 use Rattle.bench_model.proofs.Moments.{leaves_then, leaves_as, leaves_left}

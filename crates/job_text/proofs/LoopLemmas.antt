@@ -1,4 +1,4 @@
--- Runs taken one after the other, as a loop does.
+-- Runs taken one after the other, as a loop does. `take_runs`, and `read_runs` over a file in windows, go on by them.
 use Rattle.std.proofs.Common.{◌≡◌, IsTrue, ℕ, suc, ◌-◌, ◌+◌, ◌*◌, ◌≤◌, ◌<◌, List, [], ◌∷◌, ◌++◌, length, Result, Ok, Err, refl, sym, ap, subst, ◌∙◌, append_assoc, arith}
 use Rattle.std.proofs.lemmas.List.{append-nil, length-append}
 use Rattle.faults.specs.Results.{◌>>=◌}

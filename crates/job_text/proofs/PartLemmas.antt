@@ -1,4 +1,4 @@
--- The parts of a job, as they are written.
+-- The parts of a job, as they are written. Writers put them one behind the other.
 use Rattle.std.proofs.Common.{◌≡◌, ◌⊎◌, inl, inr, ◌<◌, ◌+◌, ◌^◌, ℕ, take, drop, List, [], ◌∷◌, ◌++◌, length, replicate, Option, Some, None, refl, sym, ap, subst, ◌∙◌, append_assoc, arith}
 use Rattle.std.specs.List.{concat, flat_map}
 use Rattle.std.specs.Prelude.{slice_get, option_copied}

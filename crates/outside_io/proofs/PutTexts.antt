@@ -1,4 +1,4 @@
--- Texts that are put one after the other.
+-- Texts that are put one after the other. Every command joins what it has put by them.
 use Rattle.std.proofs.Common.{◌≡◌, ◌<◌, ◌+◌, ◌++◌, ◌∙◌, sym, ap, subst, refl, arith, Bool, ℕ, List, [], take, drop, length, get_or, append_assoc, append-nil, add-one, Result, Ok, Err, IsErr}
 use Rattle.std.proofs.Math.Seq.{take-suc}
 use Rattle.std.proofs.lemmas.List.{take-append-drop}

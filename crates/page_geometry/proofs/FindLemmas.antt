@@ -1,4 +1,4 @@
--- From a number or a place to its run, sector and page.
+-- From a number or a place to its run, sector and page. `find_sector`, `find_page` and `find_place` search the tables so.
 use Rattle.std.proofs.Common.{◌≡◌, ℕ, ◌+◌, ◌-◌, ◌*◌, ◌/◌, ◌%◌, ◌<◌, ◌≤◌, sym, ap, subst, arith, ◌∙◌, List, length, slice_index, inl, inr}
 use Rattle.std.proofs.Math.Nat.{div-add-mod'}
 use Rattle.std.proofs.lemmas.Nat.{mod_below}

@@ -1,4 +1,4 @@
--- A text of records has one image or one fault.
+-- A text of records has one image or one fault. The laws of both formats, and of files of any form, rest on it.
 use Rattle.std.proofs.Common.{◌≡◌, ◌<◌, ◌≤◌, ◌+◌, ◌^◌, ◌∙◌, sym, ap, subst, arith, ⊎_elim, ℕ, true, List, length, Some}
 use Rattle.std.proofs.lemmas.Bool.{cases_lt}
 use Rattle.byte_map.specs.Image.{Run}

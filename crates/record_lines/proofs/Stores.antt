@@ -1,4 +1,4 @@
--- Runs whose bytes are kept in one list.
+-- Runs whose bytes are kept in one list. For `Gathered::push` and `push_runs`.
 use Rattle.std.proofs.Common.{◌≡◌, ◌+◌, ◌<◌, ◌∙◌, ℕ, List, [], ◌∷◌, ◌++◌, length, take, drop, Some, refl, sym, ap, arith, append_assoc, length-drop}
 use Rattle.std.specs.Prelude.{map, slice_get}
 use Rattle.std.specs.List.{All}

@@ -1,4 +1,4 @@
--- The union of runs, in whatever order they are laid.
+-- The union of runs, in whatever order they are laid. So lines may be gathered first, and be laid by rising address.
 use Rattle.std.proofs.Common.{◌≡◌, ◌+◌, ◌<◌, ◌∙◌, ℕ, List, [], ◌∷◌, ◌++◌, length, get_or, take, Some, None, Result, Ok, Err, Bool, true, false, cond, refl, sym, ap, subst, arith}
 use Rattle.std.specs.Result.{OnOk, result_ok}
 use Rattle.std.specs.List.{All}

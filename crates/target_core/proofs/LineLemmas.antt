@@ -1,4 +1,4 @@
--- A load that lies in the RAM.
+-- A load that lies in the RAM. For the loads of `Line`.
 use Rattle.std.proofs.Common.{◌≡◌, ℕ, length, Option, Some, option_map, Result, Ok, sym, ap, subst, arith, ◌∙◌, inr}
 use Rattle.std.proofs.lemmas.Bool.{false≢true}
 use Rattle.bench_model.specs.declared.bench.Bench.{Ghosts}

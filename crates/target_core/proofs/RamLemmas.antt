@@ -1,4 +1,4 @@
--- The RAM as a window of an arena.
+-- The RAM as a window of an arena. All that loads, stores or clears RAM of a target in an arena goes by them.
 use Rattle.std.proofs.Common.{◌≡◌, ◌≢◌, ◌<◌, ◌+◌, ℕ, zero, suc, List, [], ◌∷◌, ◌++◌, take, drop, length, get_or, set, append-nil, drop_of_length-le, refl, sym, ap, subst, ◌∙◌, arith, length-set, get_or-set_same, get_or-set_other, set-set}
 use lib.Seq.{set-get_or}
 use Rattle.target_core.specs.Windows.{window_of, IsRam, OnlyIn}
