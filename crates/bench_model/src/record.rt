@@ -38,8 +38,13 @@ impl Model for Record {
 
     ghost Value = { Recorded };
 
-    ghost view = { λ r. record { made = at_rest r.made_file.items r.made_cells.items; events = events_of r.changes.items r.handed.items; used = r.used;
-        room = r.room; longest = r.longest } };
+    ghost view = { λ r. record {
+      made = at_rest r.made_file.items r.made_cells.items;
+      events = events_of r.changes.items r.handed.items;
+      used = r.used;
+      room = r.room;
+      longest = r.longest;
+    } };
 
     ghost invariant = { λ r. IsSound (at_rest r.made_file.items r.made_cells.items) r.changes.items r.handed.items r.synced.items r.marks.items
         r.used r.room r.longest (vec_capacity r.changes) (vec_capacity r.handed) (vec_capacity r.made_file) (vec_capacity r.synced) (vec_capacity r.marks) };

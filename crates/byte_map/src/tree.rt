@@ -489,8 +489,10 @@ pub fn prepend(side: &mut Side, index: usize, front: &[u8], middle: &[u8]) -> Re
     requires within { index < length (runs_of side.old) }
     requires fits { length front.now + length middle.now ≤ (run_at (runs_of side.old) index).at }
     ensures ok { let run = run_at (runs_of side.old) index in OnOk result
-        (runs_of side.new ≡ set (runs_of side.old) index (record { at = run.at - (length front.now + length middle.now);
-        bytes = front.now ++ (middle.now ++ run.bytes) })) }
+        (runs_of side.new ≡ set (runs_of side.old) index (record {
+          at = run.at - (length front.now + length middle.now);
+          bytes = front.now ++ (middle.now ++ run.bytes);
+        })) }
     ensures err { OnErr result (runs_of side.new ≡ runs_of side.old) }
 {
     let Some(top) = side else { unreachable!() };

@@ -22,8 +22,13 @@ leaf name = with_rule (with_rule (new_app name) raw_rule) names_rule
 
 -- the program with no words of its own, no help and no version
 abbrev pub bare : App
-bare = on_top (λ s. record s { no_binary_name = true; disable_help_flag = true; disable_help_subcommand = true; disable_version_flag = true;
-    subcommand_required = true }) (new_app (codes "flm_tool"))
+bare = on_top (λ s. record s {
+  no_binary_name = true;
+  disable_help_flag = true;
+  disable_help_subcommand = true;
+  disable_version_flag = true;
+  subcommand_required = true;
+}) (new_app (codes "flm_tool"))
 
 -- with one command more
 abbrev pub with_leaf : App → List ℕ → App

@@ -30,8 +30,13 @@ impl Model for Plan {
 
     ghost Value = { PlanView };
 
-    ghost view = { λ p. record { made = made_of p.chip p.sectors.items p.pages.items p.cost; marks = p.marks.items; count = p.fed;
-        sectors_spare = vec_capacity p.sectors; pages_spare = min (vec_capacity p.pages) (vec_capacity p.marks) } };
+    ghost view = { λ p. record {
+      made = made_of p.chip p.sectors.items p.pages.items p.cost;
+      marks = p.marks.items;
+      count = p.fed;
+      sectors_spare = vec_capacity p.sectors;
+      pages_spare = min (vec_capacity p.pages) (vec_capacity p.marks);
+    } };
 }
 
 impl Plan {

@@ -90,8 +90,10 @@ made_by made call_end.DeviceFault = made
 
 abbrev pub Judges : GangTarget → Call → ℕ → Cursor → RunEnd → GangTarget → Type 0
 Judges old call len next end new =
-    new ≡ record old { made = made_by old.made (call_end_of (success_of call len) end);
-    place = judged old.made call next (call_end_of (success_of call len) end) }
+    new ≡ record old {
+      made = made_by old.made (call_end_of (success_of call len) end);
+      place = judged old.made call next (call_end_of (success_of call len) end);
+    }
 
 -- what the close leaves of the file
 abbrev pub EndFile : TargetEnd → List ℕ → List ℕ → Type 0
