@@ -9,7 +9,7 @@ ghost use Rattle.board_file.specs.declared.kind.ControllerKind.{ControllerKind};
 ghost use Rattle.board_file.specs.Shown.{shown};
 ghost use Rattle.flash_layout.specs.Maps.{map_for, map_of, in_quiet};
 
-use crate::{Area, FlashMap, Found, SectorCells};
+use crate::{Area, Found, SectorCells};
 use board_file::{Board, QuietRange, SectorRun};
 use faults::OutOfMemory;
 use std::alloc::Global;
