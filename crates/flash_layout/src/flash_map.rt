@@ -1,18 +1,13 @@
 //! Where the cells of a board lie.
-ghost use Rattle.std.specs.Prelude.{◌≡◌, ◌<◌, ◌^◌, IfSome, IsTrue, length, IfOk};
+ghost use Rattle.std.specs.Prelude.{◌≡◌, ◌<◌, ◌^◌, IfSome, IsTrue, length};
 ghost use Rattle.std.specs.List.{list_all};
 ghost use Rattle.board_file.specs.Limits.{run_fits};
 ghost use Rattle.flash_layout.specs.Areas.{all_fit, cells_in, find, sector_of, sector_cells, AreInside, FoundInside, IsFirst};
 ghost use Rattle.board_file.specs.Limits.{cells_of};
 ghost use Rattle.board_file.specs.Laws.{sector_at};
-ghost use Rattle.board_file.specs.declared.kind.ControllerKind.{ControllerKind};
-ghost use Rattle.board_file.specs.Shown.{shown};
-ghost use Rattle.flash_layout.specs.Maps.{map_for, map_of, in_quiet};
 
 use crate::{Area, Found, SectorCells};
-use board_file::{Board, QuietRange, SectorRun};
-use faults::OutOfMemory;
-use std::alloc::Global;
+use board_file::{QuietRange, SectorRun};
 
 /// The areas of a board in order, the sectors of all of them in order, the controller's registers and its ticks.
 #[derive(Debug, Drop)]
@@ -101,37 +96,5 @@ impl FlashMap {
     {
         let found = self.find(at)?;
         self.sector_in(found.place, found.area.empty)
-    }
-
-    /// The map of a board: its regions in order, and the sectors of all of them.
-    pub fn of(alloc: Global, board: &Board) -> Result<FlashMap, OutOfMemory>
-        ensures { IfOk result (λ layout. (kind : ControllerKind) → map_of kind layout ≡ map_for kind (shown board.now)) }
-    {
-        let mut areas = Vec::new(alloc);
-        let mut runs = Vec::new(alloc);
-        for region in board.regions.as_slice() {
-            areas.push(Area::of(region))?;
-            runs.extend_from_slice(region.sectors.as_slice())?;
-        }
-        let mut quiet = Vec::new(alloc);
-        quiet.extend_from_slice(board.quiet.as_slice())?;
-        Ok(FlashMap {
-            areas,
-            runs,
-            base: board.controller_base,
-            program_ticks: board.program_ticks,
-            erase_ticks: board.erase_ticks,
-            chip_ticks: board.chip_ticks,
-            quiet,
-        })
-    }
-
-    /// Whether the address lies in a quiet range.
-    pub fn is_quiet(&self, at: u32) -> bool
-        ensures { result ≡ in_quiet self.now.quiet.items at }
-    {
-        self.quiet
-            .iter()
-            .any(|range| at >= range.base && at - range.base < range.size)
     }
 }

@@ -11,6 +11,8 @@ mod cells;
 mod flash_map;
 mod law;
 mod lock;
+mod of_board;
+mod quiet;
 mod work;
 
 pub use area::{Area, Found, SectorCells};
