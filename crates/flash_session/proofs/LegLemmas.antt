@@ -14,8 +14,8 @@ use Rattle.target_core.specs.Units.{state_op}
 use Rattle.algo_calls.specs.Setups.{Setup, setup_of}
 use Rattle.algo_calls.specs.Duties.{Site, part, device_of, site_of}
 use Rattle.algo_calls.proofs.KeptLemmas.{board_in}
-use Rattle.flash_session.specs.declared.session_end.SessionEnd.{SessionEnd}
-use Rattle.flash_session.specs.declared.session_end.SessionEnd.TheVariants as end
+use Rattle.flash_session.specs.declared.session.SessionEnd.{SessionEnd}
+use Rattle.flash_session.specs.declared.session.SessionEnd.TheVariants as end
 use Rattle.flash_session.specs.Moves.{Move, Reset, Stand, run, IsWithin, IsLeftOnWay}
 use Rattle.flash_session.specs.Script.{Planned, errand, Leg, leg, Torn, Broken, torn_first, torn_rest, phases, legs_of, script}
 use Rattle.flash_session.specs.Outcome.{GoTo, Follows, is_device_end, is_store_end, IsReached}

@@ -9,13 +9,13 @@ use Rattle.readback.specs.declared.compare.Difference.{Difference}
 use Rattle.algo_calls.specs.declared.call.Call.{Call}
 use Rattle.algo_calls.specs.declared.call.CallEnd.{CallEnd}
 use Rattle.algo_calls.specs.Shows.{world_in}
-use Rattle.flash_session.specs.declared.session_end.Reached.{Reached}
-use Rattle.flash_session.specs.declared.session_end.SessionEnd.{SessionEnd}
-use Rattle.flash_session.specs.declared.session_end.SessionEnd.TheVariants as end
+use Rattle.flash_session.specs.declared.session.Reached.{Reached}
+use Rattle.flash_session.specs.declared.session.SessionEnd.{SessionEnd}
+use Rattle.flash_session.specs.declared.session.SessionEnd.TheVariants as end
 use Rattle.flash_session.specs.declared.machines.Machines.{Machines}
-use Rattle.flash_session.specs.declared.errand.Errand.{Errand}
-use Rattle.flash_session.specs.declared.stopped.Stopped.{Stopped}
-use Rattle.flash_session.specs.declared.stopped.Stopped.TheVariants as stopped
+use Rattle.flash_session.specs.declared.script.Errand.{Errand}
+use Rattle.flash_session.specs.declared.driver.Stopped.{Stopped}
+use Rattle.flash_session.specs.declared.driver.Stopped.TheVariants as stopped
 use Rattle.flash_session.specs.Differs.{IsFirstDifference, Compares}
 use Rattle.bench_model.specs.Calls.{IsRead}
 use Rattle.flash_session.specs.Moves.{Move, Stand, Failure, failure, run, IsLeftOnWay}

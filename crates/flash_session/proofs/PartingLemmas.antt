@@ -12,8 +12,8 @@ use Rattle.algo_calls.specs.Setups.{Setup, setup_of}
 use Rattle.algo_calls.specs.Shows.{setup_in, map_in}
 use Rattle.flash_session.specs.declared.machines.Machines.{Machines}
 use Rattle.flash_session.specs.declared.parts.Work.{Work}
-use Rattle.flash_session.specs.declared.region_survey.RegionSurvey.{RegionSurvey}
-use Rattle.flash_session.specs.declared.region_survey.Survey.{Survey}
+use Rattle.flash_session.specs.declared.survey.RegionSurvey.{RegionSurvey}
+use Rattle.flash_session.specs.declared.survey.Survey.{Survey}
 use Rattle.flash_session.specs.Drivers.{of_region, setup_on, map_on, setups_of, one_or_both}
 use Rattle.flash_session.specs.Parts.{ArePartsOf, GivesPart, GivesLater}
 use Rattle.flash_session.specs.Script.{Planned}

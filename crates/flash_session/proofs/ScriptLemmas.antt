@@ -5,8 +5,8 @@ use Rattle.std.proofs.lemmas.List.{append-nil}
 use Rattle.bench_model.specs.State.{BenchState}
 use Rattle.algo_calls.specs.Setups.{Setup}
 use Rattle.flash_session.specs.declared.machines.Machines.{Machines}
-use Rattle.flash_session.specs.declared.stopped.Stopped.{Stopped}
-use Rattle.flash_session.specs.declared.errand.Errand as code
+use Rattle.flash_session.specs.declared.driver.Stopped.{Stopped}
+use Rattle.flash_session.specs.declared.script.Errand as code
 use Rattle.flash_session.specs.Moves.{Move, Reset}
 use Rattle.flash_session.specs.Drivers.{setup_on, SameMachines, errand_in, leg_on, later_legs, legs_on}
 use Rattle.flash_session.specs.Plays.{AreAtBench, PlaysOn}

@@ -13,8 +13,8 @@ use Rattle.algo_calls.specs.Calls.{after_reset, broken_off}
 use Rattle.algo_calls.specs.Shows.{setup_in, world_in, map_in}
 use Rattle.flash_session.specs.declared.driver.Driver.{Driver}
 use Rattle.flash_session.specs.declared.machines.Machines.{Machines}
-use Rattle.flash_session.specs.declared.stopped.Stopped.{Stopped}
-use Rattle.flash_session.specs.declared.stopped.Stopped.TheVariants as stopped
+use Rattle.flash_session.specs.declared.driver.Stopped.{Stopped}
+use Rattle.flash_session.specs.declared.driver.Stopped.TheVariants as stopped
 use Rattle.flash_session.specs.Moves.{Move, Reset, Stand, stand_at, Failure, reset_to, run, IsWithin, IsOnPath, IsLeftOnWay}
 use Rattle.flash_session.specs.Drivers.{setup_for, stand_of, of_region, calls_of, setup_on, map_on, AreTwins, SameMachines, IsTurned}
 use Rattle.flash_session.specs.Plays.{EndsAs, Went, Plays, is_device_stop, is_store_stop, AreAtBench, PlaysOn}

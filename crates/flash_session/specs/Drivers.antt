@@ -9,9 +9,9 @@ use Rattle.algo_calls.specs.Setups.{Setup}
 use Rattle.algo_calls.specs.Shows.{setup_in, world_in, map_in}
 use Rattle.flash_session.specs.declared.driver.Driver.{Driver}
 use Rattle.flash_session.specs.declared.machines.Machines.{Machines}
-use Rattle.flash_session.specs.declared.errand.Errand as code
+use Rattle.flash_session.specs.declared.script.Errand as code
 use Rattle.flash_session.specs.declared.goal.Goal.{Goal}
-use Rattle.flash_session.specs.declared.region_survey.RegionSurvey.{RegionSurvey}
+use Rattle.flash_session.specs.declared.survey.RegionSurvey.{RegionSurvey}
 use Rattle.job_text.specs.declared.job.Job.{Job}
 use Rattle.flash_session.specs.Moves.{Stand, stand_at}
 use Rattle.flash_session.specs.Script.{Planned, planned, Errand, errand, IsErrand, Leg, leg}

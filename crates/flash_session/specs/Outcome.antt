@@ -5,8 +5,8 @@ use Rattle.bench_model.specs.State.{BenchState, cells_half}
 use Rattle.target_core.specs.World.{World}
 use Rattle.algo_calls.specs.declared.call.Call.{Call}
 use Rattle.algo_calls.specs.declared.call.CallEnd.{CallEnd}
-use Rattle.flash_session.specs.declared.session_end.SessionEnd.{SessionEnd}
-use Rattle.flash_session.specs.declared.session_end.SessionEnd.TheVariants as end
+use Rattle.flash_session.specs.declared.session.SessionEnd.{SessionEnd}
+use Rattle.flash_session.specs.declared.session.SessionEnd.TheVariants as end
 use Rattle.flash_session.specs.Differs.{IsFirstDifference}
 use Rattle.flash_session.specs.Moves.{Move, Stand, failure, run, IsLeftOnWay}
 use Rattle.flash_session.specs.Plays.{BreaksOff, IsNotDone}

@@ -12,7 +12,7 @@ use Rattle.flash_session.specs.declared.parts.Parts.{Parts}
 use Rattle.flash_session.specs.declared.parts.Work.{Work}
 use Rattle.flash_session.specs.Script.{Planned}
 use Rattle.flash_layout.specs.Maps.{board_map}
-use Rattle.flash_session.specs.declared.region_survey.RegionSurvey.{RegionSurvey}
+use Rattle.flash_session.specs.declared.survey.RegionSurvey.{RegionSurvey}
 use Rattle.flash_session.specs.Starts.{start_of}
 use Rattle.flash_session.specs.Surveys.{planned_of}
 use Rattle.flash_session.specs.SurveyFacts.{IsWorkFor}

@@ -15,13 +15,12 @@ ghost use Rattle.flash_session.specs.Surveys.{survey_shown};
 ghost use Rattle.flash_session.specs.SurveyFacts.{IsSurvey};
 
 use crate::compare::{Unread, compare};
-use crate::errand::Errand;
+use crate::driver::Stopped;
 use crate::goal::Goal;
 use crate::machines::Machines;
-use crate::region_survey::{RegionSurvey, Survey};
-use crate::script::play;
-use crate::session_end::{Reached, SessionEnd};
-use crate::stopped::Stopped;
+use crate::script::{Errand, play};
+use crate::session::{Reached, SessionEnd};
+use crate::survey::{RegionSurvey, Survey};
 use bench_model::Bench;
 use job_text::Job;
 

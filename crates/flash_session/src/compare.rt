@@ -6,9 +6,8 @@ ghost use Rattle.flash_session.specs.Differs.{Compares, FindsIn};
 ghost use Rattle.bench_model.specs.Calls.{IsRead};
 ghost use Rattle.flash_session.specs.Reads.{HasGoal, is_unread_store, is_unread_device};
 
-use crate::errand::Errand;
-use crate::goal::want_into;
-use crate::windows::{WINDOW, window_end};
+use crate::goal::{WINDOW, want_into, window_end};
+use crate::script::Errand;
 use bench_model::{Bench, DeviceFault, StoreFault};
 use readback::{Difference, first_difference};
 

@@ -1,6 +1,5 @@
 //! The machines of a board's regions.
-use crate::driver::Driver;
-use crate::stopped::Stopped;
+use crate::driver::{Driver, Stopped};
 use algo_calls::{Call, Calls};
 use bench_model::Bench;
 use std::mem;

@@ -10,7 +10,7 @@ ghost use Rattle.flash_session.specs.SurveyFacts.{IsSurvey};
 use crate::driver::Driver;
 use crate::goal::Goal;
 use crate::machines::Machines;
-use crate::region_survey::{RegionSurvey, Survey};
+use crate::survey::{RegionSurvey, Survey};
 use algo_calls::{Calls, CallsIn};
 use erase_planner::Plan;
 use job_text::Job;

@@ -1,5 +1,5 @@
 //! The survey of a job's regions.
-ghost use Rattle.std.specs.Prelude.{◌≡◌, ◌<◌, ◌≤◌, ◌+◌, ◌^◌, ◌∷◌, option_to_list, IsTrue, IfOk, None};
+ghost use Rattle.std.specs.Prelude.{◌≡◌, ◌<◌, ◌≤◌, ◌+◌, ◌^◌, ◌∷◌, option_to_list, IsTrue, IfOk, None, ◌++◌, ℕ, List, All, length, take, drop, is_some, IsOk, OnOk};
 ghost use Rattle.bench_model.specs.Calls.{IsRead};
 ghost use Rattle.bench_model.specs.Device.{HasDeviceCause};
 ghost use Rattle.board_file.specs.Limits.{size_of};
@@ -12,17 +12,255 @@ ghost use Rattle.flash_session.specs.Goals.{goal_in};
 ghost use Rattle.flash_session.specs.Starts.{later_shown};
 ghost use Rattle.flash_session.specs.Surveys.{HasSurveyed, survey_shown, is_survey_device, is_survey_store};
 ghost use Rattle.flash_session.specs.SurveyFacts.{HasRoom, IsSurvey};
+ghost use Rattle.erase_planner.specs.Marks.{Covers, Fed, SpareStays};
+ghost use Rattle.erase_planner.specs.Plans.{IsLeastPlan};
 
+use crate::driver::{algorithms_of, machines_for};
 use crate::fault::SurveyFault;
-use crate::goal::Goal;
-use crate::region_survey::{Aim, RegionSurvey, Survey, read_and_plan, zeros};
-use crate::target::{algorithms_of, machines_for};
-use bench_model::Bench;
-use erase_planner::Plan;
+use crate::goal::{Goal, WINDOW, want_into, window_end};
+use crate::machines::Machines;
+use bench_model::{Bench, DeviceFault, StoreFault};
+use erase_planner::{Plan, plan_feed, plan_finish, plan_start};
+use faults::OutOfMemory;
 use flm_descriptor::Algorithm;
 use job_text::Job;
 use page_geometry::Geometry;
+use readback::read_cells;
 use std::alloc::Global;
+
+/// What a survey found in a region: the sectors and pages, what to erase and to program of them, the address of the first byte, and the
+/// place of the first cell.
+#[derive(Drop)]
+pub(crate) struct RegionSurvey {
+    pub geometry: Geometry,
+    pub plan: Plan,
+    pub base: u32,
+    pub start: u32,
+}
+
+/// What a survey found in the first region and, where the board has two, in the second, and to which goal; and what the script needs: the
+/// machines with their algorithms, and a buffer for a page of either.
+#[derive(Drop)]
+pub(crate) struct Survey {
+    pub first: RegionSurvey,
+    pub second: Option<RegionSurvey>,
+    pub goal: Goal,
+    pub machines: Machines,
+    pub page: Vec<u8>,
+}
+
+impl Survey {
+    ghost use Rattle.std.specs.Prelude.{◌≡◌, ◌<◌, length, get_or};
+    ghost use Rattle.flash_session.specs.declared.survey.RegionSurvey.{RegionSurvey};
+    ghost use Rattle.flash_session.specs.Surveys.{regions_of};
+
+    /// What was found in a region.
+    pub fn region(&self, region: usize) -> &RegionSurvey
+        requires { region < length (regions_of self.now) }
+        ensures { (other : RegionSurvey) → result.now ≡ get_or (regions_of self.now) region other }
+    {
+        if region == 0 {
+            return &self.first;
+        }
+        match &self.second {
+            Some(second) => second,
+            None => unreachable!(),
+        }
+    }
+}
+
+/// What is surveyed: the cells of a region, for a goal.
+#[derive(Clone, Copy)]
+struct Aim<'a> {
+    job: &'a Job,
+    algorithm: &'a Algorithm,
+    geometry: &'a Geometry,
+    start: u32,
+    goal: Goal,
+}
+
+/// So many bytes, all zero.
+fn zeros(alloc: Global, len: usize) -> Result<Vec<u8>, OutOfMemory>
+    ensures { IfOk result (λ bytes. length bytes.items ≡ len) }
+{
+    Ok(vec![in alloc; 0u8; len]?)
+}
+
+/// Reads as many cells, and as many bytes of the goal, as the windows hold, from place `at` of all cells on.
+fn read_window<B: Bench>(
+    bench: &mut B,
+    aim: &Aim,
+    at: u32,
+    cells: &mut [u8],
+    wanted: &mut [u8],
+) -> Result<(), SurveyFault>
+    requires range { at + length cells.old ≤ size_of aim.now.job.now.board.regions }
+    requires same { length wanted.old ≡ length cells.old }
+    requires count { (B.state bench.old).cell_count ≡ size_of aim.now.job.now.board.regions }
+    requires idle { IsTrue B.tells → (B.state bench.old).operation ≡ None }
+    requires stands { IsTrue B.tells → StandsFor aim.now.job.now (B.state bench.old).file }
+    ensures cells { IsTrue B.tells → OnOk result (cells.new ≡ take (length cells.old) (drop at (B.state bench.old).cells)) }
+    ensures wanted { IsTrue B.tells → OnOk result (wanted.new ≡ take (length cells.old)
+        (drop at (goal_in aim.now.job.now aim.now.goal (B.state bench.old).file))) }
+    ensures reads { IsRead B.tells (B.state bench.old) (B.state bench.new) }
+    ensures store { IsCounted (B.state bench.old).store_faults (B.state bench.new).store_faults (is_survey_store result) }
+    ensures device { HasDeviceCause (B.state bench.old).device_faults (B.state bench.new).device_faults (is_survey_device result) }
+{
+    match read_cells(bench, at, cells) {
+        Ok(()) => {}
+        Err(DeviceFault) => return Err(SurveyFault::DeviceFault),
+    }
+    match want_into(bench, aim.job, aim.goal, at, wanted) {
+        Ok(()) => Ok(()),
+        Err(StoreFault) => Err(SurveyFault::StoreFault),
+    }
+}
+
+/// Feeds a plan in the making with the next cells and wanted bytes.
+fn feed(aim: &Aim, cells: &[u8], wanted: &[u8], plan: &mut Plan)
+    requires making { length plan.old.marks ≡ length aim.now.geometry.now.pages }
+    requires same { length cells.now ≡ length wanted.now }
+    requires room { plan.old.count + length cells.now ≤ aim.now.geometry.now.size }
+    ensures fed { (o w : List ℕ) → Fed aim.now.geometry.now aim.now.algorithm.now.device.empty plan.old o w
+        → Fed aim.now.geometry.now aim.now.algorithm.now.device.empty plan.new (o ++ cells.now) (w ++ wanted.now) }
+    ensures making { length plan.new.marks ≡ length aim.now.geometry.now.pages }
+    ensures count { plan.new.count ≡ plan.old.count + length cells.now }
+    ensures spare { SpareStays plan.old plan.new }
+    ensures cells { All (λ v. v < 2 ^ 8) cells.now }
+    ensures wanted { All (λ v. v < 2 ^ 8) wanted.now }
+{
+    let empty = aim.algorithm.device.empty;
+    plan_feed(aim.geometry, empty, cells, wanted, plan);
+}
+
+/// Surveys as many cells of the region as the windows hold, from its place `at` on.
+fn survey_window<B: Bench>(
+    bench: &mut B,
+    aim: &Aim,
+    at: u32,
+    cells: &mut [u8],
+    wanted: &mut [u8],
+    plan: &mut Plan,
+) -> Result<(), SurveyFault>
+    requires range { at + length cells.old ≤ aim.now.geometry.now.size }
+    requires same { length wanted.old ≡ length cells.old }
+    requires count { (B.state bench.old).cell_count ≡ size_of aim.now.job.now.board.regions }
+    requires inside { aim.now.start + aim.now.geometry.now.size ≤ size_of aim.now.job.now.board.regions }
+    requires idle { IsTrue B.tells → (B.state bench.old).operation ≡ None }
+    requires stands { IsTrue B.tells → StandsFor aim.now.job.now (B.state bench.old).file }
+    requires making { length plan.old.marks ≡ length aim.now.geometry.now.pages }
+    requires fed { plan.old.count ≡ at }
+    ensures fed { IsTrue B.tells → OnOk result ((o w : List ℕ) → Fed aim.now.geometry.now aim.now.algorithm.now.device.empty plan.old o w
+        → Fed aim.now.geometry.now aim.now.algorithm.now.device.empty plan.new
+        (o ++ take (length cells.old) (drop (aim.now.start + at) (B.state bench.old).cells))
+        (w ++ take (length cells.old) (drop (aim.now.start + at) (goal_in aim.now.job.now aim.now.goal (B.state bench.old).file)))) }
+    ensures making { OnOk result (length plan.new.marks ≡ length aim.now.geometry.now.pages) }
+    ensures count { OnOk result (plan.new.count ≡ at + length cells.old) }
+    ensures spare { OnOk result (SpareStays plan.old plan.new) }
+    ensures cells { IsTrue B.tells → OnOk result (All (λ v. v < 2 ^ 8) (take (length cells.old) (drop (aim.now.start + at) (B.state bench.old).cells))) }
+    ensures wanted { IsTrue B.tells → OnOk result (All (λ v. v < 2 ^ 8)
+        (take (length cells.old) (drop (aim.now.start + at) (goal_in aim.now.job.now aim.now.goal (B.state bench.old).file)))) }
+    ensures reads { IsRead B.tells (B.state bench.old) (B.state bench.new) }
+    ensures store { IsCounted (B.state bench.old).store_faults (B.state bench.new).store_faults (is_survey_store result) }
+    ensures device { HasDeviceCause (B.state bench.old).device_faults (B.state bench.new).device_faults (is_survey_device result) }
+{
+    match read_window(bench, aim, aim.start + at, cells, wanted) {
+        Ok(()) => {}
+        Err(fault) => return Err(fault),
+    }
+    feed(aim, cells, wanted, plan);
+    Ok(())
+}
+
+/// Ends a plan in the making, once it was fed with the whole region.
+fn finish(aim: &Aim, plan: &mut Plan)
+    requires covers { Covers aim.now.geometry.now plan.old }
+    requires making { length plan.old.marks ≡ length aim.now.geometry.now.pages }
+    requires whole { plan.old.count ≡ aim.now.geometry.now.size }
+    ensures plan { (o w : List ℕ) → Fed aim.now.geometry.now aim.now.algorithm.now.device.empty plan.old o w
+        → IsLeastPlan aim.now.geometry.now aim.now.job.now.board.weights (is_some aim.now.algorithm.now.entries.erase_chip)
+        aim.now.algorithm.now.device.empty o w plan.new.made }
+    ensures entry { IsTrue plan.new.made.chip → IsTrue (is_some aim.now.algorithm.now.entries.erase_chip) }
+{
+    let weights = &aim.job.board.weights;
+    let has_chip = aim.algorithm.entries.erase_chip.is_some();
+    plan_finish(aim.geometry, weights, has_chip, plan);
+}
+
+/// Surveys the region window by window.
+fn survey_windows<B: Bench>(
+    bench: &mut B,
+    aim: &Aim,
+    cells: &mut [u8],
+    wanted: &mut [u8],
+    plan: &mut Plan,
+) -> Result<(), SurveyFault>
+    requires covers { Covers aim.now.geometry.now plan.old }
+    requires cells { length cells.old ≡ WINDOW }
+    requires wanted { length wanted.old ≡ WINDOW }
+    requires count { (B.state bench.old).cell_count ≡ size_of aim.now.job.now.board.regions }
+    requires inside { aim.now.start + aim.now.geometry.now.size ≤ size_of aim.now.job.now.board.regions }
+    requires size { aim.now.geometry.now.size ≡ aim.now.algorithm.now.device.size }
+    requires idle { IsTrue B.tells → (B.state bench.old).operation ≡ None }
+    requires stands { IsTrue B.tells → StandsFor aim.now.job.now (B.state bench.old).file }
+    ensures plan { IsTrue B.tells → OnOk result (IsLeastPlan aim.now.geometry.now aim.now.job.now.board.weights
+        (is_some aim.now.algorithm.now.entries.erase_chip) aim.now.algorithm.now.device.empty
+        (take aim.now.algorithm.now.device.size (drop aim.now.start (B.state bench.old).cells))
+        (take aim.now.algorithm.now.device.size (drop aim.now.start (goal_in aim.now.job.now aim.now.goal (B.state bench.old).file))) plan.new.made) }
+    ensures entry { OnOk result (IsTrue plan.new.made.chip → IsTrue (is_some aim.now.algorithm.now.entries.erase_chip)) }
+    ensures bytes { IsTrue B.tells → OnOk result (All (λ v. v < 2 ^ 8) (take aim.now.algorithm.now.device.size
+        (drop aim.now.start (B.state bench.old).cells))) }
+    ensures wanted { IsTrue B.tells → OnOk result (All (λ v. v < 2 ^ 8)
+        (take aim.now.algorithm.now.device.size (drop aim.now.start (goal_in aim.now.job.now aim.now.goal (B.state bench.old).file)))) }
+    ensures reads { IsRead B.tells (B.state bench.old) (B.state bench.new) }
+    ensures store { IsCounted (B.state bench.old).store_faults (B.state bench.new).store_faults (is_survey_store result) }
+    ensures device { HasDeviceCause (B.state bench.old).device_faults (B.state bench.new).device_faults (is_survey_device result) }
+{
+    plan_start(aim.geometry, plan);
+    let count = aim.geometry.size() as usize;
+    let mut at = 0;
+    while at < count {
+        let end = window_end(at, count);
+        match survey_window(
+            bench,
+            aim,
+            at as u32,
+            &mut cells[..end - at],
+            &mut wanted[..end - at],
+            plan,
+        ) {
+            Ok(()) => {}
+            Err(fault) => return Err(fault),
+        }
+        at = end;
+    }
+    finish(aim, plan);
+    Ok(())
+}
+
+/// Reads the cells of a region, and plans from them to the goal. It takes no memory.
+fn read_and_plan<B: Bench>(bench: &mut B, aim: &Aim, plan: &mut Plan) -> Result<(), SurveyFault>
+    requires covers { Covers aim.now.geometry.now plan.old }
+    requires count { (B.state bench.old).cell_count ≡ size_of aim.now.job.now.board.regions }
+    requires inside { aim.now.start + aim.now.geometry.now.size ≤ size_of aim.now.job.now.board.regions }
+    requires size { aim.now.geometry.now.size ≡ aim.now.algorithm.now.device.size }
+    requires idle { IsTrue B.tells → (B.state bench.old).operation ≡ None }
+    requires stands { IsTrue B.tells → StandsFor aim.now.job.now (B.state bench.old).file }
+    ensures plan { IsTrue B.tells → OnOk result (IsLeastPlan aim.now.geometry.now aim.now.job.now.board.weights
+        (is_some aim.now.algorithm.now.entries.erase_chip) aim.now.algorithm.now.device.empty
+        (take aim.now.algorithm.now.device.size (drop aim.now.start (B.state bench.old).cells))
+        (take aim.now.algorithm.now.device.size (drop aim.now.start (goal_in aim.now.job.now aim.now.goal (B.state bench.old).file))) plan.new.made) }
+    ensures entry { OnOk result (IsTrue plan.new.made.chip → IsTrue (is_some aim.now.algorithm.now.entries.erase_chip)) }
+    ensures bytes { IsTrue B.tells → OnOk result (All (λ v. v < 2 ^ 8) (take aim.now.algorithm.now.device.size
+        (drop aim.now.start (B.state bench.old).cells))) }
+    ensures wanted { IsTrue B.tells → OnOk result (All (λ v. v < 2 ^ 8)
+        (take aim.now.algorithm.now.device.size (drop aim.now.start (goal_in aim.now.job.now aim.now.goal (B.state bench.old).file)))) }
+    ensures reads { IsRead B.tells (B.state bench.old) (B.state bench.new) }
+    ensures store { IsCounted (B.state bench.old).store_faults (B.state bench.new).store_faults (is_survey_store result) }
+    ensures device { HasDeviceCause (B.state bench.old).device_faults (B.state bench.new).device_faults (is_survey_device result) }
+{
+    survey_windows(bench, aim, &mut [0; WINDOW], &mut [0; WINDOW], plan)
+}
 
 /// The value of an erased byte.
 fn empty_of(algorithm: &Algorithm) -> u8

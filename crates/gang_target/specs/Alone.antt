@@ -1,8 +1,8 @@
 -- What a target that has ended has in common with a session that did the same work alone.
 use Rattle.std.specs.Prelude.{ℕ, List}
 use Rattle.bench_model.specs.State.{BenchState}
-use Rattle.flash_session.specs.declared.session_end.Reached.{Reached}
-use Rattle.flash_session.specs.declared.session_end.SessionEnd.TheVariants as end
+use Rattle.flash_session.specs.declared.session.Reached.{Reached}
+use Rattle.flash_session.specs.declared.session.SessionEnd.TheVariants as end
 use Rattle.flash_session.specs.Moves.{Stand}
 use Rattle.flash_session.specs.Outcome.{Follows}
 use Rattle.flash_session.specs.Script.{Leg}

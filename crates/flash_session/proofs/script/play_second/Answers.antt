@@ -1,6 +1,6 @@
 use Rattle.std.proofs.Common.{◌≡◌, Bool, Option, None, refl, sym, subst}
 use Rattle.flash_session.specs.Drivers.{errand_in, IsErrandOn}
-use Rattle.flash_session.specs.declared.errand.Errand.{Errand}
+use Rattle.flash_session.specs.declared.script.Errand.{Errand}
 use Rattle.flash_session.proofs.ScriptLemmas.{SomePhases, later_none, later_some}
 use Rattle.flash_session.proofs.script.play_second.Goals as goal
 

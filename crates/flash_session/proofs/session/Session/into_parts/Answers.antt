@@ -1,7 +1,7 @@
 use Rattle.std.proofs.Common.{◌∷◌, option_to_list, Option, IfSome, sym, subst}
 use Rattle.board_file.specs.Shown.{shown as board_of}
 use Rattle.job_text.specs.Said.{algorithms_shown}
-use Rattle.flash_session.specs.declared.region_survey.Survey.{Survey}
+use Rattle.flash_session.specs.declared.survey.Survey.{Survey}
 use Rattle.flash_session.specs.Parts.{ArePartsOf}
 use Rattle.flash_session.specs.Sessions.{shown_in}
 use Rattle.flash_session.proofs.session.Session.into_parts.Goals as goal

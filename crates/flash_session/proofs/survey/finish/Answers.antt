@@ -1,0 +1,10 @@
+use Rattle.std.proofs.Common.{Bool, subst}
+use Rattle.erase_planner.specs.Plans.{IsLeastPlan}
+use Rattle.flash_session.proofs.survey.finish.Goals as goal
+
+pub returns-clause-plan : goal.returns-clause-plan
+returns-clause-plan c = λ o w fed.
+    let job = c.args.aim.now.job.now in
+    let a = c.args.aim.now.algorithm.now in
+    subst (λ (h : Bool). IsLeastPlan c.args.aim.now.geometry.now job.board.weights h a.device.empty o w c.plan_finish.new.plan.made) c.is_some-has_chip.ensures
+    (c.plan_finish.ensures.least a.device.empty o w fed)
