@@ -22,9 +22,9 @@ use Rattle.job_file.specs.Counted.{IsCounted}
 use Rattle.job_file.specs.declared.fault.OpenFault.TheVariants as opening
 use Rattle.campaign.specs.Campaign.{Keeps}
 use Rattle.campaign.specs.Stops.{CampaignJob, IsDone, WorkStops}
-use Rattle.flash_session.specs.declared.session_end.Reached.{Reached}
-use Rattle.flash_session.specs.declared.session_end.SessionEnd.{SessionEnd}
-use Rattle.flash_session.specs.declared.session_end.SessionEnd.TheVariants as end
+use Rattle.flash_session.specs.declared.session.Reached.{Reached}
+use Rattle.flash_session.specs.declared.session.SessionEnd.{SessionEnd}
+use Rattle.flash_session.specs.declared.session.SessionEnd.TheVariants as end
 use Rattle.flash_session.specs.declared.fault.SessionFault.{SessionFault}
 use Rattle.flash_session.specs.declared.fault.SessionFault.TheVariants as session
 use Rattle.flash_session.specs.declared.fault.SurveyFault.{SurveyFault}

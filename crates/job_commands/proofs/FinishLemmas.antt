@@ -22,9 +22,9 @@ use Rattle.job_text.specs.Stands.{StandsFor, snapshot_in}
 use Rattle.job_text.specs.declared.job.Job as code
 use Rattle.job_file.specs.Stops.{IsWholeOrClosed}
 use Rattle.campaign.specs.Stops.{IsAtClose}
-use Rattle.flash_session.specs.declared.session_end.Reached.{Reached}
-use Rattle.flash_session.specs.declared.session_end.SessionEnd.{SessionEnd}
-use Rattle.flash_session.specs.declared.session_end.SessionEnd.TheVariants as end
+use Rattle.flash_session.specs.declared.session.Reached.{Reached}
+use Rattle.flash_session.specs.declared.session.SessionEnd.{SessionEnd}
+use Rattle.flash_session.specs.declared.session.SessionEnd.TheVariants as end
 use Rattle.flash_session.specs.declared.goal.Goal.{Goal}
 use Rattle.flash_session.specs.declared.goal.Goal.TheVariants.{New, Old}
 use Rattle.flash_session.specs.Script.{Planned, planned, Leg, Broken}
