@@ -6,17 +6,17 @@ use crate::cursor::{Cursor, Phase, Place};
 use crate::part::{Part, Task};
 use crate::target::GangTarget;
 use algo_calls::CallsIn;
-use flash_session::{Parts, Survey};
+use flash_session::{Parts, Work};
 
 /// The calls of the work on a region, whose first cell is at this place, and the work without them.
-fn part_of(work: Survey, start: u32) -> (CallsIn, Part)
+fn part_of(work: Work, start: u32) -> (CallsIn, Part)
     ensures { IsPartFrom work start result.0 result.1 }
 {
     // `limit` of these two calls: the part has so few sectors and pages
     let _sectors = work.geometry.sectors();
     let _pages = work.geometry.pages();
     let base = work.calls.algorithm().device.base;
-    let Survey {
+    let Work {
         calls,
         geometry,
         plan,
@@ -33,7 +33,7 @@ fn part_of(work: Survey, start: u32) -> (CallsIn, Part)
 }
 
 /// And of that on the second region, where there is one.
-fn second_of(work: Option<Survey>, start: u32) -> (Option<CallsIn>, Option<Part>)
+fn second_of(work: Option<Work>, start: u32) -> (Option<CallsIn>, Option<Part>)
     ensures { AreFrom work start result.0 result.1 }
 {
     match work {
