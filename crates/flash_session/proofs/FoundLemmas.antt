@@ -1,5 +1,5 @@
 -- What the surveys of a job's regions found, one after the other, is the survey of the job. `survey_for` joins its two surveys by them.
-use Rattle.std.proofs.Common.{◌≡◌, ◌<◌, ◌≤◌, ◌+◌, ◌^◌, ◌∙◌, ℕ, Bool, false, IsTrue, is_some, Result, Err, List, [], ◌∷◌, map, option_to_list, length, take, drop, Option, Some, None, refl, sym, ap, subst, arith}
+use Rattle.std.proofs.Common.{◌≡◌, ◌<◌, ◌≤◌, ◌+◌, ◌^◌, ◌∙◌, ℕ, Bool, IsTrue, is_some, Result, Err, List, [], ◌∷◌, map, option_to_list, length, take, drop, Option, Some, None, refl, sym, ap, subst, arith}
 use Rattle.std.proofs.lemmas.List.{take_all}
 use Rattle.std.proofs.lemmas.List.Elements.{All-append}
 use Rattle.board_file.specs.Limits.{size_of}
@@ -11,12 +11,10 @@ use Rattle.algo_calls.specs.Duties.{cells_before}
 use Rattle.job_text.specs.Fits.{all_fit}
 use Rattle.job_text.specs.declared.job.Job.{Job}
 use Rattle.flash_session.specs.declared.survey.RegionSurvey.{RegionSurvey}
-use Rattle.flash_session.specs.declared.survey.Survey.{Survey}
 use Rattle.flash_session.specs.declared.fault.SurveyFault.{SurveyFault}
 use Rattle.flash_session.specs.declared.fault.SurveyFault.TheVariants as survey
 use Rattle.bench_model.specs.Device.{HasDeviceCause}
 use Rattle.job_file.specs.Counted.{IsCounted}
-use Rattle.flash_session.proofs.Playing.{cause_then, counted_then}
 use Rattle.flash_session.specs.Found.{IsFound, AreFound}
 use Rattle.flash_session.specs.Script.{Planned}
 use Rattle.flash_session.specs.Surveys.{planned_of, IsPlannedFor, ArePlannedFor, is_survey_store, is_survey_device}
@@ -66,40 +64,25 @@ works_found tells j start [] cells goal (r ∷ more) are = absurd are
 works_found tells j start (a ∷ rest) cells goal [] are = absurd are
 works_found tells j start (a ∷ rest) cells goal (r ∷ more) are = (are.0.work, works_found tells j (start + a.device.size) rest cells goal more are.1)
 
--- the fault of the survey of one region is that of both
-abbrev of_one : (T : Type 0) → SurveyFault → Result T SurveyFault
-of_one T e = Err e
+-- a refusal that is handed on is counted as it was
+abbrev pub refused : (T : Type 0) → SurveyFault → Result T SurveyFault
+refused T e = Err e
 
-abbrev Both : Type 0
-Both = Result Survey SurveyFault
+same_store : (S T : Type 0) (e : SurveyFault) → is_survey_store (refused S e) ≡ is_survey_store (refused T e)
+same_store S T survey.OutOfMemory = refl
+same_store S T survey.DeviceFault = refl
+same_store S T survey.StoreFault = refl
 
-abbrev pub of_both : SurveyFault → Both
-of_both e = Err e
+same_device : (S T : Type 0) (e : SurveyFault) → is_survey_device (refused S e) ≡ is_survey_device (refused T e)
+same_device S T survey.OutOfMemory = refl
+same_device S T survey.DeviceFault = refl
+same_device S T survey.StoreFault = refl
 
-same_store : (T : Type 0) (e : SurveyFault) → is_survey_store (of_one T e) ≡ is_survey_store (of_both e)
-same_store T survey.OutOfMemory = refl
-same_store T survey.DeviceFault = refl
-same_store T survey.StoreFault = refl
+pub handed_store : (S T : Type 0) (a b : ℕ) (r : Result T SurveyFault) (e : SurveyFault) → r ≡ refused T e → IsCounted a b (is_survey_store (refused S e)) → IsCounted a b (is_survey_store r)
+handed_store S T a b r e is one = subst (λ (q : Result T SurveyFault). IsCounted a b (is_survey_store q)) (sym is) (subst (λ (d : Bool). IsCounted a b d) (same_store S T e) one)
 
-same_device : (T : Type 0) (e : SurveyFault) → is_survey_device (of_one T e) ≡ is_survey_device (of_both e)
-same_device T survey.OutOfMemory = refl
-same_device T survey.DeviceFault = refl
-same_device T survey.StoreFault = refl
-
-abbrev Second : Type 0
-Second = Option RegionSurvey
-
-pub first_store_err : (a b : ℕ) (r : Both) (e : SurveyFault) → r ≡ of_both e → IsCounted a b (is_survey_store (of_one RegionSurvey e)) → IsCounted a b (is_survey_store r)
-first_store_err a b r e is one = subst (λ (q : Both). IsCounted a b (is_survey_store q)) (sym is) (subst (λ (d : Bool). IsCounted a b d) (same_store RegionSurvey e) one)
-
-pub first_device_err : (a b : ℕ) (r : Both) (e : SurveyFault) → r ≡ of_both e → HasDeviceCause a b (is_survey_device (of_one RegionSurvey e)) → HasDeviceCause a b (is_survey_device r)
-first_device_err a b r e is one = subst (λ (q : Both). HasDeviceCause a b (is_survey_device q)) (sym is) (subst (λ (d : Bool). HasDeviceCause a b d) (same_device RegionSurvey e) one)
-
-pub store_err : (a b c : ℕ) (r : Both) (e : SurveyFault) → r ≡ of_both e → IsCounted a b false → IsCounted b c (is_survey_store (of_one Second e)) → IsCounted a c (is_survey_store r)
-store_err a b c r e is one two = subst (λ (q : Both). IsCounted a c (is_survey_store q)) (sym is) (counted_then a b c (is_survey_store (of_both e)) one (subst (λ (d : Bool). IsCounted b c d) (same_store Second e) two))
-
-pub device_err : (a b c : ℕ) (r : Both) (e : SurveyFault) → r ≡ of_both e → HasDeviceCause a b false → HasDeviceCause b c (is_survey_device (of_one Second e)) → HasDeviceCause a c (is_survey_device r)
-device_err a b c r e is one two = subst (λ (q : Both). HasDeviceCause a c (is_survey_device q)) (sym is) (cause_then a b c (is_survey_device (of_both e)) one (subst (λ (d : Bool). HasDeviceCause b c d) (same_device Second e) two))
+pub handed_device : (S T : Type 0) (a b : ℕ) (r : Result T SurveyFault) (e : SurveyFault) → r ≡ refused T e → HasDeviceCause a b (is_survey_device (refused S e)) → HasDeviceCause a b (is_survey_device r)
+handed_device S T a b r e is one = subst (λ (q : Result T SurveyFault). HasDeviceCause a b (is_survey_device q)) (sym is) (subst (λ (d : Bool). HasDeviceCause a b d) (same_device S T e) one)
 
 -- the bytes of two parts are those of all
 both_bytes : (n m at : ℕ) (cells : List ℕ) → length cells ≡ n + m → at ≡ n → AreBytes (take n cells) → AreBytes (take m (drop at cells)) → AreBytes cells

@@ -84,10 +84,7 @@ impl Machines {
         ensures moved { OnOk result (self.new.second ≡ second) }
         ensures idle { IsTrue B.tells → OnOk result ((B.state bench.new).operation ≡ None) }
     {
-        match self.driver.reset(bench) {
-            Ok(()) => {}
-            Err(stop) => return Err(stop),
-        }
+        self.driver.reset(bench)?;
         if second != self.second {
             self.turn();
         }
@@ -103,10 +100,7 @@ impl Machines {
             ∷ Make (setup_on self.old second) (Init kind) [] ∷ []) result self.new (B.state bench.old) (B.state bench.new) }
         ensures moved { OnOk result (self.new.second ≡ second) }
     {
-        match self.reset_for(bench, second) {
-            Ok(()) => {}
-            Err(stop) => return Err(stop),
-        }
+        self.reset_for(bench, second)?;
         self.driver.load(bench);
         self.driver.make(bench, Call::Init { kind }, &[])
     }

@@ -19,7 +19,7 @@ use crate::driver::{algorithms_of, machines_for};
 use crate::fault::SurveyFault;
 use crate::goal::{Goal, WINDOW, want_into, window_end};
 use crate::machines::Machines;
-use bench_model::{Bench, DeviceFault, StoreFault};
+use bench_model::Bench;
 use erase_planner::{Plan, plan_feed, plan_finish, plan_start};
 use faults::OutOfMemory;
 use flm_descriptor::Algorithm;
@@ -106,14 +106,9 @@ fn read_window<B: Bench>(
     ensures store { IsCounted (B.state bench.old).store_faults (B.state bench.new).store_faults (is_survey_store result) }
     ensures device { HasDeviceCause (B.state bench.old).device_faults (B.state bench.new).device_faults (is_survey_device result) }
 {
-    match read_cells(bench, at, cells) {
-        Ok(()) => {}
-        Err(DeviceFault) => return Err(SurveyFault::DeviceFault),
-    }
-    match want_into(bench, aim.job, aim.goal, at, wanted) {
-        Ok(()) => Ok(()),
-        Err(StoreFault) => Err(SurveyFault::StoreFault),
-    }
+    read_cells(bench, at, cells)?;
+    want_into(bench, aim.job, aim.goal, at, wanted)?;
+    Ok(())
 }
 
 /// Feeds a plan in the making with the next cells and wanted bytes.
@@ -164,10 +159,7 @@ fn survey_window<B: Bench>(
     ensures store { IsCounted (B.state bench.old).store_faults (B.state bench.new).store_faults (is_survey_store result) }
     ensures device { HasDeviceCause (B.state bench.old).device_faults (B.state bench.new).device_faults (is_survey_device result) }
 {
-    match read_window(bench, aim, aim.start + at, cells, wanted) {
-        Ok(()) => {}
-        Err(fault) => return Err(fault),
-    }
+    read_window(bench, aim, aim.start + at, cells, wanted)?;
     feed(aim, cells, wanted, plan);
     Ok(())
 }
@@ -221,17 +213,14 @@ fn survey_windows<B: Bench>(
     let mut at = 0;
     while at < count {
         let end = window_end(at, count);
-        match survey_window(
+        survey_window(
             bench,
             aim,
             at as u32,
             &mut cells[..end - at],
             &mut wanted[..end - at],
             plan,
-        ) {
-            Ok(()) => {}
-            Err(fault) => return Err(fault),
-        }
+        )?;
         at = end;
     }
     finish(aim, plan);
@@ -302,15 +291,13 @@ fn survey_region<B: Bench>(
         start,
         goal,
     };
-    match read_and_plan(bench, &aim, &mut plan) {
-        Ok(()) => Ok(RegionSurvey {
-            geometry,
-            plan,
-            base: algorithm.device.base,
-            start,
-        }),
-        Err(fault) => Err(fault),
-    }
+    read_and_plan(bench, &aim, &mut plan)?;
+    Ok(RegionSurvey {
+        geometry,
+        plan,
+        base: algorithm.device.base,
+        start,
+    })
 }
 
 /// Surveys the second region, where there is one.
@@ -335,10 +322,8 @@ fn survey_second<B: Bench>(
     match second {
         Some(algorithm) => {
             let start = first.device.size;
-            match survey_region(alloc, bench, job, algorithm, start, goal) {
-                Ok(survey) => Ok(Some(survey)),
-                Err(fault) => Err(fault),
-            }
+            let survey = survey_region(alloc, bench, job, algorithm, start, goal)?;
+            Ok(Some(survey))
         }
         None => Ok(None),
     }
@@ -375,14 +360,12 @@ pub(crate) fn survey_for<B: Bench>(
     let machines = machines_for(alloc, job)?;
     let page = zeros(alloc, longest_page(algorithm, other) as usize)?;
     let first = survey_region(alloc, bench, job, algorithm, 0, goal)?;
-    match survey_second(alloc, bench, job, algorithm, other, goal) {
-        Ok(second) => Ok(Survey {
-            first,
-            second,
-            goal,
-            machines,
-            page,
-        }),
-        Err(fault) => Err(fault),
-    }
+    let second = survey_second(alloc, bench, job, algorithm, other, goal)?;
+    Ok(Survey {
+        first,
+        second,
+        goal,
+        machines,
+        page,
+    })
 }

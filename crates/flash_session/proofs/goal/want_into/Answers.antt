@@ -9,5 +9,5 @@ returns-clause-ok g c = λ told.
     let j = c.args.job.now in
     let file = (g.B.Bench.state c.args.bench.now).file in
     let same = c.snapshot_into.auto.out in
-    c.lay.ensures (snapshot_in j file) (snapshot_length j file (c.requires.stands told)) (c.in-Ok.ensures.ok told ∙ ap (λ (n : ℕ). take n (drop c.args.at (snapshot_in j file))) (sym same))
+    c.lay.ensures (snapshot_in j file) (snapshot_length j file (c.requires.stands told)) (c.in_ok-snapshot_into.ensures.ok told ∙ ap (λ (n : ℕ). take n (drop c.args.at (snapshot_in j file))) (sym same))
     ∙ ap (λ (n : ℕ). take n (drop c.args.at (goal_in j c.args.goal file))) same

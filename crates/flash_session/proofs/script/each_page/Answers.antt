@@ -1,5 +1,6 @@
 use Rattle.std.proofs.Common.{◌∙◌, IsTrue, length, Ok, refl, sym, ap, arith}
 use Rattle.algo_calls.specs.Setups.{Setup}
+use Rattle.std.proofs.lemmas.Result.{err_from_is_err_and}
 use Rattle.flash_session.specs.Drivers.{setup_for, planned_in, errand_in}
 use Rattle.flash_session.specs.Script.{page_at}
 use Rattle.flash_session.proofs.GoalLemmas.{goal_still}
@@ -46,15 +47,16 @@ page_one-requires g c = λ κs lives.
 
 pub loop-index-preserved : goal.loop-index-preserved
 loop-index-preserved g c = record {
-  plays = below_on g.B.Bench.tells c.loop-index.index _ _ _ (λ (x : Setup). page_at c.args.verifies x (errand_in c.args.errand.now g.goal)) tt tt _ _ _ c.loop-index.invariant.plays c.in-Ok.ensures;
+  plays = below_on g.B.Bench.tells c.loop-index.index _ _ _ (λ (x : Setup). page_at c.args.verifies x (errand_in c.args.errand.now g.goal)) tt tt _ _ _ c.loop-index.invariant.plays c.in_ok-page_one.ensures;
   room = c.page_one.auto.page ∙ c.loop-index.invariant.room;
-  gives = goal_still g.B.Bench.tells c.args.errand.now.job.now c.args.errand.now.goal g.goal (g.B.Bench.state c.loop-index.bench) (g.B.Bench.state c.page_one.new.bench) c.loop-index.invariant.gives c.in-Ok.ensures.file;
+  gives = goal_still g.B.Bench.tells c.args.errand.now.job.now c.args.errand.now.goal g.goal (g.B.Bench.state c.loop-index.bench) (g.B.Bench.state c.page_one.new.bench) c.loop-index.invariant.gives c.in_ok-page_one.ensures.file;
 }
 
-pub returns-in-Err : goal.returns-in-Err
-returns-in-Err g c =
-    below_stops g.B.Bench.tells c.loop-index.index (length c.args.errand.now.geometry.now.pages) _ _ _ (λ (x : Setup). page_at c.args.verifies x (errand_in c.args.errand.now g.goal)) tt c.in-Err.stop _ _ _
-    (omega (arith, c.pages-count.ensures.count)) c.loop-index.invariant.plays c.in-Err.ensures
+pub returns-in_err-page_one : goal.returns-in_err-page_one
+returns-in_err-page_one g c =
+    let p = err_from_is_err_and c.from_residual.result c.from_residual.ensures.1 in
+    rw (p.1, p.2) (below_stops g.B.Bench.tells c.loop-index.index (length c.args.errand.now.geometry.now.pages) _ _ _ (λ (x : Setup). page_at c.args.verifies x (errand_in c.args.errand.now g.goal)) tt c.in_err-page_one.field-0.0 _ _ _
+    (omega (arith, c.pages-count.ensures.count)) c.loop-index.invariant.plays c.in_err-page_one.ensures)
 
 pub returns : goal.returns
 returns g c =

@@ -1,5 +1,6 @@
 use Rattle.std.proofs.Common.{length, Ok, refl, arith}
 use Rattle.algo_calls.specs.Setups.{Setup}
+use Rattle.std.proofs.lemmas.Result.{err_from_is_err_and}
 use Rattle.flash_session.specs.Drivers.{setup_for, planned_in}
 use Rattle.flash_session.specs.Script.{sector_moves}
 use Rattle.flash_session.proofs.Lists.{sectors_calls}
@@ -19,12 +20,13 @@ erase_one-requires-clause-room g c =
 
 pub loop-index-preserved : goal.loop-index-preserved
 loop-index-preserved g c =
-    below_on g.B.Bench.tells c.loop-index.index _ _ _ (λ (x : Setup). sector_moves x (planned_in c.args.errand.now)) tt tt _ _ _ c.loop-index.invariant c.in-Ok.ensures
+    below_on g.B.Bench.tells c.loop-index.index _ _ _ (λ (x : Setup). sector_moves x (planned_in c.args.errand.now)) tt tt _ _ _ c.loop-index.invariant c.in_ok-erase_one.ensures
 
-pub returns-in-Err : goal.returns-in-Err
-returns-in-Err g c =
-    below_stops g.B.Bench.tells c.loop-index.index (length c.args.errand.now.geometry.now.sectors) _ _ _ (λ (x : Setup). sector_moves x (planned_in c.args.errand.now)) tt c.in-Err.stop _ _ _
-    (omega (arith, c.sectors-count.ensures.count)) c.loop-index.invariant c.in-Err.ensures
+pub returns-in_err-erase_one : goal.returns-in_err-erase_one
+returns-in_err-erase_one g c =
+    let p = err_from_is_err_and c.from_residual.result c.from_residual.ensures.1 in
+    rw (p.1, p.2) (below_stops g.B.Bench.tells c.loop-index.index (length c.args.errand.now.geometry.now.sectors) _ _ _ (λ (x : Setup). sector_moves x (planned_in c.args.errand.now)) tt c.in_err-erase_one.field-0.0 _ _ _
+    (omega (arith, c.sectors-count.ensures.count)) c.loop-index.invariant c.in_err-erase_one.ensures)
 
 pub returns : goal.returns
 returns g c =

@@ -1,4 +1,4 @@
-use Rattle.std.proofs.Common.{◌≡◌, ◌∙◌, ℕ, Err, IsTrue, List, ◌∷◌, map, option_to_list, length, refl, sym, ap, subst, arith}
+use Rattle.std.proofs.Common.{◌≡◌, ◌∙◌, ℕ, IsTrue, List, ◌∷◌, map, Option, option_to_list, length, refl, sym, ap, subst, arith}
 use Rattle.board_file.specs.Shown.{shown as board_of}
 use Rattle.flm_descriptor.specs.Shown.{Shown as AlgorithmShown, shown as algorithm_of}
 use Rattle.job_text.specs.Fits.{all_fit}
@@ -10,13 +10,16 @@ use Rattle.flash_session.specs.Surveys.{planned_of, ArePlannedFor}
 use Rattle.flash_session.specs.SurveyFacts.{AreRegionSurveys, HasRoom}
 use Rattle.std.proofs.lemmas.Result.{err_from_is_err_and}
 use Rattle.flash_session.specs.declared.fault.SurveyFault.{SurveyFault}
-use Rattle.flash_session.proofs.FoundLemmas.{found_then, later_still, works_found, whole_found, of_both, first_store_err, first_device_err, store_err, device_err}
+use Rattle.flash_session.specs.declared.survey.RegionSurvey.{RegionSurvey}
+use Rattle.flash_session.specs.declared.survey.Survey.{Survey}
+use Rattle.flash_session.proofs.FoundLemmas.{found_then, later_still, works_found, whole_found, refused, handed_store, handed_device}
+use Rattle.flash_session.proofs.Playing.{cause_then, counted_then}
 use Rattle.flash_session.proofs.ReadLemmas.{read_then}
 use Rattle.flash_session.proofs.JobLemmas.{goal_length, sizes_are}
 use Rattle.flash_session.proofs.survey.survey_for.Goals as goal
 
-pub returns-in-Ok-clause-found : goal.returns-in-Ok-clause-found
-returns-in-Ok-clause-found g c =
+pub returns-clause-found : goal.returns-clause-found
+returns-clause-found g c =
     let tells = g.B.Bench.tells in
     let j = c.args.job.now in
     let s = g.B.Bench.state c.args.bench.now in
@@ -25,9 +28,9 @@ returns-in-Ok-clause-found g c =
     let a = algorithm_of c.algorithms_of.result.0.now in
     let rest = later_shown c.algorithms_of.result.1 in
     let first = c.in_ok-first.first in
-    let second = c.in-Ok.second in
+    let second = c.in_ok-second.second in
     let reads = c.survey_region.ensures.reads in
-    let later = later_still tells j a.device.size rest t.cells s.cells (goal_in j c.args.goal t.file) wanted (option_to_list second) (λ told. reads.cells.cells told) (λ told. ap (goal_in j c.args.goal) (reads.file.file told)) c.in-Ok.ensures.found in
+    let later = later_still tells j a.device.size rest t.cells s.cells (goal_in j c.args.goal t.file) wanted (option_to_list second) (λ told. reads.cells.cells told) (λ told. ap (goal_in j c.args.goal) (reads.file.file told)) c.in_ok-second.ensures.found in
     let all : AreFound tells j 0 (a ∷ rest) s.cells wanted (first ∷ option_to_list second) = found_then tells j a rest s.cells wanted first (option_to_list second) c.in_ok-first.ensures.found later in
     let is = c.algorithms_of.ensures in
     let whole = whole_found tells j s.cells wanted (λ told. g.met.B.Bench.all_told c.args.bench.now told ∙ c.requires.count) (λ told. goal_length j c.args.goal s.file (c.requires.stands told)) first (a ∷ rest) second
@@ -39,8 +42,8 @@ returns-in-Ok-clause-found g c =
       wanted = whole.wanted;
     }
 
-pub returns-in-Ok-clause-work : goal.returns-in-Ok-clause-work
-returns-in-Ok-clause-work g c =
+pub returns-clause-work : goal.returns-clause-work
+returns-clause-work g c =
     let tells = g.B.Bench.tells in
     let j = c.args.job.now in
     let s = g.B.Bench.state c.args.bench.now in
@@ -49,9 +52,9 @@ returns-in-Ok-clause-work g c =
     let a = algorithm_of c.algorithms_of.result.0.now in
     let rest = later_shown c.algorithms_of.result.1 in
     let first = c.in_ok-first.first in
-    let second = c.in-Ok.second in
+    let second = c.in_ok-second.second in
     let reads = c.survey_region.ensures.reads in
-    let later = later_still tells j a.device.size rest t.cells s.cells (goal_in j c.args.goal t.file) wanted (option_to_list second) (λ told. reads.cells.cells told) (λ told. ap (goal_in j c.args.goal) (reads.file.file told)) c.in-Ok.ensures.found in
+    let later = later_still tells j a.device.size rest t.cells s.cells (goal_in j c.args.goal t.file) wanted (option_to_list second) (λ told. reads.cells.cells told) (λ told. ap (goal_in j c.args.goal) (reads.file.file told)) c.in_ok-second.ensures.found in
     let all : AreFound tells j 0 (a ∷ rest) s.cells wanted (first ∷ option_to_list second) = found_then tells j a rest s.cells wanted first (option_to_list second) c.in_ok-first.ensures.found later in
     let is = c.algorithms_of.ensures in
     record {
@@ -70,21 +73,25 @@ survey_region-requires-clause-inside g c =
 pub returns-in_err-first-clause-store : goal.returns-in_err-first-clause-store
 returns-in_err-first-clause-store g c =
     let p = err_from_is_err_and c.from_residual-in_err-first.result c.from_residual-in_err-first.ensures.1 in
-    first_store_err _ _ _ c.in_err-first.field-0.0 (p.1 ∙ ap (λ (e : SurveyFault). of_both e) p.2) c.in_err-first.ensures.store
+    handed_store RegionSurvey Survey _ _ _ c.in_err-first.field-0.0 (p.1 ∙ ap (λ (e : SurveyFault). refused Survey e) p.2) c.in_err-first.ensures.store
 
 pub returns-in_err-first-clause-device : goal.returns-in_err-first-clause-device
 returns-in_err-first-clause-device g c =
     let p = err_from_is_err_and c.from_residual-in_err-first.result c.from_residual-in_err-first.ensures.1 in
-    first_device_err _ _ _ c.in_err-first.field-0.0 (p.1 ∙ ap (λ (e : SurveyFault). of_both e) p.2) c.in_err-first.ensures.device
+    handed_device RegionSurvey Survey _ _ _ c.in_err-first.field-0.0 (p.1 ∙ ap (λ (e : SurveyFault). refused Survey e) p.2) c.in_err-first.ensures.device
 
-pub returns-in-Ok-clause-reads : goal.returns-in-Ok-clause-reads
-returns-in-Ok-clause-reads g c = read_then c.survey_region.ensures.reads c.survey_second.ensures.reads
+pub returns-clause-reads : goal.returns-clause-reads
+returns-clause-reads g c = read_then c.survey_region.ensures.reads c.survey_second.ensures.reads
 
-pub returns-in-Err-clause-reads : goal.returns-in-Err-clause-reads
-returns-in-Err-clause-reads g c = read_then c.survey_region.ensures.reads c.survey_second.ensures.reads
+pub returns-in_err-second-clause-reads : goal.returns-in_err-second-clause-reads
+returns-in_err-second-clause-reads g c = read_then c.survey_region.ensures.reads c.survey_second.ensures.reads
 
-pub returns-in-Err-clause-store : goal.returns-in-Err-clause-store
-returns-in-Err-clause-store g c = store_err _ _ _ (Err c.in-Err.fault) c.in-Err.fault refl c.in_ok-first.ensures.store c.in-Err.ensures.store
+pub returns-in_err-second-clause-store : goal.returns-in_err-second-clause-store
+returns-in_err-second-clause-store g c =
+    let p = err_from_is_err_and c.from_residual-in_err-second.result c.from_residual-in_err-second.ensures.1 in
+    handed_store (Option RegionSurvey) Survey _ _ _ c.in_err-second.field-0.0 (p.1 ∙ ap (λ (e : SurveyFault). refused Survey e) p.2) (counted_then _ _ _ _ c.in_ok-first.ensures.store c.in_err-second.ensures.store)
 
-pub returns-in-Err-clause-device : goal.returns-in-Err-clause-device
-returns-in-Err-clause-device g c = device_err _ _ _ (Err c.in-Err.fault) c.in-Err.fault refl c.in_ok-first.ensures.device c.in-Err.ensures.device
+pub returns-in_err-second-clause-device : goal.returns-in_err-second-clause-device
+returns-in_err-second-clause-device g c =
+    let p = err_from_is_err_and c.from_residual-in_err-second.result c.from_residual-in_err-second.ensures.1 in
+    handed_device (Option RegionSurvey) Survey _ _ _ c.in_err-second.field-0.0 (p.1 ∙ ap (λ (e : SurveyFault). refused Survey e) p.2) (cause_then _ _ _ _ c.in_ok-first.ensures.device c.in_err-second.ensures.device)

@@ -6,6 +6,11 @@ use Rattle.erase_planner.specs.Plans.{IsLeastPlan}
 use Rattle.flash_session.specs.Goals.{goal_in}
 use Rattle.flash_session.proofs.ReadLemmas.{kept_room, read_here, read_then}
 use Rattle.flash_session.proofs.SurveyLemmas.{AreBytes, shifted, bytes_and, fed_and, no_bytes}
+use Rattle.std.proofs.lemmas.Result.{err_from_is_err_and}
+use Rattle.bench_model.specs.Device.{HasDeviceCause}
+use Rattle.job_file.specs.Counted.{IsCounted}
+use Rattle.flash_session.specs.Surveys.{is_survey_store, is_survey_device}
+use Rattle.flash_session.proofs.FoundLemmas.{refused}
 use Rattle.flash_session.proofs.survey.survey_windows.Goals as goal
 
 pub loop-at-init : goal.loop-at-init
@@ -43,7 +48,7 @@ loop-at-preserved g c =
     let empty = aim.algorithm.now.device.empty in
     let at = c.loop-at.at in
     let end = c.window_end-end.result in
-    let e = c.in-Ok.ensures in
+    let e = c.in_ok-survey_window.ensures in
     let wanted = goal_in aim.job.now aim.goal s.file in
     let wanted_now = goal_in aim.job.now aim.goal now.file in
     let le : at ≤ end = omega arith in
@@ -93,3 +98,13 @@ returns-clause-wanted g c = λ told.
     let aim = c.args.aim.now in
     let all : c.loop-at.at ≡ aim.algorithm.now.device.size = omega (arith, c.loop-at.invariant.within, c.requires.size) in
     subst (λ (n : ℕ). AreBytes (take n (drop aim.start (goal_in aim.job.now aim.goal s.file)))) all (c.loop-at.invariant.goal_bytes told)
+
+pub returns-in_err-survey_window-clause-store : goal.returns-in_err-survey_window-clause-store
+returns-in_err-survey_window-clause-store g c =
+    let p = err_from_is_err_and c.from_residual.result c.from_residual.ensures.1 in
+    rw (p.1, p.2) (subst (λ (n : ℕ). IsCounted n (g.B.Bench.state c.survey_window.new.bench).store_faults (is_survey_store (refused (Unit {0}) c.in_err-survey_window.field-0.0))) c.loop-at.invariant.store c.in_err-survey_window.ensures.store)
+
+pub returns-in_err-survey_window-clause-device : goal.returns-in_err-survey_window-clause-device
+returns-in_err-survey_window-clause-device g c =
+    let p = err_from_is_err_and c.from_residual.result c.from_residual.ensures.1 in
+    rw (p.1, p.2) (subst (λ (n : ℕ). HasDeviceCause n (g.B.Bench.state c.survey_window.new.bench).device_faults (is_survey_device (refused (Unit {0}) c.in_err-survey_window.field-0.0))) c.loop-at.invariant.device c.in_err-survey_window.ensures.device)
