@@ -8,6 +8,8 @@ use Rattle.algo_calls.specs.declared.call.Call.{Call}
 use Rattle.algo_calls.specs.declared.call.Call.TheVariants.{Init, UnInit, EraseSector, EraseChip, ProgramPage, Verify}
 use Rattle.algo_calls.specs.Setups.{Setup}
 use Rattle.flash_session.specs.Moves.{Move, Reset, Load, Make}
+use Rattle.flash_session.specs.declared.script.Phase.{Phase}
+use Rattle.flash_session.specs.declared.script.Phase.TheVariants as stage
 
 -- a plan of a region: its sectors and pages, the address of its first byte, and what to erase and to program
 pub record Planned : Type 0 where
@@ -30,6 +32,20 @@ errand layout base plan goal = record { planned = planned layout base plan; goal
 unfoldable pub each_below : ℕ → (ℕ → List Move) → List Move
 each_below zero moves = []
 each_below (suc n) moves = each_below n moves ++ moves n
+
+-- ---- the phases
+
+-- what Init and UnInit of a phase are told
+abbrev pub kind_of : Phase → ℕ
+kind_of stage.Erase = 1
+kind_of stage.Program = 2
+kind_of stage.Verify = 3
+
+-- whether a phase verifies its pages
+abbrev pub verifies_in : Phase → Bool
+verifies_in stage.Erase = false
+verifies_in stage.Program = false
+verifies_in stage.Verify = true
 
 -- ---- the erasures: of the whole chip, or sector by sector
 

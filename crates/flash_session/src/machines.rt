@@ -1,5 +1,6 @@
 //! The machines of a board's regions.
 use crate::driver::{Driver, Stopped};
+use crate::script::Phase;
 use algo_calls::{Call, Calls};
 use bench_model::Bench;
 use std::mem;
@@ -22,7 +23,7 @@ impl Machines {
     ghost use Rattle.flash_session.specs.Moves.{Reset, Load, Make, stand_at};
     ghost use Rattle.flash_session.specs.Drivers.{setup_on, calls_of, stand_of, SameMachines, IsTurned};
     ghost use Rattle.flash_session.specs.Plays.{AreAtBench, PlaysOn};
-    ghost use Rattle.flash_session.specs.Script.{has_verify};
+    ghost use Rattle.flash_session.specs.Script.{has_verify, kind_of};
 
     /// Puts the other machine in the place of the one that moved last. It starts as after a reset; no bench is asked.
     fn turn(&mut self)
@@ -91,17 +92,23 @@ impl Machines {
         Ok(())
     }
 
-    /// Begins a phase of a region: to erase (1), to program (2) or to verify (3). This alone changes whose machine moves.
-    pub fn begin<B: Bench>(&mut self, bench: &mut B, second: bool, kind: u32) -> Result<(), Stopped>
+    /// Begins a phase of a region. This alone changes whose machine moves.
+    pub fn begin<B: Bench>(
+        &mut self,
+        bench: &mut B,
+        second: bool,
+        phase: Phase,
+    ) -> Result<(), Stopped>
         requires at_bench { AreAtBench B.tells self.old (B.state bench.old) }
         requires there { IsTrue second → IsTrue (is_some self.old.other) }
         requires room { self.old.driver.made + 1 < 2 ^ 32 }
         ensures plays { (torn : List ℕ) × PlaysOn B.tells self.old (Reset (setup_on self.old second) torn ∷ Load (setup_on self.old second)
-            ∷ Make (setup_on self.old second) (Init kind) [] ∷ []) result self.new (B.state bench.old) (B.state bench.new) }
+            ∷ Make (setup_on self.old second) (Init (kind_of phase)) [] ∷ []) result self.new (B.state bench.old) (B.state bench.new) }
         ensures moved { OnOk result (self.new.second ≡ second) }
     {
         self.reset_for(bench, second)?;
         self.driver.load(bench);
+        let kind = phase.kind();
         self.driver.make(bench, Call::Init { kind }, &[])
     }
 }

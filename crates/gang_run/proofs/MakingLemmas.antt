@@ -24,7 +24,7 @@ use Rattle.flash_session.specs.SurveyFacts.{HasRoom}
 use Rattle.flash_session.proofs.JobLemmas.{total, second_start}
 use Rattle.flash_session.proofs.Lists.{calls_in-append, erase_calls, page_calls, verify_calls, phase_calls}
 use Rattle.gang_target.specs.declared.cursor.Cursor.TheVariants as at
-use Rattle.gang_target.specs.declared.cursor.Phase.TheVariants as stage
+use Rattle.flash_session.specs.declared.script.Phase.TheVariants as stage
 use Rattle.gang_target.specs.declared.part.Part.{Part}
 use Rattle.gang_target.specs.declared.target.GangTarget.{GangTarget}
 use Rattle.gang_target.specs.Begun.{IsPartFrom, AreFrom, IsBegun}

@@ -19,7 +19,7 @@ use Rattle.flash_session.specs.Surveys.{Surveyed, HasSurveyed, is_survey_device,
 use Rattle.gang_target.specs.declared.target_end.TargetEnd.{TargetEnd}
 use Rattle.gang_target.specs.declared.target_end.TargetEnd.TheVariants as ended
 use Rattle.gang_target.specs.declared.cursor.Cursor.TheVariants as at
-use Rattle.gang_target.specs.declared.cursor.Phase.TheVariants as stage
+use Rattle.flash_session.specs.declared.script.Phase.TheVariants as stage
 use Rattle.gang_target.specs.declared.cursor.Place.TheVariants as place
 use Rattle.gang_target.specs.declared.target.GangTarget.{GangTarget}
 use Rattle.gang_target.specs.Rest.{all_legs}

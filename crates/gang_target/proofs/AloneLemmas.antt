@@ -14,7 +14,7 @@ use Rattle.algo_calls.specs.Frames.{Request, asked, fuel_of, first_point, path_o
 use Rattle.algo_calls.specs.Setups.{Setup}
 use Rattle.flash_session.specs.Moves.{Move, Make, Stand, stand_at, IsPointOf, IsOnPath, IsLeftOnWay}
 use Rattle.flash_session.specs.Script.{Leg, Broken, script}
-use Rattle.gang_target.specs.declared.cursor.Phase.TheVariants as stage
+use Rattle.flash_session.specs.declared.script.Phase.TheVariants as stage
 use Rattle.gang_target.specs.declared.cursor.Cursor.TheVariants as at
 use Rattle.gang_target.specs.declared.target_end.TargetEnd.{TargetEnd}
 use Rattle.gang_target.specs.declared.target_end.TargetEnd.TheVariants as ended

@@ -14,8 +14,8 @@ use Rattle.target_core.specs.Windows.{OnlyIn}
 use Rattle.algo_calls.specs.Setups.{Setup}
 use Rattle.algo_calls.specs.Shows.{AgreesAt, Fits}
 use Rattle.flash_session.specs.Moves.{Move, Stand}
-use Rattle.gang_target.specs.declared.cursor.Phase.{Phase}
-use Rattle.gang_target.specs.declared.cursor.Phase.TheVariants as stage
+use Rattle.flash_session.specs.declared.script.Phase.{Phase}
+use Rattle.flash_session.specs.declared.script.Phase.TheVariants as stage
 use Rattle.gang_target.specs.declared.cursor.Place.{Place}
 use Rattle.gang_target.specs.declared.part.Part.{Part}
 use Rattle.gang_target.specs.declared.part.Task.{Task}

@@ -9,7 +9,7 @@ use Rattle.algo_calls.specs.Shows.{MayAsk}
 use Rattle.flash_session.specs.Moves.{Move, Make}
 use Rattle.flash_session.specs.Script.{Errand, IsErrand, sector_moves, page_at, page_call, bytes_of, has_verify}
 use Rattle.flash_session.proofs.Lists.{one_of}
-use Rattle.gang_target.specs.declared.cursor.Phase.TheVariants as stage
+use Rattle.flash_session.specs.declared.script.Phase.TheVariants as stage
 use Rattle.gang_target.specs.declared.cursor.Item.{Item}
 use Rattle.gang_target.specs.declared.part.Part.{Part}
 use Rattle.gang_target.specs.Items.{sectors_on, pages_on, calls_on_phase}

@@ -4,12 +4,12 @@ use Rattle.std.proofs.lemmas.List.{append-nil}
 use Rattle.algo_calls.specs.declared.call.Call.TheVariants as call
 use Rattle.algo_calls.specs.Setups.{Setup}
 use Rattle.flash_session.specs.Moves.{Move, Reset, Load, Make}
-use Rattle.flash_session.specs.Script.{Errand, Torn, Leg, Broken, torn_first, torn_rest, each_below, sector_moves, erase_moves, page_at, page_moves, has_verify, verify_moves, phase, phases, legs_of, script}
+use Rattle.flash_session.specs.Script.{Errand, Torn, Leg, Broken, torn_first, torn_rest, each_below, sector_moves, erase_moves, page_at, page_moves, has_verify, verify_moves, phase, phases, legs_of, script, kind_of}
 use Rattle.flash_session.proofs.Lists.{each_none, each_more, phase_none, phase_is}
-use Rattle.gang_target.specs.declared.cursor.Phase.{Phase}
-use Rattle.gang_target.specs.declared.cursor.Phase.TheVariants as stage
+use Rattle.flash_session.specs.declared.script.Phase.{Phase}
+use Rattle.flash_session.specs.declared.script.Phase.TheVariants as stage
 use Rattle.gang_target.specs.declared.cursor.Cursor.TheVariants as at
-use Rattle.gang_target.specs.Rest.{each_from, from_on, chip_from, calls_from, phase_calls, kind_of, torn_of, with_torn, after_phase, from_phase, closing, Legs, all_legs, leg_at, torn_at, last_reset, second_rest, later_than, rest_of, after_region, after}
+use Rattle.gang_target.specs.Rest.{each_from, from_on, chip_from, calls_from, phase_calls, torn_of, with_torn, after_phase, from_phase, closing, Legs, all_legs, leg_at, torn_at, last_reset, second_rest, later_than, rest_of, after_region, after}
 
 -- ---- numbers from one on
 

@@ -6,9 +6,9 @@ use Rattle.algo_calls.specs.Setups.{Setup}
 use Rattle.algo_calls.specs.Shows.{setup_at, MayAsk}
 use Rattle.algo_calls.specs.declared.calls_in.CallsIn.{CallsIn}
 use Rattle.flash_session.specs.Moves.{Move, Reset, Load, Make}
-use Rattle.flash_session.specs.Script.{Broken, Leg, leg}
-use Rattle.gang_target.specs.declared.cursor.Phase.{Phase}
-use Rattle.gang_target.specs.declared.cursor.Phase.TheVariants as stage
+use Rattle.flash_session.specs.Script.{Broken, Leg, leg, kind_of}
+use Rattle.flash_session.specs.declared.script.Phase.{Phase}
+use Rattle.flash_session.specs.declared.script.Phase.TheVariants as stage
 use Rattle.gang_target.specs.declared.cursor.Cursor.{Cursor}
 use Rattle.gang_target.specs.declared.cursor.Cursor.TheVariants as at
 use Rattle.gang_target.specs.declared.cursor.Step.{Step}
@@ -18,7 +18,7 @@ use Rattle.gang_target.specs.declared.part.Part.{Part}
 use Rattle.gang_target.specs.declared.target.GangTarget.{GangTarget}
 use Rattle.gang_target.specs.Fit.{IsPartOn, IsScripted}
 use Rattle.gang_target.specs.Items.{calls_on_phase}
-use Rattle.gang_target.specs.Rest.{calls_from, phase_calls, Legs, leg_at, later_than, rest_of, with_torn, with_last, after, after_region, kind_of}
+use Rattle.gang_target.specs.Rest.{calls_from, phase_calls, Legs, leg_at, later_than, rest_of, with_torn, with_last, after, after_region}
 use Rattle.gang_target.specs.Steps.{bytes_at, IsAsked, IsNext, IsItem, IsCursor, IsStepOf, IsStep, IsStepBehind, IsPhaseFrom, has_phase}
 use Rattle.gang_target.specs.Targets.{of_region, setup_on, setup_now, part_in, errand_in, later_leg, legs_for, has_second, size_for}
 use Rattle.gang_target.proofs.ItemLemmas.{no_bytes}

@@ -9,7 +9,7 @@ use Rattle.target_core.specs.declared.run.SliceEnd.TheVariants as slice
 use Rattle.algo_calls.specs.declared.calls_in.CallsIn.{CallsIn}
 use Rattle.algo_calls.specs.Shows.{Slices}
 use Rattle.algo_calls.specs.Ends.{call_end_of, success_of}
-use Rattle.gang_target.specs.declared.cursor.Phase.{Phase}
+use Rattle.flash_session.specs.declared.script.Phase.{Phase}
 use Rattle.gang_target.specs.declared.cursor.Cursor.{Cursor}
 use Rattle.gang_target.specs.declared.cursor.Cursor.TheVariants as at
 use Rattle.gang_target.specs.declared.cursor.Place.{Place}

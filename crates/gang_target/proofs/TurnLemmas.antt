@@ -23,7 +23,7 @@ use Rattle.flash_session.specs.Plays.{Shows, BreaksOff}
 use Rattle.flash_session.specs.Script.{Broken, script}
 use Rattle.flash_session.proofs.Playing.{left_more}
 use Rattle.flash_session.proofs.Runs.{run_one, run_then, run_stops, on_more, end_on}
-use Rattle.gang_target.specs.declared.cursor.Phase.{Phase}
+use Rattle.flash_session.specs.declared.script.Phase.{Phase}
 use Rattle.gang_target.specs.declared.cursor.Cursor.{Cursor}
 use Rattle.gang_target.specs.declared.cursor.Cursor.TheVariants as at
 use Rattle.gang_target.specs.declared.cursor.Place.{Place}

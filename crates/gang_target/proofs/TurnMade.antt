@@ -42,7 +42,7 @@ use Rattle.flash_session.specs.Moves.{Move, Reset, Load, Make, Stand, stand_at, 
 use Rattle.flash_session.specs.Plays.{BreaksOff}
 use Rattle.flash_session.specs.Script.{Broken}
 use Rattle.flash_session.proofs.Playing.{left_more}
-use Rattle.gang_target.specs.declared.cursor.Phase.{Phase}
+use Rattle.flash_session.specs.declared.script.Phase.{Phase}
 use Rattle.gang_target.specs.declared.cursor.Cursor.{Cursor}
 use Rattle.gang_target.specs.declared.cursor.Cursor.TheVariants as at
 use Rattle.gang_target.specs.declared.cursor.Place.{Place}

@@ -6,7 +6,7 @@ use Rattle.algo_calls.specs.Shows.{setup_at}
 use Rattle.flash_session.specs.declared.parts.Parts.{Parts}
 use Rattle.flash_session.specs.declared.parts.Work.{Work}
 use Rattle.gang_target.specs.declared.cursor.Cursor.TheVariants as at
-use Rattle.gang_target.specs.declared.cursor.Phase.TheVariants as stage
+use Rattle.flash_session.specs.declared.script.Phase.TheVariants as stage
 use Rattle.gang_target.specs.declared.cursor.Place.TheVariants as place
 use Rattle.gang_target.specs.declared.part.Part.{Part}
 use Rattle.gang_target.specs.declared.target.GangTarget.{GangTarget}

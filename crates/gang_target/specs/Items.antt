@@ -3,7 +3,7 @@ use Rattle.std.specs.Prelude.{ℕ, Bool, List, length}
 use Rattle.algo_calls.specs.Setups.{Setup}
 use Rattle.flash_session.specs.Moves.{Move}
 use Rattle.flash_session.specs.Script.{sector_moves, page_at}
-use Rattle.gang_target.specs.declared.cursor.Phase.{Phase}
+use Rattle.flash_session.specs.declared.script.Phase.{Phase}
 use Rattle.gang_target.specs.declared.part.Part.{Part}
 use Rattle.gang_target.specs.Rest.{from_on, calls_from}
 use Rattle.gang_target.specs.Targets.{planned_in, errand_in}

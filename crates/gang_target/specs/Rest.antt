@@ -5,9 +5,9 @@ use Rattle.algo_calls.specs.declared.call.Call.TheVariants as call
 use Rattle.algo_calls.specs.Setups.{Setup}
 use Rattle.flash_session.specs.Moves.{Move, Reset, Load, Make}
 use Rattle.flash_session.specs.Script.{Errand, Torn, Leg, Broken, torn_first, torn_rest, sector_moves, erase_moves, page_at, page_moves, has_verify}
-use Rattle.flash_session.specs.Script.{verify_moves, phase}
-use Rattle.gang_target.specs.declared.cursor.Phase.{Phase}
-use Rattle.gang_target.specs.declared.cursor.Phase.TheVariants as stage
+use Rattle.flash_session.specs.Script.{verify_moves, phase, kind_of}
+use Rattle.flash_session.specs.declared.script.Phase.{Phase}
+use Rattle.flash_session.specs.declared.script.Phase.TheVariants as stage
 use Rattle.gang_target.specs.declared.cursor.Cursor.{Cursor}
 use Rattle.gang_target.specs.declared.cursor.Cursor.TheVariants as at
 
@@ -37,11 +37,6 @@ abbrev pub phase_calls : Setup → Errand → Phase → List Move
 phase_calls s t stage.Erase = erase_moves s t.planned
 phase_calls s t stage.Program = page_moves false s t
 phase_calls s t stage.Verify = verify_moves s t
-
-abbrev pub kind_of : Phase → ℕ
-kind_of stage.Erase = 1
-kind_of stage.Program = 2
-kind_of stage.Verify = 3
 
 -- ---- a region
 

@@ -5,7 +5,7 @@ use Rattle.algo_calls.specs.Setups.{Setup}
 use Rattle.algo_calls.specs.Shows.{MayAsk}
 use Rattle.flash_session.specs.Moves.{Move, Reset, Load, Make}
 use Rattle.flash_session.specs.Script.{Errand, Broken}
-use Rattle.gang_target.specs.declared.cursor.Phase.{Phase}
+use Rattle.flash_session.specs.declared.script.Phase.{Phase}
 use Rattle.gang_target.specs.declared.cursor.Cursor.{Cursor}
 use Rattle.gang_target.specs.declared.cursor.Cursor.TheVariants as at
 use Rattle.gang_target.specs.declared.cursor.Item.{Item}

@@ -1,14 +1,7 @@
 //! Where a target stands.
 use crate::target_end::TargetEnd;
 use algo_calls::Call;
-
-/// A phase of a script in a region.
-#[derive(Clone, Copy, Debug, PartialEq, Eq)]
-pub enum Phase {
-    Erase,
-    Program,
-    Verify,
-}
+use flash_session::Phase;
 
 /// Where a target stands in its script, between two moves. Each phase is of the first region, or of the second.
 #[derive(Clone, Copy, Debug, PartialEq, Eq)]

@@ -5,7 +5,7 @@ ghost use Rattle.bench_model.specs.State.{cells_half};
 ghost use Rattle.flash_session.specs.Moves.{Move, Stand, stand_at, IsOnPath, IsLeftOnWay};
 ghost use Rattle.flash_session.specs.Script.{Leg, Broken, script};
 ghost use Rattle.gang_target.specs.declared.cursor.Cursor.TheVariants as at;
-ghost use Rattle.gang_target.specs.declared.cursor.Phase.TheVariants as stage;
+ghost use Rattle.flash_session.specs.declared.script.Phase.TheVariants as stage;
 ghost use Rattle.gang_target.specs.declared.cursor.Place.TheVariants as place;
 ghost use Rattle.gang_target.specs.declared.target_end.TargetEnd.{TargetEnd};
 ghost use Rattle.gang_target.specs.declared.target.GangTarget.{GangTarget};

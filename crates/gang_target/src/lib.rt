@@ -13,7 +13,7 @@ mod target_begin;
 mod target_end;
 mod windows;
 
-pub use cursor::{Cursor, Phase, Place};
+pub use cursor::{Cursor, Place};
 pub use law::{targets_begin, targets_end_as_alone, targets_stand_on_their_path};
 pub use part::{Part, Task};
 pub use target::GangTarget;

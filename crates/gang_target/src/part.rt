@@ -1,8 +1,8 @@
 //! What a target's script is made of.
-use crate::cursor::{Item, Phase};
+use crate::cursor::Item;
 use algo_calls::Call;
 use erase_planner::Plan;
-use flash_session::Goal;
+use flash_session::{Goal, Phase};
 use job_text::Job;
 use page_geometry::Geometry;
 
@@ -51,7 +51,7 @@ impl Part {
     ghost use Rattle.gang_target.specs.Items.{sectors_on, pages_on, calls_on_phase};
     ghost use Rattle.gang_target.specs.Steps.{IsItem};
     ghost use Rattle.gang_target.specs.Targets.{planned_in};
-    ghost use Rattle.gang_target.specs.declared.cursor.Phase.TheVariants as stage;
+    ghost use Rattle.flash_session.specs.declared.script.Phase.TheVariants as stage;
 
     /// The next sector of the plan, from this one on.
     fn find_sector(&self, index: u32) -> Option<u32>

@@ -11,26 +11,27 @@ ghost use Rattle.flash_session.specs.Goals.{goal_in};
 ghost use Rattle.flash_session.specs.Script.{has_verify};
 ghost use Rattle.job_text.specs.Stands.{StandsFor};
 ghost use Rattle.gang_target.specs.declared.cursor.Cursor.TheVariants as at;
-ghost use Rattle.gang_target.specs.declared.cursor.Phase.TheVariants as stage;
+ghost use Rattle.flash_session.specs.declared.script.Phase.TheVariants as stage;
 ghost use Rattle.gang_target.specs.declared.cursor.Place.TheVariants as place;
 ghost use Rattle.gang_target.specs.declared.cursor.Step.TheVariants as step;
 ghost use Rattle.gang_target.specs.Ended.{IsEndAt};
 ghost use Rattle.gang_target.specs.Fit.{AreTwins, IsScripted, Fit};
 ghost use Rattle.gang_target.specs.Items.{calls_on_phase};
 ghost use Rattle.gang_target.specs.Prepared.{Prepares};
-ghost use Rattle.gang_target.specs.Rest.{after, kind_of};
+ghost use Rattle.gang_target.specs.Rest.{after};
 ghost use Rattle.gang_target.specs.Steps.{IsItem, IsCursor, IsStep, IsStepBehind, IsPhaseFrom, has_phase};
 ghost use Rattle.gang_target.specs.Takes.{IsNoCall, IsCall, IsKind, FromCursor, FromCall, FromCells, IsOver, TakesOn, Slice, SliceOf};
 ghost use Rattle.gang_target.specs.Targets.{calls_on, setup_on, part_in, has_second};
 ghost use Rattle.gang_target.specs.Turned.{IsExchanged, TurnsTo};
 ghost use Rattle.gang_target.specs.Turns.{Turns, IsUnended, turn_of, Judges};
 
-use crate::cursor::{Cursor, Item, Phase, Place, Step};
+use crate::cursor::{Cursor, Item, Place, Step};
 use crate::part::Task;
 use crate::target_end::{TargetEnd, Turn};
 use crate::windows::{Unread, WINDOW, compare_window, read_bytes};
 use algo_calls::{Call, CallEnd, CallsIn};
 use bench_model::{Bench, DeviceFault, StoreFault};
+use flash_session::Phase;
 use job_file::CloseFault;
 use job_text::Job;
 use ram_arena::Arena;
@@ -213,17 +214,6 @@ impl GangTarget {
         }
     }
 
-    /// What Init and UnInit are told.
-    fn kind(phase: Phase) -> u32
-        ensures { result ≡ kind_of phase }
-    {
-        match phase {
-            Phase::Erase => 1,
-            Phase::Program => 2,
-            Phase::Verify => 3,
-        }
-    }
-
     /// The next call among those of a phase, or its UnInit.
     fn call_step(&self, second: bool, phase: Phase, index: u32) -> Step
         requires scripted { IsScripted self.now }
@@ -243,9 +233,7 @@ impl GangTarget {
                 },
             },
             None => Step::Call {
-                call: Call::UnInit {
-                    kind: GangTarget::kind(phase),
-                },
+                call: Call::UnInit { kind: phase.kind() },
                 from: 0,
                 len: 0,
                 next: self.after(second, phase),
@@ -263,9 +251,7 @@ impl GangTarget {
         match cursor {
             Cursor::Begin { second, phase } => self.begin(second, phase),
             Cursor::Init { second, phase } => Step::Call {
-                call: Call::Init {
-                    kind: GangTarget::kind(phase),
-                },
+                call: Call::Init { kind: phase.kind() },
                 from: 0,
                 len: 0,
                 next: Cursor::Calls {

@@ -2,11 +2,11 @@
 ghost use Rattle.std.specs.Prelude.{◌≡◌};
 ghost use Rattle.gang_target.specs.Begun.{IsPartFrom, AreFrom, IsBegun};
 
-use crate::cursor::{Cursor, Phase, Place};
+use crate::cursor::{Cursor, Place};
 use crate::part::{Part, Task};
 use crate::target::GangTarget;
 use algo_calls::CallsIn;
-use flash_session::{Parts, Work};
+use flash_session::{Parts, Phase, Work};
 
 /// The calls of the work on a region, whose first cell is at this place, and the work without them.
 fn part_of(work: Work, start: u32) -> (CallsIn, Part)

@@ -32,7 +32,7 @@ make-requires-clause-room g c =
 pub returns : goal.returns
 returns g c =
     phase_at_end g.B.Bench.tells c.args.errand.now.second 1 c.args.machines.now (erasing (planned_in c.args.errand.now)) (c.erases.ensures.some (setup_on c.args.machines.now c.args.errand.now.second) c.if-not-erases.false) _ _ tt c.begin.new.self
-    c.in_ok-begin.ensures.moved c.in_ok-begin.ensures.plays _ tt _ _ _ _ c.in_ok-erase.ensures c.make.ensures
+    c.in_ok-begin.ensures.moved c.in_ok-begin.ensures.plays _ tt _ _ _ _ _ c.kind-kind.ensures c.in_ok-erase.ensures c.make.ensures
 
 pub erase-requires-clause-chip : goal.erase-requires-clause-chip
 erase-requires-clause-chip g c = entry_to c.args.machines.now c.begin.new.self c.args.errand.now.second (IsTrue c.args.errand.now.plan.now.made.chip) chip_entry c.in_ok-begin.ensures.plays.1.same c.in_ok-begin.ensures.moved c.requires.chip
