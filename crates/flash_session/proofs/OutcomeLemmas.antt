@@ -16,7 +16,7 @@ use Rattle.flash_session.specs.declared.machines.Machines.{Machines}
 use Rattle.flash_session.specs.declared.script.Errand.{Errand}
 use Rattle.flash_session.specs.declared.driver.Stopped.{Stopped}
 use Rattle.flash_session.specs.declared.driver.Stopped.TheVariants as stopped
-use Rattle.flash_session.specs.Differs.{IsFirstDifference, Compares}
+use Rattle.flash_session.specs.Differs.{DiffersFirst, Compares}
 use Rattle.bench_model.specs.Calls.{IsRead}
 use Rattle.flash_session.specs.Moves.{Move, Stand, Failure, failure, run, IsLeftOnWay}
 use Rattle.flash_session.specs.Drivers.{stand_of, legs_on}
@@ -32,7 +32,7 @@ same_ok : (r : Result Stand Failure) (a b : Stand) → r ≡ Ok a → r ≡ Ok b
 same_ok r a b one two = cc
 
 -- before the first difference of one kind there is none of another
-one_place : (goal cells : List ℕ) (d e : Difference) → IsFirstDifference goal cells d → IsFirstDifference goal cells e → e.at ≤ d.at
+one_place : (goal cells : List ℕ) (d e : Difference) → DiffersFirst goal cells d → DiffersFirst goal cells e → e.at ≤ d.at
 one_place goal cells d e one two = ⊎_elim
     (λ (less : d.at < e.at).
     let same : get_or cells d.at 0 ≡ get_or goal d.at 0 = sym (get_or-take e.at cells d.at 0 less) ∙ ap (λ (l : List ℕ). get_or l d.at 0) two.before ∙ get_or-take e.at goal d.at 0 less in
@@ -43,12 +43,12 @@ one_place goal cells d e one two = ⊎_elim
 same_difference : (d e : Difference) → d.at ≡ e.at → d.want ≡ e.want → d.got ≡ e.got → d ≡ e
 same_difference d e at wanted found = λ i. record { at = at i; want = wanted i; got = found i }
 
-one_difference : (goal cells : List ℕ) (d e : Difference) → IsFirstDifference goal cells d → IsFirstDifference goal cells e → d ≡ e
+one_difference : (goal cells : List ℕ) (d e : Difference) → DiffersFirst goal cells d → DiffersFirst goal cells e → d ≡ e
 one_difference goal cells d e one two =
     let at : d.at ≡ e.at = omega (arith, one_place goal cells d e one two, one_place goal cells e d two one) in
     same_difference d e at (sym one.wanted ∙ ap (λ (i : ℕ). get_or goal i 0) at ∙ two.wanted) (sym one.found ∙ ap (λ (i : ℕ). get_or cells i 0) at ∙ two.found)
 
-pub differs_somewhere : (goal cells : List ℕ) (d : Difference) → cells ≡ goal → IsFirstDifference goal cells d → ⊥
+pub differs_somewhere : (goal cells : List ℕ) (d : Difference) → cells ≡ goal → DiffersFirst goal cells d → ⊥
 differs_somewhere goal cells d same first = first.differ (sym first.wanted ∙ ap (λ (l : List ℕ). get_or l d.at 0) (sym same) ∙ first.found)
 
 pub one_cells : (a : Stand) (moves : List Move) (c d : List ℕ) → GoTo a moves c → GoTo a moves d → c ≡ d
@@ -76,7 +76,7 @@ one_outcome a moves goal (end.Reached r) end.StoreFault c d one two = absurd two
 one_outcome a moves goal (end.Mismatch x) (end.Reached s) c d one two = absurd (differs_somewhere goal c x (one_cells a moves c d one.0 two.0 ∙ two.1) one.1)
 one_outcome a moves goal (end.Mismatch x) (end.Mismatch y) c d one two =
     let same : c ≡ d = one_cells a moves c d one.0 two.0 in
-    (ap end.Mismatch (one_difference goal d x y (subst (λ (l : List ℕ). IsFirstDifference goal l x) same one.1) two.1), same)
+    (ap end.Mismatch (one_difference goal d x y (subst (λ (l : List ℕ). DiffersFirst goal l x) same one.1) two.1), same)
 one_outcome a moves goal (end.Mismatch x) (end.CallFailed number call e) c d one two = absurd (not_both (run a moves) _ _ one.0.ran two.ran)
 one_outcome a moves goal (end.Mismatch x) end.DeviceFault c d one two = absurd two
 one_outcome a moves goal (end.Mismatch x) end.StoreFault c d one two = absurd two
@@ -131,7 +131,7 @@ module _ (tells : Bool) (t : Errand) (other : Option Errand) (goal : List ℕ) (
     pub follows_mismatch : (d : Difference) (count : ℕ) → Compares tells goal w.cells count (Some d) → Follows legs goal (stand_of before.driver s.cells) (end.Mismatch d) s x
     follows_mismatch d count finds = record {
       broken = some.0;
-      ends = (goes_to, subst (λ (l : List ℕ). IsFirstDifference goal l d) (sym (reads.cells.cells told)) (finds.2 told));
+      ends = (goes_to, subst (λ (l : List ℕ). DiffersFirst goal l d) (sym (reads.cells.cells told)) (finds.2 told));
       moments = leaves_then_nothing (IsLeftOnWay (stand_of before.driver s.cells) (script legs some.0)) (some.1.went told).moments reads.cells.moments;
     }
 

@@ -7,7 +7,7 @@ use Rattle.algo_calls.specs.declared.call.Call.{Call}
 use Rattle.algo_calls.specs.declared.call.CallEnd.{CallEnd}
 use Rattle.flash_session.specs.declared.session.SessionEnd.{SessionEnd}
 use Rattle.flash_session.specs.declared.session.SessionEnd.TheVariants as end
-use Rattle.flash_session.specs.Differs.{IsFirstDifference}
+use Rattle.flash_session.specs.Differs.{DiffersFirst}
 use Rattle.flash_session.specs.Moves.{Move, Stand, failure, run, IsLeftOnWay}
 use Rattle.flash_session.specs.Plays.{BreaksOff, IsNotDone}
 use Rattle.flash_session.specs.Script.{Leg, Broken, script}
@@ -27,7 +27,7 @@ pub record FailAt (a : Stand) (moves : List Move) (number : ℕ) (call : Call) (
 -- the end of moves and of the comparison after them, with the cells that are left
 abbrev pub IsEnd : Stand → List Move → List ℕ → SessionEnd → List ℕ → Type 0
 IsEnd a moves goal (end.Reached r) cells = GoTo a moves cells × (cells ≡ goal)
-IsEnd a moves goal (end.Mismatch d) cells = GoTo a moves cells × IsFirstDifference goal cells d
+IsEnd a moves goal (end.Mismatch d) cells = GoTo a moves cells × DiffersFirst goal cells d
 IsEnd a moves goal (end.CallFailed number call e) cells = FailAt a moves number call e cells
 IsEnd a moves goal end.DeviceFault cells = ⊥
 IsEnd a moves goal end.StoreFault cells = ⊥

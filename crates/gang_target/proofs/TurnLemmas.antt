@@ -17,7 +17,7 @@ use Rattle.algo_calls.specs.Frames.{after_load}
 use Rattle.algo_calls.specs.Calls.{after_reset, ResetGives}
 use Rattle.readback.specs.declared.compare.Difference.{Difference}
 use Rattle.flash_session.specs.Moves.{Move, Reset, Load, Make, Stand, stand_at, Failure, failure, reset_to, run, moved, StopLeaves, IsOnPath, IsLeftOnWay}
-use Rattle.flash_session.specs.Differs.{IsFirstDifference, FindsIn}
+use Rattle.flash_session.specs.Differs.{DiffersFirst, FindsIn}
 use Rattle.flash_session.specs.Outcome.{GoTo}
 use Rattle.flash_session.specs.Plays.{Shows, BreaksOff}
 use Rattle.flash_session.specs.Script.{Broken, script}
@@ -158,7 +158,7 @@ pub found_alike : (tells : Bool) (cells goal : List ℕ) (at size : ℕ) → IsT
 found_alike tells cells goal at size told found = ap (λ (n : ℕ). take n (drop at cells)) (sym found.long) ∙ found.finds told ∙ found.are told
 
 pub differs_first : (tells : Bool) (cells goal : List ℕ) (at size : ℕ) (d : Difference) → IsTrue tells → at + size ≤ length goal → take at cells ≡ take at goal
-    → FindsIn tells cells goal at size (Some d) → IsFirstDifference goal cells d
+    → FindsIn tells cells goal at size (Some d) → DiffersFirst goal cells d
 differs_first tells cells goal at size d told within same found =
     let f = found.finds in
     let less : f.offset < size = omega (arith, f.first.within, found.long) in

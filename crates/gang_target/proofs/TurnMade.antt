@@ -37,7 +37,7 @@ use Rattle.algo_calls.specs.Calls.{after_reset, ResetGives, CallGives}
 use Rattle.algo_calls.specs.Shows.{setup_at, point_at, world_at, Fits, AgreesAt, Slices}
 use Rattle.algo_calls.proofs.CallLemmas.{from_run}
 use Rattle.algo_calls.proofs.ResetLemmas.{reset_idle}
-use Rattle.flash_session.specs.Differs.{IsFirstDifference, FindsIn}
+use Rattle.flash_session.specs.Differs.{DiffersFirst, FindsIn}
 use Rattle.flash_session.specs.Moves.{Move, Reset, Load, Make, Stand, stand_at, Failure, run, IsLeftOnWay, calls_in}
 use Rattle.flash_session.specs.Plays.{BreaksOff}
 use Rattle.flash_session.specs.Script.{Broken}
@@ -593,7 +593,7 @@ module _ (tells : Bool) (old : GangTarget) (arena : List (List ℕ)) (start : Be
     differs_turn size d le goal_long finds counted stored =
         compare_turn (place.Ended (ended.Mismatch d)) tt refl (omega arith) (none_counted start.device_faults end.device_faults counted) (no_fault start.store_faults end.store_faults stored) (λ z. z)
         (λ told a way on ran alike. ends_reached legs goal a way on (ended.Mismatch d) old.made here.world end ran (sym (reads.cells.cells told))
-        (λ moves goes. (goes, subst (λ (l : List ℕ). IsFirstDifference goal l d) (sym (reads.cells.cells told)) (differs_first tells start.cells goal at size d told (omega (arith, le, goal_long told)) alike finds))))
+        (λ moves goes. (goes, subst (λ (l : List ℕ). DiffersFirst goal l d) (sym (reads.cells.cells told)) (differs_first tells start.cells goal at size d told (omega (arith, le, goal_long told)) alike finds))))
 
     -- the cells, or the goal, could not be read
     pub compare_unread : (e : TargetEnd) → IsScriptEnd e → HasDeviceCause start.device_faults end.device_faults (is_device_target e) → IsCounted start.store_faults end.store_faults (is_store_target e) → (IsDone (place.Ended e) → ⊥)

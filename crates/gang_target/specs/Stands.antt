@@ -6,7 +6,7 @@ use Rattle.target_core.specs.Path.{Point}
 use Rattle.algo_calls.specs.declared.call.Call.{Call}
 use Rattle.algo_calls.specs.Setups.{Setup}
 use Rattle.algo_calls.specs.Frames.{asked, fuel_of, first_point}
-use Rattle.flash_session.specs.Differs.{IsFirstDifference}
+use Rattle.flash_session.specs.Differs.{DiffersFirst}
 use Rattle.flash_session.specs.Moves.{Move, Make, Stand, stand_at, run}
 use Rattle.flash_session.specs.Outcome.{GoTo, FailAt}
 use Rattle.flash_session.specs.Plays.{BreaksOff}
@@ -45,7 +45,7 @@ EndIs a moves goal ended.Done now = GoTo a moves now.cells × (now.cells ≡ goa
 EndIs a moves goal (ended.Open fault) now = ⊥
 EndIs a moves goal (ended.Survey fault) now = ⊥
 EndIs a moves goal (ended.CallFailed number call e) now = FailAt a moves number call e now.cells
-EndIs a moves goal (ended.Mismatch d) now = GoTo a moves now.cells × IsFirstDifference goal now.cells d
+EndIs a moves goal (ended.Mismatch d) now = GoTo a moves now.cells × DiffersFirst goal now.cells d
 EndIs a moves goal ended.StoreFault now = BreaksOff a moves now
 EndIs a moves goal ended.DeviceFault now = BreaksOff a moves now
 

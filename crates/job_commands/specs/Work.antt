@@ -13,7 +13,7 @@ use Rattle.job_text.specs.Body.{Job, body_of}
 use Rattle.report_text.specs.Plan.{plan_text}
 use Rattle.report_text.specs.Region.{plans_text}
 use Rattle.command_answers.specs.Places.{address_at}
-use Rattle.flash_session.specs.Differs.{IsFirstDifference}
+use Rattle.flash_session.specs.Differs.{DiffersFirst}
 use Rattle.flash_session.specs.Local.{IsInPlans, SameBut}
 use Rattle.flash_session.specs.Moves.{Move, Stand, stand_at, IsLeftOnWay}
 use Rattle.flash_session.specs.Outcome.{GoTo, FailAt}
@@ -90,7 +90,7 @@ Fails w broken number call end cells = FailAt (start_for w) (moves_of w broken) 
 pub record Misses (w : Work) (broken : Broken) (at wanted found : ℕ) (cells : List ℕ) : Type 0 where
   pub ends : Ends w broken cells
   pub difference : Difference
-  pub first : IsFirstDifference w.goal cells difference
+  pub first : DiffersFirst w.goal cells difference
   pub at_is : address_at w.board.regions difference.at ≡ Some at
   pub wanted_is : wanted ≡ difference.want
   pub found_is : found ≡ difference.got
