@@ -1,5 +1,5 @@
 //! The opening of a gang.
-ghost use Rattle.std.specs.Prelude.{◌≡◌, length, IsTrue, IfOk, None};
+ghost use Rattle.std.specs.Prelude.{◌≡◌, IsTrue, IfOk, None};
 ghost use Rattle.bench_model.specs.Calls.{IsRead};
 ghost use Rattle.bench_model.specs.History.{LeftOnly};
 ghost use Rattle.bench_model.specs.Pairs.{PairsLeave};
@@ -29,21 +29,12 @@ fn longest_page(parts: &Parts) -> u32
     }
 }
 
-/// So many bytes, all zero.
-fn zeros(alloc: Global, len: usize) -> Result<Vec<u8>, OutOfMemory>
-    ensures { IfOk result (λ bytes. length bytes.items ≡ len) }
-{
-    Ok(vec![in alloc; 0u8; len]?)
-}
-
 /// A target of what a session gave up, with this window.
 fn make_slot(alloc: Global, parts: Parts, window: usize) -> Result<Slot, OutOfMemory>
     ensures { IfOk result (IsMade parts window) }
 {
-    match zeros(alloc, longest_page(&parts) as usize) {
-        Ok(page) => Ok(Slot::Target(begin(parts, window, page))),
-        Err(OutOfMemory) => Err(OutOfMemory),
-    }
+    let page = vec![in alloc; 0u8; longest_page(&parts) as usize]?;
+    Ok(Slot::Target(begin(parts, window, page)))
 }
 
 /// Surveys the job of a session to its new goal, and makes a target of it, with this window.
