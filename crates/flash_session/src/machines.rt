@@ -102,8 +102,8 @@ impl Machines {
         requires at_bench { AreAtBench B.tells self.old (B.state bench.old) }
         requires there { IsTrue second → IsTrue (is_some self.old.other) }
         requires room { self.old.driver.made + 1 < 2 ^ 32 }
-        ensures plays { (torn : List ℕ) × PlaysOn B.tells self.old (Reset (setup_on self.old second) torn ∷ Load (setup_on self.old second)
-            ∷ Make (setup_on self.old second) (Init (kind_of phase)) [] ∷ []) result self.new (B.state bench.old) (B.state bench.new) }
+        ensures plays { let s = setup_on self.old second in (torn : List ℕ) × PlaysOn B.tells self.old
+            (Reset s torn ∷ Load s ∷ Make s (Init (kind_of phase)) [] ∷ []) result self.new (B.state bench.old) (B.state bench.new) }
         ensures moved { OnOk result (self.new.second ≡ second) }
     {
         self.reset_for(bench, second)?;

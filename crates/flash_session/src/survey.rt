@@ -1,5 +1,5 @@
 //! The survey of a job's regions.
-ghost use Rattle.std.specs.Prelude.{◌≡◌, ◌<◌, ◌≤◌, ◌+◌, ◌^◌, ◌∷◌, option_to_list, IsTrue, IfOk, None, ◌++◌, ℕ, List, All, length, take, drop, is_some, IsOk, OnOk};
+ghost use Rattle.std.specs.Prelude.{◌≡◌, ◌<◌, ◌≤◌, ◌+◌, ◌^◌, ◌∷◌, option_to_list, IsTrue, IfOk, None, ◌++◌, ℕ, List, All, length, take, drop, is_some, OnOk};
 ghost use Rattle.bench_model.specs.Calls.{IsRead};
 ghost use Rattle.bench_model.specs.Device.{HasDeviceCause};
 ghost use Rattle.board_file.specs.Limits.{size_of};
@@ -116,8 +116,8 @@ fn feed(aim: &Aim, cells: &[u8], wanted: &[u8], plan: &mut Plan)
     requires making { length plan.old.marks ≡ length aim.now.geometry.now.pages }
     requires same { length cells.now ≡ length wanted.now }
     requires room { plan.old.count + length cells.now ≤ aim.now.geometry.now.size }
-    ensures fed { (o w : List ℕ) → Fed aim.now.geometry.now aim.now.algorithm.now.device.empty plan.old o w
-        → Fed aim.now.geometry.now aim.now.algorithm.now.device.empty plan.new (o ++ cells.now) (w ++ wanted.now) }
+    ensures fed { let empty = aim.now.algorithm.now.device.empty in (o w : List ℕ) → Fed aim.now.geometry.now empty plan.old o w
+        → Fed aim.now.geometry.now empty plan.new (o ++ cells.now) (w ++ wanted.now) }
     ensures making { length plan.new.marks ≡ length aim.now.geometry.now.pages }
     ensures count { plan.new.count ≡ plan.old.count + length cells.now }
     ensures spare { SpareStays plan.old plan.new }
@@ -145,10 +145,10 @@ fn survey_window<B: Bench>(
     requires stands { IsTrue B.tells → StandsFor aim.now.job.now (B.state bench.old).file }
     requires making { length plan.old.marks ≡ length aim.now.geometry.now.pages }
     requires fed { plan.old.count ≡ at }
-    ensures fed { IsTrue B.tells → OnOk result ((o w : List ℕ) → Fed aim.now.geometry.now aim.now.algorithm.now.device.empty plan.old o w
-        → Fed aim.now.geometry.now aim.now.algorithm.now.device.empty plan.new
-        (o ++ take (length cells.old) (drop (aim.now.start + at) (B.state bench.old).cells))
-        (w ++ take (length cells.old) (drop (aim.now.start + at) (goal_in aim.now.job.now aim.now.goal (B.state bench.old).file)))) }
+    ensures fed { let empty = aim.now.algorithm.now.device.empty in let from = aim.now.start + at in
+        let goal = goal_in aim.now.job.now aim.now.goal (B.state bench.old).file in
+        IsTrue B.tells → OnOk result ((o w : List ℕ) → Fed aim.now.geometry.now empty plan.old o w → Fed aim.now.geometry.now empty plan.new
+        (o ++ take (length cells.old) (drop from (B.state bench.old).cells)) (w ++ take (length cells.old) (drop from goal))) }
     ensures making { OnOk result (length plan.new.marks ≡ length aim.now.geometry.now.pages) }
     ensures count { OnOk result (plan.new.count ≡ at + length cells.old) }
     ensures spare { OnOk result (SpareStays plan.old plan.new) }
@@ -195,10 +195,9 @@ fn survey_windows<B: Bench>(
     requires size { aim.now.geometry.now.size ≡ aim.now.algorithm.now.device.size }
     requires idle { IsTrue B.tells → (B.state bench.old).operation ≡ None }
     requires stands { IsTrue B.tells → StandsFor aim.now.job.now (B.state bench.old).file }
-    ensures plan { IsTrue B.tells → OnOk result (IsLeastPlan aim.now.geometry.now aim.now.job.now.board.weights
-        (is_some aim.now.algorithm.now.entries.erase_chip) aim.now.algorithm.now.device.empty
-        (take aim.now.algorithm.now.device.size (drop aim.now.start (B.state bench.old).cells))
-        (take aim.now.algorithm.now.device.size (drop aim.now.start (goal_in aim.now.job.now aim.now.goal (B.state bench.old).file))) plan.new.made) }
+    ensures plan { let a = aim.now.algorithm.now in let goal = goal_in aim.now.job.now aim.now.goal (B.state bench.old).file in
+        IsTrue B.tells → OnOk result (IsLeastPlan aim.now.geometry.now aim.now.job.now.board.weights (is_some a.entries.erase_chip) a.device.empty
+        (take a.device.size (drop aim.now.start (B.state bench.old).cells)) (take a.device.size (drop aim.now.start goal)) plan.new.made) }
     ensures entry { OnOk result (IsTrue plan.new.made.chip → IsTrue (is_some aim.now.algorithm.now.entries.erase_chip)) }
     ensures bytes { IsTrue B.tells → OnOk result (All (λ v. v < 2 ^ 8) (take aim.now.algorithm.now.device.size
         (drop aim.now.start (B.state bench.old).cells))) }
@@ -235,10 +234,9 @@ fn read_and_plan<B: Bench>(bench: &mut B, aim: &Aim, plan: &mut Plan) -> Result<
     requires size { aim.now.geometry.now.size ≡ aim.now.algorithm.now.device.size }
     requires idle { IsTrue B.tells → (B.state bench.old).operation ≡ None }
     requires stands { IsTrue B.tells → StandsFor aim.now.job.now (B.state bench.old).file }
-    ensures plan { IsTrue B.tells → OnOk result (IsLeastPlan aim.now.geometry.now aim.now.job.now.board.weights
-        (is_some aim.now.algorithm.now.entries.erase_chip) aim.now.algorithm.now.device.empty
-        (take aim.now.algorithm.now.device.size (drop aim.now.start (B.state bench.old).cells))
-        (take aim.now.algorithm.now.device.size (drop aim.now.start (goal_in aim.now.job.now aim.now.goal (B.state bench.old).file))) plan.new.made) }
+    ensures plan { let a = aim.now.algorithm.now in let goal = goal_in aim.now.job.now aim.now.goal (B.state bench.old).file in
+        IsTrue B.tells → OnOk result (IsLeastPlan aim.now.geometry.now aim.now.job.now.board.weights (is_some a.entries.erase_chip) a.device.empty
+        (take a.device.size (drop aim.now.start (B.state bench.old).cells)) (take a.device.size (drop aim.now.start goal)) plan.new.made) }
     ensures entry { OnOk result (IsTrue plan.new.made.chip → IsTrue (is_some aim.now.algorithm.now.entries.erase_chip)) }
     ensures bytes { IsTrue B.tells → OnOk result (All (λ v. v < 2 ^ 8) (take aim.now.algorithm.now.device.size
         (drop aim.now.start (B.state bench.old).cells))) }
