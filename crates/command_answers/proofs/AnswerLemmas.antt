@@ -3,7 +3,8 @@ use Rattle.std.proofs.Common.{◌≡◌, ◌∙◌, sym, ap, subst, refl, arith,
 use Rattle.bench_model.specs.State.{BenchState}
 use Rattle.bench_model.proofs.Moments.{only_reads_here, file_stays_here, cells_stay_here}
 use Rattle.outside_io.specs.State.{SinkState}
-use Rattle.report_text.specs.Refusal.{Refusal, out_of_memory, usage, input_fault, image_too_long, flm_refused, other_device, no_room, board_refused, image_refused, image_misplaced, job_open, no_job, not_a_job, damaged, cells_differ, store_fault, device_fault, output_fault, call_failed, mismatch, differs, status_of}
+use Rattle.report_text.specs.Refusal.{Refusal, out_of_memory, usage, input_fault, image_too_long, flm_refused, other_device, no_room, board_refused, image_refused, image_misplaced, job_open, no_job, not_a_job, damaged, cells_differ, store_fault, device_fault, output_fault}
+use Rattle.report_text.proofs.StatusLemmas.{some_status}
 use Rattle.command_files.specs.Inputs.{InputsCall, IsFile, IsUntaken, NoneFailed, TakesNothing}
 use Rattle.command_files.specs.Steps.{IsTakeFault}
 use Rattle.command_answers.specs.Call.{BenchCall, SinkCall, Answer, done, refused, bench_call, sink_call, IsUntouched, Says}
@@ -11,34 +12,10 @@ use Rattle.command_answers.specs.Answered.{Fault, input, store, device, output, 
 
 -- The status.
 
--- no refusal has the status 0
-not_0 : (refusal : Refusal) → status_of refusal ≡ 0 → ⊥
-not_0 out_of_memory zero = omega (arith, zero)
-not_0 usage zero = omega (arith, zero)
-not_0 (input_fault name) zero = omega (arith, zero)
-not_0 (image_too_long bytes cells) zero = omega (arith, zero)
-not_0 (flm_refused fault) zero = omega (arith, zero)
-not_0 (other_device base size) zero = omega (arith, zero)
-not_0 (no_room need have) zero = omega (arith, zero)
-not_0 (board_refused fault) zero = omega (arith, zero)
-not_0 (image_refused name fault) zero = omega (arith, zero)
-not_0 (image_misplaced fault) zero = omega (arith, zero)
-not_0 job_open zero = omega (arith, zero)
-not_0 no_job zero = omega (arith, zero)
-not_0 (not_a_job at) zero = omega (arith, zero)
-not_0 (damaged kept found) zero = omega (arith, zero)
-not_0 (cells_differ wanted found) zero = omega (arith, zero)
-not_0 store_fault zero = omega (arith, zero)
-not_0 device_fault zero = omega (arith, zero)
-not_0 output_fault zero = omega (arith, zero)
-not_0 (call_failed number call end) zero = omega (arith, zero)
-not_0 (mismatch at wanted found) zero = omega (arith, zero)
-not_0 (differs at wanted found) zero = omega (arith, zero)
-
 -- status 0 is nothing else than done
 pub zero_is_done : (status : ℕ) (err : SinkCall) (answer : Answer) → Says status err answer → status ≡ 0 → answer ≡ done
 zero_is_done status err done says zero = refl
-zero_is_done status err (refused refusal) says zero = absurd (not_0 refusal (sym says.0 ∙ zero))
+zero_is_done status err (refused refusal) says zero = absurd (omega (arith, some_status refusal, says.0, zero))
 
 -- Counts.
 

@@ -4,7 +4,7 @@ use Rattle.faults.specs.Counts.{Rose}
 use Rattle.bench_model.specs.Calls.{OnlyReads}
 use Rattle.report_text.specs.Refusal.{Refusal, out_of_memory, usage, input_fault, image_too_long, flm_refused, other_device, no_room, board_refused}
 use Rattle.report_text.specs.Refusal.{image_refused, image_misplaced, job_open, no_job, not_a_job, damaged, cells_differ, store_fault, device_fault}
-use Rattle.report_text.specs.Refusal.{output_fault, call_failed, mismatch, differs}
+use Rattle.report_text.specs.Refusal.{output_fault}
 use Rattle.command_files.specs.Inputs.{InputsCall, IsUntaken}
 use Rattle.command_answers.specs.Call.{BenchCall, SinkCall, Call, TookNothing, IsUntouched, Answer, done, refused, Says}
 
@@ -35,123 +35,6 @@ pub record AreCounted (bench : BenchCall) (inputs : InputsCall) (out : SinkCall)
   pub store_count : IsCounted bench.before.store_faults bench.after.store_faults store answer
   pub device_count : IsCounted bench.before.device_faults bench.after.device_faults device answer
   pub out_count : IsCounted out.before.faults out.after.faults output answer
-
--- The refusals of each command.
-
-abbrev pub has_program : Refusal → Bool
-has_program out_of_memory = true
-has_program usage = true
-has_program (input_fault name) = true
-has_program (board_refused fault) = true
-has_program (flm_refused fault) = true
-has_program (other_device base size) = true
-has_program (no_room need have) = true
-has_program (image_refused name fault) = true
-has_program (image_misplaced fault) = true
-has_program job_open = true
-has_program (not_a_job at) = true
-has_program (damaged kept found) = true
-has_program (cells_differ wanted found) = true
-has_program store_fault = true
-has_program device_fault = true
-has_program output_fault = true
-has_program (call_failed number call end) = true
-has_program (mismatch at wanted found) = true
-has_program _ = false
-
-abbrev pub has_begin : Refusal → Bool
-has_begin out_of_memory = true
-has_begin usage = true
-has_begin (input_fault name) = true
-has_begin (board_refused fault) = true
-has_begin (flm_refused fault) = true
-has_begin (other_device base size) = true
-has_begin (no_room need have) = true
-has_begin (image_refused name fault) = true
-has_begin (image_misplaced fault) = true
-has_begin job_open = true
-has_begin (not_a_job at) = true
-has_begin (damaged kept found) = true
-has_begin (cells_differ wanted found) = true
-has_begin store_fault = true
-has_begin device_fault = true
-has_begin output_fault = true
-has_begin _ = false
-
--- `resume` and `revert`
-abbrev pub has_resume : Refusal → Bool
-has_resume out_of_memory = true
-has_resume no_job = true
-has_resume (not_a_job at) = true
-has_resume (damaged kept found) = true
-has_resume (cells_differ wanted found) = true
-has_resume store_fault = true
-has_resume device_fault = true
-has_resume output_fault = true
-has_resume (call_failed number call end) = true
-has_resume (mismatch at wanted found) = true
-has_resume _ = false
-
-abbrev pub has_plan : Refusal → Bool
-has_plan out_of_memory = true
-has_plan usage = true
-has_plan (input_fault name) = true
-has_plan (board_refused fault) = true
-has_plan (flm_refused fault) = true
-has_plan (other_device base size) = true
-has_plan (no_room need have) = true
-has_plan (image_refused name fault) = true
-has_plan (image_misplaced fault) = true
-has_plan (cells_differ wanted found) = true
-has_plan device_fault = true
-has_plan output_fault = true
-has_plan _ = false
-
-abbrev pub has_verify : Refusal → Bool
-has_verify out_of_memory = true
-has_verify (input_fault name) = true
-has_verify (board_refused fault) = true
-has_verify (image_refused name fault) = true
-has_verify (image_misplaced fault) = true
-has_verify (cells_differ wanted found) = true
-has_verify device_fault = true
-has_verify output_fault = true
-has_verify (differs at wanted found) = true
-has_verify _ = false
-
-abbrev pub has_compare : Refusal → Bool
-has_compare out_of_memory = true
-has_compare (input_fault name) = true
-has_compare (image_too_long bytes cells) = true
-has_compare device_fault = true
-has_compare output_fault = true
-has_compare (differs at wanted found) = true
-has_compare _ = false
-
-abbrev pub has_status : Refusal → Bool
-has_status out_of_memory = true
-has_status (not_a_job at) = true
-has_status (damaged kept found) = true
-has_status (cells_differ wanted found) = true
-has_status store_fault = true
-has_status output_fault = true
-has_status _ = false
-
-abbrev pub has_inspect : Refusal → Bool
-has_inspect out_of_memory = true
-has_inspect (input_fault name) = true
-has_inspect (flm_refused fault) = true
-has_inspect output_fault = true
-has_inspect _ = false
-
-abbrev pub has_dump : Refusal → Bool
-has_dump out_of_memory = true
-has_dump (input_fault name) = true
-has_dump (board_refused fault) = true
-has_dump (cells_differ wanted found) = true
-has_dump device_fault = true
-has_dump output_fault = true
-has_dump _ = false
 
 -- Yielding: want of memory may be answered in place of any answer, and so may a fault, by its count.
 

@@ -5,7 +5,7 @@ use Rattle.bench_model.specs.State.{BenchState}
 use Rattle.bench_model.specs.Calls.{FileStays, CellsStay}
 use Rattle.outside_io.specs.State.{SinkState}
 use Rattle.outside_io.specs.Appends.{AppendsPart}
-use Rattle.report_text.specs.Refusal.{Refusal, status_of, line_of}
+use Rattle.report_text.specs.Refusal.{Refusal, status_of, line_of, output_fault}
 use Rattle.command_files.specs.Inputs.{InputsCall}
 
 -- What each of the four objects means at entry and at exit, and whether it tells its contents.
@@ -76,3 +76,17 @@ pub data Answer : Type 0 where
 abbrev pub Says : ℕ → SinkCall → Answer → Type 0
 Says status err done = (status ≡ 0) × TookNothing err
 Says status err (refused refusal) = (status ≡ status_of refusal) × (TookAll err (line_of refusal) ⊎ TookPart err (line_of refusal))
+
+-- What an answer prints.
+
+-- a text where done, a beginning of it where `out` fails, and nothing with every other answer
+abbrev pub PrintsText : SinkCall → List ℕ → Answer → Type 0
+PrintsText out text done = TookAll out text
+PrintsText out text (refused output_fault) = TookPart out text
+PrintsText out text (refused _) = TookNothing out
+
+-- the same, where there is no other answer
+abbrev pub SaysText : SinkCall → List ℕ → Answer → Type 0
+SaysText out text done = TookAll out text
+SaysText out text (refused output_fault) = TookPart out text
+SaysText out text (refused _) = ⊥

@@ -22,8 +22,9 @@ use Rattle.job_text.specs.Files.{IsFree, IsWhole, IsClosed}
 use Rattle.job_text.specs.Body.{Job, body_of, flm_len, AreFlms, IsJob}
 use Rattle.campaign.specs.Stops.{IsUntouched, IsAtClose}
 use Rattle.flash_session.specs.declared.goal.Goal.TheVariants.{New}
-use Rattle.report_text.specs.Refusal.{Refusal as Reason, out_of_memory, usage, input_fault, image_too_long, image_refused, image_misplaced, flm_refused, other_device, no_room, board_refused, job_open, no_job, not_a_job, damaged, cells_differ, store_fault, device_fault, output_fault, call_failed, mismatch, differs, status_of}
+use Rattle.report_text.specs.Refusal.{Refusal as Reason, out_of_memory, no_job, cells_differ, status_of}
 use Rattle.report_text.specs.declared.refusal.Refusal.{Refusal}
+use Rattle.report_text.proofs.StatusLemmas.{some_status}
 use Rattle.command_answers.specs.Call.{bench_call, Answer, done, refused}
 use Rattle.command_answers.specs.Answered.{yields, Refuses, OnlyLooked}
 use Rattle.job_commands.specs.GoOn.{work_to, GoesOnFrom}
@@ -92,32 +93,9 @@ done_laid seed t fresh lost after is_fresh is base cells from =
     (left_pair seed t fresh lost is)
 
 -- status 0 is nothing else than done
-no_zero : (reason : Reason) → status_of reason ≡ 0 → ⊥
-no_zero out_of_memory is = cc
-no_zero usage is = cc
-no_zero (input_fault name) is = cc
-no_zero (image_too_long bytes cells) is = cc
-no_zero (image_refused name fault) is = cc
-no_zero (image_misplaced fault) is = cc
-no_zero (flm_refused fault) is = cc
-no_zero (other_device base size) is = cc
-no_zero (no_room need have) is = cc
-no_zero (board_refused fault) is = cc
-no_zero job_open is = cc
-no_zero no_job is = cc
-no_zero (not_a_job at) is = cc
-no_zero (damaged kept found) is = cc
-no_zero (cells_differ wanted found) is = cc
-no_zero store_fault is = cc
-no_zero device_fault is = cc
-no_zero output_fault is = cc
-no_zero (call_failed number call end) is = cc
-no_zero (mismatch at wanted found) is = cc
-no_zero (differs place wanted found) is = cc
-
 pub zero_done : (end : Option Refusal) → status_in end ≡ 0 → answer_in end ≡ done
 zero_done None is = refl
-zero_done (Some r) is = absurd (no_zero _ is)
+zero_done (Some r) is = absurd (omega (arith, some_status _, is))
 
 pub status_at : Answer → ℕ
 status_at done = 0

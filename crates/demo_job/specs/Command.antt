@@ -7,12 +7,13 @@ use Rattle.bench_model.specs.declared.memory.MemoryBench.{MemoryBench}
 use Rattle.report_text.specs.Refusal.{out_of_memory, output_fault}
 use Rattle.command_files.specs.Inputs.{InputsCall, TakesNothing}
 use Rattle.command_answers.specs.Call.{BenchCall, bench_call, SinkCall, TookNothing, TookAll, TookPart, IsUntouched, Answer, refused}
-use Rattle.command_answers.specs.Answered.{has_resume, on_own_bench, EndsLawfully}
+use Rattle.command_answers.specs.Answered.{on_own_bench, EndsLawfully}
 use Rattle.demo_job.specs.Made.{cells_of}
 use Rattle.demo_job.specs.Run.{IsFresh, answer_in}
 use Rattle.demo_job.specs.Lines.{demo_text}
 use Rattle.demo_job.specs.Demo.{Shows}
 use Rattle.demo_job.specs.declared.run.Demo.{Demo}
+use Rattle.job_commands.specs.GoOn.{has_resume}
 
 -- There was no memory before the resume began, and nothing was put.
 pub record EndsUnbegun (out : SinkCall) (answer : Answer) : Type 0 where

@@ -1,8 +1,8 @@
 -- What a demonstration shows.
 use Rattle.std.specs.Prelude.{◌≡◌, ◌↔◌, ℕ, IsTrue}
+use Rattle.algo_calls.specs.Duties.{device_of}
 use Rattle.bench_model.specs.Shown.{bench_of}
 use Rattle.bench_model.specs.declared.memory.MemoryBench.{MemoryBench}
-use Rattle.job_commands.specs.Work.{layout_of}
 use Rattle.demo_job.specs.Made.{laid_of, stop_of}
 use Rattle.demo_job.specs.Target.{Target, IsTarget}
 use Rattle.demo_job.specs.Plan.{erased, programmed}
@@ -16,8 +16,8 @@ pub record Shows (seed : ℕ) (fresh : MemoryBench) (demo : Demo) : Type 0 where
   pub target : Target
   pub is_target : IsTarget target
   pub seed_is : demo.lines.seed ≡ seed
-  pub sectors_are : demo.lines.sectors ≡ erased (layout_of target.algorithm) (plan_of seed target)
-  pub pages_are : demo.lines.pages ≡ programmed (layout_of target.algorithm) (plan_of seed target)
+  pub sectors_are : demo.lines.sectors ≡ erased (device_of target.algorithm) (plan_of seed target)
+  pub pages_are : demo.lines.pages ≡ programmed (device_of target.algorithm) (plan_of seed target)
   pub cost_is : demo.lines.cost ≡ (plan_of seed target).cost
   pub calls_are : demo.lines.calls ≡ stop_of seed
   pub lost : MemoryBench

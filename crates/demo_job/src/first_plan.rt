@@ -1,7 +1,7 @@
 //! What the plan of the first run erases and programs, in numbers.
 ghost use Rattle.std.specs.Prelude.{◌≡◌, IfOk, ℕ};
+ghost use Rattle.algo_calls.specs.Duties.{device_of};
 ghost use Rattle.flm_descriptor.specs.Shown.{shown as flm_shown};
-ghost use Rattle.job_commands.specs.Work.{layout_of};
 ghost use Rattle.demo_job.specs.Plan.{erased, programmed};
 ghost use Rattle.demo_job.specs.Run.{plan_of};
 ghost use Rattle.demo_job.specs.Scene.{IsScene, target_of, IsCounted};
@@ -25,7 +25,7 @@ pub(crate) struct Counts {
 /// The counts of the plan that is chosen from the cells of a scene to its goal.
 pub(crate) fn first_plan(alloc: Global, seed: u32, scene: &Scene) -> Result<Counts, OutOfMemory>
     requires { IsScene seed scene.now }
-    ensures { IfOk result (IsCounted (layout_of (flm_shown scene.now.target.algorithm)) (plan_of seed (target_of scene.now.target))) }
+    ensures { IfOk result (IsCounted (device_of (flm_shown scene.now.target.algorithm)) (plan_of seed (target_of scene.now.target))) }
 {
     let geometry = Geometry::of(alloc, &scene.target.algorithm)?;
     let plan = choose(alloc, seed, scene, &geometry)?;
@@ -39,7 +39,7 @@ pub(crate) fn first_plan(alloc: Global, seed: u32, scene: &Scene) -> Result<Coun
 /// The plan.
 fn choose(alloc: Global, seed: u32, scene: &Scene, geometry: &Geometry) -> Result<Plan, OutOfMemory>
     requires scene { IsScene seed scene.now }
-    requires geometry { geometry.now ≡ layout_of (flm_shown scene.now.target.algorithm) }
+    requires geometry { geometry.now ≡ device_of (flm_shown scene.now.target.algorithm) }
     ensures { IfOk result (λ plan. plan.made ≡ plan_of seed (target_of scene.now.target)) }
 {
     let mut plan = Plan::new(alloc);

@@ -1,8 +1,8 @@
 //! The run of a demonstration.
 ghost use Rattle.std.specs.Prelude.{◌≡◌, ◌↔◌, IfOk, IsTrue};
 ghost use Rattle.bench_model.specs.Shown.{bench_of};
-ghost use Rattle.job_commands.specs.Work.{layout_of};
 ghost use Rattle.demo_job.specs.Demo.{Shows};
+ghost use Rattle.algo_calls.specs.Duties.{device_of};
 ghost use Rattle.command_answers.specs.Shown.{answer_of};
 ghost use Rattle.demo_job.specs.Run.{BeginsOver, IsFresh, IsLost, answer_in, plan_of, status_in};
 ghost use Rattle.demo_job.specs.Scene.{IsScene, IsCounted, target_of};
@@ -89,7 +89,7 @@ fn lose(
 /// Resumes the job on what is left.
 fn resume(alloc: Global, seed: u32, scene: &Scene, counts: Counts, bench: MemoryBench) -> Demo
     requires scene { IsScene seed scene.now }
-    requires counts { IsCounted (layout_of (target_of scene.now.target).algorithm) (plan_of seed (target_of scene.now.target)) counts }
+    requires counts { IsCounted (device_of (target_of scene.now.target).algorithm) (plan_of seed (target_of scene.now.target)) counts }
     ensures { (fresh : MemoryBench) → IsFresh seed (bench_of fresh) → IsLost seed (target_of scene.now.target) fresh bench → Shows seed fresh result }
 {
     let mut bench = bench;

@@ -1,5 +1,5 @@
 -- What `dump FORM BOARD` answers.
-use Rattle.std.specs.Prelude.{◌≡◌, ◌≢◌, ◌<◌, ◌⊎◌, ℕ, IsTrue, List, [], ◌∷◌, length, Some, Err}
+use Rattle.std.specs.Prelude.{◌≡◌, ◌≢◌, ◌<◌, ◌⊎◌, ℕ, IsTrue, List, [], ◌∷◌, length, Some, Err, Bool, true, false}
 use Rattle.std.specs.List.{All}
 use Rattle.bench_model.specs.State.{cells_half}
 use Rattle.bench_model.specs.History.{AddsNothing}
@@ -11,14 +11,14 @@ use Rattle.board_file.specs.Shown as board
 use Rattle.board_file.specs.Text.{reading, IsBoard}
 use Rattle.byte_map.specs.Image.{Run}
 use Rattle.image_more.specs.Texts.{hex_text, srec_text}
-use Rattle.report_text.specs.Refusal.{out_of_memory, input_fault, board_refused, cells_differ, device_fault, output_fault}
+use Rattle.report_text.specs.Refusal.{out_of_memory, input_fault, board_refused, cells_differ, device_fault, output_fault, Refusal}
 use Rattle.command_words.specs.declared.command.TextForm.{TextForm}
 use Rattle.command_words.specs.declared.command.TextForm.TheVariants.{Hex, Srec}
 use Rattle.command_files.specs.Inputs.{InputsCall, IsFile}
-use Rattle.command_answers.specs.Call.{BenchCall, SinkCall, Answer, done, refused}
-use Rattle.command_answers.specs.Answered.{has_dump, IsUnless, Refuses, DidNothing, EndsLawfully, on_files}
+use Rattle.command_answers.specs.Call.{BenchCall, SinkCall, Answer, done, refused, PrintsText}
+use Rattle.command_answers.specs.Answered.{IsUnless, Refuses, DidNothing, EndsLawfully, on_files}
 use Rattle.device_dump.specs.CellMaps.{IsMapOfCells}
-use Rattle.device_dump.specs.Looks.{IsBrokenOff, IsStillOpen, PrintsText, PrintsNothing}
+use Rattle.device_dump.specs.Looks.{IsBrokenOff, IsStillOpen, PrintsNothing}
 
 -- a map as a text of this form
 abbrev pub text_in : TextForm → List Run → List ℕ
@@ -100,6 +100,16 @@ pub record IsDueForBoard (form : TextForm) (bench : BenchCall) (out : SinkCall) 
   pub complete : (board : board.Shown) → IsBoard text board → size_of board.regions ≡ bench.before.cell_count → IsUnless answer done
   pub dumped : (board : board.Shown) (map : List Run) → IsBoard text board → size_of board.regions ≡ bench.before.cell_count → IsTrue bench.tells
       → IsMapOfCells board.regions bench.after.cells map → PrintsText out (text_in form map) answer
+
+-- Which refusals `dump` has.
+abbrev pub has_dump : Refusal → Bool
+has_dump out_of_memory = true
+has_dump (input_fault name) = true
+has_dump (board_refused fault) = true
+has_dump (cells_differ wanted found) = true
+has_dump device_fault = true
+has_dump output_fault = true
+has_dump _ = false
 
 -- The work of `dump`: all but the status and the line on `err`.
 pub record DumpEnds (form : TextForm) (name : List ℕ) (bench : BenchCall) (inputs : InputsCall) (out : SinkCall) (answer : Answer) : Type 0 where

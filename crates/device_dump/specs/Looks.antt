@@ -6,7 +6,7 @@ use Rattle.bench_model.specs.History.{AddsNothing}
 use Rattle.bench_model.specs.Calls.{SameOutside, FileStays}
 use Rattle.bench_model.specs.declared.bench_fault.DeviceFault.{DeviceFault}
 use Rattle.report_text.specs.Refusal.{output_fault}
-use Rattle.command_answers.specs.Call.{BenchCall, SinkCall, Answer, done, refused, TookNothing, TookAll, TookPart}
+use Rattle.command_answers.specs.Call.{BenchCall, SinkCall, Answer, done, refused, TookNothing}
 
 -- an operation open at entry was broken off: none is open, and the cells outside its range are as they were
 pub record IsBrokenOff (bench : BenchCall) : Type 0 where
@@ -27,11 +27,7 @@ pub record LooksAtCells {A : Type 0} (bench : BenchCall) (result : Result A Devi
   pub stops : AddsNothing (cells_half bench.before) (cells_half bench.after)
   pub cause : HasCause bench.before.device_faults bench.after.device_faults result
 
--- What goes to `out`: a text where done, a beginning of it where `out` fails, and nothing with every other answer.
-abbrev pub PrintsText : SinkCall → List ℕ → Answer → Type 0
-PrintsText out text done = TookAll out text
-PrintsText out text (refused output_fault) = TookPart out text
-PrintsText out text (refused _) = TookNothing out
+-- What goes to `out`.
 
 -- with every answer but these two nothing is printed
 abbrev pub PrintsNothing : SinkCall → Answer → Type 0

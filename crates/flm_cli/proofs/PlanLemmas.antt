@@ -22,18 +22,18 @@ use Rattle.report_text.specs.Plan.{plan_text}
 use Rattle.report_text.specs.Region.{region_text, plans_text}
 use Rattle.outside_io.specs.Puts.{Puts}
 use Rattle.report_text.specs.Refusal.{Refusal, out_of_memory, usage, input_fault, flm_refused, other_device, no_room, board_refused, image_refused, image_misplaced, cells_differ, device_fault, output_fault, differs}
+use Rattle.algo_calls.specs.Duties.{device_of}
 use Rattle.command_words.specs.Files.{FilesAsked, names_in}
 use Rattle.command_files.specs.Inputs.{InputsCall, FilesGiven, AreFiles, NoneFailed}
 use Rattle.command_files.specs.Files.{others_of, AreFor, Aim, IsAim, IsRefused}
 use Rattle.command_files.specs.Steps.{IsTakeFault, IsFilesRefusal, aim_of}
 use Rattle.command_files.specs.declared.wanted.Wanted.{Wanted}
 use Rattle.command_files.proofs.WantedLemmas.{only_one, only_two, size_of_one, size_of_two}
-use Rattle.command_answers.specs.Call.{BenchCall, SinkCall, Answer, done, refused, bench_call, sink_call}
-use Rattle.command_answers.specs.Answered.{input, store, device, output, fault_in, has_plan, yields, IsUnless, StandsEarly, IsOf, EndsLawfully, on_files}
+use Rattle.command_answers.specs.Call.{BenchCall, SinkCall, Answer, done, refused, bench_call, sink_call, PrintsText}
+use Rattle.command_answers.specs.Answered.{input, store, device, output, fault_in, yields, IsUnless, StandsEarly, IsOf, EndsLawfully, on_files}
 use Rattle.command_answers.specs.Reading.{ShowsFiles}
-use Rattle.job_commands.specs.Work.{layout_of}
-use Rattle.flm_cli.specs.Plan.{plan_for, text_for, plans_for, text_of, PlanLeaves, IsPlanned, ShowsPlan, IsDueForPlan, PlanEnds}
-use Rattle.device_dump.specs.Looks.{LooksAtCells, PrintsText, PrintsNothing}
+use Rattle.flm_cli.specs.Plan.{plan_for, text_for, plans_for, text_of, PlanLeaves, IsPlanned, ShowsPlan, IsDueForPlan, PlanEnds, has_plan}
+use Rattle.device_dump.specs.Looks.{LooksAtCells, PrintsNothing}
 use Rattle.flm_cli.specs.Steps.{AreSized, AreBuffersFor, IsBaseAt, AreBuffersStill, IsPrinted, Printed, PlansCells}
 use Rattle.flm_cli.specs.declared.plan.PlanBuffers.{PlanBuffers}
 use Rattle.command_answers.proofs.ReadingLemmas.{answers_yielding, answers_refused, answers_worked}
@@ -150,9 +150,9 @@ written_back len new old same = take-append-le len new (drop (length new) old) (
 
 -- the text of a plan that was chosen
 pub text_is : (weights : Weights) (algorithm : flm.Shown) (image : List Run) (base : ℕ) (cells : List ℕ) (geometry : Geometry) (plan : Chosen)
-    → geometry ≡ layout_of algorithm → plan ≡ plan_for weights algorithm image base cells → plan_text geometry base plan ≡ text_for weights algorithm image base cells
+    → geometry ≡ device_of algorithm → plan ≡ plan_for weights algorithm image base cells → plan_text geometry base plan ≡ text_for weights algorithm image base cells
 text_is weights algorithm image base cells geometry plan geometry_is plan_is =
-    ap (λ (l : Geometry). plan_text l base plan) geometry_is ∙ ap (λ (p : Chosen). plan_text (layout_of algorithm) base p) plan_is
+    ap (λ (l : Geometry). plan_text l base plan) geometry_is ∙ ap (λ (p : Chosen). plan_text (device_of algorithm) base p) plan_is
 
 -- The exits before it.
 

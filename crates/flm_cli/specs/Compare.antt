@@ -1,10 +1,10 @@
 -- What `compare IMAGE` answers.
-use Rattle.std.specs.Prelude.{◌≡◌, ◌≤◌, ◌<◌, ℕ, IsTrue, List, [], ◌∷◌, length, take, Some}
-use Rattle.report_text.specs.Refusal.{out_of_memory, input_fault, image_too_long}
+use Rattle.std.specs.Prelude.{◌≡◌, ◌≤◌, ◌<◌, ℕ, IsTrue, List, [], ◌∷◌, length, take, Some, Bool, true, false}
+use Rattle.report_text.specs.Refusal.{out_of_memory, input_fault, image_too_long, Refusal, device_fault, output_fault, differs}
 use Rattle.readback.specs.Difference.{IsFirstDifference}
 use Rattle.command_files.specs.Inputs.{InputsCall, IsFile}
 use Rattle.command_answers.specs.Call.{BenchCall, SinkCall, Answer, refused}
-use Rattle.command_answers.specs.Answered.{has_compare, Refuses, DidNothing, EndsLawfully, on_files}
+use Rattle.command_answers.specs.Answered.{Refuses, DidNothing, EndsLawfully, on_files}
 use Rattle.flm_cli.specs.Comparison.{ComparisonLeaves, Found, IsDue}
 
 -- each byte of the file is the cell at its place, from place 0 on
@@ -44,6 +44,16 @@ pub record IsDueForFile (bench : BenchCall) (out : SinkCall) (answer : Answer) (
   pub too_long : bench.before.cell_count < length bytes
       → Refuses (DidNothing bench out) answer (image_too_long (length bytes) bench.before.cell_count)
   pub compared : length bytes ≤ bench.before.cell_count → IsDue bench (CellsAre bench bytes) (DiffersFrom bench bytes) answer
+
+-- Which refusals `compare` has.
+abbrev pub has_compare : Refusal → Bool
+has_compare out_of_memory = true
+has_compare (input_fault name) = true
+has_compare (image_too_long bytes cells) = true
+has_compare device_fault = true
+has_compare output_fault = true
+has_compare (differs at wanted found) = true
+has_compare _ = false
 
 -- The work of `compare`: all but the status and the line on `err`.
 pub record CompareEnds (image : List ℕ) (bench : BenchCall) (inputs : InputsCall) (out : SinkCall) (answer : Answer) : Type 0 where

@@ -1,20 +1,16 @@
 -- What `compare` and `verify` have in common: both compare the cells with bytes.
-use Rattle.std.specs.Prelude.{◌≡◌, ◌⊎◌, ℕ, true, IsTrue}
+use Rattle.std.specs.Prelude.{◌≡◌, ◌⊎◌, ℕ, true, IsTrue, ◌≢◌}
 use Rattle.bench_model.specs.State.{cells_half}
 use Rattle.bench_model.specs.History.{AddsNothing}
 use Rattle.bench_model.specs.Calls.{FileStays, CellsStay}
+use Rattle.board_file.specs.Limits.{size_of}
 use Rattle.report_text.specs.Refusal.{device_fault, output_fault, differs}
 use Rattle.report_text.specs.End.{end_text}
 use Rattle.report_text.specs.declared.end.End.TheVariants.{Same}
-use Rattle.command_answers.specs.Call.{BenchCall, SinkCall, Answer, done, refused, TookNothing, TookAll, TookPart}
+use Rattle.command_files.specs.Files.{Aim}
+use Rattle.command_answers.specs.Call.{BenchCall, SinkCall, Answer, done, refused, PrintsText}
 use Rattle.command_answers.specs.Answered.{device, output, IsCounted, yields, IsUnless}
 use Rattle.device_dump.specs.Looks.{IsBrokenOff, IsStillOpen}
-
--- What goes to `out`: `same` where done, a beginning of it where `out` fails, and nothing with every other answer.
-abbrev pub Prints : SinkCall → Answer → Type 0
-Prints out done = TookAll out (end_text Same)
-Prints out (refused output_fault) = TookPart out (end_text Same)
-Prints out (refused _) = TookNothing out
 
 -- What stands of the cells. The answers that come before the cells are looked at leave the bench as it was.
 abbrev pub Stands : BenchCall → Answer → Type 0
@@ -26,12 +22,18 @@ Stands bench (refused _) = CellsStay bench.before bench.after
 
 -- What such a command leaves with an answer.
 pub record ComparisonLeaves (bench : BenchCall) (out : SinkCall) (answer : Answer) : Type 0 where
-  pub prints : Prints out answer
+  pub prints : PrintsText out (end_text Same) answer
   pub stands : Stands bench answer
   -- the job file is as it was, and a stop at any moment leaves no cells that one at entry might not have left
   pub file : FileStays bench.before bench.after
   pub count : bench.after.cell_count ≡ bench.before.cell_count
   pub stops : AddsNothing (cells_half bench.before) (cells_half bench.after)
+
+-- there are other than the number of cells that the regions have together
+pub record HasOtherSize (bench : BenchCall) (aim : Aim) (wanted found : ℕ) : Type 0 where
+  pub wanted_is : wanted ≡ size_of aim.board.regions
+  pub found_is : found ≡ bench.before.cell_count
+  pub unequal : wanted ≢ found
 
 -- When each answer comes, once nothing is refused: the cells agree, or a cell differs. A fault of the device is any; one of
 -- `out` comes where they agree.

@@ -1,13 +1,13 @@
 -- What `inspect FLM` answers.
-use Rattle.std.specs.Prelude.{◌≡◌, IsTrue, ℕ, List, [], ◌∷◌, Some, Ok, Err}
+use Rattle.std.specs.Prelude.{◌≡◌, IsTrue, ℕ, List, [], ◌∷◌, Some, Ok, Err, Bool, true, false}
 use Rattle.flm_descriptor.specs.Flm.{flm_of, IsFlm}
 use Rattle.flm_descriptor.specs.Shown.{Shown}
 use Rattle.flm_descriptor.specs.declared.fault.FlmFault.{FlmFault}
 use Rattle.report_text.specs.Inspection.{inspection_text}
-use Rattle.report_text.specs.Refusal.{out_of_memory, input_fault, flm_refused, output_fault}
+use Rattle.report_text.specs.Refusal.{out_of_memory, input_fault, flm_refused, output_fault, Refusal}
 use Rattle.command_files.specs.Inputs.{InputsCall, IsFile}
 use Rattle.command_answers.specs.Call.{BenchCall, SinkCall, Answer, done, refused, TookNothing, TookAll, TookPart, IsUntouched}
-use Rattle.command_answers.specs.Answered.{has_inspect, IsUnless, Refuses, DidNothing, EndsLawfully, on_files}
+use Rattle.command_answers.specs.Answered.{IsUnless, Refuses, DidNothing, EndsLawfully, on_files}
 
 -- The bytes under the name are the FLM file of this algorithm.
 pub record IsAlgorithm (inputs : InputsCall) (flm : List ℕ) (algorithm : Shown) : Type 0 where
@@ -46,6 +46,14 @@ ComesOfFlm inputs out flm (refused _) = ⊥
 pub record IsDueForFlm (bench : BenchCall) (out : SinkCall) (answer : Answer) (bytes : List ℕ) : Type 0 where
   pub inspected : (algorithm : Shown) → flm_of bytes ≡ Ok algorithm → IsUnless answer done
   pub refuses : (fault : FlmFault) → flm_of bytes ≡ Err fault → Refuses (DidNothing bench out) answer (flm_refused fault)
+
+-- Which refusals `inspect` has.
+abbrev pub has_inspect : Refusal → Bool
+has_inspect out_of_memory = true
+has_inspect (input_fault name) = true
+has_inspect (flm_refused fault) = true
+has_inspect output_fault = true
+has_inspect _ = false
 
 -- The work of `inspect`: all but the status and the line on `err`. The bench is as it was.
 pub record InspectEnds (flm : List ℕ) (bench : BenchCall) (inputs : InputsCall) (out : SinkCall) (answer : Answer) : Type 0 where

@@ -1,5 +1,5 @@
 -- What `plan [--raw-at ADDR] BOARD FLM... IMAGE...` answers, with an FLM file for each region of the board.
-use Rattle.std.specs.Prelude.{◌≡◌, ◌≢◌, ℕ, IsTrue, List, [], ◌∷◌, length, take, drop, is_some}
+use Rattle.std.specs.Prelude.{◌≡◌, ◌≢◌, ℕ, IsTrue, List, [], ◌∷◌, length, take, drop, is_some, Bool, true, false}
 use Rattle.bench_model.specs.State.{cells_half}
 use Rattle.bench_model.specs.History.{AddsNothing}
 use Rattle.bench_model.specs.Calls.{FileStays}
@@ -11,17 +11,17 @@ use Rattle.flm_descriptor.specs.Shown as flm
 use Rattle.erase_planner.specs.Plans.{Chosen, chosen}
 use Rattle.report_text.specs.Plan.{plan_text}
 use Rattle.report_text.specs.Region.{plans_text}
-use Rattle.report_text.specs.Refusal.{device_fault, cells_differ}
+use Rattle.report_text.specs.Refusal.{device_fault, cells_differ, Refusal, out_of_memory, usage, input_fault, board_refused, flm_refused, other_device}
+use Rattle.report_text.specs.Refusal.{no_room, image_refused, image_misplaced, output_fault}
+use Rattle.algo_calls.specs.Duties.{device_of}
 use Rattle.command_words.specs.Files.{FilesAsked, names_in}
 use Rattle.command_files.specs.Inputs.{InputsCall}
 use Rattle.command_files.specs.Files.{Aim}
-use Rattle.command_answers.specs.Call.{BenchCall, SinkCall, Answer, done, refused}
-use Rattle.command_answers.specs.Answered.{has_plan, IsUnless, Refuses, DidNothing, EndsLawfully, on_files}
-use Rattle.job_commands.specs.Work.{layout_of}
-use Rattle.device_dump.specs.Looks.{PrintsText, PrintsNothing}
-use Rattle.flm_cli.specs.Comparison.{Stands}
+use Rattle.command_answers.specs.Call.{BenchCall, SinkCall, Answer, done, refused, PrintsText}
+use Rattle.command_answers.specs.Answered.{IsUnless, Refuses, DidNothing, EndsLawfully, on_files}
+use Rattle.device_dump.specs.Looks.{PrintsNothing}
+use Rattle.flm_cli.specs.Comparison.{Stands, HasOtherSize}
 use Rattle.command_answers.specs.Reading.{AnswersFiles}
-use Rattle.flm_cli.specs.Verify.{HasOtherSize}
 
 -- The plan.
 
@@ -29,11 +29,11 @@ use Rattle.flm_cli.specs.Verify.{HasOtherSize}
 -- them
 abbrev pub plan_for : Weights → flm.Shown → List Run → ℕ → List ℕ → Chosen
 plan_for weights algorithm image base cells =
-    chosen (layout_of algorithm) weights (is_some algorithm.entries.erase_chip) algorithm.device.empty cells (over image base cells)
+    chosen (device_of algorithm) weights (is_some algorithm.entries.erase_chip) algorithm.device.empty cells (over image base cells)
 
 -- its text
 abbrev pub text_for : Weights → flm.Shown → List Run → ℕ → List ℕ → List ℕ
-text_for weights algorithm image base cells = plan_text (layout_of algorithm) base (plan_for weights algorithm image base cells)
+text_for weights algorithm image base cells = plan_text (device_of algorithm) base (plan_for weights algorithm image base cells)
 
 -- The plans of regions, each for its own cells, which follow those of the one before it: the first address of each, and its text.
 abbrev pub plans_for : Weights → List Run → List Region → List flm.Shown → List ℕ → List (ℕ × List ℕ)
@@ -79,6 +79,22 @@ pub record IsDueForPlan (bench : BenchCall) (out : SinkCall) (answer : Answer) (
       → Refuses (DidNothing bench out) answer (cells_differ (size_of aim.board.regions) bench.before.cell_count)
   pub complete : size_of aim.board.regions ≡ bench.before.cell_count → IsUnless answer done
   pub planned : IsTrue bench.tells → size_of aim.board.regions ≡ bench.before.cell_count → PrintsText out (text_of aim bench.after.cells) answer
+
+-- Which refusals `plan` has.
+abbrev pub has_plan : Refusal → Bool
+has_plan out_of_memory = true
+has_plan usage = true
+has_plan (input_fault name) = true
+has_plan (board_refused fault) = true
+has_plan (flm_refused fault) = true
+has_plan (other_device base size) = true
+has_plan (no_room need have) = true
+has_plan (image_refused name fault) = true
+has_plan (image_misplaced fault) = true
+has_plan (cells_differ wanted found) = true
+has_plan device_fault = true
+has_plan output_fault = true
+has_plan _ = false
 
 -- The work of `plan`: all but the status and the line on `err`.
 pub record PlanEnds (asked : FilesAsked) (bench : BenchCall) (inputs : InputsCall) (out : SinkCall) (answer : Answer) : Type 0 where

@@ -10,10 +10,9 @@ use Rattle.erase_planner.specs.Marks.{Covers}
 use Rattle.report_text.specs.Refusal.{out_of_memory, device_fault, output_fault, differs}
 use Rattle.report_text.specs.End.{end_text}
 use Rattle.report_text.specs.declared.end.End.TheVariants.{Same}
-use Rattle.command_answers.specs.Call.{BenchCall, SinkCall, Answer, done, refused, TookNothing, TookAll, TookPart}
+use Rattle.algo_calls.specs.Duties.{device_of}
+use Rattle.command_answers.specs.Call.{BenchCall, SinkCall, Answer, done, refused, TookNothing, PrintsText, SaysText}
 use Rattle.command_answers.specs.Answered.{device, output, IsCounted}
-use Rattle.job_commands.specs.Work.{layout_of}
-use Rattle.device_dump.specs.Looks.{PrintsText}
 use Rattle.flm_cli.specs.Plan.{PlanLeaves}
 use Rattle.command_answers.specs.Places.{address_at}
 use Rattle.flm_cli.specs.Verify.{CellsAgree, IsLeastDifference}
@@ -52,27 +51,22 @@ FoundBy base Agrees Differs (Some d) = Differs (base + d.at) d.want d.got
 
 -- How the work ends with what was found.
 
--- `same` is printed
-abbrev pub SaysSame : SinkCall → Answer → Type 0
-SaysSame out done = TookAll out (end_text Same)
-SaysSame out (refused output_fault) = TookPart out (end_text Same)
-SaysSame out (refused _) = ⊥
-
 -- nothing is printed
 pub record SaysNothing (out : SinkCall) (due answer : Answer) : Type 0 where
   pub answer_is : answer ≡ due
   pub prints : TookNothing out
 
+-- `same` is printed where nothing differs
 abbrev pub TellsFound : ℕ → Result (Option Difference) DeviceFault → SinkCall → Answer → Type 0
 TellsFound base (Err fault) out answer = SaysNothing out (refused device_fault) answer
-TellsFound base (Ok None) out answer = SaysSame out answer
+TellsFound base (Ok None) out answer = SaysText out (end_text Same) answer
 TellsFound base (Ok (Some d)) out answer = SaysNothing out (refused (differs (base + d.at) d.want d.got)) answer
 
 -- The steps of `plan`.
 
 -- memory for the plan of an algorithm's device: as many old and wanted cells, and a plan with room for each sector and page
 pub record AreBuffersFor (algorithm : flm.Shown) (buffers : PlanBuffers) : Type 0 where
-  pub geometry : buffers.geometry ≡ layout_of algorithm
+  pub geometry : buffers.geometry ≡ device_of algorithm
   pub covers : Covers buffers.geometry buffers.plan
   pub cells : length buffers.cells.items ≡ algorithm.device.size
   pub goal : length buffers.goal.items ≡ algorithm.device.size

@@ -1,16 +1,17 @@
 -- What `verify [--raw-at ADDR] BOARD IMAGE...` answers.
-use Rattle.std.specs.Prelude.{◌≡◌, ◌≢◌, ◌<◌, ◌+◌, ◌-◌, ℕ, nat_lt, IsTrue, Bool, if◌then◌else◌, List, [], ◌∷◌, slice_index, Option, Some, None}
+use Rattle.std.specs.Prelude.{◌≡◌, ◌<◌, ◌+◌, ◌-◌, ℕ, nat_lt, IsTrue, Bool, if◌then◌else◌, List, [], ◌∷◌, slice_index, Option, Some, None, true, false}
 use Rattle.board_file.specs.declared.region.Region.{Region}
 use Rattle.board_file.specs.Limits.{size_of}
 use Rattle.byte_map.specs.Image.{Run, byte_at}
-use Rattle.report_text.specs.Refusal.{cells_differ}
+use Rattle.report_text.specs.Refusal.{cells_differ, Refusal, out_of_memory, input_fault, board_refused, image_refused, image_misplaced, device_fault}
+use Rattle.report_text.specs.Refusal.{output_fault, differs}
 use Rattle.command_words.specs.Files.{FilesAsked, names_in}
 use Rattle.command_files.specs.Inputs.{InputsCall}
 use Rattle.command_files.specs.Files.{Aim}
 use Rattle.command_answers.specs.Call.{BenchCall, SinkCall, Answer, refused}
 use Rattle.command_answers.specs.Places.{address_at}
-use Rattle.command_answers.specs.Answered.{has_verify, Refuses, DidNothing, EndsLawfully, on_files}
-use Rattle.flm_cli.specs.Comparison.{ComparisonLeaves, Found, IsDue}
+use Rattle.command_answers.specs.Answered.{Refuses, DidNothing, EndsLawfully, on_files}
+use Rattle.flm_cli.specs.Comparison.{ComparisonLeaves, Found, IsDue, HasOtherSize}
 use Rattle.command_answers.specs.Reading.{AnswersFiles}
 
 -- The cells of regions against an image.
@@ -49,11 +50,6 @@ AgreesWith bench regions image = IsTrue bench.tells → CellsAgree bench.after.c
 -- What is answered for files that are right: with another number of cells than the regions have together that, and else what the
 -- comparison found.
 
-pub record HasOtherSize (bench : BenchCall) (aim : Aim) (wanted found : ℕ) : Type 0 where
-  pub wanted_is : wanted ≡ size_of aim.board.regions
-  pub found_is : found ≡ bench.before.cell_count
-  pub unequal : wanted ≢ found
-
 pub record IsComparedWithImage (bench : BenchCall) (aim : Aim) (answer : Answer) : Type 0 where
   pub size : size_of aim.board.regions ≡ bench.before.cell_count
   pub found : Found (AgreesWith bench aim.board.regions aim.image) (DiffersAt bench aim.board.regions aim.image) answer
@@ -68,6 +64,19 @@ pub record IsDueForImage (bench : BenchCall) (out : SinkCall) (answer : Answer) 
       → Refuses (DidNothing bench out) answer (cells_differ (size_of aim.board.regions) bench.before.cell_count)
   pub compared : size_of aim.board.regions ≡ bench.before.cell_count
       → IsDue bench (AgreesWith bench aim.board.regions aim.image) (DiffersAt bench aim.board.regions aim.image) answer
+
+-- Which refusals `verify` has.
+abbrev pub has_verify : Refusal → Bool
+has_verify out_of_memory = true
+has_verify (input_fault name) = true
+has_verify (board_refused fault) = true
+has_verify (image_refused name fault) = true
+has_verify (image_misplaced fault) = true
+has_verify (cells_differ wanted found) = true
+has_verify device_fault = true
+has_verify output_fault = true
+has_verify (differs at wanted found) = true
+has_verify _ = false
 
 -- The work of `verify`: all but the status and the line on `err`.
 pub record VerifyEnds (asked : FilesAsked) (bench : BenchCall) (inputs : InputsCall) (out : SinkCall) (answer : Answer) : Type 0 where

@@ -41,6 +41,7 @@ use Rattle.flash_session.specs.Surveys.{Surveyed, HasSurveyed}
 use Rattle.command_answers.specs.Call.{SinkCall}
 use Rattle.command_answers.proofs.FileLemmas.{AreOne, not_free, one_job}
 use Rattle.report_text.specs.Refusal.{status_of}
+use Rattle.report_text.proofs.StatusLemmas.{some_status}
 use Rattle.gang_target.specs.declared.target_end.TargetEnd.{TargetEnd}
 use Rattle.gang_target.specs.declared.target_end.TargetEnd.TheVariants as ended
 use Rattle.gang_target.specs.Alone.{FollowsAs}
@@ -56,7 +57,6 @@ use Rattle.gang_commands.specs.Puts.{outcome_of, outcomes, Runs}
 use Rattle.gang_commands.specs.Words.{DoFit}
 use Rattle.gang_commands.specs.Works.{aim_of, Carries, Comes, is_store, is_device, IsSound}
 use Rattle.gang_commands.proofs.CarryLemmas.{all_end}
-use Rattle.gang_commands.proofs.LineLemmas.{some_status}
 use Rattle.gang_commands.proofs.WordLemmas.{some_benches}
 
 -- ---- statuses

@@ -5,8 +5,9 @@ use Rattle.outside_io.specs.Puts.{Puts}
 use Rattle.outside_io.specs.State.{SinkState}
 use Rattle.outside_io.specs.declared.sink.OutputFault.{OutputFault}
 use Rattle.outside_io.proofs.PutTexts.{puts_nothing, puts_as, puts_then, puts_stops}
-use Rattle.report_text.specs.Refusal.{Refusal, status_of, out_of_memory, usage, input_fault, image_too_long, image_refused, image_misplaced, flm_refused, other_device, no_room, board_refused, job_open, no_job, not_a_job, damaged, cells_differ, store_fault, device_fault, output_fault, call_failed, mismatch, differs}
+use Rattle.report_text.specs.Refusal.{Refusal, status_of}
 use Rattle.report_text.specs.Target.{target_line}
+use Rattle.report_text.proofs.StatusLemmas.{some_status}
 use Rattle.flash_session.specs.declared.fault.SurveyFault.TheVariants as survey
 use Rattle.gang_target.specs.declared.target_end.TargetEnd.TheVariants as ended
 use Rattle.gang_run.specs.declared.gang.Gang.{Gang}
@@ -38,29 +39,6 @@ whole_lines : (ends : List Outcome) (k : ℕ) → lines_of (take k ends) ++ line
 whole_lines ends k = sym (lines_more 1 (take k ends) (drop k ends)) ∙ ap lines_of (take-append-drop k ends)
 
 -- ---- the status
-
-pub some_status : (r : Refusal) → 1 ≤ status_of r
-some_status out_of_memory = omega arith
-some_status usage = omega arith
-some_status (input_fault name) = omega arith
-some_status (image_too_long bytes cells) = omega arith
-some_status (image_refused name fault) = omega arith
-some_status (image_misplaced fault) = omega arith
-some_status (flm_refused fault) = omega arith
-some_status (other_device base size) = omega arith
-some_status (no_room need have) = omega arith
-some_status (board_refused fault) = omega arith
-some_status job_open = omega arith
-some_status no_job = omega arith
-some_status (not_a_job at) = omega arith
-some_status (damaged kept found) = omega arith
-some_status (cells_differ wanted found) = omega arith
-some_status store_fault = omega arith
-some_status device_fault = omega arith
-some_status output_fault = omega arith
-some_status (call_failed number call end) = omega arith
-some_status (mismatch at wanted found) = omega arith
-some_status (differs place wanted found) = omega arith
 
 pub status_kept : (n : ℕ) (r : Option Refusal) → 1 ≤ n → status_behind n r ≡ n
 status_kept zero r some = absurd (omega (arith, some))

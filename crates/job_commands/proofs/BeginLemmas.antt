@@ -15,11 +15,11 @@ use Rattle.flash_session.specs.declared.goal.Goal.TheVariants.{New}
 use Rattle.flash_session.specs.Script.{Broken}
 use Rattle.report_text.specs.Refusal.{Refusal, out_of_memory, input_fault, no_job, not_a_job, damaged, cells_differ, store_fault, device_fault, output_fault, call_failed, mismatch}
 use Rattle.command_answers.specs.Call.{BenchCall, SinkCall, TookPartBehind, Answer, done, refused, bench_call, sink_call}
-use Rattle.command_answers.specs.Answered.{has_resume, yields, StandsEarly, IsOf, on_job_file}
+use Rattle.command_answers.specs.Answered.{yields, StandsEarly, IsOf, on_job_file}
 use Rattle.command_answers.proofs.FileLemmas.{not_free}
 use Rattle.job_commands.specs.Work.{Work, body, shown_plan, Breaks, IsOnPath, IsOutsidePlanAsSurveyed}
 use Rattle.job_commands.specs.Carry.{EndsInBegin, NeverBegun, EndsBeforePlan, EndsInPlan, EndsInScript, EndsInClose, HasClosed, Comes, CellsInTurn, BrokenOff, Carries, done_text}
-use Rattle.job_commands.specs.GoOn.{work_to, GoesOnFrom}
+use Rattle.job_commands.specs.GoOn.{work_to, GoesOnFrom, has_resume}
 use Rattle.job_commands.specs.Begin.{BegunComes, BeginsAlone}
 use Rattle.job_commands.specs.Steps.{has_start, begun, StartsParts, BeginsParts}
 use Rattle.job_commands.proofs.TurnLemmas.{same_here, turn_then, off_then, settled_then, ended_then}

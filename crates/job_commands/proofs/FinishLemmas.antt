@@ -14,7 +14,7 @@ use Rattle.outside_io.specs.State.{SinkState}
 use Rattle.readback.specs.declared.compare.Difference.{Difference}
 use Rattle.algo_calls.specs.declared.call.Call.{Call}
 use Rattle.algo_calls.specs.declared.call.CallEnd.{CallEnd}
-use Rattle.algo_calls.specs.Duties.{part, site_of}
+use Rattle.algo_calls.specs.Duties.{part, site_of, device_of}
 use Rattle.job_text.specs.Files.{IsWhole, IsClosed}
 use Rattle.job_text.specs.Body.{Job}
 use Rattle.job_text.specs.Said.{algorithms_shown}
@@ -38,7 +38,7 @@ use Rattle.report_text.specs.Refusal.{store_fault, device_fault, output_fault, c
 use Rattle.command_answers.specs.Call.{SinkCall, TookNothing, TookAll, TookPart, Answer, done, refused, bench_call, sink_call}
 use Rattle.command_answers.specs.Answered.{IsUnless}
 use Rattle.command_answers.specs.Places.{address_at}
-use Rattle.job_commands.specs.Work.{Work, body, layout_of, plan_in, plans_in, plans_of, legs_of, start_for, Ends, IsOnPath, KeepsDuties, IsOutsidePlanAsSurveyed}
+use Rattle.job_commands.specs.Work.{Work, body, plan_in, plans_in, plans_of, legs_of, start_for, Ends, IsOnPath, KeepsDuties, IsOutsidePlanAsSurveyed}
 use Rattle.job_commands.specs.Carry.{HasReached, done_text}
 use Rattle.job_commands.specs.GoOn.{goal_in as text_goal_in}
 use Rattle.job_commands.specs.Steps.{session_work, FinishComes, Finishes}
@@ -108,8 +108,8 @@ module _ (tells : Bool) (told : IsTrue tells) (j : code.Job) (goal : Goal) (text
   -- the plan that was made for a region is the chosen one
   one_chosen : (b : board.Shown) (region : ℕ) (a : flm.Shown) (old new : List ℕ) (p : Planned) → IsPlannedFor tells b a (part (site_of b a region) old) (part (site_of b a region) new) p → p ≡ plan_in b region a old new
   one_chosen b region a old new p is =
-      ap (λ (l : Geometry). planned l p.base p.plan) is.layout ∙ ap (λ (n : ℕ). planned (layout_of a) n p.plan) is.base
-      ∙ ap (λ (c : Chosen). planned (layout_of a) a.device.base c) ((is.plan told).chosen
+      ap (λ (l : Geometry). planned l p.base p.plan) is.layout ∙ ap (λ (n : ℕ). planned (device_of a) n p.plan) is.base
+      ∙ ap (λ (c : Chosen). planned (device_of a) a.device.base c) ((is.plan told).chosen
       ∙ ap (λ (l : Geometry). chosen l b.weights (is_some a.entries.erase_chip) a.device.empty (part (site_of b a region) old) (part (site_of b a region) new)) is.layout)
 
   all_chosen : (b : board.Shown) (region : ℕ) (algorithms : List flm.Shown) (old new : List ℕ) (plans : List Planned)

@@ -11,9 +11,12 @@ use Rattle.flash_session.specs.declared.fault.SurveyFault.{SurveyFault}
 use Rattle.flash_session.specs.declared.fault.SurveyFault.TheVariants as survey
 use Rattle.report_text.specs.Refusal.{Refusal, out_of_memory, input_fault, usage, board_refused, flm_refused, other_device, no_room, image_refused, image_misplaced, job_open, no_job, not_a_job, damaged, cells_differ, store_fault, device_fault, output_fault, call_failed, mismatch}
 use Rattle.command_answers.specs.Call.{BenchCall, SinkCall, Answer, done, refused}
-use Rattle.command_answers.specs.Answered.{has_program, has_begin, has_resume, StandsEarly, IsOf, on_job_file}
+use Rattle.command_answers.specs.Answered.{StandsEarly, IsOf, on_job_file}
 use Rattle.job_commands.specs.Answers.{is_of_work, IsSound}
 use Rattle.job_commands.specs.Steps.{of_session, of_survey, of_begin, has_script, has_start, has_alone, has_work, begun}
+use Rattle.job_commands.specs.Program.{has_program}
+use Rattle.job_commands.specs.Begin.{has_begin}
+use Rattle.job_commands.specs.GoOn.{has_resume}
 
 -- an answer of the script is one of the whole work
 pub script_kind : (answer : Answer) → IsOf has_script answer → IsOf has_resume answer

@@ -20,7 +20,7 @@ use Rattle.command_files.specs.Files.{flm_files, Aim, IsAim, IsRefused}
 use Rattle.command_files.specs.Steps.{IsTakeFault, IsFilesRefusal, TookFiles, task_aim, IsTask}
 use Rattle.command_files.specs.declared.task.Task.{Task}
 use Rattle.command_answers.specs.Call.{BenchCall, SinkCall, Answer, done, refused, bench_call, sink_call}
-use Rattle.command_answers.specs.Answered.{fault_in, has_program, has_begin, Refuses, OnlyLooked, StandsEarly, IsOf, on_job_file}
+use Rattle.command_answers.specs.Answered.{fault_in, Refuses, OnlyLooked, StandsEarly, IsOf, on_job_file}
 use Rattle.command_answers.specs.Reading.{ShowsFiles}
 use Rattle.command_answers.proofs.AnswerLemmas.{did_nothing, only_looked, plain_lawful, untaken_lawful}
 use Rattle.command_answers.proofs.ReadingLemmas.{answers_refused, answers_worked}
@@ -28,8 +28,8 @@ use Rattle.job_commands.specs.Carry.{Carries}
 use Rattle.job_commands.specs.GoOn.{work_to}
 use Rattle.job_commands.specs.Printed.{PrintsWork}
 use Rattle.job_commands.specs.Beginning.{job_for, HasTexts, OverFile, BeginsFor, ShowsJob, EndsOnJob}
-use Rattle.job_commands.specs.Program.{Begins, ProgramEnds}
-use Rattle.job_commands.specs.Begin.{begun_text, BeginsAlone, Starts, PrintsBegun, BeginEnds}
+use Rattle.job_commands.specs.Program.{Begins, ProgramEnds, has_program}
+use Rattle.job_commands.specs.Begin.{begun_text, BeginsAlone, Starts, PrintsBegun, BeginEnds, has_begin}
 use Rattle.job_commands.specs.Steps.{has_alone, has_work, BenchCounted, StartsParts, BeginsParts}
 use Rattle.job_commands.proofs.CountLemmas.{worked_lawful}
 use Rattle.job_commands.proofs.KindLemmas.{program_kind, begin_command, alone_work, begin_of_program}

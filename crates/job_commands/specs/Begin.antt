@@ -1,6 +1,6 @@
 -- What `begin [--raw-at ADDR] BOARD FLM... IMAGE...` answers: a job is begun, and that is all. No cell is changed but in the range of an
 -- operation that was open at entry.
-use Rattle.std.specs.Prelude.{◌≡◌, ◌⊎◌, ℕ, List, None}
+use Rattle.std.specs.Prelude.{◌≡◌, ◌⊎◌, ℕ, List, None, Bool, true, false}
 use Rattle.bench_model.specs.History.{LeftOnly}
 use Rattle.bench_model.specs.State.{BenchState, file_half}
 use Rattle.bench_model.specs.Pairs.{PairsLeave}
@@ -9,12 +9,13 @@ use Rattle.job_text.specs.Body.{Job, body_of, IsJob}
 use Rattle.campaign.specs.Stops.{IsUntouched}
 use Rattle.report_text.specs.End.{end_text}
 use Rattle.report_text.specs.declared.end.End.TheVariants.{Begun}
-use Rattle.report_text.specs.Refusal.{out_of_memory, input_fault, store_fault, device_fault, output_fault}
+use Rattle.report_text.specs.Refusal.{out_of_memory, input_fault, store_fault, device_fault, output_fault, Refusal, usage, board_refused, flm_refused}
+use Rattle.report_text.specs.Refusal.{other_device, no_room, image_refused, image_misplaced, job_open, not_a_job, damaged, cells_differ}
 use Rattle.command_words.specs.Files.{FilesAsked}
 use Rattle.command_files.specs.Inputs.{InputsCall, FilesGiven}
 use Rattle.command_files.specs.Files.{Aim}
-use Rattle.command_answers.specs.Call.{BenchCall, SinkCall, Call, TookNothing, TookAll, TookPart, Answer, done, refused}
-use Rattle.command_answers.specs.Answered.{has_begin, AnswersBy, OnlyLooked}
+use Rattle.command_answers.specs.Call.{BenchCall, SinkCall, Call, TookAll, TookPart, Answer, done, refused, PrintsText}
+use Rattle.command_answers.specs.Answered.{AnswersBy, OnlyLooked}
 use Rattle.job_commands.specs.Carry.{IsAsEntered, EndsInBegin, NeverBegun, BrokenOff}
 use Rattle.job_commands.specs.Beginning.{job_for, EndsOnJob}
 
@@ -55,11 +56,29 @@ pub record Starts (bench : BenchCall) (out : SinkCall) (files : FilesGiven) (aim
   pub is_job : IsJob (job_for files aim snapshot) aim.board aim.algorithms
   pub begins : BeginsAlone bench out begun_text (job_for files aim snapshot) answer
 
--- The line where done, a beginning of it where `out` fails, and nothing with any other refusal.
+-- What it prints: the line where done.
 abbrev pub PrintsBegun : ℕ → SinkCall → Answer → Type 0
-PrintsBegun count out done = TookAll out begun_text
-PrintsBegun count out (refused output_fault) = TookPart out begun_text
-PrintsBegun count out (refused _) = TookNothing out
+PrintsBegun count out answer = PrintsText out begun_text answer
+
+-- Which refusals `begin` has.
+abbrev pub has_begin : Refusal → Bool
+has_begin out_of_memory = true
+has_begin usage = true
+has_begin (input_fault name) = true
+has_begin (board_refused fault) = true
+has_begin (flm_refused fault) = true
+has_begin (other_device base size) = true
+has_begin (no_room need have) = true
+has_begin (image_refused name fault) = true
+has_begin (image_misplaced fault) = true
+has_begin job_open = true
+has_begin (not_a_job at) = true
+has_begin (damaged kept found) = true
+has_begin (cells_differ wanted found) = true
+has_begin store_fault = true
+has_begin device_fault = true
+has_begin output_fault = true
+has_begin _ = false
 
 -- The work of `begin`: all but the status and the line on `err`.
 abbrev pub BeginEnds : FilesAsked → BenchCall → InputsCall → SinkCall → Answer → Type 0

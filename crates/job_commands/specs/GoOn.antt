@@ -1,5 +1,5 @@
 -- What `resume` and `revert` answer: they go on with the job in the file.
-use Rattle.std.specs.Prelude.{◌≡◌, ◌≢◌, ℕ, IsTrue, List, []}
+use Rattle.std.specs.Prelude.{◌≡◌, ◌≢◌, ℕ, IsTrue, List, [], Bool, true, false}
 use Rattle.bench_model.specs.State.{Left}
 use Rattle.board_file.specs.Limits.{size_of}
 use Rattle.board_file.specs.Shown as board
@@ -10,10 +10,11 @@ use Rattle.job_text.specs.Stands.{IsSomeJob, IsDamaged, IsNotAJob}
 use Rattle.flash_session.specs.declared.goal.Goal.{Goal}
 use Rattle.flash_session.specs.declared.goal.Goal.TheVariants.{New, Old}
 use Rattle.flash_session.specs.Goals.{overlaid}
-use Rattle.report_text.specs.Refusal.{no_job, not_a_job, damaged, cells_differ}
+use Rattle.report_text.specs.Refusal.{no_job, not_a_job, damaged, cells_differ, Refusal, out_of_memory, store_fault, device_fault, output_fault, call_failed}
+use Rattle.report_text.specs.Refusal.{mismatch}
 use Rattle.command_files.specs.Inputs.{InputsCall, TakesNothing}
 use Rattle.command_answers.specs.Call.{BenchCall, SinkCall, Call, Answer}
-use Rattle.command_answers.specs.Answered.{has_resume, AnswersBy, EndsLawfully, Refuses, OnlyLooked, on_job_file}
+use Rattle.command_answers.specs.Answered.{AnswersBy, EndsLawfully, Refuses, OnlyLooked, on_job_file}
 use Rattle.job_commands.specs.Work.{Work, work_on}
 use Rattle.job_commands.specs.Carry.{Carries}
 use Rattle.job_commands.specs.Answers.{IsSound}
@@ -39,6 +40,20 @@ pub record GoesOnFrom (goal : Goal) (bench : BenchCall) (out : SinkCall) (answer
   pub stands : (job : Job) (b : board.Shown) (algorithms : List flm.Shown) → IsJob job b algorithms → IsWhole (body_of job) bench.before.file
       → size_of b.regions ≡ bench.before.cell_count
       → (surveyed : List ℕ) × Carries bench out (Left bench.before) (work_to goal job b algorithms surveyed) answer
+
+-- Which refusals `resume` and `revert` have.
+abbrev pub has_resume : Refusal → Bool
+has_resume out_of_memory = true
+has_resume no_job = true
+has_resume (not_a_job at) = true
+has_resume (damaged kept found) = true
+has_resume (cells_differ wanted found) = true
+has_resume store_fault = true
+has_resume device_fault = true
+has_resume output_fault = true
+has_resume (call_failed number call end) = true
+has_resume (mismatch at wanted found) = true
+has_resume _ = false
 
 -- The work of `resume`, to the image, and of `revert`, to the snapshot: all but the status and the line on `err`.
 pub record GoOnEnds (goal : Goal) (bench : BenchCall) (inputs : InputsCall) (out : SinkCall) (answer : Answer) : Type 0 where

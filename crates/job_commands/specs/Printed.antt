@@ -4,13 +4,14 @@ use Rattle.flm_descriptor.specs.Shown as flm
 use Rattle.page_geometry.specs.Geometry.{IsGeometry}
 use Rattle.flash_session.specs.Script.{Planned}
 use Rattle.report_text.specs.Refusal.{store_fault, device_fault, output_fault, call_failed, mismatch}
-use Rattle.command_answers.specs.Call.{SinkCall, TookNothing, TookAll, TookPart, TookPartBehind, Answer, done, refused}
-use Rattle.job_commands.specs.Work.{layout_of, plans_shown}
+use Rattle.algo_calls.specs.Duties.{device_of}
+use Rattle.command_answers.specs.Call.{SinkCall, TookNothing, TookAll, TookPart, TookPartBehind, Answer, done, refused, PrintsText}
+use Rattle.job_commands.specs.Work.{plans_shown}
 use Rattle.job_commands.specs.Carry.{done_text}
 
 -- the plan is one for the device of an algorithm
 pub record IsPlanFor (a : flm.Shown) (p : Planned) : Type 0 where
-  pub layout : p.layout ≡ layout_of a
+  pub layout : p.layout ≡ device_of a
   pub lawful : IsGeometry p.layout
   pub base : p.base ≡ a.device.base
 
@@ -47,6 +48,4 @@ PrintsWork count out (refused _) = TookNothing out
 
 -- what is printed behind the plans
 abbrev pub PrintsEnd : SinkCall → Answer → Type 0
-PrintsEnd out done = TookAll out done_text
-PrintsEnd out (refused output_fault) = TookPart out done_text
-PrintsEnd out (refused _) = TookNothing out
+PrintsEnd out answer = PrintsText out done_text answer

@@ -3,7 +3,6 @@ use Rattle.std.specs.Prelude.{◌≡◌, ◌+◌, ℕ, List, [], ◌∷◌, map,
 use Rattle.bench_model.specs.State.{BenchState}
 use Rattle.board_file.specs.Shown as board
 use Rattle.flm_descriptor.specs.Shown as flm
-use Rattle.page_geometry.specs.Geometry.{Geometry}
 use Rattle.erase_planner.specs.Plans.{chosen}
 use Rattle.readback.specs.declared.compare.Difference.{Difference}
 use Rattle.algo_calls.specs.declared.call.Call.{Call}
@@ -38,14 +37,10 @@ body w = body_of w.job
 
 -- The plans.
 
--- the sectors and pages of an algorithm's device
-abbrev pub layout_of : flm.Shown → Geometry
-layout_of a = device_of a
-
 -- the plan that is chosen for a region of a board, from its part of these cells to its part of the goal
 abbrev pub plan_in : board.Shown → ℕ → flm.Shown → (cells goal : List ℕ) → Planned
-plan_in b region a cells goal = planned (layout_of a) a.device.base
-    (chosen (layout_of a) b.weights (is_some a.entries.erase_chip) a.device.empty (part (site_of b a region) cells) (part (site_of b a region) goal))
+plan_in b region a cells goal = planned (device_of a) a.device.base
+    (chosen (device_of a) b.weights (is_some a.entries.erase_chip) a.device.empty (part (site_of b a region) cells) (part (site_of b a region) goal))
 
 -- so for each region from this number on, of which these are the algorithms
 abbrev pub plans_in : board.Shown → ℕ → List flm.Shown → (cells goal : List ℕ) → List Planned

@@ -25,12 +25,12 @@ use Rattle.job_file.specs.declared.fault.OpenFault.TheVariants as opening
 use Rattle.report_text.specs.Job.{job_text, no_job_text}
 use Rattle.report_text.specs.Refusal.{Refusal, out_of_memory, not_a_job, damaged, cells_differ, store_fault, output_fault}
 use Rattle.command_files.specs.Inputs.{InputsCall, TakesNothing}
-use Rattle.command_answers.specs.Call.{BenchCall, SinkCall, Answer, done, refused, bench_call, sink_call}
-use Rattle.command_answers.specs.Answered.{input, store, device, output, fault_in, AreCounted, EndsLawfully, on_job_file, has_status}
+use Rattle.command_answers.specs.Call.{BenchCall, SinkCall, Answer, done, refused, bench_call, sink_call, SaysText}
+use Rattle.command_answers.specs.Answered.{input, store, device, output, fault_in, AreCounted, EndsLawfully, on_job_file}
 use Rattle.command_answers.proofs.AnswerLemmas.{unraised}
 use Rattle.command_answers.proofs.FileLemmas.{not_free, damaged_open, one_reason, one_kept, one_found, one_job}
 use Rattle.job_status.specs.Opened.{refusal_of}
-use Rattle.job_status.specs.Status.{SaysText, IsSaid, SaysNone, devices_of, IsJobWith, SaysJob, ComesOfJobFile, IsDueForJobFile, StatusEnds}
+use Rattle.job_status.specs.Status.{IsSaid, SaysNone, devices_of, IsJobWith, SaysJob, ComesOfJobFile, IsDueForJobFile, StatusEnds, has_status}
 
 -- the devices of algorithms that fit regions have the regions' sizes together
 pub devices_fill : (b : board.Shown) (regions : List Region) (algorithms : List flm.Shown) → IsTrue (all_fit b regions algorithms)

@@ -1,5 +1,5 @@
 -- What `status` answers.
-use Rattle.std.specs.Prelude.{◌≡◌, ◌≢◌, ◌⊎◌, ℕ, IsTrue, List, [], map, sum_by, true}
+use Rattle.std.specs.Prelude.{◌≡◌, ◌≢◌, ◌⊎◌, ℕ, IsTrue, List, [], map, sum_by, true, Bool, false}
 use Rattle.bench_model.specs.Calls.{OnlyReads}
 use Rattle.byte_map.specs.Image.{Run}
 use Rattle.board_file.specs.Limits.{size_of}
@@ -9,20 +9,14 @@ use Rattle.job_text.specs.Files.{IsFree}
 use Rattle.job_text.specs.Stands.{IsSomeJob, IsNotAJob, IsDamaged}
 use Rattle.job_file.specs.Faults.{IsOtherSize}
 use Rattle.report_text.specs.Job.{job_text, no_job_text}
-use Rattle.report_text.specs.Refusal.{out_of_memory, not_a_job, damaged, cells_differ, store_fault, output_fault}
+use Rattle.report_text.specs.Refusal.{out_of_memory, not_a_job, damaged, cells_differ, store_fault, output_fault, Refusal}
 use Rattle.command_files.specs.Inputs.{InputsCall, TakesNothing}
-use Rattle.command_answers.specs.Call.{BenchCall, SinkCall, Answer, done, refused, TookNothing, TookAll, TookPart}
-use Rattle.command_answers.specs.Answered.{has_status, yields, Refuses, on_job_file, EndsLawfully}
+use Rattle.command_answers.specs.Call.{BenchCall, SinkCall, Answer, done, refused, TookNothing, TookAll, TookPart, SaysText}
+use Rattle.command_answers.specs.Answered.{yields, Refuses, on_job_file, EndsLawfully}
 
 -- What goes to `out`.
 
--- the whole text where done, and a beginning of it where `out` fails; there is no other answer
-abbrev pub SaysText : SinkCall → List ℕ → Answer → Type 0
-SaysText out text done = TookAll out text
-SaysText out text (refused output_fault) = TookPart out text
-SaysText out text (refused _) = ⊥
-
--- the same, or nothing with an answer that yields
+-- the whole text where done, a beginning of it where `out` fails, or nothing with an answer that yields
 abbrev pub IsSaid : SinkCall → List ℕ → Answer → Type 0
 IsSaid out text done = TookAll out text
 IsSaid out text (refused output_fault) = TookPart out text
@@ -74,6 +68,16 @@ pub record IsDueForJobFile (bench : BenchCall) (out : SinkCall) (answer : Answer
       → Refuses (TookNothing out) answer (cells_differ (size_of some.board.regions) bench.before.cell_count)
   pub stands : (some : IsSomeJob bench.before.file) → size_of some.board.regions ≡ bench.before.cell_count
       → IsSaid out (job_text (devices_of some.algorithms) some.job.image) answer
+
+-- Which refusals `status` has.
+abbrev pub has_status : Refusal → Bool
+has_status out_of_memory = true
+has_status (not_a_job at) = true
+has_status (damaged kept found) = true
+has_status (cells_differ wanted found) = true
+has_status store_fault = true
+has_status output_fault = true
+has_status _ = false
 
 -- The work of `status`: all but the status and the line on `err`. No input is taken, and the job file is only read: file and cells are
 -- as they were, and a stop at any moment leaves nothing that one at entry might not have left.

@@ -3,9 +3,9 @@ ghost use Rattle.std.specs.Prelude.{◌≡◌, option_map};
 ghost use Rattle.report_text.specs.Job.{status_text};
 ghost use Rattle.report_text.specs.Shown.{shown};
 ghost use Rattle.command_files.specs.Inputs.{InputsCall, TakesNothing};
-ghost use Rattle.command_answers.specs.Call.{bench_call, sink_call};
+ghost use Rattle.command_answers.specs.Call.{bench_call, sink_call, SaysText};
 ghost use Rattle.command_answers.specs.Shown.{answer_of};
-ghost use Rattle.job_status.specs.Status.{SaysText, StatusEnds};
+ghost use Rattle.job_status.specs.Status.{StatusEnds};
 ghost use Rattle.job_status.specs.Opened.{refusal_of};
 
 use bench_model::Bench;

@@ -4,11 +4,11 @@ use Rattle.job_text.specs.declared.job.Job as code
 use Rattle.job_text.specs.Stands.{StandsFor}
 use Rattle.flash_session.specs.Sessions.{job_in, surveyed}
 use Rattle.report_text.specs.Refusal.{Refusal}
-use Rattle.command_answers.specs.Answered.{has_resume, StandsEarly, IsOf, on_job_file}
+use Rattle.command_answers.specs.Answered.{StandsEarly, IsOf, on_job_file}
 use Rattle.command_answers.specs.Call.{bench_call, sink_call, refused}
 use Rattle.command_answers.specs.Shown.{answer_of}
 use Rattle.job_commands.specs.Answers.{IsSound}
-use Rattle.job_commands.specs.GoOn.{GoesOnFrom}
+use Rattle.job_commands.specs.GoOn.{GoesOnFrom, has_resume}
 use Rattle.job_commands.specs.Printed.{ArePlansFor, PrintsWork}
 use Rattle.job_commands.specs.Steps.{BenchCounted}
 use Rattle.job_commands.specs.Work.{plans_shown}

@@ -1,10 +1,10 @@
 use Rattle.std.proofs.Common.{refl, []}
-use Rattle.command_answers.specs.Answered.{has_resume}
 use Rattle.command_answers.specs.Call.{bench_call, sink_call}
 use Rattle.command_answers.specs.Shown.{answer_of}
 use Rattle.command_answers.proofs.AnswerLemmas.{took_none}
 use Rattle.job_commands.proofs.CountLemmas.{worked_lawful}
 use Rattle.job_commands.proofs.later_commands.go_on.Goals as goal
+use Rattle.job_commands.specs.GoOn.{has_resume}
 
 pub returns : goal.returns
 returns g c = λ inputs takes. record {
