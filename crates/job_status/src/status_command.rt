@@ -35,10 +35,8 @@ pub fn status<'a, B: Bench, O: Sink>(
 fn print_job<'a, O: Sink>(out: &mut O, job: Option<&Job>) -> Result<(), Refusal<'a>>
     ensures { SaysText (sink_call O.tells (O.state out.old) (O.state out.new)) (status_text (option_map (λ j. j.now) job.entry)) (answer_of result) }
 {
-    match put_job(out, job) {
-        Ok(()) => Ok(()),
-        Err(_) => Err(Refusal::OutputFault),
-    }
+    put_job(out, job)?;
+    Ok(())
 }
 
 /// The refusal of a job that wasn't opened.

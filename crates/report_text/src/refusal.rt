@@ -127,6 +127,16 @@ pub enum Refusal<'a> {
     },
 }
 
+impl<'a> From<OutputFault> for Refusal<'a> {
+    ghost use Rattle.report_text.specs.declared.refusal.Refusal.TheVariants as refusal;
+
+    ghost from_gives = { λ _ r. r ≡ refusal.OutputFault };
+
+    fn from(_fault: OutputFault) -> Refusal<'a> {
+        Refusal::OutputFault
+    }
+}
+
 impl Refusal<'_> {
     /// The status that the program ends with.
     pub fn status(&self) -> u8
