@@ -24,12 +24,12 @@ use Rattle.job_file.specs.declared.fault.OpenFault.{OpenFault}
 use Rattle.job_file.specs.declared.fault.OpenFault.TheVariants as opening
 use Rattle.report_text.specs.Job.{job_text, no_job_text}
 use Rattle.report_text.specs.Refusal.{Refusal, out_of_memory, not_a_job, damaged, cells_differ, store_fault, output_fault}
+use Rattle.report_text.specs.Refused.{of_open}
 use Rattle.command_files.specs.Inputs.{InputsCall, TakesNothing}
 use Rattle.command_answers.specs.Call.{BenchCall, SinkCall, Answer, done, refused, bench_call, sink_call, SaysText}
 use Rattle.command_answers.specs.Answered.{input, store, device, output, fault_in, AreCounted, EndsLawfully, on_job_file}
 use Rattle.command_answers.proofs.AnswerLemmas.{unraised}
 use Rattle.command_answers.proofs.FileLemmas.{not_free, damaged_open, one_reason, one_kept, one_found, one_job}
-use Rattle.job_status.specs.Opened.{refusal_of}
 use Rattle.job_status.specs.Status.{IsSaid, SaysNone, devices_of, IsJobWith, SaysJob, ComesOfJobFile, IsDueForJobFile, StatusEnds, has_status}
 
 -- the devices of algorithms that fit regions have the regions' sizes together
@@ -222,7 +222,7 @@ module _ (tells : Bool) (b after : BenchState) (inputs : InputsCall) (takes : Ta
     }
 
     pub ends_refused : (fault : OpenFault) → fault ≢ opening.NoJob → counted.IsCounted b.store_faults after.store_faults (counted.is_open_fault {T = Unit {0}} (Err fault))
-        → (IsTrue tells → IsOpenFault b.file b.cell_count fault) → IsSoundOpen b.cell_count fault → StatusEnds (bench_call tells b after) inputs (sink_call told o o) (refused (refusal_of fault))
+        → (IsTrue tells → IsOpenFault b.file b.cell_count fault) → IsSoundOpen b.cell_count fault → StatusEnds (bench_call tells b after) inputs (sink_call told o o) (refused (of_open fault))
     ends_refused opening.OutOfMemory some counted is sound = refused_ends out_of_memory (record {
       kind = refl;
       counts = plain_counts out_of_memory (counted.on_other refl) refl;

@@ -3,4 +3,4 @@
 
 mod status_command;
 
-pub use status_command::{open_refusal, status};
+pub use status_command::status;

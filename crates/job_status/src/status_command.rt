@@ -1,12 +1,10 @@
 //! `status`: what the job file stands for.
-ghost use Rattle.std.specs.Prelude.{◌≡◌, option_map};
+ghost use Rattle.std.specs.Prelude.{option_map};
 ghost use Rattle.report_text.specs.Job.{status_text};
-ghost use Rattle.report_text.specs.Shown.{shown};
 ghost use Rattle.command_files.specs.Inputs.{InputsCall, TakesNothing};
 ghost use Rattle.command_answers.specs.Call.{bench_call, sink_call, SaysText};
 ghost use Rattle.command_answers.specs.Shown.{answer_of};
 ghost use Rattle.job_status.specs.Status.{StatusEnds};
-ghost use Rattle.job_status.specs.Opened.{refusal_of};
 
 use bench_model::Bench;
 use job_file::{Job, OpenFault, open};
@@ -27,7 +25,7 @@ pub fn status<'a, B: Bench, O: Sink>(
     match open(alloc, bench) {
         Ok(job) => print_job(out, Some(&job)),
         Err(OpenFault::NoJob) => print_job(out, None),
-        Err(fault) => Err(open_refusal(fault)),
+        Err(fault) => Err(Refusal::from(fault)),
     }
 }
 
@@ -37,21 +35,4 @@ fn print_job<'a, O: Sink>(out: &mut O, job: Option<&Job>) -> Result<(), Refusal<
 {
     put_job(out, job)?;
     Ok(())
-}
-
-/// The refusal of a job that wasn't opened.
-pub fn open_refusal<'a>(fault: OpenFault) -> Refusal<'a>
-    ensures { shown result ≡ refusal_of fault }
-{
-    match fault {
-        OpenFault::OutOfMemory => Refusal::OutOfMemory,
-        OpenFault::NoJob => Refusal::NoJob,
-        OpenFault::NotAJob { at } => Refusal::NotAJob { at },
-        OpenFault::Damaged { kept, found } => Refusal::Damaged { kept, found },
-        OpenFault::StoreFault => Refusal::StoreFault,
-        OpenFault::CellsDiffer { said, found } => Refusal::CellsDiffer {
-            wanted: said,
-            found,
-        },
-    }
 }

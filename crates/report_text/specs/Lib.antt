@@ -4,6 +4,7 @@ pub mod Faults
 pub mod Calls
 pub mod Refusal
 pub mod Shown
+pub mod Refused
 pub mod Plan
 pub mod Job
 pub mod Region

@@ -11,11 +11,14 @@ use crate::image_reason::{put_image_fault, put_image_file};
 use crate::pieces::put_pieces;
 use crate::reason::put_flm_fault;
 use algo_calls::{Call, CallEnd};
+use bench_model::DeviceFault;
 use board_file::BoardFault;
+use faults::OutOfMemory;
 use flm_descriptor::FlmFault;
 use image_more::AnyFault;
 use image_set::ImageFault;
 use itoa::Buffer;
+use job_file::OpenFault;
 use octets::{Word, hex_digits};
 use outside_io::{OutputFault, Sink};
 
@@ -125,6 +128,59 @@ pub enum Refusal<'a> {
         wanted: u8,
         found: u8,
     },
+}
+
+impl<'a> From<OutOfMemory> for Refusal<'a> {
+    ghost use Rattle.report_text.specs.declared.refusal.Refusal.TheVariants as refusal;
+
+    ghost from_gives = { λ _ r. r ≡ refusal.OutOfMemory };
+
+    fn from(_fault: OutOfMemory) -> Refusal<'a> {
+        Refusal::OutOfMemory
+    }
+}
+
+impl<'a> From<FlmFault> for Refusal<'a> {
+    ghost use Rattle.report_text.specs.Refused.{of_flm};
+
+    ghost from_gives = { λ fault r. shown r ≡ of_flm fault };
+
+    fn from(fault: FlmFault) -> Refusal<'a> {
+        match fault {
+            FlmFault::OutOfMemory => Refusal::OutOfMemory,
+            fault => Refusal::FlmRefused { fault },
+        }
+    }
+}
+
+impl<'a> From<OpenFault> for Refusal<'a> {
+    ghost use Rattle.report_text.specs.Refused.{of_open};
+
+    ghost from_gives = { λ fault r. shown r ≡ of_open fault };
+
+    fn from(fault: OpenFault) -> Refusal<'a> {
+        match fault {
+            OpenFault::OutOfMemory => Refusal::OutOfMemory,
+            OpenFault::NoJob => Refusal::NoJob,
+            OpenFault::NotAJob { at } => Refusal::NotAJob { at },
+            OpenFault::Damaged { kept, found } => Refusal::Damaged { kept, found },
+            OpenFault::StoreFault => Refusal::StoreFault,
+            OpenFault::CellsDiffer { said, found } => Refusal::CellsDiffer {
+                wanted: said,
+                found,
+            },
+        }
+    }
+}
+
+impl<'a> From<DeviceFault> for Refusal<'a> {
+    ghost use Rattle.report_text.specs.declared.refusal.Refusal.TheVariants as refusal;
+
+    ghost from_gives = { λ _ r. r ≡ refusal.DeviceFault };
+
+    fn from(_fault: DeviceFault) -> Refusal<'a> {
+        Refusal::DeviceFault
+    }
 }
 
 impl<'a> From<OutputFault> for Refusal<'a> {

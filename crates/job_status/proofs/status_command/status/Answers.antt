@@ -29,5 +29,5 @@ returns-in-Ok g c = λ inputs takes.
 pub returns-in-Err : goal.returns-in-Err
 returns-in-Err g c = λ inputs takes.
     let some : c.in-Err.fault ≢ NoJob = search rules in
-    rw c.open_refusal.ensures (ends_refused g.B.Bench.tells (g.B.Bench.state c.args.bench.now) (g.B.Bench.state c.open.new.bench) inputs takes c.open.ensures.reads
+    rw c.from.ensures (ends_refused g.B.Bench.tells (g.B.Bench.state c.args.bench.now) (g.B.Bench.state c.open.new.bench) inputs takes c.open.ensures.reads
     g.O.Sink.tells (g.O.Sink.state c.args.out.now) c.in-Err.fault some c.in-Err.ensures.counted c.in-Err.ensures.refused c.in-Err.ensures.sound)
