@@ -1,5 +1,5 @@
 -- From the steps of `dump` to its end. Each step that may end `dump` has its lemma.
-use Rattle.std.proofs.Common.{◌≡◌, ◌≢◌, ◌≤◌, ◌<◌, ◌∙◌, ⊎_elim, ◌⊎◌, sym, ap, subst, refl, arith, inl, inr, ℕ, Bool, true, false, IsTrue, OnOk, List, [], ◌∷◌, ◌++◌, length, take, drop, Option, Some, None, Result, Ok, Err, is_err}
+use Rattle.std.proofs.Common.{◌≡◌, ◌≢◌, ◌≤◌, ◌<◌, ◌∙◌, ⊎_elim, ◌⊎◌, sym, ap, subst, refl, arith, inl, inr, ℕ, Bool, true, IsTrue, List, [], ◌∷◌, ◌++◌, length, take, drop, Option, Some, None, Ok, Err}
 use Rattle.std.proofs.lemmas.List.{take_all, take-append-le}
 use Rattle.std.specs.List.{All}
 use Rattle.bench_model.specs.State.{BenchState, cells_half}
@@ -92,10 +92,8 @@ module _ (form : TextForm) (regions : List Region) where
 
   module _ (bench : BenchCall) (told : Bool) (o : SinkState) where
     -- the device fails
-    pub dumps_fault : (result : Result (Unit {0}) DeviceFault) → is_err result ≡ true → LooksAtCells bench result
-        → DumpsCells form regions bench (sink_call told o o) (refused device_fault)
-    dumps_fault (Ok u) failed looks = absurd (cc)
-    dumps_fault (Err e) failed looks = record {
+    pub dumps_fault : (e : DeviceFault) → LooksAtCells {A = Unit {0}} bench (Err e) → DumpsCells form regions bench (sink_call told o o) (refused device_fault)
+    dumps_fault e looks = record {
       leaves = record {
         prints = record { taken = refl; faults = refl };
         stands = looks.err;
@@ -110,11 +108,9 @@ module _ (form : TextForm) (regions : List Region) where
 
   -- the cells were read, and put
   module _ (bench : BenchCall) (out : SinkCall) (cells : List ℕ) where
-    pub dumps_put : (result : Result (Unit {0}) DeviceFault) → is_err result ≡ false → LooksAtCells bench result
-        → (IsTrue bench.tells → OnOk result (bench.after.cells ≡ cells)) → (answer : Answer) → PutsCells form regions cells out answer
-        → DumpsCells form regions bench out answer
-    dumps_put (Err e) fine looks surveyed answer puts = absurd (cc)
-    dumps_put (Ok u) fine looks surveyed done puts = record {
+    pub dumps_put : (u : Unit {0}) → LooksAtCells bench (Ok u) → (IsTrue bench.tells → bench.after.cells ≡ cells)
+        → (answer : Answer) → PutsCells form regions cells out answer → DumpsCells form regions bench out answer
+    dumps_put u looks surveyed done puts = record {
       leaves = record { prints = tt; stands = looks.ok; file = looks.file; count = looks.count; stops = looks.stops };
       dumped = record {
         cells = cells;
@@ -128,7 +124,7 @@ module _ (form : TextForm) (regions : List Region) where
       device_count = unraised bench.before.device_faults bench.after.device_faults device done (looks.cause.on_ok refl) (λ is. cc);
       out_count = unraised out.before.faults out.after.faults output done puts.prints.faults (λ is. cc);
     }
-    dumps_put (Ok u) fine looks surveyed (refused output_fault) puts = record {
+    dumps_put u looks surveyed (refused output_fault) puts = record {
       leaves = record { prints = tt; stands = looks.ok; file = looks.file; count = looks.count; stops = looks.stops };
       dumped = record {
         cells = cells;
@@ -143,13 +139,13 @@ module _ (form : TextForm) (regions : List Region) where
           (λ is. let same : output ≡ device = cc in cc);
       out_count = record { later = puts.prints.later; only = λ its. puts.prints.rose; answered = λ more. refl };
     }
-    dumps_put (Ok u) fine looks surveyed (refused out_of_memory) puts = record {
+    dumps_put u looks surveyed (refused out_of_memory) puts = record {
       leaves = record { prints = puts; stands = inr looks.ok; file = looks.file; count = looks.count; stops = looks.stops };
       dumped = tt;
       device_count = unraised bench.before.device_faults bench.after.device_faults device (refused out_of_memory) (looks.cause.on_ok refl) (λ is. cc);
       out_count = unraised out.before.faults out.after.faults output (refused out_of_memory) puts.faults (λ is. cc);
     }
-    dumps_put (Ok u) fine looks surveyed (refused r) puts = absurd puts
+    dumps_put u looks surveyed (refused r) puts = absurd puts
 
 -- The text of the map is put whole, or in part.
 module _ (form : TextForm) (regions : List Region) (cells : List ℕ) (map : List Run) (told : Bool) (o after : SinkState) (bytes : All (λ byte. byte < 256) cells)

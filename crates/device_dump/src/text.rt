@@ -61,9 +61,7 @@ fn dump_cells<'a, B: Bench, O: Sink>(
     let Ok(mut cells) = vec![in alloc; 0u8; size] else {
         return Err(Refusal::OutOfMemory);
     };
-    if survey(bench, &mut cells).is_err() {
-        return Err(Refusal::DeviceFault);
-    }
+    survey(bench, &mut cells)?;
     put_cells(alloc, form, board.regions.as_slice(), &cells, out)
 }
 
@@ -80,13 +78,9 @@ fn put_cells<'a, O: Sink>(
     ensures { PutsCells form regions.now cells.now (sink_call O.tells (O.state out.old) (O.state out.new)) (answer_of result) }
 {
     know_bytes(cells);
-    let Ok(map) = map_of_cells(alloc, regions, cells) else {
-        return Err(Refusal::OutOfMemory);
-    };
-    match put_map(out, form, &map) {
-        Ok(()) => Ok(()),
-        Err(_) => Err(Refusal::OutputFault),
-    }
+    let map = map_of_cells(alloc, regions, cells)?;
+    put_map(out, form, &map)?;
+    Ok(())
 }
 
 /// Puts a map as a text of this form.
