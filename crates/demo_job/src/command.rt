@@ -25,20 +25,16 @@ const CALL_ROOM: u64 = 400_000;
 pub fn demo<'a, O: Sink>(alloc: Global, seed: u32, out: &mut O) -> Result<(), Refusal<'a>>
     ensures { DemoSays seed (sink_call O.tells (O.state out.old) (O.state out.new)) (answer_of result) }
 {
-    match run(alloc, seed) {
-        Ok(demo) => tell(&demo, out),
-        Err(_) => Err(Refusal::OutOfMemory),
-    }
+    let demo = run(alloc, seed)?;
+    tell(&demo, out)
 }
 
 /// Puts the lines of a demonstration, and ends as it.
 fn tell<'a, O: Sink>(demo: &Demo, out: &mut O) -> Result<(), Refusal<'a>>
     ensures { Prints (sink_call O.tells (O.state out.old) (O.state out.new)) demo.now (answer_of result) }
 {
-    match put_demo(out, &demo.lines) {
-        Ok(()) => end(demo),
-        Err(_) => Err(Refusal::OutputFault),
-    }
+    put_demo(out, &demo.lines)?;
+    end(demo)
 }
 
 /// The demonstration of a seed on a bench that it makes.
