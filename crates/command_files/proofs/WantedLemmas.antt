@@ -1,5 +1,5 @@
 -- What the files of a command want of the cells.
-use Rattle.std.proofs.Common.{◌≡◌, ◌+◌, ◌<◌, ◌≤◌, ◌∙◌, sym, ap, subst, refl, arith, inl, inr, ⊎_elim, ℕ, List, [], ◌∷◌, ◌++◌, map, length, take, drop, get_or, slice_get, Option, option_to_list, Some, IsSome, Result, Ok, Err, IfOk, IfErr}
+use Rattle.std.proofs.Common.{◌≡◌, ◌+◌, ◌<◌, ◌≤◌, ◌∙◌, sym, ap, subst, refl, arith, inl, inr, ⊎_elim, ℕ, List, [], ◌∷◌, ◌++◌, map, length, take, drop, get_or, slice_get, Option, option_to_list, Some, IsSome, Result, Ok, Err, IfOk, IfErr, ◌≢◌}
 use Rattle.std.specs.Result.{result_map_both}
 use Rattle.std.proofs.Math.Numerals.{add-one}
 use Rattle.std.proofs.lemmas.List.Sums.{sum_by-cons}
@@ -11,12 +11,16 @@ use Rattle.board_file.specs.Limits.{size_of}
 use Rattle.board_file.specs.Text.{IsBoard}
 use Rattle.board_file.specs.Shown as board
 use Rattle.flm_descriptor.specs.Shown as flm
+use Rattle.flm_descriptor.specs.Flm.{flm_of, IsFlm}
+use Rattle.flm_descriptor.specs.declared.fault.FlmFault.{FlmFault}
+use Rattle.flm_descriptor.specs.declared.fault.FlmFault.TheVariants as unread
 use Rattle.flm_descriptor.specs.declared.algorithm.Algorithm.{Algorithm}
 use Rattle.image_set.specs.declared.fault.ImageFault.{ImageFault}
 use Rattle.image_set.specs.Ranges.{LiesInside, IsPlaceFault}
 use Rattle.report_text.specs.Refusal.{Refusal, out_of_memory, usage, board_refused, flm_refused, other_device, no_room, image_refused}
 use Rattle.report_text.specs.Shown.{shown}
 use Rattle.report_text.specs.declared.refusal.Refusal as value
+use Rattle.report_text.specs.Refused.{of_flm}
 use Rattle.command_words.specs.Files.{FilesAsked}
 use Rattle.command_files.specs.Inputs.{FilesGiven}
 use Rattle.command_files.specs.Files.{others_of, flm_files, image_files, LeavesNoImage, IsOneFor, AreFor, IsUnfit, IsUnread, IsNoneFor, AreNotFor, Aim, ranges_of, IsUnionOf, AreRead, IsAim, HasBoard, HasTarget, IsMisplaced}
@@ -131,6 +135,18 @@ module _ (asked : FilesAsked) (files : FilesGiven) (b : board.Shown) (is_board :
         is_misplaced fault is = record { aim = its; are_read = read; is_fault = is }
 
 -- The refusals of FLM files in turn.
+
+-- the file is refused, or there was no memory to read it
+pub unread_one : (b : board.Shown) (region : Region) (file : List ℕ) (fault : FlmFault) → (fault ≢ unread.OutOfMemory → flm_of file ≡ Err fault)
+    → IsFlmRefusal b region file (of_flm fault)
+unread_one b region file unread.OutOfMemory is = tt
+unread_one b region file fault is = inl (is (λ wrong. cc))
+
+-- its algorithm isn't for the region
+pub unfit_one : (b : board.Shown) (region : Region) (file : List ℕ) (algorithm : flm.Shown) (r : Refusal) → IsFlm file algorithm
+    → IsUnfit b region.base region.size algorithm r → IsFlmRefusal b region file r
+unfit_one b region file algorithm out_of_memory says unfit = tt
+unfit_one b region file algorithm r says unfit = inr (record { algorithm = algorithm; says = says; unfit = unfit })
 
 -- the first isn't one for its region
 pub first_refused : (b : board.Shown) (regions : List Region) (region : Region) (rest : List Region) (file : List ℕ) (files : List (List ℕ)) (r : Refusal)

@@ -17,7 +17,7 @@ use algo_loader::{NoRoom, place};
 use board_file::{Board, BoardFault, Region, read_board};
 use byte_map::ByteMap;
 use command_words::{FileNames, Names};
-use flm_descriptor::{Algorithm, FlmFault, read_flm};
+use flm_descriptor::{Algorithm, read_flm};
 use image_more::{AnyFault, read_any};
 use image_set::{ImageFault, check_ranges, merge};
 use octets::Bytes;
@@ -178,15 +178,9 @@ fn read_one<'a>(
 ) -> Result<Algorithm, Refusal<'a>>
     ensures { ReadsOne (board_shown.shown board.now) region.now file.now result }
 {
-    let algorithm = match read_flm(alloc, file) {
-        Ok(algorithm) => algorithm,
-        Err(FlmFault::OutOfMemory) => return Err(Refusal::OutOfMemory),
-        Err(fault) => return Err(Refusal::FlmRefused { fault }),
-    };
-    match check_algorithm(board, region, &algorithm) {
-        Ok(()) => Ok(algorithm),
-        Err(refusal) => Err(refusal),
-    }
+    let algorithm = read_flm(alloc, file)?;
+    check_algorithm(board, region, &algorithm)?;
+    Ok(algorithm)
 }
 
 /// Checks that an algorithm is for a region, and that the board's RAM has room for it.
