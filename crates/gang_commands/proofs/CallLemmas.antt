@@ -40,6 +40,7 @@ use Rattle.flash_session.specs.Starts.{job_start}
 use Rattle.flash_session.specs.Surveys.{Surveyed, HasSurveyed}
 use Rattle.command_answers.specs.Call.{SinkCall}
 use Rattle.command_answers.proofs.FileLemmas.{AreOne, not_free, one_job}
+use Rattle.job_commands.specs.Refused.{of_session, of_survey}
 use Rattle.report_text.specs.Refusal.{status_of}
 use Rattle.report_text.proofs.StatusLemmas.{some_status}
 use Rattle.gang_target.specs.declared.target_end.TargetEnd.{TargetEnd}
@@ -52,7 +53,7 @@ use Rattle.gang_run.specs.Opening.{AreOpened}
 use Rattle.gang_run.specs.Slots.{OpensWithMemory, HasMemory}
 use Rattle.gang_commands.specs.Ends.{AllFinished, as_resume, KeepsOn, AllKeep, IsServed, AllServed, NoneRose, NoneRoseIn}
 use Rattle.gang_commands.specs.Gangs.{HasNoUsage, HasNoMemory, HaveEnded, Answers}
-use Rattle.gang_commands.specs.Lines.{Outcome, of_session, of_survey, reason_in, status_before, status_in}
+use Rattle.gang_commands.specs.Lines.{Outcome, reason_in, status_before, status_in}
 use Rattle.gang_commands.specs.Puts.{outcome_of, outcomes, Runs}
 use Rattle.gang_commands.specs.Words.{DoFit}
 use Rattle.gang_commands.specs.Works.{aim_of, Carries, Comes, is_store, is_device, IsSound}

@@ -1,17 +1,13 @@
 -- What a gang says of its targets: a line for each, and a status.
 use Rattle.std.specs.Prelude.{ℕ, ◌+◌, List, [], ◌∷◌, ◌++◌, Option, Some, None, unwrap_or}
 use Rattle.board_file.specs.declared.region.Region.{Region}
-use Rattle.job_file.specs.declared.fault.OpenFault.TheVariants as opening
-use Rattle.flash_session.specs.declared.fault.SessionFault.{SessionFault}
-use Rattle.flash_session.specs.declared.fault.SessionFault.TheVariants as session
-use Rattle.flash_session.specs.declared.fault.SurveyFault.{SurveyFault}
-use Rattle.flash_session.specs.declared.fault.SurveyFault.TheVariants as survey
 use Rattle.gang_target.specs.declared.target_end.TargetEnd.{TargetEnd}
 use Rattle.gang_target.specs.declared.target_end.TargetEnd.TheVariants as ended
-use Rattle.report_text.specs.Refusal.{Refusal, status_of, out_of_memory, no_job, not_a_job, damaged, cells_differ, store_fault, device_fault, call_failed}
+use Rattle.report_text.specs.Refusal.{Refusal, status_of, store_fault, device_fault, call_failed}
 use Rattle.report_text.specs.Refusal.{mismatch}
 use Rattle.report_text.specs.Target.{target_line}
 use Rattle.command_answers.specs.Places.{address_at}
+use Rattle.job_commands.specs.Refused.{of_session, of_survey}
 
 -- how a target ended, with the regions of its job's board where its job was opened
 pub record Outcome : Type 0 where
@@ -19,21 +15,6 @@ pub record Outcome : Type 0 where
   pub regions : Option (List Region)
 
 -- Why it isn't done.
-
-abbrev pub of_session : SessionFault → Refusal
-of_session session.OutOfMemory = out_of_memory
-of_session (session.Open opening.OutOfMemory) = out_of_memory
-of_session (session.Open opening.NoJob) = no_job
-of_session (session.Open (opening.NotAJob at)) = not_a_job at
-of_session (session.Open (opening.Damaged kept found)) = damaged kept found
-of_session (session.Open opening.StoreFault) = store_fault
-of_session (session.Open (opening.CellsDiffer said found)) = cells_differ said found
-of_session session.DeviceFault = device_fault
-
-abbrev pub of_survey : SurveyFault → Refusal
-of_survey survey.OutOfMemory = out_of_memory
-of_survey survey.DeviceFault = device_fault
-of_survey survey.StoreFault = store_fault
 
 -- the address of a place; behind the cells of the regions, and where there are none, the place itself
 abbrev pub address_in : Option (List Region) → ℕ → ℕ

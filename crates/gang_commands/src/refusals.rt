@@ -6,45 +6,14 @@ ghost use Rattle.gang_run.specs.Gangs.{slot_at};
 ghost use Rattle.gang_run.specs.Slots.{slot_turn};
 ghost use Rattle.report_text.specs.Shown.{shown};
 ghost use Rattle.command_answers.specs.Places.{address_at};
-ghost use Rattle.gang_commands.specs.Lines.{of_session, of_survey, address_in, reason_in, reason};
+ghost use Rattle.gang_commands.specs.Lines.{address_in, reason_in, reason};
 ghost use Rattle.gang_commands.specs.Puts.{regions_of, outcome_of};
 
 use board_file::Region;
-use flash_session::{SessionFault, SurveyFault};
 use gang_run::{Gang, TargetEnd};
-use job_file::OpenFault;
+use job_commands::{session_refusal, survey_refusal};
 use job_text::Job;
 use report_text::Refusal;
-
-/// Why no session was opened.
-fn session_refusal<'a>(fault: SessionFault) -> Refusal<'a>
-    ensures { shown result ≡ of_session fault }
-{
-    match fault {
-        SessionFault::OutOfMemory => Refusal::OutOfMemory,
-        SessionFault::Open(OpenFault::OutOfMemory) => Refusal::OutOfMemory,
-        SessionFault::Open(OpenFault::NoJob) => Refusal::NoJob,
-        SessionFault::Open(OpenFault::NotAJob { at }) => Refusal::NotAJob { at },
-        SessionFault::Open(OpenFault::Damaged { kept, found }) => Refusal::Damaged { kept, found },
-        SessionFault::Open(OpenFault::StoreFault) => Refusal::StoreFault,
-        SessionFault::Open(OpenFault::CellsDiffer { said, found }) => Refusal::CellsDiffer {
-            wanted: said,
-            found,
-        },
-        SessionFault::DeviceFault => Refusal::DeviceFault,
-    }
-}
-
-/// Why no survey was made.
-fn survey_refusal<'a>(fault: SurveyFault) -> Refusal<'a>
-    ensures { shown result ≡ of_survey fault }
-{
-    match fault {
-        SurveyFault::OutOfMemory => Refusal::OutOfMemory,
-        SurveyFault::DeviceFault => Refusal::DeviceFault,
-        SurveyFault::StoreFault => Refusal::StoreFault,
-    }
-}
 
 /// The address of a place among the cells of a board's regions: none behind the last one.
 fn find_address(regions: &[Region], place: u32) -> Option<u32>

@@ -16,7 +16,8 @@ use Rattle.command_files.specs.Inputs.{InputsCall, NoneFailed}
 use Rattle.command_answers.specs.Call.{BenchCall, SinkCall, Answer, done, refused, bench_call, sink_call}
 use Rattle.command_answers.specs.Answered.{Fault, input, store, device, output, fault_in, IsCounted, StandsEarly, IsOf, EndsLawfully, on_job_file}
 use Rattle.command_answers.proofs.AnswerLemmas.{unraised, never_input}
-use Rattle.job_commands.specs.Steps.{BenchCounted, begun, of_survey}
+use Rattle.job_commands.specs.Steps.{BenchCounted, begun}
+use Rattle.job_commands.specs.Refused.{of_survey}
 
 -- the work after the files, of a command that may take some
 pub worked_lawful : (bench : BenchCall) (inputs : InputsCall) (out : SinkCall) (has its : Refusal → Bool) (names : List (List ℕ)) (answer : Answer)

@@ -13,7 +13,8 @@ use Rattle.report_text.specs.Refusal.{Refusal, out_of_memory, input_fault, usage
 use Rattle.command_answers.specs.Call.{BenchCall, SinkCall, Answer, done, refused}
 use Rattle.command_answers.specs.Answered.{StandsEarly, IsOf, on_job_file}
 use Rattle.job_commands.specs.Answers.{is_of_work, IsSound}
-use Rattle.job_commands.specs.Steps.{of_session, of_survey, of_begin, has_script, has_start, has_alone, has_work, begun}
+use Rattle.job_commands.specs.Steps.{has_script, has_start, has_alone, has_work, begun}
+use Rattle.job_commands.specs.Refused.{of_session, of_survey, of_begin}
 use Rattle.job_commands.specs.Program.{has_program}
 use Rattle.job_commands.specs.Begin.{has_begin}
 use Rattle.job_commands.specs.GoOn.{has_resume}

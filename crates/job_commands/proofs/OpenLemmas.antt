@@ -26,7 +26,7 @@ use Rattle.command_answers.proofs.FileLemmas.{not_free, damaged_open, one_reason
 use Rattle.job_commands.specs.Work.{Work, body}
 use Rattle.job_commands.specs.Carry.{Carries, BrokenOff}
 use Rattle.job_commands.specs.GoOn.{work_to, GoesOnFrom}
-use Rattle.job_commands.specs.Steps.{of_session, of_survey}
+use Rattle.job_commands.specs.Refused.{of_session, of_survey}
 use Rattle.job_commands.proofs.CarryLemmas.{no_memory, no_store, no_device, opened}
 
 -- where the file stands for a job of so many cells, the work on this job is all that is to be shown

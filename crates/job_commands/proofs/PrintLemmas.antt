@@ -33,7 +33,8 @@ use Rattle.command_answers.specs.Call.{SinkCall, sink_call, TookNothing, TookAll
 use Rattle.command_answers.specs.Answered.{IsOf}
 use Rattle.job_commands.specs.Work.{shown_region, plans_shown}
 use Rattle.job_commands.specs.Printed.{IsPlanFor, ArePlansFor, AreLawful, OfSomePlans, PrintsWork, PrintsEnd}
-use Rattle.job_commands.specs.Steps.{of_session, of_survey, has_script, has_start, begun}
+use Rattle.job_commands.specs.Steps.{has_script, has_start, begun}
+use Rattle.job_commands.specs.Refused.{of_session, of_survey}
 use Rattle.job_commands.specs.Begin.{PrintsBegun}
 use Rattle.job_commands.proofs.CarryLemmas.{all_then, nothing_then, part_then}
 use Rattle.job_commands.proofs.FitLemmas.{shown_length, some_algorithm, few_algorithms}

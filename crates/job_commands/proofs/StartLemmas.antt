@@ -26,7 +26,8 @@ use Rattle.command_answers.proofs.FileLemmas.{not_free, damaged_open, one_reason
 use Rattle.job_commands.specs.Carry.{EndsInBegin, BrokenOff}
 use Rattle.job_commands.specs.Beginning.{OverFile}
 use Rattle.job_commands.specs.Begin.{HasBegun, BegunComes, BeginsAlone}
-use Rattle.job_commands.specs.Steps.{of_begin, has_start, StartsParts}
+use Rattle.job_commands.specs.Steps.{has_start, StartsParts}
+use Rattle.job_commands.specs.Refused.{of_begin}
 use Rattle.job_commands.proofs.CarryLemmas.{AsEntered}
 
 -- the pairs of `begin`

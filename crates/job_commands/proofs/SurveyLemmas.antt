@@ -20,7 +20,8 @@ use Rattle.report_text.specs.Refusal.{output_fault}
 use Rattle.command_answers.specs.Call.{SinkCall, Answer, refused, bench_call, sink_call}
 use Rattle.job_commands.specs.Work.{Work, body, plans_shown, shown_plan}
 use Rattle.job_commands.specs.GoOn.{GoesOnFrom}
-use Rattle.job_commands.specs.Steps.{of_survey, session_work, Finishes}
+use Rattle.job_commands.specs.Steps.{session_work, Finishes}
+use Rattle.job_commands.specs.Refused.{of_survey}
 use Rattle.job_commands.specs.Carry.{BrokenOff}
 use Rattle.job_commands.proofs.TurnLemmas.{off_from}
 use Rattle.job_commands.proofs.CarryLemmas.{entered, looked, ends_in_plan, ends_finished}

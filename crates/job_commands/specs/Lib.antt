@@ -6,5 +6,6 @@ pub mod GoOn
 pub mod Beginning
 pub mod Program
 pub mod Begin
+pub mod Refused
 pub mod Steps
 pub mod Law

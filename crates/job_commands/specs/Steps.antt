@@ -10,14 +10,7 @@ use Rattle.job_text.specs.Body.{Job, IsJob}
 use Rattle.job_text.specs.Parts.{job_of, AreParts}
 use Rattle.job_text.specs.declared.job.Job as code
 use Rattle.job_text.specs.declared.parts.JobParts.{JobParts}
-use Rattle.job_file.specs.declared.fault.OpenFault.TheVariants as opening
-use Rattle.job_file.specs.declared.fault.BeginFault.{BeginFault}
-use Rattle.job_file.specs.declared.fault.BeginFault.TheVariants as beginning
 use Rattle.campaign.specs.Stops.{IsUntouched, IsAtClose}
-use Rattle.flash_session.specs.declared.fault.SessionFault.{SessionFault}
-use Rattle.flash_session.specs.declared.fault.SessionFault.TheVariants as session
-use Rattle.flash_session.specs.declared.fault.SurveyFault.{SurveyFault}
-use Rattle.flash_session.specs.declared.fault.SurveyFault.TheVariants as survey
 use Rattle.flash_session.specs.declared.goal.Goal.{Goal}
 use Rattle.flash_session.specs.declared.goal.Goal.TheVariants.{New}
 use Rattle.flash_session.specs.Script.{Broken}
@@ -30,32 +23,6 @@ use Rattle.job_commands.specs.Carry.{HasJob, HasReached, HasClosed, Carries, don
 use Rattle.job_commands.specs.GoOn.{work_to}
 use Rattle.job_commands.specs.Beginning.{OverFile}
 use Rattle.job_commands.specs.Begin.{BeginsAlone}
-
--- The faults of the layers below, as refusals of the program.
-
-abbrev pub of_session : SessionFault → Refusal
-of_session session.OutOfMemory = out_of_memory
-of_session (session.Open opening.OutOfMemory) = out_of_memory
-of_session (session.Open opening.NoJob) = no_job
-of_session (session.Open (opening.NotAJob at)) = not_a_job at
-of_session (session.Open (opening.Damaged kept found)) = damaged kept found
-of_session (session.Open opening.StoreFault) = store_fault
-of_session (session.Open (opening.CellsDiffer said found)) = cells_differ said found
-of_session session.DeviceFault = device_fault
-
-abbrev pub of_survey : SurveyFault → Refusal
-of_survey survey.OutOfMemory = out_of_memory
-of_survey survey.DeviceFault = device_fault
-of_survey survey.StoreFault = store_fault
-
-abbrev pub of_begin : BeginFault → Refusal
-of_begin beginning.OutOfMemory = out_of_memory
-of_begin beginning.JobOpen = job_open
-of_begin beginning.StoreFault = store_fault
-of_begin beginning.DeviceFault = device_fault
-of_begin (beginning.CellsDiffer said found) = cells_differ said found
-of_begin (beginning.NotAJob at) = not_a_job at
-of_begin (beginning.Damaged kept found) = damaged kept found
 
 -- Which refusals a step has.
 

@@ -64,10 +64,10 @@ fn finish<'a, B: Bench, O: Sink>(
 {
     match session.go(bench) {
         SessionEnd::Reached(reached) => match reached.close(session, bench) {
-            Ok(()) => match put_end(out, End::Done) {
-                Ok(()) => Ok(()),
-                Err(_) => Err(Refusal::OutputFault),
-            },
+            Ok(()) => {
+                put_end(out, End::Done)?;
+                Ok(())
+            }
             Err(_) => Err(Refusal::StoreFault),
         },
         SessionEnd::Mismatch(difference) => Err(Refusal::Mismatch {
@@ -109,9 +109,6 @@ pub(crate) fn carry<'a, B: Bench, O: Sink>(
         Ok(()) => {}
         Err(fault) => return Err(survey_refusal(fault)),
     }
-    match put_plans(out, &session) {
-        Ok(()) => {}
-        Err(_) => return Err(Refusal::OutputFault),
-    }
+    put_plans(out, &session)?;
     finish(&mut session, bench, out)
 }

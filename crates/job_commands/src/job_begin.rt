@@ -63,10 +63,8 @@ pub(crate) fn begin_alone<'a, B: Bench, O: Sink>(
         (sink_call O.tells (O.state out.old) (O.state out.new)) (answer_of result) }
 {
     start(alloc, parts, bench)?;
-    match put_end(out, End::Begun) {
-        Ok(()) => Ok(()),
-        Err(_) => Err(Refusal::OutputFault),
-    }
+    put_end(out, End::Begun)?;
+    Ok(())
 }
 
 /// The end of the work on a job that was begun. A file that is free again, on a bench whose file others change, isn't the job.

@@ -16,3 +16,4 @@ pub use first_commands::{begin, program};
 pub use job_begin::begin_job;
 pub use later_commands::go_on;
 pub use law::{Calls, OneCall, calls_are_safe, calls_keep};
+pub use refusals::{session_refusal, survey_refusal};

@@ -1,33 +1,25 @@
 //! The faults of the layers below, as refusals of the program.
 ghost use Rattle.std.specs.Prelude.{◌≡◌};
 ghost use Rattle.report_text.specs.Shown.{shown};
-ghost use Rattle.job_commands.specs.Steps.{of_session, of_survey, of_begin};
+ghost use Rattle.job_commands.specs.Refused.{of_session, of_survey, of_begin};
 
 use flash_session::{SessionFault, SurveyFault};
-use job_file::{BeginFault, OpenFault};
+use job_file::BeginFault;
 use report_text::Refusal;
 
 /// Why no session was opened.
-pub(crate) fn session_refusal<'a>(fault: SessionFault) -> Refusal<'a>
+pub fn session_refusal<'a>(fault: SessionFault) -> Refusal<'a>
     ensures { shown result ≡ of_session fault }
 {
     match fault {
         SessionFault::OutOfMemory => Refusal::OutOfMemory,
-        SessionFault::Open(OpenFault::OutOfMemory) => Refusal::OutOfMemory,
-        SessionFault::Open(OpenFault::NoJob) => Refusal::NoJob,
-        SessionFault::Open(OpenFault::NotAJob { at }) => Refusal::NotAJob { at },
-        SessionFault::Open(OpenFault::Damaged { kept, found }) => Refusal::Damaged { kept, found },
-        SessionFault::Open(OpenFault::StoreFault) => Refusal::StoreFault,
-        SessionFault::Open(OpenFault::CellsDiffer { said, found }) => Refusal::CellsDiffer {
-            wanted: said,
-            found,
-        },
+        SessionFault::Open(fault) => Refusal::from(fault),
         SessionFault::DeviceFault => Refusal::DeviceFault,
     }
 }
 
 /// Why no survey was made.
-pub(crate) fn survey_refusal<'a>(fault: SurveyFault) -> Refusal<'a>
+pub fn survey_refusal<'a>(fault: SurveyFault) -> Refusal<'a>
     ensures { shown result ≡ of_survey fault }
 {
     match fault {

@@ -1,4 +1,5 @@
 use Rattle.std.proofs.Common.{◌≡◌, ◌∙◌, refl, sym, subst, ℕ, List, IsSomeAnd}
+use Rattle.std.proofs.lemmas.Result.{err_from_is_err_and}
 use Rattle.job_text.specs.Said.{algorithms_shown}
 use Rattle.job_text.specs.declared.job.Job as code
 use Rattle.job_text.specs.Stands.{StandsFor}
@@ -86,17 +87,18 @@ put_plans-requires g c =
     (surveyed_plans g.B.Bench.tells (job_in c.in-Ok.session) c.args.goal (g.B.Bench.state c.open.new.bench).file (g.B.Bench.state c.open.new.bench).cells
     (surveyed c.survey.new.self) c.in-Ok-survey.ensures.ok)
 
-pub returns-in-Err-put_plans-clause-told : goal.returns-in-Err-put_plans-clause-told
-returns-in-Err-put_plans-clause-told g c = λ told.
+pub returns-in_err-put_plans-clause-told : goal.returns-in_err-put_plans-clause-told
+returns-in_err-put_plans-clause-told g c =
     let a = g.B.Bench.state c.args.bench.now in
     let b = g.B.Bench.state c.open.new.bench in
     let m = g.B.Bench.state c.survey.new.bench in
-    cut_in_plan g.B.Bench.tells g.O.Sink.tells told a b m c.args.goal (job_in c.in-Ok.session) (c.in-Ok.ensures.ok told) (c.in-Ok.ensures.sized ∙ c.open.ensures.count)
+    let is = err_from_is_err_and c.from_residual.result c.from_residual.ensures.1 in
+    rw (is.1, is.2) (λ told. cut_in_plan g.B.Bench.tells g.O.Sink.tells told a b m c.args.goal (job_in c.in-Ok.session) (c.in-Ok.ensures.ok told) (c.in-Ok.ensures.sized ∙ c.open.ensures.count)
     (c.open.ensures.file told) (c.open.ensures.same told) (c.in-Ok.ensures.only told) c.open.ensures.pairs c.open.ensures.halves
     (λ x at. (g.met.B.Bench.as_told c.args.bench.now x told).0 at) (c.in-Ok.ensures.idle told)
     (λ x at. (g.met.B.Bench.as_told c.open.new.bench x told).0 at) c.survey.ensures.reads c.survey.ensures.pairs
     (surveyed c.survey.new.self) c.in-Ok-survey.ensures.ok
-    (g.O.Sink.state c.args.out.now) (g.O.Sink.state c.put_plans.new.out) _ c.in-Err-put_plans.ensures
+    (g.O.Sink.state c.args.out.now) (g.O.Sink.state c.put_plans.new.out) _ c.in_err-put_plans.ensures)
 
 pub returns-clause-told : goal.returns-clause-told
 returns-clause-told g c = λ told.
@@ -109,7 +111,7 @@ returns-clause-told g c = λ told.
     (λ x at. (g.met.B.Bench.as_told c.open.new.bench x told).0 at) c.survey.ensures.reads c.survey.ensures.pairs
     (surveyed c.survey.new.self) c.in-Ok-survey.ensures.ok
     (job_in c.survey.new.self) (g.B.Bench.state c.finish.new.bench) (g.O.Sink.state c.args.out.now) (g.O.Sink.state c.put_plans.new.out) (g.O.Sink.state c.finish.new.out)
-    (answer_of c.finish.result) c.survey.ensures.job _ c.in-Ok-put_plans.ensures
+    (answer_of c.finish.result) c.survey.ensures.job _ c.in_ok-put_plans.ensures
     (λ stands found. c.finish.ensures.told told c.args.goal stands found)
 
 pub returns-clause-early : goal.returns-clause-early
@@ -154,14 +156,15 @@ returns-in-Err-survey-clause-prints g c =
     let out = sink_call g.O.Sink.tells (g.O.Sink.state c.args.out.now) (g.O.Sink.state c.args.out.now) in
     subst (λ (r : Refusal). PrintsWork n out (refused r)) (sym c.survey_refusal.ensures) (survey_prints n out c.in-Err-survey.fault (record { taken = refl; faults = refl }))
 
-pub returns-in-Err-put_plans-clause-prints : goal.returns-in-Err-put_plans-clause-prints
-returns-in-Err-put_plans-clause-prints g c =
+pub returns-in_err-put_plans-clause-prints : goal.returns-in_err-put_plans-clause-prints
+returns-in_err-put_plans-clause-prints g c =
     let n = (g.B.Bench.state c.args.bench.now).cell_count in
     let b = g.B.Bench.state c.open.new.bench in
-    cut_prints g.O.Sink.tells (job_in c.in-Ok.session) n (c.in-Ok.ensures.sized ∙ c.open.ensures.count) (g.O.Sink.state c.args.out.now) (g.O.Sink.state c.put_plans.new.out)
+    let is = err_from_is_err_and c.from_residual.result c.from_residual.ensures.1 in
+    rw (is.1, is.2) (cut_prints g.O.Sink.tells (job_in c.in-Ok.session) n (c.in-Ok.ensures.sized ∙ c.open.ensures.count) (g.O.Sink.state c.args.out.now) (g.O.Sink.state c.put_plans.new.out)
     (surveyed c.survey.new.self) _
     (surveyed_plans g.B.Bench.tells (job_in c.in-Ok.session) c.args.goal b.file b.cells (surveyed c.survey.new.self) c.in-Ok-survey.ensures.ok)
-    c.in-Err-put_plans.ensures
+    c.in_err-put_plans.ensures)
 
 pub returns-clause-prints : goal.returns-clause-prints
 returns-clause-prints g c =
@@ -170,17 +173,18 @@ returns-clause-prints g c =
     end_prints g.O.Sink.tells (job_in c.in-Ok.session) n (c.in-Ok.ensures.sized ∙ c.open.ensures.count) (g.O.Sink.state c.args.out.now) (g.O.Sink.state c.put_plans.new.out)
     (surveyed c.survey.new.self) _
     (surveyed_plans g.B.Bench.tells (job_in c.in-Ok.session) c.args.goal b.file b.cells (surveyed c.survey.new.self) c.in-Ok-survey.ensures.ok)
-    c.in-Ok-put_plans.ensures (g.O.Sink.state c.finish.new.out) (answer_of c.finish.result) c.finish.ensures.kind c.finish.ensures.prints
+    c.in_ok-put_plans.ensures (g.O.Sink.state c.finish.new.out) (answer_of c.finish.result) c.finish.ensures.kind c.finish.ensures.prints
 
-pub returns-in-Err-put_plans-clause-counts : goal.returns-in-Err-put_plans-clause-counts
-returns-in-Err-put_plans-clause-counts g c =
+pub returns-in_err-put_plans-clause-counts : goal.returns-in_err-put_plans-clause-counts
+returns-in_err-put_plans-clause-counts g c =
     let a = g.B.Bench.state c.args.bench.now in
     let b = g.B.Bench.state c.open.new.bench in
     let m = g.B.Bench.state c.survey.new.bench in
-    cut_counted g.B.Bench.tells g.O.Sink.tells a m (g.O.Sink.state c.args.out.now) (g.O.Sink.state c.put_plans.new.out) (λ (v : Surveyed). plans_shown v.regions)
+    let is = err_from_is_err_and c.from_residual.result c.from_residual.ensures.1 in
+    rw (is.1, is.2) (cut_counted g.B.Bench.tells g.O.Sink.tells a m (g.O.Sink.state c.args.out.now) (g.O.Sink.state c.put_plans.new.out) (λ (v : Surveyed). plans_shown v.regions)
     (λ (v : Surveyed). HasSurveyed g.B.Bench.tells (job_in c.in-Ok.session) c.args.goal b.file b.cells v)
     (c.in-Ok-survey.ensures.store.on_other refl ∙ c.in-Ok.ensures.store.on_other refl) (c.in-Ok-survey.ensures.device.on_other refl ∙ c.in-Ok.ensures.device.on_other refl)
-    (surveyed c.survey.new.self) _ c.in-Ok-survey.ensures.ok c.in-Err-put_plans.ensures
+    (surveyed c.survey.new.self) _ c.in-Ok-survey.ensures.ok c.in_err-put_plans.ensures)
 
 pub returns-clause-counts : goal.returns-clause-counts
 returns-clause-counts g c =
@@ -190,5 +194,5 @@ returns-clause-counts g c =
     carried_counted g.B.Bench.tells g.O.Sink.tells a m (g.O.Sink.state c.args.out.now) (g.O.Sink.state c.put_plans.new.out) (λ (v : Surveyed). plans_shown v.regions)
     (λ (v : Surveyed). HasSurveyed g.B.Bench.tells (job_in c.in-Ok.session) c.args.goal b.file b.cells v)
     (c.in-Ok-survey.ensures.store.on_other refl ∙ c.in-Ok.ensures.store.on_other refl) (c.in-Ok-survey.ensures.device.on_other refl ∙ c.in-Ok.ensures.device.on_other refl)
-    (surveyed c.survey.new.self) _ c.in-Ok-survey.ensures.ok c.in-Ok-put_plans.ensures
+    (surveyed c.survey.new.self) _ c.in-Ok-survey.ensures.ok c.in_ok-put_plans.ensures
     (g.B.Bench.state c.finish.new.bench) (g.O.Sink.state c.finish.new.out) (answer_of c.finish.result) c.finish.ensures.counts

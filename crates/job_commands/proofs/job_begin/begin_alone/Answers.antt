@@ -1,4 +1,5 @@
 use Rattle.std.proofs.Common.{rules, ◌≡◌, refl, Err}
+use Rattle.std.proofs.lemmas.Result.{err_from_is_err_and}
 use Rattle.report_text.specs.Shown.{shown}
 use Rattle.command_answers.specs.Call.{bench_call, sink_call}
 use Rattle.job_commands.specs.Begin.{begun_text}
@@ -49,46 +50,52 @@ returns-in_err-start-clause-counts g c =
     let is : c.from_residual.result ≡ Err c.in_err-start.field-0.0 = search rules in
     rw is (c.in_err-start.ensures.counts g.O.Sink.tells (g.O.Sink.state c.args.out.now))
 
-pub returns-in-Ok-clause-told : goal.returns-in-Ok-clause-told
-returns-in-Ok-clause-told g c = λ told.
+pub returns-in_err-put_end-clause-told : goal.returns-in_err-put_end-clause-told
+returns-in_err-put_end-clause-told g c =
     let a = g.B.Bench.state c.args.bench.now in
     let b = g.B.Bench.state c.start.new.bench in
     let p = g.O.Sink.state c.args.out.now in
     let r = g.O.Sink.state c.put_end.new.out in
-    let puts = c.in-Ok.ensures in
+    let puts = c.in_err-put_end.ensures in
+    let is = err_from_is_err_and c.from_residual-in_err-put_end.result c.from_residual-in_err-put_end.ensures.1 in
+    rw (is.1, is.2) (λ told. starts_cut g.B.Bench.tells g.O.Sink.tells a b p r begun_text c.args.parts.now (c.in_ok-start.ensures.sized refl) (c.in_ok-start.ensures.told told g.O.Sink.tells p)
+    (record { taken = puts.err; later = puts.cause.later; rose = puts.cause.on_fault refl }))
+
+pub returns-in_err-put_end-clause-prints : goal.returns-in_err-put_end-clause-prints
+returns-in_err-put_end-clause-prints g c =
+    let is = err_from_is_err_and c.from_residual-in_err-put_end.result c.from_residual-in_err-put_end.ensures.1 in
+    rw (is.1, is.2) (record { taken = c.in_err-put_end.ensures.err; later = c.in_err-put_end.ensures.cause.later; rose = c.in_err-put_end.ensures.cause.on_fault refl })
+
+pub returns-in_err-put_end-clause-sized : goal.returns-in_err-put_end-clause-sized
+returns-in_err-put_end-clause-sized g c =
+    let is = err_from_is_err_and c.from_residual-in_err-put_end.result c.from_residual-in_err-put_end.ensures.1 in
+    rw (is.1, is.2) (λ its. c.in_ok-start.ensures.sized refl)
+
+pub returns-in_err-put_end-clause-counts : goal.returns-in_err-put_end-clause-counts
+returns-in_err-put_end-clause-counts g c =
+    let p = g.O.Sink.state c.args.out.now in
+    let is = err_from_is_err_and c.from_residual-in_err-put_end.result c.from_residual-in_err-put_end.ensures.1 in
+    rw (is.1, is.2) (unput_counted g.B.Bench.tells g.O.Sink.tells (g.B.Bench.state c.args.bench.now) (g.B.Bench.state c.start.new.bench) p (g.O.Sink.state c.put_end.new.out)
+    (c.in_ok-start.ensures.counts g.O.Sink.tells p) (c.in_err-put_end.ensures.cause.on_fault refl) c.in_err-put_end.ensures.cause.later)
+
+pub returns-clause-told : goal.returns-clause-told
+returns-clause-told g c = λ told.
+    let a = g.B.Bench.state c.args.bench.now in
+    let b = g.B.Bench.state c.start.new.bench in
+    let p = g.O.Sink.state c.args.out.now in
+    let r = g.O.Sink.state c.put_end.new.out in
+    let puts = c.in_ok-put_end.ensures in
     starts_put g.B.Bench.tells g.O.Sink.tells a b p r begun_text c.args.parts.now (c.in_ok-start.ensures.sized refl) (c.in_ok-start.ensures.told told g.O.Sink.tells p)
     (record { taken = puts.ok; faults = puts.cause.on_ok refl })
 
-pub returns-in-Err-clause-told : goal.returns-in-Err-clause-told
-returns-in-Err-clause-told g c = λ told.
-    let a = g.B.Bench.state c.args.bench.now in
-    let b = g.B.Bench.state c.start.new.bench in
-    let p = g.O.Sink.state c.args.out.now in
-    let r = g.O.Sink.state c.put_end.new.out in
-    let puts = c.in-Err.ensures in
-    starts_cut g.B.Bench.tells g.O.Sink.tells a b p r begun_text c.args.parts.now (c.in_ok-start.ensures.sized refl) (c.in_ok-start.ensures.told told g.O.Sink.tells p)
-    (record { taken = puts.err; later = puts.cause.later; rose = puts.cause.on_fault refl })
+pub returns-clause-prints : goal.returns-clause-prints
+returns-clause-prints g c = record { taken = c.in_ok-put_end.ensures.ok; faults = c.in_ok-put_end.ensures.cause.on_ok refl }
 
-pub returns-in-Ok-clause-prints : goal.returns-in-Ok-clause-prints
-returns-in-Ok-clause-prints g c = record { taken = c.in-Ok.ensures.ok; faults = c.in-Ok.ensures.cause.on_ok refl }
+pub returns-clause-sized : goal.returns-clause-sized
+returns-clause-sized g c = λ its. c.in_ok-start.ensures.sized refl
 
-pub returns-in-Err-clause-prints : goal.returns-in-Err-clause-prints
-returns-in-Err-clause-prints g c = record { taken = c.in-Err.ensures.err; later = c.in-Err.ensures.cause.later; rose = c.in-Err.ensures.cause.on_fault refl }
-
-pub returns-in-Ok-clause-sized : goal.returns-in-Ok-clause-sized
-returns-in-Ok-clause-sized g c = λ its. c.in_ok-start.ensures.sized refl
-
-pub returns-in-Err-clause-sized : goal.returns-in-Err-clause-sized
-returns-in-Err-clause-sized g c = λ its. c.in_ok-start.ensures.sized refl
-
-pub returns-in-Ok-clause-counts : goal.returns-in-Ok-clause-counts
-returns-in-Ok-clause-counts g c =
+pub returns-clause-counts : goal.returns-clause-counts
+returns-clause-counts g c =
     let p = g.O.Sink.state c.args.out.now in
     put_counted g.B.Bench.tells g.O.Sink.tells (g.B.Bench.state c.args.bench.now) (g.B.Bench.state c.start.new.bench) p (g.O.Sink.state c.put_end.new.out)
-    (c.in_ok-start.ensures.counts g.O.Sink.tells p) (c.in-Ok.ensures.cause.on_ok refl)
-
-pub returns-in-Err-clause-counts : goal.returns-in-Err-clause-counts
-returns-in-Err-clause-counts g c =
-    let p = g.O.Sink.state c.args.out.now in
-    unput_counted g.B.Bench.tells g.O.Sink.tells (g.B.Bench.state c.args.bench.now) (g.B.Bench.state c.start.new.bench) p (g.O.Sink.state c.put_end.new.out)
-    (c.in_ok-start.ensures.counts g.O.Sink.tells p) (c.in-Err.ensures.cause.on_fault refl) c.in-Err.ensures.cause.later
+    (c.in_ok-start.ensures.counts g.O.Sink.tells p) (c.in_ok-put_end.ensures.cause.on_ok refl)
