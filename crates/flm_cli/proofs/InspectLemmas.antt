@@ -1,12 +1,14 @@
 -- From the steps of `inspect` to its end. Each step that may end `inspect` has its lemma.
-use Rattle.std.proofs.Common.{◌≡◌, ◌⊎◌, ◌∙◌, sym, ap, subst, refl, inl, inr, ℕ, Bool, true, IsTrue, List, [], ◌∷◌, Err, Some}
+use Rattle.std.proofs.Common.{◌≡◌, ◌⊎◌, ◌∙◌, sym, ap, subst, refl, inl, inr, ℕ, Bool, true, IsTrue, List, [], ◌∷◌, Err, Some, ◌≢◌}
 use Rattle.bench_model.specs.State.{BenchState}
 use Rattle.outside_io.specs.State.{SinkState}
 use Rattle.flm_descriptor.specs.Flm.{flm_of, IsFlm}
 use Rattle.flm_descriptor.specs.Shown.{Shown}
 use Rattle.flm_descriptor.specs.declared.fault.FlmFault.{FlmFault}
+use Rattle.flm_descriptor.specs.declared.fault.FlmFault.TheVariants as faults
 use Rattle.report_text.specs.Inspection.{inspection_text}
 use Rattle.report_text.specs.Refusal.{Refusal, out_of_memory, input_fault, flm_refused, output_fault}
+use Rattle.report_text.specs.Refused.{of_flm}
 use Rattle.command_files.specs.Inputs.{InputsCall, IsFile, NoneFailed}
 use Rattle.command_files.specs.Steps.{IsTakeFault}
 use Rattle.command_answers.specs.Call.{BenchCall, SinkCall, Answer, done, refused, bench_call, sink_call, TookAll, TookPart}
@@ -33,11 +35,8 @@ module _ (tells told : Bool) (b : BenchState) (o : SinkState) (inputs : InputsCa
   }
   ends_untaken r is = absurd is
 
-  pub ends_unread : NoneFailed inputs → InspectEnds flm (bench_call tells b b) inputs (sink_call told o o) (refused out_of_memory)
-  ends_unread same = ends_untaken out_of_memory same
-
   module _ (bytes : List ℕ) (file : IsFile inputs flm bytes) (same : NoneFailed inputs) where
-    pub ends_refused : (fault : FlmFault) → flm_of bytes ≡ Err fault → InspectEnds flm (bench_call tells b b) inputs (sink_call told o o) (refused (flm_refused fault))
+    ends_refused : (fault : FlmFault) → flm_of bytes ≡ Err fault → InspectEnds flm (bench_call tells b b) inputs (sink_call told o o) (refused (flm_refused fault))
     ends_refused fault is = record {
       lawful = plain_lawful tells told b o inputs on_files has_inspect (flm ∷ []) (flm_refused fault) (did_nothing tells told b o) refl same refl;
       untouched = untouched_here tells b;
@@ -48,6 +47,12 @@ module _ (tells told : Bool) (b : BenchState) (o : SinkState) (inputs : InputsCa
             refuses = λ fault' says. let both : fault ≡ fault' = cc in inl (cc);
           };
     }
+
+    -- the bytes are refused, or there was no memory to read them
+    pub ends_unread : (fault : FlmFault) → (fault ≢ faults.OutOfMemory → flm_of bytes ≡ Err fault)
+        → InspectEnds flm (bench_call tells b b) inputs (sink_call told o o) (refused (of_flm fault))
+    ends_unread faults.OutOfMemory is = ends_untaken out_of_memory same
+    ends_unread fault is = ends_refused fault (is (λ wrong. cc))
 
 -- the algorithm's text was put, or a beginning of it
 module _ (tells : Bool) (b : BenchState) (inputs : InputsCall) (out : SinkCall) (flm bytes : List ℕ) (algorithm : Shown) (file : IsFile inputs flm bytes)

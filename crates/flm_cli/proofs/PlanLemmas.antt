@@ -1,5 +1,5 @@
 -- From the steps of `plan` to its end. Each step that may end `plan` has its lemma.
-use Rattle.std.proofs.Common.{◌≡◌, ◌≢◌, ◌<◌, ◌≤◌, ◌+◌, ◌-◌, ◌^◌, ◌∙◌, ⊎_elim, ◌⊎◌, sym, ap, subst, refl, arith, inl, inr, ℕ, zero, suc, Bool, true, false, IsTrue, IsSome, OnOk, List, [], ◌∷◌, ◌++◌, map, length, take, drop, get_or, slice_get, append-nil, Option, option_to_list, Some, None, Result, Ok, Err, is_err}
+use Rattle.std.proofs.Common.{◌≡◌, ◌≢◌, ◌<◌, ◌≤◌, ◌+◌, ◌-◌, ◌^◌, ◌∙◌, ⊎_elim, ◌⊎◌, sym, ap, subst, refl, arith, inl, inr, ℕ, zero, suc, Bool, true, IsTrue, IsSome, List, [], ◌∷◌, ◌++◌, map, length, take, drop, get_or, slice_get, append-nil, Option, option_to_list, Some, None, Ok, Err}
 use Rattle.std.specs.List.{list_all}
 use Rattle.std.proofs.lemmas.List.{take_all, take_at, drop_at, take-append-le, length-take-le, length-append}
 use Rattle.bench_model.specs.State.{BenchState, cells_half}
@@ -97,10 +97,8 @@ plans_nothing tells told b o text = record {
 
 module _ (bench : BenchCall) (told : Bool) (o : SinkState) (text : List ℕ → List ℕ) where
   -- the device fails
-  pub plans_fault : (result : Result (Unit {0}) DeviceFault) → is_err result ≡ true → LooksAtCells bench result
-      → PlansCells bench (sink_call told o o) text (refused device_fault)
-  plans_fault (Ok u) failed looks = absurd (cc)
-  plans_fault (Err e) failed looks = record {
+  pub plans_fault : (e : DeviceFault) → LooksAtCells {A = Unit {0}} bench (Err e) → PlansCells bench (sink_call told o o) text (refused device_fault)
+  plans_fault e looks = record {
     leaves = record {
       prints = record { taken = refl; faults = refl };
       stands = looks.err;
@@ -115,11 +113,9 @@ module _ (bench : BenchCall) (told : Bool) (o : SinkState) (text : List ℕ → 
 
   module _ (after : SinkState) (cells : List ℕ) (all : length cells ≡ bench.before.cell_count) where
     -- the whole text is put
-    pub plans_done : (result : Result (Unit {0}) DeviceFault) → is_err result ≡ false → LooksAtCells bench result
-        → (IsTrue bench.tells → OnOk result (bench.after.cells ≡ cells)) → (u : Unit {0}) → Puts told o after (text cells) (Ok u)
-        → PlansCells bench (sink_call told o after) text done
-    plans_done (Err e) fine looks surveyed u puts = absurd (cc)
-    plans_done (Ok v) fine looks surveyed u puts = record {
+    pub plans_done : (v : Unit {0}) → LooksAtCells bench (Ok v) → (IsTrue bench.tells → bench.after.cells ≡ cells)
+        → (u : Unit {0}) → Puts told o after (text cells) (Ok u) → PlansCells bench (sink_call told o after) text done
+    plans_done v looks surveyed u puts = record {
       leaves = record { prints = tt; stands = looks.ok; file = looks.file; count = looks.count; stops = looks.stops };
       printed = record { cells = cells; all = all; surveyed = surveyed; prints = record { taken = puts.ok; faults = puts.cause.on_ok refl } };
       device_count = unraised bench.before.device_faults bench.after.device_faults device done (looks.cause.on_ok refl) (λ is. cc);
@@ -127,11 +123,9 @@ module _ (bench : BenchCall) (told : Bool) (o : SinkState) (text : List ℕ → 
     }
 
     -- a part of it
-    pub plans_cut : (result : Result (Unit {0}) DeviceFault) → is_err result ≡ false → LooksAtCells bench result
-        → (IsTrue bench.tells → OnOk result (bench.after.cells ≡ cells)) → (e : OutputFault) → Puts told o after (text cells) (Err e)
-        → PlansCells bench (sink_call told o after) text (refused output_fault)
-    plans_cut (Err e) fine looks surveyed f puts = absurd (cc)
-    plans_cut (Ok v) fine looks surveyed f puts = record {
+    pub plans_cut : (v : Unit {0}) → LooksAtCells bench (Ok v) → (IsTrue bench.tells → bench.after.cells ≡ cells)
+        → (e : OutputFault) → Puts told o after (text cells) (Err e) → PlansCells bench (sink_call told o after) text (refused output_fault)
+    plans_cut v looks surveyed f puts = record {
       leaves = record { prints = tt; stands = looks.ok; file = looks.file; count = looks.count; stops = looks.stops };
       printed = record {
         cells = cells;

@@ -24,16 +24,15 @@ pub fn tell_found<'a, O: Sink>(
     requires { ForOk found (λ difference. ForSome difference (λ d. base + d.at < 2 ^ 32)) }
     ensures { TellsFound base found (sink_call O.tells (O.state out.old) (O.state out.new)) (answer_of result) }
 {
-    match found {
-        Err(_) => Err(Refusal::DeviceFault),
-        Ok(Some(Difference { at, want, got })) => Err(Refusal::Differs {
+    match found? {
+        Some(Difference { at, want, got }) => Err(Refusal::Differs {
             at: base + at,
             wanted: want,
             found: got,
         }),
-        Ok(None) => match put_end(out, End::Same) {
-            Ok(()) => Ok(()),
-            Err(_) => Err(Refusal::OutputFault),
-        },
+        None => {
+            put_end(out, End::Same)?;
+            Ok(())
+        }
     }
 }

@@ -6,7 +6,7 @@ ghost use Rattle.command_answers.specs.Shown.{answer_of};
 
 use bench_model::Bench;
 use command_files::take_one;
-use flm_descriptor::{FlmFault, read_flm};
+use flm_descriptor::read_flm;
 use octets::Word;
 use outside_io::{Inputs, Sink};
 use report_text::{Refusal, put_inspection};
@@ -25,13 +25,7 @@ pub fn inspect<'a, B: Bench, I: Inputs, O: Sink>(
         (inputs_call I.tells (I.state inputs.old) (I.state inputs.new)) (sink_call O.tells (O.state out.old) (O.state out.new)) (answer_of result) }
 {
     let file = take_one(alloc, flm, inputs)?;
-    let algorithm = match read_flm(alloc, file.bytes()) {
-        Ok(algorithm) => algorithm,
-        Err(FlmFault::OutOfMemory) => return Err(Refusal::OutOfMemory),
-        Err(fault) => return Err(Refusal::FlmRefused { fault }),
-    };
-    match put_inspection(out, &algorithm) {
-        Ok(()) => Ok(()),
-        Err(_) => Err(Refusal::OutputFault),
-    }
+    let algorithm = read_flm(alloc, file.bytes())?;
+    put_inspection(out, &algorithm)?;
+    Ok(())
 }

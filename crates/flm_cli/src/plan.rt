@@ -98,17 +98,11 @@ fn print_only<'a, B: Bench, O: Sink>(
 {
     let base = base_of(&wanted.board, 0);
     let algorithm = algorithm_at(wanted, 0);
-    let Ok(mut buffers) = make_buffers(alloc, algorithm) else {
-        return Err(Refusal::OutOfMemory);
-    };
-    if survey(bench, &mut buffers).is_err() {
-        return Err(Refusal::DeviceFault);
-    }
+    let mut buffers = make_buffers(alloc, algorithm)?;
+    survey(bench, &mut buffers)?;
     choose_plan(wanted, algorithm, base, &mut buffers);
-    match put_plan(out, &buffers.geometry, base, &buffers.plan) {
-        Ok(()) => Ok(()),
-        Err(_) => Err(Refusal::OutputFault),
-    }
+    put_plan(out, &buffers.geometry, base, &buffers.plan)?;
+    Ok(())
 }
 
 /// Prints the plans for the two regions of a board, one after the other. All memory is taken before the cells are looked at.
@@ -128,26 +122,17 @@ fn print_both<'a, B: Bench, O: Sink>(
     let other_base = base_of(&wanted.board, 1);
     let algorithm = algorithm_at(wanted, 0);
     let other_algorithm = algorithm_at(wanted, 1);
-    let Ok((mut buffers, mut other_buffers)) = make_both_buffers(alloc, algorithm, other_algorithm)
-    else {
-        return Err(Refusal::OutOfMemory);
-    };
-    if survey_both(
+    let (mut buffers, mut other_buffers) = make_both_buffers(alloc, algorithm, other_algorithm)?;
+    survey_both(
         bench,
         &mut buffers,
         algorithm.device.size,
         &mut other_buffers,
-    )
-    .is_err()
-    {
-        return Err(Refusal::DeviceFault);
-    }
+    )?;
     choose_plan(wanted, algorithm, base, &mut buffers);
     choose_plan(wanted, other_algorithm, other_base, &mut other_buffers);
-    match put_both(out, base, &buffers, other_base, &other_buffers) {
-        Ok(()) => Ok(()),
-        Err(_) => Err(Refusal::OutputFault),
-    }
+    put_both(out, base, &buffers, other_base, &other_buffers)?;
+    Ok(())
 }
 
 /// The address of the first cell of a region.
