@@ -1,5 +1,5 @@
 -- What `verify [--raw-at ADDR] BOARD IMAGE...` answers.
-use Rattle.std.specs.Prelude.{◌≡◌, ◌<◌, ◌+◌, ◌-◌, ℕ, nat_lt, IsTrue, Bool, if◌then◌else◌, List, [], ◌∷◌, slice_index, Option, Some, None, true, false}
+use Rattle.std.specs.Prelude.{◌≡◌, ◌≢◌, ◌<◌, ◌+◌, ◌-◌, ℕ, nat_lt, IsTrue, Bool, if◌then◌else◌, List, [], ◌∷◌, slice_index, Option, Some, None, true, false}
 use Rattle.board_file.specs.declared.region.Region.{Region}
 use Rattle.board_file.specs.Limits.{size_of}
 use Rattle.byte_map.specs.Image.{Run, byte_at}

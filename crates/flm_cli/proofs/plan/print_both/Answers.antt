@@ -1,4 +1,4 @@
-use Rattle.std.proofs.Common.{◌≡◌, ◌∙◌, ◌++◌, sym, ap, arith, length}
+use Rattle.std.proofs.Common.{◌∙◌, ◌++◌, ap, arith, length}
 use Rattle.std.proofs.lemmas.Result.{err_from_is_err_and}
 use Rattle.page_geometry.specs.Geometry.{Geometry}
 use Rattle.outside_io.proofs.PutTexts.{puts_as}
@@ -27,10 +27,10 @@ survey_both-requires-clause-cells g c =
     let are = two_regions wanted.board.regions one.region two.region c.requires.two one.is two.is in
     let size = first_sized wanted.board.regions wanted.algorithms.items one.region x c.requires.sized one.is c.algorithm_at-algorithm.ensures in
     let other = second_sized wanted.board.regions wanted.algorithms.items two.region y c.requires.sized two.is c.algorithm_at-other_algorithm.ensures in
-    omega (arith, c.in_ok-make_both_buffers.ensures.1.cells, size, other, size_of_two wanted.board.regions one.region two.region are, c.requires.cells)
+    omega (arith, c.in_ok-buffers.ensures.1.cells, size, other, size_of_two wanted.board.regions one.region two.region are, c.requires.cells)
 
 pub choose_plan-requires-clause-fits : goal.choose_plan-requires-clause-fits
-choose_plan-requires-clause-fits g c = buffers_stay _ _ _ c.in_ok-make_both_buffers.ensures.0 c.survey_both.ensures.stays
+choose_plan-requires-clause-fits g c = buffers_stay _ _ _ c.in_ok-buffers.ensures.0 c.survey_both.ensures.stays
 
 pub choose_plan-requires-clause-ends : goal.choose_plan-requires-clause-ends
 choose_plan-requires-clause-ends g c =
@@ -40,7 +40,7 @@ choose_plan-requires-clause-ends g c =
     omega (arith, its.ends, size)
 
 pub choose_plan-requires-2-clause-fits : goal.choose_plan-requires-2-clause-fits
-choose_plan-requires-2-clause-fits g c = buffers_stay _ _ _ c.in_ok-make_both_buffers.ensures.1 c.survey_both.ensures.other_stays
+choose_plan-requires-2-clause-fits g c = buffers_stay _ _ _ c.in_ok-buffers.ensures.1 c.survey_both.ensures.other_stays
 
 pub choose_plan-requires-2-clause-ends : goal.choose_plan-requires-2-clause-ends
 choose_plan-requires-2-clause-ends g c =
@@ -55,7 +55,7 @@ put_both-requires-clause-first g c =
     let wanted = c.args.wanted.now in
     let its = c.base_of-base.ensures in
     let size = first_sized wanted.board.regions wanted.algorithms.items its.region c.algorithm_at-algorithm.result.now c.requires.sized its.is c.algorithm_at-algorithm.ensures in
-    let buffers = buffers_size _ _ c.in_ok-make_both_buffers.ensures.0 in
+    let buffers = buffers_size _ _ c.in_ok-buffers.ensures.0 in
     omega (arith, its.ends, size, buffers, ap (λ (l : Geometry). l.size) (c.choose_plan.ensures.geometry ∙ c.survey_both.ensures.stays.geometry))
 
 pub put_both-requires-clause-second : goal.put_both-requires-clause-second
@@ -64,11 +64,11 @@ put_both-requires-clause-second g c =
     let its = c.base_of-other_base.ensures in
     let size = second_sized wanted.board.regions wanted.algorithms.items its.region c.algorithm_at-other_algorithm.result.now c.requires.sized its.is
     c.algorithm_at-other_algorithm.ensures in
-    let buffers = buffers_size _ _ c.in_ok-make_both_buffers.ensures.1 in
+    let buffers = buffers_size _ _ c.in_ok-buffers.ensures.1 in
     omega (arith, its.ends, size, buffers, ap (λ (l : Geometry). l.size) (c.choose_plan-2.ensures.geometry ∙ c.survey_both.ensures.other_stays.geometry))
 
-pub returns-in_err-make_both_buffers : goal.returns-in_err-make_both_buffers
-returns-in_err-make_both_buffers g c =
+pub returns-in_err-buffers : goal.returns-in_err-buffers
+returns-in_err-buffers g c =
     let p = err_from_is_err_and c.from_residual.result c.from_residual.ensures.1 in
     rw (p.1, p.2) (plans_nothing g.B.Bench.tells g.O.Sink.tells (g.B.Bench.state c.args.bench.now) (g.O.Sink.state c.args.out.now) (text_of (aim_of c.args.wanted.now)))
 
@@ -96,11 +96,11 @@ returns-in_err-put_both g c =
     c.algorithm_at-other_algorithm.ensures in
     let p = err_from_is_err_and c.from_residual-in_err-put_both.result c.from_residual-in_err-put_both.ensures.1 in
     rw (p.1, p.2) (plans_cut bench g.O.Sink.tells (g.O.Sink.state c.args.out.now) (text_of (aim_of wanted)) (g.O.Sink.state c.put_both.new.out) (old.cells.items ++ other.cells.items)
-    (both_cells wanted one.region x c.base_of-base.result _ old one.base_is size c.in_ok-make_both_buffers.ensures.0 c.survey_both.ensures.stays two.region y c.base_of-other_base.result _ other
-    two.base_is size' c.in_ok-make_both_buffers.ensures.1 c.survey_both.ensures.other_stays are items _ c.requires.cells)
+    (both_cells wanted one.region x c.base_of-base.result _ old one.base_is size c.in_ok-buffers.ensures.0 c.survey_both.ensures.stays two.region y c.base_of-other_base.result _ other
+    two.base_is size' c.in_ok-buffers.ensures.1 c.survey_both.ensures.other_stays are items _ c.requires.cells)
     _ c.in_ok-survey_both.ensures.looks c.in_ok-survey_both.ensures.surveyed _
-    (puts_as (both_text wanted one.region x c.base_of-base.result _ old one.base_is size c.in_ok-make_both_buffers.ensures.0 c.survey_both.ensures.stays two.region y
-    c.base_of-other_base.result _ other two.base_is size' c.in_ok-make_both_buffers.ensures.1 c.survey_both.ensures.other_stays are items _ _ _ _ c.choose_plan.ensures.geometry
+    (puts_as (both_text wanted one.region x c.base_of-base.result _ old one.base_is size c.in_ok-buffers.ensures.0 c.survey_both.ensures.stays two.region y
+    c.base_of-other_base.result _ other two.base_is size' c.in_ok-buffers.ensures.1 c.survey_both.ensures.other_stays are items _ _ _ _ c.choose_plan.ensures.geometry
     c.choose_plan-2.ensures.geometry c.choose_plan.ensures.plan c.choose_plan-2.ensures.plan) c.in_err-put_both.ensures))
 
 pub returns : goal.returns
@@ -120,9 +120,9 @@ returns g c =
     let items = only_two wanted.algorithms.items x y (omega (arith, many, c.requires.two)) (omega (arith, many, c.requires.two)) c.algorithm_at-algorithm.ensures
     c.algorithm_at-other_algorithm.ensures in
     plans_done bench g.O.Sink.tells (g.O.Sink.state c.args.out.now) (text_of (aim_of wanted)) (g.O.Sink.state c.put_both.new.out) (old.cells.items ++ other.cells.items)
-    (both_cells wanted one.region x c.base_of-base.result _ old one.base_is size c.in_ok-make_both_buffers.ensures.0 c.survey_both.ensures.stays two.region y c.base_of-other_base.result _ other
-    two.base_is size' c.in_ok-make_both_buffers.ensures.1 c.survey_both.ensures.other_stays are items _ c.requires.cells)
+    (both_cells wanted one.region x c.base_of-base.result _ old one.base_is size c.in_ok-buffers.ensures.0 c.survey_both.ensures.stays two.region y c.base_of-other_base.result _ other
+    two.base_is size' c.in_ok-buffers.ensures.1 c.survey_both.ensures.other_stays are items _ c.requires.cells)
     _ c.in_ok-survey_both.ensures.looks c.in_ok-survey_both.ensures.surveyed _
-    (puts_as (both_text wanted one.region x c.base_of-base.result _ old one.base_is size c.in_ok-make_both_buffers.ensures.0 c.survey_both.ensures.stays two.region y
-    c.base_of-other_base.result _ other two.base_is size' c.in_ok-make_both_buffers.ensures.1 c.survey_both.ensures.other_stays are items _ _ _ _ c.choose_plan.ensures.geometry
+    (puts_as (both_text wanted one.region x c.base_of-base.result _ old one.base_is size c.in_ok-buffers.ensures.0 c.survey_both.ensures.stays two.region y
+    c.base_of-other_base.result _ other two.base_is size' c.in_ok-buffers.ensures.1 c.survey_both.ensures.other_stays are items _ _ _ _ c.choose_plan.ensures.geometry
     c.choose_plan-2.ensures.geometry c.choose_plan.ensures.plan c.choose_plan-2.ensures.plan) c.in_ok-put_both.ensures)
