@@ -11,7 +11,10 @@
 //! - `lists COUNT`: so many gangs, each with 64 turns that are drawn with their steps, and then rounds to the end.
 //! - `stops COUNT`: so many gangs, each stopped after turns that are drawn, with each pick. A second gang carries on what is left, and so does
 //!   each target alone.
-//! - `share`: two targets of the gang, of which each has its first operation before either has its last one.
+//! - `call WORDS [PUT]`: the call of a gang on the benches of the targets, with so many words, of which the put of this number on standard
+//!   output fails. It prints what was put and the status; each target ends as it does alone, or with status 2 stays as it was.
+//! - `share`: the call of a gang on two benches with the job of the first target, of which each has its first operation before either has its
+//!   last one.
 
 use crate::job::Job;
 use crate::orders::Order;
@@ -60,6 +63,8 @@ fn step(rt: &HostRuntime, team: &mut Team, line: &str) -> Result<()> {
         }
         ["lists", count] => team.take_lists(rt, count.parse::<u32>()?),
         ["stops", count] => stop_gangs(rt, team, count.parse::<u32>()?),
+        ["call", count] => team.call(rt, count.parse::<usize>()?, 0),
+        ["call", count, put] => team.call(rt, count.parse::<usize>()?, put.parse::<u64>()?),
         ["share"] => share_turns(rt, team),
         _ => bail!("{line}: no such line"),
     }

@@ -1,8 +1,10 @@
-//! Drives gangs by turns: `gang_vectors GANGS`, a file of lines (`lines`). It prints how each target of a gang ends that carries its job alone,
-//! and ends with an error where one that is driven by turns ends otherwise, or leaves other cells or another file.
+//! Drives gangs by turns, and calls `flmgang`: `gang_vectors GANGS`, a file of lines (`lines`). It prints how each target of a gang ends that
+//! carries its job alone, and what a call puts, and ends with an error where one that is driven by turns ends otherwise, or leaves other cells
+//! or another file.
 #![tactic(auto)]
 
 mod alone;
+mod call;
 mod gangs;
 mod job;
 mod lines;

@@ -1,9 +1,9 @@
 //! Targets that share their time.
 
+use crate::call::Streams;
 use crate::team::Team;
 use anyhow::{Context, Result, ensure};
 use bench_model::{Bench, DeviceFault, MemoryBench, StoreFault};
-use gang_run::Gang;
 use std::alloc::Global;
 use std::cell::Cell;
 
@@ -96,26 +96,21 @@ impl<'a, B: Bench> Bench for Noting<'a, B> {
     }
 }
 
-/// Drives two benches by turns to the end.
-fn drive<B: Bench>(alloc: Global, benches: &mut [B; 2]) -> Result<()> {
-    let mut gang = Gang::open(alloc, benches)?;
-    gang.run(benches, 1000);
-    Ok(())
-}
-
 /// The bench of the first job.
 fn bench(alloc: Global, team: &Team) -> Result<MemoryBench> {
     team.jobs.first().context("no job")?.bench(alloc)
 }
 
-/// Drives the first job on two benches, of which each begins before either is closed.
+/// Calls a gang on two benches with the first job, of which each begins before either is closed.
 pub fn share_turns(rt: &HostRuntime, team: &Team) -> Result<()> {
     let begun = Cell::new(0);
     let mut benches = [
         Noting::new(bench(rt.alloc(), team)?, &begun),
         Noting::new(bench(rt.alloc(), team)?, &begun),
     ];
-    drive(rt.alloc(), &mut benches)?;
+    let mut streams = Streams::new(rt.alloc(), 0)?;
+    let status = streams.answer(rt.alloc(), 4, &mut benches)?;
+    streams.print(rt, 4, status)?;
     for bench in benches.iter() {
         ensure!(bench.noted == 2, "closed when {} had begun", bench.noted);
     }

@@ -2,6 +2,7 @@
 ghost use Rattle.std.specs.Prelude.{◌≡◌, ◌≤◌, length, IfOk};
 
 use crate::alone::carry;
+use crate::call::Streams;
 use crate::gangs::{play, play_drawn};
 use crate::job::Job;
 use crate::orders::Order;
@@ -33,6 +34,13 @@ fn is_refused(end: TargetEnd) -> bool {
         TargetEnd::Open(_) | TargetEnd::Survey(_) => true,
         _ => false,
     }
+}
+
+/// Looks whether a bench has these cells and this file.
+fn look(target: usize, bench: &MemoryBench, cells: &[u8], file: &[u8]) -> Result<()> {
+    ensure!(bench.cells() == cells, "{target}: other cells");
+    ensure!(bench.file() == file, "{target}: another file");
+    Ok(())
 }
 
 /// Opens a gang, and gives it turns in an order until all have ended.
@@ -131,12 +139,7 @@ impl Team {
     fn check_one(&self, target: usize, end: TargetEnd, bench: &MemoryBench) -> Result<()> {
         let alone = self.alone.get(target).context("no such target")?;
         ensure!(end == alone.end, "{target}: {end:?}, alone {:?}", alone.end);
-        ensure!(
-            bench.cells() == alone.bench.cells(),
-            "{target}: other cells"
-        );
-        ensure!(bench.file() == alone.bench.file(), "{target}: another file");
-        Ok(())
+        look(target, bench, alone.bench.cells(), alone.bench.file())
     }
 
     /// Looks whether each target of a gang ended as it does alone.
@@ -182,5 +185,28 @@ impl Team {
         }
         println!(rt; "{count} lists: {ends} ends, {done} done, as alone")?;
         Ok(())
+    }
+
+    /// Looks whether each bench is as its target leaves it alone, or as it was.
+    fn check_left(&self, has_begun: bool, benches: &[MemoryBench]) -> Result<()> {
+        for (target, bench) in benches.iter().enumerate() {
+            if has_begun {
+                let alone = self.alone.get(target).context("no such target")?;
+                look(target, bench, alone.bench.cells(), alone.bench.file())?;
+            } else {
+                let job = self.jobs.get(target).context("no such target")?;
+                look(target, bench, &job.cells, &job.file)?;
+            }
+        }
+        Ok(())
+    }
+
+    /// Calls a gang with so many words. The put of this number on standard output fails, or none at 0. Prints what was put and the status.
+    pub fn call(&self, rt: &HostRuntime, count: usize, fail: u64) -> Result<()> {
+        let mut benches = self.benches(rt.alloc())?;
+        let mut streams = Streams::new(rt.alloc(), fail)?;
+        let status = streams.answer(rt.alloc(), count, &mut benches)?;
+        streams.print(rt, count, status)?;
+        self.check_left(status != 2, &benches)
     }
 }

@@ -1,0 +1,53 @@
+//! The call of a gang.
+
+use anyhow::Result;
+use bench_model::Bench;
+use gang_commands::flmgang;
+use octets::Word;
+use outside_io::MemorySink;
+use std::alloc::Global;
+use std::str;
+
+/// The streams of a call.
+#[derive(Drop)]
+pub struct Streams {
+    out: MemorySink,
+    err: MemorySink,
+}
+
+/// So many words, which name files.
+fn words_of(alloc: Global, count: usize) -> Result<Vec<Word>> {
+    let mut words = Vec::new(alloc);
+    for _word in 0..count {
+        words.push(Word::copy(alloc, "name")?)?;
+    }
+    Ok(words)
+}
+
+impl Streams {
+    /// Streams on which nothing stands. The put of this number on standard output fails, or none at 0.
+    pub fn new(alloc: Global, fail: u64) -> Result<Streams> {
+        let out = MemorySink::new(alloc, 4096, &[fail])?;
+        let err = MemorySink::new(alloc, 256, &[])?;
+        Ok(Streams { out, err })
+    }
+
+    /// The status of a call with so many words.
+    pub fn answer<B: Bench>(
+        &mut self,
+        alloc: Global,
+        count: usize,
+        benches: &mut [B],
+    ) -> Result<u8> {
+        let words = words_of(alloc, count)?;
+        Ok(flmgang(alloc, &words, benches, &mut self.out, &mut self.err))
+    }
+
+    /// Prints what was put on standard output and on standard error by a call with so many words, and its status.
+    pub fn print(&self, rt: &HostRuntime, count: usize, status: u8) -> Result<()> {
+        let out = str::from_utf8(self.out.bytes())?;
+        let err = str::from_utf8(self.err.bytes())?;
+        println!(rt; "{out}{err}{count} words, status {status}")?;
+        Ok(())
+    }
+}
