@@ -1,9 +1,10 @@
 //! The decoder and the disassembler against binutils.
 
-use crate::hex::{half, number};
+use crate::row::half;
 use anyhow::{Context, Result, bail};
 use armv6m_decode::{Decoded, Instr, decode16, decode32};
 use armv6m_forms::{Line, disassemble};
+use row_text::number;
 
 /// The instruction of one halfword, or of two.
 fn decode(first: u16, second: &str) -> Result<Option<Instr>> {

@@ -1,6 +1,6 @@
 //! Conditional branches under each setting of the flags.
 
-use crate::hex::{half, words};
+use crate::row::{half, words};
 use crate::steps::{HERE, bus_with, core_at};
 use anyhow::{Result, bail};
 use armv6m_decode::registers::PC;

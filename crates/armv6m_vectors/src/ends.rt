@@ -1,10 +1,11 @@
 //! Instructions that end otherwise than by going on.
 
-use crate::hex::{half, number, words};
+use crate::row::{half, words};
 use crate::steps::{HERE, bus_with, core_at};
 use anyhow::{Result, bail};
 use armv6m_decode::registers::SP;
 use armv6m_step::{StepEnd, step};
+use row_text::number;
 use std::alloc::Global;
 
 /// The name of an end, and its address.

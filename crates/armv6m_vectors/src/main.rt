@@ -7,7 +7,7 @@ mod code;
 mod compiled;
 mod conditions;
 mod ends;
-mod hex;
+mod row;
 mod statements;
 mod steps;
 mod table;

@@ -1,8 +1,8 @@
 //! The assembler against code and refusals that were worked out by hand, and against binutils.
 
-use crate::hex::bytes;
 use anyhow::{Context, Result, bail};
 use armv6m_asm::assemble;
+use row_text::bytes_of;
 use std::alloc::{AllocError, Global};
 
 /// A text with its line ends and tabs.
@@ -18,7 +18,7 @@ fn check_line(line: &str, alloc: Global) -> Result<()> {
     match assemble(alloc, unescaped(text, alloc)?.as_bytes()) {
         Ok(code) => {
             let digits = if due == "-" { "" } else { due };
-            if code.bytes.bytes() != bytes(digits, alloc)?.as_slice() {
+            if code.bytes.bytes() != bytes_of(alloc, digits)?.as_slice() {
                 bail!("{line}: other code");
             }
         }

@@ -1,9 +1,10 @@
 //! One step against what QEMU leaves, and against what was worked out by hand.
 
-use crate::hex::{bytes, half, number, words};
+use crate::row::{half, words};
 use anyhow::{Result, bail};
 use armv6m_decode::registers::{LR, PC, SP};
 use armv6m_step::{Core, MemoryBus, StepEnd, step};
+use row_text::{bytes_of, number};
 use std::alloc::{AllocError, Global};
 
 /// Where the memory begins, and where the instruction stands in it.
@@ -74,7 +75,7 @@ fn check_line(line: &str, words: &[&str], alloc: Global) -> Result<()> {
     let mut bus = bus_with(alloc, half(words[0])?, second)?;
     let mut core = core_of(&words[2..10], HERE)?;
     let wanted = core_of(&words[10..18], number(words[18])?)?;
-    let data = bytes(words[19], alloc)?;
+    let data = bytes_of(alloc, words[19])?;
     let end = step(&mut core, &mut bus);
     if end != StepEnd::Went || core != wanted {
         bail!("{line}: {end:?} {core:?}");

@@ -1,6 +1,6 @@
 //! The decoder against the values and masks of the table.
 
-use crate::hex::{half, words};
+use crate::row::{half, words};
 use anyhow::{Result, bail};
 use armv6m_decode::{Decoded, decode16};
 use std::alloc::Global;

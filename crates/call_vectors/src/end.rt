@@ -1,8 +1,8 @@
 //! The ends of calls, in words.
 
-use crate::hex::number;
 use algo_calls::CallEnd;
 use anyhow::{Result, bail};
+use row_text::number;
 use target_core::{FaultKind, RunEnd};
 
 /// The end of a run that a fault at a place ended.

@@ -22,7 +22,6 @@
 #![tactic(auto)]
 
 mod end;
-mod hex;
 mod plan;
 mod steps;
 mod trial;

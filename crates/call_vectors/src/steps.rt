@@ -1,7 +1,6 @@
 //! The steps of the cases.
 
 use crate::end::end;
-use crate::hex::{all_bytes, bytes, number};
 use crate::plan::carry_out;
 use crate::trial::Trial;
 use algo_calls::Call;
@@ -9,6 +8,7 @@ use algo_loader::{Layout, NoRoom, place};
 use anyhow::{Context, Result, bail};
 use board_file::{Board, read_board};
 use flm_descriptor::{Algorithm, read_flm};
+use row_text::{all_bytes, counted_bytes, number};
 use std::alloc::Global;
 use std::fs;
 
@@ -56,7 +56,7 @@ fn called_with(
     due: &[&str],
     alloc: Global,
 ) -> Result<bool> {
-    let bytes = bytes(page, alloc)?;
+    let bytes = counted_bytes(alloc, page)?;
     Ok(trial.call(call, &bytes)? == end(due)?)
 }
 
@@ -72,7 +72,7 @@ fn reset(trial: &mut Trial, due: &[&str]) -> Result<bool> {
 
 /// Whether the cells are those of some words.
 fn holds_cells(trial: &Trial, words: &[&str], alloc: Global) -> Result<bool> {
-    let cells = all_bytes(words, alloc)?;
+    let cells = all_bytes(alloc, words)?;
     Ok(trial.cells() == cells.as_slice())
 }
 
@@ -200,7 +200,7 @@ fn try_one(rt: &HostRuntime, text: &str) -> Result<()> {
         bail!("{line}: no trial");
     };
     let fail = fail.parse::<u64>()?;
-    let cells = all_bytes(cells, rt.alloc())?;
+    let cells = all_bytes(rt.alloc(), cells)?;
     let board = board(rt, board_name)?;
     try_on(rt, &board, flm, &cells, fail, text)
 }

@@ -9,8 +9,9 @@
 //!   the cells, or the put on standard output or on standard error of this number fails.
 
 use crate::call::run;
-use crate::setup::{Setup, bytes_of};
+use crate::setup::Setup;
 use anyhow::{Result, bail};
+use row_text::{bytes_of, lines_of};
 use std::fs;
 
 /// Goes through the lines of a file.
@@ -55,7 +56,7 @@ fn change_files(
 ) -> Result<bool> {
     match what {
         "file" => setup.give(rt.alloc(), name, fs::read(rt, text)?)?,
-        "text" => setup.give(rt.alloc(), name, lines_of(rt, text)?)?,
+        "text" => setup.give(rt.alloc(), name, lines_of(rt.alloc(), text)?)?,
         "bytes" => setup.give(rt.alloc(), name, bytes_of(rt.alloc(), text)?)?,
         "patch" => patch(rt, setup, name, text)?,
         _ => return Ok(false),
@@ -88,16 +89,6 @@ fn change_calls(
         "fail" => setup.fail(first, second.parse::<u64>()?),
         _ => bail!("{what}: no such line"),
     }
-}
-
-/// The bytes of lines that are joined by bars.
-fn lines_of(rt: &HostRuntime, text: &str) -> Result<Vec<u8>> {
-    let mut bytes = Vec::new(rt.alloc());
-    for line in text.split('|') {
-        bytes.extend_from_slice(line.as_bytes())?;
-        bytes.push(b'\n')?;
-    }
-    Ok(bytes)
 }
 
 /// Changes bytes of a file, as `AT BYTES` says.

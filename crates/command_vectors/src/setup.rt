@@ -2,7 +2,7 @@
 
 use anyhow::{Result, bail};
 use bench_model::{Bench, MemoryBench};
-use octets::{Word, hex_pair};
+use octets::Word;
 use outside_io::MemoryInputs;
 use std::alloc::Global;
 
@@ -164,20 +164,4 @@ fn lay(into: &mut [u8], at: usize, bytes: &[u8]) {
         let len = into.len().min(bytes.len());
         into[..len].copy_from_slice(&bytes[..len]);
     }
-}
-
-/// The bytes of pairs of digits.
-pub fn bytes_of(alloc: Global, word: &str) -> Result<Vec<u8>> {
-    let mut bytes = Vec::new(alloc);
-    for pair in word.as_bytes().chunks(2) {
-        let value = match pair {
-            [high, low] => hex_pair(*high, *low),
-            _ => None,
-        };
-        match value {
-            Some(byte) => bytes.push(byte)?,
-            None => bail!("{word}: no bytes"),
-        }
-    }
-    Ok(bytes)
 }

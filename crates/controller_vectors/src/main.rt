@@ -8,7 +8,6 @@
 #![tactic(auto)]
 
 mod driven;
-mod hex;
 mod made;
 mod steps;
 mod trial;

@@ -1,10 +1,10 @@
 //! The steps of the rows.
 
-use crate::hex::{bytes, number};
 use crate::made::{controller, fpec};
 use crate::trial::Trial;
 use anyhow::{Result, bail};
 use bench_model::BusEnd;
+use row_text::{bytes_of, number};
 use std::alloc::Global;
 use std::result;
 
@@ -45,7 +45,7 @@ fn holds(trial: &mut Trial, words: &[&str], alloc: Global) -> Result<bool> {
         ["load", at, width, due] => loaded(trial.load(number(at)?, number(width)?), due),
         ["tick", count, due] => Ok(ended(trial.ticks(number(count)?), due)),
         ["reset", due] => Ok(ended(trial.reset(), due)),
-        ["cells", due] => Ok(trial.cells() == bytes(due, alloc)?.as_slice()),
+        ["cells", due] => Ok(trial.cells() == bytes_of(alloc, due)?.as_slice()),
         _ => Ok(false),
     }
 }
@@ -57,7 +57,7 @@ fn made(rt: &HostRuntime, words: &[&str]) -> Result<Option<Trial>> {
         ["fpec", board, cells, fail] => (fpec(rt, board)?, cells, fail),
         _ => return Ok(None),
     };
-    let cells = bytes(cells, rt.alloc())?;
+    let cells = bytes_of(rt.alloc(), cells)?;
     let trial = Trial::new(rt.alloc(), driven, &cells, number(fail)?)?;
     Ok(Some(trial))
 }

@@ -1,8 +1,7 @@
 //! The files of the jobs.
 
-use anyhow::{Context, Result, bail};
-use octets::hex_pair;
-use std::alloc::Global;
+use anyhow::{Context, Result};
+use row_text::bytes_of;
 use std::fs::{self, OpenOptions};
 use std::os::unix::fs::FileExt;
 
@@ -29,20 +28,4 @@ pub fn length(rt: &HostRuntime, name: &str) -> Result<()> {
     let len = fs::metadata(rt, name)?.len();
     println!(rt; "{name} has {len} bytes")?;
     Ok(())
-}
-
-/// The bytes of pairs of digits.
-fn bytes_of(alloc: Global, word: &str) -> Result<Vec<u8>> {
-    let mut bytes = Vec::new(alloc);
-    for pair in word.as_bytes().chunks(2) {
-        let value = match pair {
-            [high, low] => hex_pair(*high, *low),
-            _ => None,
-        };
-        match value {
-            Some(byte) => bytes.push(byte)?,
-            None => bail!("{word}: no bytes"),
-        }
-    }
-    Ok(bytes)
 }

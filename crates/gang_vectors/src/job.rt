@@ -2,7 +2,7 @@
 
 use anyhow::{Result, bail, ensure};
 use bench_model::MemoryBench;
-use octets::hex_pair;
+use row_text::bytes_of;
 use std::alloc::Global;
 use std::fs;
 
@@ -28,22 +28,6 @@ fn put_length(file: &mut Vec<u8>, len: usize) -> Result<()> {
     ensure!(len <= 65536, "too long");
     file.extend_from_slice(&(len as u32).to_le_bytes())?;
     Ok(())
-}
-
-/// The bytes of pairs of digits.
-fn bytes_of(alloc: Global, digits: &str) -> Result<Vec<u8>> {
-    let mut bytes = Vec::new(alloc);
-    for pair in digits.as_bytes().chunks(2) {
-        let value = match pair {
-            [high, low] => hex_pair(*high, *low),
-            _ => None,
-        };
-        match value {
-            Some(byte) => bytes.push(byte)?,
-            None => bail!("{digits}: no bytes"),
-        }
-    }
-    Ok(bytes)
 }
 
 /// The cells, of which so many hold their place modulo 256.

@@ -2,50 +2,43 @@
 
 use crate::class::{Found, class};
 use anyhow::{Context, Result, bail};
+use row_text::bytes_of;
 use std::alloc::Global;
 use std::fs;
 
-/// Writes the bytes of pairs of hexadecimal digits from a place on.
-fn write(file: &mut [u8], at: usize, digits: &str) -> Result<()> {
-    for (index, pair) in digits.as_bytes().chunks(2).enumerate() {
-        let value = u8::from_str_radix(std::str::from_utf8(pair)?, 16)?;
+/// Writes bytes from a place on.
+fn write(file: &mut [u8], at: usize, bytes: &[u8]) -> Result<()> {
+    for (index, byte) in bytes.iter().enumerate() {
         let place = at.checked_add(index).context("a place is wanted")?;
         match file.get_mut(place) {
-            Some(byte) => *byte = value,
+            Some(kept) => *kept = *byte,
             None => bail!("{place}: past the end"),
         }
     }
     Ok(())
 }
 
-/// The bytes of pairs of hexadecimal digits, appended.
-fn append(file: &mut Vec<u8>, digits: &str) -> Result<()> {
-    for pair in digits.as_bytes().chunks(2) {
-        let value = u8::from_str_radix(std::str::from_utf8(pair)?, 16)?;
-        file.push(value)?;
-    }
-    Ok(())
-}
-
 /// Changes a file as a word says it: `AT=BYTES` writes bytes, the place in decimal digits and the bytes in hexadecimal ones;
 /// `cut=LEN` cuts the file; `more=BYTES` appends bytes.
-fn change(file: &mut Vec<u8>, word: &str) -> Result<()> {
+fn change(alloc: Global, file: &mut Vec<u8>, word: &str) -> Result<()> {
     let (at, value) = word.split_once('=').context("a change is AT=BYTES")?;
     if at == "cut" {
         file.truncate(value.parse::<usize>()?);
         return Ok(());
     }
+    let bytes = bytes_of(alloc, value)?;
     if at == "more" {
-        return append(file, value);
+        file.extend_from_slice(&bytes)?;
+        return Ok(());
     }
-    write(file, at.parse::<usize>()?, value)
+    write(file, at.parse::<usize>()?, &bytes)
 }
 
 /// The job's file, changed as the words say.
 fn changed(alloc: Global, job: &[u8], words: &str) -> Result<Vec<u8>> {
     let mut file = Vec::from_slice(alloc, job)?;
     for word in words.split_ascii_whitespace() {
-        change(&mut file, word)?;
+        change(alloc, &mut file, word)?;
     }
     Ok(file)
 }

@@ -29,9 +29,10 @@ use crate::failing::{fail_all, fail_pairs};
 use crate::files::Form;
 use crate::job::run_random;
 use crate::stops::{keep, stop, stop_all, stop_tenths};
-use crate::trial::{Trial, bytes_of};
+use crate::trial::Trial;
 use anyhow::{Result, bail};
 use bench_model::MemoryBench;
+use row_text::{bytes_of, lines_of};
 use std::fs;
 
 /// Goes through the lines of a file.
@@ -145,7 +146,9 @@ fn same_body(
 fn change(rt: &HostRuntime, trial: &mut Trial, line: &str) -> Result<()> {
     let words = line.splitn(3, ' ').collect::<Vec<&str>>(rt.alloc())?;
     match words.as_slice() {
-        ["text", name, text] => trial.files.give(rt.alloc(), name, lines_of(rt, text)?)?,
+        ["text", name, text] => trial
+            .files
+            .give(rt.alloc(), name, lines_of(rt.alloc(), text)?)?,
         ["file", name, path] => trial.files.give(rt.alloc(), name, fs::read(rt, *path)?)?,
         ["cells", count] => trial.blank(rt.alloc(), count.parse::<usize>()?)?,
         ["count", len] => trial.count(len.parse::<usize>()?),
@@ -159,14 +162,4 @@ fn change(rt: &HostRuntime, trial: &mut Trial, line: &str) -> Result<()> {
         _ => bail!("{line}: no such line"),
     }
     Ok(())
-}
-
-/// The bytes of lines that are joined by bars.
-fn lines_of(rt: &HostRuntime, text: &str) -> Result<Vec<u8>> {
-    let mut bytes = Vec::new(rt.alloc());
-    for line in text.split('|') {
-        bytes.extend_from_slice(line.as_bytes())?;
-        bytes.push(b'\n')?;
-    }
-    Ok(bytes)
 }

@@ -5,7 +5,6 @@ ghost use Rattle.bench_model.specs.Shown.{bench_of};
 use crate::files::Files;
 use anyhow::{Context, Result, bail};
 use bench_model::{Bench, MemoryBench};
-use octets::hex_pair;
 use std::alloc::Global;
 
 /// The calls that are to fail, by their numbers from 1, and 0 for none: two on the job file, one on the cells, a put on standard output, a put
@@ -131,20 +130,4 @@ pub fn bench_with(alloc: Global, cells: &[u8], job: &[u8], fails: Fails) -> Resu
         &[fails.cell],
         &[0x5A],
     )?)
-}
-
-/// The bytes of pairs of digits.
-pub fn bytes_of(alloc: Global, word: &str) -> Result<Vec<u8>> {
-    let mut bytes = Vec::new(alloc);
-    for pair in word.as_bytes().chunks(2) {
-        let value = match pair {
-            [high, low] => hex_pair(*high, *low),
-            _ => None,
-        };
-        match value {
-            Some(byte) => bytes.push(byte)?,
-            None => bail!("{word}: no bytes"),
-        }
-    }
-    Ok(bytes)
 }

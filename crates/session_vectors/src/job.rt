@@ -1,8 +1,8 @@
 //! Benches with jobs.
 
-use crate::hex::{all_bytes, bytes, number};
 use anyhow::{Result, bail};
 use bench_model::MemoryBench;
+use row_text::{all_bytes, counted_bytes, number};
 use std::fs;
 
 /// A job: the text of its board, its FLM file, the one run of its image, and its snapshot.
@@ -34,8 +34,8 @@ impl Job {
             board: fs::read(rt, *board)?,
             flm: fs::read(rt, *flm)?,
             at: number(at)?,
-            image: bytes(image, rt.alloc())?,
-            cells: all_bytes(cells, rt.alloc())?,
+            image: counted_bytes(rt.alloc(), image)?,
+            cells: all_bytes(rt.alloc(), cells)?,
         })
     }
 

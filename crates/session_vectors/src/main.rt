@@ -25,7 +25,6 @@
 
 mod apart;
 mod carry;
-mod hex;
 mod job;
 mod report;
 mod steps;

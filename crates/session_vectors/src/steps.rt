@@ -2,13 +2,13 @@
 
 use crate::apart::step_apart;
 use crate::carry::carry;
-use crate::hex::{all_bytes, byte};
 use crate::job::Job;
 use crate::report::print;
 use crate::stops::stop_all;
 use anyhow::{Result, bail};
 use bench_model::{MemoryBench, Pick};
 use flash_session::Goal;
+use row_text::all_bytes;
 
 /// Carries a job on, and prints how.
 fn carried(rt: &HostRuntime, bench: &mut MemoryBench, goal: Goal) -> Result<()> {
@@ -23,10 +23,10 @@ fn holds(rt: &HostRuntime, bench: &mut MemoryBench, words: &[&str]) -> Result<bo
         ["stop", "written"] => bench.power_loss(Pick::AsWritten),
         ["stop", "old"] => bench.power_loss(Pick::AsOld),
         ["stop", value] => bench.power_loss(Pick::Filled {
-            value: byte(value)?,
+            value: u8::from_str_radix(value, 16)?,
         }),
         ["cells", words @ ..] => {
-            return Ok(bench.cells() == all_bytes(words, rt.alloc())?.as_slice());
+            return Ok(bench.cells() == all_bytes(rt.alloc(), words)?.as_slice());
         }
         ["file", "open"] => return Ok(bench.file().first() == Some(&0xA5)),
         ["file", "closed"] => return Ok(bench.file().first() == Some(&0x00)),

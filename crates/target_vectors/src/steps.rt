@@ -5,23 +5,9 @@ use crate::pair::{Left, Pair, alone};
 use crate::put::{put_cells, put_end};
 use crate::trial::{Trial, board, fpec_board, frame};
 use anyhow::{Context, Result, bail, ensure};
+use row_text::{bytes_of, number};
 use std::alloc::Global;
-use std::str;
 use target_core::Frame;
-
-/// The number of a word.
-fn number(word: &str) -> Result<u32> {
-    Ok(u32::from_str_radix(word, 16)?)
-}
-
-/// The bytes of pairs of digits.
-fn bytes(alloc: Global, digits: &str) -> Result<Vec<u8>> {
-    let mut bytes = Vec::new(alloc);
-    for pair in digits.as_bytes().chunks(2) {
-        bytes.push(u8::from_str_radix(str::from_utf8(pair)?, 16)?)?;
-    }
-    Ok(bytes)
-}
 
 /// The frame of some words.
 fn frame_of(pc: &str, r0: &str, r1: &str) -> Result<Frame> {
@@ -75,7 +61,7 @@ fn code_of(alloc: Global, words: &[&str]) -> Result<Code> {
     let [code, pc, r0, r1] = words else {
         bail!("code is CODE PC R0 R1");
     };
-    let bytes = bytes(alloc, code)?;
+    let bytes = bytes_of(alloc, code)?;
     let frame = frame_of(pc, r0, r1)?;
     Ok(Code { bytes, frame })
 }
@@ -151,7 +137,7 @@ fn go_through_one(rt: &HostRuntime, text: &str) -> Result<()> {
         None => (fail, board(rt.alloc())?),
     };
     let fail = fail.parse::<u64>()?;
-    let code = bytes(rt.alloc(), code)?;
+    let code = bytes_of(rt.alloc(), code)?;
     let mut trial = Trial::new(rt.alloc(), &board, &code, fail)?;
     for line in text.lines() {
         step(rt, &mut trial, line)?;

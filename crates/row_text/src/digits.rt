@@ -1,0 +1,61 @@
+//! Bytes and numbers in hexadecimal digits.
+ghost use Rattle.std.specs.Prelude.{◌≡◌, IfOk, Ok};
+ghost use Rattle.std.specs.Str.Parse.{ParsesUnsigned};
+ghost use Rattle.hex.specs.Hex.{decode_of};
+ghost use Rattle.row_text.specs.Rows.{IsCounted};
+
+use anyhow::Result;
+use std::alloc::Global;
+
+/// The number of a word.
+///
+/// # Errors
+///
+/// What is no number below 2^32 in hexadecimal digits.
+pub fn number(word: &str) -> Result<u32>
+    ensures { ParsesUnsigned 32 16 word.now result }
+{
+    Ok(u32::from_str_radix(word, 16)?)
+}
+
+/// The bytes of pairs of digits.
+///
+/// # Errors
+///
+/// What is no pairs of hexadecimal digits, and want of memory.
+pub fn bytes_of(alloc: Global, digits: &str) -> Result<Vec<u8>>
+    ensures { IfOk result (λ bytes. decode_of digits.now ≡ Ok bytes.items) }
+{
+    Ok(hex::decode(alloc, digits)?)
+}
+
+/// The bytes of a word: pairs of digits, and perhaps a star and how often they stand there, in decimal digits. No bytes are `-`.
+///
+/// # Errors
+///
+/// What is no such word, and want of memory.
+pub fn counted_bytes(alloc: Global, word: &str) -> Result<Vec<u8>>
+    ensures { IfOk result (λ bytes. IsCounted word.now bytes.items) }
+{
+    match word.split_once('*') {
+        Some((digits, count)) => {
+            let count = count.parse::<usize>()?;
+            Ok(bytes_of(alloc, digits)?.repeat(alloc, count)?)
+        }
+        None if word == "-" => Ok(Vec::new(alloc)),
+        None => bytes_of(alloc, word),
+    }
+}
+
+/// The bytes of some words, one after the other.
+///
+/// # Errors
+///
+/// Where one is no such word, and want of memory.
+pub fn all_bytes(alloc: Global, words: &[&str]) -> Result<Vec<u8>> {
+    let mut all = Vec::new(alloc);
+    for word in words {
+        all.extend_from_slice(&counted_bytes(alloc, word)?)?;
+    }
+    Ok(all)
+}
