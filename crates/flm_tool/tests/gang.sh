@@ -1,7 +1,8 @@
 #!/bin/bash
 # Runs the built program with --gang over sixteen devices of 64 KiB and over others, and compares lines, status, cells and job files with what is wanted:
 # the image over what each device held, worked out here, and what `resume` of the same job alone answers and leaves. Then kills gangs of sixteen at
-# random moments (kill -9), and goes on with --gang each time until every device has its image.
+# random moments (kill -9), and goes on with --gang each time until every device has its image; and ten gangs of sixteen with A1 to A7, each gone on
+# with as alone.
 #   bash tests/gang.sh [PROGRAM [KILLS]]        (from crates/flm_tool; else out/flm_tool and 100 kills)
 # It wants flock and script (of Debian's util-linux and bsdutils). It works in a folder of its own, which it leaves where something is wrong, and ends with status 0 where all
 # is as wanted.
@@ -398,6 +399,40 @@ while [ $killed -lt "$kills" ] && [ $wrong = 0 ]; do
     carry
 done
 echo "$killed kills in $gangs gangs: $whole times a job whole, $closed times a device finished"
+
+# Sixteen targets, with A1 to A7 and others, killed at a random moment: the gang carries on what is left of each as `resume` does alone.
+sixteen='1 2 3 4 5 6 a1 a2 a3_brief a4 a5 a6 a7 picky none damaged'
+begin_sixteen() {
+    local number name
+    for number in 1 2 3 4 5 6; do
+        begin_random $number
+    done
+    for name in a1 a2 a3_brief a4 a5 a6 a7 picky; do
+        begin_with "$name" "$name.flm"
+    done
+    begin_with none a1.flm
+    : > job.none
+    begin_with damaged a1.flm
+    patch job.damaged 300 77
+    # shellcheck disable=SC2086
+    pairs $sixteen
+}
+begin_sixteen
+from=${EPOCHREALTIME/./}
+"$program" --gang "${words[@]}" > out 2> err
+span=$((${EPOCHREALTIME/./} - from))
+stopped=0
+for _ in $(seq 30); do
+    if [ $stopped = 10 ]; then break; fi
+    begin_sixteen
+    run_and_kill
+    if [ $? = 137 ]; then
+        stopped=$((stopped + 1))
+        # shellcheck disable=SC2086
+        as_alone "sixteen with A1 to A7, kill $stopped" $sixteen
+    fi
+done
+equal 'sixteen with A1 to A7: so many kills' 10 $stopped
 echo "$right right, $wrong wrong"
 if [ $wrong = 0 ]; then rm -rf "$folder"; else echo "in $folder"; fi
 [ $wrong = 0 ]
