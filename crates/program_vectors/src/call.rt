@@ -52,10 +52,11 @@ pub fn answer<B: Bench>(alloc: Global, words: &[Word], bench: &mut B, outside: &
     )
 }
 
-/// A status, and what is put on standard error with it.
+/// A status, and what is put on standard output and on standard error with it.
 #[derive(Drop)]
 pub struct Said {
     pub status: u8,
+    out: Vec<u8>,
     pub line: Vec<u8>,
 }
 
@@ -70,27 +71,41 @@ pub fn call<B: Bench>(
     let words = words_of(alloc, line)?;
     let mut outside = Outside::new(alloc, &trial.files, 4096, fails)?;
     let status = answer(alloc, &words, bench, &mut outside);
+    let out = Vec::from_slice(alloc, outside.out.bytes())?;
     let line = Vec::from_slice(alloc, outside.err.bytes())?;
-    Ok(Said { status, line })
+    Ok(Said { status, out, line })
 }
 
 /// Makes a call, and prints what comes of it.
 pub fn run(rt: &HostRuntime, trial: &Trial, bench: &mut MemoryBench, line: &str) -> Result<()> {
-    let words = words_of(rt.alloc(), line)?;
-    let mut outside = Outside::new(rt.alloc(), &trial.files, 4096, trial.fails)?;
     let before = Vec::from_slice(rt.alloc(), bench.file())?;
-    let status = answer(rt.alloc(), &words, bench, &mut outside);
-    print_streams(rt, &outside)?;
-    println!(rt; "status {status}")?;
+    let said = call(rt.alloc(), trial, trial.fails, bench, line)?;
+    print_said(rt, &said, "")?;
     print_cells(rt, &trial.cells, bench.cells())?;
     print_file(rt, &before, bench.file())
 }
 
-/// Prints what was put on standard output and on standard error.
-fn print_streams(rt: &HostRuntime, outside: &Outside) -> Result<()> {
-    let out = str::from_utf8(outside.out.bytes())?;
-    let err = str::from_utf8(outside.err.bytes())?;
-    print!(rt; "{out}{err}")?;
+/// Makes a call on a new bench, and prints what comes of it.
+pub fn run_apart(rt: &HostRuntime, trial: &Trial, line: &str) -> Result<()> {
+    let mut bench = trial.bench(rt.alloc())?;
+    let said = call(rt.alloc(), trial, trial.fails, &mut bench, line)?;
+    let left = match (
+        bench.cells() == trial.cells.as_slice(),
+        bench.file() == trial.job.as_slice(),
+    ) {
+        (true, true) => ", the same cells",
+        (false, true) => ", other cells",
+        (true, false) => ", the same cells, another job file",
+        (false, false) => ", other cells, another job file",
+    };
+    print_said(rt, &said, left)
+}
+
+/// Prints what was put on standard output and on standard error, the status, and what is left.
+fn print_said(rt: &HostRuntime, said: &Said, left: &str) -> Result<()> {
+    let out = str::from_utf8(&said.out)?;
+    let err = str::from_utf8(&said.line)?;
+    println!(rt; "{out}{err}status {}{left}", said.status)?;
     Ok(())
 }
 

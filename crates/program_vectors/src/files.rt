@@ -35,6 +35,15 @@ impl Files {
         Ok(())
     }
 
+    /// Changes bytes of what stands under a name.
+    pub fn patch(&mut self, name: &str, at: usize, bytes: &[u8]) {
+        for file in self.files.iter_mut() {
+            if file.name.text() == name {
+                lay(&mut file.bytes, at, bytes);
+            }
+        }
+    }
+
     /// What stands under a name.
     pub fn bytes(&self, name: &str) -> Result<&[u8]> {
         match self.files.iter().find(|file| file.name.text() == name) {
@@ -68,6 +77,15 @@ impl Files {
         let mut listing = listing_at(alloc, kind_of(kind)?, &board, region, page)?;
         listing.to_erase = time;
         Ok(forge(alloc, &listing)?)
+    }
+}
+
+/// Lays bytes over others, from a place on, as far as there are others.
+pub fn lay(into: &mut [u8], at: usize, bytes: &[u8]) {
+    if at < into.len() {
+        let into = &mut into[at..];
+        let len = into.len().min(bytes.len());
+        into[..len].copy_from_slice(&bytes[..len]);
     }
 }
 

@@ -1,20 +1,23 @@
 //! The lines of the rows, with numbers in decimal digits and bytes in pairs of hexadecimal ones.
 //!
 //! - `row NAME` begins with 1,024 blank cells, an empty job file and no faults; the files stay.
-//! - `text NAME LINE|LINE..` or `file NAME PATH`: what stands under a name. `forge NAME KIND BOARD PAGE TIME [REGION]`: the FLM file of an
-//!   algorithm A1 to A7 for a region, from 0 on, of the board under a name, with pages of so many bytes and as many milliseconds for a sector's
-//!   erasure. With no REGION it is that of the first.
-//! - `cells COUNT`: so many blank cells. `count LEN` sets each of the first to its place modulo 256. `job BYTES`: the job file. `from JOB CELLS`:
-//!   the job file and the cells are files. `spoil BACK` changes the byte of the job file that stands so many places before its end. `open AT LEN`:
-//!   the operation that is open when the row begins.
-//! - `fail file N`, `fail cells N`, `fail put N`: the call on the job file, the call on the cells or the put on standard output of this number
-//!   fails.
+//! - `text NAME LINE|LINE..`, `bytes NAME BYTES`, `empty NAME` or `file NAME PATH`: what stands under a name; `patch NAME AT BYTES` changes it.
+//!   `forge NAME KIND BOARD PAGE TIME [REGION]`: the FLM file of an algorithm A1 to A7 or F1 for a region, from 0 on, of the board under a name,
+//!   with pages of so many bytes and as many milliseconds for a sector's erasure. With no REGION it is that of the first.
+//! - `cells COUNT VALUE`: so many cells of one byte. `count AT LEN` sets each of a range to its place modulo 256, `set AT BYTES` to these.
+//!   `job BYTES`: the job file. `from job NAME` and `from cells NAME`: the job file or the cells are a file. `spoil BACK` changes the byte of the
+//!   job file that stands so many places before its end. `open AT LEN`: the operation that is open when the row begins.
+//! - `fail take N`, `fail file N`, `fail cells N`, `fail put N` or `fail line N`: the taking of a file, the call on the job file or on the cells,
+//!   or the put on standard output or on standard error of this number fails.
 //! - `run WORDS`: a call on the row's bench. It prints what was put, the status, the cells that aren't as the row began, and the job file.
+//! - `call WORDS`: a call on a new bench. It prints what was put, the status, and whether cells and job file are as they were.
 //! - `body NAME`: whether the job file is that under a name, but for its first byte.
 //! - `stop CALLS PICK WORDS`: a call on a new bench, which is stopped after so many of its calls that can fail. PICK is `written`, `old` or
 //!   the byte that the stop leaves wherever it may leave any.
 //! - `keep CALLS PICK WORDS`: the row begins with the cells and the job file that such a stop leaves.
-//! - `random SECTORS SIZE`: the job of random bytes on a device of so many sectors of so many bytes (`job`).
+//! - `random SECTORS SIZE`: a job that brings random bytes into a device full of other ones, of so many sectors of so many bytes, with pages of
+//!   1,024 bytes, by the algorithm A1. It prints the status, and whether the cells are the image. The time that it takes is to be measured from
+//!   outside. `random SECTORS SIZE FOLDER` puts the files of the same job into a folder, for `flm_tool`, and runs nothing.
 //! - `stops PICK WORDS`: calls of `program` or `begin` that are stopped at each of their calls in turn. A job that is left, also by `begin` once
 //!   it is done, is carried on by `resume`, and from the same stop back by `revert`.
 //! - `tenths PICK WORDS`: the same at every tenth call, with an algorithm that breaks its duties. A job that is left is resumed as it is, and
@@ -24,15 +27,16 @@
 //! - `pairs COUNT WORDS`: calls of `program` of which every pair of the first so many calls on the job file fails; each job is gone on with to
 //!   its end.
 
-use crate::call::run;
+use crate::call::{run, run_apart};
 use crate::failing::{fail_all, fail_pairs};
 use crate::files::Form;
-use crate::job::run_random;
+use crate::job::{put_random, run_random};
 use crate::stops::{keep, stop, stop_all, stop_tenths};
 use crate::trial::Trial;
 use anyhow::{Result, bail};
 use bench_model::MemoryBench;
 use row_text::{bytes_of, lines_of};
+use std::alloc::Global;
 use std::fs;
 
 /// Goes through the lines of a file.
@@ -71,7 +75,9 @@ fn step(
         ["keep", calls, pick, words] => {
             keep(rt.alloc(), trial, calls.parse::<u64>()?, pick, words)
         }
+        ["call", ..] => run_apart(rt, trial, line.strip_prefix("call").unwrap_or(line)),
         ["random", sectors, size] => run_random(rt, sectors, size),
+        ["random", sectors, size, folder] => put_random(rt, sectors, size, folder),
         ["forge", name, kind, rest] => forge(rt, trial, name, kind, rest),
         ["body", name] => same_body(rt, trial, bench, name),
         _ => sweep(rt, trial, line),
@@ -146,20 +152,71 @@ fn same_body(
 fn change(rt: &HostRuntime, trial: &mut Trial, line: &str) -> Result<()> {
     let words = line.splitn(3, ' ').collect::<Vec<&str>>(rt.alloc())?;
     match words.as_slice() {
-        ["text", name, text] => trial
+        ["empty", name] => trial.files.give(rt.alloc(), name, Vec::new(rt.alloc())),
+        ["job", bytes] => {
+            trial.job = bytes_of(rt.alloc(), bytes)?;
+            Ok(())
+        }
+        ["spoil", back] => trial.spoil(back.parse::<usize>()?),
+        [what, first, second] => {
+            if !change_files(rt, trial, what, first, second)? {
+                change_bench(rt.alloc(), trial, what, first, second)?;
+            }
+            Ok(())
+        }
+        _ => bail!("{line}: no such line"),
+    }
+}
+
+/// Changes the files, where a line does that.
+fn change_files(
+    rt: &HostRuntime,
+    trial: &mut Trial,
+    what: &str,
+    name: &str,
+    text: &str,
+) -> Result<bool> {
+    match what {
+        "file" => trial.files.give(rt.alloc(), name, fs::read(rt, text)?)?,
+        "text" => trial
             .files
             .give(rt.alloc(), name, lines_of(rt.alloc(), text)?)?,
-        ["file", name, path] => trial.files.give(rt.alloc(), name, fs::read(rt, *path)?)?,
-        ["cells", count] => trial.blank(rt.alloc(), count.parse::<usize>()?)?,
-        ["count", len] => trial.count(len.parse::<usize>()?),
-        ["job", bytes] => trial.job = bytes_of(rt.alloc(), bytes)?,
-        ["from", job, cells] => trial.take(rt.alloc(), job, cells)?,
-        ["spoil", back] => trial.spoil(back.parse::<usize>()?)?,
-        ["open", at, len] => trial.open = Some((at.parse::<u32>()?, len.parse::<u32>()?)),
-        ["fail", "file", number] => trial.fails.files = [number.parse::<u64>()?, 0],
-        ["fail", "cells", number] => trial.fails.cell = number.parse::<u64>()?,
-        ["fail", "put", number] => trial.fails.out = number.parse::<u64>()?,
-        _ => bail!("{line}: no such line"),
+        "bytes" => trial
+            .files
+            .give(rt.alloc(), name, bytes_of(rt.alloc(), text)?)?,
+        "patch" => patch(rt.alloc(), trial, name, text)?,
+        _ => return Ok(false),
+    }
+    Ok(true)
+}
+
+/// Changes bytes of a file, as `AT BYTES` says.
+fn patch(alloc: Global, trial: &mut Trial, name: &str, place: &str) -> Result<()> {
+    let Some((at, bytes)) = place.split_once(' ') else {
+        bail!("{place}: no place and bytes");
+    };
+    let at = at.parse::<usize>()?;
+    trial.files.patch(name, at, &bytes_of(alloc, bytes)?);
+    Ok(())
+}
+
+/// Changes the job file, the cells, and the calls that fail.
+fn change_bench(
+    alloc: Global,
+    trial: &mut Trial,
+    what: &str,
+    first: &str,
+    second: &str,
+) -> Result<()> {
+    match what {
+        "cells" => trial.fill(alloc, first.parse::<usize>()?, second)?,
+        "count" => trial.count(first.parse::<usize>()?, second.parse::<usize>()?),
+        "set" => trial.set(first.parse::<usize>()?, &bytes_of(alloc, second)?),
+        "open" => trial.open = Some((first.parse::<u32>()?, second.parse::<u32>()?)),
+        "fail" => trial.fail(first, second.parse::<u64>()?)?,
+        "from" if first == "job" => trial.take_job(alloc, second)?,
+        "from" if first == "cells" => trial.take_cells(alloc, second)?,
+        _ => bail!("{what}: no such line"),
     }
     Ok(())
 }

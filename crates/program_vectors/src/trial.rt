@@ -2,7 +2,7 @@
 ghost use Rattle.std.specs.Prelude.{◌≡◌, IfOk, None};
 ghost use Rattle.bench_model.specs.Shown.{bench_of};
 
-use crate::files::Files;
+use crate::files::{Files, lay};
 use anyhow::{Context, Result, bail};
 use bench_model::{Bench, MemoryBench};
 use std::alloc::Global;
@@ -28,6 +28,20 @@ impl Fails {
             err: 0,
             take: 0,
         }
+    }
+
+    /// Lets the call of this number fail: a call on the job file or on the cells, a put on standard output or on standard error, or the taking
+    /// of a file.
+    fn set(&mut self, object: &str, number: u64) -> Result<()> {
+        match object {
+            "file" => self.files = [number, 0],
+            "cells" => self.cell = number,
+            "put" => self.out = number,
+            "line" => self.err = number,
+            "take" => self.take = number,
+            _ => bail!("{object}: no such call"),
+        }
+        Ok(())
     }
 }
 
@@ -69,25 +83,41 @@ impl Trial {
         Ok(())
     }
 
-    /// So many blank cells.
-    pub fn blank(&mut self, alloc: Global, count: usize) -> Result<()> {
-        self.cells = vec![in alloc; 0xFF; count.min(MOST)]?;
+    /// So many cells of one byte, in two digits.
+    pub fn fill(&mut self, alloc: Global, count: usize, value: &str) -> Result<()> {
+        let value = u8::from_str_radix(value, 16)?;
+        self.cells = vec![in alloc; value; count.min(MOST)]?;
         Ok(())
     }
 
-    /// Sets each of the first cells to its place modulo 256.
-    pub fn count(&mut self, len: usize) {
+    /// Sets each cell of a range to its place modulo 256.
+    pub fn count(&mut self, at: usize, len: usize) {
         for (place, cell) in self.cells.iter_mut().enumerate() {
-            if place < len {
+            if place >= at && place - at < len {
                 *cell = (place % 256) as u8;
             }
         }
     }
 
-    /// The job file and the cells are the files under two names.
-    pub fn take(&mut self, alloc: Global, job: &str, cells: &str) -> Result<()> {
-        self.job = Vec::from_slice(alloc, self.files.bytes(job)?)?;
-        self.cells = Vec::from_slice(alloc, self.files.bytes(cells)?)?;
+    /// Sets cells.
+    pub fn set(&mut self, at: usize, bytes: &[u8]) {
+        lay(&mut self.cells, at, bytes);
+    }
+
+    /// Lets the call of this number on an object fail.
+    pub fn fail(&mut self, object: &str, number: u64) -> Result<()> {
+        self.fails.set(object, number)
+    }
+
+    /// The job file is the file under a name.
+    pub fn take_job(&mut self, alloc: Global, name: &str) -> Result<()> {
+        self.job = Vec::from_slice(alloc, self.files.bytes(name)?)?;
+        Ok(())
+    }
+
+    /// The cells are the file under a name.
+    pub fn take_cells(&mut self, alloc: Global, name: &str) -> Result<()> {
+        self.cells = Vec::from_slice(alloc, self.files.bytes(name)?)?;
         Ok(())
     }
 
