@@ -3,7 +3,7 @@ use Rattle.std.proofs.lemmas.List.{length-take}
 use Rattle.readback.specs.declared.compare.Difference.{Difference}
 use Rattle.flash_session.specs.Differs.{FindsIn}
 use Rattle.flash_session.proofs.JobLemmas.{goal_length}
-use Rattle.gang_target.specs.declared.ending.TargetEnd.TheVariants as ended
+use Rattle.gang_target.specs.declared.target_end.TargetEnd.TheVariants as ended
 use Rattle.gang_target.specs.Targets.{goal_for}
 use Rattle.gang_target.proofs.FitLemmas.{one_counted, none_counted}
 use Rattle.gang_target.proofs.UnreadLemmas.{device_of_device, store_of_device, device_of_store, store_of_store}

@@ -1,5 +1,5 @@
 use Rattle.std.proofs.Common.{Bool, subst}
-use Rattle.gang_target.specs.declared.cursor.Phase.TheVariants as stage
+use Rattle.flash_session.specs.declared.script.Phase.TheVariants as stage
 use Rattle.gang_target.specs.Steps.{has_phase}
 use Rattle.gang_target.proofs.StepLemmas.{phase_here, phase_none}
 use Rattle.gang_target.proofs.target.GangTarget.from_verify.Goals as goal

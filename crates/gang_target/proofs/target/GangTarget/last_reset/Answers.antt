@@ -1,5 +1,5 @@
 use Rattle.std.proofs.Common.{refl}
-use Rattle.gang_target.specs.declared.ending.TargetEnd.TheVariants as ended
+use Rattle.gang_target.specs.declared.target_end.TargetEnd.TheVariants as ended
 use Rattle.gang_target.proofs.TakesLemmas.{resets_so, ends_so}
 use Rattle.gang_target.proofs.TurnMade.{last_turn, reset_broken}
 use Rattle.gang_target.proofs.target.GangTarget.last_reset.Goals as goal

@@ -1,6 +1,6 @@
 use Rattle.std.proofs.Common.{◌∙◌, ◌≤◌, ℕ, List, length, refl, sym, ap, subst}
 use Rattle.flash_session.proofs.ReadLemmas.{kept_items}
-use Rattle.gang_target.specs.declared.ending.TargetEnd.TheVariants as ended
+use Rattle.gang_target.specs.declared.target_end.TargetEnd.TheVariants as ended
 use Rattle.gang_target.proofs.TakesLemmas.{prepares_so, ends_so}
 use Rattle.gang_target.proofs.TurnMade.{ready_turn, prepare_unread}
 use Rattle.gang_target.proofs.target.GangTarget.prepare.Goals as goal
