@@ -17,14 +17,6 @@ use Rattle.job_commands.proofs.carry.finish.Goals as goal
 pub returns-in-Mismatch-clause-sound : goal.returns-in-Mismatch-clause-sound
 returns-in-Mismatch-clause-sound g c = c.in-Mismatch.ensures.sound.1
 
-pub returns-in-Ok-clause-prints : goal.returns-in-Ok-clause-prints
-returns-in-Ok-clause-prints g c = record { taken = c.in_ok-put_end.ensures.ok; faults = c.in_ok-put_end.ensures.cause.on_ok refl }
-
-pub returns-in_err-put_end-clause-prints : goal.returns-in_err-put_end-clause-prints
-returns-in_err-put_end-clause-prints g c =
-    let is = err_from_is_err_and c.from_residual.result c.from_residual.ensures.1 in
-    rw (is.1, is.2) (record { taken = c.in_err-put_end.ensures.err; later = c.in_err-put_end.ensures.cause.later; rose = c.in_err-put_end.ensures.cause.on_fault refl })
-
 pub returns-in-CallFailed-clause-sound : goal.returns-in-CallFailed-clause-sound
 returns-in-CallFailed-clause-sound g c = c.in-CallFailed.ensures.sound
 
@@ -50,15 +42,15 @@ returns-in-StoreFault-clause-told g c = λ told goal stands has.
     ends_unread g.B.Bench.tells g.O.Sink.tells told (job_in c.args.session.now) goal (g.B.Bench.state c.args.bench.now) (g.B.Bench.state c.go.new.bench)
     (g.O.Sink.state c.args.out.now) stands (c.requires.only told) c.go.ensures.file (surveyed c.args.session.now) has (c.go.ensures.local told) (c.in-StoreFault.ensures.follows told)
 
-pub returns-in-Ok-clause-told : goal.returns-in-Ok-clause-told
-returns-in-Ok-clause-told g c = λ told goal stands has.
+pub returns-in_ok-put_end-in-Ok-clause-told : goal.returns-in_ok-put_end-in-Ok-clause-told
+returns-in_ok-put_end-in-Ok-clause-told g c = λ told goal stands has.
     ends_done g.B.Bench.tells g.O.Sink.tells told (job_in c.args.session.now) goal (g.B.Bench.state c.args.bench.now) (g.B.Bench.state c.go.new.bench)
     (g.O.Sink.state c.args.out.now) stands (c.requires.only told) c.go.ensures.file (surveyed c.args.session.now) has (c.go.ensures.local told) (g.B.Bench.state c.close.new.bench) c.in-Reached.reached
     (c.in-Reached.ensures.follows told) (c.in-Reached.ensures.idle told tt) c.close.ensures.cells (closed_as (g.B.Bench.state c.go.new.bench) (g.B.Bench.state c.close.new.bench) (job_in c.go.new.self) (job_in c.args.session.now) (surveyed c.go.new.self) (surveyed c.args.session.now) c.go.ensures.job c.go.ensures.work (c.close.ensures.pairs told))
     (g.O.Sink.state c.put_end.new.out) (c.in-Ok.ensures.ok told).0 (record { taken = c.in_ok-put_end.ensures.ok; faults = c.in_ok-put_end.ensures.cause.on_ok refl })
 
-pub returns-in_err-put_end-clause-told : goal.returns-in_err-put_end-clause-told
-returns-in_err-put_end-clause-told g c =
+pub returns-in_err-put_end-in-Ok-clause-told : goal.returns-in_err-put_end-in-Ok-clause-told
+returns-in_err-put_end-in-Ok-clause-told g c =
     let is = err_from_is_err_and c.from_residual.result c.from_residual.ensures.1 in
     rw (is.1, is.2) (λ told goal stands has. ends_cut g.B.Bench.tells g.O.Sink.tells told (job_in c.args.session.now) goal (g.B.Bench.state c.args.bench.now) (g.B.Bench.state c.go.new.bench)
     (g.O.Sink.state c.args.out.now) stands (c.requires.only told) c.go.ensures.file (surveyed c.args.session.now) has (c.go.ensures.local told) (g.B.Bench.state c.close.new.bench) c.in-Reached.reached
