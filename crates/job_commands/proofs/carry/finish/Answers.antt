@@ -47,7 +47,7 @@ returns-in_ok-put_end-in-Ok-clause-told g c = λ told goal stands has.
     ends_done g.B.Bench.tells g.O.Sink.tells told (job_in c.args.session.now) goal (g.B.Bench.state c.args.bench.now) (g.B.Bench.state c.go.new.bench)
     (g.O.Sink.state c.args.out.now) stands (c.requires.only told) c.go.ensures.file (surveyed c.args.session.now) has (c.go.ensures.local told) (g.B.Bench.state c.close.new.bench) c.in-Reached.reached
     (c.in-Reached.ensures.follows told) (c.in-Reached.ensures.idle told tt) c.close.ensures.cells (closed_as (g.B.Bench.state c.go.new.bench) (g.B.Bench.state c.close.new.bench) (job_in c.go.new.self) (job_in c.args.session.now) (surveyed c.go.new.self) (surveyed c.args.session.now) c.go.ensures.job c.go.ensures.work (c.close.ensures.pairs told))
-    (g.O.Sink.state c.put_end.new.out) (c.in-Ok.ensures.ok told).0 (record { taken = c.in_ok-put_end.ensures.ok; faults = c.in_ok-put_end.ensures.cause.on_ok refl })
+    (g.O.Sink.state c.put_end.new.out) (c.in-Ok.ensures.ok told).0 (record { taken = c.in_ok-put_end-in-Ok.ensures.ok; faults = c.in_ok-put_end-in-Ok.ensures.cause.on_ok refl })
 
 pub returns-in_err-put_end-in-Ok-clause-told : goal.returns-in_err-put_end-in-Ok-clause-told
 returns-in_err-put_end-in-Ok-clause-told g c =
@@ -56,7 +56,7 @@ returns-in_err-put_end-in-Ok-clause-told g c =
     (g.O.Sink.state c.args.out.now) stands (c.requires.only told) c.go.ensures.file (surveyed c.args.session.now) has (c.go.ensures.local told) (g.B.Bench.state c.close.new.bench) c.in-Reached.reached
     (c.in-Reached.ensures.follows told) (c.in-Reached.ensures.idle told tt) c.close.ensures.cells (closed_as (g.B.Bench.state c.go.new.bench) (g.B.Bench.state c.close.new.bench) (job_in c.go.new.self) (job_in c.args.session.now) (surveyed c.go.new.self) (surveyed c.args.session.now) c.go.ensures.job c.go.ensures.work (c.close.ensures.pairs told))
     (g.O.Sink.state c.put_end.new.out) (c.in-Ok.ensures.ok told).0
-    (record { taken = c.in_err-put_end.ensures.err; later = c.in_err-put_end.ensures.cause.later; rose = c.in_err-put_end.ensures.cause.on_fault refl }))
+    (record { taken = c.in_err-put_end-in-Ok.ensures.err; later = c.in_err-put_end-in-Ok.ensures.cause.later; rose = c.in_err-put_end-in-Ok.ensures.cause.on_fault refl }))
 
 pub returns-in-Err-clause-told : goal.returns-in-Err-clause-told
 returns-in-Err-clause-told g c = λ told goal stands has.
