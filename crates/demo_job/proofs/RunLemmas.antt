@@ -93,9 +93,12 @@ done_laid seed t fresh lost after is_fresh is base cells from =
     (left_pair seed t fresh lost is)
 
 -- status 0 is nothing else than done
+no_zero : (reason : Reason) → status_of reason ≡ 0 → ⊥
+no_zero reason is = omega (arith, some_status reason, is)
+
 pub zero_done : (end : Option Refusal) → status_in end ≡ 0 → answer_in end ≡ done
 zero_done None is = refl
-zero_done (Some r) is = absurd (omega (arith, some_status _, is))
+zero_done (Some r) is = absurd (no_zero _ is)
 
 pub status_at : Answer → ℕ
 status_at done = 0
