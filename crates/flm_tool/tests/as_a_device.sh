@@ -12,22 +12,8 @@ tests=$(realpath tests) || exit 1
 folder=$(mktemp -d) || exit 1
 cd "$folder" || exit 1
 . "$tests/device.sh"
-right=0
-wrong=0
+. "$tests/rows.sh"
 size=65536
-
-# Counts a row: NAME, and whether it is as wanted (0).
-row() {
-    if [ "$2" = 0 ]; then
-        right=$((right + 1))
-    else
-        wrong=$((wrong + 1))
-        echo "wrong: $1"
-    fi
-}
-
-# Whether two files are the same: 0.
-same() { cmp -s "$1" "$2"; echo $?; }
 
 # New cells, all used, an image at some place, and what they come to: AT BYTES.
 begin() {

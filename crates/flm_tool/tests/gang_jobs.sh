@@ -1,5 +1,6 @@
 # What the scripts on gangs share: a board, the algorithm at hand for it, and devices with a job that is begun on each. A script reads it in, in a
-# folder of its own, with `program` set to the built program and `small` to the folder crates/file_jobs/data.
+# folder of its own, with `program` set to the built program, `small` to the folder crates/file_jobs/data and `tests` to this one.
+. "$tests/rows.sh"
 
 # So many random bytes.
 random_bytes() { head -c "$1" /dev/urandom; }
@@ -48,23 +49,6 @@ pairs() {
         words+=("job.$number" "cells.$number")
     done
 }
-
-# What was as wanted, and what wasn't.
-right=0
-wrong=0
-
-# Counts a row: NAME, and whether it is as wanted (0).
-row() {
-    if [ "$2" = 0 ]; then
-        right=$((right + 1))
-    else
-        wrong=$((wrong + 1))
-        echo "wrong: $1"
-    fi
-}
-
-# Whether two files are the same: 0.
-same() { cmp -s "$1" "$2"; echo $?; }
 
 # Whether a device's job file is the one that was begun, with its first byte made 0: NUMBER.
 is_closed() {

@@ -16,23 +16,10 @@ step=${4:-1}
 command=${5:-program}
 data=$(realpath ../session_vectors/data) || exit 1
 small=$(realpath ../file_jobs/data) || exit 1
+tests=$(realpath tests) || exit 1
 folder=$(mktemp -d) || exit 1
 cd "$folder" || exit 1
-right=0
-wrong=0
-
-# Counts a row: NAME, and whether it is as wanted (0).
-row() {
-    if [ "$2" = 0 ]; then
-        right=$((right + 1))
-    else
-        wrong=$((wrong + 1))
-        echo "wrong: $1"
-    fi
-}
-
-# Whether two files are the same: 0.
-same() { cmp -s "$1" "$2"; echo $?; }
+. "$tests/rows.sh"
 
 # Whether the job file is free: 0.
 free() {

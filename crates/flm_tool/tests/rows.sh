@@ -1,0 +1,17 @@
+# What the scripts on whole devices count: rows that are as wanted, and rows that aren't. A script reads it in.
+
+right=0
+wrong=0
+
+# Counts a row: NAME, and whether it is as wanted (0).
+row() {
+    if [ "$2" = 0 ]; then
+        right=$((right + 1))
+    else
+        wrong=$((wrong + 1))
+        echo "wrong: $1"
+    fi
+}
+
+# Whether two files are the same: 0.
+same() { cmp -s "$1" "$2"; echo $?; }
