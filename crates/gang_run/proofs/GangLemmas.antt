@@ -1,8 +1,8 @@
 -- Turns of several targets, one after the other.
-use Rattle.std.proofs.Common.{◌≡◌, ◌≢◌, ◌<◌, ◌≤◌, ◌+◌, ◌∙◌, ◌↔◌, ◌⊎◌, inl, inr, ⊎_elim, ℕ, Bool, true, false, IsTrue, List, [], ◌++◌, length, get_or, set, Option, Some, None, refl, sym, ap, subst, arith, append_assoc}
+use Rattle.std.proofs.Common.{◌≡◌, ◌≢◌, ◌<◌, ◌≤◌, ◌+◌, ◌∙◌, ◌↔◌, ◌⊎◌, inl, inr, ⊎_elim, ℕ, Bool, true, false, IsTrue, List, [], ◌∷◌, ◌++◌, length, get_or, set, take, Option, Some, None, refl, sym, ap, subst, arith, append_assoc}
 use Rattle.std.specs.Borrow.{Bor}
 use Rattle.std.specs.List.{sum_by}
-use Rattle.std.proofs.lemmas.List.{get_or-set_other, get_or-set_same, length-set, get_or_read}
+use Rattle.std.proofs.lemmas.List.{get_or-set_other, get_or-set_same, length-set, get_or_read, take_more}
 use Rattle.std.proofs.lemmas.List.Sums.{sum_by-set}
 use Rattle.std.proofs.lemmas.Bool.{cases_lt, cases_eq}
 use Rattle.bench_model.specs.declared.bench.Bench.{Ghosts}
@@ -44,11 +44,12 @@ use Rattle.gang_target.proofs.AloneLemmas.{goes_here, ends_alone}
 use Rattle.gang_target.proofs.FitLemmas.{goal_same}
 use Rattle.gang_target.proofs.GuardLemmas.{over_going, guarded_here, guarded_then, same_file}
 use Rattle.gang_target.proofs.MachineLemmas.{same_here, same_then, legs_same}
+use Rattle.gang_run.specs.declared.gang.Asked.{Asked}
 use Rattle.gang_run.specs.declared.gang.Gang.{Gang}
 use Rattle.gang_run.specs.declared.slot.Slot.{Slot}
 use Rattle.gang_run.specs.declared.slot.Slot.TheVariants as slot
 use Rattle.gang_run.specs.Alone.{EndsAlone}
-use Rattle.gang_run.specs.Gangs.{slot_at, OtherWindow, IsGang, gang_togo, AreReady, SameWindow, OneTurn, AllSince, AllKept, Playing, Rounding}
+use Rattle.gang_run.specs.Gangs.{slot_at, OtherWindow, IsGang, gang_togo, AreReady, SameWindow, OneTurn, GivesTurn, GivesTurns, AllSince, AllKept, Playing, Rounding}
 use Rattle.gang_run.specs.Slots.{slot_turn, slot_togo, place_end, slot_end, IsRefusal, EndsByScript, IsSlot, IsSlotJob, HasJob, Ready, IsReady, SlotGoes, SlotTurns, SlotTakes, Counts, TargetKept, SlotKept, SlotStands, TargetSince, SlotSince}
 
 -- ---- one target
@@ -554,6 +555,19 @@ playing_on G old mid new benches between after target law was turn gang ready = 
 pub playing_here : {B : Type 0} (G : Ghosts B) (g : Gang) (benches : List B) → Law G
     → IsGang g → length benches ≡ length g.slots.items → AreReady G g benches → Playing G g benches g benches
 playing_here G g benches law gang places ready = record { gang = gang; places = places; count = refl; ready = ready; since = since_here G g benches law ready; kept = kept_here G g benches }
+
+-- with one turn more behind them
+gives_then : {B : Type 0} (G : Ghosts B) (asked : List Asked) (next : Asked) (old mid new : Gang) (benches between after : List B) → GivesTurns G asked old benches mid between → GivesTurn G next mid between new after
+    → GivesTurns G (asked ++ next ∷ []) old benches new after
+gives_then {B} G [] next old mid new benches between after was one =
+    (new, after, subst (λ (g : Gang). GivesTurn G next g benches new after) was.0 (subst (λ (b : List B). GivesTurn G next mid b new after) was.1 one), (refl, refl))
+gives_then G (first ∷ rest) next old mid new benches between after was one = (was.0, was.1, was.2, gives_then G rest next was.0 mid new was.1 between after was.3 one)
+
+-- with the next of those that are asked for
+pub gives_on : {B : Type 0} (G : Ghosts B) (asked : List Asked) (i : ℕ) (d : Asked) (old mid new : Gang) (benches between after : List B) → i < length asked → GivesTurns G (take i asked) old benches mid between
+    → GivesTurn G (get_or asked i d) mid between new after → GivesTurns G (take (i + 1) asked) old benches new after
+gives_on G asked i d old mid new benches between after less was one =
+    subst (λ (l : List Asked). GivesTurns G l old benches new after) (sym (take_more asked i d less)) (gives_then G (take i asked) (get_or asked i d) old mid new benches between after was one)
 
 -- ---- a round
 

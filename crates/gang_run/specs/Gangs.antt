@@ -1,5 +1,5 @@
 -- A gang: its windows, its benches, and what turns do to them.
-use Rattle.std.specs.Prelude.{◌≡◌, ◌≢◌, ◌<◌, ◌≤◌, ℕ, Bool, true, false, IsTrue, List, [], length, get_or}
+use Rattle.std.specs.Prelude.{◌≡◌, ◌≢◌, ◌<◌, ◌≤◌, ℕ, Bool, true, false, IsTrue, List, [], ◌∷◌, length, get_or}
 use Rattle.std.specs.List.{sum_by}
 use Rattle.bench_model.specs.declared.bench.Bench.{Ghosts}
 use Rattle.flash_session.specs.declared.fault.SurveyFault.TheVariants as survey
@@ -7,10 +7,11 @@ use Rattle.flash_session.specs.Moves.{Move, Stand}
 use Rattle.target_core.specs.Windows.{window_of}
 use Rattle.gang_target.specs.declared.target_end.TargetEnd.TheVariants as ended
 use Rattle.gang_target.specs.declared.target_end.Turn.TheVariants as turn
+use Rattle.gang_run.specs.declared.gang.Asked.{Asked}
 use Rattle.gang_run.specs.declared.gang.Gang.{Gang}
 use Rattle.gang_run.specs.declared.slot.Slot.{Slot}
 use Rattle.gang_run.specs.declared.slot.Slot.TheVariants as slot
-use Rattle.gang_run.specs.Slots.{slot_turn, slot_togo, IsSlot, IsReady, SlotTurns, SlotKept, SlotStands, SlotSince}
+use Rattle.gang_run.specs.Slots.{slot_turn, slot_togo, IsSlot, IsReady, SlotTurns, SlotTakes, SlotKept, SlotStands, SlotSince}
 
 -- the place of a target; past the last one, one that was refused
 abbrev pub slot_at : Gang → ℕ → Slot
@@ -50,6 +51,18 @@ pub record OneTurn {B : Type 0} (G : Ghosts B) (target : ℕ) (old : Gang) (benc
   pub over : slot_turn (slot_at old target) ≡ turn.Ended → slot_turn (slot_at new target) ≡ turn.Ended
   pub nearer : slot_turn (slot_at old target) ≡ turn.More → gang_togo new < gang_togo old
   pub no_further : gang_togo new ≤ gang_togo old
+
+-- the turn that is asked for: that target's, of so many steps at most
+pub record GivesTurn {B : Type 0} (G : Ghosts B) (asked : Asked) (old : Gang) (benches : List B) (new : Gang) (benches' : List B) : Type 0 where
+  pub turn : OneTurn G asked.target old benches new benches'
+  pub takes : (d : B) → SlotTakes G.tells asked.steps (slot_at old asked.target) old.arena (G.state (get_or benches asked.target d))
+      (slot_at new asked.target) new.arena (G.state (get_or benches' asked.target d))
+
+-- the turns that are asked for, each once and in this order, and no others
+abbrev pub GivesTurns : {B : Type 0} → Ghosts B → List Asked → Gang → List B → Gang → List B → Type 0
+GivesTurns G [] old benches new benches' = (new ≡ old) × (benches' ≡ benches)
+GivesTurns {B} G (next ∷ rest) old benches new benches' = (mid : Gang) × (between : List B) × GivesTurn G next old benches mid between
+    × GivesTurns G rest mid between new benches'
 
 -- Each target went on from where it stood, over its own bench.
 abbrev pub AllSince : {B : Type 0} → Ghosts B → Gang → List B → Gang → List B → Type 0

@@ -1,6 +1,6 @@
 //! A gang of targets.
 ghost use Rattle.std.specs.Prelude.{◌≡◌, ◌<◌, ◌≤◌, ℕ, List, All, true, false, length, get_or, IfOk};
-ghost use Rattle.gang_run.specs.Gangs.{slot_at, IsGang, AreReady, OneTurn, AllSince, AllKept, Playing, gang_togo};
+ghost use Rattle.gang_run.specs.Gangs.{slot_at, IsGang, AreReady, OneTurn, GivesTurns, AllSince, AllKept, Playing, gang_togo};
 ghost use Rattle.gang_run.specs.Opening.{AreOpened, AreLookedAt};
 ghost use Rattle.gang_run.specs.Slots.{slot_turn, SlotTakes, IsSlotEnd, IsSlotJob};
 ghost use Rattle.gang_run.specs.declared.gang.Gang.{Gang};
@@ -105,6 +105,7 @@ impl Gang {
         ensures ready { AreReady B.Bench self.new benches.new }
         ensures count { length benches.new ≡ length benches.old }
         ensures places { length benches.new ≡ length self.new.slots.items }
+        ensures gives { GivesTurns B.Bench asked.now self.old benches.old self.new benches.new }
     {
         for next in asked {
             self.turn(benches, next.target, next.steps);
