@@ -14,7 +14,7 @@ loop-next-init g c = record {
 pub loop-next-preserved : goal.loop-next-preserved
 loop-next-preserved g c = record {
   playing = playing_on g.B.Bench c.args.self.now c.loop-next.self c.turn.new.self c.args.benches.now c.loop-next.benches c.turn.new.benches _ (λ bench x told. g.met.B.Bench.as_told bench x told) c.loop-next.invariant.playing c.turn.ensures.turn c.turn.ensures.gang c.turn.ensures.ready;
-  gives = gives_on g.B.Bench c.args.asked.now c.loop-next.next-index (record { target = 0; steps = 0 }) c.args.self.now c.loop-next.self c.turn.new.self c.args.benches.now c.loop-next.benches c.turn.new.benches c.loop-next-test.true c.loop-next.invariant.gives
+  gives = gives_on g.B.Bench c.args.asked.now c.loop-next.next-index (record { target = 0; steps = 0 }) c.args.self.now c.loop-next.self c.turn.new.self c.args.benches.now c.loop-next.benches c.turn.new.benches (omega arith) c.loop-next.invariant.gives
       (record { turn = c.turn.ensures.turn; takes = c.turn.ensures.one });
 }
 
