@@ -1,5 +1,5 @@
 -- Turns of several targets, one after the other.
-use Rattle.std.proofs.Common.{◌≡◌, ◌≢◌, ◌<◌, ◌≤◌, ◌+◌, ◌∙◌, ◌↔◌, ◌⊎◌, inl, inr, ⊎_elim, ℕ, Bool, true, false, IsTrue, List, [], ◌∷◌, ◌++◌, length, get_or, set, take, Option, Some, None, refl, sym, ap, subst, arith, append_assoc}
+use Rattle.std.proofs.Common.{◌≡◌, ◌≢◌, ◌<◌, ◌≤◌, ◌+◌, ◌∙◌, ◌↔◌, ◌⊎◌, inl, inr, ⊎_elim, ℕ, suc, Bool, true, false, IsTrue, List, [], ◌∷◌, ◌++◌, length, get_or, set, take, Option, Some, None, refl, sym, ap, subst, arith, append_assoc}
 use Rattle.std.specs.Borrow.{Bor}
 use Rattle.std.specs.List.{sum_by}
 use Rattle.std.proofs.lemmas.List.{get_or-set_other, get_or-set_same, length-set, get_or_read, take_more}
@@ -49,7 +49,7 @@ use Rattle.gang_run.specs.declared.gang.Gang.{Gang}
 use Rattle.gang_run.specs.declared.slot.Slot.{Slot}
 use Rattle.gang_run.specs.declared.slot.Slot.TheVariants as slot
 use Rattle.gang_run.specs.Alone.{EndsAlone}
-use Rattle.gang_run.specs.Gangs.{slot_at, OtherWindow, IsGang, gang_togo, AreReady, SameWindow, OneTurn, GivesTurn, GivesTurns, AllSince, AllKept, Playing, Rounding}
+use Rattle.gang_run.specs.Gangs.{slot_at, OtherWindow, IsGang, gang_togo, AreReady, SameWindow, OneTurn, GivesTurn, GivesTurns, GivesRounds, one_round, rounds_of, AllSince, AllKept, Playing, Rounding}
 use Rattle.gang_run.specs.Slots.{slot_turn, slot_togo, place_end, slot_end, IsRefusal, EndsByScript, IsSlot, IsSlotJob, HasJob, Ready, IsReady, SlotGoes, SlotTurns, SlotTakes, Counts, TargetKept, SlotKept, SlotStands, TargetSince, SlotSince}
 
 -- ---- one target
@@ -556,12 +556,17 @@ pub playing_here : {B : Type 0} (G : Ghosts B) (g : Gang) (benches : List B) →
     → IsGang g → length benches ≡ length g.slots.items → AreReady G g benches → Playing G g benches g benches
 playing_here G g benches law gang places ready = record { gang = gang; places = places; count = refl; ready = ready; since = since_here G g benches law ready; kept = kept_here G g benches }
 
+-- with others behind them
+gives_both : {B : Type 0} (G : Ghosts B) (asked more : List Asked) (old mid new : Gang) (benches between after : List B) → GivesTurns G asked old benches mid between → GivesTurns G more mid between new after
+    → GivesTurns G (asked ++ more) old benches new after
+gives_both {B} G [] more old mid new benches between after was then =
+    subst (λ (g : Gang). GivesTurns G more g benches new after) was.0 (subst (λ (b : List B). GivesTurns G more mid b new after) was.1 then)
+gives_both G (first ∷ rest) more old mid new benches between after was then = (was.0, was.1, was.2, gives_both G rest more was.0 mid new was.1 between after was.3 then)
+
 -- with one turn more behind them
-gives_then : {B : Type 0} (G : Ghosts B) (asked : List Asked) (next : Asked) (old mid new : Gang) (benches between after : List B) → GivesTurns G asked old benches mid between → GivesTurn G next mid between new after
+pub gives_then : {B : Type 0} (G : Ghosts B) (asked : List Asked) (next : Asked) (old mid new : Gang) (benches between after : List B) → GivesTurns G asked old benches mid between → GivesTurn G next mid between new after
     → GivesTurns G (asked ++ next ∷ []) old benches new after
-gives_then {B} G [] next old mid new benches between after was one =
-    (new, after, subst (λ (g : Gang). GivesTurn G next g benches new after) was.0 (subst (λ (b : List B). GivesTurn G next mid b new after) was.1 one), (refl, refl))
-gives_then G (first ∷ rest) next old mid new benches between after was one = (was.0, was.1, was.2, gives_then G rest next was.0 mid new was.1 between after was.3 one)
+gives_then G asked next old mid new benches between after was one = gives_both G asked (next ∷ []) old mid new benches between after was (new, after, one, (refl, refl))
 
 -- with the next of those that are asked for
 pub gives_on : {B : Type 0} (G : Ghosts B) (asked : List Asked) (i : ℕ) (d : Asked) (old mid new : Gang) (benches between after : List B) → i < length asked → GivesTurns G (take i asked) old benches mid between
@@ -617,6 +622,14 @@ round_on {B} G old mid new benches between after target before now t law was one
       where
         below : (i : ℕ) → i < target + 1 → i ≢ target → i < target
         below i less other = ⊎_elim (λ (l : i < target). l) (λ (l : target ≤ i). absurd (other (omega (arith, l, less)))) (cases_lt i target)
+
+-- one round more
+pub round_more : {B : Type 0} (G : Ghosts B) (steps : ℕ) (old mid new : Gang) (benches between after : List B) → length between ≡ length benches → GivesRounds G steps old benches mid between
+    → GivesTurns G (one_round steps (length between)) mid between new after → GivesRounds G steps old benches new after
+round_more G steps old mid new benches between after count was round = (
+  suc was.0,
+  gives_both G (rounds_of steps (length benches) was.0) (one_round steps (length benches)) old mid new benches between after was.1 (subst (λ (n : ℕ). GivesTurns G (one_round steps n) mid between new after) count round),
+)
 
 -- ---- a target that has ended
 

@@ -1,5 +1,5 @@
 -- A gang: its windows, its benches, and what turns do to them.
-use Rattle.std.specs.Prelude.{◌≡◌, ◌≢◌, ◌<◌, ◌≤◌, ℕ, Bool, true, false, IsTrue, List, [], ◌∷◌, length, get_or}
+use Rattle.std.specs.Prelude.{◌≡◌, ◌≢◌, ◌<◌, ◌≤◌, ℕ, zero, suc, Bool, true, false, IsTrue, List, [], ◌∷◌, ◌++◌, length, get_or}
 use Rattle.std.specs.List.{sum_by}
 use Rattle.bench_model.specs.declared.bench.Bench.{Ghosts}
 use Rattle.flash_session.specs.declared.fault.SurveyFault.TheVariants as survey
@@ -63,6 +63,20 @@ abbrev pub GivesTurns : {B : Type 0} → Ghosts B → List Asked → Gang → Li
 GivesTurns G [] old benches new benches' = (new ≡ old) × (benches' ≡ benches)
 GivesTurns {B} G (next ∷ rest) old benches new benches' = (mid : Gang) × (between : List B) × GivesTurn G next old benches mid between
     × GivesTurns G rest mid between new benches'
+
+-- the turns of a round: one of each target below the count in order, each of so many steps at most
+abbrev pub one_round : ℕ → ℕ → List Asked
+one_round steps zero = []
+one_round steps (suc count) = one_round steps count ++ record { target = count; steps = steps } ∷ []
+
+-- the turns of so many rounds
+abbrev pub rounds_of : ℕ → ℕ → ℕ → List Asked
+rounds_of steps count zero = []
+rounds_of steps count (suc rounds) = rounds_of steps count rounds ++ one_round steps count
+
+-- turns by whole rounds
+abbrev pub GivesRounds : {B : Type 0} → Ghosts B → ℕ → Gang → List B → Gang → List B → Type 0
+GivesRounds G steps old benches new benches' = (rounds : ℕ) × GivesTurns G (rounds_of steps (length benches) rounds) old benches new benches'
 
 -- Each target went on from where it stood, over its own bench.
 abbrev pub AllSince : {B : Type 0} → Ghosts B → Gang → List B → Gang → List B → Type 0

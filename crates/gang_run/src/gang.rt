@@ -1,6 +1,6 @@
 //! A gang of targets.
 ghost use Rattle.std.specs.Prelude.{◌≡◌, ◌<◌, ◌≤◌, ℕ, List, All, true, false, length, get_or, IfOk};
-ghost use Rattle.gang_run.specs.Gangs.{slot_at, IsGang, AreReady, OneTurn, GivesTurns, AllSince, AllKept, Playing, gang_togo};
+ghost use Rattle.gang_run.specs.Gangs.{slot_at, IsGang, AreReady, OneTurn, GivesTurns, GivesRounds, one_round, AllSince, AllKept, Playing, gang_togo};
 ghost use Rattle.gang_run.specs.Opening.{AreOpened, AreLookedAt};
 ghost use Rattle.gang_run.specs.Slots.{slot_turn, SlotTakes, IsSlotEnd, IsSlotJob};
 ghost use Rattle.gang_run.specs.declared.gang.Gang.{Gang};
@@ -119,6 +119,7 @@ impl Gang {
         requires steps { 1 ≤ steps }
         requires ready { AreReady B.Bench self.old benches.old }
         ensures plays { (g : Gang) (first : List B) → Playing B.Bench g first self.old benches.old → Playing B.Bench g first self.new benches.new }
+        ensures gives { GivesTurns B.Bench (one_round steps (length benches.old)) self.old benches.old self.new benches.new }
         ensures gang { IsGang self.new }
         ensures ready { AreReady B.Bench self.new benches.new }
         ensures count { length benches.new ≡ length benches.old }
@@ -141,6 +142,7 @@ impl Gang {
         requires ready { AreReady B.Bench self.old benches.old }
         ensures since { AllSince B.Bench self.old benches.old self.new benches.new }
         ensures kept { AllKept B.Bench self.old benches.old self.new benches.new }
+        ensures gives { GivesRounds B.Bench steps self.old benches.old self.new benches.new }
         ensures gang { IsGang self.new }
         ensures count { length benches.new ≡ length benches.old }
         ensures places { length benches.new ≡ length self.new.slots.items }

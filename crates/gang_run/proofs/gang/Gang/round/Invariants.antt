@@ -1,5 +1,8 @@
-use Rattle.gang_run.specs.Gangs.{Rounding}
+use Rattle.gang_run.specs.Gangs.{Rounding, GivesTurns, one_round}
 use Rattle.gang_run.proofs.gang.Gang.round.Given as goal
 
 abbrev pub invariant-loop-target : goal.invariant-loop-target
-invariant-loop-target g l = Rounding g.B.Bench l.fn.self l.fn.benches l.self l.benches l.target l.goes_on
+invariant-loop-target g l = record {
+  rounding : Rounding g.B.Bench l.fn.self l.fn.benches l.self l.benches l.target l.goes_on;
+  gives : GivesTurns g.B.Bench (one_round l.steps l.target) l.fn.self l.fn.benches l.self l.benches;
+}
