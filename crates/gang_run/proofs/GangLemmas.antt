@@ -564,7 +564,7 @@ gives_both {B} G [] more old mid new benches between after was then =
 gives_both G (first ∷ rest) more old mid new benches between after was then = (was.0, was.1, was.2, gives_both G rest more was.0 mid new was.1 between after was.3 then)
 
 -- with one turn more behind them
-pub gives_then : {B : Type 0} (G : Ghosts B) (asked : List Asked) (next : Asked) (old mid new : Gang) (benches between after : List B) → GivesTurns G asked old benches mid between → GivesTurn G next mid between new after
+gives_then : {B : Type 0} (G : Ghosts B) (asked : List Asked) (next : Asked) (old mid new : Gang) (benches between after : List B) → GivesTurns G asked old benches mid between → GivesTurn G next mid between new after
     → GivesTurns G (asked ++ next ∷ []) old benches new after
 gives_then G asked next old mid new benches between after was one = gives_both G asked (next ∷ []) old mid new benches between after was (new, after, one, (refl, refl))
 
@@ -622,6 +622,13 @@ round_on {B} G old mid new benches between after target before now t law was one
       where
         below : (i : ℕ) → i < target + 1 → i ≢ target → i < target
         below i less other = ⊎_elim (λ (l : i < target). l) (λ (l : target ≤ i). absurd (other (omega (arith, l, less)))) (cases_lt i target)
+
+-- one turn more of a round
+pub round_then : {B : Type 0} (G : Ghosts B) (steps target : ℕ) (old mid new : Gang) (benches between after : List B) → GivesTurns G (one_round steps target) old benches mid between → GivesTurn G (record { target = target; steps = steps }) mid between new after
+    → GivesTurns G (one_round steps (target + 1)) old benches new after
+round_then G steps target old mid new benches between after was one =
+    let next : suc target ≡ target + 1 = omega arith in
+    subst (λ (n : ℕ). GivesTurns G (one_round steps n) old benches new after) next (gives_then G (one_round steps target) (record { target = target; steps = steps }) old mid new benches between after was one)
 
 -- one round more
 pub round_more : {B : Type 0} (G : Ghosts B) (steps : ℕ) (old mid new : Gang) (benches between after : List B) → length between ≡ length benches → GivesRounds G steps old benches mid between

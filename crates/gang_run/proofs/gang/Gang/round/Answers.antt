@@ -1,6 +1,5 @@
 use Rattle.std.proofs.Common.{refl}
-use Rattle.gang_run.specs.Gangs.{one_round}
-use Rattle.gang_run.proofs.GangLemmas.{round_here, round_on, gives_then}
+use Rattle.gang_run.proofs.GangLemmas.{round_here, round_on, round_then}
 use Rattle.gang_run.proofs.gang.Gang.round.Goals as goal
 
 pub loop-target-init : goal.loop-target-init
@@ -13,6 +12,5 @@ pub loop-target-preserved : goal.loop-target-preserved
 loop-target-preserved g c = record {
   rounding = round_on g.B.Bench c.args.self.now c.loop-target.self c.turn.new.self c.args.benches.now c.loop-target.benches c.turn.new.benches c.loop-target.target c.loop-target.goes_on c.still-goes_on.result c.turn.result (λ bench x told. g.met.B.Bench.as_told bench x told) c.loop-target.invariant.rounding
       c.turn.ensures.turn c.turn.ensures.gang c.turn.ensures.ready c.turn.ensures.result c.still-goes_on.ensures.more c.still-goes_on.ensures.ended;
-  gives = gives_then g.B.Bench (one_round c.args.steps c.loop-target.target) (record { target = c.loop-target.target; steps = c.args.steps }) c.args.self.now c.loop-target.self c.turn.new.self c.args.benches.now c.loop-target.benches c.turn.new.benches c.loop-target.invariant.gives
-      (record { turn = c.turn.ensures.turn; takes = c.turn.ensures.one });
+  gives = round_then g.B.Bench c.args.steps c.loop-target.target c.args.self.now c.loop-target.self c.turn.new.self c.args.benches.now c.loop-target.benches c.turn.new.benches c.loop-target.invariant.gives (record { turn = c.turn.ensures.turn; takes = c.turn.ensures.one });
 }

@@ -1,4 +1,4 @@
-use Rattle.std.proofs.Common.{◌∙◌, false, refl, arith}
+use Rattle.std.proofs.Common.{refl}
 use Rattle.gang_run.proofs.GangLemmas.{playing_here, round_more}
 use Rattle.gang_run.proofs.gang.Gang.run.Goals as goal
 
