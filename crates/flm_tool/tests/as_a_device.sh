@@ -26,12 +26,6 @@ begin() {
     address=$(printf '0x%08X' $((0x08000000 + $1)))
 }
 
-# Whether the job file is free: 0.
-free() {
-    [ ! -s job ] || [ "$(wc -c < job)" = 1 ] || [ "$(head -c 1 job | od -An -tx1 | tr -d ' ')" != a5 ]
-    echo $?
-}
-
 board board.toml 64 1024 || exit 1
 algorithm a1.flm 64 1024 1024 || exit 1
 compiled_algorithm flash.flm 64 1024 256 || exit 1

@@ -5,26 +5,11 @@
 set -u
 program=$(realpath "${1:-out/flm_tool}") || exit 1
 data=$(realpath ../program_vectors/data) || exit 1
+tests=$(realpath tests) || exit 1
 folder=$(mktemp -d) || exit 1
 trap 'rm -rf "$folder"' EXIT
 cd "$folder" || exit 1
-right=0
-wrong=0
-
-# Compares what a run gave with what was wanted: NAME, then wanted and found by turns.
-same() {
-    local name=$1
-    shift
-    while [ $# -ge 2 ]; do
-        if [ "$1" != "$2" ]; then
-            echo "$name: wanted '$1', found '$2'"
-            wrong=$((wrong + 1))
-            return
-        fi
-        shift 2
-    done
-    right=$((right + 1))
-}
+. "$tests/answers.sh"
 
 # A run of the program: the wanted status, standard output and standard error, and then its words.
 run() {

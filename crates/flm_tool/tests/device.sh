@@ -1,5 +1,6 @@
 # What the scripts on whole devices share: boards, flash algorithms, firmware and cells. A script reads it in, in a folder of its own, with
-# `data` set to the folder crates/call_vectors/data. It wants as, ld, gcc and objcopy of arm-none-eabi.
+# `data` set to the folder crates/call_vectors/data and `tests` to this one. It wants as, ld, gcc and objcopy of arm-none-eabi.
+. "$tests/bytes.sh"
 
 # A board: NAME SECTORS SIZE, of so many sectors of so many bytes.
 board() {
@@ -64,9 +65,3 @@ CODE
         -Wl,-Ttext=0x08000008 -Wl,-e,reset -o "$1" "$1.c" &&
         arm-none-eabi-objcopy -O binary -j .vectors -j .text -j .rodata "$1" "$1.bin"
 }
-
-# So many random bytes.
-random_bytes() { head -c "$1" /dev/urandom; }
-
-# Lays the bytes of one file over those of another from a place on: OVER AT INTO.
-lay() { dd status=none if="$1" of="$3" bs=65536 seek="$2" oflag=seek_bytes conv=notrunc; }

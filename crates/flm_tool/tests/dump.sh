@@ -12,18 +12,7 @@ folder=$(mktemp -d) || exit 1
 trap 'rm -rf "$folder"' EXIT
 cd "$folder" || exit 1
 . "$tests/device.sh"
-right=0
-wrong=0
-
-# Counts what was wanted and what was not: NAME WANTED FOUND.
-same() {
-    if [ "$2" = "$3" ]; then
-        right=$((right + 1))
-    else
-        echo "$1: wanted '$2', found '$3'"
-        wrong=$((wrong + 1))
-    fi
-}
+. "$tests/answers.sh"
 
 # Counts a file that is the cells, or isn't: NAME FILE.
 same_cells() {

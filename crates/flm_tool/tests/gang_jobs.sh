@@ -1,18 +1,7 @@
 # What the scripts on gangs share: a board, the algorithm at hand for it, and devices with a job that is begun on each. A script reads it in, in a
 # folder of its own, with `program` set to the built program, `small` to the folder crates/file_jobs/data and `tests` to this one.
 . "$tests/rows.sh"
-
-# So many random bytes.
-random_bytes() { head -c "$1" /dev/urandom; }
-
-# Lays the bytes of one file over those of another from a place on: OVER AT INTO.
-lay() { dd status=none if="$1" of="$3" bs=65536 seek="$2" oflag=seek_bytes conv=notrunc; }
-
-# Puts bytes, given as pairs of digits, into a FILE from an OFFSET on.
-patch() {
-    # shellcheck disable=SC2059
-    printf "$(echo "$3" | sed 's/../\\x&/g')" | dd status=none of="$1" bs=1 seek="$2" conv=notrunc
-}
+. "$tests/bytes.sh"
 
 # The digits of a number's four bytes, the lowest first.
 word() { printf '%08X' "$1" | sed 's/\(..\)\(..\)\(..\)\(..\)/\4\3\2\1/'; }

@@ -20,18 +20,7 @@ tests=$(realpath tests) || exit 1
 folder=$(mktemp -d) || exit 1
 cd "$folder" || exit 1
 . "$tests/rows.sh"
-
-# Whether the job file is free: 0.
-free() {
-    [ ! -s job ] || [ "$(wc -c < job)" = 1 ] || [ "$(head -c 1 job | od -An -tx1 | tr -d ' ')" != a5 ]
-    echo $?
-}
-
-# Puts bytes, given as pairs of digits, into a FILE from an OFFSET on.
-patch() {
-    # shellcheck disable=SC2059
-    printf "$(echo "$3" | sed 's/../\\x&/g')" | dd status=none of="$1" bs=1 seek="$2" conv=notrunc
-}
+. "$tests/bytes.sh"
 
 # A record of Intel HEX, of its bytes but the sum as pairs of digits.
 record() {

@@ -1,4 +1,4 @@
-# What the scripts on whole devices count: rows that are as wanted, and rows that aren't. A script reads it in.
+# What the scripts on whole devices count, rows that are as wanted and rows that aren't, and what they ask of files. A script reads it in.
 
 right=0
 wrong=0
@@ -15,3 +15,9 @@ row() {
 
 # Whether two files are the same: 0.
 same() { cmp -s "$1" "$2"; echo $?; }
+
+# Whether the job file is free: 0.
+free() {
+    [ ! -s job ] || [ "$(wc -c < job)" = 1 ] || [ "$(head -c 1 job | od -An -tx1 | tr -d ' ')" != a5 ]
+    echo $?
+}

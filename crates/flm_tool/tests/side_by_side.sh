@@ -8,27 +8,12 @@ set -u
 program=$(realpath "${1:-out/flm_tool}") || exit 1
 times=${2:-40}
 data=$(realpath ../session_vectors/data) || exit 1
+tests=$(realpath tests) || exit 1
 folder=$(mktemp -d) || exit 1
 trap 'rm -rf "$folder"' EXIT
 cd "$folder" || exit 1
+. "$tests/answers.sh"
 cp "$data/small.toml" "$data/a1.flm" .
-right=0
-wrong=0
-
-# Compares what was wanted and found by turns: NAME, then WANTED FOUND..
-same() {
-    local name=$1
-    shift
-    while [ $# -ge 2 ]; do
-        if [ "$1" != "$2" ]; then
-            echo "$name: wanted '$1', found '$2'"
-            wrong=$((wrong + 1))
-            return
-        fi
-        shift 2
-    done
-    right=$((right + 1))
-}
 
 # A run, by a command that is to run it (as flock JOB): STATUS OUT ERR BY.. -- WORDS..
 run() {
