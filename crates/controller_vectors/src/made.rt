@@ -2,15 +2,16 @@
 
 use crate::driven::Driven;
 use anyhow::Result;
-use board_file::{SectorRun, read_board};
-use flash_controller::{Controller, State};
+use board_file::{ControllerKind, SectorRun, read_board};
+use flash_controller::Controller;
+use flash_driver::{Driver, Registers, State};
 use flash_layout::{Area, FlashMap};
-use fpec_controller::{Fpec, State as FpecState};
+use fpec_controller::Fpec;
 use std::alloc::Global;
 use std::fs;
 
 /// Two areas apart from each other: 4 cells in units of 2, and 4 cells in units of 4 that are 0 when they are erased.
-fn layout(alloc: Global) -> Result<FlashMap> {
+fn layout(alloc: Global, kind: ControllerKind) -> Result<FlashMap> {
     let first = Area {
         base: 0x0800_0000,
         size: 4,
@@ -25,6 +26,7 @@ fn layout(alloc: Global) -> Result<FlashMap> {
     };
     let run = SectorRun { count: 1, size: 4 };
     Ok(FlashMap {
+        kind,
         areas: vec![in alloc; first, second]?,
         runs: vec![in alloc; run, run]?,
         base: 0x4002_2000,
@@ -35,24 +37,24 @@ fn layout(alloc: Global) -> Result<FlashMap> {
     })
 }
 
-/// The controller FC1 over two areas: locked, and nothing runs.
-fn over_areas(alloc: Global) -> Result<Controller> {
-    let layout = layout(alloc)?;
-    let state = State::reset();
-    Ok(Controller { layout, state })
-}
-
-/// The controller FPEC over the same.
-fn fpec_over_areas(alloc: Global) -> Result<Fpec> {
-    let layout = layout(alloc)?;
-    let state = FpecState::reset();
-    Ok(Fpec { layout, state })
+/// A controller over two areas: as after a reset, and nothing runs.
+fn over_areas<R: Registers>(alloc: Global, kind: ControllerKind) -> Result<Driver<R>> {
+    let layout = layout(alloc, kind)?;
+    let registers = R::fresh(kind);
+    let operation = None;
+    Ok(Driver {
+        layout,
+        state: State {
+            registers,
+            operation,
+        },
+    })
 }
 
 /// The controller FC1 of a board's file, or that over two areas.
 pub fn controller(rt: &HostRuntime, name: &str) -> Result<Driven> {
     if name == "areas" {
-        return Ok(Driven::Fc1(over_areas(rt.alloc())?));
+        return Ok(Driven::Fc1(over_areas(rt.alloc(), ControllerKind::Fc1)?));
     }
     let board = read_board(rt.alloc(), &fs::read(rt, name)?)?;
     Ok(Driven::Fc1(Controller::new(rt.alloc(), &board)?))
@@ -61,7 +63,7 @@ pub fn controller(rt: &HostRuntime, name: &str) -> Result<Driven> {
 /// The controller FPEC of a board's file, or that over two areas.
 pub fn fpec(rt: &HostRuntime, name: &str) -> Result<Driven> {
     if name == "areas" {
-        return Ok(Driven::Fpec(fpec_over_areas(rt.alloc())?));
+        return Ok(Driven::Fpec(over_areas(rt.alloc(), ControllerKind::Fpec)?));
     }
     let board = read_board(rt.alloc(), &fs::read(rt, name)?)?;
     Ok(Driven::Fpec(Fpec::new(rt.alloc(), &board)?))

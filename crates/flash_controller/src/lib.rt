@@ -1,15 +1,9 @@
 //! The flash controller FC1: registers that are unlocked by two keys, commands that program a unit, erase a sector or erase
-//! the chip, and operations that take a number of ticks.
-//!
-//! A controller stands between the core's loads and stores and the bench that holds the cells. Nothing else opens, settles
-//! or breaks off an operation on the cells.
+//! the chip, and operations that take a number of ticks. Its driver stands between the core's loads and stores and the bench.
 #![tactic(auto)]
 
-mod controller;
-mod flash;
-mod place;
+mod registers;
 mod state;
 
-pub use controller::Controller;
-pub use place::Place;
+pub use registers::Controller;
 pub use state::State;

@@ -1,11 +1,11 @@
-//! The registers, and the operation that runs.
+//! The registers.
 ghost use Rattle.std.specs.Prelude.{◌≡◌};
-ghost use Rattle.flash_controller.specs.Table.{is_ready, is_running, status, key_stored, status_stored, command_stored, address_stored, with_sequence};
+ghost use Rattle.flash_controller.specs.Table.{is_ready, status, key_stored, status_stored, command_stored, address_stored, with_sequence};
 ghost use Rattle.flash_controller.specs.Table.{after_reset, may_program};
 
 use flash_layout::{Area, Lock, Operation, flag_value};
 
-/// What the controller holds.
+/// What the registers hold.
 #[derive(Clone, Copy, Debug, PartialEq, Eq)]
 pub struct State {
     /// How far it is unlocked.
@@ -22,8 +22,6 @@ pub struct State {
     pub command: u32,
     /// ADDR.
     pub address: u32,
-    /// The operation that runs.
-    pub operation: Option<Operation>,
 }
 
 /// CMD that programs units.
@@ -45,29 +43,22 @@ impl State {
             not_empty: false,
             command: 0,
             address: 0,
-            operation: None,
         }
     }
 
-    /// Whether an operation runs.
-    pub fn is_running(&self) -> bool
-        ensures { result ≡ is_running self.now }
-    {
-        self.operation.is_some()
-    }
-
     /// Whether it is unlocked and no operation runs.
-    pub fn is_ready(&self) -> bool
-        ensures { result ≡ is_ready self.now }
+    pub fn is_ready(&self, operation: Option<Operation>) -> bool
+        ensures { result ≡ is_ready self.now operation }
     {
-        self.lock.is_unlocked() && !self.is_running()
+        self.lock.is_unlocked() && operation.is_none()
     }
 
-    /// STATUS.
-    pub fn status(&self) -> u32
-        ensures { result ≡ status self.now }
+    /// STATUS, while this operation runs.
+    #[inline(always)]
+    pub fn status(&self, operation: Option<Operation>) -> u32
+        ensures { result ≡ status self.now operation }
     {
-        flag_value(self.is_running(), 1)
+        flag_value(operation.is_some(), 1)
             + flag_value(self.done, 2)
             + flag_value(self.sequence, 4)
             + flag_value(self.range, 8)
@@ -116,10 +107,10 @@ impl State {
     }
 
     /// After a store to CMD.
-    pub fn command_stored(self, value: u32) -> State
-        ensures { result ≡ command_stored self value }
+    pub fn command_stored(self, operation: Option<Operation>, value: u32) -> State
+        ensures { result ≡ command_stored self operation value }
     {
-        if self.is_ready() && value <= LAST_COMMAND {
+        if self.is_ready(operation) && value <= LAST_COMMAND {
             State {
                 command: value,
                 ..self
@@ -130,10 +121,10 @@ impl State {
     }
 
     /// After a store to ADDR.
-    pub fn address_stored(self, value: u32) -> State
-        ensures { result ≡ address_stored self value }
+    pub fn address_stored(self, operation: Option<Operation>, value: u32) -> State
+        ensures { result ≡ address_stored self operation value }
     {
-        if self.is_ready() {
+        if self.is_ready(operation) {
             State {
                 address: value,
                 ..self

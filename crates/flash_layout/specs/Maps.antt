@@ -21,10 +21,10 @@ pub record FlashMap : Type 0 where
   pub chip_ticks : ℕ
   pub quiet : List QuietRange
 
--- the map as clauses have it, for a controller of this kind
-abbrev pub map_of : ControllerKind → code.FlashMap → FlashMap
-map_of kind l = record {
-  kind = kind;
+-- the map as clauses have it
+abbrev pub map_of : code.FlashMap → FlashMap
+map_of l = record {
+  kind = l.kind;
   areas = l.areas.items;
   runs = l.runs.items;
   base = l.base;
@@ -34,10 +34,10 @@ map_of kind l = record {
   quiet = l.quiet.items;
 }
 
--- the map of a board's parts, for a controller of this kind, and of the board
-abbrev pub map_for : ControllerKind → Shown → FlashMap
-map_for kind b = record {
-  kind = kind;
+-- the map of a board's parts
+abbrev pub board_map : Shown → FlashMap
+board_map b = record {
+  kind = b.kind;
   areas = areas_of b.regions;
   runs = runs_of b.regions;
   base = b.controller_base;
@@ -46,9 +46,6 @@ map_for kind b = record {
   chip_ticks = b.chip_ticks;
   quiet = b.quiet;
 }
-
-abbrev pub board_map : Shown → FlashMap
-board_map b = map_for b.kind b
 
 -- the address lies in one of these quiet ranges
 abbrev pub in_quiet : List QuietRange → ℕ → Bool

@@ -7,11 +7,13 @@ ghost use Rattle.board_file.specs.Limits.{cells_of};
 ghost use Rattle.board_file.specs.Laws.{sector_at};
 
 use crate::{Area, Found, SectorCells};
-use board_file::{QuietRange, SectorRun};
+use board_file::{ControllerKind, QuietRange, SectorRun};
 
-/// The areas of a board in order, the sectors of all of them in order, the controller's registers and its ticks.
+/// The areas of a board in order, the sectors of all of them in order, the controller's kind, its registers and its ticks.
 #[derive(Debug, Drop)]
 pub struct FlashMap {
+    /// The kind of the controller.
+    pub kind: ControllerKind,
     /// The areas, at least one.
     pub areas: Vec<Area>,
     /// The sectors of all areas.

@@ -1,8 +1,7 @@
 //! The map of a board.
 ghost use Rattle.std.specs.Prelude.{◌≡◌, IfOk};
-ghost use Rattle.board_file.specs.declared.kind.ControllerKind.{ControllerKind};
 ghost use Rattle.board_file.specs.Shown.{shown};
-ghost use Rattle.flash_layout.specs.Maps.{map_for, map_of};
+ghost use Rattle.flash_layout.specs.Maps.{board_map, map_of};
 
 use crate::{Area, FlashMap};
 use board_file::Board;
@@ -12,7 +11,7 @@ use std::alloc::Global;
 impl FlashMap {
     /// The map of a board: its regions in order, and the sectors of all of them.
     pub fn of(alloc: Global, board: &Board) -> Result<FlashMap, OutOfMemory>
-        ensures { IfOk result (λ layout. (kind : ControllerKind) → map_of kind layout ≡ map_for kind (shown board.now)) }
+        ensures { IfOk result (λ layout. map_of layout ≡ board_map (shown board.now)) }
     {
         let mut areas = Vec::new(alloc);
         let mut runs = Vec::new(alloc);
@@ -23,6 +22,7 @@ impl FlashMap {
         let mut quiet = Vec::new(alloc);
         quiet.extend_from_slice(board.quiet.as_slice())?;
         Ok(FlashMap {
+            kind: board.kind,
             areas,
             runs,
             base: board.controller_base,

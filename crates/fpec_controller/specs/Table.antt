@@ -1,26 +1,19 @@
--- The table of the controller FPEC: for a state and an access, what the access answers and the state after it; a tick; and
--- the state after a reset. No access changes a cell: it opens an operation, which a tick settles.
-use Rattle.std.specs.Prelude.{ℕ, Bool, true, false, not, ◌&&◌, ◌||◌, nat_eq, if◌then◌else◌, ◌+◌, ◌/◌, ◌%◌, List, [], ◌∷◌, Option, Some, None, is_some, Result}
-use Rattle.std.specs.Prelude.{Ok, Err}
-use Rattle.bench_model.specs.declared.bench_fault.BusEnd.{BusEnd}
-use Rattle.bench_model.specs.declared.bench_fault.BusEnd.TheVariants as bus
+-- The table of the controller FPEC: what its registers answer and become. The rows are those of `flash_driver/specs/Table` by `fpec_table`.
+use Rattle.std.specs.Prelude.{ℕ, Bool, true, false, not, ◌&&◌, ◌||◌, nat_eq, if◌then◌else◌, ◌+◌, ◌/◌, ◌%◌, List, Option, Some, None, is_some}
 use Rattle.flash_layout.specs.declared.area.Area.{Area}
-use Rattle.flash_layout.specs.declared.area.SectorCells.{SectorCells}
+use Rattle.flash_layout.specs.declared.area.Found.{Found}
 use Rattle.flash_layout.specs.declared.lock.Lock.TheVariants as lock
 use Rattle.flash_layout.specs.declared.work.Work.{Work}
 use Rattle.flash_layout.specs.declared.work.Work.TheVariants as work
 use Rattle.flash_layout.specs.declared.work.Operation.{Operation}
-use Rattle.flash_layout.specs.Areas.{sector_of}
-use Rattle.flash_layout.specs.Cells.{value_of, cells_at}
 use Rattle.flash_layout.specs.Lock.{is_unlocked, next_lock, flag_value, kept}
 use Rattle.flash_layout.specs.Maps.{FlashMap}
-use Rattle.flash_layout.specs.Work.{tick_at}
-use Rattle.fpec_controller.specs.declared.place.Place.{Place}
-use Rattle.fpec_controller.specs.declared.place.Place.TheVariants as place
+use Rattle.flash_driver.specs.declared.state.Taken.{Taken}
+use Rattle.flash_driver.specs.Erasures.{all_are, erases_sector, erases_first, becomes}
+use Rattle.flash_driver.specs.Table.{Table}
 use Rattle.fpec_controller.specs.declared.state.State.{State}
-use Rattle.fpec_controller.specs.Places.{place_of}
 
--- After a reset: locked, no bit and no flag, no operation.
+-- After a reset: locked, no bit and no flag.
 abbrev pub after_reset : State
 after_reset = record {
   lock = lock.Locked;
@@ -31,13 +24,9 @@ after_reset = record {
   ended = false;
   access_control = 0;
   address = 0;
-  operation = None;
 }
 
 -- The registers.
-
-abbrev pub is_running : State → Bool
-is_running s = is_some s.operation
 
 -- the operation fills its cells, as an erasure does
 abbrev pub is_fill : Work → Bool
@@ -49,12 +38,12 @@ is_erasure None = false
 is_erasure (Some o) = is_fill o.work
 
 -- SR: bit 0 an operation runs, 2 PGERR, 5 EOP
-abbrev pub status : State → ℕ
-status s = flag_value (is_running s) 1 + flag_value s.program_error 4 + flag_value s.ended 32
+abbrev pub status : State → Option Operation → ℕ
+status s runs = flag_value (is_some runs) 1 + flag_value s.program_error 4 + flag_value s.ended 32
 
 -- CR: bit 0 PG, 1 PER, 2 MER, 6 an erasure runs, 7 not unlocked
-abbrev pub control : State → ℕ
-control s = flag_value s.programs 1 + flag_value s.erases_sector 2 + flag_value s.erases_all 4 + flag_value (is_erasure s.operation) 64
+abbrev pub control : State → Option Operation → ℕ
+control s runs = flag_value s.programs 1 + flag_value s.erases_sector 2 + flag_value s.erases_all 4 + flag_value (is_erasure runs) 64
     + flag_value (not (is_unlocked s.lock)) 128
 
 abbrev pub access_control_stored : State → ℕ → State
@@ -70,30 +59,15 @@ status_stored s value = record s {
 }
 
 -- AR takes an address while no operation runs
-abbrev pub address_stored : State → ℕ → State
-address_stored s value = if is_running s then s else record s { address = value }
+abbrev pub address_stored : State → Option Operation → ℕ → State
+address_stored s runs value = if is_some runs then s else record s { address = value }
 
--- The operations.
-
-abbrev pub runs : State → Work → ℕ → ℕ → State
-runs s w at ticks = record s { operation = Some (record { work = w; place = at; ticks = ticks }) }
-
--- the sector of AR, where AR lies in the flash
-abbrev pub erases_sector : FlashMap → State → Option SectorCells → State
-erases_sector map s None = s
-erases_sector map s (Some sector) = runs s (work.Fill sector.len sector.empty) sector.place map.erase_ticks
-
--- all cells of the first area
-abbrev pub erases_all : FlashMap → State → List Area → State
-erases_all map s [] = s
-erases_all map s (a ∷ rest) = runs s (work.Fill a.size a.empty) 0 map.chip_ticks
-
--- an erasure is started: PER alone erases a sector, MER alone all, and neither or both nothing
-unfoldable pub started : FlashMap → State → State
+-- an erasure is started: PER alone erases the sector of AR where AR lies in the flash, MER alone the first area, and neither or both nothing
+unfoldable pub started : FlashMap → State → Taken State
 started map s =
-    if s.erases_sector && not s.erases_all then erases_sector map s (sector_of map.areas map.runs s.address)
-    else if s.erases_all && not s.erases_sector then erases_all map s map.areas
-    else s
+    if s.erases_sector && not s.erases_all then record { registers = s; begins = erases_sector map s.address }
+    else if s.erases_all && not s.erases_sector then record { registers = s; begins = erases_first map }
+    else becomes s
 
 abbrev pub has_bit : ℕ → ℕ → Bool
 has_bit value bit = nat_eq (value / bit % 2) 1
@@ -103,12 +77,27 @@ abbrev pub with_bits : State → ℕ → State
 with_bits s value = record s { programs = has_bit value 1; erases_sector = has_bit value 2; erases_all = has_bit value 4 }
 
 -- After a store to CR. While it is locked or an operation runs nothing changes; bit 7 locks it; and else bit 6 starts an erasure.
-unfoldable pub control_stored : FlashMap → State → ℕ → State
-control_stored map s value =
-    if not (is_unlocked s.lock) || is_running s then s
-    else if has_bit value 128 then record (with_bits s value) { lock = lock.Locked }
+unfoldable pub control_stored : FlashMap → State → Option Operation → ℕ → Taken State
+control_stored map s runs value =
+    if not (is_unlocked s.lock) || is_some runs then becomes s
+    else if has_bit value 128 then becomes (record (with_bits s value) { lock = lock.Locked })
     else if has_bit value 64 then started map (with_bits s value)
-    else with_bits s value
+    else becomes (with_bits s value)
+
+-- what the register at an offset of the block answers to a load: ACR, KEYR, OPTKEYR, SR, CR, AR, OBR, WRPR
+unfoldable pub load : State → Option Operation → ℕ → Option ℕ
+load s runs offset =
+    if nat_eq offset 0x00 then Some s.access_control else if nat_eq offset 0x04 then Some 0 else if nat_eq offset 0x08 then Some 0
+    else if nat_eq offset 0x0C then Some (status s runs) else if nat_eq offset 0x10 then Some (control s runs)
+    else if nat_eq offset 0x14 then Some s.address else if nat_eq offset 0x1C then Some 0 else if nat_eq offset 0x20 then Some 0xFFFFFFFF else None
+
+-- and what a store to it leaves
+unfoldable pub store : FlashMap → State → Option Operation → ℕ → ℕ → Option (Taken State)
+store map s runs offset value =
+    if nat_eq offset 0x00 then Some (becomes (access_control_stored s value)) else if nat_eq offset 0x04 then Some (becomes (key_stored s value))
+    else if nat_eq offset 0x08 then Some (becomes s) else if nat_eq offset 0x0C then Some (becomes (status_stored s value))
+    else if nat_eq offset 0x10 then Some (control_stored map s runs value) else if nat_eq offset 0x14 then Some (becomes (address_stored s runs value))
+    else if nat_eq offset 0x1C then Some (becomes s) else if nat_eq offset 0x20 then Some (becomes s) else None
 
 -- The flash.
 
@@ -119,82 +108,29 @@ may_program s = is_unlocked s.lock && s.programs
 abbrev pub half_of : ℕ → ℕ
 half_of value = value % 0x10000
 
--- After the store of a halfword to the flash while no operation runs: PG programs an erased halfword, and 0 over any; over any
--- other halfword PGERR is set.
-unfoldable pub programmed : FlashMap → State → List ℕ → ℕ → ℕ → State
-programmed map s cells at value =
-    if may_program s then
-    (if nat_eq (half_of value) 0 || nat_eq (value_of (cells_at cells at 2)) 0xFFFF then runs s (work.Half value) at map.program_ticks
-    else record s { program_error = true })
-    else s
+-- After a store to the flash: only a halfword is taken. PG programs an erased halfword, and 0 over any; over any other halfword PGERR is set.
+unfoldable pub program : FlashMap → State → Found → ℕ → ℕ → List ℕ → Option (Taken State)
+program map s found width value seen =
+    if not (nat_eq width 2) then None
+    else if not (may_program s) then Some (becomes s)
+    else if nat_eq (half_of value) 0 || all_are 0xFF seen then Some (record { registers = s; begins = Some (record { work = work.Half value; place = found.place; ticks = map.program_ticks }) })
+    else Some (becomes (record s { program_error = true }))
 
--- The rows.
+-- a store looks at the cells that may program, and not with 0
+abbrev pub looks : State → ℕ → ℕ → Bool
+looks s width value = nat_eq width 2 && may_program s && not (nat_eq (half_of value) 0)
 
--- what a load answers; it leaves the state as it was
-abbrev pub load_at : State → List ℕ → ℕ → Place → Result ℕ BusEnd
-load_at s cells width place.AccessControl = Ok s.access_control
-load_at s cells width place.Key = Ok 0
-load_at s cells width place.OptionKey = Ok 0
-load_at s cells width place.Status = Ok (status s)
-load_at s cells width place.Control = Ok (control s)
-load_at s cells width place.Address = Ok s.address
-load_at s cells width place.OptionBytes = Ok 0
-load_at s cells width place.WriteProtection = Ok 0xFFFFFFFF
-load_at s cells width (place.Flash found) = if is_running s then Err bus.Fault else Ok (value_of (cells_at cells found.place width))
-load_at s cells width place.Nowhere = Err bus.Fault
-
--- what a store answers, and the state after it
-abbrev pub Stored : Type 0
-Stored = Result (Unit {0}) BusEnd × State
-
-abbrev pub store_at : FlashMap → State → List ℕ → ℕ → ℕ → Place → Stored
-store_at map s cells width value place.AccessControl = (Ok tt, access_control_stored s value)
-store_at map s cells width value place.Key = (Ok tt, key_stored s value)
-store_at map s cells width value place.OptionKey = (Ok tt, s)
-store_at map s cells width value place.Status = (Ok tt, status_stored s value)
-store_at map s cells width value place.Control = (Ok tt, control_stored map s value)
-store_at map s cells width value place.Address = (Ok tt, address_stored s value)
-store_at map s cells width value place.OptionBytes = (Ok tt, s)
-store_at map s cells width value place.WriteProtection = (Ok tt, s)
-store_at map s cells width value (place.Flash found) =
-    if is_running s || not (nat_eq width 2) then (Err bus.Fault, s) else (Ok tt, programmed map s cells found.place value)
-store_at map s cells width value place.Nowhere = (Err bus.Fault, s)
-
-unfoldable pub load_row : FlashMap → State → List ℕ → ℕ → ℕ → Result ℕ BusEnd
-load_row map s cells at width = load_at s cells width (place_of map at width)
-
-unfoldable pub store_row : FlashMap → State → List ℕ → ℕ → ℕ → ℕ → Stored
-store_row map s cells at width value = store_at map s cells width value (place_of map at width)
-
--- a load there looks at cells
-abbrev pub reads : State → Place → Bool
-reads s (place.Flash found) = not (is_running s)
-reads s _ = false
-
--- a store there looks at cells: one that may program them, and not with 0
-abbrev pub compares : State → ℕ → ℕ → Place → Bool
-compares s width value (place.Flash found) = not (is_running s) && nat_eq width 2 && may_program s && not (nat_eq (half_of value) 0)
-compares s width value _ = false
-
--- a store there asks the device: for the cells of a halfword that it may program, or to open an operation
-abbrev pub asks : FlashMap → State → ℕ → ℕ → Place → Bool
-asks map s width value (place.Flash found) = not (is_running s) && nat_eq width 2 && may_program s
-asks map s width value place.Control = not (is_running s) && is_running (control_stored map s value)
-asks map s width value _ = false
-
--- The tick.
-
--- the operation ends, and EOP is set; or another one is left to run
+-- the operation ends, and EOP is set
 abbrev pub done : State → State
-done s = record s { operation = None; ended = true }
+done s = record s { ended = true }
 
-abbrev pub running : State → Operation → State
-running s o = record s { operation = Some o }
-
-abbrev pub tick_on : State → List ℕ → Option Operation → State × List ℕ
-tick_on s cells None = (s, cells)
-tick_on s cells (Some o) = tick_at (done s) (running s) cells o o.ticks
-
--- the state and the cells after a tick
-unfoldable pub tick_row : State → List ℕ → State × List ℕ
-tick_row s cells = tick_on s cells s.operation
+abbrev pub fpec_table : Table State
+fpec_table = record {
+  fresh = λ kind. after_reset;
+  block = λ s. 64;
+  load = load;
+  store = store;
+  looks = λ s area width value. looks s width value;
+  program = program;
+  ended = done;
+}

@@ -2,14 +2,11 @@
 //! bits program halfwords, erase a sector or erase all, and operations take a number of ticks.
 //!
 //! It is a controller of this project's own. Its table is its whole behaviour, and nothing is claimed of what those parts do.
-//! It stands between the core's loads and stores and the bench that holds the cells. Nothing else opens, settles or breaks off an
-//! operation on the cells.
+//! Its driver stands between the core's loads and stores and the bench.
 #![tactic(auto)]
 
-mod fpec;
-mod place;
+mod registers;
 mod state;
 
-pub use fpec::Fpec;
-pub use place::Place;
+pub use registers::Fpec;
 pub use state::State;

@@ -1,11 +1,11 @@
-//! The registers, and the operation that runs.
+//! The registers.
 ghost use Rattle.std.specs.Prelude.{◌≡◌, ◌<◌};
-ghost use Rattle.fpec_controller.specs.Table.{is_running, is_erasure, status, control, access_control_stored, key_stored, status_stored, address_stored};
+ghost use Rattle.fpec_controller.specs.Table.{is_erasure, status, control, access_control_stored, key_stored, status_stored, address_stored};
 ghost use Rattle.fpec_controller.specs.Table.{with_bits, after_reset, has_bit, may_program};
 
 use flash_layout::{Lock, Operation, Work, flag_value};
 
-/// What the controller holds.
+/// What the registers hold.
 #[derive(Clone, Copy, Debug, PartialEq, Eq)]
 pub struct State {
     /// How far it is unlocked.
@@ -24,8 +24,6 @@ pub struct State {
     pub access_control: u32,
     /// AR.
     pub address: u32,
-    /// The operation that runs.
-    pub operation: Option<Operation>,
 }
 
 /// Whether a bit, given by its value, is set.
@@ -34,6 +32,16 @@ pub fn has_bit(value: u32, bit: u32) -> bool
     ensures { result ≡ has_bit value bit }
 {
     value / bit % 2 == 1
+}
+
+/// Whether the operation is an erasure.
+fn is_erasure(operation: Option<Operation>) -> bool
+    ensures { result ≡ is_erasure operation }
+{
+    match operation {
+        Some(operation) => matches!(operation.work, Work::Fill { .. }),
+        None => false,
+    }
 }
 
 impl State {
@@ -50,44 +58,28 @@ impl State {
             ended: false,
             access_control: 0,
             address: 0,
-            operation: None,
         }
     }
 
-    /// Whether an operation runs.
-    pub fn is_running(&self) -> bool
-        ensures { result ≡ is_running self.now }
+    /// SR, while this operation runs.
+    #[inline(always)]
+    pub fn status(&self, operation: Option<Operation>) -> u32
+        ensures { result ≡ status self.now operation }
     {
-        self.operation.is_some()
-    }
-
-    /// Whether an erasure runs.
-    fn is_erasing(&self) -> bool
-        ensures { result ≡ is_erasure self.now.operation }
-    {
-        match self.operation {
-            Some(operation) => matches!(operation.work, Work::Fill { .. }),
-            None => false,
-        }
-    }
-
-    /// SR.
-    pub fn status(&self) -> u32
-        ensures { result ≡ status self.now }
-    {
-        flag_value(self.is_running(), 1)
+        flag_value(operation.is_some(), 1)
             + flag_value(self.program_error, 4)
             + flag_value(self.ended, 32)
     }
 
-    /// CR.
-    pub fn control(&self) -> u32
-        ensures { result ≡ control self.now }
+    /// CR, while this operation runs.
+    #[inline(always)]
+    pub fn control(&self, operation: Option<Operation>) -> u32
+        ensures { result ≡ control self.now operation }
     {
         flag_value(self.programs, 1)
             + flag_value(self.erases_sector, 2)
             + flag_value(self.erases_all, 4)
-            + flag_value(self.is_erasing(), 64)
+            + flag_value(is_erasure(operation), 64)
             + flag_value(!self.lock.is_unlocked(), 128)
     }
 
@@ -130,10 +122,10 @@ impl State {
     }
 
     /// After a store to AR.
-    pub fn address_stored(self, value: u32) -> State
-        ensures { result ≡ address_stored self value }
+    pub fn address_stored(self, operation: Option<Operation>, value: u32) -> State
+        ensures { result ≡ address_stored self operation value }
     {
-        if self.is_running() {
+        if operation.is_some() {
             return self;
         }
         State {

@@ -13,7 +13,7 @@ use Rattle.flash_layout.specs.Bench.{Settles}
 use Rattle.flash_layout.specs.Maps.{FlashMap}
 use Rattle.job_file.specs.Counted.{IsCounted}
 use Rattle.job_file.specs.Stops.{IsWholeOrClosed}
-use Rattle.target_core.specs.declared.unit.Unit.{Unit as ControlUnit}
+use Rattle.target_core.specs.Units.{Unit as ControlUnit}
 use Rattle.target_core.specs.declared.run.RunEnd.{RunEnd}
 use Rattle.target_core.specs.declared.run.RunEnd.TheVariants as run_end
 use Rattle.target_core.specs.declared.run.SliceEnd.{SliceEnd}

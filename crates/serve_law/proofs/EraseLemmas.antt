@@ -5,12 +5,14 @@ use Rattle.armv6m_step.specs.declared.core_state.Core.{Core}
 use Rattle.flm_descriptor.specs.Shape.{Range, range}
 use Rattle.flash_layout.specs.declared.area.SectorCells.{SectorCells}
 use Rattle.flash_layout.specs.Areas.{sector_of}
-use Rattle.flash_controller.specs.declared.state.State.{State}
 use Rattle.flash_layout.specs.declared.work.Work.{Work}
 use Rattle.flash_layout.specs.declared.work.Work.TheVariants as work
 use Rattle.flash_layout.specs.Work.{work_len, work_bytes}
-use Rattle.flash_controller.specs.Table.{erases_sector, tick_row}
-use Rattle.target_core.specs.Units.{state_op}
+use Rattle.flash_driver.specs.Erasures.{begins_or, erases}
+use Rattle.flash_driver.specs.Table.{leaves, tick_row}
+use Rattle.target_core.specs.declared.unit.AnyRegisters.TheVariants.{Fc1}
+use Rattle.target_core.specs.AnyTable.{taken_as}
+use Rattle.target_core.specs.Units.{UnitState, state_op}
 use Rattle.target_core.specs.World.{World, world_tick}
 use Rattle.target_core.specs.Path.{Point}
 use Rattle.algo_calls.specs.declared.call.Call.TheVariants as a_call
@@ -21,13 +23,13 @@ use Rattle.serve_law.proofs.Computed.{computed, after_in}
 use Rattle.serve_law.proofs.HomeLemmas.{IsHome}
 use Rattle.serve_law.proofs.GoesLemmas.{Goes, goes_then, all_idle, idle_goes, run_goes, step_goes, AllIn}
 use Rattle.serve_law.proofs.DoneLemmas.{IsDone, run_done}
-use Rattle.serve_law.proofs.Setup.{Given, a1_setup, a1_world, a1_area, a1_map, len_of, unlocked, IsQuick, sector_count, sector_fuel, chip_fuel, need}
+use Rattle.serve_law.proofs.Setup.{Given, a1_setup, a1_world, a1_area, a1_map, len_of, regs, resting, unlocked, IsQuick, sector_count, sector_fuel, chip_fuel, need}
 
-abbrev pub running : ℕ → ℕ → Work → ℕ → ℕ → State
+abbrev pub running : ℕ → ℕ → Work → ℕ → ℕ → UnitState
 running c a w place t = record (unlocked c a) { operation = Some (record { work = w; place = place; ticks = t }) }
 
-abbrev settled : ℕ → ℕ → State
-settled c a = record (unlocked c a) { done = true }
+abbrev settled : ℕ → ℕ → UnitState
+settled c a = resting (record (regs c a) { done = true })
 
 -- the core within the erasing functions
 abbrev erase_core : Given → ℕ → ℕ → ℕ → Bool → Bool → ℕ → Core
@@ -42,7 +44,7 @@ erase_core g r0 r1 r2 n z pc = record {
 
 module _ (g : Given) (r : Option (ℕ × ℕ)) (r0 c a place : ℕ) (w : Work) (ram : List ℕ) (home : IsHome 0x20000000 ram) (lies : OpensIn r (Some (place, work_len w))) where
   -- before the load of the status
-  abbrev pub waiting : ℕ → State → List ℕ → Point
+  abbrev pub waiting : ℕ → UnitState → List ℕ → Point
   waiting r2 st cells = record { core = erase_core g r0 1 r2 false false 0x20000046; world = a1_world g ram st cells }
 
   abbrev left : List ℕ → List ℕ
@@ -146,7 +148,7 @@ module _ (g : Given) (x : Range) (c a : ℕ) (ram cells : List ℕ) (home : IsHo
 
   -- what the sixth instruction leaves, given what lies at the address
   abbrev ordered_at : Option SectorCells → World
-  ordered_at o = a1_world g (written 176 [] ram) (erases_sector (a1_map g) (unlocked 2 at) o) cells
+  ordered_at o = a1_world g (written 176 [] ram) (leaves (unlocked 2 at) (taken_as Fc1 (Some (begins_or (regs 2 at) (record (regs 2 at) { range = true }) (erases g.erase_ticks o))))).1 cells
 
   sixth : Goes r 1 (after_in 5 first) (begun g r at 2 at x.start fill (written 176 [] ram) home lies 2 g.erase_ticks cells)
   unfolding computed first_point

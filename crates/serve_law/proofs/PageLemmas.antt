@@ -12,10 +12,13 @@ use Rattle.armv6m_step.specs.Meaning.{Meaning, Gives, load, store}
 use Rattle.armv6m_step.specs.Ram.{value_at}
 use Rattle.armv6m_step.specs.Registers.{pc_of, moved}
 use Rattle.flm_descriptor.specs.Shape.{Range}
-use Rattle.flash_controller.specs.declared.state.State.{State}
 use Rattle.flash_layout.specs.declared.work.Work.TheVariants as work
 use Rattle.flash_layout.specs.Cells.{cells_at}
-use Rattle.flash_controller.specs.Table.{all_are, programmed, store_row, store_at, tick_row}
+use Rattle.flash_driver.specs.Erasures.{all_are}
+use Rattle.flash_driver.specs.Table.{store_row, store_at, tick_row}
+use Rattle.flash_controller.specs.Table.{program}
+use Rattle.target_core.specs.AnyTable.{any_table}
+use Rattle.target_core.specs.Units.{UnitState}
 use Rattle.target_core.specs.World.{World, store_answer, world_answer, world_tick}
 use Rattle.target_core.specs.Path.{Point}
 use Rattle.algo_calls.specs.declared.call.Call.TheVariants as a_call
@@ -29,7 +32,7 @@ use Rattle.serve_law.proofs.ListLemmas.{written_len, written_after, written_in, 
 use Rattle.serve_law.proofs.NumberLemmas.{difference_zero, difference_two, one_odd, sum_small}
 use Rattle.serve_law.proofs.FrameLemmas.{IsFrame, Held, held_from, flash_place, loads_word, outcome_stores, ram_words, ram_written, with_words, word_even, words_before}
 use Rattle.serve_law.proofs.DoneLemmas.{IsDone, run_done}
-use Rattle.serve_law.proofs.Setup.{Given, IsFit, IsQuick, IsRam, need, a1_setup, a1_world, a1_map, unlocked, top_is, top_whole, page_fuel}
+use Rattle.serve_law.proofs.Setup.{Given, IsFit, IsQuick, IsRam, need, a1_setup, a1_world, a1_map, regs, resting, unlocked, top_is, top_whole, page_fuel}
 
 abbrev page_core : ℕ → ℕ → ℕ → ℕ → ℕ → Bool → Bool → Bool → Bool → ℕ → Core
 page_core low r0 r1 r2 r5 n z c v pc = record {
@@ -42,10 +45,10 @@ page_core low r0 r1 r2 r5 n z c v pc = record {
 }
 
 -- command 1, no flag but perhaps DONE
-abbrev ready : ℕ → Bool → State
-ready a d = record (unlocked 1 a) { done = d }
+abbrev ready : ℕ → Bool → UnitState
+ready a d = resting (record (regs 1 a) { done = d })
 
-abbrev busy : ℕ → Bool → ℕ → ℕ → ℕ → State
+abbrev busy : ℕ → Bool → ℕ → ℕ → ℕ → UnitState
 busy a d value place t = record (ready a d) { operation = Some (record { work = work.Half value; place = place; ticks = t }) }
 
 -- with so many ticks left, before the status is seen to be settled
@@ -71,12 +74,12 @@ even_flash : (p : ℕ) → p % 2 ≡ 0 → (0x08000000 + p) % 2 ≡ 0
 even_flash p even = omega arith
 
 module _ (g : Given) (r : Option (ℕ × ℕ)) (a low : ℕ) (ram : List ℕ) (frame : IsFrame g ram low (low + 4 + 4)) where
-  abbrev at_pc : ℕ → ℕ → ℕ → ℕ → ℕ → Bool → Bool → Bool → Bool → State → List ℕ → Point
+  abbrev at_pc : ℕ → ℕ → ℕ → ℕ → ℕ → Bool → Bool → Bool → Bool → UnitState → List ℕ → Point
   at_pc pc r0 r1 r2 r5 n z c v st cells = record { core = page_core low r0 r1 r2 r5 n z c v pc; world = a1_world g ram st cells }
 
   -- waiting for one unit
   module _ (r0 r1 r2 value p : ℕ) (c v : Bool) (lies : OpensIn r (Some (p, 2))) where
-    abbrev polling : ℕ → Bool → Bool → State → List ℕ → Point
+    abbrev polling : ℕ → Bool → Bool → UnitState → List ℕ → Point
     polling r5 n z st cells = at_pc 0x2000006C r0 r1 r2 r5 n z c v st cells
 
     abbrev left : List ℕ → List ℕ
@@ -131,12 +134,12 @@ module _ (g : Given) (r : Option (ℕ × ℕ)) (a low : ℕ) (ram : List ℕ) (f
       tt tt
 
   -- the store of a unit to the flash
-  flash_row : (d : Bool) (p value : ℕ) (cells : List ℕ) → p < g.size → all_are g.empty (cells_at cells p 2) ≡ true → store_row (a1_map g) (ready a d) cells (0x08000000 + p) 2 value ≡ (Ok tt, busy a d value p g.program_ticks)
-  unfolding store_row programmed
-  flash_row d p value cells inside blank = ap (store_at (a1_map g) (ready a d) cells 2 value) (flash_place g p 2 frame.flash inside) ∙ (rw blank refl)
+  flash_row : (d : Bool) (p value : ℕ) (cells : List ℕ) → p < g.size → all_are g.empty (cells_at cells p 2) ≡ true → store_row any_table (a1_map g) (ready a d) cells (0x08000000 + p) 2 value ≡ (Ok tt, busy a d value p g.program_ticks)
+  unfolding store_row program
+  flash_row d p value cells inside blank = ap (store_at any_table (a1_map g) (ready a d) cells 2 value) (flash_place g p 2 frame.flash inside) ∙ (rw blank refl)
 
   flash_answer : (d : Bool) (p value : ℕ) (cells : List ℕ) → p < g.size → all_are g.empty (cells_at cells p 2) ≡ true → store_answer (a1_world g ram (ready a d) cells) 2 (0x08000000 + p) value None ≡ (Ok 0, a1_world g ram (busy a d value p g.program_ticks) cells)
-  flash_answer d p value cells inside blank = ap (λ (x : Result (Unit {0}) BusEnd × State). (stored x.0, a1_world g ram x.1 cells)) (flash_row d p value cells inside blank)
+  flash_answer d p value cells inside blank = ap (λ (x : Result (Unit {0}) BusEnd × UnitState). (stored x.0, a1_world g ram x.1 cells)) (flash_row d p value cells inside blank)
 
   writes : (p r1 r2 value : ℕ) (n z c v d : Bool) (cells : List ℕ) → p % 2 ≡ 0 → p < g.size → value < 2 ^ 16 → all_are g.empty (cells_at cells p 2) ≡ true → OpensIn r (Some (p, 2))
       → Goes r 1 (at_pc 0x2000006A (0x08000000 + p) r1 r2 value n z c v (ready a d) cells)

@@ -1,4 +1,5 @@
 pub mod StepLemmas
+pub mod UnitLemmas
 pub mod PathLemmas
 pub mod LoopLemmas
 pub mod TargetLemmas
@@ -9,6 +10,5 @@ pub mod FineLemmas
 pub mod EndLemmas
 pub mod LawLemmas
 pub mod StayLemmas
-pub mod UnitLemmas
 pub mod PlaceLemmas
 pub mod LineLemmas

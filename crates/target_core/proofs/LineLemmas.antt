@@ -6,10 +6,11 @@ use Rattle.bench_model.specs.declared.bench_fault.BusEnd.{BusEnd}
 use Rattle.armv6m_step.specs.Access.{Load}
 use Rattle.armv6m_step.specs.Ram.{place_of, value_at}
 use Rattle.flash_layout.specs.Bench.{Accesses}
+use Rattle.flash_driver.proofs.TouchLemmas.{accesses_here}
 use Rattle.target_core.specs.declared.line.Line.{Line}
 use Rattle.target_core.specs.World.{World, load_answer, world_answer}
 use Rattle.target_core.specs.Line.{ram_of, world_of, SameLine, line_acts}
-use Rattle.target_core.proofs.StepLemmas.{Law, accesses_here, world_stays}
+use Rattle.target_core.proofs.StepLemmas.{Law, world_stays}
 
 from_ram : (base len size at width offset : ℕ) → len ≡ size → Some offset ≡ place_of base size at width → place_of base len at width ≡ Some offset
 from_ram base len size at width offset same is = ap (λ (n : ℕ). place_of base n at width) same ∙ sym is

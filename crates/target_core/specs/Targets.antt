@@ -8,9 +8,8 @@ use Rattle.target_core.specs.declared.target.Target.{Target}
 use Rattle.target_core.specs.declared.run.RunEnd.{RunEnd}
 use Rattle.target_core.specs.declared.run.SliceEnd.{SliceEnd}
 use Rattle.target_core.specs.declared.run.SliceEnd.TheVariants as slice
-use Rattle.target_core.specs.declared.unit.Unit.{Unit}
 use Rattle.target_core.specs.Windows.{window_of}
-use Rattle.target_core.specs.Units.{unit_map, unit_state}
+use Rattle.target_core.specs.Units.{Unit, unit_map, unit_state}
 use Rattle.target_core.specs.Path.{Point, RunsTo, SliceIs, last_of_slice}
 
 -- a core with these registers, no flag set, and PRIMASK clear

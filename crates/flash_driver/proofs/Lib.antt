@@ -1,0 +1,2 @@
+pub mod TickLemmas
+pub mod TouchLemmas

@@ -1,0 +1,4 @@
+pub mod Places
+pub mod Table
+pub mod Calls
+pub mod Erasures

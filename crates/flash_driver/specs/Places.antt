@@ -1,0 +1,23 @@
+-- What an access goes to.
+use Rattle.std.specs.Prelude.{◌≡◌, ◌-◌, ℕ, ◌&&◌, nat_eq, nat_lt, nat_le, if◌then◌else◌, Option, Some, None}
+use Rattle.flash_layout.specs.declared.area.Found.{Found}
+use Rattle.flash_layout.specs.Areas.{find, FoundInside}
+use Rattle.flash_layout.specs.Maps.{FlashMap}
+use Rattle.flash_driver.specs.declared.place.Place.{Place}
+use Rattle.flash_driver.specs.declared.place.Place.TheVariants as place
+
+abbrev pub of_found : Option Found → Place
+of_found None = place.Nowhere
+of_found (Some found) = place.Flash found
+
+-- What an access of so many bytes goes to, where the controller's block has so many bytes. The block takes words alone.
+unfoldable pub place_of : FlashMap → ℕ → ℕ → ℕ → Place
+place_of map block at width =
+    if nat_le map.base at && nat_lt (at - map.base) block then (if nat_eq width 4 then place.Register (at - map.base) else place.Nowhere)
+    else of_found (find map.areas 0 at)
+
+-- a register is met by a word alone, and a cell that an access goes to lies in the cells, with the bytes of the access
+abbrev pub PlaceInside : FlashMap → ℕ → ℕ → Place → Type 0
+PlaceInside map at width (place.Register offset) = width ≡ 4
+PlaceInside map at width (place.Flash found) = FoundInside map.areas at found
+PlaceInside map at width place.Nowhere = Unit {0}

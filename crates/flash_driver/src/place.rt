@@ -1,0 +1,42 @@
+//! What an access goes to.
+ghost use Rattle.std.specs.Prelude.{◌≡◌};
+ghost use Rattle.flash_layout.specs.Maps.{map_of};
+ghost use Rattle.flash_driver.specs.Places.{place_of, PlaceInside};
+
+use flash_layout::{FlashMap, Found};
+
+/// What an access goes to: a word of the controller's block, a cell of the flash, or nothing.
+#[derive(Clone, Copy, Debug, PartialEq, Eq)]
+pub enum Place {
+    /// A word of the block, where a register may be.
+    Register {
+        /// Its offset.
+        offset: u32,
+    },
+    /// A cell of the flash.
+    Flash {
+        /// The cell, and its area.
+        found: Found,
+    },
+    /// Nothing answers there.
+    Nowhere,
+}
+
+/// What an access of so many bytes goes to, where the controller's block has so many bytes. The registers take words alone.
+#[tactic(auto, unfolding(crate::specs::Places::place_of))]
+pub fn place_of(layout: &FlashMap, block: u32, at: u32, width: u32) -> Place
+    ensures value { result ≡ place_of (map_of layout.now) block at width }
+    ensures inside { PlaceInside (map_of layout.now) at width result }
+{
+    if at >= layout.base && at - layout.base < block {
+        if width != 4 {
+            return Place::Nowhere;
+        }
+        let offset = at - layout.base;
+        return Place::Register { offset };
+    }
+    match layout.find(at) {
+        Some(found) => Place::Flash { found },
+        None => Place::Nowhere,
+    }
+}
