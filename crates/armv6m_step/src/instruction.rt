@@ -71,12 +71,77 @@ fn process<B: Bus>(core: &mut Core, bus: &mut B, half: u16, found: Decoded) -> R
 /// The same of what is likely a load or a store.
 #[inline(always)]
 #[tactic(auto, using(crate::proofs::RunLemmas::asks))]
-fn access<B: Bus>(core: &mut Core, bus: &mut B, half: u16, found: Decoded) -> Result<(), Stop>
+fn access_literal<B: Bus>(core: &mut Core, bus: &mut B, half: u16, found: Decoded) -> Result<(), Stop>
     requires { found ≡ decoded half }
     ensures { Runs B.acts (of_halfword core.old half (decoded half)) core.old bus.old (end_of result) core.new bus.new }
 {
     match found {
-        Decoded::Op(Instr::Memory(op)) => memory::run(core, bus, core.pc().wrapping_add(2), op),
+        Decoded::Op(Instr::Memory(op)) => memory::run_literal(core, bus, core.pc().wrapping_add(2), op),
+        _ => go_on(core, bus, half),
+    }
+}
+
+/// The same of what is likely a load or a store.
+#[inline(always)]
+#[tactic(auto, using(crate::proofs::RunLemmas::asks))]
+fn access_by_register<B: Bus>(core: &mut Core, bus: &mut B, half: u16, found: Decoded) -> Result<(), Stop>
+    requires { found ≡ decoded half }
+    ensures { Runs B.acts (of_halfword core.old half (decoded half)) core.old bus.old (end_of result) core.new bus.new }
+{
+    match found {
+        Decoded::Op(Instr::Memory(op)) => memory::run_by_register(core, bus, core.pc().wrapping_add(2), op),
+        _ => go_on(core, bus, half),
+    }
+}
+
+/// The same of what is likely a load or a store.
+#[inline(always)]
+#[tactic(auto, using(crate::proofs::RunLemmas::asks))]
+fn access_words<B: Bus>(core: &mut Core, bus: &mut B, half: u16, found: Decoded) -> Result<(), Stop>
+    requires { found ≡ decoded half }
+    ensures { Runs B.acts (of_halfword core.old half (decoded half)) core.old bus.old (end_of result) core.new bus.new }
+{
+    match found {
+        Decoded::Op(Instr::Memory(op)) => memory::run_words(core, bus, core.pc().wrapping_add(2), op),
+        _ => go_on(core, bus, half),
+    }
+}
+
+/// The same of what is likely a load or a store.
+#[inline(always)]
+#[tactic(auto, using(crate::proofs::RunLemmas::asks))]
+fn access_bytes<B: Bus>(core: &mut Core, bus: &mut B, half: u16, found: Decoded) -> Result<(), Stop>
+    requires { found ≡ decoded half }
+    ensures { Runs B.acts (of_halfword core.old half (decoded half)) core.old bus.old (end_of result) core.new bus.new }
+{
+    match found {
+        Decoded::Op(Instr::Memory(op)) => memory::run_bytes(core, bus, core.pc().wrapping_add(2), op),
+        _ => go_on(core, bus, half),
+    }
+}
+
+/// The same of what is likely a load or a store.
+#[inline(always)]
+#[tactic(auto, using(crate::proofs::RunLemmas::asks))]
+fn access_halves<B: Bus>(core: &mut Core, bus: &mut B, half: u16, found: Decoded) -> Result<(), Stop>
+    requires { found ≡ decoded half }
+    ensures { Runs B.acts (of_halfword core.old half (decoded half)) core.old bus.old (end_of result) core.new bus.new }
+{
+    match found {
+        Decoded::Op(Instr::Memory(op)) => memory::run_halves(core, bus, core.pc().wrapping_add(2), op),
+        _ => go_on(core, bus, half),
+    }
+}
+
+/// The same of what is likely a load or a store.
+#[inline(always)]
+#[tactic(auto, using(crate::proofs::RunLemmas::asks))]
+fn access_stack<B: Bus>(core: &mut Core, bus: &mut B, half: u16, found: Decoded) -> Result<(), Stop>
+    requires { found ≡ decoded half }
+    ensures { Runs B.acts (of_halfword core.old half (decoded half)) core.old bus.old (end_of result) core.new bus.new }
+{
+    match found {
+        Decoded::Op(Instr::Memory(op)) => memory::run_on_stack(core, bus, core.pc().wrapping_add(2), op),
         _ => go_on(core, bus, half),
     }
 }
@@ -142,12 +207,12 @@ fn fetch_and_execute<B: Bus>(core: &mut Core, bus: &mut B) -> Result<(), Stop>
         0x2 => process(core, bus, half, parts::move_or_compare(half)),
         0x3 => process(core, bus, half, parts::add_or_subtract(half)),
         0x4 if half >> 10 == 0x10 => process(core, bus, half, parts::data_processing(half)),
-        0x4 if half >> 11 == 0x09 => access(core, bus, half, parts::literal(half)),
-        0x5 => access(core, bus, half, parts::by_register(half)),
-        0x6 => access(core, bus, half, parts::words(half)),
-        0x7 => access(core, bus, half, parts::bytes(half)),
-        0x8 => access(core, bus, half, parts::halfwords(half)),
-        0x9 => access(core, bus, half, parts::on_stack(half)),
+        0x4 if half >> 11 == 0x09 => access_literal(core, bus, half, parts::literal(half)),
+        0x5 => access_by_register(core, bus, half, parts::by_register(half)),
+        0x6 => access_words(core, bus, half, parts::words(half)),
+        0x7 => access_bytes(core, bus, half, parts::bytes(half)),
+        0x8 => access_halves(core, bus, half, parts::halfwords(half)),
+        0x9 => access_stack(core, bus, half, parts::on_stack(half)),
         0xB if half >> 9 == 0x5A => list(core, bus, half, parts::push(half)),
         0xB if half >> 9 == 0x5E => list(core, bus, half, parts::pop(half)),
         0xC => list(core, bus, half, parts::lists(half)),

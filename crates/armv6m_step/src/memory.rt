@@ -203,7 +203,6 @@ fn byte_from<B: Bus>(
 }
 
 /// Does the instruction, where the next one is at `next`.
-#[inline(always)]
 pub(crate) fn run<B: Bus>(core: &mut Core, bus: &mut B, next: u32, op: Memory) -> Result<(), Stop>
     ensures { Runs B.acts (memory core.old next op) core.old bus.old (end_of result) core.new bus.new }
 {
@@ -225,5 +224,82 @@ pub(crate) fn run<B: Bus>(core: &mut Core, bus: &mut B, next: u32, op: Memory) -
         Memory::LdrhImmediate { t, n, immediate: i } => half_into(core, bus, next, t, n, halves(i)),
         Memory::StrSp { t, immediate: i } => word_from(core, bus, next, t, SP, words(i)),
         Memory::LdrSp { t, immediate: i } => word_into(core, bus, next, t, SP, words(i)),
+    }
+}
+
+/// The same of an instruction that is likely one of these, which stand in line.
+#[inline(always)]
+pub(crate) fn run_literal<B: Bus>(core: &mut Core, bus: &mut B, next: u32, op: Memory) -> Result<(), Stop>
+    ensures { Runs B.acts (memory core.old next op) core.old bus.old (end_of result) core.new bus.new }
+{
+    match op {
+        Memory::LdrLiteral { t, immediate: i } => literal_into(core, bus, next, t, i),
+        _ => run(core, bus, next, op),
+    }
+}
+
+/// The same of an instruction that is likely one of these, which stand in line.
+#[inline(always)]
+pub(crate) fn run_by_register<B: Bus>(core: &mut Core, bus: &mut B, next: u32, op: Memory) -> Result<(), Stop>
+    ensures { Runs B.acts (memory core.old next op) core.old bus.old (end_of result) core.new bus.new }
+{
+    match op {
+        Memory::StrRegister { t, n, m } => word_from(core, bus, next, t, n, core.read(m)),
+        Memory::StrhRegister { t, n, m } => half_from(core, bus, next, t, n, core.read(m)),
+        Memory::StrbRegister { t, n, m } => byte_from(core, bus, next, t, n, core.read(m)),
+        Memory::LdrsbRegister { t, n, m } => signed_byte_into(core, bus, next, t, n, core.read(m)),
+        Memory::LdrRegister { t, n, m } => word_into(core, bus, next, t, n, core.read(m)),
+        Memory::LdrhRegister { t, n, m } => half_into(core, bus, next, t, n, core.read(m)),
+        Memory::LdrbRegister { t, n, m } => byte_into(core, bus, next, t, n, core.read(m)),
+        Memory::LdrshRegister { t, n, m } => signed_half_into(core, bus, next, t, n, core.read(m)),
+        _ => run(core, bus, next, op),
+    }
+}
+
+/// The same of an instruction that is likely one of these, which stand in line.
+#[inline(always)]
+pub(crate) fn run_words<B: Bus>(core: &mut Core, bus: &mut B, next: u32, op: Memory) -> Result<(), Stop>
+    ensures { Runs B.acts (memory core.old next op) core.old bus.old (end_of result) core.new bus.new }
+{
+    match op {
+        Memory::StrImmediate { t, n, immediate: i } => word_from(core, bus, next, t, n, words(i)),
+        Memory::LdrImmediate { t, n, immediate: i } => word_into(core, bus, next, t, n, words(i)),
+        _ => run(core, bus, next, op),
+    }
+}
+
+/// The same of an instruction that is likely one of these, which stand in line.
+#[inline(always)]
+pub(crate) fn run_bytes<B: Bus>(core: &mut Core, bus: &mut B, next: u32, op: Memory) -> Result<(), Stop>
+    ensures { Runs B.acts (memory core.old next op) core.old bus.old (end_of result) core.new bus.new }
+{
+    match op {
+        Memory::StrbImmediate { t, n, immediate: i } => byte_from(core, bus, next, t, n, bytes(i)),
+        Memory::LdrbImmediate { t, n, immediate: i } => byte_into(core, bus, next, t, n, bytes(i)),
+        _ => run(core, bus, next, op),
+    }
+}
+
+/// The same of an instruction that is likely one of these, which stand in line.
+#[inline(always)]
+pub(crate) fn run_halves<B: Bus>(core: &mut Core, bus: &mut B, next: u32, op: Memory) -> Result<(), Stop>
+    ensures { Runs B.acts (memory core.old next op) core.old bus.old (end_of result) core.new bus.new }
+{
+    match op {
+        Memory::StrhImmediate { t, n, immediate: i } => half_from(core, bus, next, t, n, halves(i)),
+        Memory::LdrhImmediate { t, n, immediate: i } => half_into(core, bus, next, t, n, halves(i)),
+        _ => run(core, bus, next, op),
+    }
+}
+
+/// The same of an instruction that is likely one of these, which stand in line.
+#[inline(always)]
+pub(crate) fn run_on_stack<B: Bus>(core: &mut Core, bus: &mut B, next: u32, op: Memory) -> Result<(), Stop>
+    ensures { Runs B.acts (memory core.old next op) core.old bus.old (end_of result) core.new bus.new }
+{
+    match op {
+        Memory::StrSp { t, immediate: i } => word_from(core, bus, next, t, SP, words(i)),
+        Memory::LdrSp { t, immediate: i } => word_into(core, bus, next, t, SP, words(i)),
+        _ => run(core, bus, next, op),
     }
 }

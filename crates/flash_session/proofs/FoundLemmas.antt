@@ -10,7 +10,7 @@ use Rattle.erase_planner.specs.Plans.{IsLeastPlan}
 use Rattle.algo_calls.specs.Duties.{cells_before}
 use Rattle.job_text.specs.Fits.{all_fit}
 use Rattle.job_text.specs.declared.job.Job.{Job}
-use Rattle.flash_session.specs.declared.survey.RegionSurvey.{RegionSurvey}
+use Rattle.flash_session.specs.declared.part.Part.{Part as RegionSurvey}
 use Rattle.flash_session.specs.declared.fault.SurveyFault.{SurveyFault}
 use Rattle.flash_session.specs.declared.fault.SurveyFault.TheVariants as survey
 use Rattle.bench_model.specs.Device.{HasDeviceCause}

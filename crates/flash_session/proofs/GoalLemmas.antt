@@ -14,7 +14,6 @@ use Rattle.job_text.specs.Stands.{StandsFor}
 use Rattle.job_text.specs.declared.job.Job.{Job}
 use Rattle.flash_session.specs.declared.goal.Goal.{Goal}
 use Rattle.flash_session.specs.Goals.{overlaid, goal_in}
-use Rattle.flash_session.specs.Reads.{HasGoal}
 use Rattle.flash_session.proofs.PartLemmas.{part_at}
 
 over_take : (image : List Run) (base n : ℕ) (cells : List ℕ) → take n (over image base cells) ≡ over image base (take n cells)
@@ -103,10 +102,3 @@ lay_here image r rest snapshot cells front back at here n inside long is held fr
     ap (λ (l : List ℕ). l ++ back) (front_is ∙ ap (λ (l : List ℕ). over image (r.base + at) l) (ap (take here) held ∙ take-take here n (drop at snapshot) less) ∙ over_from image r.base r.size at here snapshot within)
     ∙ ap (λ (l : List ℕ). take here (drop at whole) ++ l) back_is
     ∙ parts_of n at r.size here whole behind inside (omega (arith, length-over image r.base (take r.size snapshot), length-take r.size snapshot, long)) is
-
--- a file that was only read still gives the goal
-pub goal_still : (tells : Bool) (j : Job) (g : Goal) (bytes : List ℕ) (s t : BenchState) → HasGoal tells j g bytes s → FileIsRead tells s t → HasGoal tells j g bytes t
-goal_still tells j g bytes s t has reads = record {
-  stands = λ told. subst (λ (f : List ℕ). StandsFor j f) (sym (reads.file told)) (has.stands told);
-  gives = λ told. has.gives told ∙ ap (goal_in j g) (sym (reads.file told));
-}

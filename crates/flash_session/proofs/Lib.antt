@@ -1,11 +1,22 @@
 pub mod Runs
 pub mod Lists
 pub mod Playing
-mod Turning
-mod PhaseLemmas
-mod ScriptLemmas
 mod OutcomeLemmas
 mod FuelLemmas
+mod RestLemmas
+mod ItemLemmas
+pub mod StepLemmas
+mod MidwayLemmas
+mod CallEnds
+pub mod MachineLemmas
+pub mod TurnLemmas
+pub mod FitLemmas
+mod UnreadLemmas
+mod TurnMade
+pub mod GuardLemmas
+pub mod AloneLemmas
+mod TakesLemmas
+pub mod WholeLemmas
 pub mod JobLemmas
 mod GoLemmas
 mod PartingLemmas

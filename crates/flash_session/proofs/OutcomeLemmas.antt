@@ -1,30 +1,17 @@
 -- How a script ends on a bench, and that it ends so once what broken-off operations leave is given.
--- `follow` ends by them; the law `moves_have_one_end` is the last.
+-- The law `moves_have_one_end` is the last.
 use Rattle.std.proofs.Common.{◌≡◌, ◌<◌, ◌≤◌, ◌∙◌, ⊎_elim, ℕ, Bool, IsTrue, List, get_or, Option, Result, Ok, Err, Some, None, refl, sym, ap, subst, arith}
 use Rattle.std.proofs.lemmas.List.{get_or-take}
 use Rattle.std.proofs.lemmas.Bool.{cases_lt}
-use Rattle.bench_model.specs.State.{BenchState}
-use Rattle.bench_model.proofs.Moments.{leaves_then_nothing}
 use Rattle.readback.specs.declared.compare.Difference.{Difference}
 use Rattle.algo_calls.specs.declared.call.Call.{Call}
 use Rattle.algo_calls.specs.declared.call.CallEnd.{CallEnd}
-use Rattle.algo_calls.specs.Shows.{world_in}
-use Rattle.flash_session.specs.declared.session.Reached.{Reached}
 use Rattle.flash_session.specs.declared.session.SessionEnd.{SessionEnd}
 use Rattle.flash_session.specs.declared.session.SessionEnd.TheVariants as end
-use Rattle.flash_session.specs.declared.machines.Machines.{Machines}
-use Rattle.flash_session.specs.declared.script.Errand.{Errand}
-use Rattle.flash_session.specs.declared.driver.Stopped.{Stopped}
-use Rattle.flash_session.specs.declared.driver.Stopped.TheVariants as stopped
-use Rattle.flash_session.specs.Differs.{DiffersFirst, Compares}
-use Rattle.bench_model.specs.Calls.{IsRead}
+use Rattle.flash_session.specs.Differs.{DiffersFirst}
 use Rattle.flash_session.specs.Moves.{Move, Stand, Failure, failure, run, IsLeftOnWay}
-use Rattle.flash_session.specs.Drivers.{stand_of, legs_on}
-use Rattle.flash_session.specs.Plays.{IsAtBench, BreaksOff, IsNotDone, IsStop}
 use Rattle.flash_session.specs.Script.{Leg, script}
 use Rattle.flash_session.specs.Outcome.{GoTo, FailAt, IsEnd, Follows}
-use Rattle.flash_session.proofs.Runs.{end_on}
-use Rattle.flash_session.proofs.ScriptLemmas.{SomeScript}
 
 -- ---- one outcome
 
@@ -87,74 +74,3 @@ one_outcome a moves goal (end.CallFailed number call e) end.DeviceFault c d one 
 one_outcome a moves goal (end.CallFailed number call e) end.StoreFault c d one two = absurd two
 one_outcome a moves goal end.DeviceFault f c d one two = absurd one
 one_outcome a moves goal end.StoreFault f c d one two = absurd one
-
--- ---- the ends of a session
-
-pub sound_stop : (x : Stopped) (number : ℕ) (call : Call) (e : CallEnd) → x ≡ stopped.Call number call e → IsStop (Err x) → IsNotDone number e
-sound_stop x number call e is stop = subst (λ (y : Stopped). IsStop (Err y)) is stop
-
-module _ (tells : Bool) (t : Errand) (other : Option Errand) (goal : List ℕ) (before after : Machines) (s w : BenchState) (told : IsTrue tells) where
-  abbrev legs : List Leg
-  legs = legs_on before t other goal
-
-  as_stop : (x y : Stopped) → x ≡ y → SomeScript tells t other goal before (Err x) after s w → SomeScript tells t other goal before (Err y) after s w
-  as_stop x y is some = subst (λ (z : Stopped). SomeScript tells t other goal before (Err z) after s w) is some
-
-  -- a call failed
-  pub follows_call : (x : Stopped) (number : ℕ) (call : Call) (e : CallEnd) → x ≡ stopped.Call number call e → SomeScript tells t other goal before (Err x) after s w
-      → Follows legs goal (stand_of before.driver s.cells) (end.CallFailed number call e) s w
-  follows_call x number call e is found =
-      let some = as_stop x (stopped.Call number call e) is found in
-      let went = some.1.went told in
-      record { broken = some.0; ends = record { at = world_in after.driver.calls w.cells; ran = went.ends; leaves = refl }; moments = went.moments }
-
-  -- a fault of the device broke a move off, or bytes for a call could not be read
-  pub follows_device : (x : Stopped) → x ≡ stopped.Device → SomeScript tells t other goal before (Err x) after s w → Follows legs goal (stand_of before.driver s.cells) end.DeviceFault s w
-  follows_device x is found = let some = as_stop x stopped.Device is found in let went = some.1.went told in record { broken = some.0; ends = went.ends; moments = went.moments }
-
-  pub follows_store : (x : Stopped) → x ≡ stopped.Store → SomeScript tells t other goal before (Err x) after s w → Follows legs goal (stand_of before.driver s.cells) end.StoreFault s w
-  follows_store x is found = let some = as_stop x stopped.Store is found in let went = some.1.went told in record { broken = some.0; ends = went.ends; moments = went.moments }
-
-  module _ (u : Unit {0}) (some : SomeScript tells t other goal before (Ok u) after s w) (x : BenchState) (reads : IsRead tells w x) where
-    goes_to : GoTo (stand_of before.driver s.cells) (script legs some.0) x.cells
-    goes_to = record { last = stand_of after.driver w.cells; ran = (some.1.went told).ends; leaves = sym (reads.cells.cells told) }
-
-    -- the cells are the goal
-    pub follows_reached : (r : Reached) (count : ℕ) → Compares tells goal w.cells count None → Follows legs goal (stand_of before.driver s.cells) (end.Reached r) s x
-    follows_reached r count same = record {
-      broken = some.0;
-      ends = (goes_to, reads.cells.cells told ∙ same told);
-      moments = leaves_then_nothing (IsLeftOnWay (stand_of before.driver s.cells) (script legs some.0)) (some.1.went told).moments reads.cells.moments;
-    }
-
-    -- a cell is not the goal
-    pub follows_mismatch : (d : Difference) (count : ℕ) → Compares tells goal w.cells count (Some d) → Follows legs goal (stand_of before.driver s.cells) (end.Mismatch d) s x
-    follows_mismatch d count finds = record {
-      broken = some.0;
-      ends = (goes_to, subst (λ (l : List ℕ). DiffersFirst goal l d) (sym (reads.cells.cells told)) (finds.2 told));
-      moments = leaves_then_nothing (IsLeftOnWay (stand_of before.driver s.cells) (script legs some.0)) (some.1.went told).moments reads.cells.moments;
-    }
-
-    breaks_after : BreaksOff (stand_of before.driver s.cells) (script legs some.0) x
-    breaks_after =
-        let now : IsAtBench tells after.driver w = (some.1.ready refl).agrees in
-        record {
-          at = world_in after.driver.calls w.cells;
-          on = end_on (stand_of before.driver s.cells) (stand_of after.driver w.cells) (script legs some.0) (some.1.went told).ends;
-          shows = record { cells = reads.cells.cells told; operation = reads.cells.operation told ∙ now.operation told };
-        }
-
-    -- they could not be compared
-    pub follows_unread : Follows legs goal (stand_of before.driver s.cells) end.DeviceFault s x
-    follows_unread = record {
-      broken = some.0;
-      ends = breaks_after;
-      moments = leaves_then_nothing (IsLeftOnWay (stand_of before.driver s.cells) (script legs some.0)) (some.1.went told).moments reads.cells.moments;
-    }
-
-    pub follows_unstored : Follows legs goal (stand_of before.driver s.cells) end.StoreFault s x
-    follows_unstored = record {
-      broken = some.0;
-      ends = breaks_after;
-      moments = leaves_then_nothing (IsLeftOnWay (stand_of before.driver s.cells) (script legs some.0)) (some.1.went told).moments reads.cells.moments;
-    }

@@ -7,48 +7,50 @@ use Rattle.flm_descriptor.specs.Shown.{Shown as AlgorithmShown}
 use Rattle.flash_layout.specs.Maps.{board_map}
 use Rattle.job_text.specs.Said.{algorithms_shown}
 use Rattle.job_text.specs.declared.job.Job.{Job}
-use Rattle.algo_calls.specs.declared.calls.Calls.{Calls}
+use Rattle.algo_calls.specs.declared.calls_in.CallsIn.{CallsIn}
 use Rattle.algo_calls.specs.Setups.{Setup, setup_of}
-use Rattle.algo_calls.specs.Shows.{setup_in, map_in}
-use Rattle.flash_session.specs.declared.machines.Machines.{Machines}
+use Rattle.target_core.specs.Windows.{IsRam}
+use Rattle.algo_calls.specs.Shows.{setup_at, Fits}
+use Rattle.flash_session.specs.declared.player.Player.{Player}
 use Rattle.flash_session.specs.declared.parts.Work.{Work}
-use Rattle.flash_session.specs.declared.survey.RegionSurvey.{RegionSurvey}
-use Rattle.flash_session.specs.declared.survey.Survey.{Survey}
-use Rattle.flash_session.specs.Drivers.{of_region, setup_on, map_on, setups_of, one_or_both}
+use Rattle.flash_session.specs.declared.part.Part.{Part as RegionSurvey}
+use Rattle.flash_session.specs.declared.ready.Survey.{Survey}
+use Rattle.flash_session.specs.Targets.{of_region, setup_on, map_of, one_or_both}
+use Rattle.flash_session.proofs.MachineLemmas.{map_moved}
+use Rattle.flash_session.proofs.StepLemmas.{setup_moved}
 use Rattle.flash_session.specs.Parts.{ArePartsOf, GivesPart, GivesLater}
 use Rattle.flash_session.specs.Script.{Planned}
 use Rattle.flash_session.specs.Sessions.{shown_in}
-use Rattle.flash_session.specs.Starts.{setups_for, AreMachinesFor}
+use Rattle.flash_session.specs.Starts.{setups_for, AreCallsFor}
 use Rattle.flash_session.specs.Surveys.{planned_of, regions_of}
 use Rattle.flash_session.specs.SurveyFacts.{IsRegionSurvey, AreRegionSurveys, IsSurvey}
 use Rattle.flash_session.proofs.GoLemmas.{first_setup, second_setup}
 use Rattle.flash_session.proofs.JobLemmas.{counts_are}
-use Rattle.flash_session.proofs.Turning.{calls_moved}
 
 -- ---- the pieces
 
 -- the second region's calls are the other ones, while the first region's machine is the one that moved last
-second_calls : (moved : Bool) (here c : Calls) → moved ≡ false → of_region true moved here (Some c) ≡ c
+second_calls : (moved : Bool) (here c : CallsIn) → moved ≡ false → of_region true moved here (Some c) ≡ c
 second_calls false here c is = refl
 second_calls true here c is = cc
 
-module _ (j : Job) (m : Machines) (are : AreMachinesFor j m) (first : m.second ≡ false) where
-  here : setup_on m false ≡ setup_in m.driver.calls
-  here = ap (λ (c : Calls). setup_in c) (calls_moved m false first)
+module _ (j : Job) (m : Player) (are : AreCallsFor j m.second m.calls m.other) (first : m.second ≡ false) where
+  here : setup_on m false ≡ setup_at m.calls
+  here = setup_moved m false first
 
-  map_here : map_in m.driver.calls ≡ board_map (board_of j.board)
-  map_here = sym (ap (λ (c : Calls). map_in c) (calls_moved m false first)) ∙ are.maps false
+  map_here : map_of m.calls ≡ board_map (board_of j.board)
+  map_here = sym (map_moved m false first) ∙ are.maps false
 
-  later_part : (o : Option Calls) (r : RegionSurvey) (c : AlgorithmShown) (start : ℕ) (q : Option Work) → m.other ≡ o → (is_some o ≡ true) → setup_on m true ≡ setup_of c (board_of j.board) → IsRegionSurvey c start r → GivesLater (Some r) o q
+  later_part : (o : Option CallsIn) (r : RegionSurvey) (c : AlgorithmShown) (start : ℕ) (q : Option Work) → m.other ≡ o → (is_some o ≡ true) → setup_on m true ≡ setup_of c (board_of j.board) → IsRegionSurvey c start r → GivesLater (Some r) o q
       → ArePartsOf (board_of j.board) (c ∷ []) (planned_of r ∷ []) (option_to_list q)
   later_part None r c start q is some setup work gives = absurd (false≢true some)
   later_part (Some k) r c start None is some setup work gives = absurd gives
   later_part (Some k) r c start (Some p) is some setup work gives =
-      let there : of_region true m.second m.driver.calls m.other ≡ k = ap (λ (o : Option Calls). of_region true m.second m.driver.calls o) is ∙ second_calls m.second m.driver.calls k first in
-      (gives.gives (board_of j.board) c (sym (ap (λ (x : Calls). setup_in x) there) ∙ setup) (sym (ap (λ (x : Calls). map_in x) there) ∙ are.maps true) work.work, tt)
+      let there : of_region true m.second m.calls m.other ≡ k = ap (λ (o : Option CallsIn). of_region true m.second m.calls o) is ∙ second_calls m.second m.calls k first in
+      (gives.gives (board_of j.board) c (sym (ap (λ (x : CallsIn). setup_at x) there) ∙ setup) (sym (ap (λ (x : CallsIn). map_of x) there) ∙ are.maps true) work.work, tt)
 
-  parts_by : (algorithms : List AlgorithmShown) (r : RegionSurvey) (second : Option RegionSurvey) (p : Work) (q : Option Work) → AreRegionSurveys algorithms 0 (r ∷ option_to_list second) → setups_of m ≡ setups_for (board_of j.board) algorithms
-      → GivesPart r m.driver.calls p → GivesLater second m.other q → ArePartsOf (board_of j.board) algorithms (map planned_of (r ∷ option_to_list second)) (p ∷ option_to_list q)
+  parts_by : (algorithms : List AlgorithmShown) (r : RegionSurvey) (second : Option RegionSurvey) (p : Work) (q : Option Work) → AreRegionSurveys algorithms 0 (r ∷ option_to_list second) → one_or_both (is_some m.other) (setup_on m false) (setup_on m true) ≡ setups_for (board_of j.board) algorithms
+      → GivesPart r m.calls p → GivesLater second m.other q → ArePartsOf (board_of j.board) algorithms (map planned_of (r ∷ option_to_list second)) (p ∷ option_to_list q)
   parts_by [] r second p q works setups one later = absurd works
   parts_by (a ∷ []) r None p None works setups one later =
       (one.gives (board_of j.board) a (sym here ∙ first_setup (is_some m.other) _ _ (setup_of a (board_of j.board)) [] setups) map_here works.0.work, tt)
@@ -62,8 +64,8 @@ module _ (j : Job) (m : Machines) (are : AreMachinesFor j m) (first : m.second �
       )
   parts_by (a ∷ c ∷ d ∷ rest) r (Some s) p q works setups one later = absurd works.1.1
 
-pub parts_are : (j : Job) (m : Machines) (r : RegionSurvey) (second : Option RegionSurvey) (p : Work) (q : Option Work) → AreRegionSurveys (algorithms_shown j.algorithms) 0 (r ∷ option_to_list second)
-    → AreMachinesFor j m → m.second ≡ false → GivesPart r m.driver.calls p → GivesLater second m.other q
+pub parts_are : (j : Job) (m : Player) (r : RegionSurvey) (second : Option RegionSurvey) (p : Work) (q : Option Work) → AreRegionSurveys (algorithms_shown j.algorithms) 0 (r ∷ option_to_list second)
+    → AreCallsFor j m.second m.calls m.other → m.second ≡ false → GivesPart r m.calls p → GivesLater second m.other q
     → ArePartsOf (board_of j.board) (algorithms_shown j.algorithms) (map planned_of (r ∷ option_to_list second)) (p ∷ option_to_list q)
 parts_are j m r second p q works are first one later = parts_by j m are first (algorithms_shown j.algorithms) r second p q works are.setups one later
 
@@ -94,3 +96,8 @@ module _ (o : Option Survey) (w : Survey) (k : ℕ) (r : RegionSurvey) (is : o �
 
   pub layout_from : IfSome (shown_in o) (λ v. (other : Planned) → r.geometry ≡ (get_or v.regions k other).layout)
   layout_from = subst (λ (x : Option Survey). IfSome (shown_in x) (λ v. (other : Planned) → r.geometry ≡ (get_or v.regions k other).layout)) (sym is) (λ other. ap (λ (p : Planned). p.layout) (found other))
+
+-- the other calls fit a window that stays as long
+pub fits_then : (o : Option CallsIn) (arena arena' : List (List ℕ)) (window : ℕ) → ((size : ℕ) → IsRam arena window size → IsRam arena' window size) → IfSome o (λ c. Fits c arena window) → IfSome o (λ c. Fits c arena' window)
+fits_then None arena arena' window still fits = tt
+fits_then (Some c) arena arena' window still fits = still c.machine.ram_size fits

@@ -3,7 +3,7 @@ use Rattle.std.specs.Prelude.{◌<◌, ◌+◌, ◌^◌, ℕ, Bool, IsTrue, All,
 use Rattle.board_file.specs.Shown.{shown as board_of}
 use Rattle.flm_descriptor.specs.Shown.{Shown as AlgorithmShown}
 use Rattle.job_text.specs.declared.job.Job.{Job}
-use Rattle.flash_session.specs.declared.survey.RegionSurvey.{RegionSurvey}
+use Rattle.flash_session.specs.declared.part.Part.{Part as RegionSurvey}
 use Rattle.flash_session.specs.Surveys.{IsPlannedFor, planned_of}
 use Rattle.flash_session.specs.SurveyFacts.{IsRegionSurvey}
 

@@ -6,15 +6,16 @@ use Rattle.flm_descriptor.specs.Shown.{Shown as AlgorithmShown}
 use Rattle.target_core.specs.Units.{unit_cells}
 use Rattle.target_core.specs.Windows.{window_of}
 use Rattle.algo_calls.specs.Setups.{setup_of}
-use Rattle.algo_calls.specs.declared.calls.Calls.{Calls}
-use Rattle.algo_calls.specs.Shows.{setup_at, world_at, setup_in, map_in}
+use Rattle.algo_calls.specs.declared.calls_in.CallsIn.{CallsIn}
+use Rattle.algo_calls.specs.Shows.{setup_at, world_at}
 use Rattle.flash_session.specs.declared.parts.Parts.{Parts}
 use Rattle.flash_session.specs.declared.parts.Work.{Work}
 use Rattle.flash_session.specs.Script.{Planned}
 use Rattle.flash_layout.specs.Maps.{board_map}
-use Rattle.flash_session.specs.declared.survey.RegionSurvey.{RegionSurvey}
+use Rattle.flash_session.specs.declared.part.Part.{Part as RegionSurvey}
 use Rattle.flash_session.specs.Starts.{start_of}
 use Rattle.flash_session.specs.Surveys.{planned_of}
+use Rattle.flash_session.specs.Targets.{map_of}
 use Rattle.flash_session.specs.SurveyFacts.{IsWorkFor}
 
 -- Work on a region of a board as a survey left it. With a RAM of zero bytes the machine is the board's target as after a reset.
@@ -37,11 +38,11 @@ abbrev pub works_in : Parts → List Work
 works_in p = p.first ∷ option_to_list p.second
 
 -- the work on a region and its calls give this
-pub record GivesPart (r : RegionSurvey) (c : Calls) (w : Work) : Type 0 where
-  pub gives : (b : BoardShown) (a : AlgorithmShown) → setup_in c ≡ setup_of a b → map_in c ≡ board_map b → IsWorkFor a r.geometry r.plan.made
+pub record GivesPart (r : RegionSurvey) (c : CallsIn) (w : Work) : Type 0 where
+  pub gives : (b : BoardShown) (a : AlgorithmShown) → setup_at c ≡ setup_of a b → map_of c ≡ board_map b → IsWorkFor a r.geometry r.plan.made
       → IsPartOf b a (planned_of r) w
 
-abbrev pub GivesLater : Option RegionSurvey → Option Calls → Option Work → Type 0
+abbrev pub GivesLater : Option RegionSurvey → Option CallsIn → Option Work → Type 0
 GivesLater None c None = Unit {0}
 GivesLater None c (Some w) = ⊥
 GivesLater (Some r) None w = Unit {0}

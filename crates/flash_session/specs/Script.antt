@@ -8,8 +8,8 @@ use Rattle.algo_calls.specs.declared.call.Call.{Call}
 use Rattle.algo_calls.specs.declared.call.Call.TheVariants.{Init, UnInit, EraseSector, EraseChip, ProgramPage, Verify}
 use Rattle.algo_calls.specs.Setups.{Setup}
 use Rattle.flash_session.specs.Moves.{Move, Reset, Load, Make}
-use Rattle.flash_session.specs.declared.script.Phase.{Phase}
-use Rattle.flash_session.specs.declared.script.Phase.TheVariants as stage
+use Rattle.flash_session.specs.declared.phase.Phase.{Phase}
+use Rattle.flash_session.specs.declared.phase.Phase.TheVariants as stage
 
 -- a plan of a region: its sectors and pages, the address of its first byte, and what to erase and to program
 pub record Planned : Type 0 where

@@ -15,59 +15,23 @@ ghost use Rattle.flash_session.specs.SurveyFacts.{HasRoom, IsSurvey};
 ghost use Rattle.erase_planner.specs.Marks.{Covers, Fed, SpareStays};
 ghost use Rattle.erase_planner.specs.Plans.{IsLeastPlan};
 
-use crate::driver::{algorithms_of, machines_for};
+use crate::cursor::{Cursor, Place};
 use crate::fault::SurveyFault;
 use crate::goal::{Goal, WINDOW, want_into, window_end};
-use crate::machines::Machines;
+use crate::part::{Part, Task};
+use crate::phase::Phase;
+use crate::player::Player;
+use crate::ready::Survey;
+use crate::region_calls::{algorithms_of, calls_of_job};
 use bench_model::Bench;
 use erase_planner::{Plan, plan_feed, plan_finish, plan_start};
 use faults::OutOfMemory;
 use flm_descriptor::Algorithm;
 use job_text::Job;
 use page_geometry::Geometry;
+use ram_arena::Arena;
 use readback::read_cells;
 use std::alloc::Global;
-
-/// What a survey found in a region: the sectors and pages, what to erase and to program of them, the address of the first byte, and the
-/// place of the first cell.
-#[derive(Drop)]
-pub(crate) struct RegionSurvey {
-    pub geometry: Geometry,
-    pub plan: Plan,
-    pub base: u32,
-    pub start: u32,
-}
-
-/// What a survey found in the first region and, where the board has two, in the second, and to which goal; and what the script needs: the
-/// machines with their algorithms, and a buffer for a page of either.
-#[derive(Drop)]
-pub(crate) struct Survey {
-    pub first: RegionSurvey,
-    pub second: Option<RegionSurvey>,
-    pub goal: Goal,
-    pub machines: Machines,
-    pub page: Vec<u8>,
-}
-
-impl Survey {
-    ghost use Rattle.std.specs.Prelude.{◌≡◌, ◌<◌, length, get_or};
-    ghost use Rattle.flash_session.specs.declared.survey.RegionSurvey.{RegionSurvey};
-    ghost use Rattle.flash_session.specs.Surveys.{regions_of};
-
-    /// What was found in a region.
-    pub fn region(&self, region: usize) -> &RegionSurvey
-        requires { region < length (regions_of self.now) }
-        ensures { (other : RegionSurvey) → result.now ≡ get_or (regions_of self.now) region other }
-    {
-        if region == 0 {
-            return &self.first;
-        }
-        match &self.second {
-            Some(second) => second,
-            None => unreachable!(),
-        }
-    }
-}
 
 /// What is surveyed: the cells of a region, for a goal.
 #[derive(Clone, Copy)]
@@ -266,7 +230,7 @@ fn survey_region<B: Bench>(
     algorithm: &Algorithm,
     start: u32,
     goal: Goal,
-) -> Result<RegionSurvey, SurveyFault>
+) -> Result<Part, SurveyFault>
     requires inside { start + algorithm.now.device.size ≤ size_of job.now.board.regions }
     requires count { (B.state bench.old).cell_count ≡ size_of job.now.board.regions }
     requires idle { IsTrue B.tells → (B.state bench.old).operation ≡ None }
@@ -290,7 +254,7 @@ fn survey_region<B: Bench>(
         goal,
     };
     read_and_plan(bench, &aim, &mut plan)?;
-    Ok(RegionSurvey {
+    Ok(Part {
         geometry,
         plan,
         base: algorithm.device.base,
@@ -306,7 +270,7 @@ fn survey_second<B: Bench>(
     first: &Algorithm,
     second: Option<&Algorithm>,
     goal: Goal,
-) -> Result<Option<RegionSurvey>, SurveyFault>
+) -> Result<Option<Part>, SurveyFault>
     requires are { algorithms_shown job.now.algorithms ≡ algorithm_of first.now ∷ later_shown second }
     requires count { (B.state bench.old).cell_count ≡ size_of job.now.board.regions }
     requires idle { IsTrue B.tells → (B.state bench.old).operation ≡ None }
@@ -355,15 +319,28 @@ pub(crate) fn survey_for<B: Bench>(
     ensures device { HasDeviceCause (B.state bench.old).device_faults (B.state bench.new).device_faults (is_survey_device result) }
 {
     let (algorithm, other) = algorithms_of(job);
-    let machines = machines_for(alloc, job)?;
+    let machines = calls_of_job(alloc, job)?;
+    let (calls, other_calls) = machines;
+    let arena = Arena::new(alloc, &[job.board.ram_size])?;
     let page = zeros(alloc, longest_page(algorithm, other) as usize)?;
     let first = survey_region(alloc, bench, job, algorithm, 0, goal)?;
     let second = survey_second(alloc, bench, job, algorithm, other, goal)?;
-    Ok(Survey {
-        first,
-        second,
-        goal,
-        machines,
+    let player = Player {
+        calls,
+        second: false,
+        other: other_calls,
+        window: 0,
+        task: Task {
+            goal,
+            first,
+            second,
+        },
         page,
-    })
+        made: 0,
+        place: Place::At(Cursor::Begin {
+            second: false,
+            phase: Phase::Erase,
+        }),
+    };
+    Ok(Survey { player, arena })
 }

@@ -43,10 +43,10 @@ use Rattle.command_answers.proofs.FileLemmas.{AreOne, not_free, one_job}
 use Rattle.job_commands.specs.Refused.{of_session, of_survey}
 use Rattle.report_text.specs.Refusal.{status_of}
 use Rattle.report_text.proofs.StatusLemmas.{some_status}
-use Rattle.gang_target.specs.declared.target_end.TargetEnd.{TargetEnd}
-use Rattle.gang_target.specs.declared.target_end.TargetEnd.TheVariants as ended
-use Rattle.gang_target.specs.Alone.{FollowsAs}
-use Rattle.gang_target.specs.Guarded.{FileEnd}
+use Rattle.flash_session.specs.declared.target_end.TargetEnd.{TargetEnd}
+use Rattle.flash_session.specs.declared.target_end.TargetEnd.TheVariants as ended
+use Rattle.flash_session.specs.Alone.{FollowsAs}
+use Rattle.flash_session.specs.Guarded.{FileEnd}
 use Rattle.gang_run.specs.declared.gang.Gang.{Gang}
 use Rattle.gang_run.specs.Gangs.{AreReady}
 use Rattle.gang_run.specs.Opening.{AreOpened}

@@ -28,20 +28,19 @@ use Rattle.flash_session.specs.Starts.{job_start}
 use Rattle.flash_session.specs.Surveys.{HasSurveyed}
 use Rattle.flash_session.proofs.JobLemmas.{goal_length}
 use Rattle.readback.specs.declared.compare.Difference.{Difference}
-use Rattle.gang_target.specs.declared.cursor.Place.{Place}
-use Rattle.gang_target.specs.declared.cursor.Place.TheVariants as place
-use Rattle.gang_target.specs.declared.target_end.TargetEnd.{TargetEnd}
-use Rattle.gang_target.specs.declared.target_end.TargetEnd.TheVariants as ended
-use Rattle.gang_target.specs.declared.target_end.Turn.TheVariants as turn
-use Rattle.gang_target.specs.declared.part.Task.{Task}
-use Rattle.gang_target.specs.declared.target.GangTarget.{GangTarget}
-use Rattle.gang_target.specs.Alone.{FollowsAs}
-use Rattle.gang_target.specs.Fit.{IsScriptEnd}
-use Rattle.gang_target.specs.Guarded.{HasBody}
-use Rattle.gang_target.specs.Guarded as guarded
-use Rattle.gang_target.specs.Targets.{goal_for, point_for}
-use Rattle.gang_target.specs.Turns.{IsUnended, turn_of, is_device_target, is_store_target}
-use Rattle.gang_target.proofs.AloneLemmas.{stands_first}
+use Rattle.flash_session.specs.declared.cursor.Place.{Place}
+use Rattle.flash_session.specs.declared.cursor.Place.TheVariants as place
+use Rattle.flash_session.specs.declared.target_end.TargetEnd.{TargetEnd}
+use Rattle.flash_session.specs.declared.target_end.TargetEnd.TheVariants as ended
+use Rattle.flash_session.specs.declared.target_end.Turn.TheVariants as turn
+use Rattle.gang_run.specs.declared.target.GangTarget.{GangTarget}
+use Rattle.flash_session.specs.Alone.{FollowsAs}
+use Rattle.flash_session.specs.Fit.{IsScriptEnd}
+use Rattle.flash_session.specs.Guarded.{HasBody}
+use Rattle.flash_session.specs.Guarded as guarded
+use Rattle.flash_session.specs.Targets.{goal_for, point_for}
+use Rattle.flash_session.specs.Turns.{IsUnended, turn_of, is_device_target, is_store_target}
+use Rattle.flash_session.proofs.AloneLemmas.{stands_first}
 use Rattle.gang_run.specs.declared.gang.Gang.{Gang}
 use Rattle.gang_run.specs.declared.slot.Slot.{Slot}
 use Rattle.gang_run.specs.declared.slot.Slot.TheVariants as slot
@@ -124,8 +123,8 @@ pairs_behind s m t at body goal laid first files cells next is = record {
 
 -- ---- a target that had made no move
 
-abbrev carried_to : TargetEnd → Task → Outcome
-carried_to e k = record { end = e; regions = Some k.job.board.regions }
+abbrev carried_to : TargetEnd → Job → Outcome
+carried_to e k = record { end = e; regions = Some k.board.regions }
 
 module _ {B : Type 0} (G : Ghosts B) (s : BenchState) (begun : B) (t : BenchState) (arena arena' : List (List ℕ)) (x : GangTarget) (new : Slot)
     (begins : Begins G.tells x arena s (G.state begun)) (looked : IsLookedAt G.tells s (G.state begun)) (ready : IsReady G.tells (slot.Target x) arena (G.state begun)) (over : slot_turn new ≡ turn.Ended) where
@@ -133,19 +132,19 @@ module _ {B : Type 0} (G : Ghosts B) (s : BenchState) (begun : B) (t : BenchStat
   m = G.state begun
 
   abbrev j : Job
-  j = x.task.job
+  j = x.job
 
   abbrev first_stand : Stand
-  first_stand = stand_at 0 (point_for x arena m.cells).world
+  first_stand = stand_at 0 (point_for x.player arena m.cells).world
 
-  going : IsUnended x.place
+  going : IsUnended x.player.place
   going = subst (λ (p : Place). IsUnended p) (sym begins.place) tt
 
   sized : size_of j.board.regions ≡ s.cell_count
-  sized = let fit = (ready going).fit in sym fit.wanted ∙ sym fit.agrees.count ∙ looked.count
+  sized = let fit = (ready going).fit in (ready going).size ∙ sym fit.wanted ∙ sym fit.agrees.count ∙ looked.count
 
   stands_so : SlotStands first_stand [] (slot.Target x) arena m
-  stands_so = (going, stands_first x (goal_for x m.file) arena m begins.place begins.made)
+  stands_so = (going, stands_first x.player (goal_for x.job x.player m.file) arena m begins.place begins.made)
 
   module _ (told : IsTrue G.tells) (since : SlotSince first_stand [] (slot.Target x) m new arena' t) where
     stands : StandsFor j s.file
@@ -157,27 +156,27 @@ module _ {B : Type 0} (G : Ghosts B) (s : BenchState) (begun : B) (t : BenchStat
     alone : EndsAlone first_stand x m new t (body_of stands.text)
     alone = alone_of first_stand x m new arena' t (body_of stands.text) (same_file ∙ stands.whole) since over
 
-    same_task : alone.target.task ≡ x.task
-    same_task = let same : slot.Target alone.target ≡ slot.Target since.target = sym alone.is ∙ since.is in
+    same_job : alone.target.job ≡ x.job
+    same_job = let same : slot.Target alone.target ≡ slot.Target since.target = sym alone.is ∙ since.is in
         let targets : alone.target ≡ since.target = cc in
-        ap (λ (y : GangTarget). y.task) targets ∙ since.same.task
+        ap (λ (y : GangTarget). y.job) targets ∙ since.job
 
     abbrev its : Outcome
     its = record { end = alone.end; regions = Some j.board.regions }
 
     its_outcome : outcome_of new ≡ its
     its_outcome = ap outcome_of alone.is
-        ∙ ap (λ (p : Place). carried_to (end_of p) alone.target.task) alone.place_is
-        ∙ ap (λ (k : Task). carried_to alone.end k) same_task
+        ∙ ap (λ (p : Place). carried_to (end_of p) alone.target.job) alone.place_is
+        ∙ ap (λ (k : Job). carried_to alone.end k) same_job
 
-    goal_is : goal_for x m.file ≡ goal_in j New s.file
+    goal_is : goal_for x.job x.player m.file ≡ goal_in j New s.file
     goal_is = ap (λ (g : Goal). goal_in j g m.file) begins.goal ∙ ap (λ (f : List ℕ). goal_in j New f) same_file
 
     follows_so : FollowsAs (job_legs j begins.surveyed s.file) (goal_in j New s.file) (job_start j m.cells) alone.end m t
     follows_so =
         subst (λ (a : Stand). FollowsAs (job_legs j begins.surveyed s.file) (goal_in j New s.file) a alone.end m t) (ap (λ (w : World). stand_at 0 w) (begins.world m.cells))
         (subst (λ (g : List ℕ). FollowsAs (job_legs j begins.surveyed s.file) g first_stand alone.end m t) goal_is
-        (subst (λ (l : List Leg). FollowsAs l (goal_for x m.file) first_stand alone.end m t) (begins.legs ∙ ap (λ (f : List ℕ). job_legs j begins.surveyed f) same_file) alone.follows))
+        (subst (λ (l : List Leg). FollowsAs l (goal_for x.job x.player m.file) first_stand alone.end m t) (begins.legs ∙ ap (λ (f : List ℕ). job_legs j begins.surveyed f) same_file) alone.follows))
 
     its_carries : Carries G s its t
     its_carries = record {
@@ -198,7 +197,7 @@ module _ {B : Type 0} (G : Ghosts B) (s : BenchState) (begun : B) (t : BenchStat
       closed = alone.idle;
       turn = alone.pairs.0;
       stops = record {
-        pairs = pairs_behind s m t alone.pairs.0 (body_of stands.text) (goal_for x m.file) (overlaid j.image j.board.regions stands.text.snapshot) looked.pairs since.files since.goes.moments.goes_on alone.pairs.1
+        pairs = pairs_behind s m t alone.pairs.0 (body_of stands.text) (goal_for x.job x.player m.file) (overlaid j.image j.board.regions stands.text.snapshot) looked.pairs since.files since.goes.moments.goes_on alone.pairs.1
             (goal_is ∙ ap (λ (c : List ℕ). overlaid j.image j.board.regions c) (sym stands.snapshot));
       };
     }
@@ -213,7 +212,7 @@ module _ {B : Type 0} (G : Ghosts B) (s : BenchState) (begun : B) (t : BenchStat
   pub target_ends : TargetKept x m new t → IsSlot new → (IsTrue G.tells → (a : Stand) → SlotStands a [] (slot.Target x) arena m → SlotSince a [] (slot.Target x) m new arena' t) → EndsOn G s (outcome_of new) t
   target_ends kept lawful since =
       let y : GangTarget = kept.target in
-      let at : (e : TargetEnd) × (y.place ≡ place.Ended e) = over_place y.place (ap slot_turn (sym kept.is) ∙ over) in
+      let at : (e : TargetEnd) × (y.player.place ≡ place.Ended e) = over_place y.player.place (ap slot_turn (sym kept.is) ∙ over) in
       let end_is : (outcome_of new).end ≡ at.0 = ap (λ (n : Slot). (outcome_of n).end) kept.is ∙ ap end_of at.1 in
       let by_script : IsScriptEnd at.0 = subst (λ (p : Place). EndsByScript p) at.1 (subst IsSlot kept.is lawful) in
       let script : IsScriptEnd (outcome_of new).end = subst IsScriptEnd (sym end_is) by_script in
@@ -239,7 +238,7 @@ module _ {B : Type 0} (G : Ghosts B) where
       subst (λ (b : B). EndsOn G s (outcome_of new) (G.state b)) (sym kept.1)
       (subst (λ (n : Slot). EndsOn G s (outcome_of n) (G.state begun)) (sym kept.0) (refused_ends G s (G.state begun) e opened.0 opened.1))
   slot_ends (slot.Target x) arena arena' s begun bench new opened ready kept lawful over since =
-      let going : IsUnended x.place = subst (λ (p : Place). IsUnended p) (sym opened.1.place) tt in
+      let going : IsUnended x.player.place = subst (λ (p : Place). IsUnended p) (sym opened.1.place) tt in
       target_ends G s begun (G.state bench) arena arena' x new opened.1 opened.0 ready over (kept going) lawful since
 
   pub all_end : (benches begun after : List B) (opened now : Gang) → length begun ≡ length benches → length after ≡ length begun → length after ≡ length now.slots.items → AreOpened G benches opened begun → AreReady G opened begun

@@ -9,7 +9,7 @@ use Rattle.report_text.specs.Refusal.{Refusal, status_of}
 use Rattle.report_text.specs.Target.{target_line}
 use Rattle.report_text.proofs.StatusLemmas.{some_status}
 use Rattle.flash_session.specs.declared.fault.SurveyFault.TheVariants as survey
-use Rattle.gang_target.specs.declared.target_end.TargetEnd.TheVariants as ended
+use Rattle.flash_session.specs.declared.target_end.TargetEnd.TheVariants as ended
 use Rattle.gang_run.specs.declared.gang.Gang.{Gang}
 use Rattle.gang_run.specs.declared.slot.Slot.TheVariants as slot
 use Rattle.gang_run.specs.Gangs.{slot_at}

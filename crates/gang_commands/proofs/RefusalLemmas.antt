@@ -9,12 +9,12 @@ use Rattle.board_file.specs.declared.region.Region.{Region}
 use Rattle.board_file.specs.Limits.{size_of}
 use Rattle.command_answers.specs.Places.{address_at}
 use Rattle.job_text.specs.declared.job.Job.{Job}
-use Rattle.gang_target.specs.declared.cursor.Place.{Place}
-use Rattle.gang_target.specs.declared.cursor.Place.TheVariants as place
-use Rattle.gang_target.specs.declared.target_end.TargetEnd.{TargetEnd}
-use Rattle.gang_target.specs.declared.target_end.Turn.TheVariants as turn
-use Rattle.gang_target.specs.Ended.{IsEndAt}
-use Rattle.gang_target.specs.Turns.{turn_of}
+use Rattle.flash_session.specs.declared.cursor.Place.{Place}
+use Rattle.flash_session.specs.declared.cursor.Place.TheVariants as place
+use Rattle.flash_session.specs.declared.target_end.TargetEnd.{TargetEnd}
+use Rattle.flash_session.specs.declared.target_end.Turn.TheVariants as turn
+use Rattle.flash_session.specs.Ended.{IsEndAt}
+use Rattle.flash_session.specs.Turns.{turn_of}
 use Rattle.gang_run.specs.declared.slot.Slot.{Slot}
 use Rattle.gang_run.specs.declared.slot.Slot.TheVariants as slot
 use Rattle.gang_run.specs.Slots.{slot_turn, IsSlotEnd, IsSlotJob}
@@ -29,7 +29,7 @@ end_at (place.Ended f) e is = is
 
 pub end_is : (s : Slot) (e : Bor TargetEnd) → IsSlotEnd s (Some e) → e.now ≡ (outcome_of s).end
 end_is (slot.Refused f) e is = is
-end_is (slot.Target x) e is = end_at x.place e is
+end_is (slot.Target x) e is = end_at x.player.place e is
 
 pub regions_are : (s : Slot) (o : Option (Bor Job)) → IsSlotJob s o → regions_of o ≡ (outcome_of s).regions
 regions_are (slot.Refused f) None is = refl
@@ -47,7 +47,7 @@ none_at (place.Ended f) over is = is
 -- a target that has ended has an end
 pub has_end : (s : Slot) → slot_turn s ≡ turn.Ended → IsSlotEnd s None → ⊥
 has_end (slot.Refused f) over is = is
-has_end (slot.Target x) over is = none_at x.place over is
+has_end (slot.Target x) over is = none_at x.player.place over is
 
 -- ---- addresses
 

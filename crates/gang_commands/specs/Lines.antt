@@ -1,8 +1,8 @@
 -- What a gang says of its targets: a line for each, and a status.
 use Rattle.std.specs.Prelude.{ℕ, ◌+◌, List, [], ◌∷◌, ◌++◌, Option, Some, None, unwrap_or}
 use Rattle.board_file.specs.declared.region.Region.{Region}
-use Rattle.gang_target.specs.declared.target_end.TargetEnd.{TargetEnd}
-use Rattle.gang_target.specs.declared.target_end.TargetEnd.TheVariants as ended
+use Rattle.flash_session.specs.declared.target_end.TargetEnd.{TargetEnd}
+use Rattle.flash_session.specs.declared.target_end.TargetEnd.TheVariants as ended
 use Rattle.report_text.specs.Refusal.{Refusal, status_of, store_fault, device_fault, call_failed}
 use Rattle.report_text.specs.Refusal.{mismatch}
 use Rattle.report_text.specs.Target.{target_line}

@@ -7,11 +7,11 @@ use Rattle.job_text.specs.declared.job.Job.{Job}
 use Rattle.outside_io.specs.declared.sink.OutputFault.{OutputFault}
 use Rattle.report_text.specs.Refusal.{Refusal, status_of}
 use Rattle.command_answers.specs.Call.{SinkCall, TookAll, TookPart}
-use Rattle.gang_target.specs.declared.cursor.Place.{Place}
-use Rattle.gang_target.specs.declared.cursor.Place.TheVariants as place
-use Rattle.gang_target.specs.declared.target_end.TargetEnd.{TargetEnd}
-use Rattle.gang_target.specs.declared.target_end.TargetEnd.TheVariants as ended
-use Rattle.gang_target.specs.declared.target_end.Turn.TheVariants as turn
+use Rattle.flash_session.specs.declared.cursor.Place.{Place}
+use Rattle.flash_session.specs.declared.cursor.Place.TheVariants as place
+use Rattle.flash_session.specs.declared.target_end.TargetEnd.{TargetEnd}
+use Rattle.flash_session.specs.declared.target_end.TargetEnd.TheVariants as ended
+use Rattle.flash_session.specs.declared.target_end.Turn.TheVariants as turn
 use Rattle.gang_run.specs.declared.gang.Gang.{Gang}
 use Rattle.gang_run.specs.declared.slot.Slot.{Slot}
 use Rattle.gang_run.specs.declared.slot.Slot.TheVariants as slot
@@ -34,7 +34,7 @@ end_of (place.Ended e) = e
 
 abbrev pub outcome_of : Slot → Outcome
 outcome_of (slot.Refused e) = record { end = e; regions = None }
-outcome_of (slot.Target x) = record { end = end_of x.place; regions = Some x.task.job.board.regions }
+outcome_of (slot.Target x) = record { end = end_of x.player.place; regions = Some x.job.board.regions }
 
 -- of each target in order
 abbrev pub outcomes : Gang → List Outcome

@@ -20,10 +20,10 @@ use Rattle.flash_session.specs.Sessions.{job_legs}
 use Rattle.flash_session.specs.Starts.{job_start}
 use Rattle.flash_session.specs.Surveys.{Surveyed, HasSurveyed, is_survey_device, is_survey_store}
 use Rattle.readback.specs.declared.compare.Difference.{Difference}
-use Rattle.gang_target.specs.declared.target_end.TargetEnd.{TargetEnd}
-use Rattle.gang_target.specs.declared.target_end.TargetEnd.TheVariants as ended
-use Rattle.gang_target.specs.Alone.{FollowsAs}
-use Rattle.gang_target.specs.Guarded.{FileEnd}
+use Rattle.flash_session.specs.declared.target_end.TargetEnd.{TargetEnd}
+use Rattle.flash_session.specs.declared.target_end.TargetEnd.TheVariants as ended
+use Rattle.flash_session.specs.Alone.{FollowsAs}
+use Rattle.flash_session.specs.Guarded.{FileEnd}
 use Rattle.gang_run.specs.Opening.{IsLookedAt, refused_so, unsurveyed_so}
 use Rattle.gang_run.specs.Slots.{OpensWithMemory, HasMemory}
 use Rattle.command_answers.specs.Places.{address_at}

@@ -1,7 +1,7 @@
 //! The ends of targets, as refusals of the program.
 ghost use Rattle.std.specs.Prelude.{◌≡◌, ◌<◌, ◌≤◌, ◌+◌, All, length, option_map};
 ghost use Rattle.board_file.specs.Table.{addresses};
-ghost use Rattle.gang_target.specs.declared.target_end.Turn.TheVariants as turn;
+ghost use Rattle.flash_session.specs.declared.target_end.Turn.TheVariants as turn;
 ghost use Rattle.gang_run.specs.Gangs.{slot_at};
 ghost use Rattle.gang_run.specs.Slots.{slot_turn};
 ghost use Rattle.report_text.specs.Shown.{shown};

@@ -24,56 +24,46 @@ use Rattle.flash_session.specs.declared.fault.SurveyFault.TheVariants as survey
 use Rattle.flash_session.specs.Moves.{Move, Stand, IsLeftOnWay}
 use Rattle.flash_session.specs.Script.{Leg}
 use Rattle.flash_session.proofs.Playing.{left_more}
-use Rattle.gang_target.specs.declared.cursor.Place.{Place}
-use Rattle.gang_target.specs.declared.cursor.Place.TheVariants as place
-use Rattle.gang_target.specs.declared.target_end.TargetEnd.{TargetEnd}
-use Rattle.gang_target.specs.declared.target_end.TargetEnd.TheVariants as ended
-use Rattle.gang_target.specs.declared.target_end.Turn.{Turn}
-use Rattle.gang_target.specs.declared.target_end.Turn.TheVariants as turn
-use Rattle.gang_target.specs.declared.part.Task.{Task}
-use Rattle.gang_target.specs.declared.target.GangTarget.{GangTarget}
-use Rattle.gang_target.specs.Alone.{FollowsAs}
-use Rattle.gang_target.specs.Fit.{legs_of, IsPlace, Fit, turns_ahead, togo}
-use Rattle.gang_target.specs.Guarded.{Guarded}
-use Rattle.gang_target.specs.Rest.{Legs, all_legs}
-use Rattle.gang_target.specs.Stands.{HasEnded, Stands, StandsOn}
-use Rattle.gang_target.specs.Takes.{TakesOn, SliceOf}
-use Rattle.gang_target.specs.Targets.{setup_now, point_for, legs_for, has_second, size_for, goal_for}
-use Rattle.gang_target.specs.Turns.{IsUnended, turn_of, is_device_place, is_store_place, SameTarget, GoesOn, Turns, FileTurn}
-use Rattle.gang_target.proofs.AloneLemmas.{goes_here, ends_alone}
-use Rattle.gang_target.proofs.FitLemmas.{goal_same}
-use Rattle.gang_target.proofs.GuardLemmas.{over_going, guarded_here, guarded_then, same_file}
-use Rattle.gang_target.proofs.MachineLemmas.{same_here, same_then, legs_same}
+use Rattle.flash_session.specs.declared.cursor.Place.{Place}
+use Rattle.flash_session.specs.declared.cursor.Place.TheVariants as place
+use Rattle.flash_session.specs.declared.target_end.TargetEnd.{TargetEnd}
+use Rattle.flash_session.specs.declared.target_end.TargetEnd.TheVariants as ended
+use Rattle.flash_session.specs.declared.target_end.Turn.{Turn}
+use Rattle.flash_session.specs.declared.target_end.Turn.TheVariants as turn
+use Rattle.flash_session.specs.declared.part.Task.{Task}
+use Rattle.gang_run.specs.declared.target.GangTarget.{GangTarget}
+use Rattle.flash_session.specs.Alone.{FollowsAs}
+use Rattle.flash_session.specs.Fit.{legs_of, IsPlace, Fit, turns_ahead, togo}
+use Rattle.flash_session.specs.Guarded.{Guarded}
+use Rattle.flash_session.specs.Rest.{Legs, all_legs}
+use Rattle.flash_session.specs.Stands.{HasEnded, Stands, StandsOn}
+use Rattle.flash_session.specs.Takes.{TakesOn, SliceOf}
+use Rattle.flash_session.specs.Targets.{setup_now, point_for, legs_for, has_second, size_for, goal_for}
+use Rattle.flash_session.specs.Turns.{IsUnended, turn_of, is_device_place, is_store_place, SameTarget, GoesOn, Turns, FileTurn}
+use Rattle.flash_session.proofs.AloneLemmas.{goes_here, ends_alone}
+use Rattle.flash_session.proofs.FitLemmas.{goal_same, size_same, of_script}
+use Rattle.flash_session.proofs.WholeLemmas.{goes_then, turns_to}
+use Rattle.flash_session.specs.declared.player.Player.{Player}
+use Rattle.board_file.specs.Limits.{size_of}
+use Rattle.flash_session.proofs.GuardLemmas.{over_going, guarded_here, guarded_then, same_file}
+use Rattle.flash_session.proofs.MachineLemmas.{same_here, same_then, legs_same}
 use Rattle.gang_run.specs.declared.gang.Asked.{Asked}
 use Rattle.gang_run.specs.declared.gang.Gang.{Gang}
 use Rattle.gang_run.specs.declared.slot.Slot.{Slot}
 use Rattle.gang_run.specs.declared.slot.Slot.TheVariants as slot
 use Rattle.gang_run.specs.Alone.{EndsAlone}
 use Rattle.gang_run.specs.Gangs.{slot_at, OtherWindow, IsGang, gang_togo, AreReady, SameWindow, OneTurn, GivesTurn, GivesTurns, GivesRounds, one_round, rounds_of, AllSince, AllKept, Playing, Rounding}
-use Rattle.gang_run.specs.Slots.{slot_turn, slot_togo, place_end, slot_end, IsRefusal, EndsByScript, IsSlot, IsSlotJob, HasJob, Ready, IsReady, SlotGoes, SlotTurns, SlotTakes, Counts, TargetKept, SlotKept, SlotStands, TargetSince, SlotSince}
+use Rattle.gang_run.specs.Slots.{slot_turn, slot_togo, place_end, slot_end, IsRefusal, EndsByScript, IsSlot, IsSlotJob, HasJob, Ready, IsReady, TargetTurns, SlotGoes, SlotTurns, SlotTakes, Counts, TargetKept, SlotKept, SlotStands, TargetSince, SlotSince}
 
 -- ---- one target
 
 -- it stands as it did while its window is as it was
-pub stands_in : (a : Stand) (way : List Move) (goal : List ℕ) (x : GangTarget) (arena arena' : List (List ℕ)) (b : BenchState) → window_of arena' x.window ≡ window_of arena x.window → StandsOn a way goal x arena b → StandsOn a way goal x arena' b
+pub stands_in : (a : Stand) (way : List Move) (goal : List ℕ) (x : Player) (arena arena' : List (List ℕ)) (b : BenchState) → window_of arena' x.window ≡ window_of arena x.window → StandsOn a way goal x arena b → StandsOn a way goal x arena' b
 stands_in a way goal x arena arena' b same stands =
     subst (λ (ram : List ℕ). Stands (legs_for x goal) goal (setup_now x) a way x.place x.made (point_in (with_ram x.calls.machine ram) b.cells) x.calls.machine.return_at b) (sym same) stands
 
-goes_in : (a : Stand) (way : List Move) (goal : List ℕ) (x : GangTarget) (arena arena' : List (List ℕ)) (s t : BenchState) → window_of arena' x.window ≡ window_of arena x.window → GoesOn a way goal x arena s t → GoesOn a way goal x arena' s t
+goes_in : (a : Stand) (way : List Move) (goal : List ℕ) (x : Player) (arena arena' : List (List ℕ)) (s t : BenchState) → window_of arena' x.window ≡ window_of arena x.window → GoesOn a way goal x arena s t → GoesOn a way goal x arena' s t
 goes_in a way goal x arena arena' s t same goes = record { more = goes.more; stands = stands_in a (way ++ goes.more) goal x arena arena' t same goes.stands; moments = goes.moments }
-
-goes_then : (tells : Bool) (told : IsTrue tells) (a : Stand) (way : List Move) (goal : List ℕ) (x y : GangTarget) (arena arena' : List (List ℕ)) (s t u : BenchState) → goal_for x t.file ≡ goal → GoesOn a way goal x arena s t → Turns tells x arena t y arena' u → GoesOn a way goal y arena' s u
-goes_then tells told a way goal x y arena arena' s t u same one two =
-    let on : StandsOn a (way ++ one.more) (goal_for x t.file) x arena t = subst (λ (w : List ℕ). StandsOn a (way ++ one.more) w x arena t) (sym same) one.stands in
-    let then_ : GoesOn a (way ++ one.more) goal y arena' t u = subst (λ (w : List ℕ). GoesOn a (way ++ one.more) w y arena' t u) same (two.told told a (way ++ one.more) on) in
-    let whole : List Move = (way ++ one.more) ++ then_.more in
-    let assoc : whole ≡ way ++ (one.more ++ then_.more) = append_assoc way one.more then_.more in
-    record {
-      more = one.more ++ then_.more;
-      stands = subst (λ (l : List Move). StandsOn a l goal y arena' u) assoc then_.stands;
-      moments = subst (λ (l : List Move). Leaves (cells_half s) (cells_half u) (IsLeftOnWay a l)) assoc
-          (leaves_then (IsLeftOnWay a whole) (leaves_as (IsLeftOnWay a (way ++ one.more)) (IsLeftOnWay a whole) (left_more a (way ++ one.more) then_.more) one.moments) then_.moments);
-    }
 
 -- a target has ended or not
 either_turn : (p : Place) → (turn_of p ≡ turn.Ended) ⊎ IsUnended p
@@ -85,18 +75,6 @@ either_turn (place.Ended e) = inl refl
 
 abbrev pub Law : {B : Type 0} → Ghosts B → Type 0
 Law {B} G = (bench : B) (c : List ℕ) → IsTrue G.tells → left (cells_half (G.state bench)) c ↔ SameOutside (G.state bench).operation (G.state bench).cells c
-
-guarded_on : (tells : Bool) (told : IsTrue tells) (a : Stand) (way : List Move) (goal : List ℕ) (y z : GangTarget) (arena arena' : List (List ℕ)) (s t u : BenchState) (body : List ℕ) → goal_for y t.file ≡ goal → Ready tells y arena t
-    → ((c : List ℕ) → left (cells_half t) c ↔ SameOutside t.operation t.cells c) → StandsOn a way goal y arena t → Turns tells y arena t z arena' u → IsUnended y.place → Guarded body goal y.place s t → Guarded body goal z.place s u
-guarded_on tells told a way goal y z arena arena' s t u body same ready law stands turns going guarded =
-    subst (λ (l : List ℕ). Guarded body l z.place s u) same
-    (guarded_then tells told a way y z arena arena' s t u body ready.fit (ready.only told) law (subst (λ (w : List ℕ). StandsOn a way w y arena t) (sym same) stands) turns going
-    (subst (λ (l : List ℕ). Guarded body l y.place s t) (sym same) guarded))
-
-file_on : (tells : Bool) (told : IsTrue tells) (a : Stand) (way : List Move) (goal : List ℕ) (y z : GangTarget) (arena arena' : List (List ℕ)) (s t u : BenchState) → goal_for y t.file ≡ goal → Ready tells y arena t
-    → ((c : List ℕ) → left (cells_half t) c ↔ SameOutside t.operation t.cells c) → StandsOn a way goal y arena t → Turns tells y arena t z arena' u → IsUnended z.place → u.file ≡ t.file
-file_on tells told a way goal y z arena arena' s t u same ready law stands turns going =
-    same_file tells told a way y z arena arena' s t u [] ready.fit (ready.only told) law (subst (λ (w : List ℕ). StandsOn a way w y arena t) (sym same) stands) turns going
 
 -- a turn takes the file's half on
 files_on : (tells : Bool) (told : IsTrue tells) (old new : Place) (s t : BenchState) → FileTurn tells old new s t → history.GoesOn (file_half s) (file_half t)
@@ -127,10 +105,10 @@ counts_here p s going = record {
   store = subst (λ (b : Bool). IsCounted s.store_faults s.store_faults b) (sym (no_fault p going).1) (record { later = omega arith; on_fault = λ e. cc; on_other = λ e. refl });
 }
 
-counts_then : (tells : Bool) (x y : GangTarget) (arena arena' : List (List ℕ)) (s t u : BenchState) → IsUnended x.place → Counts x.place s t → Turns tells x arena t y arena' u → Counts y.place s u
+counts_then : (tells : Bool) (x y : GangTarget) (arena arena' : List (List ℕ)) (s t u : BenchState) → IsUnended x.player.place → Counts x.player.place s t → TargetTurns tells x arena t y arena' u → Counts y.player.place s u
 counts_then tells x y arena arena' s t u going was turns = record {
-  device = cause_then s.device_faults t.device_faults u.device_faults (is_device_place x.place) (is_device_place y.place) (no_fault x.place going).0 was.device turns.device;
-  store = counted_then s.store_faults t.store_faults u.store_faults (is_store_place x.place) (is_store_place y.place) (no_fault x.place going).1 was.store turns.store;
+  device = cause_then s.device_faults t.device_faults u.device_faults (is_device_place x.player.place) (is_device_place y.player.place) (no_fault x.player.place going).0 was.device turns.turns.device;
+  store = counted_then s.store_faults t.store_faults u.store_faults (is_store_place x.player.place) (is_store_place y.player.place) (no_fault x.player.place going).1 was.store turns.turns.store;
 }
 
 -- ---- one place, whose turn it is
@@ -140,37 +118,42 @@ module _ {B : Type 0} (G : Ghosts B) (told : IsTrue G.tells) (a : Stand) (way : 
       → TargetSince a way x s0 new arena' (G.state bench')
   target_then x mid new arena arena' bench bench' law ready since turns =
       let y : GangTarget = since.target in
-      let goal : List ℕ = goal_for x s0.file in
+      let goal : List ℕ = goal_for x.job x.player s0.file in
       let now : SlotTurns G (slot.Target y) arena bench new arena' bench' = subst (λ (m : Slot). SlotTurns G m arena bench new arena' bench') since.is turns in
       ⊎_elim
-      (λ (ended : turn_of y.place ≡ turn.Ended).
+      (λ (ended : turn_of y.player.place ≡ turn.Ended).
       let still = now.ended ended in
       record {
         target = y;
         is = still.0;
+        job = since.job;
         same = since.same;
-        goes = subst (λ (b : B). GoesOn a way goal y arena' s0 (G.state b)) (sym still.2) (subst (λ (l : List (List ℕ)). GoesOn a way goal y l s0 (G.state bench)) (sym still.1) since.goes);
-        file = λ going. absurd (over_going y.place ended going);
+        goes = subst (λ (b : B). GoesOn a way goal y.player arena' s0 (G.state b)) (sym still.2) (subst (λ (l : List (List ℕ)). GoesOn a way goal y.player l s0 (G.state bench)) (sym still.1) since.goes);
+        file = λ going. absurd (over_going y.player.place ended going);
         files = subst (λ (b : B). history.GoesOn (file_half s0) (file_half (G.state b))) (sym still.2) since.files;
-        guarded = λ body whole. subst (λ (b : B). Guarded body goal y.place s0 (G.state b)) (sym still.2) (since.guarded body whole);
-        counts = subst (λ (b : B). Counts y.place s0 (G.state b)) (sym still.2) since.counts;
+        guarded = λ body whole. subst (λ (b : B). Guarded body goal y.player.place s0 (G.state b)) (sym still.2) (since.guarded body whole);
+        counts = subst (λ (b : B). Counts y.player.place s0 (G.state b)) (sym still.2) since.counts;
       })
-      (λ (going : IsUnended y.place).
-      let went : (z : GangTarget) × (new ≡ slot.Target z) × Turns G.tells y arena (G.state bench) z arena' (G.state bench') = now.goes going in
+      (λ (going : IsUnended y.player.place).
+      let went : (z : GangTarget) × (new ≡ slot.Target z) × TargetTurns G.tells y arena (G.state bench) z arena' (G.state bench') = now.goes going in
       let lawful : Ready G.tells y arena (G.state bench) = (subst (λ (m : Slot). IsReady G.tells m arena (G.state bench)) since.is ready) going in
-      let same : goal_for y (G.state bench).file ≡ goal = goal_same x y (G.state bench).file since.same ∙ ap (λ (f : List ℕ). goal_for x f) (since.file going) in
+      let same : goal_for y.job y.player (G.state bench).file ≡ goal =
+      ap (λ (j : Job). goal_for j y.player (G.state bench).file) since.job ∙ goal_same x.job x.player y.player (G.state bench).file since.same ∙ ap (λ (f : List ℕ). goal_for x.job x.player f) (since.file going) in
+      let turn = turns_to G.tells (goal_for y.job y.player (G.state bench).file) goal y.player went.0.player arena arena' (G.state bench) (G.state bench') (λ told. same) went.2.turns in
       record {
         target = went.0;
         is = went.1;
-        same = same_then x y went.0 since.same went.2.same;
-        goes = goes_then G.tells told a way goal y went.0 arena arena' s0 (G.state bench) (G.state bench') same since.goes went.2;
-        file = λ still. file_on G.tells told a (way ++ since.goes.more) goal y went.0 arena arena' s0 (G.state bench) (G.state bench') same lawful (λ c. law bench c told) since.goes.stands went.2 still ∙ since.file going;
-        files = moments.goes_then since.files (files_on G.tells told y.place went.0.place (G.state bench) (G.state bench') went.2.file);
+        job = went.2.job ∙ since.job;
+        same = same_then x.player y.player went.0.player since.same went.2.turns.same;
+        goes = goes_then G.tells told a way goal y.player went.0.player arena arena' s0 (G.state bench) (G.state bench') since.goes turn;
+        file = λ still.
+            same_file G.tells told goal a (way ++ since.goes.more) y.player went.0.player arena arena' s0 (G.state bench) (G.state bench') [] lawful.fit (lawful.only told) (λ c. law bench c told) since.goes.stands turn still ∙ since.file going;
+        files = moments.goes_then since.files (files_on G.tells told y.player.place went.0.player.place (G.state bench) (G.state bench') went.2.turns.file);
         guarded = λ body whole.
-            guarded_on G.tells told a (way ++ since.goes.more) goal y went.0 arena arena' s0 (G.state bench) (G.state bench') body same lawful (λ c. law bench c told) since.goes.stands went.2 going (since.guarded body whole);
+            guarded_then G.tells told goal a (way ++ since.goes.more) y.player went.0.player arena arena' s0 (G.state bench) (G.state bench') body lawful.fit (lawful.only told) (λ c. law bench c told) since.goes.stands turn going (since.guarded body whole);
         counts = counts_then G.tells y went.0 arena arena' s0 (G.state bench) (G.state bench') going since.counts went.2;
       })
-      (either_turn y.place)
+      (either_turn y.player.place)
 
   pub since_then : (old mid new : Slot) (arena arena' : List (List ℕ)) (bench bench' : B) → Law G → IsReady G.tells mid arena (G.state bench) → SlotSince a way old s0 mid arena (G.state bench) → SlotTurns G mid arena bench new arena' bench'
       → SlotSince a way old s0 new arena' (G.state bench')
@@ -181,7 +164,7 @@ module _ {B : Type 0} (G : Ghosts B) (told : IsTrue G.tells) (a : Stand) (way : 
 
   -- ---- one whose turn it is not
 
-  same_window : (y : GangTarget) (mid : Slot) (arena arena' : List (List ℕ)) → mid ≡ slot.Target y → SameWindow mid arena arena' → window_of arena' y.window ≡ window_of arena y.window
+  same_window : (y : GangTarget) (mid : Slot) (arena arena' : List (List ℕ)) → mid ≡ slot.Target y → SameWindow mid arena arena' → window_of arena' y.player.window ≡ window_of arena y.player.window
   same_window y mid arena arena' is same = subst (λ (m : Slot). SameWindow m arena arena') is same
 
   pub since_other : (old mid new : Slot) (arena arena' : List (List ℕ)) (bench bench' : B) → SlotSince a way old s0 mid arena (G.state bench) → new ≡ mid → bench' ≡ bench → SameWindow mid arena arena'
@@ -189,16 +172,17 @@ module _ {B : Type 0} (G : Ghosts B) (told : IsTrue G.tells) (a : Stand) (way : 
   since_other (slot.Refused e) mid new arena arena' bench bench' since same still window = same ∙ since
   since_other (slot.Target x) mid new arena arena' bench bench' since same still window =
       let y : GangTarget = since.target in
-      let goal : List ℕ = goal_for x s0.file in
+      let goal : List ℕ = goal_for x.job x.player s0.file in
       record {
         target = y;
         is = same ∙ since.is;
+        job = since.job;
         same = since.same;
-        goes = subst (λ (b : B). GoesOn a way goal y arena' s0 (G.state b)) (sym still) (goes_in a way goal y arena arena' s0 (G.state bench) (same_window y mid arena arena' since.is window) since.goes);
+        goes = subst (λ (b : B). GoesOn a way goal y.player arena' s0 (G.state b)) (sym still) (goes_in a way goal y.player arena arena' s0 (G.state bench) (same_window y mid arena arena' since.is window) since.goes);
         file = λ going. ap (λ (b : B). (G.state b).file) still ∙ since.file going;
         files = subst (λ (b : B). history.GoesOn (file_half s0) (file_half (G.state b))) (sym still) since.files;
-        guarded = λ body whole. subst (λ (b : B). Guarded body goal y.place s0 (G.state b)) (sym still) (since.guarded body whole);
-        counts = subst (λ (b : B). Counts y.place s0 (G.state b)) (sym still) since.counts;
+        guarded = λ body whole. subst (λ (b : B). Guarded body goal y.player.place s0 (G.state b)) (sym still) (since.guarded body whole);
+        counts = subst (λ (b : B). Counts y.player.place s0 (G.state b)) (sym still) since.counts;
       }
 
 -- ---- benches, told or not
@@ -206,7 +190,7 @@ module _ {B : Type 0} (G : Ghosts B) (told : IsTrue G.tells) (a : Stand) (way : 
 module _ {B : Type 0} (G : Ghosts B) where
   slot_kept : (x : Slot) (bench : B) → SlotKept G x bench x bench
   slot_kept (slot.Refused e) bench = (refl, refl)
-  slot_kept (slot.Target x) bench = λ going. record { target = x; is = refl; task = refl; counts = counts_here x.place (G.state bench) going }
+  slot_kept (slot.Target x) bench = λ going. record { target = x; is = refl; job = refl; counts = counts_here x.player.place (G.state bench) going }
 
   target_kept : (x : GangTarget) (mid new : Slot) (arena arena' : List (List ℕ)) (first bench bench' : B) → TargetKept x (G.state first) mid (G.state bench) → SlotTurns G mid arena bench new arena' bench'
       → TargetKept x (G.state first) new (G.state bench')
@@ -214,18 +198,18 @@ module _ {B : Type 0} (G : Ghosts B) where
       let y : GangTarget = kept.target in
       let now : SlotTurns G (slot.Target y) arena bench new arena' bench' = subst (λ (m : Slot). SlotTurns G m arena bench new arena' bench') kept.is turns in
       ⊎_elim
-      (λ (ended : turn_of y.place ≡ turn.Ended).
+      (λ (ended : turn_of y.player.place ≡ turn.Ended).
       let still = now.ended ended in
-      record { target = y; is = still.0; task = kept.task; counts = subst (λ (b : B). Counts y.place (G.state first) (G.state b)) (sym still.2) kept.counts })
-      (λ (going : IsUnended y.place).
-      let went : (z : GangTarget) × (new ≡ slot.Target z) × Turns G.tells y arena (G.state bench) z arena' (G.state bench') = now.goes going in
+      record { target = y; is = still.0; job = kept.job; counts = subst (λ (b : B). Counts y.player.place (G.state first) (G.state b)) (sym still.2) kept.counts })
+      (λ (going : IsUnended y.player.place).
+      let went : (z : GangTarget) × (new ≡ slot.Target z) × TargetTurns G.tells y arena (G.state bench) z arena' (G.state bench') = now.goes going in
       record {
         target = went.0;
         is = went.1;
-        task = went.2.same.task ∙ kept.task;
+        job = went.2.job ∙ kept.job;
         counts = counts_then G.tells y went.0 arena arena' (G.state first) (G.state bench) (G.state bench') going kept.counts went.2;
       })
-      (either_turn y.place)
+      (either_turn y.player.place)
 
   kept_then : (old mid new : Slot) (arena arena' : List (List ℕ)) (first bench bench' : B) → SlotKept G old first mid bench → SlotTurns G mid arena bench new arena' bench' → SlotKept G old first new bench'
   kept_then (slot.Refused e) mid new arena arena' first bench bench' kept turns =
@@ -249,22 +233,22 @@ module _ {B : Type 0} (G : Ghosts B) where
       (cases_eq i target)
 
 -- a target whose turn it was
-pub slot_went : {B : Type 0} (G : Ghosts B) (self : Slot) (x y : GangTarget) (t : Turn) (arena arena' : List (List ℕ)) (bench bench' : B) → self ≡ slot.Target x → t ≡ turn_of x.place → t ≡ turn.More
-    → Turns G.tells x arena (G.state bench) y arena' (G.state bench') → SlotTurns G self arena bench (slot.Target y) arena' bench'
-slot_went {B} G self x y t arena arena' bench bench' is state more went =
+pub slot_went : {B : Type 0} (G : Ghosts B) (self : Slot) (x y : GangTarget) (t : Turn) (arena arena' : List (List ℕ)) (bench bench' : B) → self ≡ slot.Target x → t ≡ turn_of x.player.place → t ≡ turn.More
+    → y.job ≡ x.job → Turns G.tells (goal_for x.job x.player (G.state bench).file) x.player arena (G.state bench) y.player arena' (G.state bench') → SlotTurns G self arena bench (slot.Target y) arena' bench'
+slot_went {B} G self x y t arena arena' bench bench' is state more job went =
     let P : Slot → Type 0 = λ z. SlotTurns G z arena bench (slot.Target y) arena' bench' in
     subst P (sym is) (record {
       ended = λ over. let e : turn.More ≡ turn.Ended = sym more ∙ state ∙ over in cc;
-      goes = λ going. (y, refl, went);
+      goes = λ going. (y, refl, record { job = job; turns = went });
     })
 
-pub slot_took : (tells : Bool) (steps : ℕ) (self : Slot) (x y : GangTarget) (arena arena' : List (List ℕ)) (s t : BenchState) → self ≡ slot.Target x → TakesOn steps s.cell_count x.place y.place → SliceOf tells steps x.place x arena s y arena' t
+pub slot_took : (tells : Bool) (steps : ℕ) (self : Slot) (x y : GangTarget) (arena arena' : List (List ℕ)) (s t : BenchState) → self ≡ slot.Target x → TakesOn steps s.cell_count x.player.place y.player.place → SliceOf tells steps x.player.place x.player arena s y.player arena' t
     → SlotTakes tells steps self arena s (slot.Target y) arena' t
 slot_took tells steps self x y arena arena' s t is takes slices = subst (λ (z : Slot). SlotTakes tells steps z arena s (slot.Target y) arena' t) (sym is) (λ going. (y, refl, takes, slices))
 
 -- one that has ended does nothing
-pub slot_rests : (tells : Bool) (steps : ℕ) (self new : Slot) (x : GangTarget) (state : Turn) (arena arena' : List (List ℕ)) (s t : BenchState) → self ≡ slot.Target x → state ≡ turn_of x.place → state ≡ turn.Ended → SlotTakes tells steps self arena s new arena' t
-slot_rests tells steps self new x state arena arena' s t is shown over = subst (λ (z : Slot). SlotTakes tells steps z arena s new arena' t) (sym is) (λ going. absurd (over_going x.place (sym shown ∙ over) going))
+pub slot_rests : (tells : Bool) (steps : ℕ) (self new : Slot) (x : GangTarget) (state : Turn) (arena arena' : List (List ℕ)) (s t : BenchState) → self ≡ slot.Target x → state ≡ turn_of x.player.place → state ≡ turn.Ended → SlotTakes tells steps self arena s new arena' t
+slot_rests tells steps self new x state arena arena' s t is shown over = subst (λ (z : Slot). SlotTakes tells steps z arena s new arena' t) (sym is) (λ going. absurd (over_going x.player.place (sym shown ∙ over) going))
 
 going_of : (p : Place) → turn_of p ≡ turn.More → IsUnended p
 going_of (place.At c) more = tt
@@ -278,9 +262,9 @@ going_of (place.Ended e) more = cc
 -- the window of a place, if it has one
 abbrev pub KeepsWindow : Slot → Slot → Type 0
 KeepsWindow (slot.Refused e) new = new ≡ slot.Refused e
-KeepsWindow (slot.Target x) new = (y : GangTarget) × (new ≡ slot.Target y) × (y.window ≡ x.window)
+KeepsWindow (slot.Target x) new = (y : GangTarget) × (new ≡ slot.Target y) × (y.player.window ≡ x.player.window)
 
-other_from : (x y : GangTarget) (q : Slot) → y.window ≡ x.window → OtherWindow (slot.Target x) q → OtherWindow (slot.Target y) q
+other_from : (x y : GangTarget) (q : Slot) → y.player.window ≡ x.player.window → OtherWindow (slot.Target x) q → OtherWindow (slot.Target y) q
 other_from x y (slot.Refused e) same other = tt
 other_from x y (slot.Target z) same other = λ is. other (sym same ∙ is)
 
@@ -288,7 +272,7 @@ pub other_left : (old new q : Slot) → KeepsWindow old new → OtherWindow old 
 other_left (slot.Refused e) new q kept other = subst (λ (m : Slot). OtherWindow m q) (sym kept) tt
 other_left (slot.Target x) new q kept other = subst (λ (m : Slot). OtherWindow m q) (sym kept.1) (other_from x kept.0 q kept.2 other)
 
-other_to : (p : Slot) (x y : GangTarget) → y.window ≡ x.window → OtherWindow p (slot.Target x) → OtherWindow p (slot.Target y)
+other_to : (p : Slot) (x y : GangTarget) → y.player.window ≡ x.player.window → OtherWindow p (slot.Target x) → OtherWindow p (slot.Target y)
 other_to (slot.Refused e) x y same other = tt
 other_to (slot.Target z) x y same other = λ is. other (is ∙ same)
 
@@ -311,58 +295,59 @@ module _ {B : Type 0} (G : Ghosts B) (arena arena' : List (List ℕ)) (bench ben
   pub keeps_window : (x y : Slot) → Turned x y → KeepsWindow x y
   keeps_window (slot.Refused e) y turns = (turns.ended refl).0
   keeps_window (slot.Target x) y turns = ⊎_elim
-      (λ (over : turn_of x.place ≡ turn.Ended). (x, (turns.ended over).0, refl))
-      (λ (going : IsUnended x.place). let went = turns.goes going in (went.0, went.1, went.2.same.window))
-      (either_turn x.place)
+      (λ (over : turn_of x.player.place ≡ turn.Ended). (x, (turns.ended over).0, refl))
+      (λ (going : IsUnended x.player.place). let went = turns.goes going in (went.0, went.1, went.2.turns.same.window))
+      (either_turn x.player.place)
 
   pub keeps_count : (x y : Slot) → Turned x y → length arena' ≡ length arena
   keeps_count (slot.Refused e) y turns = ap (λ (l : List (List ℕ)). length l) (turns.ended refl).1
   keeps_count (slot.Target x) y turns = ⊎_elim
-      (λ (over : turn_of x.place ≡ turn.Ended). ap (λ (l : List (List ℕ)). length l) (turns.ended over).1)
-      (λ (going : IsUnended x.place). only_count x.window arena arena' (turns.goes going).2.only)
-      (either_turn x.place)
+      (λ (over : turn_of x.player.place ≡ turn.Ended). ap (λ (l : List (List ℕ)). length l) (turns.ended over).1)
+      (λ (going : IsUnended x.player.place). only_count x.player.window arena arena' (turns.goes going).2.turns.only)
+      (either_turn x.player.place)
 
   same_ram : (w : ℕ) → arena' ≡ arena → window_of arena' w ≡ window_of arena w
   same_ram w same = ap (λ (l : List (List ℕ)). window_of l w) same
 
   pub other_window : (x y q : Slot) → Turned x y → OtherWindow x q → SameWindow q arena arena'
   other_window x y (slot.Refused e) turns other = tt
-  other_window (slot.Refused e) y (slot.Target z) turns other = same_ram z.window (turns.ended refl).1
+  other_window (slot.Refused e) y (slot.Target z) turns other = same_ram z.player.window (turns.ended refl).1
   other_window (slot.Target x) y (slot.Target z) turns other = ⊎_elim
-      (λ (over : turn_of x.place ≡ turn.Ended). same_ram z.window (turns.ended over).1)
-      (λ (going : IsUnended x.place). other_stays arena arena' x.window z.window (turns.goes going).2.only (λ same. other (sym same)))
-      (either_turn x.place)
+      (λ (over : turn_of x.player.place ≡ turn.Ended). same_ram z.player.window (turns.ended over).1)
+      (λ (going : IsUnended x.player.place). other_stays arena arena' x.player.window z.player.window (turns.goes going).2.turns.only (λ same. other (sym same)))
+      (either_turn x.player.place)
 
   pub slot_nearer : (x y : Slot) → Turned x y → slot_turn x ≡ turn.More → slot_togo y < slot_togo x
   slot_nearer (slot.Refused e) y turns more = cc
-  slot_nearer (slot.Target x) y turns more = let went = turns.goes (going_of x.place more) in subst (λ (m : Slot). slot_togo m < togo x) (sym went.1) went.2.nearer
+  slot_nearer (slot.Target x) y turns more = let went = turns.goes (going_of x.player.place more) in subst (λ (m : Slot). slot_togo m < togo x.player) (sym went.1) went.2.turns.nearer
 
   pub slot_no_further : (x y : Slot) → Turned x y → slot_togo y ≤ slot_togo x
   slot_no_further (slot.Refused e) y turns = subst (λ (m : Slot). slot_togo m ≤ 0) (sym (turns.ended refl).0) (omega arith)
   slot_no_further (slot.Target x) y turns = ⊎_elim
-      (λ (over : turn_of x.place ≡ turn.Ended). subst (λ (m : Slot). slot_togo m ≤ togo x) (sym (turns.ended over).0) (omega arith))
-      (λ (going : IsUnended x.place). let went = turns.goes going in subst (λ (m : Slot). slot_togo m ≤ togo x) (sym went.1) (omega (arith, went.2.nearer)))
-      (either_turn x.place)
+      (λ (over : turn_of x.player.place ≡ turn.Ended). subst (λ (m : Slot). slot_togo m ≤ togo x.player) (sym (turns.ended over).0) (omega arith))
+      (λ (going : IsUnended x.player.place). let went = turns.goes going in subst (λ (m : Slot). slot_togo m ≤ togo x.player) (sym went.1) (omega (arith, went.2.turns.nearer)))
+      (either_turn x.player.place)
 
   -- a target that goes on leaves the file alone
-  still_ready : (x y : GangTarget) (s t : BenchState) → Ready G.tells x arena s → Turns G.tells x arena s y arena' t → IsUnended y.place → Ready G.tells y arena' t
-  still_ready x y s t ready turns going = by_place x.place refl
+  still_ready : (x y : GangTarget) (s t : BenchState) → Ready G.tells x arena s → TargetTurns G.tells x arena s y arena' t → IsUnended y.player.place → Ready G.tells y arena' t
+  still_ready x y s t ready turns going = by_place x.player.place refl
     where
       by_read : FileIsRead G.tells s t → Ready G.tells y arena' t
       by_read read = record {
-        fit = turns.fit;
-        stands = λ told. subst (λ (f : List ℕ). StandsFor y.task.job f) (sym (read.file told)) (subst (λ (k : Task). StandsFor k.job s.file) (sym turns.same.task) (ready.stands told));
+        fit = turns.turns.fit;
+        size = ap (λ (j : Job). size_of j.board.regions) turns.job ∙ ready.size ∙ sym (size_same x.player y.player turns.turns.same);
+        stands = λ told. subst (λ (f : List ℕ). StandsFor y.job f) (sym (read.file told)) (subst (λ (k : Job). StandsFor k s.file) (sym turns.job) (ready.stands told));
         only = λ told. subst (λ (f : List ℕ). LeftOnly f (file_half t)) (sym (read.file told)) (still_only s.file read.moments (ready.only told));
       }
 
-      by : (p : Place) → x.place ≡ p → FileTurn G.tells p y.place s t
-      by p is = subst (λ (q : Place). FileTurn G.tells q y.place s t) is turns.file
+      by : (p : Place) → x.player.place ≡ p → FileTurn G.tells p y.player.place s t
+      by p is = subst (λ (q : Place). FileTurn G.tells q y.player.place s t) is turns.turns.file
 
-      by_place : (p : Place) → x.place ≡ p → Ready G.tells y arena' t
+      by_place : (p : Place) → x.player.place ≡ p → Ready G.tells y arena' t
       by_place (place.At c) is = by_read (by (place.At c) is).read
       by_place (place.In call len left next) is = by_read (by (place.In call len left next) is).read
       by_place (place.Comparing at) is = by_read (by (place.Comparing at) is).read
-      by_place place.Closing is = absurd (over_going y.place (by place.Closing is).over going)
+      by_place place.Closing is = absurd (over_going y.player.place (by place.Closing is).over going)
       by_place (place.Ended e) is = by_read (by (place.Ended e) is).read
 
   -- an end is one by its script, or a refusal
@@ -371,28 +356,28 @@ module _ {B : Type 0} (G : Ghosts B) (arena arena' : List (List ℕ)) (bench ben
   place_lawful has moved (place.In call len left next) size b is = tt
   place_lawful has moved (place.Comparing at) size b is = tt
   place_lawful has moved place.Closing size b is = tt
-  place_lawful has moved (place.Ended e) size b is = is
+  place_lawful has moved (place.Ended e) size b is = of_script G.tells size e b is
 
   pub slot_lawful : (x y : Slot) → IsSlot x → Turned x y → IsSlot y
   slot_lawful (slot.Refused e) y is turns = subst IsSlot (sym (turns.ended refl).0) is
   slot_lawful (slot.Target x) y is turns = ⊎_elim
-      (λ (over : turn_of x.place ≡ turn.Ended). subst IsSlot (sym (turns.ended over).0) is)
-      (λ (going : IsUnended x.place).
+      (λ (over : turn_of x.player.place ≡ turn.Ended). subst IsSlot (sym (turns.ended over).0) is)
+      (λ (going : IsUnended x.player.place).
       let went = turns.goes going in
-      subst IsSlot (sym went.1) (place_lawful (has_second went.0) went.0.second went.0.place (size_for went.0) (G.state bench') went.2.fit.place))
-      (either_turn x.place)
+      subst IsSlot (sym went.1) (place_lawful (has_second went.0.player) went.0.player.second went.0.player.place (size_for went.0.player) (G.state bench') went.2.turns.fit.place))
+      (either_turn x.player.place)
 
   pub ready_then : (x y : Slot) → IsReady G.tells x arena (G.state bench) → Turned x y → IsReady G.tells y arena' (G.state bench')
   ready_then (slot.Refused e) y ready turns = subst (λ (m : Slot). IsReady G.tells m arena' (G.state bench')) (sym (turns.ended refl).0) tt
   ready_then (slot.Target x) y ready turns = ⊎_elim
-      (λ (over : turn_of x.place ≡ turn.Ended). subst (λ (m : Slot). IsReady G.tells m arena' (G.state bench')) (sym (turns.ended over).0) (λ going. absurd (over_going x.place over going)))
-      (λ (going : IsUnended x.place).
+      (λ (over : turn_of x.player.place ≡ turn.Ended). subst (λ (m : Slot). IsReady G.tells m arena' (G.state bench')) (sym (turns.ended over).0) (λ going. absurd (over_going x.player.place over going)))
+      (λ (going : IsUnended x.player.place).
       let went = turns.goes going in
       subst (λ (m : Slot). IsReady G.tells m arena' (G.state bench')) (sym went.1) (λ still. still_ready x went.0 (G.state bench) (G.state bench') (ready going) went.2 still))
-      (either_turn x.place)
+      (either_turn x.player.place)
 
 -- a target whose turn it isn't
-fit_in : (tells : Bool) (x : GangTarget) (arena arena' : List (List ℕ)) (b : BenchState) → window_of arena' x.window ≡ window_of arena x.window → length arena' ≡ length arena → Fit tells x arena b → Fit tells x arena' b
+fit_in : (tells : Bool) (x : Player) (arena arena' : List (List ℕ)) (b : BenchState) → window_of arena' x.window ≡ window_of arena x.window → length arena' ≡ length arena → Fit tells x arena b → Fit tells x arena' b
 fit_in tells x arena arena' b same count fit = record {
   scripted = fit.scripted;
   fits = (omega (arith, count, fit.fits.0), ap (λ (l : List ℕ). length l) same ∙ fit.fits.1);
@@ -405,7 +390,7 @@ fit_in tells x arena arena' b same count fit = record {
 
 pub ready_other : (tells : Bool) (q : Slot) (arena arena' : List (List ℕ)) (b : BenchState) → SameWindow q arena arena' → length arena' ≡ length arena → IsReady tells q arena b → IsReady tells q arena' b
 ready_other tells (slot.Refused e) arena arena' b same count ready = tt
-ready_other tells (slot.Target x) arena arena' b same count ready = λ going. let r = ready going in record { fit = fit_in tells x arena arena' b same count r.fit; stands = r.stands; only = r.only }
+ready_other tells (slot.Target x) arena arena' b same count ready = λ going. let r = ready going in record { fit = fit_in tells x.player arena arena' b same count r.fit; size = r.size; stands = r.stands; only = r.only }
 
 -- ---- a whole gang
 
@@ -524,12 +509,13 @@ since_here {B} G g benches law ready i d a way less told stands = first (slot_at
         record {
           target = x;
           is = refl;
-          same = same_here x;
-          goes = goes_here G.tells told a way (goal_for x s.file) x g.arena s stands.0 (lawful stands.0).fit (λ c. law (get_or benches i d) c told) stands.1;
+          job = refl;
+          same = same_here x.player;
+          goes = goes_here G.tells told a way (goal_for x.job x.player s.file) x.player g.arena s stands.0 (lawful stands.0).fit (λ c. law (get_or benches i d) c told) stands.1;
           file = λ going. refl;
           files = moments.goes_here (file_half s);
-          guarded = λ body whole. guarded_here body (goal_for x s.file) x.place s stands.0 whole ((lawful stands.0).only told);
-          counts = counts_here x.place s stands.0;
+          guarded = λ body whole. guarded_here body (goal_for x.job x.player s.file) x.player.place s stands.0 whole ((lawful stands.0).only told);
+          counts = counts_here x.player.place s stands.0;
         }
 
 pub since_turn : {B : Type 0} (G : Ghosts B) (old mid new : Gang) (benches between after : List B) (target : ℕ) → length between ≡ length benches → Law G → AreReady G mid between → AllSince G old benches mid between → OneTurn G target mid between new after → AllSince G old benches new after
@@ -651,18 +637,18 @@ pub alone_of : (a : Stand) (x : GangTarget) (s : BenchState) (new : Slot) (arena
     → EndsAlone a x s new t body
 alone_of a x s new arena t body whole since over =
     let y : GangTarget = since.target in
-    let goal : List ℕ = goal_for x s.file in
-    let ends : (e : TargetEnd) × (y.place ≡ place.Ended e) = ended_at y.place (ap slot_turn (sym since.is) ∙ over) in
-    let goes : GoesOn a [] goal y arena s t = since.goes in
-    let has : HasEnded (all_legs (legs_for y goal)) goal a goes.more ends.0 t =
-    subst (λ (p : Place). Stands (legs_for y goal) goal (setup_now y) a goes.more p y.made (point_for y arena t.cells) y.calls.machine.return_at t) ends.1 goes.stands in
+    let goal : List ℕ = goal_for x.job x.player s.file in
+    let ends : (e : TargetEnd) × (y.player.place ≡ place.Ended e) = ended_at y.player.place (ap slot_turn (sym since.is) ∙ over) in
+    let goes : GoesOn a [] goal y.player arena s t = since.goes in
+    let has : HasEnded (all_legs (legs_for y.player goal)) goal a goes.more ends.0 t =
+    subst (λ (p : Place). Stands (legs_for y.player goal) goal (setup_now y.player) a goes.more p y.player.made (point_for y.player arena t.cells) y.player.calls.machine.return_at t) ends.1 goes.stands in
     let guarded : Guarded body goal (place.Ended ends.0) s t = subst (λ (p : Place). Guarded body goal p s t) ends.1 (since.guarded body whole) in
     record {
       target = y;
       is = since.is;
       end = ends.0;
       place_is = ends.1;
-      follows = subst (λ (l : Legs). FollowsAs (all_legs l) goal a ends.0 s t) (legs_same x y since.same goal) (ends_alone (all_legs (legs_for y goal)) goal a goes.more s t goes.moments ends.0 has);
+      follows = subst (λ (l : Legs). FollowsAs (all_legs l) goal a ends.0 s t) (legs_same x.player y.player since.same goal) (ends_alone (all_legs (legs_for y.player goal)) goal a goes.more s t goes.moments ends.0 has);
       file = guarded.file;
       idle = λ done. guarded.idle (ap (λ (e : TargetEnd). place.Ended e) done);
       pairs = guarded.over refl;
@@ -697,4 +683,4 @@ pub job_exact : (s : Slot) (found : Option (Bor Job)) → IsSlot s → IsSlotJob
 job_exact (slot.Refused e) None is job = no_job_by e is
 job_exact (slot.Refused e) (Some j) is job = absurd job
 job_exact (slot.Target x) None is job = absurd job
-job_exact (slot.Target x) (Some j) is job = job_by x.place j is
+job_exact (slot.Target x) (Some j) is job = job_by x.player.place j is

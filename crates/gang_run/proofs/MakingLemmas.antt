@@ -23,16 +23,16 @@ use Rattle.flash_session.specs.Surveys.{IsPlannedFor, ArePlannedFor}
 use Rattle.flash_session.specs.SurveyFacts.{HasRoom}
 use Rattle.flash_session.proofs.JobLemmas.{total, second_start}
 use Rattle.flash_session.proofs.Lists.{calls_in-append, erase_calls, page_calls, verify_calls, phase_calls}
-use Rattle.gang_target.specs.declared.cursor.Cursor.TheVariants as at
-use Rattle.flash_session.specs.declared.script.Phase.TheVariants as stage
-use Rattle.gang_target.specs.declared.part.Part.{Part}
-use Rattle.gang_target.specs.declared.target.GangTarget.{GangTarget}
-use Rattle.gang_target.specs.Begun.{IsPartFrom, AreFrom, IsBegun}
-use Rattle.gang_target.specs.Fit.{legs_of, IsPartOn, IsScripted}
-use Rattle.gang_target.specs.Rest.{all_legs, from_phase, untorn, unbroken, last_reset, second_rest, later_than, rest_of}
-use Rattle.gang_target.specs.Targets.{of_region, setup_on, map_of, map_on, part_in, planned_in, errand_in, later_leg, legs_for, has_second, size_for}
-use Rattle.gang_target.proofs.MachineLemmas.{map_moved}
-use Rattle.gang_target.proofs.StepLemmas.{setup_moved}
+use Rattle.flash_session.specs.declared.cursor.Cursor.TheVariants as at
+use Rattle.flash_session.specs.declared.phase.Phase.TheVariants as stage
+use Rattle.flash_session.specs.declared.part.Part.{Part}
+use Rattle.flash_session.specs.declared.player.Player.{Player}
+use Rattle.flash_session.specs.Begun.{IsPartFrom, AreFrom, IsBegun}
+use Rattle.flash_session.specs.Fit.{legs_of, IsPartOn, IsScripted}
+use Rattle.flash_session.specs.Rest.{all_legs, from_phase, untorn, unbroken, last_reset, second_rest, later_than, rest_of}
+use Rattle.flash_session.specs.Targets.{of_region, setup_on, map_of, map_on, part_in, planned_in, errand_in, later_leg, legs_for, has_second, size_for}
+use Rattle.flash_session.proofs.MachineLemmas.{map_moved}
+use Rattle.flash_session.proofs.StepLemmas.{setup_moved}
 
 -- ---- one region
 
@@ -80,14 +80,14 @@ module _ (b : BoardShown) (a : AlgorithmShown) (pl : Planned) (w : Work) (start 
 abbrev IsFit : BoardShown → List AlgorithmShown → Type 0
 IsFit b algorithms = IsTrue (all_fit b b.regions algorithms)
 
-module _ (b : BoardShown) (parts : Parts) (window : ℕ) (x : GangTarget) (begun : IsBegun parts window x) where
+module _ (b : BoardShown) (parts : Parts) (window : ℕ) (x : Player) (begun : IsBegun parts window x) where
   abbrev first_size : ℕ
   first_size = parts.first.geometry.size
 
   setup_first : setup_on x false ≡ setup_at x.calls
   setup_first = setup_moved x false begun.moved
 
-  map_first : map_on x false ≡ map_of x.calls
+  pub map_first : map_on x false ≡ map_of x.calls
   map_first = map_moved x false begun.moved
 
   other_none : x.other ≡ None → of_region true x.second x.calls x.other ≡ x.calls
@@ -234,7 +234,7 @@ few_by (Some w) None None start from = tt
 few_by (Some w) None (Some p) start from = absurd from
 few_by (Some w) (Some c) None start from = tt
 
-pub few_calls : (parts : Parts) (window : ℕ) (x : GangTarget) → IsBegun parts window x → calls_in (rest_of (legs_of x) (at.Begin false stage.Erase) unbroken) < 2 ^ 32
+pub few_calls : (parts : Parts) (window : ℕ) (x : Player) → IsBegun parts window x → calls_in (rest_of (legs_of x) (at.Begin false stage.Erase) unbroken) < 2 ^ 32
 few_calls parts window x begun = omega (
   arith,
   calls_of (setup_on x false) (errand_in x.task.first []) untorn (later_than (legs_of x) false unbroken),

@@ -39,16 +39,18 @@ use Rattle.flash_session.specs.Sessions.{job_legs, legs_for as session_legs}
 use Rattle.flash_session.specs.Starts.{start_of}
 use Rattle.flash_session.specs.Surveys.{Surveyed, ArePlannedFor, HasSurveyed, is_survey_device, is_survey_store}
 use Rattle.flash_session.specs.SurveyFacts.{HasRoom}
+use Rattle.flash_layout.specs.Areas.{cells_in}
+use Rattle.flash_layout.specs.Maps.{FlashMap}
 use Rattle.flash_session.proofs.JobLemmas.{total, sizes_are}
-use Rattle.gang_target.specs.declared.cursor.Place.{Place}
-use Rattle.gang_target.specs.declared.target_end.TargetEnd.{TargetEnd}
-use Rattle.gang_target.specs.declared.target_end.TargetEnd.TheVariants as ended
-use Rattle.gang_target.specs.declared.target.GangTarget.{GangTarget}
-use Rattle.gang_target.specs.Begun.{IsBegun}
-use Rattle.gang_target.specs.Fit.{legs_of, calls_ahead, IsPlace, IsScripted, Fit}
-use Rattle.gang_target.specs.Rest.{all_legs}
-use Rattle.gang_target.specs.Targets.{legs_for, has_second, size_for, goal_for, point_for}
-use Rattle.gang_run.proofs.MakingLemmas.{setup_is, map_is, starts_so, scripted, legs_are, few_calls}
+use Rattle.flash_session.specs.declared.cursor.Place.{Place}
+use Rattle.flash_session.specs.declared.target_end.TargetEnd.{TargetEnd}
+use Rattle.flash_session.specs.declared.target_end.TargetEnd.TheVariants as ended
+use Rattle.gang_run.specs.declared.target.GangTarget.{GangTarget}
+use Rattle.flash_session.specs.Begun.{IsBegun}
+use Rattle.flash_session.specs.Fit.{legs_of, calls_ahead, IsPlace, IsScripted, Fit}
+use Rattle.flash_session.specs.Rest.{all_legs}
+use Rattle.flash_session.specs.Targets.{legs_for, has_second, size_for, goal_for, point_for}
+use Rattle.gang_run.proofs.MakingLemmas.{setup_is, map_first, map_is, starts_so, scripted, legs_are, few_calls}
 use Rattle.gang_run.specs.declared.slot.Slot.{Slot}
 use Rattle.gang_run.specs.declared.slot.Slot.TheVariants as slot
 use Rattle.gang_run.specs.Opening.{unsurveyed_so, IsLookedAt, IsUnopened, IsRefused, Begins}
@@ -114,7 +116,7 @@ fresh_idle : (k : ControllerKind) → state_op (fresh k) ≡ None
 fresh_idle kind.Fc1 = refl
 fresh_idle kind.Fpec = refl
 
-module _ (tells : Bool) (j : Job) (parts : Parts) (window : ℕ) (x : GangTarget) (s t : BenchState) (w : Surveyed) (begun : IsBegun parts window x) (page : HasPage parts (length x.page.items)) (job : parts.job ≡ j) (goal_is : parts.goal ≡ w.goal)
+module _ (tells : Bool) (j : Job) (parts : Parts) (window : ℕ) (x : GangTarget) (s t : BenchState) (w : Surveyed) (begun : IsBegun parts window x.player) (job_from : x.job ≡ parts.job) (page : HasPage parts (length x.player.page.items)) (job : parts.job ≡ j) (goal_is : parts.goal ≡ w.goal)
     (are : ArePartsOf (board_of j.board) (algorithms_shown j.algorithms) w.regions (works_in parts)) (found : HasSurveyed tells j goal.New s.file s.cells w) (reads : IsRead tells s t)
     (count : s.cell_count ≡ size_of j.board.regions) (idle : IsTrue tells → s.operation ≡ None) (stands : IsTrue tells → StandsFor j s.file) (only : IsTrue tells → LeftOnly s.file (file_half s))
     (store : t.store_faults ≡ s.store_faults) (device : t.device_faults ≡ s.device_faults) where
@@ -124,14 +126,11 @@ module _ (tells : Bool) (j : Job) (parts : Parts) (window : ℕ) (x : GangTarget
   abbrev algorithms : List AlgorithmShown
   algorithms = algorithms_shown j.algorithms
 
-  job_is : x.task.job ≡ j
-  job_is = begun.job ∙ job
+  job_is : x.job ≡ j
+  job_is = job_from ∙ job
 
-  goal_new : x.task.goal ≡ goal.New
+  goal_new : x.player.task.goal ≡ goal.New
   goal_new = begun.goal ∙ goal_is ∙ found.goal
-
-  size_is : size_for x ≡ size_of j.board.regions
-  size_is = ap (λ (k : Job). size_of k.board.regions) job_is
 
   all_cells : size_of j.board.regions ≡ total algorithms
   all_cells = sizes_are b j.board.regions algorithms j.fit
@@ -139,36 +138,39 @@ module _ (tells : Bool) (j : Job) (parts : Parts) (window : ℕ) (x : GangTarget
   one : (a : AlgorithmShown) × (p : Planned) × IsPartOf b a p parts.first × (a.device.size ≤ total algorithms)
   one = first_part b algorithms w.regions parts.first (option_to_list parts.second) are
 
-  is_scripted : IsScripted x
-  is_scripted = scripted b parts window x begun algorithms w.regions are (omega (arith, size_is, all_cells)) (room_by b parts.first parts.second (length x.page.items) algorithms w.regions are page.first page.second)
+  size_is : size_for x.player ≡ size_of j.board.regions
+  size_is = ap (λ (m : FlashMap). cells_in m.areas) (map_first b parts window x.player begun) ∙ ap (λ (c : CallsIn). unit_cells c.machine.unit) begun.first.calls ∙ one.2.cells
 
-  goal_file : goal_for x t.file ≡ goal_in j goal.New t.file
-  goal_file = ap (λ (k : Job). goal_in k x.task.goal t.file) job_is ∙ ap (λ (g : Goal). goal_in j g t.file) goal_new
+  is_scripted : IsScripted x.player
+  is_scripted = scripted b parts window x.player begun algorithms w.regions are (omega (arith, size_is, all_cells)) (room_by b parts.first parts.second (length x.player.page.items) algorithms w.regions are page.first page.second)
 
-  legs_is : all_legs (legs_for x (goal_for x t.file)) ≡ job_legs x.task.job w t.file
+  goal_file : goal_for x.job x.player t.file ≡ goal_in j goal.New t.file
+  goal_file = ap (λ (k : Job). goal_in k x.player.task.goal t.file) job_is ∙ ap (λ (g : Goal). goal_in j g t.file) goal_new
+
+  legs_is : all_legs (legs_for x.player (goal_for x.job x.player t.file)) ≡ job_legs x.job w t.file
   legs_is =
-      ap (λ (l : List ℕ). all_legs (legs_for x l)) goal_file
-      ∙ legs_are b parts window x begun tells s.cells (goal_in j goal.New s.file) (goal_in j goal.New t.file) algorithms w.regions are j.fit found.regions
+      ap (λ (l : List ℕ). all_legs (legs_for x.player l)) goal_file
+      ∙ legs_are b parts window x.player begun tells s.cells (goal_in j goal.New s.file) (goal_in j goal.New t.file) algorithms w.regions are j.fit found.regions
       ∙ ap (λ (g : Goal). session_legs b 0 algorithms (goal_in j g t.file) w.regions) (sym found.goal)
       ∙ sym (ap (λ (k : Job). job_legs k w t.file) job_is)
 
-  some_cells : 1 ≤ size_for x
+  some_cells : 1 ≤ size_for x.player
   some_cells = omega (arith, size_is, all_cells, one.3, ap (λ (c : Setup). c.algorithm.device.size) one.2.setup, parts.first.calls.algorithm.lawful.size_some)
 
   module _ (arena : List (List ℕ)) (inside : window < length arena) (blank : window_of arena window ≡ replicate (ram_for x) 0) where
     ram_is : ram_for x ≡ b.ram_size
     ram_is = ap (λ (k : Job). k.board.ram_size) job_is
 
-    world : (cells : List ℕ) → (point_for x arena cells).world ≡ start_of b cells
-    world cells = starts_so b one.0 one.1 parts.first 0 x.calls x.task.first begun.first one.2 arena x.window cells (ap (λ (i : ℕ). window_of arena i) begun.window_is ∙ blank ∙ ap (λ (n : ℕ). replicate n 0) ram_is)
+    world : (cells : List ℕ) → (point_for x.player arena cells).world ≡ start_of b cells
+    world cells = starts_so b one.0 one.1 parts.first 0 x.player.calls x.player.task.first begun.first one.2 arena x.player.window cells (ap (λ (i : ℕ). window_of arena i) begun.window_is ∙ blank ∙ ap (λ (n : ℕ). replicate n 0) ram_is)
 
-    fit : Fit tells x arena t
+    fit : Fit tells x.player arena t
     fit = record {
       scripted = is_scripted;
       fits = (
         omega (arith, begun.window_is, inside),
         ap (λ (i : ℕ). length (window_of arena i)) begun.window_is ∙ ap (λ (l : List ℕ). length l) blank ∙ length-replicate (ram_for x) 0 ∙ ram_is
-            ∙ sym (ap (λ (c : Setup). c.ram_size) (setup_is b one.0 one.1 parts.first 0 x.calls x.task.first begun.first one.2)),
+            ∙ sym (ap (λ (c : Setup). c.ram_size) (setup_is b one.0 one.1 parts.first 0 x.player.calls x.player.task.first begun.first one.2)),
       );
       agrees = record {
         count = reads.cells.count ∙ count ∙ sym one.2.cells ∙ sym (ap (λ (c : CallsIn). unit_cells c.machine.unit) begun.first.calls);
@@ -176,8 +178,8 @@ module _ (tells : Bool) (j : Job) (parts : Parts) (window : ℕ) (x : GangTarget
       };
       wanted = ap (λ (c : CallsIn). unit_cells c.machine.unit) begun.first.calls ∙ one.2.cells ∙ sym size_is;
       some = some_cells;
-      place = subst (λ (p : Place). IsPlace tells (has_second x) x.second p (size_for x) t) (sym begun.place) (λ second. absurd (false≢true second));
-      room = omega (arith, begun.made, ap (λ (p : Place). calls_ahead (legs_of x) p) begun.place, few_calls parts window x begun);
+      place = subst (λ (p : Place). IsPlace tells (has_second x.player) x.player.second p (size_for x.player) t) (sym begun.place) (λ second. absurd (false≢true second));
+      room = omega (arith, begun.made, ap (λ (p : Place). calls_ahead (legs_of x.player) p) begun.place, few_calls parts window x.player begun);
     }
 
     begins : Begins tells x arena s t
@@ -197,7 +199,7 @@ module _ (tells : Bool) (j : Job) (parts : Parts) (window : ℕ) (x : GangTarget
     }
 
   pub ready_in : IsReadyIn tells window x s t
-  ready_in = record { window_is = begun.window_is; begins = λ arena inside blank. (begins arena inside blank, fit arena inside blank) }
+  ready_in = record { window_is = begun.window_is; size = ap (λ (k : Job). size_of k.board.regions) job_is ∙ sym size_is; begins = λ arena inside blank. (begins arena inside blank, fit arena inside blank) }
 
   pub surveys_to : Surveys tells j window (slot.Target x) s t
   surveys_to = (ready_in, job_is)
@@ -219,7 +221,7 @@ module _ (tells : Bool) (k j : Job) (parts : Parts) (window : ℕ) (s t : BenchS
   slot_made : (w : Surveyed) → HasSurveyed tells j goal.New s.file s.cells w → parts.goal ≡ w.goal → ArePartsOf (board_of k.board) (algorithms_shown k.algorithms) w.regions (works_in parts) → (p : Slot) → IsMade parts window p → Surveys tells j window p s t
   slot_made w found goal_is are (slot.Refused e) made = absurd made
   slot_made w found goal_is are (slot.Target x) made =
-      surveys_to tells j parts window x s t w made.0 made.1 (job ∙ same) goal_is
+      surveys_to tells j parts window x s t w made.0 made.1 made.2 (job ∙ same) goal_is
       (subst (λ (q : Job). ArePartsOf (board_of q.board) (algorithms_shown q.algorithms) w.regions (works_in parts)) same are) found reads count idle stands only store device
 
   pub surveyed_so : {E : Type 0} (o : Option Surveyed) (r : Result Slot E) → IsSomeAnd o (λ w. HasSurveyed tells j goal.New s.file s.cells w) → IfSome o (λ w. parts.goal ≡ w.goal)
@@ -251,7 +253,7 @@ module _ (tells : Bool) (j : Job) (window : ℕ) (s m t : BenchState) (stands : 
   refused_end ended.StoreFault is = is
   refused_end ended.DeviceFault is = is
 
-  begins_from : (x : GangTarget) (arena : List (List ℕ)) → x.task.job ≡ j → Begins tells x arena m t → Begins tells x arena s t
+  begins_from : (x : GangTarget) (arena : List (List ℕ)) → x.job ≡ j → Begins tells x arena m t → Begins tells x arena s t
   begins_from x arena job is = record {
     place = is.place;
     made = is.made;
@@ -271,6 +273,7 @@ module _ (tells : Bool) (j : Job) (window : ℕ) (s m t : BenchState) (stands : 
   slot_opens (slot.Refused e) is = refused_end e is
   slot_opens (slot.Target x) is = record {
     window_is = is.0.window_is;
+    size = is.0.size;
     begins = λ arena inside blank. let both = is.0.begins arena inside blank in (begins_from x arena is.1 both.0, both.1);
   }
 

@@ -12,11 +12,11 @@ use Rattle.job_text.specs.Stands.{StandsFor}
 use Rattle.ram_arena.specs.Windows.{round_up, total, blank}
 use Rattle.target_core.specs.Windows.{window_of}
 use Rattle.flash_session.specs.declared.fault.SurveyFault.TheVariants as survey
-use Rattle.gang_target.specs.declared.target_end.TargetEnd.{TargetEnd}
-use Rattle.gang_target.specs.declared.target_end.TargetEnd.TheVariants as ended
-use Rattle.gang_target.specs.declared.cursor.Place.{Place}
-use Rattle.gang_target.specs.declared.cursor.Place.TheVariants as place
-use Rattle.gang_target.specs.declared.target.GangTarget.{GangTarget}
+use Rattle.flash_session.specs.declared.target_end.TargetEnd.{TargetEnd}
+use Rattle.flash_session.specs.declared.target_end.TargetEnd.TheVariants as ended
+use Rattle.flash_session.specs.declared.cursor.Place.{Place}
+use Rattle.flash_session.specs.declared.cursor.Place.TheVariants as place
+use Rattle.gang_run.specs.declared.target.GangTarget.{GangTarget}
 use Rattle.gang_run.specs.declared.gang.Gang.{Gang}
 use Rattle.gang_run.specs.declared.slot.Slot.{Slot}
 use Rattle.gang_run.specs.declared.slot.Slot.TheVariants as slot
@@ -44,11 +44,11 @@ sizes_stay (slot.Target x) sizes i less = get_or_append_left sizes (ram_for x �
 
 sizes_small : (s : Slot) (sizes : List ℕ) → All (λ n. n ≤ most_ram) sizes → All (λ n. n ≤ most_ram) (sizes_with s sizes)
 sizes_small (slot.Refused e) sizes small = small
-sizes_small (slot.Target x) sizes small = All-append (λ n. n ≤ most_ram) sizes (ram_for x ∷ []) small (All-replicate (λ n. n ≤ most_ram) 1 (ram_for x) x.task.job.board.ram_is_small)
+sizes_small (slot.Target x) sizes small = All-append (λ n. n ≤ most_ram) sizes (ram_for x ∷ []) small (All-replicate (λ n. n ≤ most_ram) 1 (ram_for x) x.job.board.ram_is_small)
 
 still_among : (tells : Bool) (sizes : List ℕ) (new p : Slot) (s t : BenchState) → OpensAmong tells sizes p s t → OpensAmong tells (sizes_with new sizes) p s t
 still_among tells sizes new (slot.Refused e) s t is = is
-still_among tells sizes new (slot.Target x) s t is = (omega (arith, is.0, sizes_long new sizes), sizes_stay new sizes x.window is.0 ∙ is.1, is.2)
+still_among tells sizes new (slot.Target x) s t is = (omega (arith, is.0, sizes_long new sizes), sizes_stay new sizes x.player.window is.0 ∙ is.1, is.2)
 
 now_among : (tells : Bool) (sizes : List ℕ) (p : Slot) (s t : BenchState) → Opens tells (length sizes) p s t → OpensAmong tells (sizes_with p sizes) p s t
 now_among tells sizes (slot.Refused e) s t is = is
@@ -183,10 +183,10 @@ pub sizes_fit : (sizes : List ℕ) (n : ℕ) → All (λ n. n ≤ most_ram) size
 sizes_fit sizes n small few less = (omega (arith, few, less), omega (arith, total_small sizes small, few, less))
 
 module _ {B : Type 0} (G : Ghosts B) (first now : List B) (g : Gang) (sizes : List ℕ) (upto : ℕ) (was : Opening G first now g.slots.items sizes upto) (all : length first ≤ upto) (arena : g.arena ≡ blank sizes) where
-  window_blank : (x : GangTarget) → x.window < length sizes → get_or sizes x.window 0 ≡ ram_for x → (x.window < length g.arena) × (window_of g.arena x.window ≡ replicate (ram_for x) 0)
+  window_blank : (x : GangTarget) → x.player.window < length sizes → get_or sizes x.player.window 0 ≡ ram_for x → (x.player.window < length g.arena) × (window_of g.arena x.player.window ≡ replicate (ram_for x) 0)
   window_blank x inside size = (
     omega (arith, inside, ap (λ (l : List (List ℕ)). length l) arena, length-map sizes (λ (n : ℕ). replicate {A = ℕ} n 0)),
-    ap (λ (l : List (List ℕ)). window_of l x.window) arena ∙ get_or-map (λ (n : ℕ). replicate {A = ℕ} n 0) sizes x.window 0 [] inside ∙ ap (λ (n : ℕ). replicate {A = ℕ} n 0) size,
+    ap (λ (l : List (List ℕ)). window_of l x.player.window) arena ∙ get_or-map (λ (n : ℕ). replicate {A = ℕ} n 0) sizes x.player.window 0 [] inside ∙ ap (λ (n : ℕ). replicate {A = ℕ} n 0) size,
   )
 
   opened_by : (p : Slot) (s t : BenchState) → IsLookedAt G.tells s t → OpensAmong G.tells sizes p s t → IsOpened G.tells p g.arena s t × IsReady G.tells p g.arena t × IsSlot p
@@ -206,7 +206,8 @@ module _ {B : Type 0} (G : Ghosts B) (first now : List B) (g : Gang) (sizes : Li
         (looked, both.0),
         λ going. record {
           fit = both.1;
-          stands = λ told. subst (λ (f : List ℕ). StandsFor x.task.job f) (sym (looked.file told)) (both.0.stands told);
+          size = is.2.size;
+          stands = λ told. subst (λ (f : List ℕ). StandsFor x.job f) (sym (looked.file told)) (both.0.stands told);
           only = both.0.only;
         },
         subst EndsByScript (sym both.0.place) tt,

@@ -3,14 +3,14 @@ use Rattle.std.specs.Prelude.{◌≡◌, ℕ, List, None}
 use Rattle.bench_model.specs.Pairs.{PairsInTurn}
 use Rattle.bench_model.specs.State.{BenchState}
 use Rattle.flash_session.specs.Moves.{Stand}
-use Rattle.gang_target.specs.declared.cursor.Place.TheVariants as place
-use Rattle.gang_target.specs.declared.target_end.TargetEnd.{TargetEnd}
-use Rattle.gang_target.specs.declared.target_end.TargetEnd.TheVariants as ended
-use Rattle.gang_target.specs.declared.target.GangTarget.{GangTarget}
-use Rattle.gang_target.specs.Alone.{FollowsAs}
-use Rattle.gang_target.specs.Guarded.{FileEnd, HasBody, IsAtClose}
-use Rattle.gang_target.specs.Rest.{all_legs}
-use Rattle.gang_target.specs.Targets.{legs_for, goal_for}
+use Rattle.flash_session.specs.declared.cursor.Place.TheVariants as place
+use Rattle.flash_session.specs.declared.target_end.TargetEnd.{TargetEnd}
+use Rattle.flash_session.specs.declared.target_end.TargetEnd.TheVariants as ended
+use Rattle.gang_run.specs.declared.target.GangTarget.{GangTarget}
+use Rattle.flash_session.specs.Alone.{FollowsAs}
+use Rattle.flash_session.specs.Guarded.{FileEnd, HasBody, IsAtClose}
+use Rattle.flash_session.specs.Rest.{all_legs}
+use Rattle.flash_session.specs.Targets.{legs_for, goal_for}
 use Rattle.gang_run.specs.declared.slot.Slot.{Slot}
 use Rattle.gang_run.specs.declared.slot.Slot.TheVariants as slot
 use Rattle.gang_run.specs.Slots.{Counts}
@@ -22,9 +22,9 @@ pub record EndsAlone (a : Stand) (x : GangTarget) (s : BenchState) (new : Slot) 
   pub target : GangTarget
   pub is : new ≡ slot.Target target
   pub end : TargetEnd
-  pub place_is : target.place ≡ place.Ended end
-  pub follows : FollowsAs (all_legs (legs_for x (goal_for x s.file))) (goal_for x s.file) a end s t
+  pub place_is : target.player.place ≡ place.Ended end
+  pub follows : FollowsAs (all_legs (legs_for x.player (goal_for x.job x.player s.file))) (goal_for x.job x.player s.file) a end s t
   pub file : FileEnd body end t.file
   pub idle : end ≡ ended.Done → t.operation ≡ None
-  pub pairs : (at : ℕ) × PairsInTurn s t at (HasBody body) (IsAtClose body (goal_for x s.file))
+  pub pairs : (at : ℕ) × PairsInTurn s t at (HasBody body) (IsAtClose body (goal_for x.job x.player s.file))
   pub counts : Counts (place.Ended end) s t

@@ -16,14 +16,14 @@ use Rattle.flash_session.specs.Opened.{IsJobOf, IsSessionFault, IsSoundSession, 
 use Rattle.flash_session.specs.Sessions.{job_legs}
 use Rattle.flash_session.specs.Starts.{start_of}
 use Rattle.flash_session.specs.Surveys.{Surveyed, HasSurveyed, is_survey_device, is_survey_store}
-use Rattle.gang_target.specs.declared.target_end.TargetEnd.{TargetEnd}
-use Rattle.gang_target.specs.declared.target_end.TargetEnd.TheVariants as ended
-use Rattle.gang_target.specs.declared.cursor.Cursor.TheVariants as at
-use Rattle.flash_session.specs.declared.script.Phase.TheVariants as stage
-use Rattle.gang_target.specs.declared.cursor.Place.TheVariants as place
-use Rattle.gang_target.specs.declared.target.GangTarget.{GangTarget}
-use Rattle.gang_target.specs.Rest.{all_legs}
-use Rattle.gang_target.specs.Targets.{legs_for, goal_for, point_for}
+use Rattle.flash_session.specs.declared.target_end.TargetEnd.{TargetEnd}
+use Rattle.flash_session.specs.declared.target_end.TargetEnd.TheVariants as ended
+use Rattle.flash_session.specs.declared.cursor.Cursor.TheVariants as at
+use Rattle.flash_session.specs.declared.phase.Phase.TheVariants as stage
+use Rattle.flash_session.specs.declared.cursor.Place.TheVariants as place
+use Rattle.gang_run.specs.declared.target.GangTarget.{GangTarget}
+use Rattle.flash_session.specs.Rest.{all_legs}
+use Rattle.flash_session.specs.Targets.{legs_for, goal_for, point_for}
 use Rattle.gang_run.specs.declared.gang.Gang.{Gang}
 use Rattle.gang_run.specs.declared.slot.Slot.{Slot}
 use Rattle.gang_run.specs.declared.slot.Slot.TheVariants as slot
@@ -72,16 +72,16 @@ IsRefused tells ended.DeviceFault s t = ⊥
 -- A target has made no move of the script that a session which opened and surveyed the same would play, to the new goal, and its machine
 -- stands where that script starts. No fault was counted.
 pub record Begins (tells : Bool) (x : GangTarget) (arena : List (List ℕ)) (s t : BenchState) : Type 0 where
-  pub place : x.place ≡ place.At (at.Begin false stage.Erase)
-  pub made : x.made ≡ 0
-  pub goal : x.task.goal ≡ to_goal.New
-  pub stands : IsTrue tells → StandsFor x.task.job s.file
+  pub place : x.player.place ≡ place.At (at.Begin false stage.Erase)
+  pub made : x.player.made ≡ 0
+  pub goal : x.player.task.goal ≡ to_goal.New
+  pub stands : IsTrue tells → StandsFor x.job s.file
   pub only : IsTrue tells → LeftOnly t.file (file_half t)
   pub idle : IsTrue tells → t.operation ≡ None
-  pub world : (cells : List ℕ) → (point_for x arena cells).world ≡ start_of (board_of x.task.job.board) cells
+  pub world : (cells : List ℕ) → (point_for x.player arena cells).world ≡ start_of (board_of x.job.board) cells
   pub surveyed : Surveyed
-  pub found : HasSurveyed tells x.task.job to_goal.New t.file t.cells surveyed
-  pub legs : all_legs (legs_for x (goal_for x t.file)) ≡ job_legs x.task.job surveyed t.file
+  pub found : HasSurveyed tells x.job to_goal.New t.file t.cells surveyed
+  pub legs : all_legs (legs_for x.player (goal_for x.job x.player t.file)) ≡ job_legs x.job surveyed t.file
   pub store : t.store_faults ≡ s.store_faults
   pub device : t.device_faults ≡ s.device_faults
 

@@ -14,11 +14,13 @@ use Rattle.flash_session.specs.declared.fault.SurveyFault.{SurveyFault}
 use Rattle.flash_session.specs.declared.fault.SurveyFault.TheVariants as survey
 use Rattle.flash_session.specs.declared.parts.Parts.{Parts}
 use Rattle.flash_session.specs.Surveys.{is_survey_device, is_survey_store}
-use Rattle.gang_target.specs.declared.target_end.TargetEnd.{TargetEnd}
-use Rattle.gang_target.specs.declared.target_end.TargetEnd.TheVariants as ended
-use Rattle.gang_target.specs.declared.target.GangTarget.{GangTarget}
-use Rattle.gang_target.specs.Begun.{IsBegun}
-use Rattle.gang_target.specs.Fit.{Fit}
+use Rattle.flash_session.specs.declared.target_end.TargetEnd.{TargetEnd}
+use Rattle.flash_session.specs.declared.target_end.TargetEnd.TheVariants as ended
+use Rattle.gang_run.specs.declared.target.GangTarget.{GangTarget}
+use Rattle.flash_session.specs.Begun.{IsBegun}
+use Rattle.board_file.specs.Limits.{size_of}
+use Rattle.flash_session.specs.Fit.{Fit}
+use Rattle.flash_session.specs.Targets.{size_for}
 use Rattle.gang_run.specs.declared.slot.Slot.{Slot}
 use Rattle.gang_run.specs.declared.slot.Slot.TheVariants as slot
 use Rattle.gang_run.specs.Gangs.{OtherWindow}
@@ -33,17 +35,18 @@ pub record HasPage (parts : Parts) (len : ℕ) : Type 0 where
 -- it is a target that begins with what a session gave up, and has room for a page
 abbrev pub IsMade : Parts → (window : ℕ) → Slot → Type 0
 IsMade parts window (slot.Refused e) = ⊥
-IsMade parts window (slot.Target x) = IsBegun parts window x × HasPage parts (length x.page.items)
+IsMade parts window (slot.Target x) = IsBegun parts window x.player × (x.job ≡ parts.job) × HasPage parts (length x.player.page.items)
 
 -- the bytes of its RAM
 abbrev pub ram_for : GangTarget → ℕ
-ram_for x = x.task.job.board.ram_size
+ram_for x = x.job.board.ram_size
 
 -- with this window of zero bytes it fits its bench, before its first move
 pub record IsReadyIn (tells : Bool) (window : ℕ) (x : GangTarget) (s t : BenchState) : Type 0 where
-  pub window_is : x.window ≡ window
+  pub window_is : x.player.window ≡ window
+  pub size : size_of x.job.board.regions ≡ size_for x.player
   pub begins : (arena : List (List ℕ)) → window < length arena → window_of arena window ≡ replicate (ram_for x) 0
-      → Begins tells x arena s t × Fit tells x arena t
+      → Begins tells x arena s t × Fit tells x.player arena t
 
 -- no survey was made, by a fault that was counted
 pub record FailsSurvey (fault : SurveyFault) (s t : BenchState) : Type 0 where
@@ -63,7 +66,7 @@ IsUnsurveyedEnd ended.DeviceFault s t = ⊥
 -- the survey of a job that was opened on this bench
 abbrev pub Surveys : Bool → Job → (window : ℕ) → Slot → BenchState → BenchState → Type 0
 Surveys tells j window (slot.Refused e) s t = IsUnsurveyedEnd e s t
-Surveys tells j window (slot.Target x) s t = IsReadyIn tells window x s t × (x.task.job ≡ j)
+Surveys tells j window (slot.Target x) s t = IsReadyIn tells window x s t × (x.job ≡ j)
 
 abbrev pub Opens : Bool → (window : ℕ) → Slot → BenchState → BenchState → Type 0
 Opens tells window (slot.Refused e) s t = IsRefused tells e s t
@@ -102,7 +105,7 @@ slot_in slots i = get_or slots i (slot.Refused (ended.Survey survey.StoreFault))
 -- it was opened on its bench, and its window will be among these
 abbrev pub OpensAmong : Bool → List ℕ → Slot → BenchState → BenchState → Type 0
 OpensAmong tells sizes (slot.Refused e) s t = IsRefused tells e s t
-OpensAmong tells sizes (slot.Target x) s t = (x.window < length sizes) × (get_or sizes x.window 0 ≡ ram_for x) × IsReadyIn tells x.window x s t
+OpensAmong tells sizes (slot.Target x) s t = (x.player.window < length sizes) × (get_or sizes x.player.window 0 ≡ ram_for x) × IsReadyIn tells x.player.window x s t
 
 -- the benches before this one were opened, and the others are as they were
 pub record Opening {B : Type 0} (G : Ghosts B) (first now : List B) (slots : List Slot) (sizes : List ℕ) (upto : ℕ) : Type 0 where

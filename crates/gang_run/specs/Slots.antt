@@ -6,6 +6,7 @@ use Rattle.bench_model.specs.Device.{HasDeviceCause}
 use Rattle.bench_model.specs.History as history
 use Rattle.bench_model.specs.History.{LeftOnly}
 use Rattle.bench_model.specs.State.{BenchState, file_half}
+use Rattle.board_file.specs.Limits.{size_of}
 use Rattle.job_file.specs.Counted.{IsCounted}
 use Rattle.job_file.specs.declared.fault.OpenFault.TheVariants as opening
 use Rattle.job_text.specs.Files.{IsWhole}
@@ -16,30 +17,30 @@ use Rattle.flash_session.specs.declared.fault.SessionFault.TheVariants as sessio
 use Rattle.flash_session.specs.declared.fault.SurveyFault.{SurveyFault}
 use Rattle.flash_session.specs.declared.fault.SurveyFault.TheVariants as survey
 use Rattle.flash_session.specs.Moves.{Move, Stand}
-use Rattle.gang_target.specs.declared.target_end.TargetEnd.{TargetEnd}
-use Rattle.gang_target.specs.declared.target_end.TargetEnd.TheVariants as ended
-use Rattle.gang_target.specs.declared.target_end.Turn.{Turn}
-use Rattle.gang_target.specs.declared.target_end.Turn.TheVariants as turn
-use Rattle.gang_target.specs.declared.cursor.Place.{Place}
-use Rattle.gang_target.specs.declared.cursor.Place.TheVariants as place
-use Rattle.gang_target.specs.declared.target.GangTarget.{GangTarget}
-use Rattle.gang_target.specs.Ended.{IsEndAt}
-use Rattle.gang_target.specs.Fit.{IsScriptEnd, Fit, togo}
-use Rattle.gang_target.specs.Guarded.{Guarded}
-use Rattle.gang_target.specs.Stands.{StandsOn}
-use Rattle.gang_target.specs.Takes.{TakesOn, SliceOf}
-use Rattle.gang_target.specs.Targets.{goal_for}
-use Rattle.gang_target.specs.Turns.{IsUnended, turn_of, is_device_place, is_store_place, SameTarget, GoesOn, Turns}
+use Rattle.flash_session.specs.declared.target_end.TargetEnd.{TargetEnd}
+use Rattle.flash_session.specs.declared.target_end.TargetEnd.TheVariants as ended
+use Rattle.flash_session.specs.declared.target_end.Turn.{Turn}
+use Rattle.flash_session.specs.declared.target_end.Turn.TheVariants as turn
+use Rattle.flash_session.specs.declared.cursor.Place.{Place}
+use Rattle.flash_session.specs.declared.cursor.Place.TheVariants as place
+use Rattle.gang_run.specs.declared.target.GangTarget.{GangTarget}
+use Rattle.flash_session.specs.Ended.{IsEndAt}
+use Rattle.flash_session.specs.Fit.{IsScriptEnd, Fit, togo}
+use Rattle.flash_session.specs.Guarded.{Guarded}
+use Rattle.flash_session.specs.Stands.{StandsOn}
+use Rattle.flash_session.specs.Takes.{TakesOn, SliceOf}
+use Rattle.flash_session.specs.Targets.{goal_for, size_for}
+use Rattle.flash_session.specs.Turns.{IsUnended, turn_of, is_device_place, is_store_place, SameTarget, GoesOn, Turns}
 use Rattle.gang_run.specs.declared.slot.Slot.{Slot}
 use Rattle.gang_run.specs.declared.slot.Slot.TheVariants as slot
 
 abbrev pub slot_turn : Slot → Turn
 slot_turn (slot.Refused e) = turn.Ended
-slot_turn (slot.Target x) = turn_of x.place
+slot_turn (slot.Target x) = turn_of x.player.place
 
 abbrev pub slot_togo : Slot → ℕ
 slot_togo (slot.Refused e) = 0
-slot_togo (slot.Target x) = togo x
+slot_togo (slot.Target x) = togo x.player
 
 -- ---- what it shows
 
@@ -79,20 +80,20 @@ EndsByScript (place.Ended e) = IsScriptEnd e
 -- a target without a script was refused, and one with a script ends by it
 abbrev pub IsSlot : Slot → Type 0
 IsSlot (slot.Refused e) = IsRefusal e
-IsSlot (slot.Target x) = EndsByScript x.place
+IsSlot (slot.Target x) = EndsByScript x.player.place
 
 -- none where it hasn't ended
 abbrev pub IsSlotEnd : Slot → Option (Bor TargetEnd) → Type 0
 IsSlotEnd (slot.Refused end) None = ⊥
 IsSlotEnd (slot.Refused end) (Some e) = e.now ≡ end
-IsSlotEnd (slot.Target x) found = IsEndAt x.place found
+IsSlotEnd (slot.Target x) found = IsEndAt x.player.place found
 
 -- none where it has no script
 abbrev pub IsSlotJob : Slot → Option (Bor Job) → Type 0
 IsSlotJob (slot.Refused end) None = Unit {0}
 IsSlotJob (slot.Refused end) (Some j) = ⊥
 IsSlotJob (slot.Target x) None = ⊥
-IsSlotJob (slot.Target x) (Some j) = j.now ≡ x.task.job
+IsSlotJob (slot.Target x) (Some j) = j.now ≡ x.job
 
 -- how a target has ended, if it has
 abbrev pub place_end : Place → Option TargetEnd
@@ -104,7 +105,7 @@ place_end (place.Ended e) = Some e
 
 abbrev pub slot_end : Slot → Option TargetEnd
 slot_end (slot.Refused e) = Some e
-slot_end (slot.Target x) = place_end x.place
+slot_end (slot.Target x) = place_end x.player.place
 
 abbrev pub IsNoJob : Option (Bor Job) → Type 0
 IsNoJob None = Unit {0}
@@ -126,18 +127,24 @@ HasJob (Some ended.DeviceFault) found = IsSome found
 -- what a turn asks of a target that hasn't ended: it fits its window and its bench, and the one file that a stop may leave stands for its
 -- job
 pub record Ready (tells : Bool) (x : GangTarget) (arena : List (List ℕ)) (b : BenchState) : Type 0 where
-  pub fit : Fit tells x arena b
-  pub stands : IsTrue tells → StandsFor x.task.job b.file
+  pub fit : Fit tells x.player arena b
+  pub size : size_of x.job.board.regions ≡ size_for x.player
+  pub stands : IsTrue tells → StandsFor x.job b.file
   pub only : IsTrue tells → LeftOnly b.file (file_half b)
 
 abbrev pub IsReady : Bool → Slot → List (List ℕ) → BenchState → Type 0
 IsReady tells (slot.Refused e) arena b = Unit {0}
-IsReady tells (slot.Target x) arena b = IsUnended x.place → Ready tells x arena b
+IsReady tells (slot.Target x) arena b = IsUnended x.player.place → Ready tells x arena b
+
+-- the player of a target went on by a turn, to the goal that the file gives
+pub record TargetTurns (tells : Bool) (x : GangTarget) (arena : List (List ℕ)) (s : BenchState) (y : GangTarget) (arena' : List (List ℕ)) (t : BenchState) : Type 0 where
+  pub job : y.job ≡ x.job
+  pub turns : Turns tells (goal_for x.job x.player s.file) x.player arena s y.player arena' t
 
 -- a turn of a target that hasn't ended
 abbrev pub SlotGoes : Bool → Slot → List (List ℕ) → BenchState → Slot → List (List ℕ) → BenchState → Type 0
 SlotGoes tells (slot.Refused e) arena s new arena' t = Unit {0}
-SlotGoes tells (slot.Target x) arena s new arena' t = IsUnended x.place → (y : GangTarget) × (new ≡ slot.Target y) × Turns tells x arena s y arena' t
+SlotGoes tells (slot.Target x) arena s new arena' t = IsUnended x.player.place → (y : GangTarget) × (new ≡ slot.Target y) × TargetTurns tells x arena s y arena' t
 
 -- a turn, which changes nothing where the target has ended
 pub record SlotTurns {B : Type 0} (G : Ghosts B) (old : Slot) (arena : List (List ℕ)) (bench : B) (new : Slot)
@@ -148,8 +155,8 @@ pub record SlotTurns {B : Type 0} (G : Ghosts B) (old : Slot) (arena : List (Lis
 -- it does one thing, with so many steps asked for
 abbrev pub SlotTakes : Bool → (steps : ℕ) → Slot → List (List ℕ) → BenchState → Slot → List (List ℕ) → BenchState → Type 0
 SlotTakes tells steps (slot.Refused e) arena s new arena' t = Unit {0}
-SlotTakes tells steps (slot.Target x) arena s new arena' t = IsUnended x.place → (y : GangTarget) × (new ≡ slot.Target y)
-    × TakesOn steps s.cell_count x.place y.place × SliceOf tells steps x.place x arena s y arena' t
+SlotTakes tells steps (slot.Target x) arena s new arena' t = IsUnended x.player.place → (y : GangTarget) × (new ≡ slot.Target y)
+    × TakesOn steps s.cell_count x.player.place y.player.place × SliceOf tells steps x.player.place x.player arena s y.player arena' t
 
 -- ---- turns
 
@@ -162,29 +169,30 @@ pub record Counts (p : Place) (s t : BenchState) : Type 0 where
 pub record TargetKept (x : GangTarget) (s : BenchState) (new : Slot) (t : BenchState) : Type 0 where
   pub target : GangTarget
   pub is : new ≡ slot.Target target
-  pub task : target.task ≡ x.task
-  pub counts : Counts target.place s t
+  pub job : target.job ≡ x.job
+  pub counts : Counts target.player.place s t
 
 -- the bench of a target without a script is as it was
 abbrev pub SlotKept : {B : Type 0} → Ghosts B → Slot → B → Slot → B → Type 0
 SlotKept G (slot.Refused e) bench new bench' = (new ≡ slot.Refused e) × (bench' ≡ bench)
-SlotKept G (slot.Target x) bench new bench' = IsUnended x.place → TargetKept x (G.state bench) new (G.state bench')
+SlotKept G (slot.Target x) bench new bench' = IsUnended x.player.place → TargetKept x (G.state bench) new (G.state bench')
 
 -- where it stands that hasn't ended
 abbrev pub SlotStands : Stand → List Move → Slot → List (List ℕ) → BenchState → Type 0
 SlotStands a way (slot.Refused e) arena b = Unit {0}
-SlotStands a way (slot.Target x) arena b = IsUnended x.place × StandsOn a way (goal_for x b.file) x arena b
+SlotStands a way (slot.Target x) arena b = IsUnended x.player.place × StandsOn a way (goal_for x.job x.player b.file) x.player arena b
 
 -- a target went on from there, to the goal that the file gave
 pub record TargetSince (a : Stand) (way : List Move) (x : GangTarget) (s : BenchState) (new : Slot) (arena : List (List ℕ)) (t : BenchState) : Type 0 where
   pub target : GangTarget
   pub is : new ≡ slot.Target target
-  pub same : SameTarget x target
-  pub goes : GoesOn a way (goal_for x s.file) target arena s t
-  pub file : IsUnended target.place → t.file ≡ s.file
+  pub job : target.job ≡ x.job
+  pub same : SameTarget x.player target.player
+  pub goes : GoesOn a way (goal_for x.job x.player s.file) target.player arena s t
+  pub file : IsUnended target.player.place → t.file ≡ s.file
   pub files : history.GoesOn (file_half s) (file_half t)
-  pub guarded : (body : List ℕ) → IsWhole body s.file → Guarded body (goal_for x s.file) target.place s t
-  pub counts : Counts target.place s t
+  pub guarded : (body : List ℕ) → IsWhole body s.file → Guarded body (goal_for x.job x.player s.file) target.player.place s t
+  pub counts : Counts target.player.place s t
 
 -- it went on from there
 abbrev pub SlotSince : Stand → List Move → Slot → BenchState → Slot → List (List ℕ) → BenchState → Type 0

@@ -4,13 +4,13 @@ ghost use Rattle.gang_run.specs.Gangs.{slot_at, IsGang, AreReady, OneTurn, Gives
 ghost use Rattle.gang_run.specs.Opening.{AreOpened, AreLookedAt};
 ghost use Rattle.gang_run.specs.Slots.{slot_turn, SlotTakes, IsSlotEnd, IsSlotJob};
 ghost use Rattle.gang_run.specs.declared.gang.Gang.{Gang};
-ghost use Rattle.gang_target.specs.declared.target_end.Turn.TheVariants as a_turn;
+ghost use Rattle.flash_session.specs.declared.target_end.Turn.TheVariants as a_turn;
 
 use crate::open_slots::add_slot;
 use crate::slot::Slot;
 use bench_model::Bench;
 use faults::OutOfMemory;
-use gang_target::{TargetEnd, Turn};
+use flash_session::{TargetEnd, Turn};
 use job_text::Job;
 use ram_arena::Arena;
 use std::alloc::Global;

@@ -4,11 +4,11 @@ ghost use Rattle.std.specs.Borrow.{Bor};
 ghost use Rattle.job_text.specs.declared.job.Job.{Job};
 ghost use Rattle.job_text.specs.Files.{IsWhole};
 ghost use Rattle.flash_session.specs.Moves.{Stand};
-ghost use Rattle.gang_target.specs.declared.target_end.Turn.TheVariants as turn;
-ghost use Rattle.gang_target.specs.declared.target.GangTarget.{GangTarget};
-ghost use Rattle.gang_target.specs.Stands.{StandsOn};
-ghost use Rattle.gang_target.specs.Targets.{goal_for};
-ghost use Rattle.gang_target.specs.Turns.{IsUnended};
+ghost use Rattle.flash_session.specs.declared.target_end.Turn.TheVariants as turn;
+ghost use Rattle.gang_run.specs.declared.target.GangTarget.{GangTarget};
+ghost use Rattle.flash_session.specs.Stands.{StandsOn};
+ghost use Rattle.flash_session.specs.Targets.{goal_for};
+ghost use Rattle.flash_session.specs.Turns.{IsUnended};
 ghost use Rattle.gang_run.specs.declared.gang.Gang.{Gang};
 ghost use Rattle.gang_run.specs.declared.slot.Slot.TheVariants as slot;
 ghost use Rattle.gang_run.specs.Slots.{slot_turn, slot_end, IsSlotJob, HasJob};
@@ -39,7 +39,7 @@ pub fn turns_go_on<B: Bench>()
 pub fn targets_end_as_alone<B: Bench>()
     ensures { (old new : Gang) (benches after : List B) (i : ℕ) (d : B) (a : Stand) (x : GangTarget) (body : List ℕ) → IsTrue B.tells
         → AllSince B.Bench old benches new after → i < length benches
-        → slot_at old i ≡ slot.Target x → IsUnended x.place → StandsOn a [] (goal_for x (B.state (get_or benches i d)).file) x old.arena
+        → slot_at old i ≡ slot.Target x → IsUnended x.player.place → StandsOn a [] (goal_for x.job x.player (B.state (get_or benches i d)).file) x.player old.arena
         (B.state (get_or benches i d)) → IsWhole body (B.state (get_or benches i d)).file
         → slot_turn (slot_at new i) ≡ turn.Ended
         → EndsAlone a x (B.state (get_or benches i d)) (slot_at new i) (B.state (get_or after i d)) body }

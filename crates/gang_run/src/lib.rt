@@ -8,7 +8,8 @@ mod gang;
 mod law;
 mod open_slots;
 mod slot;
+mod target;
 
+pub use flash_session::{TargetEnd, Turn};
 pub use gang::{Asked, Gang};
-pub use gang_target::{TargetEnd, Turn};
 pub use law::{jobs_are_lent, targets_end_as_alone, turns_begin, turns_go_on};

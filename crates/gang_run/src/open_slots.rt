@@ -11,10 +11,10 @@ ghost use Rattle.gang_run.specs.Opening.{IsLookedAt};
 ghost use Rattle.gang_run.specs.Opens.{HasPage, IsMade, Surveys, Opens, AddsWindow, PutsSlot, AddsSlot};
 
 use crate::slot::Slot;
+use crate::target::GangTarget;
 use bench_model::Bench;
 use faults::OutOfMemory;
-use flash_session::{Goal, Parts, Session, SessionFault, SurveyFault};
-use gang_target::{TargetEnd, begin};
+use flash_session::{Goal, Parts, Session, SessionFault, SurveyFault, TargetEnd, begin};
 use job_file::OpenFault;
 use std::alloc::Global;
 
@@ -34,7 +34,8 @@ fn make_slot(alloc: Global, parts: Parts, window: usize) -> Result<Slot, OutOfMe
     ensures { IfOk result (IsMade parts window) }
 {
     let page = vec![in alloc; 0u8; longest_page(&parts) as usize]?;
-    Ok(Slot::Target(begin(parts, window, page)))
+    let (job, player) = begin(parts, window, page);
+    Ok(Slot::Target(GangTarget { job, player }))
 }
 
 /// Surveys the job of a session to its new goal, and makes a target of it, with this window.
@@ -94,7 +95,7 @@ fn add_window(slot: &Slot, sizes: &mut Vec<u32>) -> Result<(), OutOfMemory>
     match slot {
         Slot::Refused(_) => Ok(()),
         Slot::Target(target) => {
-            sizes.push(target.job().board.ram_size)?;
+            sizes.push(target.job.board.ram_size)?;
             Ok(())
         }
     }

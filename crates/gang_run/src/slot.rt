@@ -2,8 +2,9 @@
 ghost use Rattle.std.specs.Prelude.{◌≤◌};
 ghost use Rattle.gang_run.specs.Slots.{IsReady, SlotTurns, SlotTakes, slot_turn, IsSlotEnd, IsSlotJob};
 
+use crate::target::GangTarget;
 use bench_model::Bench;
-use gang_target::{GangTarget, TargetEnd, Turn};
+use flash_session::{TargetEnd, Turn};
 use job_text::Job;
 use ram_arena::Arena;
 
@@ -23,7 +24,7 @@ impl Slot {
     {
         match self {
             Slot::Refused(_) => Turn::Ended,
-            Slot::Target(target) => target.state(),
+            Slot::Target(target) => target.player.state(),
         }
     }
 
@@ -33,7 +34,7 @@ impl Slot {
     {
         match self {
             Slot::Refused(end) => Some(end),
-            Slot::Target(target) => target.end(),
+            Slot::Target(target) => target.player.end(),
         }
     }
 
@@ -43,7 +44,7 @@ impl Slot {
     {
         match self {
             Slot::Refused(_) => None,
-            Slot::Target(target) => Some(target.job()),
+            Slot::Target(target) => Some(&target.job),
         }
     }
 
@@ -56,9 +57,9 @@ impl Slot {
     {
         match self {
             Slot::Refused(_) => {}
-            Slot::Target(target) => match target.state() {
+            Slot::Target(target) => match target.player.state() {
                 Turn::Ended => {}
-                Turn::More => target.turn(arena, bench, steps),
+                Turn::More => target.player.turn(&target.job, arena, bench, steps),
             },
         }
     }

@@ -10,13 +10,16 @@ use Rattle.flash_session.specs.Surveys.{planned_of, ArePlannedFor}
 use Rattle.flash_session.specs.SurveyFacts.{AreRegionSurveys, HasRoom}
 use Rattle.std.proofs.lemmas.Result.{err_from_is_err_and}
 use Rattle.flash_session.specs.declared.fault.SurveyFault.{SurveyFault}
-use Rattle.flash_session.specs.declared.survey.RegionSurvey.{RegionSurvey}
-use Rattle.flash_session.specs.declared.survey.Survey.{Survey}
+use Rattle.flash_session.specs.declared.part.Part.{Part as RegionSurvey}
+use Rattle.flash_session.specs.declared.ready.Survey.{Survey}
 use Rattle.flash_session.proofs.FoundLemmas.{found_then, later_still, works_found, whole_found, refused, handed_store, handed_device}
 use Rattle.flash_session.proofs.Playing.{cause_then, counted_then}
 use Rattle.flash_session.proofs.ReadLemmas.{read_then}
-use Rattle.flash_session.proofs.JobLemmas.{goal_length, sizes_are}
+use Rattle.flash_session.proofs.JobLemmas.{goal_length, sizes_are, blank_fits}
 use Rattle.flash_session.proofs.survey.survey_for.Goals as goal
+
+pub invariant_of-result : goal.invariant_of-result
+invariant_of-result g c = record { ram = blank_fits c.args.job.now c.in_ok-machines.machines.0 c.in_ok-machines.machines.1 c.in_ok-arena.arena c.in_ok-machines.ensures c.in_ok-arena.ensures }
 
 pub returns-clause-found : goal.returns-clause-found
 returns-clause-found g c =

@@ -2,7 +2,7 @@ use Rattle.std.proofs.Common.{ℕ, refl, ap, arith, ◌∙◌}
 use Rattle.page_geometry.specs.Geometry.{Geometry}
 use Rattle.std.proofs.lemmas.Result.{err_from_is_err_and}
 use Rattle.flash_session.specs.declared.fault.SurveyFault.{SurveyFault}
-use Rattle.flash_session.specs.declared.survey.RegionSurvey.{RegionSurvey}
+use Rattle.flash_session.specs.declared.part.Part.{Part as RegionSurvey}
 use Rattle.flash_session.proofs.FoundLemmas.{refused, handed_store, handed_device}
 use Rattle.flash_session.proofs.survey.survey_region.Goals as goal
 

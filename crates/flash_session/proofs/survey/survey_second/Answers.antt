@@ -6,7 +6,7 @@ use Rattle.flm_descriptor.specs.Shown.{Shown as AlgorithmShown, shown as algorit
 use Rattle.job_text.specs.Fits.{all_fit}
 use Rattle.std.proofs.lemmas.Result.{err_from_is_err_and}
 use Rattle.flash_session.specs.declared.fault.SurveyFault.{SurveyFault}
-use Rattle.flash_session.specs.declared.survey.RegionSurvey.{RegionSurvey}
+use Rattle.flash_session.specs.declared.part.Part.{Part as RegionSurvey}
 use Rattle.flash_session.specs.Starts.{later_shown}
 use Rattle.flash_session.proofs.FoundLemmas.{refused, handed_store, handed_device}
 use Rattle.flash_session.proofs.JobLemmas.{sizes_are}

@@ -1,7 +1,7 @@
 use Rattle.std.proofs.Common.{◌∙◌, ap}
 use Rattle.std.proofs.lemmas.Result.{err_from_is_err_and}
 use Rattle.flash_session.specs.declared.fault.SurveyFault.{SurveyFault}
-use Rattle.flash_session.specs.declared.survey.Survey.{Survey}
+use Rattle.flash_session.specs.declared.ready.Survey.{Survey}
 use Rattle.flash_session.proofs.FoundLemmas.{refused, handed_store, handed_device}
 use Rattle.flash_session.proofs.session.Session.survey.Goals as goal
 

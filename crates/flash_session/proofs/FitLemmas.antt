@@ -1,0 +1,127 @@
+-- A turn from its parts.
+use Rattle.std.proofs.Common.{◌≡◌, ◌<◌, ◌≤◌, ◌+◌, ◌^◌, ◌∙◌, ℕ, Bool, true, false, IsTrue, List, [], length, refl, sym, ap, subst, arith}
+use Rattle.faults.specs.Counts.{Rose}
+use Rattle.bench_model.specs.State.{BenchState}
+use Rattle.bench_model.specs.Calls.{FileStays, FileIsRead}
+use Rattle.bench_model.specs.Device.{HasDeviceCause}
+use Rattle.bench_model.proofs.Moments.{stays_adds_nothing}
+use Rattle.job_text.specs.declared.job.Job.{Job}
+use Rattle.flash_layout.specs.Areas.{cells_in}
+use Rattle.flash_layout.specs.Maps.{FlashMap}
+use Rattle.job_file.specs.Counted.{IsCounted}
+use Rattle.target_core.specs.Path.{Point}
+use Rattle.target_core.specs.Windows.{OnlyIn}
+use Rattle.algo_calls.specs.Setups.{Setup}
+use Rattle.algo_calls.specs.Shows.{AgreesAt, Fits}
+use Rattle.flash_session.specs.Moves.{Move, Stand}
+use Rattle.flash_session.specs.declared.phase.Phase.{Phase}
+use Rattle.flash_session.specs.declared.phase.Phase.TheVariants as stage
+use Rattle.flash_session.specs.declared.cursor.Place.{Place}
+use Rattle.flash_session.specs.declared.part.Part.{Part}
+use Rattle.flash_session.specs.declared.part.Task.{Task}
+use Rattle.flash_session.specs.declared.player.Player.{Player}
+use Rattle.flash_session.specs.declared.target_end.TargetEnd.{TargetEnd}
+use Rattle.flash_session.specs.declared.target_end.TargetEnd.TheVariants as ended
+use Rattle.flash_session.specs.Fit.{legs_of, calls_ahead, turns_ahead, togo, IsScriptEnd, IsSoundEnd, IsPlace, IsPartOn, AreTwins, IsScripted, Fit}
+use Rattle.flash_session.specs.Rest.{Legs, with_torn, unbroken}
+use Rattle.flash_session.specs.Stands.{Stands, StandsOn}
+use Rattle.flash_session.specs.Goals.{goal_in}
+use Rattle.flash_session.specs.Targets.{setup_on, map_of, setup_now, part_in, point_for, legs_for, has_second, size_for, goal_for}
+use Rattle.flash_session.specs.Turns.{SameTarget, GoesOn, Turns, FileTurn, is_device_place, is_store_place}
+use Rattle.flash_session.proofs.MachineLemmas.{has_same, legs_same}
+
+pub unbroken_is : (r : Bool) (p : Phase) → with_torn r p [] unbroken ≡ unbroken
+unbroken_is false stage.Erase = refl
+unbroken_is false stage.Program = refl
+unbroken_is false stage.Verify = refl
+unbroken_is true stage.Erase = refl
+unbroken_is true stage.Program = refl
+unbroken_is true stage.Verify = refl
+
+-- a sound end is one of a script
+pub of_script : (tells : Bool) (size : ℕ) (e : TargetEnd) (b : BenchState) → IsSoundEnd tells size e b → IsScriptEnd e
+of_script tells size ended.Done b sound = tt
+of_script tells size (ended.Open fault) b sound = absurd sound
+of_script tells size (ended.Survey fault) b sound = absurd sound
+of_script tells size (ended.CallFailed number call e) b sound = tt
+of_script tells size (ended.Mismatch d) b sound = tt
+of_script tells size ended.StoreFault b sound = tt
+of_script tells size ended.DeviceFault b sound = tt
+
+-- ---- counts
+
+pub none_counted : (before now : ℕ) → now ≡ before → HasDeviceCause before now false
+none_counted before now same = record { later = omega (arith, same); on_device = λ e. cc; on_other = λ e. same }
+
+pub one_counted : (before now : ℕ) → before ≤ now → Rose before now → HasDeviceCause before now true
+one_counted before now later rose = record { later = later; on_device = λ e. rose; on_other = λ e. cc }
+
+pub no_fault : (before now : ℕ) → now ≡ before → IsCounted before now false
+no_fault before now same = record { later = omega (arith, same); on_fault = λ e. cc; on_other = λ e. same }
+
+pub one_fault : (before now : ℕ) → before ≤ now → Rose before now → IsCounted before now true
+one_fault before now later rose = record { later = later; on_fault = λ e. rose; on_other = λ e. cc }
+
+-- a file that stays is only read
+pub file_kept : (tells : Bool) (s t : BenchState) → FileStays s t → FileIsRead tells s t
+file_kept tells s t stays = record { file = λ told. stays.file; moments = stays_adds_nothing stays.half }
+
+-- ---- where it stands, by the script of before
+
+pub stands_same : (old new : Player) (a : Stand) (way : List Move) (goal : List ℕ) (arena : List (List ℕ)) (now : BenchState) → SameTarget old new
+    → Stands (legs_for old goal) goal (setup_now new) a way new.place new.made (point_for new arena now.cells) new.calls.machine.return_at now → StandsOn a way goal new arena now
+stands_same old new a way goal arena now same stands =
+    subst (λ (l : Legs). Stands l goal (setup_now new) a way new.place new.made (point_for new arena now.cells) new.calls.machine.return_at now) (sym (legs_same old new same goal)) stands
+
+pub size_same : (old new : Player) → SameTarget old new → size_for new ≡ size_for old
+size_same old new same = ap (λ (m : FlashMap). cells_in m.areas) (same.maps false)
+
+pub goal_same : (j : Job) (old new : Player) (file : List ℕ) → SameTarget old new → goal_for j new file ≡ goal_for j old file
+goal_same j old new file same = ap (λ (t : Task). goal_in j t.goal file) same.task
+
+part_same : (old new : Player) (r : Bool) → SameTarget old new → length new.page.items ≡ length old.page.items → IsPartOn (setup_on old r) (size_for old) (length old.page.items) (part_in old.task r)
+    → IsPartOn (setup_on new r) (size_for new) (length new.page.items) (part_in new.task r)
+part_same old new r same page is =
+    subst (λ (s : Setup). IsPartOn s (size_for new) (length new.page.items) (part_in new.task r)) (sym (same.setups r))
+    (subst (λ (t : Task). IsPartOn (setup_on old r) (size_for new) (length new.page.items) (part_in t r)) (sym same.task)
+    (subst (λ (m : ℕ). IsPartOn (setup_on old r) m (length new.page.items) (part_in old.task r)) (sym (size_same old new same))
+    (subst (λ (n : ℕ). IsPartOn (setup_on old r) (size_for old) n (part_in old.task r)) (sym page) is)))
+
+pub scripted_same : (old new : Player) → SameTarget old new → length new.page.items ≡ length old.page.items → AreTwins new → IsScripted old → IsScripted new
+scripted_same old new same page twins is = record {
+  first = part_same old new false same page is.first;
+  second = λ there. part_same old new true same page (is.second (sym (has_same old new same) ∙ there));
+  twins = twins;
+}
+
+pub turn_made : (tells : Bool) (goal : List ℕ) (old new : Player) (arena arena' : List (List ℕ)) (start end : BenchState)
+    → Fit tells old arena start → SameTarget old new → length new.page.items ≡ length old.page.items → AreTwins new → map_of new.calls ≡ map_of old.calls → OnlyIn old.window arena arena' → Fits new.calls arena' new.window
+    → AgreesAt tells new.calls end → IsPlace tells (has_second old) new.second new.place (size_for old) end → new.made + calls_ahead (legs_of old) new.place < 2 ^ 32
+    → turns_ahead (legs_of old) (size_for old) new.place < togo old → end.cell_count ≡ start.cell_count → FileTurn tells old.place new.place start end
+    → HasDeviceCause start.device_faults end.device_faults (is_device_place new.place) → IsCounted start.store_faults end.store_faults (is_store_place new.place)
+    → (IsTrue tells → (a : Stand) (way : List Move) → StandsOn a way goal old arena start → GoesOn a way goal new arena' start end)
+    → Turns tells goal old arena start new arena' end
+turn_made tells goal old new arena arena' start end fit same page twins map only fits agrees place room near count file device store told =
+    let size : size_for new ≡ size_for old = size_same old new same in
+    let legs : legs_of new ≡ legs_of old = legs_same old new same [] in
+    record {
+      told = told;
+      same = same;
+      only = only;
+      page = page;
+      fit = record {
+        scripted = scripted_same old new same page twins fit.scripted;
+        fits = fits;
+        agrees = agrees;
+        wanted = ap (λ (m : FlashMap). cells_in m.areas) map ∙ fit.wanted ∙ sym size;
+        some = subst (λ (n : ℕ). 0 < n) (sym size) fit.some;
+        place = subst (λ (n : ℕ). IsPlace tells (has_second new) new.second new.place n end) (sym size)
+            (subst (λ (h : Bool). IsPlace tells h new.second new.place (size_for old) end) (sym (has_same old new same)) place);
+        room = omega (arith, ap (λ (l : Legs). calls_ahead l new.place) legs, room);
+      };
+      nearer = omega (arith, ap (λ (l : Legs). turns_ahead l (size_for new) new.place) legs, ap (λ (n : ℕ). turns_ahead (legs_of old) n new.place) size, near);
+      count = count;
+      file = file;
+      device = device;
+      store = store;
+    }

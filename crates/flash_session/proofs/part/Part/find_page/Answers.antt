@@ -1,0 +1,16 @@
+use Rattle.std.proofs.Common.{◌∙◌, length, get_or, false, sym, arith}
+use Rattle.flash_session.specs.Script.{page_at}
+use Rattle.flash_session.proofs.Lists.{none_of}
+use Rattle.flash_session.specs.Targets.{errand_in}
+use Rattle.flash_session.proofs.RestLemmas.{from_skip, from_none}
+use Rattle.flash_session.proofs.part.Part.find_page.Goals as goal
+
+pub loop-k-preserved : goal.loop-k-preserved
+loop-k-preserved c = λ v s bytes.
+    c.loop-k.invariant v s bytes
+    ∙ from_skip (page_at v s (errand_in c.args.self.now bytes)) (length c.args.self.now.geometry.pages) c.loop-k.k (omega (arith, c.pages-count.ensures.count))
+    (none_of (get_or c.args.self.now.plan.made.pages c.loop-k.k false) _ (sym c.page_in.ensures ∙ c.if-page_in.false))
+
+pub returns : goal.returns
+returns c = λ v s bytes.
+    c.loop-k.invariant v s bytes ∙ from_none (page_at v s (errand_in c.args.self.now bytes)) (length c.args.self.now.geometry.pages) c.loop-k.k (omega (arith, c.pages-count.ensures.count))

@@ -1,0 +1,8 @@
+use Rattle.flash_session.specs.Targets.{goal_for}
+use Rattle.flash_session.proofs.player.Player.host.Goals as goal
+
+pub returns-in-Begin-clause-turns : goal.returns-in-Begin-clause-turns
+returns-in-Begin-clause-turns g c = c.begin_phase.ensures.turns (goal_for c.args.job.now c.args.self.now (g.B.Bench.state c.args.bench.now).file)
+
+pub returns-in-Last-clause-turns : goal.returns-in-Last-clause-turns
+returns-in-Last-clause-turns g c = c.last_reset.ensures.turns (goal_for c.args.job.now c.args.self.now (g.B.Bench.state c.args.bench.now).file)

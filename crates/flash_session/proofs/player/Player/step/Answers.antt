@@ -1,0 +1,16 @@
+use Rattle.std.proofs.Common.{ℕ, sym, subst}
+use Rattle.algo_calls.specs.declared.call.Call.TheVariants.{Init}
+use Rattle.flash_session.specs.declared.cursor.Cursor.{Cursor}
+use Rattle.flash_session.specs.declared.cursor.Cursor.TheVariants as at
+use Rattle.flash_session.specs.declared.cursor.Step.TheVariants as step
+use Rattle.flash_session.specs.Steps.{IsStep, IsCursor}
+use Rattle.flash_session.specs.Targets.{has_second}
+use Rattle.flash_session.proofs.StepLemmas.{step_init}
+use Rattle.flash_session.proofs.player.Player.step.Goals as goal
+
+pub returns-in-Init-clause-step : goal.returns-in-Init-clause-step
+returns-in-Init-clause-step c =
+    let g = c.args.self.now in
+    subst (λ (x : Cursor). IsStep g x (step.Call (Init c.kind.result) 0 0 (at.Calls c.in-Init.second c.in-Init.phase 0))) (sym c.in-Init.is)
+    (subst (λ (n : ℕ). IsStep g (at.Init c.in-Init.second c.in-Init.phase) (step.Call (Init n) 0 0 (at.Calls c.in-Init.second c.in-Init.phase 0))) (sym c.kind.ensures)
+    (step_init g c.in-Init.second c.in-Init.phase (subst (λ (x : Cursor). IsCursor (has_second g) g.second x) c.in-Init.is c.requires.cursor)))

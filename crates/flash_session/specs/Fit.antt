@@ -1,0 +1,109 @@
+-- What holds of a target on every bench, and how far it is from its end.
+use Rattle.std.specs.Prelude.{◌≡◌, ◌≢◌, ◌<◌, ◌≤◌, ◌+◌, ◌-◌, ◌^◌, ℕ, Bool, false, true, IsTrue, is_some, List, [], ◌∷◌, length, None}
+use Rattle.bench_model.specs.State.{BenchState}
+use Rattle.algo_calls.specs.Setups.{Setup}
+use Rattle.algo_calls.specs.Frames.{fuel_of}
+use Rattle.algo_calls.specs.Shows.{Fits, AgreesAt}
+use Rattle.flash_session.specs.Moves.{Move, Reset, Load, Make, calls_in}
+use Rattle.flash_session.specs.Plays.{IsNotDone}
+use Rattle.flash_session.specs.Script.{IsErrand}
+use Rattle.target_core.specs.Units.{unit_cells}
+use Rattle.flash_session.specs.declared.cursor.Place.{Place}
+use Rattle.flash_session.specs.declared.cursor.Place.TheVariants as place
+use Rattle.flash_session.specs.declared.target_end.TargetEnd.{TargetEnd}
+use Rattle.flash_session.specs.declared.target_end.TargetEnd.TheVariants as ended
+use Rattle.flash_session.specs.declared.part.Part.{Part}
+use Rattle.flash_session.specs.declared.player.Player.{Player}
+use Rattle.flash_session.specs.Rest.{Legs, rest_of, unbroken}
+use Rattle.flash_session.specs.Steps.{IsCursor}
+use Rattle.flash_session.specs.Targets.{setup_on, map_on, legs_for, part_in, planned_in, has_second, size_for}
+
+-- the calls that may still be made
+abbrev pub calls_ahead : Legs → Place → ℕ
+calls_ahead l (place.At c) = calls_in (rest_of l c unbroken)
+calls_ahead l (place.In call len left next) = calls_in (rest_of l next unbroken) + 1
+calls_ahead l (place.Comparing at) = 0
+calls_ahead l place.Closing = 0
+calls_ahead l (place.Ended e) = 0
+
+-- the most turns that moves take: a reset or a load one, a call one and then one for each of its steps and for its end
+abbrev pub turns_in : List Move → ℕ
+turns_in [] = 0
+turns_in (Reset s torn ∷ rest) = turns_in rest + 1
+turns_in (Load s ∷ rest) = turns_in rest + 1
+turns_in (Make s call bytes ∷ rest) = turns_in rest + (fuel_of s call + 2)
+
+-- the most turns that a target still takes, over so many cells
+abbrev pub turns_ahead : Legs → ℕ → Place → ℕ
+turns_ahead l size (place.At c) = turns_in (rest_of l c unbroken) + (size + 2)
+turns_ahead l size (place.In call len left next) = (left + 1) + (turns_in (rest_of l next unbroken) + (size + 2))
+turns_ahead l size (place.Comparing at) = (size - at) + 2
+turns_ahead l size place.Closing = 1
+turns_ahead l size (place.Ended e) = 0
+
+-- how many there are doesn't hang on the bytes of the goal
+abbrev pub legs_of : Player → Legs
+legs_of t = legs_for t []
+
+abbrev pub togo : Player → ℕ
+togo t = turns_ahead (legs_of t) (size_for t) t.place
+
+-- an end that a target with a script may come to
+abbrev pub IsScriptEnd : TargetEnd → Type 0
+IsScriptEnd ended.Done = Unit {0}
+IsScriptEnd (ended.Open fault) = ⊥
+IsScriptEnd (ended.Survey fault) = ⊥
+IsScriptEnd (ended.CallFailed number call e) = Unit {0}
+IsScriptEnd (ended.Mismatch d) = Unit {0}
+IsScriptEnd ended.StoreFault = Unit {0}
+IsScriptEnd ended.DeviceFault = Unit {0}
+
+-- What an end says for itself, on every bench: a call that failed has a number, and was neither done nor broken off by a device fault; a place
+-- lies in the device, where two unequal bytes are wanted and found. No operation is open behind a comparison.
+abbrev pub IsSoundEnd : Bool → ℕ → TargetEnd → BenchState → Type 0
+IsSoundEnd tells size ended.Done b = Unit {0}
+IsSoundEnd tells size (ended.Open fault) b = ⊥
+IsSoundEnd tells size (ended.Survey fault) b = ⊥
+IsSoundEnd tells size (ended.CallFailed number call e) b = IsNotDone number e
+IsSoundEnd tells size (ended.Mismatch d) b = (d.at < size) × (d.want ≢ d.got) × (IsTrue tells → b.operation ≡ None)
+IsSoundEnd tells size ended.StoreFault b = Unit {0}
+IsSoundEnd tells size ended.DeviceFault b = Unit {0}
+
+-- it may stand here: the comparison has cells left, and no operation is open in it
+abbrev pub IsPlace : Bool → (has moved : Bool) → Place → ℕ → BenchState → Type 0
+IsPlace tells has moved (place.At c) size b = IsCursor has moved c
+IsPlace tells has moved (place.In call len left next) size b = IsCursor has moved next
+IsPlace tells has moved (place.Comparing at) size b = (at < size) × (IsTrue tells → b.operation ≡ None)
+IsPlace tells has moved place.Closing size b = IsTrue tells → b.operation ≡ None
+IsPlace tells has moved (place.Ended e) size b = IsSoundEnd tells size e b
+
+-- the work on a region is that of its calls, its cells are cells of the board, and the buffer has room for a page
+pub record IsPartOn (s : Setup) (size page : ℕ) (p : Part) : Type 0 where
+  pub errand : IsErrand s (planned_in p)
+  pub range : p.start + p.geometry.size ≤ size
+  pub buffer : s.algorithm.device.page ≤ page
+
+-- The calls of both regions have a RAM of the same place and size, and one board. There are those of a second region exactly where there
+-- is work on one.
+pub record AreTwins (t : Player) : Type 0 where
+  pub base : (setup_on t true).layout.return_at ≡ (setup_on t false).layout.return_at
+  pub size : (setup_on t true).ram_size ≡ (setup_on t false).ram_size
+  pub map : map_on t true ≡ map_on t false
+  pub there : is_some t.other ≡ has_second t
+  pub moved : IsTrue t.second → IsTrue (has_second t)
+
+-- its script is one of its calls
+pub record IsScripted (t : Player) : Type 0 where
+  pub first : IsPartOn (setup_on t false) (size_for t) (length t.page.items) (part_in t.task false)
+  pub second : IsTrue (has_second t) → IsPartOn (setup_on t true) (size_for t) (length t.page.items) (part_in t.task true)
+  pub twins : AreTwins t
+
+-- a target fits its window and its bench
+pub record Fit (tells : Bool) (t : Player) (arena : List (List ℕ)) (b : BenchState) : Type 0 where
+  pub scripted : IsScripted t
+  pub fits : Fits t.calls arena t.window
+  pub agrees : AgreesAt tells t.calls b
+  pub wanted : unit_cells t.calls.machine.unit ≡ size_for t
+  pub some : 0 < size_for t
+  pub place : IsPlace tells (has_second t) t.second t.place (size_for t) b
+  pub room : t.made + calls_ahead (legs_of t) t.place < 2 ^ 32

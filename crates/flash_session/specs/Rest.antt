@@ -1,0 +1,134 @@
+-- The rest of a script from where a target stands in it, as the list of its moves.
+use Rattle.std.specs.Prelude.{◌+◌, ◌-◌, ℕ, zero, suc, Bool, true, false, nat_eq, if◌then◌else◌, is_some, unwrap_or, Option, Some, None, List, [], ◌∷◌, ◌++◌}
+use Rattle.std.specs.Prelude.{length, option_to_list}
+use Rattle.algo_calls.specs.declared.call.Call.TheVariants as call
+use Rattle.algo_calls.specs.Setups.{Setup}
+use Rattle.flash_session.specs.Moves.{Move, Reset, Load, Make}
+use Rattle.flash_session.specs.Script.{Errand, Torn, Leg, Broken, torn_first, torn_rest, sector_moves, erase_moves, page_at, page_moves, has_verify}
+use Rattle.flash_session.specs.Script.{verify_moves, phase, kind_of}
+use Rattle.flash_session.specs.declared.phase.Phase.{Phase}
+use Rattle.flash_session.specs.declared.phase.Phase.TheVariants as stage
+use Rattle.flash_session.specs.declared.cursor.Cursor.{Cursor}
+use Rattle.flash_session.specs.declared.cursor.Cursor.TheVariants as at
+
+-- ---- the calls of a phase
+
+-- the moves for each number from `k` on, so many of them
+unfoldable pub each_from : (ℕ → List Move) → ℕ → ℕ → List Move
+each_from f k zero = []
+each_from f k (suc more) = f k ++ each_from f (k + 1) more
+
+-- the moves for each number from `k` on below `n`
+abbrev pub from_on : (ℕ → List Move) → ℕ → ℕ → List Move
+from_on f n k = each_from f k (n - k)
+
+-- the chip is the first of its kind, and the only one
+abbrev pub chip_from : Setup → ℕ → List Move
+chip_from s k = if nat_eq k 0 then Make s call.EraseChip [] ∷ [] else []
+
+-- the calls of a phase from a sector or page on
+abbrev pub calls_from : Setup → Errand → Phase → ℕ → List Move
+calls_from s t stage.Erase k = if t.planned.plan.chip then chip_from s k else from_on (sector_moves s t.planned) (length t.planned.layout.sectors) k
+calls_from s t stage.Program k = from_on (page_at false s t) (length t.planned.layout.pages) k
+calls_from s t stage.Verify k = if has_verify s then from_on (page_at true s t) (length t.planned.layout.pages) k else []
+
+-- all of them
+abbrev pub phase_calls : Setup → Errand → Phase → List Move
+phase_calls s t stage.Erase = erase_moves s t.planned
+phase_calls s t stage.Program = page_moves false s t
+phase_calls s t stage.Verify = verify_moves s t
+
+-- ---- a region
+
+-- what the reset of a phase leaves
+abbrev pub torn_of : Phase → Torn → List ℕ
+torn_of stage.Erase b = b.erase
+torn_of stage.Program b = b.program
+torn_of stage.Verify b = b.verify
+
+abbrev pub set_torn : Phase → List ℕ → Torn → Torn
+set_torn stage.Erase torn b = record b { erase = torn }
+set_torn stage.Program torn b = record b { program = torn }
+set_torn stage.Verify torn b = record b { verify = torn }
+
+-- what follows a phase, with what follows the region
+abbrev pub after_phase : Setup → Errand → Phase → Torn → List Move → List Move
+after_phase s t stage.Erase b later = phase s 2 b.program (page_moves false s t) ++ (phase s 3 b.verify (verify_moves s t) ++ later)
+after_phase s t stage.Program b later = phase s 3 b.verify (verify_moves s t) ++ later
+after_phase s t stage.Verify b later = later
+
+abbrev pub from_phase : Setup → Errand → Phase → Torn → List Move → List Move
+from_phase s t p b later = phase s (kind_of p) (torn_of p b) (phase_calls s t p) ++ after_phase s t p b later
+
+-- UnInit, and what follows
+abbrev pub closing : Setup → Errand → Phase → Torn → List Move → List Move
+closing s t p b later = Make s (call.UnInit (kind_of p)) [] ∷ after_phase s t p b later
+
+-- ---- the whole
+
+-- what is to be done in the first region and, where the board has two, in the second
+pub record Legs : Type 0 where
+  pub first : Leg
+  pub second : Option Leg
+
+abbrev pub all_legs : Legs → List Leg
+all_legs l = l.first ∷ option_to_list l.second
+
+-- in one of them
+abbrev pub leg_at : Legs → Bool → Leg
+leg_at l false = l.first
+leg_at l true = unwrap_or l.second l.first
+
+-- what the resets of a region leave
+abbrev pub torn_at : Bool → Broken → Torn
+torn_at false b = torn_first b.legs
+torn_at true b = torn_first (torn_rest b.legs)
+
+-- another list for the reset of a phase
+abbrev pub with_torn : Bool → Phase → List ℕ → Broken → Broken
+with_torn false p torn b = record b { legs = set_torn p torn (torn_first b.legs) ∷ torn_rest b.legs }
+with_torn true p torn b = record b { legs = torn_first b.legs ∷ (set_torn p torn (torn_first (torn_rest b.legs)) ∷ torn_rest (torn_rest b.legs)) }
+
+abbrev pub with_last : List ℕ → Broken → Broken
+with_last torn b = record b { last = torn }
+
+abbrev pub untorn : Torn
+untorn = record { erase = []; program = []; verify = [] }
+
+-- nothing is left
+abbrev pub unbroken : Broken
+unbroken = record { legs = untorn ∷ (untorn ∷ []); last = [] }
+
+abbrev pub last_reset : Legs → Broken → List Move
+last_reset l b = Reset l.first.setup b.last ∷ []
+
+-- the second region, where there is one, and what follows
+abbrev pub second_rest : Option Leg → Torn → List Move → List Move
+second_rest None b later = later
+second_rest (Some m) b later = from_phase m.setup m.errand stage.Erase b later
+
+-- what follows a region
+abbrev pub later_than : Legs → Bool → Broken → List Move
+later_than l false b = second_rest l.second (torn_at true b) (last_reset l b)
+later_than l true b = last_reset l b
+
+-- The rest of the script, once it is given what the resets in it leave.
+abbrev pub rest_of : Legs → Cursor → Broken → List Move
+rest_of l (at.Begin r p) b = from_phase (leg_at l r).setup (leg_at l r).errand p (torn_at r b) (later_than l r b)
+rest_of l (at.Init r p) b =
+    Make (leg_at l r).setup (call.Init (kind_of p)) []
+    ∷ (phase_calls (leg_at l r).setup (leg_at l r).errand p ++ closing (leg_at l r).setup (leg_at l r).errand p (torn_at r b) (later_than l r b))
+rest_of l (at.Calls r p k) b =
+    calls_from (leg_at l r).setup (leg_at l r).errand p k ++ closing (leg_at l r).setup (leg_at l r).errand p (torn_at r b) (later_than l r b)
+rest_of l at.Last b = last_reset l b
+
+-- where a target stands after a region, and after a phase, by whether there is a second region
+abbrev pub after_region : (has r : Bool) → Cursor
+after_region has true = at.Last
+after_region false false = at.Last
+after_region true false = at.Begin true stage.Erase
+
+abbrev pub after : (has r : Bool) → Phase → Cursor
+after has r stage.Erase = at.Begin r stage.Program
+after has r stage.Program = at.Begin r stage.Verify
+after has r stage.Verify = after_region has r

@@ -1,0 +1,81 @@
+-- The next move of a script, read off the rest of it.
+use Rattle.std.specs.Prelude.{◌≡◌, ◌<◌, ◌≤◌, ◌+◌, ◌^◌, ℕ, Bool, true, false, IsTrue, List, [], ◌∷◌, length, take, drop, Option, Some, None}
+use Rattle.algo_calls.specs.declared.call.Call.{Call}
+use Rattle.algo_calls.specs.Setups.{Setup}
+use Rattle.algo_calls.specs.Shows.{MayAsk}
+use Rattle.flash_session.specs.Moves.{Move, Reset, Load, Make}
+use Rattle.flash_session.specs.Script.{Errand, Broken}
+use Rattle.flash_session.specs.declared.phase.Phase.{Phase}
+use Rattle.flash_session.specs.declared.cursor.Cursor.{Cursor}
+use Rattle.flash_session.specs.declared.cursor.Cursor.TheVariants as at
+use Rattle.flash_session.specs.declared.cursor.Item.{Item}
+use Rattle.flash_session.specs.declared.cursor.Step.{Step}
+use Rattle.flash_session.specs.declared.cursor.Step.TheVariants as step
+use Rattle.flash_session.specs.declared.part.Part.{Part}
+use Rattle.flash_session.specs.declared.player.Player.{Player}
+use Rattle.flash_session.specs.Rest.{phase_calls, leg_at, later_than, rest_of, with_torn, with_last}
+use Rattle.flash_session.specs.Targets.{setup_now, setup_on, legs_for, size_for, has_second, errand_in}
+
+-- the bytes of a call
+abbrev pub bytes_at : List ℕ → ℕ → ℕ → List ℕ
+bytes_at goal from len = take len (drop from goal)
+
+-- ---- in a region
+
+-- the next of some calls, that with each goal is this one with these bytes of the region
+pub record IsNext (s : Setup) (p : Part) (calls : List ℕ → ℕ → List Move) (index : ℕ) (item : Item) : Type 0 where
+  pub moves : (goal : List ℕ) → calls goal index ≡ Make s item.call (bytes_at (errand_in p goal).goal item.from item.len) ∷ calls goal (item.index + 1)
+  pub within : item.from + item.len ≤ p.geometry.size
+  pub fits : item.len ≤ s.algorithm.device.page
+  pub may : (bytes : List ℕ) → length bytes ≡ item.len → MayAsk s item.call bytes
+  pub room : item.index + 1 < 2 ^ 32
+
+-- the first call from a number on, or none
+abbrev pub IsItem : Setup → Part → (List ℕ → ℕ → List Move) → ℕ → Option Item → Type 0
+IsItem s p calls index None = (goal : List ℕ) → calls goal index ≡ []
+IsItem s p calls index (Some item) = IsNext s p calls index item
+
+-- whether a phase of a region has calls
+abbrev pub has_phase : Player → Bool → Phase → Bool → Type 0
+has_phase t r p true = (goal : List ℕ) → phase_calls (leg_at (legs_for t goal) r).setup (leg_at (legs_for t goal) r).errand p ≡ [] → ⊥
+has_phase t r p false = (goal : List ℕ) → phase_calls (leg_at (legs_for t goal) r).setup (leg_at (legs_for t goal) r).errand p ≡ []
+
+-- ---- over all regions
+
+-- a call with so many bytes may be made, and the buffer has room for them
+pub record IsAsked (t : Player) (call : Call) (from len : ℕ) : Type 0 where
+  pub within : from + len ≤ size_for t
+  pub fits : len ≤ length t.page.items
+  pub may : (bytes : List ℕ) → length bytes ≡ len → MayAsk (setup_now t) call bytes
+
+-- a target whose second region's machine moved last, or whose first one's did, may stand here
+abbrev pub IsCursor : (has moved : Bool) → Cursor → Type 0
+IsCursor has moved (at.Begin r p) = IsTrue r → IsTrue has
+IsCursor has moved (at.Init r p) = (moved ≡ r) × (IsTrue r → IsTrue has)
+IsCursor has moved (at.Calls r p k) = (moved ≡ r) × (IsTrue r → IsTrue has)
+IsCursor has moved at.Last = Unit {0}
+
+-- the first move of these, with each goal and whatever the resets that are still to come leave
+abbrev pub IsStepOf : Player → (rest : List ℕ → Broken → List Move) → Step → Type 0
+IsStepOf t rest (step.Begin r p) =
+    ((goal : List ℕ) (b : Broken) (torn : List ℕ) → rest goal (with_torn r p torn b) ≡ Reset (setup_on t r) torn ∷ Load (setup_on t r)
+    ∷ rest_of (legs_for t goal) (at.Init r p) b)
+    × (IsTrue r → IsTrue (has_second t))
+IsStepOf t rest (step.Call call from len next) =
+    ((goal : List ℕ) (b : Broken) → rest goal b ≡ Make (setup_now t) call (bytes_at goal from len) ∷ rest_of (legs_for t goal) next b)
+    × IsAsked t call from len × IsCursor (has_second t) t.second next
+IsStepOf t rest step.Last = (goal : List ℕ) (b : Broken) (torn : List ℕ) → rest goal (with_last torn b) ≡ Reset (setup_on t false) torn ∷ []
+
+-- what comes next
+abbrev pub IsStep : Player → Cursor → Step → Type 0
+IsStep t cursor x = IsStepOf t (λ goal. rest_of (legs_for t goal) cursor) x
+
+-- what comes behind a region
+abbrev pub IsStepBehind : Player → Bool → Step → Type 0
+IsStepBehind t r x = IsStepOf t (λ goal. later_than (legs_for t goal) r) x
+
+-- the first phase of a region from one on that has calls, or none
+abbrev pub IsPhaseFrom : Player → Bool → Phase → Option Phase → Type 0
+IsPhaseFrom t r p None = (goal : List ℕ) (b : Broken) → rest_of (legs_for t goal) (at.Begin r p) b ≡ later_than (legs_for t goal) r b
+IsPhaseFrom t r p (Some q) = ((goal : List ℕ) (b : Broken) → rest_of (legs_for t goal) (at.Begin r p) b ≡ rest_of (legs_for t goal) (at.Begin r q) b)
+    × has_phase t r q true

@@ -1,0 +1,169 @@
+-- The one thing that a turn does: by where a target stood, and where it stands then.
+use Rattle.std.specs.Prelude.{◌≡◌, ◌≤◌, ◌<◌, ◌+◌, ℕ, Bool, IsTrue, List, length}
+use Rattle.bench_model.specs.State.{BenchState}
+use Rattle.target_core.specs.declared.run.SliceEnd.{SliceEnd}
+use Rattle.target_core.specs.declared.run.SliceEnd.TheVariants as slice
+use Rattle.target_core.specs.Targets.{SliceFrom}
+use Rattle.algo_calls.specs.declared.call.Call.{Call}
+use Rattle.algo_calls.specs.Ends.{call_end_of, success_of}
+use Rattle.algo_calls.specs.Frames.{asked, fuel_of, first_point}
+use Rattle.flash_session.specs.declared.cursor.Cursor.{Cursor}
+use Rattle.flash_session.specs.declared.cursor.Cursor.TheVariants as at
+use Rattle.flash_session.specs.declared.cursor.Place.{Place}
+use Rattle.flash_session.specs.declared.cursor.Place.TheVariants as place
+use Rattle.flash_session.specs.declared.cursor.Step.{Step}
+use Rattle.flash_session.specs.declared.cursor.Step.TheVariants as step
+use Rattle.flash_session.specs.declared.player.Player.{Player}
+use Rattle.flash_session.specs.declared.target_end.TargetEnd.{TargetEnd}
+use Rattle.flash_session.specs.declared.target_end.TargetEnd.TheVariants as ended
+use Rattle.flash_session.specs.Targets.{setup_now, point_for}
+use Rattle.flash_session.specs.Turns.{judged}
+
+-- a phase begins, or the last reset comes
+abbrev pub IsNoCall : Step → Type 0
+IsNoCall (step.Begin r p) = Unit {0}
+IsNoCall (step.Call call from len next) = ⊥
+IsNoCall step.Last = Unit {0}
+
+abbrev pub IsCall : Step → Type 0
+IsCall (step.Begin r p) = ⊥
+IsCall (step.Call call from len next) = Unit {0}
+IsCall step.Last = ⊥
+
+abbrev pub IsLast : Step → Type 0
+IsLast (step.Begin r p) = ⊥
+IsLast (step.Call call from len next) = ⊥
+IsLast step.Last = Unit {0}
+
+-- before a phase comes no call, and among its calls and at its Init nothing else
+abbrev pub IsKind : Cursor → Step → Type 0
+IsKind (at.Begin r p) x = IsNoCall x
+IsKind (at.Init r p) x = IsCall x
+IsKind (at.Calls r p k) x = IsCall x
+IsKind at.Last x = IsLast x
+
+-- it stands loaded before the Init of a phase
+abbrev pub IsLoaded : Cursor → Type 0
+IsLoaded (at.Begin r p) = ⊥
+IsLoaded (at.Init r p) = Unit {0}
+IsLoaded (at.Calls r p k) = ⊥
+IsLoaded at.Last = ⊥
+
+-- a reset with its load, or the last reset; or a fault of the device ended it
+abbrev pub IsReset : Place → Type 0
+IsReset (place.At c) = IsLoaded c
+IsReset (place.In call len left next) = ⊥
+IsReset (place.Comparing at) = at ≡ 0
+IsReset place.Closing = ⊥
+IsReset (place.Ended e) = e ≡ ended.DeviceFault
+
+-- the preparing of a call, or a fault of the job file
+abbrev pub IsPreparing : Place → Type 0
+IsPreparing (place.At c) = ⊥
+IsPreparing (place.In call len left next) = Unit {0}
+IsPreparing (place.Comparing at) = ⊥
+IsPreparing place.Closing = ⊥
+IsPreparing (place.Ended e) = e ≡ ended.StoreFault
+
+-- the last reset, or a fault of the device
+abbrev pub IsLastReset : Place → Type 0
+IsLastReset (place.At c) = ⊥
+IsLastReset (place.In call len left next) = ⊥
+IsLastReset (place.Comparing at) = at ≡ 0
+IsLastReset place.Closing = ⊥
+IsLastReset (place.Ended e) = e ≡ ended.DeviceFault
+
+abbrev pub FromCursor : Cursor → Place → Type 0
+FromCursor (at.Begin r p) new = IsReset new
+FromCursor (at.Init r p) new = IsPreparing new
+FromCursor (at.Calls r p k) new = IsPreparing new
+FromCursor at.Last new = IsLastReset new
+
+-- the next steps of a call, after which it stands in it or, where its run has ended, behind it
+abbrev pub FromCall : (steps : ℕ) → Call → (len left : ℕ) → Cursor → Place → Type 0
+FromCall steps call len left next (place.At c) = c ≡ next
+FromCall steps call len left next (place.In call' len' left' next') = (call' ≡ call) × (len' ≡ len) × (left' + steps ≡ left) × (next' ≡ next)
+FromCall steps call len left next (place.Comparing at) = ⊥
+FromCall steps call len left next place.Closing = ⊥
+FromCall steps call len left next (place.Ended e) = Unit {0}
+
+-- one of the cells that were compared is not the goal, or they could not be compared
+abbrev pub IsEndAmong : ℕ → TargetEnd → Type 0
+IsEndAmong at ended.Done = ⊥
+IsEndAmong at (ended.Open fault) = ⊥
+IsEndAmong at (ended.Survey fault) = ⊥
+IsEndAmong at (ended.CallFailed number call e) = ⊥
+IsEndAmong at (ended.Mismatch d) = (at ≤ d.at) × (d.at < at + 4096)
+IsEndAmong at ended.StoreFault = Unit {0}
+IsEndAmong at ended.DeviceFault = Unit {0}
+
+-- the comparison of the next 4,096 of so many cells
+abbrev pub FromCells : (size at : ℕ) → Place → Type 0
+FromCells size at (place.At c) = ⊥
+FromCells size at (place.In call len left next) = ⊥
+FromCells size at (place.Comparing upto) = upto ≡ at + 4096
+FromCells size at place.Closing = size ≤ at + 4096
+FromCells size at (place.Ended e) = IsEndAmong at e
+
+abbrev pub IsOver : Place → Type 0
+IsOver (place.At c) = ⊥
+IsOver (place.In call len left next) = ⊥
+IsOver (place.Comparing at) = ⊥
+IsOver place.Closing = ⊥
+IsOver (place.Ended e) = Unit {0}
+
+-- with so many steps asked for, over so many cells
+abbrev pub TakesOn : (steps size : ℕ) → Place → Place → Type 0
+TakesOn steps size (place.At c) new = FromCursor c new
+TakesOn steps size (place.In call len left next) new = FromCall steps call len left next new
+TakesOn steps size (place.Comparing at) new = FromCells size at new
+TakesOn steps size place.Closing new = IsOver new
+TakesOn steps size (place.Ended e) new = ⊥
+
+-- ---- in a call
+
+-- where a target stands behind a slice that ended so
+abbrev pub IsBehind : (made : ℕ) → Call → (len left : ℕ) → Cursor → SliceEnd → Place → Type 0
+IsBehind made call len left next slice.More new = new ≡ place.In call len left next
+IsBehind made call len left next (slice.Ended e) new = new ≡ judged made call next (call_end_of (success_of call len) e)
+
+-- The target went on in its call by so many steps, or by fewer where the call's run ended in them; then it was judged.
+pub record Slice (tells : Bool) (steps : ℕ) (call : Call) (len left : ℕ) (next : Cursor) (old : Player) (arena : List (List ℕ)) (start : BenchState)
+    (new : Player) (arena' : List (List ℕ)) (end : BenchState) : Type 0 where
+  pub rest : ℕ
+  pub cut : SliceEnd
+  pub falls : rest ≤ left
+  pub few : left ≤ rest + steps
+  pub run : IsTrue tells → SliceFrom old.calls.machine.return_at (point_for old arena start.cells) start left rest steps cut
+      (point_for new arena' end.cells) end
+  pub behind : IsBehind old.made call len rest next cut new.place
+
+-- ---- in any other turn
+
+-- a call that was prepared stands at its first point, with its fuel
+abbrev pub IsFresh : Player → List (List ℕ) → Player → List (List ℕ) → Place → Type 0
+IsFresh old arena new arena' (place.At c) = Unit {0}
+IsFresh old arena new arena' (place.In call len left next) = (left ≡ fuel_of (setup_now old) call)
+    × ((bytes : List ℕ) × (length bytes ≡ len)
+    × ((cells : List ℕ) → point_for new arena' cells ≡ first_point (setup_now old) (point_for old arena cells).world (asked call bytes)))
+IsFresh old arena new arena' (place.Comparing at) = Unit {0}
+IsFresh old arena new arena' place.Closing = Unit {0}
+IsFresh old arena new arena' (place.Ended e) = Unit {0}
+
+-- no call was made, nor a step of one
+pub record IsHost (old : Player) (arena : List (List ℕ)) (new : Player) (arena' : List (List ℕ)) : Type 0 where
+  pub made : new.made ≡ old.made
+  pub fresh : IsFresh old arena new arena' new.place
+
+-- nor was the machine touched
+pub record IsStill (old : Player) (arena : List (List ℕ)) (new : Player) (arena' : List (List ℕ)) : Type 0 where
+  pub made : new.made ≡ old.made
+  pub calls : new.calls ≡ old.calls
+  pub ram : arena' ≡ arena
+
+abbrev pub SliceOf : Bool → (steps : ℕ) → Place → Player → List (List ℕ) → BenchState → Player → List (List ℕ) → BenchState → Type 0
+SliceOf tells steps (place.At c) old arena start new arena' end = IsHost old arena new arena'
+SliceOf tells steps (place.In call len left next) old arena start new arena' end = Slice tells steps call len left next old arena start new arena' end
+SliceOf tells steps (place.Comparing at) old arena start new arena' end = IsStill old arena new arena'
+SliceOf tells steps place.Closing old arena start new arena' end = IsStill old arena new arena'
+SliceOf tells steps (place.Ended e) old arena start new arena' end = Unit {0}

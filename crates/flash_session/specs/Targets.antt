@@ -1,0 +1,90 @@
+-- What a target shows.
+use Rattle.std.specs.Prelude.{◌≡◌, ◌+◌, ℕ, Bool, true, false, is_some, unwrap_or, Option, Some, None, List, [], ◌∷◌}
+use Rattle.flash_layout.specs.Maps.{FlashMap}
+use Rattle.target_core.specs.Units.{unit_map}
+use Rattle.target_core.specs.Path.{Point}
+use Rattle.algo_calls.specs.declared.calls_in.CallsIn.{CallsIn}
+use Rattle.algo_calls.specs.Duties.{Site, part}
+use Rattle.algo_calls.specs.Setups.{Setup}
+use Rattle.algo_calls.specs.Shows.{setup_at, point_at}
+use Rattle.flash_layout.specs.Areas.{cells_in}
+use Rattle.job_text.specs.declared.job.Job.{Job}
+use Rattle.flash_session.specs.Goals.{goal_in}
+use Rattle.flash_session.specs.Script.{Planned, planned, Errand, errand, Leg, leg}
+use Rattle.flash_session.specs.declared.part.Part.{Part}
+use Rattle.flash_session.specs.declared.part.Task.{Task}
+use Rattle.flash_session.specs.declared.player.Player.{Player}
+use Rattle.flash_session.specs.Rest.{Legs}
+
+-- ---- its calls
+
+-- the calls of the region that is asked for, where these are of the region that moved last
+abbrev pub of_region : (second moved : Bool) → CallsIn → Option CallsIn → CallsIn
+of_region false false here other = here
+of_region true true here other = here
+of_region false true here None = here
+of_region false true here (Some other) = other
+of_region true false here None = here
+of_region true false here (Some other) = other
+
+-- what the calls of each region rest on, in order
+abbrev pub one_or_both : Bool → Setup → Setup → List Setup
+one_or_both false first second = first ∷ []
+one_or_both true first second = first ∷ second ∷ []
+
+abbrev pub calls_on : Player → Bool → CallsIn
+calls_on t second = of_region second t.second t.calls t.other
+
+abbrev pub setup_on : Player → Bool → Setup
+setup_on t second = setup_at (calls_on t second)
+
+abbrev pub map_of : CallsIn → FlashMap
+map_of c = unit_map c.machine.unit
+
+abbrev pub map_on : Player → Bool → FlashMap
+map_on t second = map_of (calls_on t second)
+
+-- what the calls of the region that moved last rest on
+abbrev pub setup_now : Player → Setup
+setup_now t = setup_at t.calls
+
+-- where its machine stands, with its window of the arena and over these cells
+abbrev pub point_for : Player → List (List ℕ) → List ℕ → Point
+point_for t arena cells = point_at t.calls arena t.window cells
+
+-- ---- what its script is made of
+
+-- the work on the first region, or on the second where there is one
+abbrev pub part_in : Task → Bool → Part
+part_in t false = t.first
+part_in t true = unwrap_or t.second t.first
+
+abbrev pub planned_in : Part → Planned
+planned_in p = planned p.geometry p.base p.plan.made
+
+-- where its cells are
+abbrev pub site_in : Part → Site
+site_in p = record { start = p.start; layout = p.geometry }
+
+-- with the bytes of the goal of all cells
+abbrev pub errand_in : Part → List ℕ → Errand
+errand_in p goal = errand p.geometry p.base p.plan.made (part (site_in p) goal)
+
+abbrev pub later_leg : Setup → Option Part → List ℕ → Option Leg
+later_leg s None goal = None
+later_leg s (Some p) goal = Some (leg s (errand_in p goal))
+
+-- what is to be done in each region, with this goal of all cells
+abbrev pub legs_for : Player → List ℕ → Legs
+legs_for t goal = record { first = leg (setup_on t false) (errand_in t.task.first goal); second = later_leg (setup_on t true) t.task.second goal }
+
+abbrev pub has_second : Player → Bool
+has_second t = is_some t.task.second
+
+-- how many cells its board has
+abbrev pub size_for : Player → ℕ
+size_for t = cells_in (map_on t false).areas
+
+-- the goal of its job that this file gives
+abbrev pub goal_for : Job → Player → List ℕ → List ℕ
+goal_for j t file = goal_in j t.task.goal file

@@ -1,0 +1,48 @@
+-- What becomes of a target's machine between two regions.
+use Rattle.std.specs.Prelude.{◌≡◌, ℕ, Bool, false, not, List, [], Option, Some, None}
+use Rattle.target_core.specs.World.{World}
+use Rattle.target_core.specs.Windows.{OnlyIn}
+use Rattle.algo_calls.specs.Calls.{after_reset}
+use Rattle.algo_calls.specs.Shows.{setup_at, world_at, Fits}
+use Rattle.algo_calls.specs.declared.calls_in.CallsIn.{CallsIn}
+use Rattle.flash_session.specs.declared.cursor.Cursor.TheVariants as at
+use Rattle.flash_session.specs.declared.cursor.Place.TheVariants as place
+use Rattle.flash_session.specs.declared.phase.Phase.TheVariants as stage
+use Rattle.flash_session.specs.declared.player.Player.{Player}
+use Rattle.flash_session.specs.Targets.{setup_now, map_of}
+use Rattle.flash_session.specs.Turns.{SameTarget}
+use Rattle.flash_session.specs.Fit.{AreTwins}
+
+-- the other machine, whose calls these are, took the place of the one that moved last, and starts as after a reset
+pub record IsExchanged (old : Player) (arena : List (List ℕ)) (new : Player) (arena' : List (List ℕ)) (c : CallsIn) : Type 0 where
+  pub rest : new ≡ record old { calls = new.calls; other = Some old.calls; second = not old.second }
+  pub setup : setup_at new.calls ≡ setup_at c
+  pub map : map_of new.calls ≡ map_of c
+  pub starts : (cells : List ℕ) → world_at new.calls arena' old.window cells ≡ after_reset (setup_at c) (world_at c arena old.window cells) None []
+  pub only : OnlyIn old.window arena arena'
+  pub fits : Fits new.calls arena' old.window
+
+-- It starts anew, as after a reset, before its first move.
+pub record Restarts (old : Player) (arena : List (List ℕ)) (new : Player) (arena' : List (List ℕ)) : Type 0 where
+  pub same : SameTarget old new
+  pub twins : AreTwins new
+  pub moved : new.second ≡ false
+  pub made : new.made ≡ 0
+  pub place : new.place ≡ place.At (at.Begin false stage.Erase)
+  pub page : new.page ≡ old.page
+  pub starts : (cells : List ℕ) → world_at new.calls arena' new.window cells
+      ≡ after_reset (setup_now old) (world_at old.calls arena old.window cells) None []
+  pub fits : Fits new.calls arena' new.window
+
+-- The machine of a region is the one that moves next, and it stands where the one that moved last was left by a reset.
+pub record TurnsTo (second : Bool) (old : Player) (arena : List (List ℕ)) (new : Player) (arena' : List (List ℕ)) : Type 0 where
+  pub same : SameTarget old new
+  pub twins : AreTwins new
+  pub moved : new.second ≡ second
+  pub rest : new ≡ record old { calls = new.calls; other = new.other; second = new.second }
+  pub stands : (w : World) (operation : Option (ℕ × ℕ)) (torn cells : List ℕ) → world_at old.calls arena old.window cells
+      ≡ after_reset (setup_now old) w operation torn
+      → world_at new.calls arena' old.window cells ≡ after_reset (setup_now old) w operation torn
+  pub map : map_of new.calls ≡ map_of old.calls
+  pub only : OnlyIn old.window arena arena'
+  pub fits : Fits new.calls arena' old.window

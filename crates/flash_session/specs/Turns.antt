@@ -1,0 +1,155 @@
+-- What a turn does to a target.
+use Rattle.std.specs.Prelude.{◌≡◌, ◌<◌, ◌+◌, ℕ, Bool, true, false, IsTrue, List, ◌∷◌, ◌++◌, drop, length}
+use Rattle.bench_model.specs.History.{Leaves}
+use Rattle.bench_model.specs.State.{BenchState, file_half, cells_half}
+use Rattle.bench_model.specs.Calls.{FileIsRead, CellsStay}
+use Rattle.bench_model.specs.Device.{HasDeviceCause}
+use Rattle.job_file.specs.Counted.{IsCounted}
+use Rattle.job_file.specs.Stops.{IsWholeOrClosed}
+use Rattle.target_core.specs.declared.run.RunEnd.{RunEnd}
+use Rattle.target_core.specs.Windows.{OnlyIn}
+use Rattle.algo_calls.specs.declared.call.Call.{Call}
+use Rattle.algo_calls.specs.declared.call.CallEnd.{CallEnd}
+use Rattle.algo_calls.specs.declared.call.CallEnd.TheVariants as call_end
+use Rattle.algo_calls.specs.Ends.{call_end_of, success_of}
+use Rattle.flash_session.specs.declared.cursor.Cursor.{Cursor}
+use Rattle.flash_session.specs.declared.cursor.Place.{Place}
+use Rattle.flash_session.specs.declared.cursor.Place.TheVariants as place
+use Rattle.flash_session.specs.declared.target_end.TargetEnd.{TargetEnd}
+use Rattle.flash_session.specs.declared.target_end.TargetEnd.TheVariants as ended
+use Rattle.flash_session.specs.declared.target_end.Turn.{Turn}
+use Rattle.flash_session.specs.declared.target_end.Turn.TheVariants as turn
+use Rattle.flash_session.specs.Moves.{Move, Stand, IsLeftOnWay}
+use Rattle.flash_session.specs.declared.player.Player.{Player}
+use Rattle.flash_session.specs.Fit.{Fit, togo}
+use Rattle.flash_session.specs.Stands.{StandsOn}
+use Rattle.flash_session.specs.Targets.{setup_on, map_on}
+
+-- The target went on by some moves, and each moment was that of a point of them.
+pub record GoesOn (a : Stand) (way : List Move) (goal : List ℕ) (new : Player) (arena : List (List ℕ)) (start end : BenchState) : Type 0 where
+  pub more : List Move
+  pub stands : StandsOn a (way ++ more) goal new arena end
+  pub moments : Leaves (cells_half start) (cells_half end) (IsLeftOnWay a (way ++ more))
+
+-- its script stays
+pub record SameTarget (old new : Player) : Type 0 where
+  pub setups : (second : Bool) → setup_on new second ≡ setup_on old second
+  pub maps : (second : Bool) → map_on new second ≡ map_on old second
+  pub task : new.task ≡ old.task
+  pub window : new.window ≡ old.window
+
+abbrev pub IsUnended : Place → Type 0
+IsUnended (place.At c) = Unit {0}
+IsUnended (place.In call len left next) = Unit {0}
+IsUnended (place.Comparing at) = Unit {0}
+IsUnended place.Closing = Unit {0}
+IsUnended (place.Ended e) = ⊥
+
+abbrev pub is_device_target : TargetEnd → Bool
+is_device_target ended.DeviceFault = true
+is_device_target _ = false
+
+abbrev pub is_store_target : TargetEnd → Bool
+is_store_target ended.StoreFault = true
+is_store_target _ = false
+
+-- a target that a fault of the device, or of the store, has ended
+abbrev pub is_device_place : Place → Bool
+is_device_place (place.At c) = false
+is_device_place (place.In call len left next) = false
+is_device_place (place.Comparing at) = false
+is_device_place place.Closing = false
+is_device_place (place.Ended e) = is_device_target e
+
+abbrev pub is_store_place : Place → Bool
+is_store_place (place.At c) = false
+is_store_place (place.In call len left next) = false
+is_store_place (place.Comparing at) = false
+is_store_place place.Closing = false
+is_store_place (place.Ended e) = is_store_target e
+
+abbrev pub turn_of : Place → Turn
+turn_of (place.At c) = turn.More
+turn_of (place.In call len left next) = turn.More
+turn_of (place.Comparing at) = turn.More
+turn_of place.Closing = turn.More
+turn_of (place.Ended e) = turn.Ended
+
+-- a call whose run has ended so is done, and the target goes on at the cursor, or the target has ended
+abbrev pub judged : ℕ → Call → Cursor → CallEnd → Place
+judged made call next call_end.Done = place.At next
+judged made call next (call_end.Refused r0) = place.Ended (ended.CallFailed (made + 1) call (call_end.Refused r0))
+judged made call next (call_end.Ended e) = place.Ended (ended.CallFailed (made + 1) call (call_end.Ended e))
+judged made call next call_end.DeviceFault = place.Ended ended.DeviceFault
+
+abbrev pub made_by : ℕ → CallEnd → ℕ
+made_by made call_end.Done = made + 1
+made_by made (call_end.Refused r0) = made
+made_by made (call_end.Ended e) = made
+made_by made call_end.DeviceFault = made
+
+abbrev pub Judges : Player → Call → ℕ → Cursor → RunEnd → Player → Type 0
+Judges old call len next end new =
+    new ≡ record old {
+      made = made_by old.made (call_end_of (success_of call len) end);
+      place = judged old.made call next (call_end_of (success_of call len) end);
+    }
+
+-- what the close leaves of the file
+abbrev pub EndFile : TargetEnd → List ℕ → List ℕ → Type 0
+EndFile ended.Done old new = new ≡ 0 ∷ drop 1 old
+EndFile (ended.Open fault) old new = ⊥
+EndFile (ended.Survey fault) old new = ⊥
+EndFile (ended.CallFailed number call e) old new = ⊥
+EndFile (ended.Mismatch d) old new = ⊥
+EndFile ended.StoreFault old new = IsWholeOrClosed (drop 1 old) new
+EndFile ended.DeviceFault old new = ⊥
+
+abbrev pub ClosedFile : Place → List ℕ → List ℕ → Type 0
+ClosedFile (place.At c) old new = ⊥
+ClosedFile (place.In call len left next) old new = ⊥
+ClosedFile (place.Comparing at) old new = ⊥
+ClosedFile place.Closing old new = ⊥
+ClosedFile (place.Ended e) old new = EndFile e old new
+
+-- The close leaves the job whole or closed, whenever it is stopped, and the target has ended.
+pub record Closes (tells : Bool) (new : Place) (start end : BenchState) : Type 0 where
+  pub moments : IsTrue tells → Leaves (file_half start) (file_half end) (IsWholeOrClosed (drop 1 start.file))
+  pub file : IsTrue tells → ClosedFile new start.file end.file
+  pub cells : CellsStay start end
+  pub over : turn_of new ≡ turn.Ended
+
+abbrev pub IsDone : Place → Type 0
+IsDone (place.At c) = ⊥
+IsDone (place.In call len left next) = ⊥
+IsDone (place.Comparing at) = ⊥
+IsDone place.Closing = ⊥
+IsDone (place.Ended ended.Done) = Unit {0}
+IsDone (place.Ended _) = ⊥
+
+-- Any other turn only reads the file, and no target is done by it.
+pub record KeepsFile (tells : Bool) (new : Place) (start end : BenchState) : Type 0 where
+  pub read : FileIsRead tells start end
+  pub other : IsDone new → ⊥
+
+abbrev pub FileTurn : Bool → Place → Place → BenchState → BenchState → Type 0
+FileTurn tells (place.At c) new start end = KeepsFile tells new start end
+FileTurn tells (place.In call len left next) new start end = KeepsFile tells new start end
+FileTurn tells (place.Comparing at) new start end = KeepsFile tells new start end
+FileTurn tells place.Closing new start end = Closes tells new start end
+FileTurn tells (place.Ended e) new start end = KeepsFile tells new start end
+
+-- a turn of a target that hasn't ended, to this goal
+pub record Turns (tells : Bool) (goal : List ℕ) (old : Player) (arena : List (List ℕ)) (start : BenchState) (new : Player) (arena' : List (List ℕ))
+    (end : BenchState) : Type 0 where
+  pub told : IsTrue tells → (a : Stand) (way : List Move) → StandsOn a way goal old arena start → GoesOn a way goal new arena' start end
+  pub same : SameTarget old new
+  pub only : OnlyIn old.window arena arena'
+  pub page : length new.page.items ≡ length old.page.items
+  pub fit : Fit tells new arena' end
+  pub nearer : togo new < togo old
+  pub count : end.cell_count ≡ start.cell_count
+  pub file : FileTurn tells old.place new.place start end
+  -- a fault is an end only where it was counted, and counted only as an end
+  pub device : HasDeviceCause start.device_faults end.device_faults (is_device_place new.place)
+  pub store : IsCounted start.store_faults end.store_faults (is_store_place new.place)

@@ -1,0 +1,77 @@
+//! Where a target stands.
+use crate::phase::Phase;
+use crate::target_end::TargetEnd;
+use algo_calls::Call;
+
+/// Where a target stands in its script, between two moves. Each phase is of the first region, or of the second.
+#[derive(Clone, Copy, Debug, PartialEq, Eq)]
+pub enum Cursor {
+    /// Before a phase, or what follows it where it is left out.
+    Begin {
+        second: bool,
+        phase: Phase,
+    },
+    /// Loaded, before its Init.
+    Init {
+        second: bool,
+        phase: Phase,
+    },
+    /// Among its calls, before the one for this sector or page, or a later one.
+    Calls {
+        second: bool,
+        phase: Phase,
+        index: u32,
+    },
+    /// Before the last reset.
+    Last,
+}
+
+/// Where a target stands between two turns.
+#[derive(Clone, Copy, Debug, PartialEq, Eq)]
+pub enum Place {
+    /// Between two moves of its script.
+    At(Cursor),
+    /// In a call that was handed so many bytes, with so much fuel left. After it the target stands at the cursor.
+    In {
+        call: Call,
+        len: u32,
+        left: u64,
+        next: Cursor,
+    },
+    /// The script is done, and the cells before this place are the goal's.
+    Comparing {
+        at: u32,
+    },
+    /// The cells are the goal.
+    Closing,
+    /// It has ended.
+    Ended(TargetEnd),
+}
+
+/// The next move of a script.
+#[derive(Clone, Copy, Debug, PartialEq, Eq)]
+pub(crate) enum Step {
+    /// A phase begins, with a reset and a load.
+    Begin {
+        second: bool,
+        phase: Phase,
+    },
+    /// A call with so many bytes of the goal from this place on.
+    Call {
+        call: Call,
+        from: u32,
+        len: u32,
+        next: Cursor,
+    },
+    /// The last reset.
+    Last,
+}
+
+/// A call for a sector or a page, with so many bytes of the region's goal from this place on.
+#[derive(Clone, Copy, Debug, PartialEq, Eq)]
+pub(crate) struct Item {
+    pub call: Call,
+    pub from: u32,
+    pub len: u32,
+    pub index: u32,
+}

@@ -1,0 +1,768 @@
+//! The player of a script, and its turns.
+ghost use Rattle.std.specs.Prelude.{◌≡◌, ◌<◌, ◌≤◌, ◌+◌, ◌^◌, ℕ, List, true, false, drop, length, IsTrue, IsSomeAnd, is_some, None};
+ghost use Rattle.algo_calls.specs.Setups.{Setup};
+ghost use Rattle.algo_calls.specs.Shows.{setup_at, Fits, MayAsk};
+ghost use Rattle.bench_model.specs.Calls.{OnlyReads, FileIsRead};
+ghost use Rattle.bench_model.specs.Device.{HasDeviceCause};
+ghost use Rattle.bench_model.specs.History.{LeftOnly};
+ghost use Rattle.bench_model.specs.State.{file_half};
+ghost use Rattle.board_file.specs.Limits.{size_of};
+ghost use Rattle.faults.specs.Counts.{HasCause};
+ghost use Rattle.flash_session.specs.Goals.{goal_in};
+ghost use Rattle.flash_session.specs.Moves.{stand_at};
+ghost use Rattle.flash_session.specs.Outcome.{Follows, IsCompared, IsSound, is_device_end, is_store_end};
+ghost use Rattle.flash_session.specs.Script.{has_verify};
+ghost use Rattle.job_file.specs.Counted.{IsCounted};
+ghost use Rattle.job_text.specs.Files.{IsWhole};
+ghost use Rattle.job_text.specs.Stands.{StandsFor};
+ghost use Rattle.flash_session.specs.declared.cursor.Cursor.TheVariants as at;
+ghost use Rattle.flash_session.specs.declared.phase.Phase.TheVariants as stage;
+ghost use Rattle.flash_session.specs.declared.cursor.Place.TheVariants as place;
+ghost use Rattle.flash_session.specs.declared.cursor.Step.TheVariants as step;
+ghost use Rattle.flash_session.specs.Ended.{IsEndAt};
+ghost use Rattle.flash_session.specs.Fit.{AreTwins, IsScripted, Fit};
+ghost use Rattle.flash_session.specs.Items.{calls_on_phase};
+ghost use Rattle.flash_session.specs.Prepared.{Prepares};
+ghost use Rattle.flash_session.specs.Rest.{after, all_legs};
+ghost use Rattle.flash_session.specs.Steps.{IsItem, IsCursor, IsStep, IsStepBehind, IsPhaseFrom, has_phase};
+ghost use Rattle.flash_session.specs.Takes.{IsNoCall, IsCall, IsKind, FromCursor, FromCall, FromCells, IsOver, TakesOn, IsHost, IsStill, Slice, SliceOf};
+ghost use Rattle.flash_session.specs.Targets.{calls_on, setup_on, part_in, has_second, size_for, goal_for, legs_for, point_for};
+ghost use Rattle.flash_session.specs.Turned.{IsExchanged, TurnsTo, Restarts};
+ghost use Rattle.flash_session.specs.Turns.{Turns, SameTarget, IsUnended, turn_of, Judges};
+ghost use Rattle.flash_session.specs.Whole.{at_close, IsPlaying, IsPlayed, IsEndOf, IsStop};
+
+use crate::cursor::{Cursor, Item, Place, Step};
+use crate::goal::{Goal, WINDOW};
+use crate::part::Task;
+use crate::phase::Phase;
+use crate::session::{Reached, SessionEnd};
+use crate::target_end::{TargetEnd, Turn};
+use crate::windows::{Unread, compare_window, read_bytes};
+use algo_calls::{Call, CallEnd, CallsIn};
+use bench_model::{Bench, DeviceFault, StoreFault};
+use job_file::CloseFault;
+use job_text::Job;
+use ram_arena::Arena;
+use std::mem;
+use target_core::{RunEnd, SliceEnd};
+
+/// A player of a script, which is lent its job, its RAM and its bench: the calls of its algorithms, of which those of the region that moved
+/// last are at hand, with the window of its RAM; what its script is made of, and a buffer for a page; how many calls were made, and where it
+/// stands.
+#[derive(Drop)]
+pub struct Player {
+    pub calls: CallsIn,
+    /// Whether the second region's machine moved last.
+    pub second: bool,
+    /// The calls of the other region, where the board has two.
+    pub other: Option<CallsIn>,
+    pub window: usize,
+    pub task: Task,
+    pub page: Vec<u8>,
+    pub made: u32,
+    pub place: Place,
+}
+
+impl Player {
+    /// The calls of a region.
+    fn calls_on(&self, second: bool) -> &CallsIn
+        ensures { result.now ≡ calls_on self.now second }
+    {
+        if second == self.second {
+            return &self.calls;
+        }
+        match &self.other {
+            Some(other) => other,
+            None => &self.calls,
+        }
+    }
+
+    /// Whether the algorithm of a region can verify.
+    fn can_verify(&self, second: bool) -> bool
+        ensures { result ≡ has_verify (setup_on self.now second) }
+    {
+        self.calls_on(second).algorithm().entries.verify.is_some()
+    }
+
+    /// The next call of a phase of a region.
+    fn item(&self, second: bool, phase: Phase, index: u32) -> Option<Item>
+        requires scripted { IsScripted self.now }
+        requires there { IsTrue second → IsTrue (has_second self.now) }
+        ensures { IsItem (setup_on self.now second) (part_in self.now.task second)
+            (calls_on_phase phase (setup_on self.now second) (part_in self.now.task second)) index result }
+    {
+        let can_verify = self.can_verify(second);
+        self.task.part(second).item(can_verify, phase, index)
+    }
+
+    /// Whether a phase of a region has calls.
+    fn has_calls(&self, second: bool, phase: Phase) -> bool
+        requires scripted { IsScripted self.now }
+        requires there { IsTrue second → IsTrue (has_second self.now) }
+        ensures { has_phase self.now second phase result }
+    {
+        self.item(second, phase, 0).is_some()
+    }
+
+    /// The last phase of a region where it has calls.
+    fn from_verify(&self, second: bool) -> Option<Phase>
+        requires scripted { IsScripted self.now }
+        requires there { IsTrue second → IsTrue (has_second self.now) }
+        ensures { IsPhaseFrom self.now second stage.Verify result }
+    {
+        if self.has_calls(second, Phase::Verify) {
+            return Some(Phase::Verify);
+        }
+        None
+    }
+
+    /// The second phase of a region where it has calls, or the last one.
+    fn from_program(&self, second: bool) -> Option<Phase>
+        requires scripted { IsScripted self.now }
+        requires there { IsTrue second → IsTrue (has_second self.now) }
+        ensures { IsPhaseFrom self.now second stage.Program result }
+    {
+        if self.has_calls(second, Phase::Program) {
+            return Some(Phase::Program);
+        }
+        self.from_verify(second)
+    }
+
+    /// The first phase of a region that has calls.
+    fn from_erase(&self, second: bool) -> Option<Phase>
+        requires scripted { IsScripted self.now }
+        requires there { IsTrue second → IsTrue (has_second self.now) }
+        ensures { IsPhaseFrom self.now second stage.Erase result }
+    {
+        if self.has_calls(second, Phase::Erase) {
+            return Some(Phase::Erase);
+        }
+        self.from_program(second)
+    }
+
+    /// The first phase of a region from this one on that has calls.
+    fn phase_from(&self, second: bool, phase: Phase) -> Option<Phase>
+        requires scripted { IsScripted self.now }
+        requires there { IsTrue second → IsTrue (has_second self.now) }
+        ensures { IsPhaseFrom self.now second phase result }
+    {
+        match phase {
+            Phase::Erase => self.from_erase(second),
+            Phase::Program => self.from_program(second),
+            Phase::Verify => self.from_verify(second),
+        }
+    }
+
+    /// What follows the first region where the board has two: the first phase of the second one that has calls, or the last reset.
+    fn second_region(&self) -> Step
+        requires scripted { IsScripted self.now }
+        requires there { IsTrue (has_second self.now) }
+        ensures step { IsStepBehind self.now false result }
+        ensures kind { IsNoCall result }
+    {
+        match self.phase_from(true, Phase::Erase) {
+            Some(phase) => Step::Begin {
+                second: true,
+                phase,
+            },
+            None => Step::Last,
+        }
+    }
+
+    /// What follows a region.
+    fn behind(&self, second: bool) -> Step
+        requires { IsScripted self.now }
+        ensures step { IsStepBehind self.now second result }
+        ensures kind { IsNoCall result }
+    {
+        if second {
+            return Step::Last;
+        }
+        if self.task.second.is_some() {
+            return self.second_region();
+        }
+        Step::Last
+    }
+
+    /// The first phase from this one on that has calls, or the last reset.
+    fn begin(&self, second: bool, phase: Phase) -> Step
+        requires scripted { IsScripted self.now }
+        requires there { IsTrue second → IsTrue (has_second self.now) }
+        ensures step { IsStep self.now (at.Begin second phase) result }
+        ensures kind { IsNoCall result }
+    {
+        match self.phase_from(second, phase) {
+            Some(phase) => Step::Begin { second, phase },
+            None => self.behind(second),
+        }
+    }
+
+    /// What follows a phase.
+    fn after(&self, second: bool, phase: Phase) -> Cursor
+        ensures { result ≡ after (has_second self.now) second phase }
+    {
+        match phase {
+            Phase::Erase => Cursor::Begin {
+                second,
+                phase: Phase::Program,
+            },
+            Phase::Program => Cursor::Begin {
+                second,
+                phase: Phase::Verify,
+            },
+            Phase::Verify => {
+                if second || self.task.second.is_none() {
+                    Cursor::Last
+                } else {
+                    Cursor::Begin {
+                        second: true,
+                        phase: Phase::Erase,
+                    }
+                }
+            }
+        }
+    }
+
+    /// The next call among those of a phase, or its UnInit.
+    fn call_step(&self, second: bool, phase: Phase, index: u32) -> Step
+        requires scripted { IsScripted self.now }
+        requires cursor { IsCursor (has_second self.now) self.now.second (at.Calls second phase index) }
+        ensures step { IsStep self.now (at.Calls second phase index) result }
+        ensures kind { IsCall result }
+    {
+        match self.item(second, phase, index) {
+            Some(item) => Step::Call {
+                call: item.call,
+                from: self.task.part(second).start + item.from,
+                len: item.len,
+                next: Cursor::Calls {
+                    second,
+                    phase,
+                    index: item.index + 1,
+                },
+            },
+            None => Step::Call {
+                call: Call::UnInit { kind: phase.kind() },
+                from: 0,
+                len: 0,
+                next: self.after(second, phase),
+            },
+        }
+    }
+
+    /// The next move of the script.
+    fn step(&self, cursor: Cursor) -> Step
+        requires scripted { IsScripted self.now }
+        requires cursor { IsCursor (has_second self.now) self.now.second cursor }
+        ensures step { IsStep self.now cursor result }
+        ensures kind { IsKind cursor result }
+    {
+        match cursor {
+            Cursor::Begin { second, phase } => self.begin(second, phase),
+            Cursor::Init { second, phase } => Step::Call {
+                call: Call::Init { kind: phase.kind() },
+                from: 0,
+                len: 0,
+                next: Cursor::Calls {
+                    second,
+                    phase,
+                    index: 0,
+                },
+            },
+            Cursor::Calls {
+                second,
+                phase,
+                index,
+            } => self.call_step(second, phase, index),
+            Cursor::Last => Step::Last,
+        }
+    }
+}
+
+/// Reads the bytes of a call to the buffer, and prepares the call. Gives the steps that it may make.
+fn prepare_with<B: Bench>(
+    calls: &mut CallsIn,
+    arena: &mut Arena,
+    window: usize,
+    bench: &mut B,
+    job: &Job,
+    goal: Goal,
+    bytes: &mut [u8],
+    call: Call,
+    from: u32,
+) -> Result<u64, StoreFault>
+    requires fits { Fits calls.old arena.old window }
+    requires may { (b : List ℕ) → length b ≡ length bytes.old → MayAsk (setup_at calls.old) call b }
+    requires range { from + length bytes.old ≤ size_of job.now.board.regions }
+    requires stands { IsTrue B.tells → StandsFor job.now (B.state bench.old).file }
+    ensures prepares { Prepares B.tells calls.old arena.old window (goal_in job.now goal (B.state bench.old).file) call from
+        (length bytes.old) result calls.new arena.new }
+    ensures long { length bytes.new ≡ length bytes.old }
+    ensures reads { OnlyReads B.tells (B.state bench.old) (B.state bench.new) }
+    ensures cause { HasCause (B.state bench.old).store_faults (B.state bench.new).store_faults result }
+{
+    match read_bytes(bench, job, goal, from, bytes) {
+        Ok(()) => Ok(calls.prepare(arena, window, &call, bytes)),
+        Err(StoreFault) => Err(StoreFault),
+    }
+}
+
+/// The same with as many bytes as the call has, at the front of the buffer.
+fn prepare_from<B: Bench>(
+    calls: &mut CallsIn,
+    arena: &mut Arena,
+    window: usize,
+    bench: &mut B,
+    job: &Job,
+    goal: Goal,
+    page: &mut [u8],
+    call: Call,
+    from: u32,
+    len: u32,
+) -> Result<u64, StoreFault>
+    requires fits { Fits calls.old arena.old window }
+    requires may { (b : List ℕ) → length b ≡ len → MayAsk (setup_at calls.old) call b }
+    requires room { len ≤ length page.old }
+    requires range { from + len ≤ size_of job.now.board.regions }
+    requires stands { IsTrue B.tells → StandsFor job.now (B.state bench.old).file }
+    ensures prepares { Prepares B.tells calls.old arena.old window (goal_in job.now goal (B.state bench.old).file) call from
+        len result calls.new arena.new }
+    ensures long { length page.new ≡ length page.old }
+    ensures reads { OnlyReads B.tells (B.state bench.old) (B.state bench.new) }
+    ensures cause { HasCause (B.state bench.old).store_faults (B.state bench.new).store_faults result }
+{
+    let bytes = &mut page[..len as usize];
+    prepare_with(calls, arena, window, bench, job, goal, bytes, call, from)
+}
+
+/// How a session ends whose script ended so.
+fn session_end(end: &TargetEnd) -> SessionEnd
+    requires { IsPlayed (place.Ended end.now) }
+    ensures { IsEndOf end.now result }
+{
+    match end {
+        TargetEnd::CallFailed { number, call, end } => SessionEnd::CallFailed {
+            number: *number,
+            call: *call,
+            end: *end,
+        },
+        TargetEnd::Mismatch(difference) => SessionEnd::Mismatch(*difference),
+        TargetEnd::StoreFault => SessionEnd::StoreFault,
+        TargetEnd::DeviceFault => SessionEnd::DeviceFault,
+        TargetEnd::Done | TargetEnd::Open(_) | TargetEnd::Survey(_) => unreachable!(),
+    }
+}
+
+impl Player {
+    /// Puts the other region's machine in the place of the one that moved last. It starts as after a reset; no bench is asked.
+    fn exchange(&mut self, arena: &mut Arena)
+        requires { IsSomeAnd self.old.other (λ c. Fits c arena.old self.old.window) }
+        ensures { IsSomeAnd self.old.other (IsExchanged self.old arena.old self.new arena.new) }
+    {
+        match &mut self.other {
+            Some(other) => {
+                mem::swap(&mut self.calls, other);
+                self.calls.restart(arena, self.window);
+                self.second = !self.second;
+            }
+            None => unreachable!(),
+        }
+    }
+
+    /// Puts the machine of a region in the place of the one that moved last, which was just reset.
+    fn turn_to(&mut self, arena: &mut Arena, second: bool)
+        requires twins { AreTwins self.old }
+        requires there { IsTrue second → IsTrue (has_second self.old) }
+        requires fits { Fits self.old.calls arena.old self.old.window }
+        ensures { TurnsTo second self.old arena.old self.new arena.new }
+    {
+        if second != self.second {
+            self.exchange(arena);
+        }
+    }
+
+    /// Starts anew, as after a reset, before its first move. No bench is asked.
+    pub(crate) fn restart(&mut self, arena: &mut Arena)
+        requires twins { AreTwins self.old }
+        requires fits { Fits self.old.calls arena.old self.old.window }
+        ensures { Restarts self.old arena.old self.new arena.new }
+    {
+        self.calls.restart(arena, self.window);
+        self.turn_to(arena, false);
+        self.made = 0;
+        self.place = Place::At(Cursor::Begin {
+            second: false,
+            phase: Phase::Erase,
+        });
+    }
+
+    /// A reset with its load.
+    fn begin_phase<B: Bench>(
+        &mut self,
+        arena: &mut Arena,
+        bench: &mut B,
+        cursor: Cursor,
+        second: bool,
+        phase: Phase,
+    )
+        requires fit { Fit B.tells self.old arena.old (B.state bench.old) }
+        requires place { self.old.place ≡ place.At cursor }
+        requires step { IsStep self.old cursor (step.Begin second phase) }
+        requires kind { IsKind cursor (step.Begin second phase) }
+        ensures turns { (goal : List ℕ) → Turns B.tells goal self.old arena.old (B.state bench.old) self.new arena.new (B.state bench.new) }
+        ensures host { IsHost self.old arena.old self.new arena.new }
+        ensures one { FromCursor cursor self.new.place }
+    {
+        match self.calls.reset(arena, self.window, bench) {
+            Ok(()) => {
+                self.turn_to(arena, second);
+                self.calls.load(arena, self.window);
+                self.place = Place::At(Cursor::Init { second, phase });
+            }
+            Err(DeviceFault) => self.place = Place::Ended(TargetEnd::DeviceFault),
+        }
+    }
+
+    /// The last reset.
+    fn last_reset<B: Bench>(&mut self, arena: &mut Arena, bench: &mut B, cursor: Cursor)
+        requires fit { Fit B.tells self.old arena.old (B.state bench.old) }
+        requires place { self.old.place ≡ place.At cursor }
+        requires step { IsStep self.old cursor step.Last }
+        requires kind { IsKind cursor step.Last }
+        ensures turns { (goal : List ℕ) → Turns B.tells goal self.old arena.old (B.state bench.old) self.new arena.new (B.state bench.new) }
+        ensures host { IsHost self.old arena.old self.new arena.new }
+        ensures one { FromCursor cursor self.new.place }
+    {
+        match self.calls.reset(arena, self.window, bench) {
+            Ok(()) => self.place = Place::Comparing { at: 0 },
+            Err(DeviceFault) => self.place = Place::Ended(TargetEnd::DeviceFault),
+        }
+    }
+
+    /// The preparing of a call, with its bytes of the goal.
+    fn prepare<B: Bench>(
+        &mut self,
+        job: &Job,
+        arena: &mut Arena,
+        bench: &mut B,
+        cursor: Cursor,
+        call: Call,
+        from: u32,
+        len: u32,
+        next: Cursor,
+    )
+        requires fit { Fit B.tells self.old arena.old (B.state bench.old) }
+        requires place { self.old.place ≡ place.At cursor }
+        requires step { IsStep self.old cursor (step.Call call from len next) }
+        requires kind { IsKind cursor (step.Call call from len next) }
+        requires size { size_of job.now.board.regions ≡ size_for self.old }
+        requires stands { IsTrue B.tells → StandsFor job.now (B.state bench.old).file }
+        ensures turns { Turns B.tells (goal_for job.now self.old (B.state bench.old).file) self.old arena.old (B.state bench.old) self.new arena.new
+            (B.state bench.new) }
+        ensures host { IsHost self.old arena.old self.new arena.new }
+        ensures one { FromCursor cursor self.new.place }
+    {
+        match prepare_from(
+            &mut self.calls,
+            arena,
+            self.window,
+            bench,
+            job,
+            self.task.goal,
+            &mut self.page,
+            call,
+            from,
+            len,
+        ) {
+            Ok(left) => {
+                self.place = Place::In {
+                    call,
+                    len,
+                    left,
+                    next,
+                };
+            }
+            Err(StoreFault) => self.place = Place::Ended(TargetEnd::StoreFault),
+        }
+    }
+
+    /// One host action of the script.
+    fn host<B: Bench>(&mut self, job: &Job, arena: &mut Arena, bench: &mut B, cursor: Cursor)
+        requires fit { Fit B.tells self.old arena.old (B.state bench.old) }
+        requires place { self.old.place ≡ place.At cursor }
+        requires size { size_of job.now.board.regions ≡ size_for self.old }
+        requires stands { IsTrue B.tells → StandsFor job.now (B.state bench.old).file }
+        ensures turns { Turns B.tells (goal_for job.now self.old (B.state bench.old).file) self.old arena.old (B.state bench.old) self.new arena.new
+            (B.state bench.new) }
+        ensures host { IsHost self.old arena.old self.new arena.new }
+        ensures one { FromCursor cursor self.new.place }
+    {
+        match self.step(cursor) {
+            Step::Begin { second, phase } => self.begin_phase(arena, bench, cursor, second, phase),
+            Step::Call {
+                call,
+                from,
+                len,
+                next,
+            } => self.prepare(job, arena, bench, cursor, call, from, len, next),
+            Step::Last => self.last_reset(arena, bench, cursor),
+        }
+    }
+
+    /// What a call whose run has ended comes to.
+    fn judge(&mut self, call: Call, len: u32, next: Cursor, end: RunEnd)
+        requires { self.old.made + 1 < 2 ^ 32 }
+        ensures { Judges self.old call len next end self.new }
+    {
+        match self.calls.end_of(&call, len, end) {
+            CallEnd::Done => {
+                self.made += 1;
+                self.place = Place::At(next);
+            }
+            CallEnd::Refused { r0 } => {
+                self.place = Place::Ended(TargetEnd::CallFailed {
+                    number: self.made + 1,
+                    call,
+                    end: CallEnd::Refused { r0 },
+                });
+            }
+            CallEnd::Ended(end) => {
+                self.place = Place::Ended(TargetEnd::CallFailed {
+                    number: self.made + 1,
+                    call,
+                    end: CallEnd::Ended(end),
+                });
+            }
+            CallEnd::DeviceFault => self.place = Place::Ended(TargetEnd::DeviceFault),
+        }
+    }
+
+    /// The next steps of a call.
+    fn go_on<B: Bench>(
+        &mut self,
+        arena: &mut Arena,
+        bench: &mut B,
+        steps: u64,
+        call: Call,
+        len: u32,
+        left: u64,
+        next: Cursor,
+    )
+        requires fit { Fit B.tells self.old arena.old (B.state bench.old) }
+        requires place { self.old.place ≡ place.In call len left next }
+        requires steps { 1 ≤ steps }
+        ensures turns { (goal : List ℕ) → Turns B.tells goal self.old arena.old (B.state bench.old) self.new arena.new (B.state bench.new) }
+        ensures one { FromCall steps call len left next self.new.place }
+        ensures slice { Slice B.tells steps call len left next self.old arena.old (B.state bench.old) self.new arena.new (B.state bench.new) }
+    {
+        let mut left = left;
+        match self
+            .calls
+            .slice(arena, self.window, bench, &mut left, steps)
+        {
+            SliceEnd::More => {
+                self.place = Place::In {
+                    call,
+                    len,
+                    left,
+                    next,
+                };
+            }
+            SliceEnd::Ended(end) => self.judge(call, len, next, end),
+        }
+    }
+
+    /// The comparison of the next cells, through these windows.
+    fn compare_through<B: Bench>(
+        &mut self,
+        job: &Job,
+        arena: &mut Arena,
+        bench: &mut B,
+        at: u32,
+        wanted: &mut [u8],
+        cells: &mut [u8],
+    )
+        requires fit { Fit B.tells self.old arena.old (B.state bench.old) }
+        requires place { self.old.place ≡ place.Comparing at }
+        requires size { size_of job.now.board.regions ≡ size_for self.old }
+        requires stands { IsTrue B.tells → StandsFor job.now (B.state bench.old).file }
+        requires wanted { length wanted.old ≡ WINDOW }
+        requires cells { length cells.old ≡ WINDOW }
+        ensures turns { Turns B.tells (goal_for job.now self.old (B.state bench.old).file) self.old arena.old (B.state bench.old) self.new arena.new
+            (B.state bench.new) }
+        ensures still { IsStill self.old arena.old self.new arena.new }
+        ensures one { FromCells (B.state bench.old).cell_count at self.new.place }
+    {
+        let count = bench.cells_len();
+        let len = WINDOW.min((count - at) as usize);
+        match compare_window(
+            bench,
+            job,
+            self.task.goal,
+            at,
+            &mut wanted[..len],
+            &mut cells[..len],
+        ) {
+            Ok(None) => {
+                if at + len as u32 == count {
+                    self.place = Place::Closing;
+                } else {
+                    self.place = Place::Comparing {
+                        at: at + len as u32,
+                    };
+                }
+            }
+            Ok(Some(difference)) => {
+                self.place = Place::Ended(TargetEnd::Mismatch(difference));
+            }
+            Err(Unread::Device) => self.place = Place::Ended(TargetEnd::DeviceFault),
+            Err(Unread::Store) => self.place = Place::Ended(TargetEnd::StoreFault),
+        }
+    }
+
+    /// The comparison of the next cells.
+    fn compare<B: Bench>(&mut self, job: &Job, arena: &mut Arena, bench: &mut B, at: u32)
+        requires fit { Fit B.tells self.old arena.old (B.state bench.old) }
+        requires place { self.old.place ≡ place.Comparing at }
+        requires size { size_of job.now.board.regions ≡ size_for self.old }
+        requires stands { IsTrue B.tells → StandsFor job.now (B.state bench.old).file }
+        ensures turns { Turns B.tells (goal_for job.now self.old (B.state bench.old).file) self.old arena.old (B.state bench.old) self.new arena.new
+            (B.state bench.new) }
+        ensures still { IsStill self.old arena.old self.new arena.new }
+        ensures one { FromCells (B.state bench.old).cell_count at self.new.place }
+    {
+        self.compare_through(job, arena, bench, at, &mut [0; WINDOW], &mut [0; WINDOW]);
+    }
+
+    /// The close of the job.
+    fn close<B: Bench>(&mut self, arena: &mut Arena, bench: &mut B)
+        requires fit { Fit B.tells self.old arena.old (B.state bench.old) }
+        requires place { self.old.place ≡ place.Closing }
+        requires whole { IsTrue B.tells → IsWhole (drop 1 (B.state bench.old).file) (B.state bench.old).file }
+        requires only { IsTrue B.tells → LeftOnly (B.state bench.old).file (file_half (B.state bench.old)) }
+        ensures turns { (goal : List ℕ) → Turns B.tells goal self.old arena.old (B.state bench.old) self.new arena.new (B.state bench.new) }
+        ensures still { IsStill self.old arena.old self.new arena.new }
+        ensures one { IsOver self.new.place }
+    {
+        match job_file::close(bench) {
+            Ok(()) => self.place = Place::Ended(TargetEnd::Done),
+            Err(CloseFault::StoreFault) => self.place = Place::Ended(TargetEnd::StoreFault),
+        }
+    }
+
+    /// Whether the cells are the goal, and the job is not closed.
+    fn is_closing(&self) -> bool
+        ensures { result ≡ at_close self.now.place }
+    {
+        match self.place {
+            Place::Closing => true,
+            Place::At(_) | Place::In { .. } | Place::Comparing { .. } | Place::Ended(_) => false,
+        }
+    }
+
+    /// The next steps of a call that runs, at most so many, or one host action of the script or of the comparison. A call whose run has
+    /// ended is judged in the same turn. It takes no memory.
+    fn play<B: Bench>(&mut self, job: &Job, arena: &mut Arena, bench: &mut B, steps: u64)
+        requires playing { IsPlaying self.old.place }
+        requires fit { Fit B.tells self.old arena.old (B.state bench.old) }
+        requires steps { 1 ≤ steps }
+        requires size { size_of job.now.board.regions ≡ size_for self.old }
+        requires stands { IsTrue B.tells → StandsFor job.now (B.state bench.old).file }
+        ensures turns { Turns B.tells (goal_for job.now self.old (B.state bench.old).file) self.old arena.old (B.state bench.old) self.new arena.new
+            (B.state bench.new) }
+        ensures one { TakesOn steps (B.state bench.old).cell_count self.old.place self.new.place }
+        ensures slice { SliceOf B.tells steps self.old.place self.old arena.old (B.state bench.old) self.new arena.new (B.state bench.new) }
+    {
+        match self.place {
+            Place::At(cursor) => self.host(job, arena, bench, cursor),
+            Place::In {
+                call,
+                len,
+                left,
+                next,
+            } => self.go_on(arena, bench, steps, call, len, left, next),
+            Place::Comparing { at } => self.compare(job, arena, bench, at),
+            Place::Closing | Place::Ended(_) => unreachable!(),
+        }
+    }
+
+    /// One turn of a target that has not ended: what `play` does, or the close. It takes no memory.
+    pub fn turn<B: Bench>(&mut self, job: &Job, arena: &mut Arena, bench: &mut B, steps: u64)
+        requires unended { IsUnended self.old.place }
+        requires fit { Fit B.tells self.old arena.old (B.state bench.old) }
+        requires steps { 1 ≤ steps }
+        requires size { size_of job.now.board.regions ≡ size_for self.old }
+        requires stands { IsTrue B.tells → StandsFor job.now (B.state bench.old).file }
+        requires only { IsTrue B.tells → LeftOnly (B.state bench.old).file (file_half (B.state bench.old)) }
+        ensures turns { Turns B.tells (goal_for job.now self.old (B.state bench.old).file) self.old arena.old (B.state bench.old) self.new arena.new
+            (B.state bench.new) }
+        ensures one { TakesOn steps (B.state bench.old).cell_count self.old.place self.new.place }
+        ensures slice { SliceOf B.tells steps self.old.place self.old arena.old (B.state bench.old) self.new arena.new (B.state bench.new) }
+    {
+        if self.is_closing() {
+            self.close(arena, bench);
+        } else {
+            self.play(job, arena, bench, steps);
+        }
+    }
+
+    /// How a session ends that stops here: none where there is more to play. The close is still to come.
+    fn stop(&self) -> Option<SessionEnd>
+        requires { IsPlayed self.now.place }
+        ensures { IsStop self.now.place result }
+    {
+        match &self.place {
+            Place::At(_) | Place::In { .. } | Place::Comparing { .. } => None,
+            Place::Closing => Some(SessionEnd::Reached(Reached)),
+            Place::Ended(end) => Some(session_end(end)),
+        }
+    }
+
+    /// Plays the whole script, each call in one turn, and compares all cells with the goal. It takes no memory.
+    pub fn go<B: Bench>(&mut self, job: &Job, arena: &mut Arena, bench: &mut B) -> SessionEnd
+        requires fit { Fit B.tells self.old arena.old (B.state bench.old) }
+        requires first { self.old.place ≡ place.At (at.Begin false stage.Erase) }
+        requires made { self.old.made ≡ 0 }
+        requires size { size_of job.now.board.regions ≡ size_for self.old }
+        requires stands { IsTrue B.tells → StandsFor job.now (B.state bench.old).file }
+        ensures follows { IsTrue B.tells → let goal = goal_for job.now self.old (B.state bench.old).file in Follows (all_legs (legs_for self.old goal)) goal
+            (stand_at 0 (point_for self.old arena.old (B.state bench.old).cells).world) result (B.state bench.old) (B.state bench.new) }
+        ensures idle { IsTrue B.tells → IsCompared result → (B.state bench.new).operation ≡ None }
+        ensures sound { IsSound (size_for self.old) result }
+        ensures same { SameTarget self.old self.new }
+        ensures page { length self.new.page.items ≡ length self.old.page.items }
+        ensures fit { Fit B.tells self.new arena.new (B.state bench.new) }
+        ensures count { (B.state bench.new).cell_count ≡ (B.state bench.old).cell_count }
+        ensures file { FileIsRead B.tells (B.state bench.old) (B.state bench.new) }
+        ensures store { IsCounted (B.state bench.old).store_faults (B.state bench.new).store_faults (is_store_end result) }
+        ensures cause { HasDeviceCause (B.state bench.old).device_faults (B.state bench.new).device_faults (is_device_end result) }
+    {
+        'turns: loop {
+            match self.stop() {
+                Some(end) => return end,
+                None => self.play(job, arena, bench, u64::MAX),
+            }
+        }
+    }
+
+    /// Whether it has ended.
+    pub fn state(&self) -> Turn
+        ensures { result ≡ turn_of self.now.place }
+    {
+        match self.place {
+            Place::Ended(_) => Turn::Ended,
+            Place::At(_) | Place::In { .. } | Place::Comparing { .. } | Place::Closing =>
+                Turn::More,
+        }
+    }
+
+    /// How it has ended: none where it has not.
+    pub fn end(&self) -> Option<&TargetEnd>
+        ensures { IsEndAt self.now.place result }
+    {
+        match &self.place {
+            Place::Ended(end) => Some(end),
+            Place::At(_) | Place::In { .. } | Place::Comparing { .. } | Place::Closing => None,
+        }
+    }
+}

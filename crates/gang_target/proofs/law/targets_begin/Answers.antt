@@ -1,5 +1,0 @@
-use Rattle.gang_target.proofs.AloneLemmas.{stands_first}
-use Rattle.gang_target.proofs.law.targets_begin.Goals as goal
-
-pub returns : goal.returns
-returns g c = λ x wanted arena now is made. stands_first x wanted arena (g.B.Bench.state now) is made

@@ -1,7 +1,0 @@
-use Rattle.std.proofs.Common.{◌≡◌, ℕ, Bool, List}
-use Rattle.algo_calls.specs.Setups.{Setup}
-use Rattle.gang_target.specs.Items.{pages_on}
-use Rattle.gang_target.proofs.part.Part.find_page.Given as goal
-
-abbrev pub invariant-loop-k : goal.invariant-loop-k
-invariant-loop-k l = (v : Bool) (s : Setup) (bytes : List ℕ) → pages_on v s l.self bytes l.index ≡ pages_on v s l.self bytes l.k

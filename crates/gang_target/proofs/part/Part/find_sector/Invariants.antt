@@ -1,7 +1,0 @@
-use Rattle.std.proofs.Common.{◌≡◌, ℕ, List}
-use Rattle.algo_calls.specs.Setups.{Setup}
-use Rattle.gang_target.specs.Items.{sectors_on}
-use Rattle.gang_target.proofs.part.Part.find_sector.Given as goal
-
-abbrev pub invariant-loop-k : goal.invariant-loop-k
-invariant-loop-k l = (s : Setup) (bytes : List ℕ) → sectors_on s l.self bytes l.index ≡ sectors_on s l.self bytes l.k

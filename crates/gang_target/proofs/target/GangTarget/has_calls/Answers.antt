@@ -1,7 +1,0 @@
-use Rattle.std.proofs.Common.{Bool, sym, subst}
-use Rattle.gang_target.specs.Steps.{has_phase}
-use Rattle.gang_target.proofs.StepLemmas.{any_item}
-use Rattle.gang_target.proofs.target.GangTarget.has_calls.Goals as goal
-
-pub returns : goal.returns
-returns c = subst (λ (b : Bool). has_phase c.args.self.now c.args.second c.args.phase b) (sym c.is_some.ensures) (any_item c.args.self.now c.args.second c.args.phase c.requires.there c.item.result c.item.ensures)
