@@ -68,33 +68,53 @@ fn process<B: Bus>(core: &mut Core, bus: &mut B, half: u16, found: Decoded) -> R
     }
 }
 
-/// The same of what is likely a load or a store.
+/// The same of what is likely a load from the literal pool.
 #[inline(always)]
 #[tactic(auto, using(crate::proofs::RunLemmas::asks))]
-fn access_literal<B: Bus>(core: &mut Core, bus: &mut B, half: u16, found: Decoded) -> Result<(), Stop>
+fn access_literal<B: Bus>(
+    core: &mut Core,
+    bus: &mut B,
+    half: u16,
+    found: Decoded,
+) -> Result<(), Stop>
     requires { found ≡ decoded half }
     ensures { Runs B.acts (of_halfword core.old half (decoded half)) core.old bus.old (end_of result) core.new bus.new }
 {
     match found {
-        Decoded::Op(Instr::Memory(op)) => memory::run_literal(core, bus, core.pc().wrapping_add(2), op),
+        Decoded::Op(Instr::Memory(op)) => memory::run_literal(
+            core,
+            bus,
+            core.pc().wrapping_add(2),
+            op,
+        ),
         _ => go_on(core, bus, half),
     }
 }
 
-/// The same of what is likely a load or a store.
+/// The same of what is likely a load or a store at a register plus a register.
 #[inline(always)]
 #[tactic(auto, using(crate::proofs::RunLemmas::asks))]
-fn access_by_register<B: Bus>(core: &mut Core, bus: &mut B, half: u16, found: Decoded) -> Result<(), Stop>
+fn access_by_register<B: Bus>(
+    core: &mut Core,
+    bus: &mut B,
+    half: u16,
+    found: Decoded,
+) -> Result<(), Stop>
     requires { found ≡ decoded half }
     ensures { Runs B.acts (of_halfword core.old half (decoded half)) core.old bus.old (end_of result) core.new bus.new }
 {
     match found {
-        Decoded::Op(Instr::Memory(op)) => memory::run_by_register(core, bus, core.pc().wrapping_add(2), op),
+        Decoded::Op(Instr::Memory(op)) => memory::run_by_register(
+            core,
+            bus,
+            core.pc().wrapping_add(2),
+            op,
+        ),
         _ => go_on(core, bus, half),
     }
 }
 
-/// The same of what is likely a load or a store.
+/// The same of what is likely a load or a store of a word at a register plus a number.
 #[inline(always)]
 #[tactic(auto, using(crate::proofs::RunLemmas::asks))]
 fn access_words<B: Bus>(core: &mut Core, bus: &mut B, half: u16, found: Decoded) -> Result<(), Stop>
@@ -102,12 +122,17 @@ fn access_words<B: Bus>(core: &mut Core, bus: &mut B, half: u16, found: Decoded)
     ensures { Runs B.acts (of_halfword core.old half (decoded half)) core.old bus.old (end_of result) core.new bus.new }
 {
     match found {
-        Decoded::Op(Instr::Memory(op)) => memory::run_words(core, bus, core.pc().wrapping_add(2), op),
+        Decoded::Op(Instr::Memory(op)) => memory::run_words(
+            core,
+            bus,
+            core.pc().wrapping_add(2),
+            op,
+        ),
         _ => go_on(core, bus, half),
     }
 }
 
-/// The same of what is likely a load or a store.
+/// The same of a byte.
 #[inline(always)]
 #[tactic(auto, using(crate::proofs::RunLemmas::asks))]
 fn access_bytes<B: Bus>(core: &mut Core, bus: &mut B, half: u16, found: Decoded) -> Result<(), Stop>
@@ -115,25 +140,40 @@ fn access_bytes<B: Bus>(core: &mut Core, bus: &mut B, half: u16, found: Decoded)
     ensures { Runs B.acts (of_halfword core.old half (decoded half)) core.old bus.old (end_of result) core.new bus.new }
 {
     match found {
-        Decoded::Op(Instr::Memory(op)) => memory::run_bytes(core, bus, core.pc().wrapping_add(2), op),
+        Decoded::Op(Instr::Memory(op)) => memory::run_bytes(
+            core,
+            bus,
+            core.pc().wrapping_add(2),
+            op,
+        ),
         _ => go_on(core, bus, half),
     }
 }
 
-/// The same of what is likely a load or a store.
+/// The same of a halfword.
 #[inline(always)]
 #[tactic(auto, using(crate::proofs::RunLemmas::asks))]
-fn access_halves<B: Bus>(core: &mut Core, bus: &mut B, half: u16, found: Decoded) -> Result<(), Stop>
+fn access_halves<B: Bus>(
+    core: &mut Core,
+    bus: &mut B,
+    half: u16,
+    found: Decoded,
+) -> Result<(), Stop>
     requires { found ≡ decoded half }
     ensures { Runs B.acts (of_halfword core.old half (decoded half)) core.old bus.old (end_of result) core.new bus.new }
 {
     match found {
-        Decoded::Op(Instr::Memory(op)) => memory::run_halves(core, bus, core.pc().wrapping_add(2), op),
+        Decoded::Op(Instr::Memory(op)) => memory::run_halves(
+            core,
+            bus,
+            core.pc().wrapping_add(2),
+            op,
+        ),
         _ => go_on(core, bus, half),
     }
 }
 
-/// The same of what is likely a load or a store.
+/// The same of a word at SP plus a number.
 #[inline(always)]
 #[tactic(auto, using(crate::proofs::RunLemmas::asks))]
 fn access_stack<B: Bus>(core: &mut Core, bus: &mut B, half: u16, found: Decoded) -> Result<(), Stop>
@@ -141,7 +181,12 @@ fn access_stack<B: Bus>(core: &mut Core, bus: &mut B, half: u16, found: Decoded)
     ensures { Runs B.acts (of_halfword core.old half (decoded half)) core.old bus.old (end_of result) core.new bus.new }
 {
     match found {
-        Decoded::Op(Instr::Memory(op)) => memory::run_on_stack(core, bus, core.pc().wrapping_add(2), op),
+        Decoded::Op(Instr::Memory(op)) => memory::run_on_stack(
+            core,
+            bus,
+            core.pc().wrapping_add(2),
+            op,
+        ),
         _ => go_on(core, bus, half),
     }
 }

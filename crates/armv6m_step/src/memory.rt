@@ -229,7 +229,12 @@ pub(crate) fn run<B: Bus>(core: &mut Core, bus: &mut B, next: u32, op: Memory) -
 
 /// The same of an instruction that is likely one of these, which stand in line.
 #[inline(always)]
-pub(crate) fn run_literal<B: Bus>(core: &mut Core, bus: &mut B, next: u32, op: Memory) -> Result<(), Stop>
+pub(crate) fn run_literal<B: Bus>(
+    core: &mut Core,
+    bus: &mut B,
+    next: u32,
+    op: Memory,
+) -> Result<(), Stop>
     ensures { Runs B.acts (memory core.old next op) core.old bus.old (end_of result) core.new bus.new }
 {
     match op {
@@ -240,7 +245,12 @@ pub(crate) fn run_literal<B: Bus>(core: &mut Core, bus: &mut B, next: u32, op: M
 
 /// The same of an instruction that is likely one of these, which stand in line.
 #[inline(always)]
-pub(crate) fn run_by_register<B: Bus>(core: &mut Core, bus: &mut B, next: u32, op: Memory) -> Result<(), Stop>
+pub(crate) fn run_by_register<B: Bus>(
+    core: &mut Core,
+    bus: &mut B,
+    next: u32,
+    op: Memory,
+) -> Result<(), Stop>
     ensures { Runs B.acts (memory core.old next op) core.old bus.old (end_of result) core.new bus.new }
 {
     match op {
@@ -258,7 +268,12 @@ pub(crate) fn run_by_register<B: Bus>(core: &mut Core, bus: &mut B, next: u32, o
 
 /// The same of an instruction that is likely one of these, which stand in line.
 #[inline(always)]
-pub(crate) fn run_words<B: Bus>(core: &mut Core, bus: &mut B, next: u32, op: Memory) -> Result<(), Stop>
+pub(crate) fn run_words<B: Bus>(
+    core: &mut Core,
+    bus: &mut B,
+    next: u32,
+    op: Memory,
+) -> Result<(), Stop>
     ensures { Runs B.acts (memory core.old next op) core.old bus.old (end_of result) core.new bus.new }
 {
     match op {
@@ -270,7 +285,12 @@ pub(crate) fn run_words<B: Bus>(core: &mut Core, bus: &mut B, next: u32, op: Mem
 
 /// The same of an instruction that is likely one of these, which stand in line.
 #[inline(always)]
-pub(crate) fn run_bytes<B: Bus>(core: &mut Core, bus: &mut B, next: u32, op: Memory) -> Result<(), Stop>
+pub(crate) fn run_bytes<B: Bus>(
+    core: &mut Core,
+    bus: &mut B,
+    next: u32,
+    op: Memory,
+) -> Result<(), Stop>
     ensures { Runs B.acts (memory core.old next op) core.old bus.old (end_of result) core.new bus.new }
 {
     match op {
@@ -282,7 +302,12 @@ pub(crate) fn run_bytes<B: Bus>(core: &mut Core, bus: &mut B, next: u32, op: Mem
 
 /// The same of an instruction that is likely one of these, which stand in line.
 #[inline(always)]
-pub(crate) fn run_halves<B: Bus>(core: &mut Core, bus: &mut B, next: u32, op: Memory) -> Result<(), Stop>
+pub(crate) fn run_halves<B: Bus>(
+    core: &mut Core,
+    bus: &mut B,
+    next: u32,
+    op: Memory,
+) -> Result<(), Stop>
     ensures { Runs B.acts (memory core.old next op) core.old bus.old (end_of result) core.new bus.new }
 {
     match op {
@@ -294,7 +319,12 @@ pub(crate) fn run_halves<B: Bus>(core: &mut Core, bus: &mut B, next: u32, op: Me
 
 /// The same of an instruction that is likely one of these, which stand in line.
 #[inline(always)]
-pub(crate) fn run_on_stack<B: Bus>(core: &mut Core, bus: &mut B, next: u32, op: Memory) -> Result<(), Stop>
+pub(crate) fn run_on_stack<B: Bus>(
+    core: &mut Core,
+    bus: &mut B,
+    next: u32,
+    op: Memory,
+) -> Result<(), Stop>
     ensures { Runs B.acts (memory core.old next op) core.old bus.old (end_of result) core.new bus.new }
 {
     match op {
