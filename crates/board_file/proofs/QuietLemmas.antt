@@ -8,8 +8,9 @@ use Rattle.board_file.specs.declared.key.Part.TheVariants as part
 use Rattle.board_file.specs.declared.place.Placed.{Placed}
 use Rattle.board_file.specs.declared.quiet.QuietRange.{QuietRange}
 use Rattle.board_file.specs.declared.region.Region.{Region}
+use Rattle.board_file.specs.Kinds.{block_of}
 use Rattle.board_file.specs.Table.{addresses}
-use Rattle.board_file.specs.Limits.{placed, block_of, region_parts, quiet_parts, parts_of, share, shared_with, or_later, overlap, ends_late, is_short}
+use Rattle.board_file.specs.Limits.{placed, region_parts, quiet_parts, parts_of, share, shared_with, or_later, overlap, ends_late, is_short}
 
 neither : (test : Bool) (q : Part) (later : Option Part) → (if test then Some q else later) ≡ None → (test ≡ false) × (later ≡ None)
 neither true q later e = absurd cc

@@ -1,7 +1,8 @@
 //! The kinds of flash controllers.
 ghost use Rattle.std.specs.Prelude.{◌≡◌};
-ghost use Rattle.board_file.specs.Limits.{block_of};
-ghost use Rattle.board_file.specs.Text.{kind_named};
+ghost use Rattle.board_file.specs.Kinds.{kind_named, block_of, takes_of_region, takes};
+
+use crate::key::{ADDRESSES, Key};
 
 /// A kind of flash controller.
 #[derive(Clone, Copy, Debug, PartialEq, Eq)]
@@ -34,5 +35,26 @@ impl ControllerKind {
             return Some(ControllerKind::Fpec);
         }
         None
+    }
+
+    /// Whether it takes a number of a region's key.
+    fn takes_of_region(self, key: Key, number: u32) -> bool
+        ensures { result ≡ takes_of_region self key number }
+    {
+        match (self, key) {
+            (ControllerKind::Fpec, Key::RegionEmpty) => number == 255,
+            (ControllerKind::Fpec, Key::RegionUnit) => number == 2,
+            _ => true,
+        }
+    }
+
+    /// Whether it takes a number of a key.
+    pub(crate) fn takes(self, key: Key, number: u32) -> bool
+        ensures { result ≡ takes self key number }
+    {
+        match key {
+            Key::ControllerBase => u64::from(number) + u64::from(self.block()) <= ADDRESSES,
+            _ => self.takes_of_region(key, number),
+        }
     }
 }

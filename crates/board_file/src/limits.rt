@@ -10,7 +10,7 @@ ghost use Rattle.board_file.specs.Small.{small, small_region, small_regions, unl
 ghost use Rattle.board_file.specs.Text.{limited};
 
 use crate::fault::BoardFault;
-use crate::key::{Key, Part};
+use crate::key::{ADDRESSES, Key, Part};
 use crate::kind::ControllerKind;
 use crate::place::{Placed, overlap};
 use crate::quiet::{QuietRange, QuietRanges};
@@ -25,9 +25,6 @@ const MOST_RAM: u64 = 1_048_576;
 
 /// The most regions.
 const MOST_REGIONS: usize = 2;
-
-/// How many addresses there are.
-const ADDRESSES: u64 = 0x1_0000_0000;
 
 /// The most quiet ranges.
 const MOST_QUIET: usize = 16;
