@@ -1,6 +1,7 @@
 //! The laws on calls and resets.
 ghost use Rattle.std.specs.Prelude.{◌≡◌, ◌≤◌, ◌+◌, ◌-◌, ◌*◌, ℕ, false, length, List, Option, Some, None};
-ghost use Rattle.bench_model.specs.Calls.{SameOutside, written};
+ghost use Rattle.bench_model.specs.Calls.{written};
+ghost use Rattle.bench_model.specs.Outside.{SameOutside};
 ghost use Rattle.bench_model.specs.History.{Leaves};
 ghost use Rattle.bench_model.specs.State.{cells_half};
 ghost use Rattle.page_geometry.specs.Geometry.{IsGeometry};

@@ -34,12 +34,6 @@ abbrev pub IsOpen : ℕ → Option (ℕ × ℕ) → Type 0
 IsOpen n None = ⊥
 IsOpen n (Some range) = range.1 ≡ n
 
--- the same list outside the range of an operation, where any bytes may stand
-abbrev pub SameOutside : Option (ℕ × ℕ) → List ℕ → List ℕ → Type 0
-SameOutside None old new = new ≡ old
-SameOutside (Some range) old new = (length new ≡ length old)
-    × (take range.0 new ≡ take range.0 old) × (drop (range.0 + range.1) new ≡ drop (range.0 + range.1) old)
-
 -- the file's half is as it was, at each moment
 pub record FileStays (old new : BenchState) : Type 0 where
   pub file : new.file ≡ old.file

@@ -1,5 +1,6 @@
 pub mod History
 pub mod State
+pub mod Outside
 pub mod Calls
 pub mod Device
 pub mod Does

@@ -1,10 +1,11 @@
 //! The bench as the crates above see it.
-ghost use Rattle.std.specs.Prelude.{◌≡◌, ◌≤◌, ◌+◌, ◌<◌, ◌^◌, ◌↔◌, List, ℕ, Bool, length, replicate, IsTrue, IsSome, None};
+ghost use Rattle.std.specs.Prelude.{◌≡◌, ◌≤◌, ◌+◌, ◌<◌, ◌^◌, ◌↔◌, List, ℕ, Bool, All, length, replicate, IsTrue, IsSome, None};
 ghost use Rattle.std.specs.Option.{ForSome};
 ghost use Rattle.bench_model.specs.Act.{Act, FileLen, FileRead, FileWrite, FileCut, FileSync, CellsRead, CellsOpen, CellsSettle, CellsSettleFill, CellsDrop};
 ghost use Rattle.bench_model.specs.History.{left};
 ghost use Rattle.bench_model.specs.State.{BenchState, file_half, cells_half};
-ghost use Rattle.bench_model.specs.Calls.{SameOutside, IsOpen};
+ghost use Rattle.bench_model.specs.Calls.{IsOpen};
+ghost use Rattle.bench_model.specs.Outside.{SameOutside};
 ghost use Rattle.bench_model.specs.Does.{MeasuresFile, ReadsFile, WritesFile, CutsFile, SyncsFile, ReadsCells, OpensCells, SettlesCells, DropsCells};
 
 use crate::{DeviceFault, StoreFault};
@@ -101,6 +102,9 @@ pub trait Bench {
 
     /// There are as many cells as it says.
     ghost all_told: { (bench : Self) → IsTrue tells → length (state bench).cells ≡ (state bench).cell_count };
+
+    /// The file is a list of bytes, and so are the cells.
+    ghost bytes: { (bench : Self) → IsTrue tells → All (λ byte. byte < 256) (state bench).file × All (λ byte. byte < 256) (state bench).cells };
 
     /// There are fewer cells than 2^32, also where they aren't told.
     ghost few: { (bench : Self) → (state bench).cell_count < 2 ^ 32 };

@@ -1,5 +1,5 @@
 //! Bytes laid over others.
-ghost use Rattle.std.specs.Prelude.{◌≡◌, ◌≤◌, ◌+◌, length, replicate, vec_len, vec_capacity};
+ghost use Rattle.std.specs.Prelude.{◌≡◌, ◌≤◌, ◌<◌, ◌+◌, length, replicate, vec_len, vec_capacity, All};
 ghost use Rattle.bench_model.specs.Calls.{written};
 ghost use Rattle.bench_model.specs.Record.{marked};
 
@@ -24,6 +24,7 @@ pub(crate) fn overwrite(file: &mut Vec<u8>, at: usize, bytes: &[u8])
     requires inside { at ≤ vec_len file.old }
     requires room { at + length bytes.now ≤ vec_capacity file.old }
     ensures items { file.new.items ≡ written at bytes.now file.old.items }
+    ensures bytes { All (λ byte. byte < 256) file.new.items }
     ensures capacity { vec_capacity file.old ≤ vec_capacity file.new }
 {
     if bytes.len() <= file.len() - at {
@@ -38,6 +39,7 @@ pub(crate) fn overwrite(file: &mut Vec<u8>, at: usize, bytes: &[u8])
 pub(crate) fn settle(cells: &mut Vec<u8>, at: usize, bytes: &[u8])
     requires { at + length bytes.now ≤ vec_len cells.old }
     ensures items { cells.new.items ≡ written at bytes.now cells.old.items }
+    ensures bytes { All (λ byte. byte < 256) cells.new.items }
 {
     overlay(cells, at, bytes);
 }
@@ -46,6 +48,7 @@ pub(crate) fn settle(cells: &mut Vec<u8>, at: usize, bytes: &[u8])
 pub(crate) fn settle_fill(cells: &mut Vec<u8>, at: usize, len: usize, value: u8)
     requires { at + len ≤ vec_len cells.old }
     ensures items { cells.new.items ≡ written at (replicate len value) cells.old.items }
+    ensures bytes { All (λ byte. byte < 256) cells.new.items }
 {
     overfill(cells, at, len, value);
 }
@@ -54,6 +57,7 @@ pub(crate) fn settle_fill(cells: &mut Vec<u8>, at: usize, len: usize, value: u8)
 pub(crate) fn replace(old: &mut Vec<u8>, bytes: &[u8])
     requires { length bytes.now ≤ vec_capacity old.old }
     ensures items { old.new.items ≡ bytes.now }
+    ensures bytes { All (λ byte. byte < 256) old.new.items }
     ensures capacity { vec_capacity old.old ≤ vec_capacity old.new }
 {
     old.clear();

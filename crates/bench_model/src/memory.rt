@@ -1,5 +1,5 @@
 //! A bench in memory. It keeps each call that changed something, and so answers for every moment.
-ghost use Rattle.std.specs.Prelude.{◌≡◌, ◌≤◌, ◌<◌, ◌+◌, ◌^◌, ◌↔◌, length, slice_get, Some, IsTrue, IfOk, vec_len, vec_capacity};
+ghost use Rattle.std.specs.Prelude.{◌≡◌, ◌≤◌, ◌<◌, ◌+◌, ◌^◌, ◌↔◌, length, slice_get, Some, IsTrue, IfOk, All, vec_len, vec_capacity};
 ghost use Rattle.std.specs.Option.{ForSome};
 ghost use Rattle.bench_model.specs.Memory.{InStep};
 ghost use Rattle.bench_model.specs.Picked.{IsPickedFile, picked_cells};
@@ -31,6 +31,8 @@ pub struct MemoryBench {
 
     ghost in_step: { InStep (held_now history) file.items cells.items operation },
     ghost fits: { length cells.items < 2 ^ 32 },
+    ghost file_bytes: { All (λ byte. byte < 256) file.items },
+    ghost cells_bytes: { All (λ byte. byte < 256) cells.items },
     ghost counted: { length history.made.cells ≡ length cells.items },
     ghost within: { (held_now history).kept.greatest ≤ history.longest },
     ghost file_fits: { history.longest ≤ vec_capacity file },
@@ -65,9 +67,11 @@ impl MemoryBench {
         let longest = file.len().max(file_room as usize);
         let mut own_file = Vec::with_capacity(alloc, longest)?;
         replace(&mut own_file, file);
+        let mut own_cells = Vec::with_capacity(alloc, cells.len())?;
+        replace(&mut own_cells, cells);
         Ok(MemoryBench {
             file: own_file,
-            cells: cells.to_vec(alloc)?,
+            cells: own_cells,
             operation: None,
             history: Record::new(alloc, file, cells, call_room, longest)?,
             file_room,
@@ -113,6 +117,7 @@ fn pick_file(history: &Record, file: &mut Vec<u8>, pick: Pick)
     requires longest { (held_now history.now).kept.greatest ≤ vec_capacity file.old }
     requires older { length (held_now history.now).kept.synced ≤ vec_capacity file.old }
     ensures items { IsPickedFile pick (held_now history.now).kept file.old.items file.new.items }
+    ensures bytes { All (λ byte. byte < 256) file.new.items }
     ensures capacity { vec_capacity file.old ≤ vec_capacity file.new }
 {
     match pick {
@@ -126,6 +131,7 @@ fn pick_file(history: &Record, file: &mut Vec<u8>, pick: Pick)
 fn pick_cells(cells: &mut Vec<u8>, operation: Option<(u32, u32)>, pick: Pick)
     requires { ForSome operation (λ range. range.0 + range.1 ≤ vec_len cells.old) }
     ensures items { cells.new.items ≡ picked_cells pick operation cells.old.items }
+    ensures bytes { All (λ byte. byte < 256) cells.new.items }
 {
     if let (Pick::Filled { value }, Some((at, len))) = (pick, operation) {
         settle_fill(cells, at as usize, len as usize, value);
@@ -142,7 +148,8 @@ fn can_write(history: &Record, file_room: u64, at: u64, len: usize) -> bool
 /// Leaves a byte in a range of cells, or the old bytes where there is none.
 fn leave(cells: &mut Vec<u8>, at: usize, len: usize, byte: Option<u8>)
     requires { at + len ≤ vec_len cells.old }
-    ensures { cells.new.items ≡ broken byte (Some (at, len)) cells.old.items }
+    ensures items { cells.new.items ≡ broken byte (Some (at, len)) cells.old.items }
+    ensures bytes { All (λ byte. byte < 256) cells.new.items }
 {
     if let Some(value) = byte {
         settle_fill(cells, at, len, value);
@@ -175,6 +182,8 @@ impl Bench for MemoryBench {
     ghost as_told = { λ m x told. left_as_told m.history m.file.items m.cells.items m.operation m.in_step x };
 
     ghost all_told = { λ m told. refl };
+
+    ghost bytes = { λ m told. (m.file_bytes, m.cells_bytes) };
 
     ghost few = { λ m. m.fits };
 

@@ -60,6 +60,8 @@ impl<B: Bench> Bench for StopBench<B> {
 
     ghost all_told = { λ s told. B.all_told s.inner told };
 
+    ghost bytes = { λ s told. B.bytes s.inner told };
+
     ghost few = { λ s. B.few s.inner };
 
     ghost inside = { λ s told. B.inside s.inner told };

@@ -85,6 +85,8 @@ impl<B: Bench> Bench for Watch<B> {
 
     ghost all_told = { λ w told. B.all_told w.inner told };
 
+    ghost bytes = { λ w told. B.bytes w.inner told };
+
     ghost few = { λ w. B.few w.inner };
 
     ghost inside = { λ w told. B.inside w.inner told };

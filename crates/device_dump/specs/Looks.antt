@@ -3,7 +3,8 @@ use Rattle.std.specs.Prelude.{◌≡◌, ◌⊎◌, ℕ, IsTrue, List, None, Res
 use Rattle.faults.specs.Counts.{HasCause}
 use Rattle.bench_model.specs.State.{cells_half}
 use Rattle.bench_model.specs.History.{AddsNothing}
-use Rattle.bench_model.specs.Calls.{SameOutside, FileStays}
+use Rattle.bench_model.specs.Calls.{FileStays}
+use Rattle.bench_model.specs.Outside.{SameOutside}
 use Rattle.bench_model.specs.declared.bench_fault.DeviceFault.{DeviceFault}
 use Rattle.report_text.specs.Refusal.{output_fault}
 use Rattle.command_answers.specs.Call.{BenchCall, SinkCall, Answer, done, refused, TookNothing}

@@ -1,8 +1,8 @@
 //! What the files of a host can do.
-ghost use Rattle.std.specs.Prelude.{◌≡◌, ◌≤◌, ◌+◌, ◌<◌, ◌^◌, ◌↔◌, List, ℕ, Bool, true, false, length, IsTrue, IfOk, None, Option};
+ghost use Rattle.std.specs.Prelude.{◌≡◌, ◌≤◌, ◌+◌, ◌<◌, ◌^◌, ◌↔◌, List, ℕ, Bool, true, false, All, length, IsTrue, IfOk, None, Option};
 ghost use Rattle.std.specs.Option.{ForSome};
 ghost use Rattle.bench_model.specs.History.{left};
-ghost use Rattle.bench_model.specs.Calls.{SameOutside};
+ghost use Rattle.bench_model.specs.Outside.{SameOutside};
 ghost use Rattle.disk_files.specs.DiskState.{DiskState, job_half, range_half};
 ghost use Rattle.disk_files.specs.Fails.{CallEnds, CallMayStop, FileSyncEnds, CellsSyncEnds};
 ghost use Rattle.disk_files.specs.DiskDoes.{OnlyReadsJob, ReadsSome, WritesSome, WritesJob, SetsJobLength, SyncsJob, SyncsFolder, SyncsBytes, WritesBytes};
@@ -116,6 +116,9 @@ pub trait Disk {
     /// A stop leaves the cells with any bytes in the open range, and any such cells.
     ghost as_told: { (disk : Self) (cells : List ℕ) → IsTrue tells
         → left (range_half (state disk)) cells ↔ SameOutside (state disk).operation (state disk).cells cells };
+
+    /// The job file is a list of bytes, and so are the cells.
+    ghost bytes: { (disk : Self) → IsTrue tells → All (λ byte. byte < 256) (state disk).file × All (λ byte. byte < 256) (state disk).cells };
 
     /// What stands there differs from the cells in the open range alone.
     ghost outside: { (disk : Self) → IsTrue tells → SameOutside (state disk).operation (state disk).cells (state disk).bytes };

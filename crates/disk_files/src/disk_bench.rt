@@ -102,6 +102,8 @@ impl<F: Disk + Drop> Bench for DiskBench<F> {
 
     ghost all_told = { λ b told. b.many told };
 
+    ghost bytes = { λ b told. F.bytes b.disk told };
+
     ghost few = { λ b. b.few };
 
     ghost inside = { λ b told. bench_inside (F.state b.disk).cells (F.inside b.disk told) (b.many told) };

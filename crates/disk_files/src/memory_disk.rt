@@ -113,6 +113,8 @@ impl<B: Bench + Drop> Disk for MemoryDisk<B> {
 
     ghost as_told = { λ d cells told. B.as_told d.bench cells told };
 
+    ghost bytes = { λ d told. B.bytes d.bench told };
+
     ghost outside = { λ d told. same_outside (d.same told) (d.apart told) };
 
     ghost few_signals = { λ d told. no_signals };

@@ -66,6 +66,8 @@ impl<F: Disk + Drop> Disk for WindowedDisk<F> {
 
     ghost as_told = { λ d cells told. F.as_told d.disk cells told };
 
+    ghost bytes = { λ d told. F.bytes d.disk told };
+
     ghost outside = { λ d told. F.outside d.disk told };
 
     ghost inside = { λ d told. F.inside d.disk told };

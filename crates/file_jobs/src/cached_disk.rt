@@ -114,6 +114,8 @@ impl Disk for CachedDisk {
 
     ghost as_told = { λ disk cells told. untold_law told };
 
+    ghost bytes = { λ disk told. untold_law told };
+
     ghost outside = { λ disk told. untold_law told };
 
     ghost inside = { λ disk told. untold_law told };

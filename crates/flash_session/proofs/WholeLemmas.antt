@@ -3,7 +3,8 @@ use Rattle.std.proofs.Common.{◌≡◌, ◌<◌, ◌+◌, ◌∙◌, ◌↔◌,
 use Rattle.std.proofs.lemmas.Bool.{false≢true}
 use Rattle.std.proofs.lemmas.List.{append-nil}
 use Rattle.bench_model.specs.History.{left, Leaves}
-use Rattle.bench_model.specs.Calls.{SameOutside, FileIsRead}
+use Rattle.bench_model.specs.Calls.{FileIsRead}
+use Rattle.bench_model.specs.Outside.{SameOutside}
 use Rattle.bench_model.specs.Device.{HasDeviceCause}
 use Rattle.bench_model.specs.State.{BenchState, file_half, cells_half}
 use Rattle.bench_model.proofs.Moments.{leaves_as, leaves_then, adds_nothing_here}

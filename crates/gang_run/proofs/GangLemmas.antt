@@ -6,7 +6,8 @@ use Rattle.std.proofs.lemmas.List.{get_or-set_other, get_or-set_same, length-set
 use Rattle.std.proofs.lemmas.List.Sums.{sum_by-set}
 use Rattle.std.proofs.lemmas.Bool.{cases_lt, cases_eq}
 use Rattle.bench_model.specs.declared.bench.Bench.{Ghosts}
-use Rattle.bench_model.specs.Calls.{SameOutside, FileIsRead}
+use Rattle.bench_model.specs.Calls.{FileIsRead}
+use Rattle.bench_model.specs.Outside.{SameOutside}
 use Rattle.bench_model.specs.Device.{HasDeviceCause}
 use Rattle.bench_model.specs.History as history
 use Rattle.bench_model.specs.History.{left, Leaves, LeftOnly}

@@ -2,7 +2,8 @@
 use Rattle.std.proofs.Common.{◌≡◌, ◌<◌, ◌≤◌, ◌+◌, ◌^◌, ◌∙◌, ℕ, Bool, true, false, IsTrue, is_some, All, List, [], ◌∷◌, length, replicate, option_to_list, Option, Some, None, IsSomeAnd, IfSome, Result, Ok, Err, IfOk, refl, sym, ap, subst, arith}
 use Rattle.std.proofs.lemmas.Bool.{false≢true}
 use Rattle.std.proofs.lemmas.List.{length-replicate}
-use Rattle.bench_model.specs.Calls.{SameOutside, IsRead}
+use Rattle.bench_model.specs.Calls.{IsRead}
+use Rattle.bench_model.specs.Outside.{SameOutside}
 use Rattle.bench_model.specs.Device.{HasDeviceCause}
 use Rattle.bench_model.specs.History.{LeftOnly}
 use Rattle.bench_model.specs.Pairs.{PairsLeave}

@@ -1,7 +1,7 @@
 -- What the opening of a gang leaves.
 use Rattle.std.specs.Prelude.{◌≡◌, ◌≤◌, ◌<◌, ℕ, Bool, true, false, IsTrue, List, length, get_or, Result, Err, None}
 use Rattle.bench_model.specs.declared.bench.Bench.{Ghosts}
-use Rattle.bench_model.specs.Calls.{SameOutside}
+use Rattle.bench_model.specs.Outside.{SameOutside}
 use Rattle.bench_model.specs.Device.{HasDeviceCause}
 use Rattle.bench_model.specs.History.{LeftOnly}
 use Rattle.bench_model.specs.Pairs.{PairsLeave}

@@ -42,6 +42,8 @@ impl<'a, B: Bench> Bench for Noting<'a, B> {
 
     ghost all_told = { λ w told. B.all_told w.inner told };
 
+    ghost bytes = { λ w told. B.bytes w.inner told };
+
     ghost few = { λ w. B.few w.inner };
 
     ghost inside = { λ w told. B.inside w.inner told };

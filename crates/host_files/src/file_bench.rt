@@ -114,6 +114,8 @@ impl Bench for FileBench {
 
     ghost all_told = { λ b told. untold_law told };
 
+    ghost bytes = { λ b told. untold_law told };
+
     ghost few = { λ b. b.bench.few };
 
     ghost inside = { λ b told. untold_law told };

@@ -39,6 +39,8 @@ impl Disk for HostDisk {
 
     ghost inside = { λ disk told. untold_law told };
 
+    ghost bytes = { λ disk told. untold_law told };
+
     ghost few_signals = { λ disk told. untold_law told };
 
     fn job_open(&mut self) -> io::Result<()> {

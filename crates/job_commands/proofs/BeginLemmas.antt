@@ -3,7 +3,7 @@ use Rattle.std.proofs.Common.{arith, ◌≡◌, ◌⊎◌, ⊎_elim, inl, inr, r
 use Rattle.outside_io.specs.State.{SinkState}
 use Rattle.bench_model.specs.History.{GoesOn, Leaves, LeftOnly}
 use Rattle.bench_model.specs.State.{BenchState, file_half, cells_half, Left}
-use Rattle.bench_model.specs.Calls.{SameOutside}
+use Rattle.bench_model.specs.Outside.{SameOutside}
 use Rattle.bench_model.specs.Pairs.{PairsLeave}
 use Rattle.job_text.specs.Files.{IsFree, IsWhole}
 use Rattle.job_text.specs.Body.{body_of, IsJob}

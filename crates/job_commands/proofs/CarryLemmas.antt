@@ -5,7 +5,7 @@ use Rattle.outside_io.specs.State.{SinkState}
 use Rattle.outside_io.specs.Appends.{AppendsPart}
 use Rattle.bench_model.specs.History.{left, Leaves, AddsNothing, LeftOnly}
 use Rattle.bench_model.specs.State.{BenchState, file_half, cells_half, Left}
-use Rattle.bench_model.specs.Calls.{SameOutside}
+use Rattle.bench_model.specs.Outside.{SameOutside}
 use Rattle.bench_model.specs.Pairs.{PairsLeave}
 use Rattle.bench_model.proofs.Moments.{leaves_as, pairs_as, pairs_then, never}
 use Rattle.job_text.specs.Files.{IsWhole, IsFree}

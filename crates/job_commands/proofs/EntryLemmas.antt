@@ -2,7 +2,7 @@
 use Rattle.std.proofs.Common.{◌≡◌, ◌⊎◌, inl, inr, refl, ◌∙◌, sym, ℕ, Bool, true, List, length, Option}
 use Rattle.bench_model.specs.History.{left}
 use Rattle.bench_model.specs.State.{BenchState, file_half, cells_half, Left}
-use Rattle.bench_model.specs.Calls.{SameOutside}
+use Rattle.bench_model.specs.Outside.{SameOutside}
 use Rattle.bench_model.specs.Pairs.{PairsLeave}
 use Rattle.bench_model.proofs.Moments.{adds_nothing_here, pairs_of}
 use Rattle.outside_io.specs.State.{SinkState}

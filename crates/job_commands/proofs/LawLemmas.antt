@@ -4,7 +4,8 @@ use Rattle.std.proofs.lemmas.Bool.{cases_eq}
 use Rattle.std.proofs.lemmas.List.{length-replicate}
 use Rattle.bench_model.specs.History.{left}
 use Rattle.bench_model.specs.State.{BenchState, cells_half, Left}
-use Rattle.bench_model.specs.Calls.{SameOutside, OnlyReads}
+use Rattle.bench_model.specs.Calls.{OnlyReads}
+use Rattle.bench_model.specs.Outside.{SameOutside}
 use Rattle.bench_model.proofs.Moments.{never}
 use Rattle.board_file.specs.Limits.{size_of}
 use Rattle.board_file.specs.Shown as board

@@ -3,7 +3,8 @@ use Rattle.std.proofs.Common.{◌≡◌, ◌⊎◌, ⊎_elim, inl, inr, refl, �
 use Rattle.outside_io.specs.State.{SinkState}
 use Rattle.bench_model.specs.History.{left, Leaves, LeftOnly}
 use Rattle.bench_model.specs.State.{BenchState, file_half}
-use Rattle.bench_model.specs.Calls.{SameOutside, OnlyReads}
+use Rattle.bench_model.specs.Calls.{OnlyReads}
+use Rattle.bench_model.specs.Outside.{SameOutside}
 use Rattle.bench_model.specs.Pairs.{PairsLeave}
 use Rattle.bench_model.proofs.Moments.{pairs_of}
 use Rattle.job_text.specs.Files.{IsFree, IsWhole}

@@ -3,7 +3,8 @@ use Rattle.std.proofs.Common.{◌≡◌, ◌⊎◌, ◌∙◌, refl, sym, ap, su
 use Rattle.outside_io.specs.State.{SinkState}
 use Rattle.bench_model.specs.History.{left, AddsNothing, LeftOnly}
 use Rattle.bench_model.specs.State.{BenchState, file_half, cells_half, Left}
-use Rattle.bench_model.specs.Calls.{SameOutside, IsRead}
+use Rattle.bench_model.specs.Calls.{IsRead}
+use Rattle.bench_model.specs.Outside.{SameOutside}
 use Rattle.bench_model.specs.Pairs.{PairsLeave}
 use Rattle.bench_model.proofs.Moments.{adds_nothing_then, leaves_as, still_only}
 use Rattle.outside_io.specs.declared.sink.OutputFault.{OutputFault}

@@ -2,7 +2,7 @@
 use Rattle.std.specs.Prelude.{◌≡◌, ◌⊎◌, ◌≤◌, ◌<◌, ◌++◌, ℕ, List, ◌∷◌, None}
 use Rattle.bench_model.specs.History.{GoesOn, Leaves}
 use Rattle.bench_model.specs.State.{BenchState, file_half, cells_half}
-use Rattle.bench_model.specs.Calls.{SameOutside}
+use Rattle.bench_model.specs.Outside.{SameOutside}
 use Rattle.bench_model.specs.Pairs.{PairsInTurn}
 use Rattle.job_text.specs.Files.{IsFree, IsWhole}
 use Rattle.job_file.specs.Stops.{IsUnopened}

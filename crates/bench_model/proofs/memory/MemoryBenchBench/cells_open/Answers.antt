@@ -12,6 +12,8 @@ invariant_of-self-2 c =
     record {
       in_step = in_step_after m.history r' e is _ _ _ (step_opened (held_now m.history) m.file.items m.cells.items m.operation m.in_step c.args.at c.args.len c.requires.some c.requires.range);
       fits = m.fits;
+      file_bytes = m.file_bytes;
+      cells_bytes = m.cells_bytes;
       counted = made-after m.history r' e is ∙ m.counted;
       within = omega (arith, m.within, greatest-after m.history r' e is, longest-after m.history r' e is);
       file_fits = omega (arith, m.file_fits, longest-after m.history r' e is);

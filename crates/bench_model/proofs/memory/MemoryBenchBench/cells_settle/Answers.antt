@@ -1,5 +1,6 @@
 use Rattle.std.proofs.Common.{arith, refl, ap, sym, subst, ◌∙◌, ◌≡◌, ℕ, List, length, Option, Some, None}
-use Rattle.bench_model.specs.Calls.{written, SameOutside}
+use Rattle.bench_model.specs.Calls.{written}
+use Rattle.bench_model.specs.Outside.{SameOutside}
 use Rattle.bench_model.specs.Memory.{InStep}
 use Rattle.bench_model.specs.Record.{held_now, settled}
 use Rattle.bench_model.proofs.MemoryLemmas.{went_cause, in_open, step_settled, within, length-in_range, only_in_range, length-open, in_step_after, longest-after, made-after, greatest-after, ended_adds_nothing, file_stays_after}
@@ -20,6 +21,8 @@ invariant_of-self-2 c =
     record {
       in_step = subst (λ (l : List ℕ). InStep (held_now r') m.file.items l None) (sym c.settle.ensures.items) (in_step_after m.history r' e is _ _ _ step);
       fits = omega (arith, m.fits, ap length c.settle.ensures.items, long);
+      file_bytes = m.file_bytes;
+      cells_bytes = c.settle.ensures.bytes;
       counted = made-after m.history r' e is ∙ m.counted ∙ sym long ∙ sym (ap length c.settle.ensures.items);
       within = omega (arith, m.within, greatest-after m.history r' e is, longest-after m.history r' e is);
       file_fits = omega (arith, m.file_fits, longest-after m.history r' e is);

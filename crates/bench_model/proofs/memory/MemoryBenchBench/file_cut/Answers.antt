@@ -1,4 +1,5 @@
-use Rattle.std.proofs.Common.{arith, refl, sym, subst, ◌∙◌, ℕ, List}
+use Rattle.std.proofs.Common.{arith, refl, sym, subst, ◌∙◌, ◌<◌, ℕ, List, All}
+use Rattle.std.proofs.lemmas.List.Elements.{All-take}
 use Rattle.bench_model.specs.Memory.{InStep}
 use Rattle.bench_model.specs.Record.{held_now, cut}
 use Rattle.bench_model.proofs.MemoryLemmas.{went_cause, step_cut, in_step_after, longest-after, made-after, greatest-after, cut_leaves, cells_stay_after}
@@ -14,6 +15,8 @@ invariant_of-self-2 c =
       in_step = subst (λ (f : List ℕ). InStep (held_now r') f m.cells.items m.operation) (sym c.truncate.ensures.items)
           (in_step_after m.history r' e is _ _ _ (step_cut (held_now m.history) m.file.items m.cells.items m.operation m.in_step c.args.len (c.requires refl)));
       fits = m.fits;
+      file_bytes = subst (All (λ (byte : ℕ). byte < 256)) (sym c.truncate.ensures.items) (All-take (λ (byte : ℕ). byte < 256) c.args.len m.file.items m.file_bytes);
+      cells_bytes = m.cells_bytes;
       counted = made-after m.history r' e is ∙ m.counted;
       within = omega (arith, m.within, greatest-after m.history r' e is, longest-after m.history r' e is);
       file_fits = omega (arith, m.file_fits, longest-after m.history r' e is, c.truncate.ensures.capacity);

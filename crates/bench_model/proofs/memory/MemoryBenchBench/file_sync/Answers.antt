@@ -12,6 +12,8 @@ invariant_of-self-2 c =
     record {
       in_step = in_step_after m.history r' e is _ _ _ (step_synced (held_now m.history) m.file.items m.cells.items m.operation m.in_step);
       fits = m.fits;
+      file_bytes = m.file_bytes;
+      cells_bytes = m.cells_bytes;
       counted = made-after m.history r' e is ∙ m.counted;
       within = omega (arith, m.within, greatest-after m.history r' e is, longest-after m.history r' e is, ap length m.in_step.same_file, m.in_step.left.no_longer);
       file_fits = omega (arith, m.file_fits, longest-after m.history r' e is);

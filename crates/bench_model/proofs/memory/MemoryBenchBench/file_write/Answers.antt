@@ -15,6 +15,8 @@ invariant_of-self-2 c =
       in_step = subst (λ (f : List ℕ). InStep (held_now r') f m.cells.items m.operation) (sym c.overwrite.ensures.items)
           (in_step_after m.history r' e is _ _ _ (step_wrote (held_now m.history) m.file.items m.cells.items m.operation m.in_step c.args.at c.args.bytes.now (c.requires refl)));
       fits = m.fits;
+      file_bytes = c.overwrite.ensures.bytes;
+      cells_bytes = m.cells_bytes;
       counted = made-after m.history r' e is ∙ m.counted;
       within = omega (arith, m.within, greatest-after m.history r' e is, longest-after m.history r' e is, m.room_fits, room);
       file_fits = omega (arith, m.file_fits, longest-after m.history r' e is, c.overwrite.ensures.capacity);
