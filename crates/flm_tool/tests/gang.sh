@@ -336,14 +336,11 @@ for _ in 1 2 3; do
 done
 echo "a gang of sixteen takes up to $span microseconds"
 
-# Runs the gang, and kills it at a random moment. The status is 137 where it was killed.
+# Runs the gang, and kills it at a random moment. The status is 137 where it was killed; by then it has ended, and its locks with it, which
+# `timeout` waits for in the foreground alone.
 run_and_kill() {
     local after=$(((RANDOM * 32768 + RANDOM) % (span + span / 10) + 1))
-    # the shell that tells of the kill is one of its own
-    (
-        timeout -s KILL "$((after / 1000000)).$(printf '%06d' $((after % 1000000)))" "$program" --gang "${words[@]}" > out 2> err
-        exit $?
-    ) 2> /dev/null
+    timeout --foreground --preserve-status -s KILL "$((after / 1000000)).$(printf '%06d' $((after % 1000000)))" "$program" --gang "${words[@]}" > out 2> err
 }
 
 killed=0

@@ -8,14 +8,11 @@ untouched=0
 whole=0
 finished=0
 
-# Runs the words, and kills them at a random moment. The status is 137 where they were killed.
+# Runs the words, and kills them at a random moment. The status is 137 where they were killed; by then the program has ended, and its locks with it,
+# which `timeout` waits for in the foreground alone.
 run_and_kill() {
     local after=$(((RANDOM * 32768 + RANDOM) % (span + span / 10) + 1))
-    # the shell that tells of the kill is one of its own
-    (
-        timeout -s KILL "$((after / 1000000)).$(printf '%06d' $((after % 1000000)))" "$program" job cells "$@" > out 2> err
-        exit $?
-    ) 2> /dev/null
+    timeout --foreground --preserve-status -s KILL "$((after / 1000000)).$(printf '%06d' $((after % 1000000)))" "$program" job cells "$@" > out 2> err
 }
 
 # What each command leaves in the cells when it is done.
@@ -40,7 +37,7 @@ look() {
 
 # A command that wasn't killed is done: COMMAND STATUS.
 ended() {
-    row "$1: the status" "$2"
+    row "$1: the status $2" "$2"
     row "$1: done is the last line" "$([ "$(tail -n 1 out)" = "done" ]; echo $?)"
     row "$1: the cells" "$(same cells "$(goal_of "$1")")"
     row "$1: the job is closed" "$(free)"

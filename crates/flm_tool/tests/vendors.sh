@@ -14,6 +14,7 @@ cd "$folder" || exit 1
 . "$tests/rows.sh"
 . "$tests/bytes.sh"
 . "$tests/kills.sh"
+base=0x08000000
 size=65536
 sector=1024
 page=1024
@@ -22,7 +23,7 @@ loaders=/usr/share/doc/openocd/loaders/flash/stm32
 archive=/usr/lib/x86_64-linux-gnu/libstlink.a
 
 vendors() { python3 -B "$tests/vendors.py" "$@"; }
-hexadecimal() { printf '0x%08X' $((0x08000000 + $1)); }
+hexadecimal() { printf '0x%08X' $((base + $1)); }
 
 # A board with FPEC and quiet registers of the watchdog: NAME SECTORS SIZE.
 fpec_board() {
@@ -49,7 +50,7 @@ take_loader() {
 take_compiled() {
     local name=$1
     shift
-    arm-none-eabi-gcc -mcpu=cortex-m0 -mthumb -Os -ffreestanding -DBASE=0x08000000 -DSIZE=$size -DPAGE=$page -DSECTOR=$sector "$@" -c -o "$name.o" \
+    arm-none-eabi-gcc -mcpu=cortex-m0 -mthumb -Os -ffreestanding -DBASE=$base -DSIZE=$size -DPAGE=$page -DSECTOR=$sector "$@" -c -o "$name.o" \
         "$tests/data/vendor.c" && take_linked "$name" "$name.o"
 }
 
@@ -246,8 +247,8 @@ board() {
 # KIND BOARD FLM STATUS PATTERN.
 shows() {
     local name="$3 on $2, $1 cells: $5" status
-    made "$1" 0 3000
-    "$program" job cells program --raw-at 0x08000000 "$2" "$3" image > out 2> err
+    made "$1" 0 $((size < 3000 ? size : 3000))
+    "$program" job cells program --raw-at "$(hexadecimal 0)" "$2" "$3" image > out 2> err
     status=$?
     row "$name: the status $status" "$([ $status = "$4" ]; echo $?)"
     row "$name: the line" "$(grep -q -x -e "flmprog: $5" err; echo $?)"
@@ -262,7 +263,7 @@ shows() {
 cured() {
     local name="$3 on $2, $1 cells"
     made "$1" 0 3000
-    "$program" job cells program --raw-at 0x08000000 "$2" "$3" image > out 2> err
+    "$program" job cells program --raw-at "$(hexadecimal 0)" "$2" "$3" image > out 2> err
     row "$name: the cure" $?
     is_done "$name: the cure" new
 }
@@ -334,7 +335,7 @@ what_isnt_there() {
         place_shows wide.flm '[.]w'
         shows used fpec.toml wide.flm 11 'call 2 EraseSector: undefined at [0-9A-F]*'
     fi
-    for name in CLOCK PREFETCH STALLS KEYS OPTIONS BANKS; do
+    for name in CLOCK PREFETCH STALLS KEYS BANKS; do
         variant $name -D$name
     done
     shows blank fpec.toml CLOCK.flm 11 'call 1 Init: bus fault at [0-9A-F]* address 40021000'
@@ -349,8 +350,6 @@ what_isnt_there() {
     place_shows STALLS.linked strh
     cured used quick.toml STALLS.flm
     shows blank fpec.toml KEYS.flm 12 'mismatch at 08000000 wanted [0-9A-F]* found FF'
-    shows blank fpec.toml OPTIONS.flm 12 'mismatch at 08000000 wanted [0-9A-F]* found FF'
-    shows used fpec.toml OPTIONS.flm 12 'mismatch at 08000000 wanted [0-9A-F]* found [0-9A-F]*'
     shows blank fpec.toml BANKS.flm 11 'call 1 Init: bus fault at [0-9A-F]* address 40022044'
     cured used banks.toml BANKS.flm
 }
@@ -362,6 +361,17 @@ second_bank() {
     row 'in the second bank: the status' "$([ $? = 12 ]; echo $?)"
     row 'in the second bank: the line' "$(grep -q -x 'flmprog: mismatch at 08009C40 wanted [0-9A-F]* found [0-9A-F]*' err; echo $?)"
     row 'in the second bank: the cells' "$(same cells old)"
+}
+
+# Files for option bytes, one of which reads back what it programmed.
+option_bytes() {
+    local base=0x1FFFF800 size=16 sector=16 page=16
+    take_compiled options -DOPTIONS && take_compiled reading -DOPTIONS -DREADS || exit 1
+    sed "s/0x08000000, sectors = .*/$base, sectors = [[1, 16]] }]/" fpec.toml > options.toml
+    for kind in blank used; do
+        shows $kind options.toml options.linked 12 'mismatch at 1FFFF80[0-9A-F] wanted [0-9A-F]* found [0-9A-F]*'
+        shows $kind options.toml reading.linked 11 'call [25] ProgramPage: answered 00000001'
+    done
 }
 
 # The file of a family on a part with half of its flash, which is programmed as the larger one.
@@ -449,6 +459,7 @@ boards_and_packs
 peripherals_and_kinds
 what_isnt_there
 second_bank
+option_bytes
 smaller_part
 registers
 kept_files

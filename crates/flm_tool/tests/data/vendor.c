@@ -10,7 +10,7 @@
 
    Each of these makes of it one that goes wrong here: -DCLOCK waits for a clock, -DPREFETCH for the prefetch buffer, -DSTALLS goes on while a unit is
    programmed and leaves the waiting to the part, -DKEYS unlocks in each function, -DOPTIONS programs option bytes, and -DBANKS has a second bank in
-   the second half. */
+   the second half. -DREADS reads back what it programmed. */
 
 typedef unsigned int u32;
 typedef unsigned short u16;
@@ -149,6 +149,10 @@ int ProgramPage(u32 address, u32 size, u16 *bytes)
             flash->sr |= SR_PGERR | SR_WRPRTERR;
             return 1;
         }
+#ifdef READS
+        if (*(u16 volatile *)(address + place) != bytes[-1])
+            return 1;
+#endif
     }
     return 0;
 }
