@@ -1,0 +1,195 @@
+#!/usr/bin/env python3
+"""time_gate.py [-o TABLE] -- COMMAND: runs a gate (`rt ci --anew`, say) at the top of the repository and makes a table of what each crate cost.
+
+Every half second it reads the processor time, user and system, of each process below the command, and the most memory that it has taken.
+A process belongs to the crate that its words or its folder name: to its proof (or that of its tests, or its build), to the check as it
+stands that its wrong bodies begin and end with, to a wrong body, or to a run. What a process did since its last reading is lost, a quarter
+second on the average, and very short ones are not seen: the last line says how much that was of the whole. The table goes to the
+file TABLE, or else behind what the command prints. Ends with the command's status.
+"""
+import os
+import re
+import resource
+import subprocess
+import sys
+import threading
+import time
+
+INTERVAL = 0.5
+TICKS = os.sysconf("SC_CLK_TCK")
+RUN = re.compile(r"/rt-run-[^/\0]*/bin/(\w+?)(?:_tests)?(?:\.[\w-]+)?(?:\0|$)")
+NAMED = re.compile(r"\0--crate-name\0(\w+)\0")
+EDIT = re.compile(r"\0--incremental\0\S*/(seed|\d+)\0")
+FOLDER = re.compile(r"/crates/(\w+)$")
+
+
+def read(path):
+    try:
+        with open(path, encoding="utf-8", errors="replace") as file:
+            return file.read()
+    except OSError:
+        return ""
+
+
+def folder_of(pid):
+    try:
+        return os.readlink(f"/proc/{pid}/cwd")
+    except OSError:
+        return ""
+
+
+class Process:
+    """A process below the command: what it has done so far, and for which part of which crate (None until that shows)."""
+
+    def __init__(self, parent):
+        self.parent, self.seconds, self.peak, self.part = parent, 0.0, 0, None
+        self.began = self.ended = time.monotonic()
+
+    def look(self, pid):
+        """Finds out what the process is for; one that its own words don't show is for what its parent is."""
+        words, folder = read(f"/proc/{pid}/cmdline") + "\0", folder_of(pid)
+        run, named, edit = RUN.search(words), NAMED.search(words), EDIT.search(words)
+        if run:
+            self.part = run[1], "run"
+        elif "/rt-edit-" in folder and named:
+            self.part = named[1], "seed" if edit and edit[1] == "seed" else "edit"
+        elif named or FOLDER.search(folder):
+            self.part = named[1] if named else FOLDER.search(folder)[1], "proof"
+        else:
+            self.part = self.parent.part if self.parent else None
+
+
+class Watch(threading.Thread):
+    """Reads the processes below one, until it is told to stop."""
+
+    def __init__(self, top):
+        super().__init__(daemon=True)
+        self.top, self.known, self.stops = top, {}, threading.Event()
+
+    def run(self):
+        while not self.stops.wait(INTERVAL):
+            self.sample()
+
+    def sample(self):
+        stats = {}
+        for pid in filter(str.isdigit, os.listdir("/proc")):
+            fields = read(f"/proc/{pid}/stat").rpartition(")")[2].split()
+            if len(fields) > 19:
+                stats[int(pid)] = fields
+        for pid, fields in stats.items():
+            if self.is_below(pid, stats):
+                self.note(pid, fields, stats)
+
+    def is_below(self, pid, stats):
+        seen = 0
+        while pid in stats and pid != self.top and seen < 100:
+            pid, seen = int(stats[pid][1]), seen + 1
+        return pid == self.top
+
+    def note(self, pid, fields, stats):
+        key, above = (pid, fields[19]), int(fields[1])
+        if key not in self.known:
+            parent = self.known.get((above, stats[above][19])) if above in stats else None
+            self.known[key] = Process(parent)
+        it = self.known[key]
+        it.seconds, it.ended = (int(fields[11]) + int(fields[12])) / TICKS, time.monotonic()
+        peak = re.search(r"VmHWM:\s+(\d+)", read(f"/proc/{pid}/status"))
+        it.peak = max(it.peak, int(peak[1]) * 1024 if peak else 0)
+        # (until it has begun what it is for, its words are those of what starts it)
+        it.look(pid)
+
+
+def lines_of(folder):
+    count = 0
+    for part in ("src", "specs", "proofs"):
+        for at, _, names in os.walk(f"{folder}/{part}"):
+            count += sum(read(f"{at}/{name}").count("\n") for name in names if name.endswith((".rt", ".antt")))
+    return count
+
+
+def edits_of(folder):
+    return sum(name.endswith(".edit") for name in os.listdir(f"{folder}/must-fail")) if os.path.isdir(f"{folder}/must-fail") else 0
+
+
+def libraries_of(root):
+    rows = (line.partition(":") for line in read(f"{root}/crates.txt").splitlines() if ":" in line and not line.startswith("#"))
+    every = {name.strip(): libraries.split() for name, _, libraries in rows}
+    return {name: [it for it in libraries if it in every] for name, libraries in every.items()}
+
+
+class Crate:
+    """What a crate's parts cost in seconds, its largest process in bytes, and when its proof ended."""
+
+    def __init__(self):
+        self.seconds, self.peak, self.proved = dict.fromkeys(("proof", "seed", "edit", "run"), 0.0), 0, 0.0
+
+
+def added_up(known, begun):
+    crates = {}
+    for it in known.values():
+        if it.part:
+            crate = crates.setdefault(it.part[0], Crate())
+            crate.seconds[it.part[1]] += it.seconds
+            crate.peak = max(crate.peak, it.peak)
+            if it.part[1] == "proof":
+                crate.proved = max(crate.proved, it.ended - begun)
+    return crates
+
+
+def chain_of(crates, libraries):
+    """Returns the crates that the last proof waited for, each of them the last of its user's libraries to be proved."""
+    was_proved = lambda it: it in crates and crates[it].proved > 0
+    chain, left = [], [it for it in libraries if was_proved(it)]
+    while left:
+        chain.append(max(left, key=lambda it: crates[it].proved))
+        left = [it for it in libraries[chain[-1]] if was_proved(it)]
+    return chain[::-1]
+
+
+def table(crates, root, whole, wall):
+    libraries = libraries_of(root)
+    sums = dict.fromkeys(("proof", "seed", "edit", "run"), 0.0)
+    told = ["| Crate | Lines | Its proof | Wrong bodies | Their checks as it stands | The wrong bodies | Its runs | Most memory, GB | Proved after, minutes |", "|" + "---|" * 9]
+    for name, it in sorted(crates.items(), key=lambda it: -sum(it[1].seconds.values())):
+        folder = f"{root}/crates/{name}"
+        parts = [f"{it.seconds[part]:.0f}" for part in ("seed", "edit", "run")]
+        told.append(f"| `{name}` | {lines_of(folder):,} | {it.seconds['proof']:.0f} | {edits_of(folder)} | {' | '.join(parts)} | {it.peak / 1e9:.1f} | {it.proved / 60:.1f} |")
+        for part in sums:
+            sums[part] += it.seconds[part]
+    above = {it for libraries_of_one in libraries.values() for it in libraries_of_one}
+    for_libraries = sum(it.seconds["proof"] for name, it in crates.items() if name in above)
+    chain = chain_of(crates, libraries)
+    told += [
+        "",
+        f"In minutes of processor time: libraries {for_libraries / 60:.1f}, crates of tests and programs {(sums['proof'] - for_libraries) / 60:.1f}, "
+        f"checks that wrong bodies begin and end with {sums['seed'] / 60:.1f}, wrong bodies {sums['edit'] / 60:.1f}, runs {sums['run'] / 60:.1f}, "
+        f"not seen {(whole - sum(sums.values())) / 60:.1f}, in all {whole / 60:.1f}; by the clock {wall / 60:.1f} minutes.",
+    ]
+    if chain:
+        told.append(f"The chain: {', '.join(f'`{it}` {crates[it].proved / 60:.1f}' for it in chain)}.")
+    return "\n".join(told)
+
+
+def main():
+    words, file = sys.argv[1:], None
+    if words[:1] == ["-o"]:
+        file, words = words[1], words[2:]
+    command = words[1:] if words[:1] == ["--"] else words
+    if not command:
+        sys.exit(__doc__)
+    begun = time.monotonic()
+    started = subprocess.Popen(command)
+    watch = Watch(started.pid)
+    watch.start()
+    status = started.wait()
+    watch.stops.set()
+    watch.join()
+    used = resource.getrusage(resource.RUSAGE_CHILDREN)
+    told = table(added_up(watch.known, begun), os.getcwd(), used.ru_utime + used.ru_stime, time.monotonic() - begun)
+    with open(file, "w", encoding="utf-8") if file else sys.stdout as to:
+        print(told, file=to)
+    sys.exit(status if status >= 0 else 128 - status)
+
+
+if __name__ == "__main__":
+    main()
