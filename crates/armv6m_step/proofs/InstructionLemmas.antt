@@ -2,7 +2,9 @@
 use Rattle.std.proofs.Common.{◌≡◌, ℕ, Bool, true, false, Ok, Err, Result, MatchResult, inl, inr, ◌⊎◌, subst, sym, ap, ◌∙◌, refl, arith}
 use Rattle.bench_model.specs.declared.bench_fault.BusEnd.{BusEnd}
 use Rattle.bench_model.specs.declared.bench_fault.BusEnd.TheVariants as bus_end
-use Rattle.bench_model.specs.Device.{is_device, HasDeviceCause}
+use Rattle.bench_model.specs.Device.{is_device}
+use Rattle.bench_model.specs.Counted.{IsCounted}
+use Rattle.bench_model.proofs.CountLemmas.{counted_then}
 use Rattle.armv6m_step.specs.declared.core_state.Core.{Core}
 use Rattle.armv6m_step.specs.declared.ends.StepEnd.{StepEnd}
 use Rattle.armv6m_step.specs.declared.ends.StepEnd.TheVariants as end
@@ -44,20 +46,15 @@ pub access_device : (access : Access) (x : BusEnd) → is_device_end (access_end
 access_device access bus_end.Fault = refl
 access_device access bus_end.Device = refl
 
-pub counted_then : (a b c : ℕ) (at_fault : Bool) → HasDeviceCause a b false → HasDeviceCause b c at_fault → HasDeviceCause a c at_fault
-counted_then a b c at_fault one rest =
-    let same : b ≡ a = one.on_other refl in
-    subst (λ n. HasDeviceCause n c at_fault) same rest
-
 -- a bus that counts the device faults of its accesses counts that of an instruction
 pub runs_counted : {B : Type 0} (acts : B → Access → Result ℕ BusEnd → B → Type 0) (faults : B → ℕ)
-    → ((before : B) (access : Access) (answer : Result ℕ BusEnd) (after : B) → acts before access answer after → HasDeviceCause (faults before) (faults after) (is_device answer))
-    → (m : Meaning) (core core' : Core) (b b' : B) (e : StepEnd) → Runs acts m core b e core' b' → HasDeviceCause (faults b) (faults b') (is_device_end e)
+    → ((before : B) (access : Access) (answer : Result ℕ BusEnd) (after : B) → acts before access answer after → IsCounted (faults before) (faults after) (is_device answer))
+    → (m : Meaning) (core core' : Core) (b b' : B) (e : StepEnd) → Runs acts m core b e core' b' → IsCounted (faults b) (faults b') (is_device_end e)
 runs_counted {B} acts faults counted =
-    runs_carry acts (λ b e b'. HasDeviceCause (faults b) (faults b') (is_device_end e))
-    (λ b e none. record { later = omega arith; on_device = λ at_fault. absurd (not_both (is_device_end e) none at_fault); on_other = λ other. refl })
-    (λ b b' access x act. subst (λ f. HasDeviceCause (faults b) (faults b') f) (sym (access_device access x)) (counted b access (Err x) b' act))
-    (λ b mid b' access v e act rest. counted_then (faults b) (faults mid) (faults b') (is_device_end e) (counted b access (Ok v) mid act) rest)
+    runs_carry acts (λ b e b'. IsCounted (faults b) (faults b') (is_device_end e))
+    (λ b e none. record { later = omega arith; on_fault = λ at_fault. absurd (not_both (is_device_end e) none at_fault); on_other = λ other. refl })
+    (λ b b' access x act. subst (λ f. IsCounted (faults b) (faults b') f) (sym (access_device access x)) (counted b access (Err x) b' act))
+    (λ b mid b' access v e act rest. counted_then (faults b) (faults mid) (faults b') false (is_device_end e) refl (counted b access (Ok v) mid act) rest)
 
 outcome_kept : (o : Outcome) (core core' : Core) (e : StepEnd) → Leaves o core e core' → (e ≡ end.Went) ⊎ (core' ≡ core)
 outcome_kept (Ok next) core core' e leaves = inl leaves.0

@@ -2,7 +2,8 @@
 use Rattle.std.specs.Prelude.{◌≡◌, ℕ, false, Option, Some, None, Result, List}
 use Rattle.std.proofs.Common.{arith, refl, ap, ◌∙◌}
 use Rattle.bench_model.specs.declared.bench_fault.BusEnd.{BusEnd}
-use Rattle.bench_model.specs.Device.{is_device, HasDeviceCause}
+use Rattle.bench_model.specs.Device.{is_device}
+use Rattle.bench_model.specs.Counted.{IsCounted}
 use Rattle.armv6m_step.specs.Access.{Access, Load, Store}
 use Rattle.armv6m_step.specs.Ram.{Ram, load_answer, store_answer, loaded_from, stored_in, ram_answer}
 
@@ -25,7 +26,7 @@ none_fails r (Store width at v) = store_fails_none r (stored_in r width at v)
 
 -- the bus counts no faults
 pub memory_counted : (before : Ram) (access : Access) (answer : Result ℕ BusEnd) (after : Ram) → memory_acts before access answer after
-    → HasDeviceCause 0 0 (is_device answer)
+    → IsCounted 0 0 (is_device answer)
 memory_counted before access answer after acts =
     let none : is_device answer ≡ false = ap is_device acts.answered ∙ none_fails before access in
-    record { later = omega arith; on_device = λ at_fault. cc; on_other = λ other. refl }
+    record { later = omega arith; on_fault = λ at_fault. cc; on_other = λ other. refl }

@@ -1,7 +1,8 @@
 //! The bus as the core sees it.
 ghost use Rattle.std.specs.Prelude.{◌≡◌, ◌<◌, ◌^◌, ◌%◌, ℕ, Result, IfOk};
 ghost use Rattle.bench_model.specs.declared.bench_fault.BusEnd.{BusEnd};
-ghost use Rattle.bench_model.specs.Device.{is_device, HasDeviceCause};
+ghost use Rattle.bench_model.specs.Device.{is_device};
+ghost use Rattle.bench_model.specs.Counted.{IsCounted};
 ghost use Rattle.armv6m_step.specs.Access.{Access, Load, Store, stored};
 
 use bench_model::BusEnd;
@@ -48,5 +49,5 @@ pub trait Bus {
 
     /// The count of device faults never falls: it rises where an access is answered `Device`, and else it stays.
     ghost counted: { (before : Self) (access : Access) (answer : Result ℕ BusEnd) (after : Self) → acts before access answer after
-        → HasDeviceCause (faults before) (faults after) (is_device answer) };
+        → IsCounted (faults before) (faults after) (is_device answer) };
 }

@@ -1,6 +1,6 @@
 //! One instruction.
 ghost use Rattle.std.specs.Prelude.{◌≡◌, ◌⊎◌};
-ghost use Rattle.bench_model.specs.Device.{HasDeviceCause};
+ghost use Rattle.bench_model.specs.Counted.{IsCounted};
 ghost use Rattle.armv6m_step.specs.Ends.{end_of, is_device_end};
 ghost use Rattle.armv6m_step.specs.Meaning.{Runs};
 ghost use Rattle.armv6m_decode.specs.Table.{decoded, decoded_pair};
@@ -275,7 +275,7 @@ fn fetch_and_execute<B: Bus>(core: &mut Core, bus: &mut B) -> Result<(), Stop>
 pub fn step<B: Bus>(core: &mut Core, bus: &mut B) -> StepEnd
     ensures runs { Runs B.acts (instruction core.old) core.old bus.old result core.new bus.new }
     ensures kept { (result ≡ StepEnd.Went) ⊎ (core.new ≡ core.old) }
-    ensures cause { HasDeviceCause (B.faults bus.old) (B.faults bus.new) (is_device_end result) }
+    ensures cause { IsCounted (B.faults bus.old) (B.faults bus.new) (is_device_end result) }
 {
     step_end(fetch_and_execute(core, bus))
 }

@@ -1,3 +1,4 @@
+pub mod CountLemmas
 pub mod Moments
 pub mod RecordLemmas
 mod MarkLemmas

@@ -3,6 +3,7 @@ pub mod State
 pub mod Outside
 pub mod Calls
 pub mod Device
+pub mod Counted
 pub mod Does
 pub mod Act
 pub mod Pairs

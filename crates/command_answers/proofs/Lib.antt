@@ -1,3 +1,4 @@
 pub mod AnswerLemmas
 pub mod FileLemmas
 pub mod ReadingLemmas
+pub mod PlaceLemmas

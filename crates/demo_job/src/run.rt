@@ -40,9 +40,23 @@ pub fn demo_run(alloc: Global, seed: u32, bench: MemoryBench) -> Result<Demo, Ou
     ensures { IfOk result (Shows seed bench) }
 {
     let scene = set_scene(alloc, seed)?;
-    let counts = first_plan(alloc, seed, &scene)?;
-    let lost = lose(alloc, seed, &scene, bench)?;
-    Ok(resume(alloc, seed, &scene, counts, lost))
+    play(alloc, seed, &scene, bench)
+}
+
+/// Plays the demonstration in its scene.
+fn play(
+    alloc: Global,
+    seed: u32,
+    scene: &Scene,
+    bench: MemoryBench,
+) -> Result<Demo, OutOfMemory>
+    requires scene { IsScene seed scene.now }
+    requires fresh { IsFresh seed (bench_of bench) }
+    ensures { IfOk result (Shows seed bench) }
+{
+    let counts = first_plan(alloc, seed, scene)?;
+    let lost = lose(alloc, seed, scene, bench)?;
+    Ok(resume(alloc, seed, scene, counts, lost))
 }
 
 /// A bench that stops, as the job on it left it, and the refusal of the job.

@@ -2,7 +2,8 @@
 use Rattle.std.proofs.Common.{◌≡◌, ◌≤◌, ◌+◌, ◌↔◌, ℕ, Bool, true, false, IsTrue, List, length, take, drop, Option, Some, None, Result, refl, sym, ap, subst, arith, ◌∙◌, ◌⊎◌, inl, inr, ⊎_elim}
 use Rattle.faults.specs.Counts.{Rose}
 use Rattle.bench_model.specs.declared.bench_fault.BusEnd.{BusEnd}
-use Rattle.bench_model.specs.Device.{is_device, HasDeviceCause}
+use Rattle.bench_model.specs.Device.{is_device}
+use Rattle.bench_model.specs.Counted.{IsCounted}
 use Rattle.bench_model.specs.History.{left}
 use Rattle.bench_model.specs.State.{BenchState, cells_half}
 use Rattle.bench_model.specs.Outside.{SameOutside}
@@ -52,14 +53,14 @@ accesses_here tells s law = record {
 
 -- a look at cells, that was no fault, and then an access
 pub look_then : {A : Type 0} (tells : Bool) (map : FlashMap) (range : Option (ℕ × ℕ)) (s m t : BenchState) (result : Result A BusEnd)
-    → (IsTrue tells → s.operation ≡ None) → Accesses tells s m → HasDeviceCause s.device_faults m.device_faults false → Touches tells map range m t result
+    → (IsTrue tells → s.operation ≡ None) → Accesses tells s m → IsCounted s.device_faults m.device_faults false → Touches tells map range m t result
     → Touches tells map range s t result
 look_then tells map range s m t result idle one cause two = record {
   bench = accesses_then tells s m t one two.bench;
   agrees = two.agrees;
   cause = record {
     later = let same : m.device_faults ≡ s.device_faults = cause.on_other refl in omega (arith, same, two.cause.later);
-    on_device = λ is. subst (λ (n : ℕ). Rose n t.device_faults) (cause.on_other refl) (two.cause.on_device is);
+    on_fault = λ is. subst (λ (n : ℕ). Rose n t.device_faults) (cause.on_other refl) (two.cause.on_fault is);
     on_other = λ is. two.cause.on_other is ∙ cause.on_other refl;
   };
   idle = λ told is. record { before = idle told; after = (two.idle told is).after };

@@ -5,7 +5,8 @@ use Rattle.bench_model.specs.History.{Leaves}
 use Rattle.bench_model.specs.State.{BenchState, cells_half}
 use Rattle.bench_model.specs.Calls.{FileStays}
 use Rattle.bench_model.specs.Outside.{SameOutside}
-use Rattle.bench_model.specs.Device.{is_device, HasDeviceCause}
+use Rattle.bench_model.specs.Device.{is_device}
+use Rattle.bench_model.specs.Counted.{IsCounted}
 use Rattle.bench_model.specs.declared.bench_fault.BusEnd.{BusEnd}
 use Rattle.bench_model.specs.declared.bench_fault.DeviceFault.{DeviceFault}
 use Rattle.flash_layout.specs.Maps.{FlashMap}
@@ -45,7 +46,7 @@ IsWidth width = (width ≡ 1) ⊎ ((width ≡ 2) ⊎ (width ≡ 4))
 pub record Touches {A : Type 0} (tells : Bool) (map : FlashMap) (range : Option (ℕ × ℕ)) (s t : BenchState) (result : Result A BusEnd) : Type 0 where
   pub bench : Accesses tells s t
   pub agrees : Agrees tells map range t
-  pub cause : HasDeviceCause s.device_faults t.device_faults (is_device result)
+  pub cause : IsCounted s.device_faults t.device_faults (is_device result)
   pub idle : IsTrue tells → is_device result ≡ true → IsIdle s t
 
 -- How a tick touches the bench: as above, but for the cells of an operation that ends. A fault leaves the cells.

@@ -2,7 +2,8 @@
 ghost use Rattle.std.specs.Prelude.{◌≡◌, ◌≤◌, ◌<◌, ◌+◌, ◌^◌, ◌⊎◌, length, Ok, Err, IsTrue, OnOk, OnErr, IfOk, Some, None};
 ghost use Rattle.faults.specs.Counts.{HasCause};
 ghost use Rattle.bench_model.specs.Calls.{written};
-ghost use Rattle.bench_model.specs.Device.{is_device, HasDeviceCause};
+ghost use Rattle.bench_model.specs.Device.{is_device};
+ghost use Rattle.bench_model.specs.Counted.{IsCounted};
 ghost use Rattle.bench_model.specs.Does.{StaysOpen};
 ghost use Rattle.bench_model.specs.declared.bench_fault.BusEnd.TheVariants as bus;
 ghost use Rattle.flash_layout.specs.Bench.{Accesses, Settles};
@@ -45,7 +46,7 @@ pub fn read<B: Bench>(bench: &mut B, place: u32, width: u32) -> Result<u32, BusE
     ensures half { width ≡ 2 → IfOk result (λ value. value < 2 ^ 16) }
     ensures bench { Accesses B.tells (B.state bench.old) (B.state bench.new) }
     ensures operation { IsTrue B.tells → (B.state bench.new).operation ≡ (B.state bench.old).operation }
-    ensures cause { HasDeviceCause (B.state bench.old).device_faults (B.state bench.new).device_faults (is_device result) }
+    ensures cause { IsCounted (B.state bench.old).device_faults (B.state bench.new).device_faults (is_device result) }
 {
     let mut bytes = [0; WORD];
     let out = &mut bytes[..width as usize];

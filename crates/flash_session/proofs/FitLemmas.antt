@@ -1,14 +1,12 @@
 -- A turn from its parts.
 use Rattle.std.proofs.Common.{◌≡◌, ◌<◌, ◌≤◌, ◌+◌, ◌^◌, ◌∙◌, ℕ, Bool, true, false, IsTrue, List, [], length, refl, sym, ap, subst, arith}
-use Rattle.faults.specs.Counts.{Rose}
 use Rattle.bench_model.specs.State.{BenchState}
 use Rattle.bench_model.specs.Calls.{FileStays, FileIsRead}
-use Rattle.bench_model.specs.Device.{HasDeviceCause}
+use Rattle.bench_model.specs.Counted.{is_store_fault, is_device_fault, IsCounted}
 use Rattle.bench_model.proofs.Moments.{stays_adds_nothing}
 use Rattle.job_text.specs.declared.job.Job.{Job}
 use Rattle.flash_layout.specs.Areas.{cells_in}
 use Rattle.flash_layout.specs.Maps.{FlashMap}
-use Rattle.job_file.specs.Counted.{IsCounted}
 use Rattle.target_core.specs.Path.{Point}
 use Rattle.target_core.specs.Windows.{OnlyIn}
 use Rattle.algo_calls.specs.Setups.{Setup}
@@ -27,7 +25,7 @@ use Rattle.flash_session.specs.Rest.{Legs, with_torn, unbroken}
 use Rattle.flash_session.specs.Stands.{Stands, StandsOn}
 use Rattle.flash_session.specs.Goals.{goal_in}
 use Rattle.flash_session.specs.Targets.{setup_on, map_of, setup_now, part_in, point_for, legs_for, has_second, size_for, goal_for}
-use Rattle.flash_session.specs.Turns.{SameTarget, GoesOn, Turns, FileTurn, is_device_place, is_store_place}
+use Rattle.flash_session.specs.Turns.{SameTarget, GoesOn, Turns, FileTurn, place_fault}
 use Rattle.flash_session.proofs.MachineLemmas.{has_same, legs_same}
 
 pub unbroken_is : (r : Bool) (p : Phase) → with_torn r p [] unbroken ≡ unbroken
@@ -47,20 +45,6 @@ of_script tells size (ended.CallFailed number call e) b sound = tt
 of_script tells size (ended.Mismatch d) b sound = tt
 of_script tells size ended.StoreFault b sound = tt
 of_script tells size ended.DeviceFault b sound = tt
-
--- ---- counts
-
-pub none_counted : (before now : ℕ) → now ≡ before → HasDeviceCause before now false
-none_counted before now same = record { later = omega (arith, same); on_device = λ e. cc; on_other = λ e. same }
-
-pub one_counted : (before now : ℕ) → before ≤ now → Rose before now → HasDeviceCause before now true
-one_counted before now later rose = record { later = later; on_device = λ e. rose; on_other = λ e. cc }
-
-pub no_fault : (before now : ℕ) → now ≡ before → IsCounted before now false
-no_fault before now same = record { later = omega (arith, same); on_fault = λ e. cc; on_other = λ e. same }
-
-pub one_fault : (before now : ℕ) → before ≤ now → Rose before now → IsCounted before now true
-one_fault before now later rose = record { later = later; on_fault = λ e. rose; on_other = λ e. cc }
 
 -- a file that stays is only read
 pub file_kept : (tells : Bool) (s t : BenchState) → FileStays s t → FileIsRead tells s t
@@ -98,7 +82,7 @@ pub turn_made : (tells : Bool) (goal : List ℕ) (old new : Player) (arena arena
     → Fit tells old arena start → SameTarget old new → length new.page.items ≡ length old.page.items → AreTwins new → map_of new.calls ≡ map_of old.calls → OnlyIn old.window arena arena' → Fits new.calls arena' new.window
     → AgreesAt tells new.calls end → IsPlace tells (has_second old) new.second new.place (size_for old) end → new.made + calls_ahead (legs_of old) new.place < 2 ^ 32
     → turns_ahead (legs_of old) (size_for old) new.place < togo old → end.cell_count ≡ start.cell_count → FileTurn tells old.place new.place start end
-    → HasDeviceCause start.device_faults end.device_faults (is_device_place new.place) → IsCounted start.store_faults end.store_faults (is_store_place new.place)
+    → IsCounted start.device_faults end.device_faults (is_device_fault (place_fault new.place)) → IsCounted start.store_faults end.store_faults (is_store_fault (place_fault new.place))
     → (IsTrue tells → (a : Stand) (way : List Move) → StandsOn a way goal old arena start → GoesOn a way goal new arena' start end)
     → Turns tells goal old arena start new arena' end
 turn_made tells goal old new arena arena' start end fit same page twins map only fits agrees place room near count file device store told =

@@ -12,12 +12,10 @@ use Rattle.job_text.specs.Fits.{all_fit}
 use Rattle.job_text.specs.declared.job.Job.{Job}
 use Rattle.flash_session.specs.declared.part.Part.{Part as RegionSurvey}
 use Rattle.flash_session.specs.declared.fault.SurveyFault.{SurveyFault}
-use Rattle.flash_session.specs.declared.fault.SurveyFault.TheVariants as survey
-use Rattle.bench_model.specs.Device.{HasDeviceCause}
-use Rattle.job_file.specs.Counted.{IsCounted}
+use Rattle.bench_model.specs.Counted.{BenchFault, fault_in, IsCounted}
 use Rattle.flash_session.specs.Found.{IsFound, AreFound}
 use Rattle.flash_session.specs.Script.{Planned}
-use Rattle.flash_session.specs.Surveys.{planned_of, IsPlannedFor, ArePlannedFor, is_survey_store, is_survey_device}
+use Rattle.flash_session.specs.Surveys.{planned_of, IsPlannedFor, ArePlannedFor, survey_fault}
 use Rattle.flash_session.specs.SurveyFacts.{AreRegionSurveys}
 use Rattle.flash_session.proofs.JobLemmas.{sizes_are, second_start}
 use Rattle.flash_session.proofs.PartLemmas.{two_parts}
@@ -68,21 +66,8 @@ works_found tells j start (a ∷ rest) cells goal (r ∷ more) are = (are.0.work
 abbrev pub refused : (T : Type 0) → SurveyFault → Result T SurveyFault
 refused T e = Err e
 
-same_store : (S T : Type 0) (e : SurveyFault) → is_survey_store (refused S e) ≡ is_survey_store (refused T e)
-same_store S T survey.OutOfMemory = refl
-same_store S T survey.DeviceFault = refl
-same_store S T survey.StoreFault = refl
-
-same_device : (S T : Type 0) (e : SurveyFault) → is_survey_device (refused S e) ≡ is_survey_device (refused T e)
-same_device S T survey.OutOfMemory = refl
-same_device S T survey.DeviceFault = refl
-same_device S T survey.StoreFault = refl
-
-pub handed_store : (S T : Type 0) (a b : ℕ) (r : Result T SurveyFault) (e : SurveyFault) → r ≡ refused T e → IsCounted a b (is_survey_store (refused S e)) → IsCounted a b (is_survey_store r)
-handed_store S T a b r e is one = subst (λ (q : Result T SurveyFault). IsCounted a b (is_survey_store q)) (sym is) (subst (λ (d : Bool). IsCounted a b d) (same_store S T e) one)
-
-pub handed_device : (S T : Type 0) (a b : ℕ) (r : Result T SurveyFault) (e : SurveyFault) → r ≡ refused T e → HasDeviceCause a b (is_survey_device (refused S e)) → HasDeviceCause a b (is_survey_device r)
-handed_device S T a b r e is one = subst (λ (q : Result T SurveyFault). HasDeviceCause a b (is_survey_device q)) (sym is) (subst (λ (d : Bool). HasDeviceCause a b d) (same_device S T e) one)
+pub handed : (is : Option BenchFault → Bool) (T : Type 0) (a b : ℕ) (r : Result T SurveyFault) (e : SurveyFault) → r ≡ refused T e → IsCounted a b (is (survey_fault e)) → IsCounted a b (is (fault_in survey_fault r))
+handed is T a b r e same one = subst (λ (q : Result T SurveyFault). IsCounted a b (is (fault_in survey_fault q))) (sym same) one
 
 -- the bytes of two parts are those of all
 both_bytes : (n m at : ℕ) (cells : List ℕ) → length cells ≡ n + m → at ≡ n → AreBytes (take n cells) → AreBytes (take m (drop at cells)) → AreBytes cells

@@ -18,7 +18,8 @@ use Rattle.flash_session.specs.declared.session.SessionEnd.{SessionEnd}
 use Rattle.flash_session.specs.declared.session.SessionEnd.TheVariants as end
 use Rattle.flash_session.specs.Moves.{Move, Reset, Stand, run, IsWithin, IsLeftOnWay}
 use Rattle.flash_session.specs.Script.{Planned, errand, Leg, leg, Torn, Broken, torn_first, torn_rest, phases, legs_of, script}
-use Rattle.flash_session.specs.Outcome.{GoTo, Follows, is_device_end, is_store_end, IsReached}
+use Rattle.flash_session.specs.Outcome.{GoTo, Follows, end_fault, IsReached}
+use Rattle.bench_model.specs.Counted.{is_store_fault, is_device_fault}
 use Rattle.flash_session.specs.Local.{SameBut}
 use Rattle.flash_session.specs.Sessions.{leg_for, legs_for}
 use Rattle.flash_session.proofs.OutcomeLemmas.{differs_somewhere, one_cells, not_both}
@@ -107,7 +108,7 @@ module _ (b : BoardShown) (goal : List ℕ) where
 
       module _ (start now : BenchState) where
         -- where all regions together reach the goal, a session ends so, but for a fault
-        pub follows_reaches : left ≡ goal → (e : SessionEnd) → Follows legs goal x e start now → is_device_end e ≡ false → is_store_end e ≡ false → IsReached e
+        pub follows_reaches : left ≡ goal → (e : SessionEnd) → Follows legs goal x e start now → is_device_fault (end_fault e) ≡ false → is_store_fault (end_fault e) ≡ false → IsReached e
         follows_reaches reaches (end.Reached r) follows other stored = tt
         follows_reaches reaches (end.Mismatch d) follows other stored =
             let moves = script legs follows.broken in

@@ -6,13 +6,12 @@ use Rattle.bench_model.specs.History.{left, Leaves, AddsNothing}
 use Rattle.bench_model.specs.State.{BenchState, file_half, cells_half}
 use Rattle.bench_model.specs.Calls.{CellsStay, OnlyReads, IsRead, FileIsRead}
 use Rattle.bench_model.specs.Outside.{SameOutside}
-use Rattle.bench_model.specs.Device.{HasDeviceCause}
+use Rattle.bench_model.specs.Counted.{is_store_fault, is_device_fault, IsCounted}
 use Rattle.bench_model.specs.Does.{StaysOpen}
 use Rattle.bench_model.proofs.Moments.{leaves_here, leaves_as, stays_leaves}
 use Rattle.flash_layout.specs.Areas.{cells_in}
 use Rattle.flash_layout.specs.Bench.{Settles}
 use Rattle.flash_layout.specs.Maps.{FlashMap}
-use Rattle.job_file.specs.Counted.{IsCounted}
 use Rattle.job_file.specs.Stops.{IsWholeOrClosed}
 use Rattle.target_core.specs.Units.{Unit as ControlUnit}
 use Rattle.target_core.specs.declared.run.RunEnd.{RunEnd}
@@ -61,26 +60,27 @@ use Rattle.flash_session.specs.Stands.{OnWay, none, InCall, HasEnded, EndIs, Sta
 use Rattle.flash_session.specs.Steps.{bytes_at, IsCursor, IsStep}
 use Rattle.flash_session.specs.Targets.{setup_on, map_of, setup_now, point_for, legs_for, has_second, size_for}
 use Rattle.flash_session.specs.Turned.{TurnsTo}
-use Rattle.flash_session.specs.Turns.{SameTarget, GoesOn, Turns, FileTurn, Closes, EndFile, IsDone, KeepsFile, judged, made_by, is_device_place, is_store_place, is_device_target, is_store_target}
+use Rattle.flash_session.specs.Turns.{SameTarget, GoesOn, Turns, FileTurn, Closes, EndFile, IsDone, KeepsFile, judged, made_by, place_fault, target_fault}
 use Rattle.flash_session.proofs.CallEnds.{Came, came, call_moments}
-use Rattle.flash_session.proofs.FitLemmas.{unbroken_is, none_counted, one_counted, no_fault, one_fault, file_kept, stands_same, turn_made}
+use Rattle.bench_model.proofs.CountLemmas.{none_counted, one_counted}
+use Rattle.flash_session.proofs.FitLemmas.{unbroken_is, file_kept, stands_same, turn_made}
 use Rattle.flash_session.proofs.MachineLemmas.{same_by, same_then, twins_still, size_on, reset_same}
 use Rattle.flash_session.proofs.MidwayLemmas.{midway_first, midway_more, moments_more, ends_slice}
 use Rattle.flash_session.proofs.StepLemmas.{setup_moved}
 use Rattle.flash_session.proofs.TurnLemmas.{way_on, way_begun, way_last, left_at_end, reset_moves, begin_moves, reset_moments, broke_off, ends_reached, judged_stands, more_alike, all_alike, found_alike, differs_first, read_moments, no_more}
 
-either_end : (b : Bool) (r0 made : ℕ) (call : Call) (nx : Cursor) → is_device_place (judged made call nx (cond b call_end.Done (call_end.Refused r0))) ≡ false
+either_end : (b : Bool) (r0 made : ℕ) (call : Call) (nx : Cursor) → is_device_fault (place_fault (judged made call nx (cond b call_end.Done (call_end.Refused r0)))) ≡ false
 either_end true r0 made call nx = refl
 either_end false r0 made call nx = refl
 
-device_judged : (made success : ℕ) (call : Call) (nx : Cursor) (e : RunEnd) → is_device_place (judged made call nx (call_end_of success e)) ≡ is_device_end e
+device_judged : (made success : ℕ) (call : Call) (nx : Cursor) (e : RunEnd) → is_device_fault (place_fault (judged made call nx (call_end_of success e))) ≡ is_device_end e
 device_judged made success call nx (run_end.Returned r0) = either_end (nat_eq r0 success) r0 made call nx
 device_judged made success call nx (run_end.NoFuel pc) = refl
 device_judged made success call nx (run_end.StrayBreak pc) = refl
 device_judged made success call nx (run_end.Faulted kind pc) = refl
 device_judged made success call nx run_end.DeviceFault = refl
 
-store_judged : (made : ℕ) (call : Call) (nx : Cursor) (x : CallEnd) → is_store_place (judged made call nx x) ≡ false
+store_judged : (made : ℕ) (call : Call) (nx : Cursor) (x : CallEnd) → is_store_fault (place_fault (judged made call nx x)) ≡ false
 store_judged made call nx call_end.Done = refl
 store_judged made call nx (call_end.Refused r0) = refl
 store_judged made call nx (call_end.Ended e) = refl
@@ -220,7 +220,7 @@ module _ (tells : Bool) (goal : List ℕ) (old : Player) (arena : List (List ℕ
         (omega (arith, made_is, fit.room, calls_before (place.At c) is, ap calls_in rest_is))
         (omega (arith, turns_before (place.At c) is, ap turns_in rest_is))
         settles.count (file_turn tells old.place (place.At c) (place.At (at.Init r p)) start end is (record { read = file_kept tells start end settles.file; other = λ z. z }))
-        (none_counted start.device_faults end.device_faults counted) (no_fault start.store_faults end.store_faults settles.file.faults) begun_told
+        (none_counted start.device_faults end.device_faults counted) (none_counted start.store_faults end.store_faults settles.file.faults) begun_told
 
   -- ---- a reset that a device fault broke off
 
@@ -238,7 +238,7 @@ module _ (tells : Bool) (goal : List ℕ) (old : Player) (arena : List (List ℕ
         (omega (arith, fit.room))
         (omega (arith, turns_before (place.At c) is))
         settles.count (file_turn tells old.place (place.At c) (place.Ended ended.DeviceFault) start end is (record { read = file_kept tells start end settles.file; other = λ z. z }))
-        (one_counted start.device_faults end.device_faults later rose) (no_fault start.store_faults end.store_faults settles.file.faults)
+        (one_counted start.device_faults end.device_faults later rose) (none_counted start.store_faults end.store_faults settles.file.faults)
         (λ told a way stands. let on = stood (place.At c) is a way stands in
         no_more a way goal broken arena1 start end
         (stands_same old broken a way goal arena1 end broken_same
@@ -290,7 +290,7 @@ module _ (tells : Bool) (goal : List ℕ) (old : Player) (arena : List (List ℕ
         (omega (arith, fit.room))
         (omega (arith, turns_before (place.At c) is, ap turns_in rest_last))
         settles.count (file_turn tells old.place (place.At c) (place.Comparing 0) start end is (record { read = file_kept tells start end settles.file; other = λ z. z }))
-        (none_counted start.device_faults end.device_faults counted) (no_fault start.store_faults end.store_faults settles.file.faults) last_told
+        (none_counted start.device_faults end.device_faults counted) (none_counted start.store_faults end.store_faults settles.file.faults) last_told
 
   -- ---- a call is prepared
 
@@ -371,8 +371,8 @@ module _ (tells : Bool) (goal : List ℕ) (old : Player) (arena : List (List ℕ
           (omega (arith, turns_before (place.At c) is, ap turns_in ready_rest, prepared.fuel, ap (λ (p : Place). turns_ahead (legs_of old) (size_for old) p) ready_place_is))
           reads.cells.count
           (file_turn tells old.place (place.At c) ready.place start end is (subst (λ (p : Place). KeepsFile tells p start end) (sym ready_place_is) (record { read = read; other = λ z. z })))
-          (subst (λ (p : Place). HasDeviceCause start.device_faults end.device_faults (is_device_place p)) (sym ready_place_is) (none_counted start.device_faults end.device_faults reads.cells.faults))
-          (subst (λ (p : Place). IsCounted start.store_faults end.store_faults (is_store_place p)) (sym ready_place_is) (no_fault start.store_faults end.store_faults counted)) ready_told
+          (subst (λ (p : Place). IsCounted start.device_faults end.device_faults (is_device_fault (place_fault p))) (sym ready_place_is) (none_counted start.device_faults end.device_faults reads.cells.faults))
+          (subst (λ (p : Place). IsCounted start.store_faults end.store_faults (is_store_fault (place_fault p))) (sym ready_place_is) (none_counted start.store_faults end.store_faults counted)) ready_told
 
     -- its bytes could not be read
     module _ (unread : Player) (arena1 : List (List ℕ)) (same : (unread.calls ≡ old.calls) × (arena1 ≡ arena)) (page : length unread.page.items ≡ length old.page.items)
@@ -406,8 +406,8 @@ module _ (tells : Bool) (goal : List ℕ) (old : Player) (arena : List (List ℕ
           (omega (arith, turns_before (place.At c) is, ap (λ (p : Place). turns_ahead (legs_of old) (size_for old) p) unread_place))
           reads.cells.count
           (file_turn tells old.place (place.At c) unread.place start end is (subst (λ (p : Place). KeepsFile tells p start end) (sym unread_place) (record { read = read; other = λ z. z })))
-          (subst (λ (p : Place). HasDeviceCause start.device_faults end.device_faults (is_device_place p)) (sym unread_place) (none_counted start.device_faults end.device_faults reads.cells.faults))
-          (subst (λ (p : Place). IsCounted start.store_faults end.store_faults (is_store_place p)) (sym unread_place) (one_fault start.store_faults end.store_faults later rose)) unread_told
+          (subst (λ (p : Place). IsCounted start.device_faults end.device_faults (is_device_fault (place_fault p))) (sym unread_place) (none_counted start.device_faults end.device_faults reads.cells.faults))
+          (subst (λ (p : Place). IsCounted start.store_faults end.store_faults (is_store_fault (place_fault p))) (sym unread_place) (one_counted start.store_faults end.store_faults later rose)) unread_told
 
   -- ---- a call goes on
 
@@ -463,7 +463,7 @@ module _ (tells : Bool) (goal : List ℕ) (old : Player) (arena : List (List ℕ
           (omega (arith, fit.room, calls_before (place.In call len rest nx) is))
           (omega (arith, turns_before (place.In call len rest nx) is, (one.more refl).1, some))
           (count_same tells old.calls fin start end fit.agrees one.map one.agrees)
-          (file_turn tells old.place (place.In call len rest nx) (place.In call len less nx) start end is (record { read = file_kept tells start end one.file; other = λ z. z })) one.cause (no_fault start.store_faults end.store_faults one.file.faults) further_told
+          (file_turn tells old.place (place.In call len rest nx) (place.In call len less nx) start end is (record { read = file_kept tells start end one.file; other = λ z. z })) one.cause (none_counted start.store_faults end.store_faults one.file.faults) further_told
 
     judged_place : (x : CallEnd) (size : ℕ) → IsPlace tells (has_second old) old.second (judged old.made call nx x) size end
     judged_place call_end.Done size = cursor_in
@@ -517,8 +517,8 @@ module _ (tells : Bool) (goal : List ℕ) (old : Player) (arena : List (List ℕ
           (omega (arith, turns_before (place.In call len rest nx) is, judged_near ending))
           (count_same tells old.calls fin start end fit.agrees one.map one.agrees)
           (file_turn tells old.place (place.In call len rest nx) (judged old.made call nx ending) start end is (record { read = file_kept tells start end one.file; other = not_done old.made call nx ending }))
-          (subst (λ (b : Bool). HasDeviceCause start.device_faults end.device_faults b) (sym (device_judged old.made (success_of call len) call nx e)) one.cause)
-          (subst (λ (b : Bool). IsCounted start.store_faults end.store_faults b) (sym (store_judged old.made call nx ending)) (no_fault start.store_faults end.store_faults one.file.faults)) came_told)
+          (subst (λ (b : Bool). IsCounted start.device_faults end.device_faults b) (sym (device_judged old.made (success_of call len) call nx e)) one.cause)
+          (subst (λ (b : Bool). IsCounted start.store_faults end.store_faults b) (sym (store_judged old.made call nx ending)) (none_counted start.store_faults end.store_faults one.file.faults)) came_told)
 
   -- ---- where a comparison stands
 
@@ -546,7 +546,7 @@ module _ (tells : Bool) (goal : List ℕ) (old : Player) (arena : List (List ℕ
 
     -- where the place after it holds of the cells as they were
     compare_turn : (p : Place) → IsPlace tells (has_second old) old.second p (size_for old) end → calls_ahead (legs_of old) p ≡ 0 → turns_ahead (legs_of old) (size_for old) p < (size_for old - at) + 2
-        → HasDeviceCause start.device_faults end.device_faults (is_device_place p) → IsCounted start.store_faults end.store_faults (is_store_place p) → (IsDone p → ⊥)
+        → IsCounted start.device_faults end.device_faults (is_device_fault (place_fault p)) → IsCounted start.store_faults end.store_faults (is_store_fault (place_fault p)) → (IsDone p → ⊥)
         → (IsTrue tells → (a : Stand) (way : List Move) → OnWay legs way none → run a way ≡ Ok (stand_at old.made here.world) → take at start.cells ≡ take at goal
         → Stands legs goal s a way p old.made (at_end end.cells) old.calls.machine.return_at end)
         → Turns tells goal old arena start (record old { place = p }) arena end
@@ -568,7 +568,7 @@ module _ (tells : Bool) (goal : List ℕ) (old : Player) (arena : List (List ℕ
     module _ (size : ℕ) (le : at + size ≤ size_for old) (some : 1 ≤ size) (finds : FindsIn tells start.cells goal at size None) (counted : end.device_faults ≡ start.device_faults) (stored : end.store_faults ≡ start.store_faults) where
       -- and there are more
       pub alike_turn : at + size ≢ size_for old → Turns tells goal old arena start (record old { place = place.Comparing (at + size) }) arena end
-      alike_turn more = compare_turn (place.Comparing (at + size)) (omega (arith, le, more), stays_idle) refl (omega (arith, some, le)) (none_counted start.device_faults end.device_faults counted) (no_fault start.store_faults end.store_faults stored) (λ z. z)
+      alike_turn more = compare_turn (place.Comparing (at + size)) (omega (arith, le, more), stays_idle) refl (omega (arith, some, le)) (none_counted start.device_faults end.device_faults counted) (none_counted start.store_faults end.store_faults stored) (λ z. z)
           (λ told a way on ran alike. (
             on,
             same_world told a way ran,
@@ -577,7 +577,7 @@ module _ (tells : Bool) (goal : List ℕ) (old : Player) (arena : List (List ℕ
 
       -- and these were the last
       pub closing_turn : at + size ≡ size_for old → (IsTrue tells → length start.cells ≡ size_for old) → (IsTrue tells → length goal ≡ size_for old) → Turns tells goal old arena start (record old { place = place.Closing }) arena end
-      closing_turn all cells_long goal_long = compare_turn place.Closing stays_idle refl (omega arith) (none_counted start.device_faults end.device_faults counted) (no_fault start.store_faults end.store_faults stored) (λ z. z)
+      closing_turn all cells_long goal_long = compare_turn place.Closing stays_idle refl (omega arith) (none_counted start.device_faults end.device_faults counted) (none_counted start.store_faults end.store_faults stored) (λ z. z)
           (λ told a way on ran alike. (
             on,
             same_world told a way ran,
@@ -589,12 +589,12 @@ module _ (tells : Bool) (goal : List ℕ) (old : Player) (arena : List (List ℕ
     pub differs_turn : (size : ℕ) (d : Difference) → at + size ≤ size_for old → (IsTrue tells → length goal ≡ size_for old) → FindsIn tells start.cells goal at size (Some d) → end.device_faults ≡ start.device_faults → end.store_faults ≡ start.store_faults
         → Turns tells goal old arena start (record old { place = place.Ended (ended.Mismatch d) }) arena end
     differs_turn size d le goal_long finds counted stored =
-        compare_turn (place.Ended (ended.Mismatch d)) (omega (arith, finds.finds.place, finds.finds.first.within, finds.long, le), finds.finds.first.unequal, stays_idle) refl (omega arith) (none_counted start.device_faults end.device_faults counted) (no_fault start.store_faults end.store_faults stored) (λ z. z)
+        compare_turn (place.Ended (ended.Mismatch d)) (omega (arith, finds.finds.place, finds.finds.first.within, finds.long, le), finds.finds.first.unequal, stays_idle) refl (omega arith) (none_counted start.device_faults end.device_faults counted) (none_counted start.store_faults end.store_faults stored) (λ z. z)
         (λ told a way on ran alike. ends_reached legs goal a way on (ended.Mismatch d) old.made here.world end ran (sym (reads.cells.cells told))
         (λ moves goes. (goes, subst (λ (l : List ℕ). DiffersFirst goal l d) (sym (reads.cells.cells told)) (differs_first tells start.cells goal at size d told (omega (arith, le, goal_long told)) alike finds))))
 
     -- the cells, or the goal, could not be read
-    pub compare_unread : (e : TargetEnd) → IsSoundEnd tells (size_for old) e end → HasDeviceCause start.device_faults end.device_faults (is_device_target e) → IsCounted start.store_faults end.store_faults (is_store_target e) → (IsDone (place.Ended e) → ⊥)
+    pub compare_unread : (e : TargetEnd) → IsSoundEnd tells (size_for old) e end → IsCounted start.device_faults end.device_faults (is_device_fault (target_fault e)) → IsCounted start.store_faults end.store_faults (is_store_fault (target_fault e)) → (IsDone (place.Ended e) → ⊥)
         → ((moves : List Move) (a : Stand) → BreaksOff a moves end → EndIs a moves goal e end) → Turns tells goal old arena start (record old { place = place.Ended e }) arena end
     compare_unread e script device store other to = compare_turn (place.Ended e) script refl (omega arith) device store other
         (λ told a way on ran alike. broke_off legs goal a way none on e old.made here.world end ran (reads.cells.cells told) (reads.cells.operation told ∙ fit.agrees.operation told) (λ moves off. to moves a off))
@@ -609,7 +609,7 @@ module _ (tells : Bool) (goal : List ℕ) (old : Player) (arena : List (List ℕ
     abbrev closed : TargetEnd → Player
     closed e = record old { place = place.Ended e }
 
-    close_turn : (e : TargetEnd) → IsSoundEnd tells (size_for old) e end → is_device_target e ≡ false → IsCounted start.store_faults end.store_faults (is_store_target e) → (IsTrue tells → EndFile e start.file end.file)
+    close_turn : (e : TargetEnd) → IsSoundEnd tells (size_for old) e end → is_device_fault (target_fault e) ≡ false → IsCounted start.store_faults end.store_faults (is_store_fault (target_fault e)) → (IsTrue tells → EndFile e start.file end.file)
         → (IsTrue tells → (a : Stand) (way : List Move) → OnWay legs way none → run a way ≡ Ok (stand_at old.made here.world) → start.cells ≡ goal → HasEnded (all_legs legs) goal a way e end)
         → Turns tells goal old arena start (closed e) arena end
     close_turn e script other store file to =
@@ -618,15 +618,15 @@ module _ (tells : Bool) (goal : List ℕ) (old : Player) (arena : List (List ℕ
         (omega (arith, fit.room))
         (omega (arith, turns_before place.Closing is))
         stay.count (file_turn tells old.place place.Closing (place.Ended e) start end is (record { moments = moments; file = file; cells = stay; over = refl }))
-        (subst (λ (b : Bool). HasDeviceCause start.device_faults end.device_faults b) (sym other) (none_counted start.device_faults end.device_faults stay.faults)) store
+        (subst (λ (b : Bool). IsCounted start.device_faults end.device_faults b) (sym other) (none_counted start.device_faults end.device_faults stay.faults)) store
         (λ told a way stands. let on = stood place.Closing is a way stands in
         no_more a way goal (closed e) arena start end (to told a way on.0 on.1 on.2)
         (stays_leaves (IsLeftOnWay a way) (λ y at. left_at_end a way old.made here.world start y on.1 refl (fit.agrees.operation told) ((law told y).0 at)) stay.half))
 
     pub done_turn : end.store_faults ≡ start.store_faults → (IsTrue tells → end.file ≡ 0 ∷ drop 1 start.file) → Turns tells goal old arena start (closed ended.Done) arena end
-    done_turn counted file = close_turn ended.Done tt refl (no_fault start.store_faults end.store_faults counted) file
+    done_turn counted file = close_turn ended.Done tt refl (none_counted start.store_faults end.store_faults counted) file
         (λ told a way on ran same. ends_reached legs goal a way on ended.Done old.made here.world end ran (sym stay.cells) (λ moves goes. (goes, stay.cells ∙ same)))
 
     pub store_turn : start.store_faults ≤ end.store_faults → Rose start.store_faults end.store_faults → (IsTrue tells → IsWholeOrClosed (drop 1 start.file) end.file) → Turns tells goal old arena start (closed ended.StoreFault) arena end
-    store_turn later rose file = close_turn ended.StoreFault tt refl (one_fault start.store_faults end.store_faults later rose) file
+    store_turn later rose file = close_turn ended.StoreFault tt refl (one_counted start.store_faults end.store_faults later rose) file
         (λ told a way on ran same. broke_off legs goal a way none on ended.StoreFault old.made here.world end ran stay.cells (stay.operation ∙ fit.agrees.operation told) (λ moves off. off))

@@ -5,16 +5,15 @@ use Rattle.std.proofs.lemmas.List.{append-nil}
 use Rattle.bench_model.specs.History.{left, Leaves}
 use Rattle.bench_model.specs.Calls.{FileIsRead}
 use Rattle.bench_model.specs.Outside.{SameOutside}
-use Rattle.bench_model.specs.Device.{HasDeviceCause}
+use Rattle.bench_model.specs.Counted.{is_store_fault, is_device_fault, IsCounted}
 use Rattle.bench_model.specs.State.{BenchState, file_half, cells_half}
 use Rattle.bench_model.proofs.Moments.{leaves_as, leaves_then, adds_nothing_here}
-use Rattle.job_file.specs.Counted.{IsCounted}
 use Rattle.job_text.specs.declared.job.Job.{Job}
 use Rattle.flash_session.specs.declared.session.Reached.{Reached}
 use Rattle.flash_session.specs.declared.session.SessionEnd.{SessionEnd}
 use Rattle.flash_session.specs.declared.session.SessionEnd.TheVariants as end
 use Rattle.flash_session.specs.Moves.{Move, Stand, stand_at, run, IsLeftOnWay}
-use Rattle.flash_session.specs.Outcome.{EndsIn, Follows, IsCompared, IsReached, IsSound, is_device_end, is_store_end}
+use Rattle.flash_session.specs.Outcome.{EndsIn, Follows, IsCompared, IsReached, IsSound}
 use Rattle.flash_session.specs.Script.{Leg, Broken, script}
 use Rattle.flash_session.proofs.Playing.{left_more, file_then}
 use Rattle.flash_session.specs.declared.phase.Phase.TheVariants as stage
@@ -29,10 +28,11 @@ use Rattle.flash_session.specs.Rest.{Legs, all_legs, unbroken}
 use Rattle.flash_session.specs.Stands.{OnWay, none, HasEnded, Stands, StandsOn}
 use Rattle.flash_session.specs.Takes.{TakesOn, SliceOf, IsOver}
 use Rattle.flash_session.specs.Targets.{setup_now, legs_for, point_for, goal_for, size_for, has_second}
-use Rattle.flash_session.specs.Turns.{IsUnended, IsDone, SameTarget, GoesOn, Turns, FileTurn, KeepsFile, is_device_place, is_store_place}
+use Rattle.flash_session.specs.Turns.{IsUnended, IsDone, SameTarget, GoesOn, Turns, FileTurn, KeepsFile, place_fault}
 use Rattle.flash_session.specs.Whole.{at_close, IsPlaying, IsEndBefore, IsPlayed, IsEndOf, IsStop, Played}
 use Rattle.flash_session.proofs.AloneLemmas.{goes_here, stands_first}
-use Rattle.flash_session.proofs.FitLemmas.{goal_same, none_counted, no_fault}
+use Rattle.bench_model.proofs.CountLemmas.{counted_then, none_counted}
+use Rattle.flash_session.proofs.FitLemmas.{goal_same}
 use Rattle.flash_session.proofs.MachineLemmas.{same_here, same_then, legs_same}
 
 -- ---- where a target stands
@@ -65,10 +65,10 @@ unended (place.Comparing at) playing = tt
 unended place.Closing playing = tt
 unended (place.Ended e) playing = playing
 
-quiet : (p : Place) → IsPlaying p → (is_device_place p ≡ false) × (is_store_place p ≡ false)
-quiet (place.At c) playing = (refl, refl)
-quiet (place.In call len left next) playing = (refl, refl)
-quiet (place.Comparing at) playing = (refl, refl)
+quiet : (p : Place) → IsPlaying p → place_fault p ≡ None
+quiet (place.At c) playing = refl
+quiet (place.In call len left next) playing = refl
+quiet (place.Comparing at) playing = refl
 quiet place.Closing playing = absurd playing
 quiet (place.Ended e) playing = absurd playing
 
@@ -107,12 +107,6 @@ goes_then tells told a way goal x y arena arena' s t u one two =
           (leaves_then (IsLeftOnWay a whole) (leaves_as (IsLeftOnWay a (way ++ one.more)) (IsLeftOnWay a whole) (left_more a (way ++ one.more) then_.more) one.moments) then_.moments);
     }
 
-cause_then : (a b c : ℕ) (d e : Bool) → d ≡ false → HasDeviceCause a b d → HasDeviceCause b c e → HasDeviceCause a c e
-cause_then a b c d e still one two = subst (λ (n : ℕ). HasDeviceCause n c e) (one.on_other still) two
-
-counted_then : (a b c : ℕ) (d e : Bool) → d ≡ false → IsCounted a b d → IsCounted b c e → IsCounted a c e
-counted_then a b c d e still one two = subst (λ (n : ℕ). IsCounted n c e) (one.on_other still) two
-
 -- none so far
 pub played_here : (tells : Bool) (goal : List ℕ) (x : Player) (arena : List (List ℕ)) (s : BenchState) → (IsTrue tells → (c : List ℕ) → left (cells_half s) c ↔ SameOutside s.operation s.cells c) → Fit tells x arena s → IsPlaying x.place
     → Played tells goal x arena s x arena s
@@ -126,8 +120,8 @@ played_here tells goal x arena s law fit playing =
       before = before_close tells (has_second x) x.second x.place (size_for x) s fit.place (λ done. absurd (not_done x.place playing done));
       count = refl;
       file = record { file = λ told. refl; moments = adds_nothing_here (file_half s) };
-      device = subst (λ (b : Bool). HasDeviceCause s.device_faults s.device_faults b) (sym still.0) (none_counted s.device_faults s.device_faults refl);
-      store = subst (λ (b : Bool). IsCounted s.store_faults s.store_faults b) (sym still.1) (no_fault s.store_faults s.store_faults refl);
+      device = subst (λ (b : Bool). IsCounted s.device_faults s.device_faults b) (sym (ap is_device_fault still)) (none_counted s.device_faults s.device_faults refl);
+      store = subst (λ (b : Bool). IsCounted s.store_faults s.store_faults b) (sym (ap is_store_fault still)) (none_counted s.store_faults s.store_faults refl);
     }
   where
     not_done : (p : Place) → IsPlaying p → IsDone p → ⊥
@@ -149,8 +143,8 @@ played_then tells goal x y z arena arena1 arena2 s t u so_far playing turn =
       before = before_close tells (has_second z) z.second z.place (size_for z) u turn.fit.place read.other;
       count = turn.count ∙ so_far.count;
       file = file_then so_far.file read.read;
-      device = cause_then s.device_faults t.device_faults u.device_faults (is_device_place y.place) (is_device_place z.place) still.0 so_far.device turn.device;
-      store = counted_then s.store_faults t.store_faults u.store_faults (is_store_place y.place) (is_store_place z.place) still.1 so_far.store turn.store;
+      device = counted_then s.device_faults t.device_faults u.device_faults (is_device_fault (place_fault y.place)) (is_device_fault (place_fault z.place)) (ap is_device_fault still) so_far.device turn.device;
+      store = counted_then s.store_faults t.store_faults u.store_faults (is_store_fault (place_fault y.place)) (is_store_fault (place_fault z.place)) (ap is_store_fault still) so_far.store turn.store;
     }
 
 -- a turn to a goal that is the same where it is told

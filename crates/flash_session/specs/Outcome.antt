@@ -1,5 +1,6 @@
 -- How a script ends.
-use Rattle.std.specs.Prelude.{◌≡◌, ◌≢◌, ◌<◌, ℕ, Bool, true, false, List, Ok, Err}
+use Rattle.std.specs.Prelude.{◌≡◌, ◌≢◌, ◌<◌, ℕ, List, Option, Some, None, Ok, Err}
+use Rattle.bench_model.specs.Counted.{BenchFault, store, device}
 use Rattle.bench_model.specs.History.{Leaves}
 use Rattle.bench_model.specs.State.{BenchState, cells_half}
 use Rattle.target_core.specs.World.{World}
@@ -47,19 +48,12 @@ pub record Follows (legs : List Leg) (goal : List ℕ) (a : Stand) (e : SessionE
   pub ends : EndsIn a (script legs broken) goal e new
   pub moments : Leaves (cells_half old) (cells_half new) (IsLeftOnWay a (script legs broken))
 
-abbrev pub is_device_end : SessionEnd → Bool
-is_device_end (end.Reached r) = false
-is_device_end (end.Mismatch d) = false
-is_device_end (end.CallFailed number call e) = false
-is_device_end end.DeviceFault = true
-is_device_end end.StoreFault = false
-
-abbrev pub is_store_end : SessionEnd → Bool
-is_store_end (end.Reached r) = false
-is_store_end (end.Mismatch d) = false
-is_store_end (end.CallFailed number call e) = false
-is_store_end end.DeviceFault = false
-is_store_end end.StoreFault = true
+abbrev pub end_fault : SessionEnd → Option BenchFault
+end_fault (end.Reached r) = None
+end_fault (end.Mismatch d) = None
+end_fault (end.CallFailed number call e) = None
+end_fault end.DeviceFault = Some device
+end_fault end.StoreFault = Some store
 
 -- what an end says for itself, on every bench: a place lies in the device, where two unequal bytes are wanted and found; a call that failed
 -- has a number, and was neither done nor broken off by a device fault

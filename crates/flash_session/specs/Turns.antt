@@ -1,10 +1,9 @@
 -- What a turn does to a target.
-use Rattle.std.specs.Prelude.{◌≡◌, ◌<◌, ◌+◌, ℕ, Bool, true, false, IsTrue, List, ◌∷◌, ◌++◌, drop, length}
+use Rattle.std.specs.Prelude.{◌≡◌, ◌<◌, ◌+◌, ℕ, Bool, IsTrue, Option, Some, None, List, ◌∷◌, ◌++◌, drop, length}
 use Rattle.bench_model.specs.History.{Leaves}
 use Rattle.bench_model.specs.State.{BenchState, file_half, cells_half}
 use Rattle.bench_model.specs.Calls.{FileIsRead, CellsStay}
-use Rattle.bench_model.specs.Device.{HasDeviceCause}
-use Rattle.job_file.specs.Counted.{IsCounted}
+use Rattle.bench_model.specs.Counted.{BenchFault, store, device, is_store_fault, is_device_fault, IsCounted}
 use Rattle.job_file.specs.Stops.{IsWholeOrClosed}
 use Rattle.target_core.specs.declared.run.RunEnd.{RunEnd}
 use Rattle.target_core.specs.Windows.{OnlyIn}
@@ -21,6 +20,8 @@ use Rattle.flash_session.specs.declared.target_end.Turn.{Turn}
 use Rattle.flash_session.specs.declared.target_end.Turn.TheVariants as turn
 use Rattle.flash_session.specs.Moves.{Move, Stand, IsLeftOnWay}
 use Rattle.flash_session.specs.declared.player.Player.{Player}
+use Rattle.flash_session.specs.Opened.{session_fault}
+use Rattle.flash_session.specs.Surveys.{survey_fault}
 use Rattle.flash_session.specs.Fit.{Fit, togo}
 use Rattle.flash_session.specs.Stands.{StandsOn}
 use Rattle.flash_session.specs.Targets.{setup_on, map_on}
@@ -45,28 +46,22 @@ IsUnended (place.Comparing at) = Unit {0}
 IsUnended place.Closing = Unit {0}
 IsUnended (place.Ended e) = ⊥
 
-abbrev pub is_device_target : TargetEnd → Bool
-is_device_target ended.DeviceFault = true
-is_device_target _ = false
+-- the fault that has ended a target, and that of its place
+abbrev pub target_fault : TargetEnd → Option BenchFault
+target_fault ended.Done = None
+target_fault (ended.Open fault) = session_fault fault
+target_fault (ended.Survey fault) = survey_fault fault
+target_fault (ended.CallFailed number call e) = None
+target_fault (ended.Mismatch d) = None
+target_fault ended.StoreFault = Some store
+target_fault ended.DeviceFault = Some device
 
-abbrev pub is_store_target : TargetEnd → Bool
-is_store_target ended.StoreFault = true
-is_store_target _ = false
-
--- a target that a fault of the device, or of the store, has ended
-abbrev pub is_device_place : Place → Bool
-is_device_place (place.At c) = false
-is_device_place (place.In call len left next) = false
-is_device_place (place.Comparing at) = false
-is_device_place place.Closing = false
-is_device_place (place.Ended e) = is_device_target e
-
-abbrev pub is_store_place : Place → Bool
-is_store_place (place.At c) = false
-is_store_place (place.In call len left next) = false
-is_store_place (place.Comparing at) = false
-is_store_place place.Closing = false
-is_store_place (place.Ended e) = is_store_target e
+abbrev pub place_fault : Place → Option BenchFault
+place_fault (place.At c) = None
+place_fault (place.In call len left next) = None
+place_fault (place.Comparing at) = None
+place_fault place.Closing = None
+place_fault (place.Ended e) = target_fault e
 
 abbrev pub turn_of : Place → Turn
 turn_of (place.At c) = turn.More
@@ -151,5 +146,5 @@ pub record Turns (tells : Bool) (goal : List ℕ) (old : Player) (arena : List (
   pub count : end.cell_count ≡ start.cell_count
   pub file : FileTurn tells old.place new.place start end
   -- a fault is an end only where it was counted, and counted only as an end
-  pub device : HasDeviceCause start.device_faults end.device_faults (is_device_place new.place)
-  pub store : IsCounted start.store_faults end.store_faults (is_store_place new.place)
+  pub device : IsCounted start.device_faults end.device_faults (is_device_fault (place_fault new.place))
+  pub store : IsCounted start.store_faults end.store_faults (is_store_fault (place_fault new.place))

@@ -2,8 +2,7 @@
 use Rattle.std.specs.Prelude.{◌≡◌, ℕ, Bool, true, false, IsTrue, List, length, Option, Some, None}
 use Rattle.bench_model.specs.State.{BenchState}
 use Rattle.bench_model.specs.Calls.{FileIsRead}
-use Rattle.bench_model.specs.Device.{HasDeviceCause}
-use Rattle.job_file.specs.Counted.{IsCounted}
+use Rattle.bench_model.specs.Counted.{is_store_fault, is_device_fault, IsCounted}
 use Rattle.flash_session.specs.declared.session.SessionEnd.{SessionEnd}
 use Rattle.flash_session.specs.declared.session.SessionEnd.TheVariants as end
 use Rattle.flash_session.specs.Moves.{Move, Stand}
@@ -15,7 +14,7 @@ use Rattle.flash_session.specs.declared.target_end.TargetEnd.TheVariants as ende
 use Rattle.flash_session.specs.declared.player.Player.{Player}
 use Rattle.flash_session.specs.Fit.{Fit}
 use Rattle.flash_session.specs.Stands.{StandsOn}
-use Rattle.flash_session.specs.Turns.{SameTarget, GoesOn, is_device_place, is_store_place}
+use Rattle.flash_session.specs.Turns.{SameTarget, GoesOn, place_fault}
 
 abbrev pub at_close : Place → Bool
 at_close (place.At c) = false
@@ -79,5 +78,5 @@ pub record Played (tells : Bool) (goal : List ℕ) (old : Player) (arena : List 
   pub before : IsPlayed new.place
   pub count : end.cell_count ≡ start.cell_count
   pub file : FileIsRead tells start end
-  pub device : HasDeviceCause start.device_faults end.device_faults (is_device_place new.place)
-  pub store : IsCounted start.store_faults end.store_faults (is_store_place new.place)
+  pub device : IsCounted start.device_faults end.device_faults (is_device_fault (place_fault new.place))
+  pub store : IsCounted start.store_faults end.store_faults (is_store_fault (place_fault new.place))

@@ -1,10 +1,9 @@
 //! The script and the comparison.
 ghost use Rattle.std.specs.Prelude.{◌≡◌, IsTrue, None};
-ghost use Rattle.bench_model.specs.Device.{HasDeviceCause};
+ghost use Rattle.bench_model.specs.Counted.{is_store_fault, is_device_fault, IsCounted};
 ghost use Rattle.board_file.specs.Limits.{size_of};
-ghost use Rattle.job_file.specs.Counted.{IsCounted};
 ghost use Rattle.bench_model.specs.Calls.{FileIsRead};
-ghost use Rattle.flash_session.specs.Outcome.{is_device_end, is_store_end, IsCompared, IsSound};
+ghost use Rattle.flash_session.specs.Outcome.{end_fault, IsCompared, IsSound};
 ghost use Rattle.job_text.specs.Stands.{StandsFor};
 ghost use Rattle.flash_session.specs.Sessions.{Goes};
 ghost use Rattle.flash_session.specs.Surveys.{survey_shown};
@@ -28,8 +27,8 @@ pub(crate) fn carry_out<B: Bench>(survey: &mut Survey, job: &Job, bench: &mut B)
     ensures work { IsSurvey job.now survey.new }
     ensures count { (B.state bench.new).cell_count ≡ (B.state bench.old).cell_count }
     ensures file { FileIsRead B.tells (B.state bench.old) (B.state bench.new) }
-    ensures store { IsCounted (B.state bench.old).store_faults (B.state bench.new).store_faults (is_store_end result) }
-    ensures cause { HasDeviceCause (B.state bench.old).device_faults (B.state bench.new).device_faults (is_device_end result) }
+    ensures store { IsCounted (B.state bench.old).store_faults (B.state bench.new).store_faults (is_store_fault (end_fault result)) }
+    ensures cause { IsCounted (B.state bench.old).device_faults (B.state bench.new).device_faults (is_device_fault (end_fault result)) }
 {
     survey.player.task.count();
     survey.player.restart(&mut survey.arena);

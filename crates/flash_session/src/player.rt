@@ -3,16 +3,15 @@ ghost use Rattle.std.specs.Prelude.{◌≡◌, ◌<◌, ◌≤◌, ◌+◌, ◌^
 ghost use Rattle.algo_calls.specs.Setups.{Setup};
 ghost use Rattle.algo_calls.specs.Shows.{setup_at, Fits, MayAsk};
 ghost use Rattle.bench_model.specs.Calls.{OnlyReads, FileIsRead};
-ghost use Rattle.bench_model.specs.Device.{HasDeviceCause};
+ghost use Rattle.bench_model.specs.Counted.{is_store_fault, is_device_fault, IsCounted};
 ghost use Rattle.bench_model.specs.History.{LeftOnly};
 ghost use Rattle.bench_model.specs.State.{file_half};
 ghost use Rattle.board_file.specs.Limits.{size_of};
 ghost use Rattle.faults.specs.Counts.{HasCause};
 ghost use Rattle.flash_session.specs.Goals.{goal_in};
 ghost use Rattle.flash_session.specs.Moves.{stand_at};
-ghost use Rattle.flash_session.specs.Outcome.{Follows, IsCompared, IsSound, is_device_end, is_store_end};
+ghost use Rattle.flash_session.specs.Outcome.{Follows, IsCompared, IsSound, end_fault};
 ghost use Rattle.flash_session.specs.Script.{has_verify};
-ghost use Rattle.job_file.specs.Counted.{IsCounted};
 ghost use Rattle.job_text.specs.Files.{IsWhole};
 ghost use Rattle.job_text.specs.Stands.{StandsFor};
 ghost use Rattle.flash_session.specs.declared.cursor.Cursor.TheVariants as at;
@@ -734,8 +733,8 @@ impl Player {
         ensures fit { Fit B.tells self.new arena.new (B.state bench.new) }
         ensures count { (B.state bench.new).cell_count ≡ (B.state bench.old).cell_count }
         ensures file { FileIsRead B.tells (B.state bench.old) (B.state bench.new) }
-        ensures store { IsCounted (B.state bench.old).store_faults (B.state bench.new).store_faults (is_store_end result) }
-        ensures cause { HasDeviceCause (B.state bench.old).device_faults (B.state bench.new).device_faults (is_device_end result) }
+        ensures store { IsCounted (B.state bench.old).store_faults (B.state bench.new).store_faults (is_store_fault (end_fault result)) }
+        ensures cause { IsCounted (B.state bench.old).device_faults (B.state bench.new).device_faults (is_device_fault (end_fault result)) }
     {
         'turns: loop {
             match self.stop() {

@@ -1,16 +1,15 @@
 //! The survey of a job's regions.
 ghost use Rattle.std.specs.Prelude.{◌≡◌, ◌<◌, ◌≤◌, ◌+◌, ◌^◌, ◌∷◌, option_to_list, IsTrue, IfOk, None, ◌++◌, ℕ, List, All, length, take, drop, is_some, OnOk};
 ghost use Rattle.bench_model.specs.Calls.{IsRead};
-ghost use Rattle.bench_model.specs.Device.{HasDeviceCause};
+ghost use Rattle.bench_model.specs.Counted.{is_store_fault, is_device_fault, fault_in, IsCounted};
 ghost use Rattle.board_file.specs.Limits.{size_of};
 ghost use Rattle.flm_descriptor.specs.Shown.{shown as algorithm_of};
-ghost use Rattle.job_file.specs.Counted.{IsCounted};
 ghost use Rattle.job_text.specs.Said.{algorithms_shown};
 ghost use Rattle.job_text.specs.Stands.{StandsFor};
 ghost use Rattle.flash_session.specs.Found.{IsFound, AreFound};
 ghost use Rattle.flash_session.specs.Goals.{goal_in};
 ghost use Rattle.flash_session.specs.Starts.{later_shown};
-ghost use Rattle.flash_session.specs.Surveys.{HasSurveyed, survey_shown, is_survey_device, is_survey_store};
+ghost use Rattle.flash_session.specs.Surveys.{HasSurveyed, survey_shown, survey_fault};
 ghost use Rattle.flash_session.specs.SurveyFacts.{HasRoom, IsSurvey};
 ghost use Rattle.erase_planner.specs.Marks.{Covers, Fed, SpareStays};
 ghost use Rattle.erase_planner.specs.Plans.{IsLeastPlan};
@@ -67,8 +66,8 @@ fn read_window<B: Bench>(
     ensures wanted { IsTrue B.tells → OnOk result (wanted.new ≡ take (length cells.old)
         (drop at (goal_in aim.now.job.now aim.now.goal (B.state bench.old).file))) }
     ensures reads { IsRead B.tells (B.state bench.old) (B.state bench.new) }
-    ensures store { IsCounted (B.state bench.old).store_faults (B.state bench.new).store_faults (is_survey_store result) }
-    ensures device { HasDeviceCause (B.state bench.old).device_faults (B.state bench.new).device_faults (is_survey_device result) }
+    ensures store { IsCounted (B.state bench.old).store_faults (B.state bench.new).store_faults (is_store_fault (fault_in survey_fault result)) }
+    ensures device { IsCounted (B.state bench.old).device_faults (B.state bench.new).device_faults (is_device_fault (fault_in survey_fault result)) }
 {
     read_cells(bench, at, cells)?;
     want_into(bench, aim.job, aim.goal, at, wanted)?;
@@ -120,8 +119,8 @@ fn survey_window<B: Bench>(
     ensures wanted { IsTrue B.tells → OnOk result (All (λ v. v < 2 ^ 8)
         (take (length cells.old) (drop (aim.now.start + at) (goal_in aim.now.job.now aim.now.goal (B.state bench.old).file)))) }
     ensures reads { IsRead B.tells (B.state bench.old) (B.state bench.new) }
-    ensures store { IsCounted (B.state bench.old).store_faults (B.state bench.new).store_faults (is_survey_store result) }
-    ensures device { HasDeviceCause (B.state bench.old).device_faults (B.state bench.new).device_faults (is_survey_device result) }
+    ensures store { IsCounted (B.state bench.old).store_faults (B.state bench.new).store_faults (is_store_fault (fault_in survey_fault result)) }
+    ensures device { IsCounted (B.state bench.old).device_faults (B.state bench.new).device_faults (is_device_fault (fault_in survey_fault result)) }
 {
     read_window(bench, aim, aim.start + at, cells, wanted)?;
     feed(aim, cells, wanted, plan);
@@ -168,8 +167,8 @@ fn survey_windows<B: Bench>(
     ensures wanted { IsTrue B.tells → OnOk result (All (λ v. v < 2 ^ 8)
         (take aim.now.algorithm.now.device.size (drop aim.now.start (goal_in aim.now.job.now aim.now.goal (B.state bench.old).file)))) }
     ensures reads { IsRead B.tells (B.state bench.old) (B.state bench.new) }
-    ensures store { IsCounted (B.state bench.old).store_faults (B.state bench.new).store_faults (is_survey_store result) }
-    ensures device { HasDeviceCause (B.state bench.old).device_faults (B.state bench.new).device_faults (is_survey_device result) }
+    ensures store { IsCounted (B.state bench.old).store_faults (B.state bench.new).store_faults (is_store_fault (fault_in survey_fault result)) }
+    ensures device { IsCounted (B.state bench.old).device_faults (B.state bench.new).device_faults (is_device_fault (fault_in survey_fault result)) }
 {
     plan_start(aim.geometry, plan);
     let count = aim.geometry.size() as usize;
@@ -207,8 +206,8 @@ fn read_and_plan<B: Bench>(bench: &mut B, aim: &Aim, plan: &mut Plan) -> Result<
     ensures wanted { IsTrue B.tells → OnOk result (All (λ v. v < 2 ^ 8)
         (take aim.now.algorithm.now.device.size (drop aim.now.start (goal_in aim.now.job.now aim.now.goal (B.state bench.old).file)))) }
     ensures reads { IsRead B.tells (B.state bench.old) (B.state bench.new) }
-    ensures store { IsCounted (B.state bench.old).store_faults (B.state bench.new).store_faults (is_survey_store result) }
-    ensures device { HasDeviceCause (B.state bench.old).device_faults (B.state bench.new).device_faults (is_survey_device result) }
+    ensures store { IsCounted (B.state bench.old).store_faults (B.state bench.new).store_faults (is_store_fault (fault_in survey_fault result)) }
+    ensures device { IsCounted (B.state bench.old).device_faults (B.state bench.new).device_faults (is_device_fault (fault_in survey_fault result)) }
 {
     survey_windows(bench, aim, &mut [0; WINDOW], &mut [0; WINDOW], plan)
 }
@@ -238,8 +237,8 @@ fn survey_region<B: Bench>(
     ensures found { IfOk result (λ r. IsFound B.tells job.now (algorithm_of algorithm.now) start (B.state bench.old).cells
         (goal_in job.now goal (B.state bench.old).file) r) }
     ensures reads { IsRead B.tells (B.state bench.old) (B.state bench.new) }
-    ensures store { IsCounted (B.state bench.old).store_faults (B.state bench.new).store_faults (is_survey_store result) }
-    ensures device { HasDeviceCause (B.state bench.old).device_faults (B.state bench.new).device_faults (is_survey_device result) }
+    ensures store { IsCounted (B.state bench.old).store_faults (B.state bench.new).store_faults (is_store_fault (fault_in survey_fault result)) }
+    ensures device { IsCounted (B.state bench.old).device_faults (B.state bench.new).device_faults (is_device_fault (fault_in survey_fault result)) }
 {
     // `byte` of this call: what an erased cell holds is a byte
     let _empty = empty_of(algorithm);
@@ -278,8 +277,8 @@ fn survey_second<B: Bench>(
     ensures found { IfOk result (λ r. AreFound B.tells job.now first.now.device.size (later_shown second.entry) (B.state bench.old).cells
         (goal_in job.now goal (B.state bench.old).file) (option_to_list r)) }
     ensures reads { IsRead B.tells (B.state bench.old) (B.state bench.new) }
-    ensures store { IsCounted (B.state bench.old).store_faults (B.state bench.new).store_faults (is_survey_store result) }
-    ensures device { HasDeviceCause (B.state bench.old).device_faults (B.state bench.new).device_faults (is_survey_device result) }
+    ensures store { IsCounted (B.state bench.old).store_faults (B.state bench.new).store_faults (is_store_fault (fault_in survey_fault result)) }
+    ensures device { IsCounted (B.state bench.old).device_faults (B.state bench.new).device_faults (is_device_fault (fault_in survey_fault result)) }
 {
     match second {
         Some(algorithm) => {
@@ -315,8 +314,8 @@ pub(crate) fn survey_for<B: Bench>(
     ensures found { IfOk result (λ w. HasSurveyed B.tells job.now goal (B.state bench.old).file (B.state bench.old).cells (survey_shown w)) }
     ensures work { IfOk result (IsSurvey job.now) }
     ensures reads { IsRead B.tells (B.state bench.old) (B.state bench.new) }
-    ensures store { IsCounted (B.state bench.old).store_faults (B.state bench.new).store_faults (is_survey_store result) }
-    ensures device { HasDeviceCause (B.state bench.old).device_faults (B.state bench.new).device_faults (is_survey_device result) }
+    ensures store { IsCounted (B.state bench.old).store_faults (B.state bench.new).store_faults (is_store_fault (fault_in survey_fault result)) }
+    ensures device { IsCounted (B.state bench.old).device_faults (B.state bench.new).device_faults (is_device_fault (fault_in survey_fault result)) }
 {
     let (algorithm, other) = algorithms_of(job);
     let machines = calls_of_job(alloc, job)?;

@@ -5,9 +5,9 @@ ghost use Rattle.board_file.specs.Limits.{size_of};
 ghost use Rattle.faults.specs.Counts.{HasCause};
 ghost use Rattle.flash_session.specs.Differs.{FindsIn};
 ghost use Rattle.flash_session.specs.Goals.{goal_in};
-ghost use Rattle.job_file.specs.Counted.{IsCounted};
+ghost use Rattle.bench_model.specs.Counted.{is_store_fault, is_device_fault, fault_in, IsCounted};
 ghost use Rattle.job_text.specs.Stands.{StandsFor};
-ghost use Rattle.flash_session.specs.Reads.{is_unread_store, is_unread_device};
+ghost use Rattle.flash_session.specs.Reads.{unread_fault};
 
 use crate::goal::{Goal, want_into};
 use bench_model::{Bench, DeviceFault, StoreFault};
@@ -59,8 +59,8 @@ pub(crate) fn compare_window<B: Bench>(
     requires stands { IsTrue B.tells → StandsFor job.now (B.state bench.old).file }
     ensures ok { IfOk result (λ found. FindsIn B.tells (B.state bench.old).cells (goal_in job.now goal (B.state bench.old).file) at (length wanted.old) found) }
     ensures reads { IsRead B.tells (B.state bench.old) (B.state bench.new) }
-    ensures store { IsCounted (B.state bench.old).store_faults (B.state bench.new).store_faults (is_unread_store result) }
-    ensures device { IsCounted (B.state bench.old).device_faults (B.state bench.new).device_faults (is_unread_device result) }
+    ensures store { IsCounted (B.state bench.old).store_faults (B.state bench.new).store_faults (is_store_fault (fault_in unread_fault result)) }
+    ensures device { IsCounted (B.state bench.old).device_faults (B.state bench.new).device_faults (is_device_fault (fault_in unread_fault result)) }
 {
     match want_into(bench, job, goal, at, wanted) {
         Ok(()) => {}

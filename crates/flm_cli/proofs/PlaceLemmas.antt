@@ -1,30 +1,21 @@
--- From the regions one by one to all cells. `find_in_regions` and `find_in_both` count places over both regions by them.
-use Rattle.std.proofs.Common.{◌≡◌, ◌≢◌, ◌<◌, ◌≤◌, ◌+◌, ◌-◌, ◌∙◌, sym, ap, subst, refl, arith, ⊎_elim, ℕ, Bool, true, false, IsTrue, nat_lt, if◌then◌else◌, List, [], ◌∷◌, slice_index, Option, Some, None, is_some, Result, Ok, Err, IfOk}
-use Rattle.bench_model.specs.declared.bench_fault.DeviceFault.{DeviceFault}
+-- From the regions one by one to all cells. `find_in_regions` counts places over all of them by these.
+use Rattle.std.proofs.Common.{◌≡◌, ◌≢◌, ◌<◌, ◌≤◌, ◌+◌, ◌-◌, ◌∙◌, sym, ap, subst, refl, arith, ⊎_elim, ℕ, Bool, true, false, IsTrue, List, [], ◌∷◌, length, get_or, drop, slice_index, Option, Some, None, is_some}
+use Rattle.std.proofs.lemmas.List.{drop_more, drop_all}
+use Rattle.std.proofs.lemmas.List.Sums.{sum_by-cons}
 use Rattle.std.proofs.lemmas.Bool.{cases_lt}
-use Rattle.std.proofs.lemmas.Bool.Decides.{nat_tests}
+use Rattle.bench_model.specs.State.{BenchState}
 use Rattle.byte_map.specs.Image.{Run, byte_at}
 use Rattle.board_file.specs.declared.region.Region.{Region}
+use Rattle.board_file.specs.Limits.{size_of}
 use Rattle.readback.specs.declared.compare.Difference.{Difference}
+use Rattle.readback.specs.Readback.{OnlyReadsCells}
+use Rattle.readback.proofs.ReadbackLemmas.{only_reads_cells_here, only_reads_cells_then}
 use Rattle.command_answers.specs.Places.{address_at}
-use Rattle.flm_cli.specs.Verify.{wanted_at, CellsAgree, IsLeastDifference}
+use Rattle.command_answers.proofs.PlaceLemmas.{chosen_first, chosen_later, address_first, address_later}
+use Rattle.flm_cli.specs.Verify.{wanted_at}
 use Rattle.flm_cli.specs.Steps.{FindsInImage, RegionAgreesBelow, IsFirstInRegion, FindsInRegion}
 
 -- A place in the first region, and one behind it.
-
-when_true : {A : Type 0} (b : Bool) (x y : A) → b ≡ true → (if b then x else y) ≡ x
-when_true true x y is = refl
-when_true false x y is = absurd (cc)
-
-when_false : {A : Type 0} (b : Bool) (x y : A) → b ≡ false → (if b then x else y) ≡ y
-when_false true x y isn't = absurd (cc)
-when_false false x y isn't = refl
-
-chosen_first : {A : Type 0} (m n : ℕ) (x y : A) → m < n → (if nat_lt m n then x else y) ≡ x
-chosen_first m n x y less = when_true (nat_lt m n) x y (grind (arith, nat_tests))
-
-chosen_later : {A : Type 0} (m n : ℕ) (x y : A) → n ≤ m → (if nat_lt m n then x else y) ≡ y
-chosen_later m n x y most = when_false (nat_lt m n) x y (grind (arith, nat_tests))
 
 module _ (region : Region) (rest : List Region) (image : List Run) where
   wanted_first : (place : ℕ) → place < region.size → wanted_at (region ∷ rest) image place ≡ byte_at image (region.base + place)
@@ -32,12 +23,6 @@ module _ (region : Region) (rest : List Region) (image : List Run) where
 
   wanted_later : (place : ℕ) → region.size ≤ place → wanted_at (region ∷ rest) image place ≡ wanted_at rest image (place - region.size)
   wanted_later place most = chosen_later place region.size (byte_at image (region.base + place)) (wanted_at rest image (place - region.size)) most
-
-  address_first : (place : ℕ) → place < region.size → address_at (region ∷ rest) place ≡ Some (region.base + place)
-  address_first place less = chosen_first place region.size (Some (region.base + place)) (address_at rest (place - region.size)) less
-
-  address_later : (place : ℕ) → region.size ≤ place → address_at (region ∷ rest) place ≡ address_at rest (place - region.size)
-  address_later place most = chosen_later place region.size (Some (region.base + place)) (address_at rest (place - region.size)) most
 
 -- Regions whose first cell has the place `start`.
 
@@ -74,7 +59,7 @@ module _ (cells : List ℕ) (start : ℕ) (region : Region) (rest : List Region)
         → LeastFrom tells cells start (region ∷ rest) image at wanted found
     first_here at wanted found is = record {
       place = is.offset;
-      address = address_first region rest image is.offset is.inside ∙ ap (λ (n : ℕ). Some n) (sym is.address);
+      address = address_first region rest is.offset is.inside ∙ ap (λ (n : ℕ). Some n) (sym is.address);
       is_wanted = wanted_first region rest image is.offset is.inside ∙ is.is_wanted;
       unequal = is.unequal;
       is_found = is.is_found;
@@ -91,7 +76,7 @@ module _ (cells : List ℕ) (start : ℕ) (region : Region) (rest : List Region)
         let sum : (start + region.size) + is.place ≡ start + place = omega arith in
         record {
           place = place;
-          address = address_later region rest image place (omega arith) ∙ ap (address_at rest) back ∙ is.address;
+          address = address_later region rest place (omega arith) ∙ ap (address_at rest) back ∙ is.address;
           is_wanted = wanted_later region rest image place (omega arith) ∙ ap (wanted_at rest image) back ∙ is.is_wanted;
           unequal = is.unequal;
           is_found = λ told. ap (λ (p : ℕ). slice_index cells p) (sym sum) ∙ is.is_found told;
@@ -103,11 +88,6 @@ module _ (cells : List ℕ) (start : ℕ) (region : Region) (rest : List Region)
               ∙ is.least told (p - region.size) byte (omega (arith, below, most)) (sym (wanted_later region rest image p most) ∙ held))
               (cases_lt p region.size);
         }
-
-    in_first : (found : Option Difference) → FindsInRegion tells cells start region.base region.size image found → rest ≡ [] → FindsFrom tells cells start (region ∷ rest) image found
-    in_first None finds none = λ told. agree_then (finds told)
-        (subst (λ (rs : List Region). AgreeFrom cells (start + region.size) rs image) (sym none) (no_region cells (start + region.size) image))
-    in_first (Some d) finds none = first_here d.at d.want d.got finds
 
     in_later : (found : Option Difference) → (IsTrue tells → RegionAgreesBelow cells start region.base image region.size)
         → FindsFrom tells cells (start + region.size) rest image found → FindsFrom tells cells start (region ∷ rest) image found
@@ -135,61 +115,18 @@ from_zero tells cells regions image (Some d) finds =
       },
     )
 
--- one region
-pub finds_in_one : (tells : Bool) (cells : List ℕ) (regions : List Region) (region : Region) (image : List Run) (found : Option Difference) → regions ≡ region ∷ []
-    → FindsInRegion tells cells 0 region.base region.size image found → FindsInImage tells cells regions image found
-finds_in_one tells cells regions region image found only finds = from_zero tells cells regions image found
-    (subst (λ (rs : List Region). FindsFrom tells cells 0 rs image found) (sym only) (in_first cells 0 region [] image tells found finds refl))
-
--- the first of regions differs
-pub finds_in_first : (tells : Bool) (cells : List ℕ) (regions : List Region) (region : Region) (rest : List Region) (image : List Run) (d : Difference)
-    → regions ≡ region ∷ rest → FindsInRegion tells cells 0 region.base region.size image (Some d) → FindsInImage tells cells regions image (Some d)
-finds_in_first tells cells regions region rest image d are finds = from_zero tells cells regions image (Some d)
-    (subst (λ (rs : List Region). FindsFrom tells cells 0 rs image (Some d)) (sym are) (first_here cells 0 region rest image tells d.at d.want d.got finds))
-
--- it agrees, and the second is looked at
-pub finds_in_second : (tells : Bool) (cells : List ℕ) (regions : List Region) (one two : Region) (image : List Run) (found : Option Difference)
-    → regions ≡ one ∷ two ∷ [] → FindsInRegion tells cells 0 one.base one.size image None → FindsInRegion tells cells one.size two.base two.size image found
-    → FindsInImage tells cells regions image found
-finds_in_second tells cells regions one two image found are first second =
-    let start : one.size ≡ 0 + one.size = omega arith in
-    from_zero tells cells regions image found
-    (subst (λ (rs : List Region). FindsFrom tells cells 0 rs image found) (sym are)
-    (in_later cells 0 one (two ∷ []) image tells found first
-    (subst (λ (n : ℕ). FindsFrom tells cells n (two ∷ []) image found) start (in_first cells one.size two [] image tells found second refl))))
-
 -- the byte that is wanted at a place is the image's byte at its address
 pub wanted_address : (regions : List Region) (image : List Run) (place at byte : ℕ) → address_at regions place ≡ Some at → wanted_at regions image place ≡ Some byte
     → byte_at image at ≡ Some byte
 wanted_address [] image place at byte address wanted = absurd (cc)
 wanted_address (region ∷ rest) image place at byte address wanted = ⊎_elim
     (λ (less : place < region.size).
-    let here : Some (region.base + place) ≡ Some at = sym (address_first region rest image place less) ∙ address in
+    let here : Some (region.base + place) ≡ Some at = sym (address_first region rest place less) ∙ address in
     let same : region.base + place ≡ at = cc in
     ap (byte_at image) (sym same) ∙ sym (wanted_first region rest image place less) ∙ wanted)
     (λ (most : region.size ≤ place). wanted_address rest image (place - region.size) at byte
-    (sym (address_later region rest image place most) ∙ address) (sym (wanted_later region rest image place most) ∙ wanted))
+    (sym (address_later region rest place most) ∙ address) (sym (wanted_later region rest image place most) ∙ wanted))
     (cases_lt place region.size)
-
--- The same of what the steps answer.
-
-pub one_finds : (tells : Bool) (cells : List ℕ) (regions : List Region) (region : Region) (image : List Run) → regions ≡ region ∷ []
-    → (result : Result (Option Difference) DeviceFault) → IfOk result (FindsInRegion tells cells 0 region.base region.size image)
-    → IfOk result (FindsInImage tells cells regions image)
-one_finds tells cells regions region image only (Ok found) finds = finds_in_one tells cells regions region image found only finds
-one_finds tells cells regions region image only (Err e) finds = tt
-
-pub first_differs : (tells : Bool) (cells : List ℕ) (regions : List Region) (one two : Region) (image : List Run) (found : Option Difference)
-    → regions ≡ one ∷ two ∷ [] → FindsInRegion tells cells 0 one.base one.size image found → is_some found ≡ true → FindsInImage tells cells regions image found
-first_differs tells cells regions one two image None are finds some = absurd (cc)
-first_differs tells cells regions one two image (Some d) are finds some = finds_in_first tells cells regions one (two ∷ []) image d are finds
-
-found_later : (tells : Bool) (cells : List ℕ) (regions : List Region) (one two : Region) (image : List Run) (found : Option Difference)
-    (result : Result (Option Difference) DeviceFault) → regions ≡ one ∷ two ∷ [] → FindsInRegion tells cells 0 one.base one.size image found → is_some found ≡ false
-    → IfOk result (FindsInRegion tells cells one.size two.base two.size image) → IfOk result (FindsInImage tells cells regions image)
-found_later tells cells regions one two image None (Ok later) are first none second = finds_in_second tells cells regions one two image later are first second
-found_later tells cells regions one two image None (Err e) are first none second = tt
-found_later tells cells regions one two image (Some d) result are first none second = absurd (cc)
 
 -- where the bench tells nothing, what was found says nothing of the cells
 untold : (cells mid : List ℕ) (start base size : ℕ) (image : List Run) (found : Option Difference) → FindsInRegion false mid start base size image found
@@ -205,21 +142,67 @@ untold cells mid start base size image (Some d) finds = record {
   least = λ told. absurd (cc);
 }
 
--- the second region was looked at with the same cells
+-- a region was looked at with the same cells
 same_cells : (tells : Bool) (cells mid : List ℕ) (start base size : ℕ) (image : List Run) (found : Option Difference) → (IsTrue tells → mid ≡ cells)
     → FindsInRegion tells mid start base size image found → FindsInRegion tells cells start base size image found
 same_cells true cells mid start base size image found same finds =
     subst (λ (l : List ℕ). FindsInRegion true l start base size image found) (same refl) finds
 same_cells false cells mid start base size image found same finds = untold cells mid start base size image found finds
 
-same_results : (tells : Bool) (cells mid : List ℕ) (start base size : ℕ) (image : List Run) (result : Result (Option Difference) DeviceFault)
-    → (IsTrue tells → mid ≡ cells) → IfOk result (FindsInRegion tells mid start base size image) → IfOk result (FindsInRegion tells cells start base size image)
-same_results tells cells mid start base size image (Ok found) same finds = same_cells tells cells mid start base size image found same finds
-same_results tells cells mid start base size image (Err e) same finds = tt
+-- Region by region: those before this one agree, and what the others have is what all have.
+pub record RegionsSoFar (tells : Bool) (old now : BenchState) (regions : List Region) (image : List Run) (index start : ℕ) : Type 0 where
+  pub bench : OnlyReadsCells tells old now
+  pub faults : now.device_faults ≡ old.device_faults
+  pub places : start + size_of (drop index regions) ≡ size_of regions
+  pub rest : (found : Option Difference) → FindsFrom tells old.cells start (drop index regions) image found → FindsFrom tells old.cells 0 regions image found
 
-pub second_finds : (tells : Bool) (cells mid : List ℕ) (regions : List Region) (one two : Region) (image : List Run) (found : Option Difference)
-    (result : Result (Option Difference) DeviceFault) → regions ≡ one ∷ two ∷ [] → (IsTrue tells → mid ≡ cells)
-    → FindsInRegion tells cells 0 one.base one.size image found → is_some found ≡ false
-    → IfOk result (FindsInRegion tells mid one.size two.base two.size image) → IfOk result (FindsInImage tells cells regions image)
-second_finds tells cells mid regions one two image found result are same first none second =
-    found_later tells cells regions one two image found result are first none (same_results tells cells mid one.size two.base two.size image result same second)
+pub none_so_far : (tells : Bool) (s : BenchState) (regions : List Region) (image : List Run) → RegionsSoFar tells s s regions image 0 0
+none_so_far tells s regions image = record { bench = only_reads_cells_here tells s; faults = refl; places = omega arith; rest = λ found finds. finds }
+
+module _ (tells : Bool) (old now : BenchState) (regions : List Region) (image : List Run) (index start : ℕ) (so_far : RegionsSoFar tells old now regions image index start)
+    (region : Region) (less : index < length regions) (is : region ≡ get_or regions index region) where
+  front : drop index regions ≡ region ∷ drop (index + 1) regions
+  front = drop_more regions index region less ∙ ap (λ (x : Region). x ∷ drop (index + 1) regions) (sym is)
+
+  -- its cells lie among all
+  pub fits : start + (region.size + size_of (drop (index + 1) regions)) ≡ size_of regions
+  fits = omega (arith, so_far.places, ap size_of front, sum_by-cons (λ (r : Region). r.size) region (drop (index + 1) regions))
+
+  module _ (found : Option Difference) (finds : FindsInRegion tells now.cells start region.base region.size image found) where
+    here : FindsInRegion tells old.cells start region.base region.size image found
+    here = same_cells tells old.cells now.cells start region.base region.size image found (λ told. so_far.bench.cells told) finds
+
+    from_here : (o : Option Difference) → FindsFrom tells old.cells start (region ∷ drop (index + 1) regions) image o → FindsFrom tells old.cells 0 regions image o
+    from_here o one = so_far.rest o (subst (λ (rs : List Region). FindsFrom tells old.cells start rs image o) (sym front) one)
+
+    -- it differs
+    differs_by : (o : Option Difference) → found ≡ o → is_some o ≡ true → FindsInImage tells old.cells regions image o
+    differs_by None same some = absurd (cc)
+    differs_by (Some d) same some =
+        from_zero tells old.cells regions image (Some d) (from_here (Some d)
+        (first_here old.cells start region (drop (index + 1) regions) image tells d.at d.want d.got
+        (subst (λ (o : Option Difference). FindsInRegion tells old.cells start region.base region.size image o) same here)))
+
+    pub region_differs : is_some found ≡ true → FindsInImage tells old.cells regions image found
+    region_differs some = differs_by found refl some
+
+    -- it agrees
+    agrees_by : (o : Option Difference) → found ≡ o → is_some o ≡ false → IsTrue tells → RegionAgreesBelow old.cells start region.base image region.size
+    agrees_by None same none = subst (λ (o : Option Difference). FindsInRegion tells old.cells start region.base region.size image o) same here
+    agrees_by (Some d) same none = absurd (cc)
+
+    pub regions_then : (after : BenchState) → is_some found ≡ false → OnlyReadsCells tells now after → after.device_faults ≡ now.device_faults
+        → RegionsSoFar tells old after regions image (index + 1) (start + region.size)
+    regions_then after none reads faults = record {
+      bench = only_reads_cells_then so_far.bench reads;
+      faults = faults ∙ so_far.faults;
+      places = omega (arith, fits);
+      rest = λ o later. from_here o (in_later old.cells start region (drop (index + 1) regions) image tells o (agrees_by found refl none) later);
+    }
+
+-- all regions agree
+pub all_regions : (tells : Bool) (old now : BenchState) (regions : List Region) (image : List Run) (index start : ℕ) → RegionsSoFar tells old now regions image index start
+    → length regions ≤ index → FindsInImage tells old.cells regions image None
+all_regions tells old now regions image index start so_far all =
+    from_zero tells old.cells regions image None (so_far.rest None
+    (subst (λ (rs : List Region). FindsFrom tells old.cells start rs image None) (sym (drop_all index regions all)) (λ told. no_region old.cells start image)))

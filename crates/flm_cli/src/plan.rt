@@ -1,5 +1,5 @@
 //! `plan [--raw-at ADDR] BOARD FLM IMAGE...`: what would be erased and programmed to bring images into the cells.
-ghost use Rattle.std.specs.Prelude.{◌≡◌, ◌≤◌, ◌<◌, ◌+◌, ◌++◌, ◌^◌, ℕ, List, All, IsSome, IsTrue, IfOk, OnOk, Some, None, length, map, slice_get};
+ghost use Rattle.std.specs.Prelude.{◌≡◌, ◌≤◌, ◌<◌, ◌+◌, ◌++◌, ◌^◌, ℕ, List, All, IsSome, IsTrue, IfOk, OnOk, IfSome, Some, None, length, map, slice_get};
 ghost use Rattle.bench_model.specs.Does.{ReadsCells};
 ghost use Rattle.board_file.specs.Limits.{size_of};
 ghost use Rattle.flm_descriptor.specs.Shown.{shown};
@@ -118,20 +118,36 @@ fn print_both<'a, B: Bench, O: Sink>(
     ensures { PlansCells (bench_call B.tells (B.state bench.old) (B.state bench.new)) (sink_call O.tells (O.state out.old) (O.state out.new))
         (text_of (aim_of wanted.now)) (answer_of result) }
 {
+    let algorithm = algorithm_at(wanted, 0);
+    let other_algorithm = algorithm_at(wanted, 1);
+    let (mut buffers, mut other_buffers) = make_both_buffers(alloc, algorithm, other_algorithm)?;
+    print_from(wanted, bench, out, &mut buffers, &mut other_buffers)
+}
+
+/// Reads the cells of the two regions into these buffers, and prints the plans from them.
+fn print_from<'a, B: Bench, O: Sink>(
+    wanted: &Wanted,
+    bench: &mut B,
+    out: &mut O,
+    buffers: &mut PlanBuffers,
+    other_buffers: &mut PlanBuffers,
+) -> Result<(), Refusal<'a>>
+    requires two { length wanted.now.board.regions ≡ 2 }
+    requires sized { AreSized wanted.now.board.regions (map shown wanted.now.algorithms.items) }
+    requires cells { size_of wanted.now.board.regions ≡ (B.state bench.old).cell_count }
+    requires first { IfSome (slice_get wanted.now.algorithms.items 0) (λ a. AreBuffersFor (shown a) buffers.old) }
+    requires second { IfSome (slice_get wanted.now.algorithms.items 1) (λ a. AreBuffersFor (shown a) other_buffers.old) }
+    ensures { PlansCells (bench_call B.tells (B.state bench.old) (B.state bench.new)) (sink_call O.tells (O.state out.old) (O.state out.new))
+        (text_of (aim_of wanted.now)) (answer_of result) }
+{
     let base = base_of(&wanted.board, 0);
     let other_base = base_of(&wanted.board, 1);
     let algorithm = algorithm_at(wanted, 0);
     let other_algorithm = algorithm_at(wanted, 1);
-    let (mut buffers, mut other_buffers) = make_both_buffers(alloc, algorithm, other_algorithm)?;
-    survey_both(
-        bench,
-        &mut buffers,
-        algorithm.device.size,
-        &mut other_buffers,
-    )?;
-    choose_plan(wanted, algorithm, base, &mut buffers);
-    choose_plan(wanted, other_algorithm, other_base, &mut other_buffers);
-    put_both(out, base, &buffers, other_base, &other_buffers)?;
+    survey_both(bench, buffers, algorithm.device.size, other_buffers)?;
+    choose_plan(wanted, algorithm, base, buffers);
+    choose_plan(wanted, other_algorithm, other_base, other_buffers);
+    put_both(out, base, buffers, other_base, other_buffers)?;
     Ok(())
 }
 

@@ -1,5 +1,5 @@
 //! `verify [--raw-at ADDR] BOARD IMAGE...`: the cells against the image of files, on a board.
-ghost use Rattle.std.specs.Prelude.{◌≡◌, ℕ, List, All, Option, None, ◌≤◌, ◌<◌, ◌+◌, ◌^◌, ◌∷◌, [], Some, length, slice_get, IsTrue, IfOk};
+ghost use Rattle.std.specs.Prelude.{◌≡◌, ℕ, List, All, Option, None, ◌≤◌, ◌<◌, ◌+◌, ◌^◌, ◌∷◌, [], Some, length, IsTrue, IfOk};
 ghost use Rattle.command_words.specs.Files.{names_in};
 ghost use Rattle.command_words.specs.Requested.{files_of};
 ghost use Rattle.command_files.specs.Inputs.{inputs_call};
@@ -66,7 +66,7 @@ pub fn find_in_image<B: Bench>(
     find_in_regions(bench, board, image, &mut [0; WINDOW])
 }
 
-/// Compares the cells of one region or two with an image, region after region up to the first in which a cell differs.
+/// Compares the cells of a board's regions with an image, region after region up to the first in which a cell differs.
 fn find_in_regions<B: Bench>(
     bench: &mut B,
     board: &Board,
@@ -80,44 +80,16 @@ fn find_in_regions<B: Bench>(
     ensures bench { OnlyReadsCells B.tells (B.state bench.old) (B.state bench.new) }
     ensures cause { HasCause (B.state bench.old).device_faults (B.state bench.new).device_faults result }
 {
-    let first = region_at(board, 0);
-    let count = board.regions.as_slice().len();
-    if count == 1 {
-        return find_in_region(bench, 0, first, image, window);
+    let regions = board.regions.as_slice();
+    let mut start = 0;
+    for region in regions {
+        let found = find_in_region(bench, start, region, image, window)?;
+        if found.is_some() {
+            return Ok(found);
+        }
+        start += region.size;
     }
-    find_in_both(bench, board, image, window)
-}
-
-/// The same of two regions.
-fn find_in_both<B: Bench>(
-    bench: &mut B,
-    board: &Board,
-    image: &ByteMap,
-    window: &mut [u8],
-) -> Result<Option<Difference>, DeviceFault>
-    requires two { length board.now.regions ≡ 2 }
-    requires cells { size_of board.now.regions ≡ (B.state bench.old).cell_count }
-    requires room { 0 < length window.old }
-    requires idle { IsTrue B.tells → (B.state bench.old).operation ≡ None }
-    ensures ok { IfOk result (FindsInImage B.tells (B.state bench.old).cells board.now.regions image.now) }
-    ensures bench { OnlyReadsCells B.tells (B.state bench.old) (B.state bench.new) }
-    ensures cause { HasCause (B.state bench.old).device_faults (B.state bench.new).device_faults result }
-{
-    let first = region_at(board, 0);
-    let second = region_at(board, 1);
-    let found = find_in_region(bench, 0, first, image, window)?;
-    if found.is_some() {
-        return Ok(found);
-    }
-    find_in_region(bench, first.size, second, image, window)
-}
-
-/// The region of this number.
-fn region_at(board: &Board, index: usize) -> &Region
-    requires { index < length board.now.regions }
-    ensures { slice_get board.now.regions index ≡ Some result.now }
-{
-    &board.regions.as_slice()[index]
+    Ok(None)
 }
 
 /// Compares the cells of a region, of which the first has the place `start`, with an image, from the least address on up to the first

@@ -3,7 +3,7 @@ use Rattle.std.proofs.Common.{◌≡◌, ◌⊎◌, ⊎_elim, inl, inr, ◌<◌,
 use Rattle.std.proofs.lemmas.List.{length-map}
 use Rattle.faults.specs.Counts.{Rose}
 use Rattle.bench_model.specs.declared.bench.Bench.{Ghosts}
-use Rattle.bench_model.specs.Device.{HasDeviceCause}
+use Rattle.bench_model.specs.Counted.{is_store_fault, is_device_fault, IsCounted}
 use Rattle.bench_model.specs.Pairs.{PairsLeave}
 use Rattle.bench_model.specs.State.{BenchState, Left, file_half, cells_half}
 use Rattle.bench_model.proofs.Moments.{goes_here}
@@ -18,7 +18,6 @@ use Rattle.job_text.specs.Files.{IsFree, IsWhole}
 use Rattle.job_text.specs.Said.{algorithms_shown}
 use Rattle.job_text.specs.Stands.{StandsFor, IsSomeJob, snapshot_in}
 use Rattle.job_text.specs.declared.job.Job.{Job}
-use Rattle.job_file.specs.Counted.{IsCounted}
 use Rattle.job_file.specs.declared.fault.OpenFault.TheVariants as opening
 use Rattle.campaign.specs.Campaign.{Keeps}
 use Rattle.campaign.specs.Stops.{CampaignJob, IsDone, WorkStops}
@@ -33,7 +32,7 @@ use Rattle.flash_session.specs.declared.goal.Goal.{Goal}
 use Rattle.flash_session.specs.declared.goal.Goal.TheVariants.{New}
 use Rattle.flash_session.specs.Goals.{overlaid, goal_in}
 use Rattle.flash_session.specs.Opened.{IsSessionFault}
-use Rattle.flash_session.specs.Outcome.{Follows, is_device_end, is_store_end, IsReached}
+use Rattle.flash_session.specs.Outcome.{Follows, end_fault, IsReached}
 use Rattle.flash_session.specs.Script.{Leg}
 use Rattle.flash_session.specs.Sessions.{Goes, IsAsSurveyed, JobServes, job_legs}
 use Rattle.flash_session.specs.Starts.{job_start}
@@ -51,12 +50,13 @@ use Rattle.gang_run.specs.declared.gang.Gang.{Gang}
 use Rattle.gang_run.specs.Gangs.{AreReady}
 use Rattle.gang_run.specs.Opening.{AreOpened}
 use Rattle.gang_run.specs.Slots.{OpensWithMemory, HasMemory}
+use Rattle.flash_session.specs.Turns.{target_fault}
 use Rattle.gang_commands.specs.Ends.{AllFinished, as_resume, KeepsOn, AllKeep, IsServed, AllServed, NoneRose, NoneRoseIn}
 use Rattle.gang_commands.specs.Gangs.{HasNoUsage, HasNoMemory, HaveEnded, Answers}
 use Rattle.gang_commands.specs.Lines.{Outcome, reason_in, status_before, status_in}
 use Rattle.gang_commands.specs.Puts.{outcome_of, outcomes, Runs}
 use Rattle.gang_commands.specs.Words.{DoFit}
-use Rattle.gang_commands.specs.Works.{aim_of, Carries, Comes, is_store, is_device, IsSound}
+use Rattle.gang_commands.specs.Works.{aim_of, Carries, Comes, IsSound}
 use Rattle.gang_commands.proofs.CarryLemmas.{all_end}
 use Rattle.gang_commands.proofs.WordLemmas.{some_benches}
 
@@ -200,11 +200,11 @@ keeps_by G status s x t ended.DeviceFault is comes done = one_keeps G status s x
 
 abbrev pub Reaches : {B : Type 0} → Ghosts B → Type 0
 Reaches {B} G = (j : Job) (w : Surveyed) (e : SessionEnd) (start now : B) → IsTrue G.tells → StandsFor j (G.state start).file → (G.state start).cell_count ≡ size_of j.board.regions
-    → JobServes j → IsAsSurveyed G.tells j (G.state start) w → Goes j w e (G.state start) (G.state now) → is_device_end e ≡ false → is_store_end e ≡ false → IsReached e
+    → JobServes j → IsAsSurveyed G.tells j (G.state start) w → Goes j w e (G.state start) (G.state now) → is_device_fault (end_fault e) ≡ false → is_store_fault (end_fault e) ≡ false → IsReached e
 
 module _ {B : Type 0} (G : Ghosts B) (told : IsTrue G.tells) (law : Reaches G) (s : BenchState) (x : Outcome) (after : B) (served : IsServed s) (none_rose : NoneRose s (G.state after)) where
   reached_by : (c : Carries G s x (G.state after)) (e : SessionEnd)
-      → Follows (job_legs c.job c.surveyed s.file) (goal_in c.job New s.file) (job_start c.job (G.state c.begun).cells) e (G.state c.begun) (G.state after) → is_device_end e ≡ false → is_store_end e ≡ false → IsReached e
+      → Follows (job_legs c.job c.surveyed s.file) (goal_in c.job New s.file) (job_start c.job (G.state c.begun).cells) e (G.state c.begun) (G.state after) → is_device_fault (end_fault e) ≡ false → is_store_fault (end_fault e) ≡ false → IsReached e
   reached_by c e follows device store =
       let begun = G.state c.begun in
       let file : begun.file ≡ s.file = c.looked.file told in
@@ -220,8 +220,8 @@ module _ {B : Type 0} (G : Ghosts B) (told : IsTrue G.tells) (law : Reaches G) (
       (ap (λ (g : Goal). goal_in c.job g s.file) (sym c.found.goal) ∙ ap (λ (f : List ℕ). goal_in c.job c.surveyed.goal f) (sym file)) follows) in
       law c.job c.surveyed e c.begun after told (subst (λ (f : List ℕ). StandsFor c.job f) (sym file) c.stands) (c.looked.count ∙ sym c.sized) serves found goes device store
 
-  opened_by : (fault : SessionFault) → OpensWithMemory fault → IsSessionFault s.file s.cell_count fault → IsCounted s.store_faults (G.state after).store_faults (is_store (ended.Open fault))
-      → HasDeviceCause s.device_faults (G.state after).device_faults (is_device (ended.Open fault)) → ⊥
+  opened_by : (fault : SessionFault) → OpensWithMemory fault → IsSessionFault s.file s.cell_count fault → IsCounted s.store_faults (G.state after).store_faults (is_store_fault (target_fault (ended.Open fault)))
+      → IsCounted s.device_faults (G.state after).device_faults (is_device_fault (target_fault (ended.Open fault))) → ⊥
   opened_by session.OutOfMemory memory is store device = memory
   opened_by (session.Open opening.OutOfMemory) memory is store device = is
   opened_by (session.Open opening.NoJob) memory is store device = not_free served.some.job s.file served.some.whole is
@@ -231,15 +231,15 @@ module _ {B : Type 0} (G : Ghosts B) (told : IsTrue G.tells) (law : Reaches G) (
   opened_by (session.Open (opening.CellsDiffer said found)) memory is store device =
       let one = one_job s.file is.some.is served.some.is is.some.whole served.some.whole in
       is.differ (is.said_is ∙ ap (λ (b : board.Shown). size_of b.regions) one.board ∙ served.size ∙ sym is.found_is)
-  opened_by session.DeviceFault memory is store device = none_rose.device (device.on_device refl)
+  opened_by session.DeviceFault memory is store device = none_rose.device (device.on_fault refl)
 
-  surveyed_by : (fault : SurveyFault) → HasMemory fault → IsCounted s.store_faults (G.state after).store_faults (is_store (ended.Survey fault))
-      → HasDeviceCause s.device_faults (G.state after).device_faults (is_device (ended.Survey fault)) → ⊥
+  surveyed_by : (fault : SurveyFault) → HasMemory fault → IsCounted s.store_faults (G.state after).store_faults (is_store_fault (target_fault (ended.Survey fault)))
+      → IsCounted s.device_faults (G.state after).device_faults (is_device_fault (target_fault (ended.Survey fault))) → ⊥
   surveyed_by survey.OutOfMemory memory store device = memory
-  surveyed_by survey.DeviceFault memory store device = none_rose.device (device.on_device refl)
+  surveyed_by survey.DeviceFault memory store device = none_rose.device (device.on_fault refl)
   surveyed_by survey.StoreFault memory store device = none_rose.store (store.on_fault refl)
 
-  done_by : (e : TargetEnd) → x.end ≡ e → IsSound s.cell_count e → IsCounted s.store_faults (G.state after).store_faults (is_store e) → HasDeviceCause s.device_faults (G.state after).device_faults (is_device e)
+  done_by : (e : TargetEnd) → x.end ≡ e → IsSound s.cell_count e → IsCounted s.store_faults (G.state after).store_faults (is_store_fault (target_fault e)) → IsCounted s.device_faults (G.state after).device_faults (is_device_fault (target_fault e))
       → Comes G s x (G.state after) e → e ≡ ended.Done
   done_by ended.Done is sound store device comes = refl
   done_by (ended.Open fault) is sound store device comes = absurd (opened_by fault sound.0 comes.1 store device)
@@ -251,7 +251,7 @@ module _ {B : Type 0} (G : Ghosts B) (told : IsTrue G.tells) (law : Reaches G) (
       absurd (reached_by comes (end.Mismatch d)
       (subst (λ (f : TargetEnd). FollowsAs (job_legs comes.job comes.surveyed s.file) (goal_in comes.job New s.file) (job_start comes.job (G.state comes.begun).cells) f (G.state comes.begun) (G.state after)) is comes.follows) refl refl)
   done_by ended.StoreFault is sound store device comes = absurd (none_rose.store (store.on_fault refl))
-  done_by ended.DeviceFault is sound store device comes = absurd (none_rose.device (device.on_device refl))
+  done_by ended.DeviceFault is sound store device comes = absurd (none_rose.device (device.on_fault refl))
 
 -- ---- a whole call
 

@@ -1,9 +1,9 @@
 -- A target whose job was opened and surveyed, and which has ended.
-use Rattle.std.proofs.Common.{◌≡◌, ◌⊎◌, ⊎_elim, inl, inr, ◌<◌, ◌≤◌, ◌∙◌, refl, sym, ap, subst, arith, ℕ, Bool, IsTrue, List, [], length, get_or, map, Some}
+use Rattle.std.proofs.Common.{◌≡◌, ◌⊎◌, ⊎_elim, inl, inr, ◌<◌, ◌≤◌, ◌∙◌, refl, sym, ap, subst, arith, ℕ, IsTrue, List, [], length, get_or, map, Some}
 use Rattle.std.proofs.lemmas.Bool.{cases_lt}
 use Rattle.std.proofs.lemmas.List.{get_or-map}
 use Rattle.bench_model.specs.declared.bench.Bench.{Ghosts}
-use Rattle.bench_model.specs.Device.{HasDeviceCause}
+use Rattle.bench_model.specs.Counted.{is_store_fault, is_device_fault, IsCounted}
 use Rattle.bench_model.specs.History.{GoesOn}
 use Rattle.bench_model.specs.Pairs.{PairsLeave, PairsInTurn}
 use Rattle.bench_model.specs.State.{BenchState, Left, file_half, cells_half}
@@ -15,7 +15,6 @@ use Rattle.job_text.specs.Files.{IsWhole}
 use Rattle.job_text.specs.Said.{algorithms_shown}
 use Rattle.job_text.specs.Stands.{StandsFor}
 use Rattle.job_text.specs.declared.job.Job.{Job}
-use Rattle.job_file.specs.Counted.{IsCounted}
 use Rattle.campaign.specs.Stops.{IsAtClose}
 use Rattle.flash_session.specs.declared.fault.SurveyFault.TheVariants as survey
 use Rattle.flash_session.specs.declared.goal.Goal.{Goal}
@@ -39,7 +38,7 @@ use Rattle.flash_session.specs.Fit.{IsScriptEnd}
 use Rattle.flash_session.specs.Guarded.{HasBody}
 use Rattle.flash_session.specs.Guarded as guarded
 use Rattle.flash_session.specs.Targets.{goal_for, point_for}
-use Rattle.flash_session.specs.Turns.{IsUnended, turn_of, is_device_target, is_store_target}
+use Rattle.flash_session.specs.Turns.{IsUnended, turn_of, target_fault}
 use Rattle.flash_session.proofs.AloneLemmas.{stands_first}
 use Rattle.gang_run.specs.declared.gang.Gang.{Gang}
 use Rattle.gang_run.specs.declared.slot.Slot.{Slot}
@@ -50,11 +49,11 @@ use Rattle.gang_run.specs.Opening.{IsLookedAt, Begins, IsOpened, AreOpened}
 use Rattle.gang_run.specs.Slots.{slot_turn, EndsByScript, IsSlot, IsReady, Counts, TargetKept, SlotKept, SlotStands, SlotSince}
 use Rattle.gang_run.proofs.GangLemmas.{alone_of}
 use Rattle.gang_commands.specs.Lines.{Outcome}
-use Rattle.gang_commands.specs.Works.{Carries, Comes, ComesBy, is_store, is_device, IsSound}
+use Rattle.gang_commands.specs.Works.{Carries, Comes, ComesBy, IsSound}
 use Rattle.gang_commands.specs.Ends.{EndsOn, AllEndOn}
 use Rattle.gang_commands.specs.Puts.{end_of, outcome_of, outcomes, HasEndedUpto}
 use Rattle.gang_commands.proofs.EndLemmas.{of_job, refused_ends}
-use Rattle.gang_commands.proofs.RefusalLemmas.{has_address}
+use Rattle.command_answers.proofs.PlaceLemmas.{has_address}
 
 -- ---- an end by a script
 
@@ -73,24 +72,6 @@ sound_script n (ended.CallFailed number call end) is = tt
 sound_script n (ended.Mismatch d) is = tt
 sound_script n ended.StoreFault is = tt
 sound_script n ended.DeviceFault is = tt
-
-store_script : (e : TargetEnd) → IsScriptEnd e → is_store_target e ≡ is_store e
-store_script ended.Done is = refl
-store_script (ended.Open fault) is = absurd is
-store_script (ended.Survey fault) is = absurd is
-store_script (ended.CallFailed number call end) is = refl
-store_script (ended.Mismatch d) is = refl
-store_script ended.StoreFault is = refl
-store_script ended.DeviceFault is = refl
-
-device_script : (e : TargetEnd) → IsScriptEnd e → is_device_target e ≡ is_device e
-device_script ended.Done is = refl
-device_script (ended.Open fault) is = absurd is
-device_script (ended.Survey fault) is = absurd is
-device_script (ended.CallFailed number call end) is = refl
-device_script (ended.Mismatch d) is = refl
-device_script ended.StoreFault is = refl
-device_script ended.DeviceFault is = refl
 
 comes_script : {B : Type 0} (G : Ghosts B) (s : BenchState) (o : Outcome) (t : BenchState) (e : TargetEnd) → IsScriptEnd e → Carries G s o t → Comes G s o t e
 comes_script G s o t ended.Done is carries = carries
@@ -219,12 +200,10 @@ module _ {B : Type 0} (G : Ghosts B) (s : BenchState) (begun : B) (t : BenchStat
       let counts : Counts (place.Ended at.0) m t = subst (λ (p : Place). Counts p m t) at.1 kept.counts in
       record {
         sound = sound_script s.cell_count (outcome_of new).end script;
-        store = subst (λ (e : TargetEnd). IsCounted s.store_faults t.store_faults (is_store e)) (sym end_is)
-            (subst (λ (b : Bool). IsCounted s.store_faults t.store_faults b) (store_script at.0 by_script)
-            (subst (λ (n : ℕ). IsCounted n t.store_faults (is_store_target at.0)) begins.store counts.store));
-        device = subst (λ (e : TargetEnd). HasDeviceCause s.device_faults t.device_faults (is_device e)) (sym end_is)
-            (subst (λ (b : Bool). HasDeviceCause s.device_faults t.device_faults b) (device_script at.0 by_script)
-            (subst (λ (n : ℕ). HasDeviceCause n t.device_faults (is_device_target at.0)) begins.device counts.device));
+        store = subst (λ (e : TargetEnd). IsCounted s.store_faults t.store_faults (is_store_fault (target_fault e))) (sym end_is)
+            (subst (λ (n : ℕ). IsCounted n t.store_faults (is_store_fault (target_fault at.0))) begins.store counts.store);
+        device = subst (λ (e : TargetEnd). IsCounted s.device_faults t.device_faults (is_device_fault (target_fault e))) (sym end_is)
+            (subst (λ (n : ℕ). IsCounted n t.device_faults (is_device_fault (target_fault at.0))) begins.device counts.device);
         comes = λ told. comes_script G s (outcome_of new) t (outcome_of new).end script (carries told (since told first_stand stands_so));
         comes_by = λ told. not_refused told (since told first_stand stands_so);
       }

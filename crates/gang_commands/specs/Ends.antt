@@ -2,7 +2,7 @@
 use Rattle.std.specs.Prelude.{◌≡◌, ◌⊎◌, ◌<◌, ◌≤◌, ℕ, IsTrue, List, length, get_or}
 use Rattle.faults.specs.Counts.{Rose}
 use Rattle.bench_model.specs.declared.bench.Bench.{Ghosts}
-use Rattle.bench_model.specs.Device.{HasDeviceCause}
+use Rattle.bench_model.specs.Counted.{is_store_fault, is_device_fault, IsCounted}
 use Rattle.bench_model.specs.Pairs.{PairsLeave}
 use Rattle.bench_model.specs.State.{BenchState, Left}
 use Rattle.board_file.specs.Limits.{size_of}
@@ -12,19 +12,19 @@ use Rattle.algo_calls.specs.Duties.{AllServe}
 use Rattle.job_text.specs.Body.{Job, body_of, IsJob}
 use Rattle.job_text.specs.Files.{IsFree, IsWhole}
 use Rattle.job_text.specs.Stands.{IsSomeJob}
-use Rattle.job_file.specs.Counted.{IsCounted}
 use Rattle.campaign.specs.Campaign as campaign
 use Rattle.campaign.specs.Campaign.{Keeps}
 use Rattle.campaign.specs.Stops.{IsDone}
+use Rattle.flash_session.specs.Turns.{target_fault}
 use Rattle.gang_commands.specs.Lines.{Outcome}
-use Rattle.gang_commands.specs.Works.{aim_of, Comes, ComesBy, is_store, is_device, IsSound}
+use Rattle.gang_commands.specs.Works.{aim_of, Comes, ComesBy, IsSound}
 
 -- one target, from the entry of the call to its exit
 pub record EndsOn {B : Type 0} (G : Ghosts B) (s : BenchState) (x : Outcome) (t : BenchState) : Type 0 where
   pub sound : IsSound s.cell_count x.end
   -- a fault was counted only where it is the end, and is the end only where its count rose
-  pub store : IsCounted s.store_faults t.store_faults (is_store x.end)
-  pub device : HasDeviceCause s.device_faults t.device_faults (is_device x.end)
+  pub store : IsCounted s.store_faults t.store_faults (is_store_fault (target_fault x.end))
+  pub device : IsCounted s.device_faults t.device_faults (is_device_fault (target_fault x.end))
   pub comes : IsTrue G.tells → Comes G s x t x.end
   pub comes_by : IsTrue G.tells → ComesBy s x.end
 

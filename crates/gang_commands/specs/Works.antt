@@ -1,5 +1,5 @@
 -- What a target does on its bench whose job was carried, and what else it comes to.
-use Rattle.std.specs.Prelude.{◌≡◌, ◌≢◌, ◌⊎◌, ℕ, Bool, true, false, IsSome, List, Some, None}
+use Rattle.std.specs.Prelude.{◌≡◌, ◌≢◌, ◌⊎◌, ℕ, IsSome, List, Some, None}
 use Rattle.bench_model.specs.declared.bench.Bench.{Ghosts}
 use Rattle.bench_model.specs.State.{BenchState}
 use Rattle.board_file.specs.Limits.{size_of}
@@ -15,16 +15,16 @@ use Rattle.campaign.specs.Stops.{CampaignJob, WorkStops}
 use Rattle.flash_session.specs.declared.fault.SessionFault.TheVariants as session
 use Rattle.flash_session.specs.declared.goal.Goal.TheVariants.{New}
 use Rattle.flash_session.specs.Goals.{overlaid, goal_in}
-use Rattle.flash_session.specs.Opened.{IsJobOf, IsSessionFault, IsSoundSession, is_session_store, is_session_device}
+use Rattle.flash_session.specs.Opened.{IsJobOf, IsSessionFault, IsSoundSession}
 use Rattle.flash_session.specs.Sessions.{job_legs}
 use Rattle.flash_session.specs.Starts.{job_start}
-use Rattle.flash_session.specs.Surveys.{Surveyed, HasSurveyed, is_survey_device, is_survey_store}
+use Rattle.flash_session.specs.Surveys.{Surveyed, HasSurveyed}
 use Rattle.readback.specs.declared.compare.Difference.{Difference}
 use Rattle.flash_session.specs.declared.target_end.TargetEnd.{TargetEnd}
 use Rattle.flash_session.specs.declared.target_end.TargetEnd.TheVariants as ended
 use Rattle.flash_session.specs.Alone.{FollowsAs}
 use Rattle.flash_session.specs.Guarded.{FileEnd}
-use Rattle.gang_run.specs.Opening.{IsLookedAt, refused_so, unsurveyed_so}
+use Rattle.gang_run.specs.Opening.{IsLookedAt}
 use Rattle.gang_run.specs.Slots.{OpensWithMemory, HasMemory}
 use Rattle.command_answers.specs.Places.{address_at}
 use Rattle.gang_commands.specs.Lines.{Outcome}
@@ -79,26 +79,6 @@ pub record ComesBy (s : BenchState) (e : TargetEnd) : Type 0 where
   pub is_damaged : (kept found : List ℕ) → IsDamaged kept found s.file → IsRefusedBy e (opening.Damaged kept found)
   pub other_size : (some : IsSomeJob s.file) → size_of some.board.regions ≢ s.cell_count
       → IsRefusedBy e (opening.CellsDiffer (size_of some.board.regions) s.cell_count)
-
--- Faults.
-
-abbrev pub is_store : TargetEnd → Bool
-is_store ended.Done = false
-is_store (ended.Open fault) = is_session_store (refused_so fault)
-is_store (ended.Survey fault) = is_survey_store (unsurveyed_so fault)
-is_store (ended.CallFailed number call e) = false
-is_store (ended.Mismatch d) = false
-is_store ended.StoreFault = true
-is_store ended.DeviceFault = false
-
-abbrev pub is_device : TargetEnd → Bool
-is_device ended.Done = false
-is_device (ended.Open fault) = is_session_device (refused_so fault)
-is_device (ended.Survey fault) = is_survey_device (unsurveyed_so fault)
-is_device (ended.CallFailed number call e) = false
-is_device (ended.Mismatch d) = false
-is_device ended.StoreFault = false
-is_device ended.DeviceFault = true
 
 -- what an end says for itself, on every bench: there was memory, and numbers of cells or hashes that are told differ
 abbrev pub IsSound : ℕ → TargetEnd → Type 0

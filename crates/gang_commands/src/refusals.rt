@@ -1,34 +1,16 @@
 //! The ends of targets, as refusals of the program.
-ghost use Rattle.std.specs.Prelude.{◌≡◌, ◌<◌, ◌≤◌, ◌+◌, All, length, option_map};
-ghost use Rattle.board_file.specs.Table.{addresses};
+ghost use Rattle.std.specs.Prelude.{◌≡◌, ◌<◌, length, option_map};
 ghost use Rattle.flash_session.specs.declared.target_end.Turn.TheVariants as turn;
 ghost use Rattle.gang_run.specs.Gangs.{slot_at};
 ghost use Rattle.gang_run.specs.Slots.{slot_turn};
 ghost use Rattle.report_text.specs.Shown.{shown};
-ghost use Rattle.command_answers.specs.Places.{address_at};
 ghost use Rattle.gang_commands.specs.Lines.{address_in, reason_in, reason};
 ghost use Rattle.gang_commands.specs.Puts.{regions_of, outcome_of};
 
-use board_file::Region;
 use gang_run::{Gang, TargetEnd};
-use job_commands::{session_refusal, survey_refusal};
+use job_commands::{find_address, session_refusal, survey_refusal};
 use job_text::Job;
 use report_text::Refusal;
-
-/// The address of a place among the cells of a board's regions: none behind the last one.
-fn find_address(regions: &[Region], place: u32) -> Option<u32>
-    requires { All (λ r. r.base + r.size ≤ addresses) regions.now }
-    ensures { result ≡ address_at regions.now place }
-{
-    let mut rest = place;
-    for region in regions {
-        if rest < region.size {
-            return Some(region.base + rest);
-        }
-        rest -= region.size;
-    }
-    None
-}
 
 /// The address of a place among the cells of a job. Without a job, or behind its cells, it is the place itself.
 fn address_of(job: Option<&Job>, place: u32) -> u32

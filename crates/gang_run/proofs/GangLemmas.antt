@@ -8,13 +8,13 @@ use Rattle.std.proofs.lemmas.Bool.{cases_lt, cases_eq}
 use Rattle.bench_model.specs.declared.bench.Bench.{Ghosts}
 use Rattle.bench_model.specs.Calls.{FileIsRead}
 use Rattle.bench_model.specs.Outside.{SameOutside}
-use Rattle.bench_model.specs.Device.{HasDeviceCause}
+use Rattle.bench_model.specs.Counted.{is_store_fault, is_device_fault, IsCounted}
+use Rattle.bench_model.proofs.CountLemmas.{counted_then, none_counted}
 use Rattle.bench_model.specs.History as history
 use Rattle.bench_model.specs.History.{left, Leaves, LeftOnly}
 use Rattle.bench_model.specs.State.{BenchState, file_half, cells_half}
 use Rattle.bench_model.proofs.Moments as moments
 use Rattle.bench_model.proofs.Moments.{leaves_as, leaves_then, still_only}
-use Rattle.job_file.specs.Counted.{IsCounted}
 use Rattle.job_text.specs.Files.{IsWhole}
 use Rattle.job_text.specs.Stands.{StandsFor}
 use Rattle.job_text.specs.declared.job.Job.{Job}
@@ -40,7 +40,7 @@ use Rattle.flash_session.specs.Rest.{Legs, all_legs}
 use Rattle.flash_session.specs.Stands.{HasEnded, Stands, StandsOn}
 use Rattle.flash_session.specs.Takes.{TakesOn, SliceOf}
 use Rattle.flash_session.specs.Targets.{setup_now, point_for, legs_for, has_second, size_for, goal_for}
-use Rattle.flash_session.specs.Turns.{IsUnended, turn_of, is_device_place, is_store_place, SameTarget, GoesOn, Turns, FileTurn}
+use Rattle.flash_session.specs.Turns.{IsUnended, turn_of, place_fault, SameTarget, GoesOn, Turns, FileTurn}
 use Rattle.flash_session.proofs.AloneLemmas.{goes_here, ends_alone}
 use Rattle.flash_session.proofs.FitLemmas.{goal_same, size_same, of_script}
 use Rattle.flash_session.proofs.WholeLemmas.{goes_then, turns_to}
@@ -87,29 +87,23 @@ files_on tells told (place.Ended e) new s t turn = turn.read.moments.goes_on
 
 -- ---- counts
 
-no_fault : (p : Place) → IsUnended p → (is_device_place p ≡ false) × (is_store_place p ≡ false)
-no_fault (place.At c) going = (refl, refl)
-no_fault (place.In call len left next) going = (refl, refl)
-no_fault (place.Comparing at) going = (refl, refl)
-no_fault place.Closing going = (refl, refl)
+no_fault : (p : Place) → IsUnended p → place_fault p ≡ None
+no_fault (place.At c) going = refl
+no_fault (place.In call len left next) going = refl
+no_fault (place.Comparing at) going = refl
+no_fault place.Closing going = refl
 no_fault (place.Ended e) going = absurd going
-
-cause_then : (a b c : ℕ) (d e : Bool) → d ≡ false → HasDeviceCause a b d → HasDeviceCause b c e → HasDeviceCause a c e
-cause_then a b c d e quiet one two = subst (λ (n : ℕ). HasDeviceCause n c e) (one.on_other quiet) two
-
-counted_then : (a b c : ℕ) (d e : Bool) → d ≡ false → IsCounted a b d → IsCounted b c e → IsCounted a c e
-counted_then a b c d e quiet one two = subst (λ (n : ℕ). IsCounted n c e) (one.on_other quiet) two
 
 counts_here : (p : Place) (s : BenchState) → IsUnended p → Counts p s s
 counts_here p s going = record {
-  device = subst (λ (b : Bool). HasDeviceCause s.device_faults s.device_faults b) (sym (no_fault p going).0) (record { later = omega arith; on_device = λ e. cc; on_other = λ e. refl });
-  store = subst (λ (b : Bool). IsCounted s.store_faults s.store_faults b) (sym (no_fault p going).1) (record { later = omega arith; on_fault = λ e. cc; on_other = λ e. refl });
+  device = subst (λ (b : Bool). IsCounted s.device_faults s.device_faults b) (sym (ap is_device_fault (no_fault p going))) (none_counted s.device_faults s.device_faults refl);
+  store = subst (λ (b : Bool). IsCounted s.store_faults s.store_faults b) (sym (ap is_store_fault (no_fault p going))) (none_counted s.store_faults s.store_faults refl);
 }
 
 counts_then : (tells : Bool) (x y : GangTarget) (arena arena' : List (List ℕ)) (s t u : BenchState) → IsUnended x.player.place → Counts x.player.place s t → TargetTurns tells x arena t y arena' u → Counts y.player.place s u
 counts_then tells x y arena arena' s t u going was turns = record {
-  device = cause_then s.device_faults t.device_faults u.device_faults (is_device_place x.player.place) (is_device_place y.player.place) (no_fault x.player.place going).0 was.device turns.turns.device;
-  store = counted_then s.store_faults t.store_faults u.store_faults (is_store_place x.player.place) (is_store_place y.player.place) (no_fault x.player.place going).1 was.store turns.turns.store;
+  device = counted_then s.device_faults t.device_faults u.device_faults (is_device_fault (place_fault x.player.place)) (is_device_fault (place_fault y.player.place)) (ap is_device_fault (no_fault x.player.place going)) was.device turns.turns.device;
+  store = counted_then s.store_faults t.store_faults u.store_faults (is_store_fault (place_fault x.player.place)) (is_store_fault (place_fault y.player.place)) (ap is_store_fault (no_fault x.player.place going)) was.store turns.turns.store;
 }
 
 -- ---- one place, whose turn it is

@@ -4,7 +4,7 @@ use Rattle.std.proofs.lemmas.Bool.{false≢true}
 use Rattle.std.proofs.lemmas.List.{length-replicate}
 use Rattle.bench_model.specs.Calls.{IsRead}
 use Rattle.bench_model.specs.Outside.{SameOutside}
-use Rattle.bench_model.specs.Device.{HasDeviceCause}
+use Rattle.bench_model.specs.Counted.{is_store_fault, is_device_fault, IsCounted}
 use Rattle.bench_model.specs.History.{LeftOnly}
 use Rattle.bench_model.specs.Pairs.{PairsLeave}
 use Rattle.bench_model.specs.State.{BenchState, Left, file_half}
@@ -15,7 +15,6 @@ use Rattle.board_file.specs.declared.kind.ControllerKind.{ControllerKind}
 use Rattle.board_file.specs.declared.kind.ControllerKind.TheVariants as kind
 use Rattle.flm_descriptor.specs.Shown.{Shown as AlgorithmShown}
 use Rattle.erase_planner.specs.Plans.{IsLeastPlan}
-use Rattle.job_file.specs.Counted.{IsCounted}
 use Rattle.job_text.specs.Said.{algorithms_shown}
 use Rattle.job_text.specs.Stands.{StandsFor}
 use Rattle.job_text.specs.declared.job.Job.{Job}
@@ -33,12 +32,12 @@ use Rattle.flash_session.specs.declared.parts.Work.{Work}
 use Rattle.flash_session.specs.Goals.{goal_in}
 use Rattle.flash_session.specs.declared.fault.SessionFault.{SessionFault}
 use Rattle.flash_session.specs.declared.fault.SessionFault.TheVariants as session
-use Rattle.flash_session.specs.Opened.{IsJobOf, IsSessionFault, IsSoundSession, is_session_store, is_session_device}
+use Rattle.flash_session.specs.Opened.{IsJobOf, IsSessionFault, IsSoundSession, session_fault}
 use Rattle.flash_session.specs.Parts.{IsPartOf, ArePartsOf, works_in}
 use Rattle.flash_session.specs.Script.{Planned}
 use Rattle.flash_session.specs.Sessions.{job_legs, legs_for as session_legs}
 use Rattle.flash_session.specs.Starts.{start_of}
-use Rattle.flash_session.specs.Surveys.{Surveyed, ArePlannedFor, HasSurveyed, is_survey_device, is_survey_store}
+use Rattle.flash_session.specs.Surveys.{Surveyed, ArePlannedFor, HasSurveyed, survey_fault}
 use Rattle.flash_session.specs.SurveyFacts.{HasRoom}
 use Rattle.flash_layout.specs.Areas.{cells_in}
 use Rattle.flash_layout.specs.Maps.{FlashMap}
@@ -54,7 +53,7 @@ use Rattle.flash_session.specs.Targets.{legs_for, has_second, size_for, goal_for
 use Rattle.gang_run.proofs.MakingLemmas.{setup_is, map_first, map_is, starts_so, scripted, legs_are, few_calls}
 use Rattle.gang_run.specs.declared.slot.Slot.{Slot}
 use Rattle.gang_run.specs.declared.slot.Slot.TheVariants as slot
-use Rattle.gang_run.specs.Opening.{unsurveyed_so, IsLookedAt, IsUnopened, IsRefused, Begins}
+use Rattle.gang_run.specs.Opening.{IsLookedAt, IsUnopened, IsRefused, Begins}
 use Rattle.gang_run.specs.Opens.{HasPage, IsMade, ram_for, IsReadyIn, Surveys, Opens, IsUnsurveyedEnd}
 
 -- ---- what was surveyed, where it is told
@@ -246,8 +245,8 @@ module _ (tells : Bool) (j : Job) (window : ℕ) (s m t : BenchState) (stands : 
   refused_end (ended.Survey fault) is = record {
     memory = is.memory;
     job = job_of;
-    store = subst (λ (n : ℕ). IsCounted n t.store_faults (is_survey_store (unsurveyed_so fault))) store is.store;
-    device = subst (λ (n : ℕ). HasDeviceCause n t.device_faults (is_survey_device (unsurveyed_so fault))) device is.device;
+    store = subst (λ (n : ℕ). IsCounted n t.store_faults (is_store_fault (survey_fault fault))) store is.store;
+    device = subst (λ (n : ℕ). IsCounted n t.device_faults (is_device_fault (survey_fault fault))) device is.device;
   }
   refused_end (ended.CallFailed number call e) is = is
   refused_end (ended.Mismatch d) is = is
@@ -284,12 +283,12 @@ module _ (tells : Bool) (j : Job) (window : ℕ) (s m t : BenchState) (stands : 
 
 -- a device fault in the opening of the job
 pub unopened_device : (T : Type 0) (tells : Bool) (fault : SessionFault) (s t : BenchState) → fault ≡ session.DeviceFault → (IsTrue tells → IsSessionFault s.file s.cell_count fault) → IsSoundSession s.cell_count fault
-    → IsCounted s.store_faults t.store_faults (is_session_store {T = T} (Err fault)) → HasDeviceCause s.device_faults t.device_faults (is_session_device {T = T} (Err fault)) → IsUnopened tells session.DeviceFault s t
+    → IsCounted s.store_faults t.store_faults (is_store_fault (session_fault fault)) → IsCounted s.device_faults t.device_faults (is_device_fault (session_fault fault)) → IsUnopened tells session.DeviceFault s t
 unopened_device T tells fault s t is refused sound store device = record {
   memory = tt;
   reads = tt;
   refused = λ told. subst (λ (x : SessionFault). IsSessionFault s.file s.cell_count x) is (refused told);
   sound = subst (λ (x : SessionFault). IsSoundSession s.cell_count x) is sound;
-  store = subst (λ (x : SessionFault). IsCounted s.store_faults t.store_faults (is_session_store {T = T} (Err x))) is store;
-  device = subst (λ (x : SessionFault). HasDeviceCause s.device_faults t.device_faults (is_session_device {T = T} (Err x))) is device;
+  store = subst (λ (x : SessionFault). IsCounted s.store_faults t.store_faults (is_store_fault (session_fault x))) is store;
+  device = subst (λ (x : SessionFault). IsCounted s.device_faults t.device_faults (is_device_fault (session_fault x))) is device;
 }

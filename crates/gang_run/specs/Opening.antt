@@ -1,21 +1,20 @@
 -- What the opening of a gang leaves.
-use Rattle.std.specs.Prelude.{◌≡◌, ◌≤◌, ◌<◌, ℕ, Bool, true, false, IsTrue, List, length, get_or, Result, Err, None}
+use Rattle.std.specs.Prelude.{◌≡◌, ◌≤◌, ◌<◌, ℕ, Bool, false, IsTrue, List, length, get_or, Result, Err, None}
 use Rattle.bench_model.specs.declared.bench.Bench.{Ghosts}
 use Rattle.bench_model.specs.Outside.{SameOutside}
-use Rattle.bench_model.specs.Device.{HasDeviceCause}
+use Rattle.bench_model.specs.Counted.{is_store_fault, is_device_fault, IsCounted}
 use Rattle.bench_model.specs.History.{LeftOnly}
 use Rattle.bench_model.specs.Pairs.{PairsLeave}
 use Rattle.bench_model.specs.State.{BenchState, Left, file_half}
 use Rattle.board_file.specs.Shown.{shown as board_of}
-use Rattle.job_file.specs.Counted.{IsCounted}
 use Rattle.job_text.specs.Stands.{StandsFor}
 use Rattle.flash_session.specs.declared.fault.SessionFault.{SessionFault}
 use Rattle.flash_session.specs.declared.fault.SurveyFault.{SurveyFault}
 use Rattle.flash_session.specs.declared.goal.Goal.TheVariants as to_goal
-use Rattle.flash_session.specs.Opened.{IsJobOf, IsSessionFault, IsSoundSession, ReadsIfRefused, is_session_store, is_session_device}
+use Rattle.flash_session.specs.Opened.{IsJobOf, IsSessionFault, IsSoundSession, ReadsIfRefused, session_fault}
 use Rattle.flash_session.specs.Sessions.{job_legs}
 use Rattle.flash_session.specs.Starts.{start_of}
-use Rattle.flash_session.specs.Surveys.{Surveyed, HasSurveyed, is_survey_device, is_survey_store}
+use Rattle.flash_session.specs.Surveys.{Surveyed, HasSurveyed, survey_fault}
 use Rattle.flash_session.specs.declared.target_end.TargetEnd.{TargetEnd}
 use Rattle.flash_session.specs.declared.target_end.TargetEnd.TheVariants as ended
 use Rattle.flash_session.specs.declared.cursor.Cursor.TheVariants as at
@@ -41,24 +40,21 @@ pub record IsLookedAt (tells : Bool) (s t : BenchState) : Type 0 where
 abbrev pub refused_so : SessionFault → Result (Unit {0}) SessionFault
 refused_so fault = Err fault
 
-abbrev pub unsurveyed_so : SurveyFault → Result (Unit {0}) SurveyFault
-unsurveyed_so fault = Err fault
-
 -- its job was refused as a session refuses it
 pub record IsUnopened (tells : Bool) (fault : SessionFault) (s t : BenchState) : Type 0 where
   pub memory : OpensWithMemory fault
   pub refused : IsTrue tells → IsSessionFault s.file s.cell_count fault
   pub sound : IsSoundSession s.cell_count fault
   pub reads : ReadsIfRefused tells s t (refused_so fault)
-  pub store : IsCounted s.store_faults t.store_faults (is_session_store (refused_so fault))
-  pub device : HasDeviceCause s.device_faults t.device_faults (is_session_device (refused_so fault))
+  pub store : IsCounted s.store_faults t.store_faults (is_store_fault (session_fault fault))
+  pub device : IsCounted s.device_faults t.device_faults (is_device_fault (session_fault fault))
 
 -- its cells were not surveyed, by a fault that was counted
 pub record IsUnsurveyed (tells : Bool) (fault : SurveyFault) (s t : BenchState) : Type 0 where
   pub memory : HasMemory fault
   pub job : IsTrue tells → IsJobOf s.file s.cell_count
-  pub store : IsCounted s.store_faults t.store_faults (is_survey_store (unsurveyed_so fault))
-  pub device : HasDeviceCause s.device_faults t.device_faults (is_survey_device (unsurveyed_so fault))
+  pub store : IsCounted s.store_faults t.store_faults (is_store_fault (survey_fault fault))
+  pub device : IsCounted s.device_faults t.device_faults (is_device_fault (survey_fault fault))
 
 abbrev pub IsRefused : Bool → TargetEnd → BenchState → BenchState → Type 0
 IsRefused tells ended.Done s t = ⊥

@@ -2,18 +2,17 @@
 use Rattle.std.specs.Prelude.{◌≡◌, ◌≢◌, ◌≤◌, ◌<◌, ◌++◌, ℕ, Bool, IsTrue, All, List, [], ◌∷◌, length, get_or, replicate, IfSome, Option, Some, None, Result, Ok}
 use Rattle.std.specs.Prelude.{Err}
 use Rattle.bench_model.specs.declared.bench.Bench.{Ghosts}
-use Rattle.bench_model.specs.Device.{HasDeviceCause}
+use Rattle.bench_model.specs.Counted.{is_store_fault, is_device_fault, IsCounted}
 use Rattle.bench_model.specs.State.{BenchState}
 use Rattle.board_file.specs.Limits.{most_ram}
 use Rattle.faults.specs.declared.out_of_memory.OutOfMemory.{OutOfMemory}
-use Rattle.job_file.specs.Counted.{IsCounted}
 use Rattle.job_text.specs.declared.job.Job.{Job}
 use Rattle.algo_calls.specs.Shows.{setup_at}
 use Rattle.target_core.specs.Windows.{window_of}
 use Rattle.flash_session.specs.declared.fault.SurveyFault.{SurveyFault}
 use Rattle.flash_session.specs.declared.fault.SurveyFault.TheVariants as survey
 use Rattle.flash_session.specs.declared.parts.Parts.{Parts}
-use Rattle.flash_session.specs.Surveys.{is_survey_device, is_survey_store}
+use Rattle.flash_session.specs.Surveys.{survey_fault}
 use Rattle.flash_session.specs.declared.target_end.TargetEnd.{TargetEnd}
 use Rattle.flash_session.specs.declared.target_end.TargetEnd.TheVariants as ended
 use Rattle.gang_run.specs.declared.target.GangTarget.{GangTarget}
@@ -25,7 +24,7 @@ use Rattle.gang_run.specs.declared.slot.Slot.{Slot}
 use Rattle.gang_run.specs.declared.slot.Slot.TheVariants as slot
 use Rattle.gang_run.specs.Gangs.{OtherWindow}
 use Rattle.gang_run.specs.Slots.{HasMemory}
-use Rattle.gang_run.specs.Opening.{unsurveyed_so, IsLookedAt, IsRefused, Begins}
+use Rattle.gang_run.specs.Opening.{IsLookedAt, IsRefused, Begins}
 
 -- so many bytes are a page of each region at least
 pub record HasPage (parts : Parts) (len : ℕ) : Type 0 where
@@ -51,8 +50,8 @@ pub record IsReadyIn (tells : Bool) (window : ℕ) (x : GangTarget) (s t : Bench
 -- no survey was made, by a fault that was counted
 pub record FailsSurvey (fault : SurveyFault) (s t : BenchState) : Type 0 where
   pub memory : HasMemory fault
-  pub store : IsCounted s.store_faults t.store_faults (is_survey_store (unsurveyed_so fault))
-  pub device : HasDeviceCause s.device_faults t.device_faults (is_survey_device (unsurveyed_so fault))
+  pub store : IsCounted s.store_faults t.store_faults (is_store_fault (survey_fault fault))
+  pub device : IsCounted s.device_faults t.device_faults (is_device_fault (survey_fault fault))
 
 abbrev pub IsUnsurveyedEnd : TargetEnd → BenchState → BenchState → Type 0
 IsUnsurveyedEnd ended.Done s t = ⊥

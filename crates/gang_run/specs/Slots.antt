@@ -2,12 +2,11 @@
 use Rattle.std.specs.Prelude.{◌≡◌, ℕ, Bool, IsTrue, IsSome, List, Option, Some, None}
 use Rattle.std.specs.Borrow.{Bor}
 use Rattle.bench_model.specs.declared.bench.Bench.{Ghosts}
-use Rattle.bench_model.specs.Device.{HasDeviceCause}
+use Rattle.bench_model.specs.Counted.{is_store_fault, is_device_fault, IsCounted}
 use Rattle.bench_model.specs.History as history
 use Rattle.bench_model.specs.History.{LeftOnly}
 use Rattle.bench_model.specs.State.{BenchState, file_half}
 use Rattle.board_file.specs.Limits.{size_of}
-use Rattle.job_file.specs.Counted.{IsCounted}
 use Rattle.job_file.specs.declared.fault.OpenFault.TheVariants as opening
 use Rattle.job_text.specs.Files.{IsWhole}
 use Rattle.job_text.specs.Stands.{StandsFor}
@@ -30,7 +29,7 @@ use Rattle.flash_session.specs.Guarded.{Guarded}
 use Rattle.flash_session.specs.Stands.{StandsOn}
 use Rattle.flash_session.specs.Takes.{TakesOn, SliceOf}
 use Rattle.flash_session.specs.Targets.{goal_for, size_for}
-use Rattle.flash_session.specs.Turns.{IsUnended, turn_of, is_device_place, is_store_place, SameTarget, GoesOn, Turns}
+use Rattle.flash_session.specs.Turns.{IsUnended, turn_of, place_fault, SameTarget, GoesOn, Turns}
 use Rattle.gang_run.specs.declared.slot.Slot.{Slot}
 use Rattle.gang_run.specs.declared.slot.Slot.TheVariants as slot
 
@@ -162,8 +161,8 @@ SlotTakes tells steps (slot.Target x) arena s new arena' t = IsUnended x.player.
 
 -- A fault was counted exactly where the target ended so.
 pub record Counts (p : Place) (s t : BenchState) : Type 0 where
-  pub device : HasDeviceCause s.device_faults t.device_faults (is_device_place p)
-  pub store : IsCounted s.store_faults t.store_faults (is_store_place p)
+  pub device : IsCounted s.device_faults t.device_faults (is_device_fault (place_fault p))
+  pub store : IsCounted s.store_faults t.store_faults (is_store_fault (place_fault p))
 
 -- A target that hadn't ended has the same work as before; this holds whether the bench tells its contents or not.
 pub record TargetKept (x : GangTarget) (s : BenchState) (new : Slot) (t : BenchState) : Type 0 where

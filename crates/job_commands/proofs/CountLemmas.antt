@@ -6,11 +6,11 @@ use Rattle.outside_io.specs.State.{SinkState}
 use Rattle.outside_io.specs.declared.sink.OutputFault.{OutputFault}
 use Rattle.outside_io.specs.Puts.{Puts}
 use Rattle.bench_model.specs.State.{BenchState}
-use Rattle.bench_model.specs.Device.{HasDeviceCause}
-use Rattle.job_file.specs.Counted as job_file
+use Rattle.bench_model.specs.Counted as bench
+use Rattle.bench_model.specs.Counted.{is_store_fault, is_device_fault}
 use Rattle.flash_session.specs.declared.fault.SurveyFault.{SurveyFault}
 use Rattle.flash_session.specs.declared.fault.SurveyFault.TheVariants as survey
-use Rattle.flash_session.specs.Surveys.{Surveyed, is_survey_store, is_survey_device}
+use Rattle.flash_session.specs.Surveys.{Surveyed, survey_fault}
 use Rattle.report_text.specs.Refusal.{Refusal, input_fault, no_job, output_fault}
 use Rattle.command_files.specs.Inputs.{InputsCall, NoneFailed}
 use Rattle.command_answers.specs.Call.{BenchCall, SinkCall, Answer, done, refused, bench_call, sink_call}
@@ -86,29 +86,38 @@ module _ (tells sinks : Bool) (a b : BenchState) (p r : SinkState) (one : BenchC
         out_count = raised_here p.faults p.faults r.faults output answer refl rose later refl;
       }
 
--- a session was opened, and no fault was counted; then its survey failed
-pub survey_counted : (tells sinks : Bool) (a b m : BenchState) (p : SinkState) (fault : SurveyFault) → b.store_faults ≡ a.store_faults → b.device_faults ≡ a.device_faults
-    → job_file.IsCounted b.store_faults m.store_faults (is_survey_store {T = Unit {0}} (Err fault)) → HasDeviceCause b.device_faults m.device_faults (is_survey_device {T = Unit {0}} (Err fault))
-    → BenchCounted (bench_call tells a m) (sink_call sinks p p) (refused (of_survey fault))
-survey_counted tells sinks a b m p survey.OutOfMemory stores devices counts causes =
+-- a session was opened, and no fault was counted
+pub counted_behind : (tells : Bool) (a b d : BenchState) (out : SinkCall) (answer : Answer) → b.store_faults ≡ a.store_faults → b.device_faults ≡ a.device_faults
+    → BenchCounted (bench_call tells b d) out answer → BenchCounted (bench_call tells a d) out answer
+counted_behind tells a b d out answer stores devices counts = record {
+  store_count = subst (λ (n : ℕ). IsCounted n d.store_faults store answer) stores counts.store_count;
+  device_count = subst (λ (n : ℕ). IsCounted n d.device_faults device answer) devices counts.device_count;
+  out_count = counts.out_count;
+}
+
+-- its survey failed
+pub survey_counted : (tells sinks : Bool) (b m : BenchState) (p : SinkState) (fault : SurveyFault)
+    → bench.IsCounted b.store_faults m.store_faults (is_store_fault (survey_fault fault)) → bench.IsCounted b.device_faults m.device_faults (is_device_fault (survey_fault fault))
+    → BenchCounted (bench_call tells b m) (sink_call sinks p p) (refused (of_survey fault))
+survey_counted tells sinks b m p survey.OutOfMemory counts causes =
     let answer = refused (of_survey survey.OutOfMemory) in
     record {
-      store_count = unraised a.store_faults m.store_faults store answer (counts.on_other refl ∙ stores) (λ is. cc);
-      device_count = unraised a.device_faults m.device_faults device answer (causes.on_other refl ∙ devices) (λ is. cc);
+      store_count = unraised b.store_faults m.store_faults store answer (counts.on_other refl) (λ is. cc);
+      device_count = unraised b.device_faults m.device_faults device answer (causes.on_other refl) (λ is. cc);
       out_count = unraised p.faults p.faults output answer refl (λ is. cc);
     }
-survey_counted tells sinks a b m p survey.DeviceFault stores devices counts causes =
+survey_counted tells sinks b m p survey.DeviceFault counts causes =
     let answer = refused (of_survey survey.DeviceFault) in
     record {
-      store_count = unraised a.store_faults m.store_faults store answer (counts.on_other refl ∙ stores) (λ its. let same : device ≡ store = cc in cc);
-      device_count = raised_here a.device_faults b.device_faults m.device_faults device answer devices (causes.on_device refl) causes.later refl;
+      store_count = unraised b.store_faults m.store_faults store answer (counts.on_other refl) (λ its. let same : device ≡ store = cc in cc);
+      device_count = raised_here b.device_faults b.device_faults m.device_faults device answer refl (causes.on_fault refl) causes.later refl;
       out_count = unraised p.faults p.faults output answer refl (λ its. let same : device ≡ output = cc in cc);
     }
-survey_counted tells sinks a b m p survey.StoreFault stores devices counts causes =
+survey_counted tells sinks b m p survey.StoreFault counts causes =
     let answer = refused (of_survey survey.StoreFault) in
     record {
-      store_count = raised_here a.store_faults b.store_faults m.store_faults store answer stores (counts.on_fault refl) counts.later refl;
-      device_count = unraised a.device_faults m.device_faults device answer (causes.on_other refl ∙ devices) (λ its. let same : store ≡ device = cc in cc);
+      store_count = raised_here b.store_faults b.store_faults m.store_faults store answer refl (counts.on_fault refl) counts.later refl;
+      device_count = unraised b.device_faults m.device_faults device answer (causes.on_other refl) (λ its. let same : store ≡ device = cc in cc);
       out_count = unraised p.faults p.faults output answer refl (λ its. let same : store ≡ output = cc in cc);
     }
 

@@ -1,6 +1,7 @@
 pub mod Answers
 pub mod Work
 pub mod Carry
+pub mod Opened
 pub mod Printed
 pub mod GoOn
 pub mod Beginning

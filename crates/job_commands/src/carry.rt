@@ -1,7 +1,6 @@
 //! A job is carried to its goal.
-ghost use Rattle.std.specs.Prelude.{◌≡◌, ◌<◌, ◌≤◌, ◌+◌, All, length, IsTrue, IsSome, IsSomeAnd, Some, None};
-ghost use Rattle.board_file.specs.Limits.{most_regions, size_of};
-ghost use Rattle.board_file.specs.Table.{addresses};
+ghost use Rattle.std.specs.Prelude.{◌≡◌, IsTrue, IsSome, IsSomeAnd, None};
+ghost use Rattle.board_file.specs.Limits.{size_of};
 ghost use Rattle.bench_model.specs.History.{GoesOn, LeftOnly};
 ghost use Rattle.bench_model.specs.State.{file_half};
 ghost use Rattle.job_text.specs.Stands.{StandsFor};
@@ -10,35 +9,21 @@ ghost use Rattle.flash_session.specs.Sessions.{job_in, surveyed};
 ghost use Rattle.flash_session.specs.Surveys.{HasSurveyed};
 ghost use Rattle.command_answers.specs.Answered.{IsOf, StandsEarly, on_job_file};
 ghost use Rattle.command_answers.specs.Call.{bench_call, sink_call};
-ghost use Rattle.command_answers.specs.Places.{address_at};
 ghost use Rattle.command_answers.specs.Shown.{answer_of};
 ghost use Rattle.job_commands.specs.GoOn.{GoesOnFrom, has_resume};
 ghost use Rattle.job_commands.specs.Answers.{IsSound};
+ghost use Rattle.job_commands.specs.Opened.{IsOpened};
 ghost use Rattle.job_commands.specs.Printed.{PrintsEnd, PrintsWork};
 ghost use Rattle.job_commands.specs.Steps.{has_script, BenchCounted, session_work, Finishes};
 
+use crate::places::address_of;
 use crate::put_plans::put_plans;
 use crate::refusals::{session_refusal, survey_refusal};
 use bench_model::Bench;
-use board_file::Region;
 use flash_session::{Goal, Session, SessionEnd};
 use outside_io::Sink;
 use report_text::{End, Refusal, put_end};
 use std::alloc::Global;
-
-/// The address of a place among the cells of a board's regions, of which there are one or two.
-fn address_of(regions: &[Region], place: u32) -> u32
-    requires inside { place < size_of regions.now }
-    requires few { length regions.now ≤ most_regions }
-    requires fit { All (λ r. r.base + r.size ≤ addresses) regions.now }
-    ensures { address_at regions.now place ≡ Some result }
-{
-    let first = &regions[0];
-    if place < first.size {
-        return first.base + place;
-    }
-    regions[1].base + (place - first.size)
-}
 
 /// Plays the script of the last survey, and closes the job where the goal is reached.
 fn finish<'a, B: Bench, O: Sink>(
@@ -83,6 +68,38 @@ fn finish<'a, B: Bench, O: Sink>(
     }
 }
 
+/// Surveys the cells for the session of the file's job, prints the plans to the goal, and goes on to the end.
+fn carry_on<'a, B: Bench, O: Sink>(
+    alloc: Global,
+    goal: Goal,
+    session: &mut Session,
+    bench: &mut B,
+    out: &mut O,
+) -> Result<(), Refusal<'a>>
+    requires count { (B.state bench.old).cell_count ≡ size_of (job_in session.old).board.regions }
+    requires idle { IsTrue B.tells → (B.state bench.old).operation ≡ None }
+    requires stands { IsTrue B.tells → StandsFor (job_in session.old) (B.state bench.old).file }
+    requires only { IsTrue B.tells → LeftOnly (B.state bench.old).file (file_half (B.state bench.old)) }
+    ensures told { IsTrue B.tells → (entry : B) → IsOpened (B.state entry) (B.state bench.old) (job_in session.old)
+        → GoesOnFrom goal (bench_call B.tells (B.state entry) (B.state bench.new))
+        (sink_call O.tells (O.state out.old) (O.state out.new)) (answer_of result) }
+    ensures early { (entry : B) → StandsEarly on_job_file (bench_call B.tells (B.state entry) (B.state bench.new))
+        (sink_call O.tells (O.state out.old) (O.state out.new)) (answer_of result) }
+    ensures kind { IsOf has_resume (answer_of result) }
+    ensures prints { PrintsWork (B.state bench.old).cell_count (sink_call O.tells (O.state out.old) (O.state out.new)) (answer_of result) }
+    ensures sound { IsSound (answer_of result) }
+    ensures goes_on { IsTrue B.tells → GoesOn (file_half (B.state bench.old)) (file_half (B.state bench.new)) }
+    ensures counts { BenchCounted (bench_call B.tells (B.state bench.old) (B.state bench.new))
+        (sink_call O.tells (O.state out.old) (O.state out.new)) (answer_of result) }
+{
+    match session.survey(alloc, bench, goal) {
+        Ok(()) => {}
+        Err(fault) => return Err(survey_refusal(fault)),
+    }
+    put_plans(out, session)?;
+    finish(session, bench, out)
+}
+
 /// Opens the job of the file, surveys the cells, prints the plans to the goal, and goes on to the end.
 pub(crate) fn carry<'a, B: Bench, O: Sink>(
     alloc: Global,
@@ -101,14 +118,8 @@ pub(crate) fn carry<'a, B: Bench, O: Sink>(
     ensures counts { BenchCounted (bench_call B.tells (B.state bench.old) (B.state bench.new))
         (sink_call O.tells (O.state out.old) (O.state out.new)) (answer_of result) }
 {
-    let mut session = match Session::open(alloc, bench) {
-        Ok(session) => session,
-        Err(fault) => return Err(session_refusal(fault)),
-    };
-    match session.survey(alloc, bench, goal) {
-        Ok(()) => {}
-        Err(fault) => return Err(survey_refusal(fault)),
+    match Session::open(alloc, bench) {
+        Ok(mut session) => carry_on(alloc, goal, &mut session, bench, out),
+        Err(fault) => Err(session_refusal(fault)),
     }
-    put_plans(out, &session)?;
-    finish(&mut session, bench, out)
 }

@@ -5,7 +5,8 @@ use Rattle.bench_model.proofs.Moments.{leaves_then, leaves_as, leaves_left}
 use Rattle.job_text.specs.Files.{IsFree}
 use Rattle.job_file.specs.declared.fault.BeginFault.{BeginFault}
 use Rattle.job_file.specs.declared.fault.BeginFault.TheVariants as beginning
-use Rattle.job_file.specs.Counted.{is_device_fault}
+use Rattle.job_file.specs.Counted.{begin_fault}
+use Rattle.bench_model.specs.Counted.{is_device_fault}
 use Rattle.job_file.specs.Stops.{IsUnopened}
 use Rattle.job_file.specs.Unopened.{UnopenedAtDeviceFault}
 
@@ -18,7 +19,7 @@ unopened_by T a b (beginning.CellsDiffer said found) leaves = tt
 unopened_by T a b (beginning.NotAJob at) leaves = tt
 unopened_by T a b (beginning.Damaged kept found) leaves = tt
 
-pub unopened_other : (T : Type 0) (a b : Half) (fault : BeginFault) → is_device_fault {T = T} (Err fault) ≡ false → UnopenedAtDeviceFault {T = T} a b (Err fault)
+pub unopened_other : (T : Type 0) (a b : Half) (fault : BeginFault) → is_device_fault (begin_fault fault) ≡ false → UnopenedAtDeviceFault {T = T} a b (Err fault)
 unopened_other T a b beginning.OutOfMemory other = tt
 unopened_other T a b beginning.JobOpen other = tt
 unopened_other T a b beginning.StoreFault other = tt

@@ -29,12 +29,6 @@ use Rattle.job_file.specs.declared.fault.ReadFault.TheVariants.{OutOfMemory, Sto
 use Rattle.job_file.specs.declared.texts.Said.{Said}
 
 -- whether the store failed
-abbrev pub is_read_fault : {T : Type 0} → Result T ReadFault → Bool
-is_read_fault (Ok x) = false
-is_read_fault (Err OutOfMemory) = false
-is_read_fault (Err StoreFault) = true
-is_read_fault (Err (NotAJob at)) = false
-
 -- it says nothing of the file
 abbrev pub IsNoVerdict : ReadFault → Type 0
 IsNoVerdict OutOfMemory = Unit {0}

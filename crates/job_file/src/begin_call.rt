@@ -8,7 +8,8 @@ ghost use Rattle.job_text.specs.Body.{body_of};
 ghost use Rattle.job_text.specs.Files.{IsFree, open_gate};
 ghost use Rattle.job_text.specs.Parts.{job_of, AreParts, head_of_parts, front_of, with_hash};
 ghost use Rattle.job_text.specs.Stands.{IsClassOf};
-ghost use Rattle.job_file.specs.Counted.{IsCounted, is_store_fault, is_device_fault, IsFault, ReadsUnlessFault};
+ghost use Rattle.job_file.specs.Counted.{IsFault, ReadsUnlessFault, begin_fault};
+ghost use Rattle.bench_model.specs.Counted.{is_store_fault, is_device_fault, fault_in, IsCounted};
 ghost use Rattle.job_file.specs.Faults.{IsBeginFault, IsSoundBegin, IsSoundClass};
 ghost use Rattle.job_file.specs.Stops.{IsFreeOrWhole, IsOfBegin};
 ghost use Rattle.job_file.specs.First.{SyncsFirst};
@@ -29,8 +30,8 @@ fn admit(class: Class, said: u32, found: u32) -> Result<(), BeginFault>
     ensures sized { OnOk result (said ≡ found) }
     ensures refused { (file : List ℕ) → IsClassOf class file → IfErr result (IsBeginFault file said found) }
     ensures sound { IfErr result (IsSoundBegin said found) }
-    ensures no_store { is_store_fault result ≡ false }
-    ensures no_device { is_device_fault result ≡ false }
+    ensures no_store { is_store_fault (fault_in begin_fault result) ≡ false }
+    ensures no_device { is_device_fault (fault_in begin_fault result) ≡ false }
 {
     match class {
         Class::Stands(_) => Err(BeginFault::JobOpen),
@@ -55,8 +56,8 @@ fn prepare<B: Bench>(alloc: Global, bench: &mut B, parts: &JobParts) -> Result<V
     ensures refused { IsTrue B.tells → IfErr result (IsBeginFault (B.state bench.old).file parts.now.size (B.state bench.old).cell_count) }
     ensures sound { IfErr result (IsSoundBegin parts.now.size (B.state bench.old).cell_count) }
     ensures reads { OnlyReads B.tells (B.state bench.old) (B.state bench.new) }
-    ensures counted { IsCounted (B.state bench.old).store_faults (B.state bench.new).store_faults (is_store_fault result) }
-    ensures no_device { is_device_fault result ≡ false }
+    ensures counted { IsCounted (B.state bench.old).store_faults (B.state bench.new).store_faults (is_store_fault (fault_in begin_fault result)) }
+    ensures no_device { is_device_fault (fault_in begin_fault result) ≡ false }
     ensures first { SyncsFirst B.acts bench.old }
 {
     let class = look(alloc, bench)?;
@@ -86,8 +87,8 @@ fn drop_and_put<B: Bench>(
     ensures cells { AddsNothing (cells_half (B.state bench.old)) (cells_half (B.state bench.new)) }
     ensures count { (B.state bench.new).cell_count ≡ (B.state bench.old).cell_count }
     ensures fault { IfErr result IsFault }
-    ensures store { IsCounted (B.state bench.old).store_faults (B.state bench.new).store_faults (is_store_fault result) }
-    ensures device { IsCounted (B.state bench.old).device_faults (B.state bench.new).device_faults (is_device_fault result) }
+    ensures store { IsCounted (B.state bench.old).store_faults (B.state bench.new).store_faults (is_store_fault (fault_in begin_fault result)) }
+    ensures device { IsCounted (B.state bench.old).device_faults (B.state bench.new).device_faults (is_device_fault (fault_in begin_fault result)) }
 {
     bench.cells_drop()?;
     put_job(bench, head, parts, window)
@@ -135,8 +136,8 @@ pub fn begin<B: Bench>(alloc: Global, bench: &mut B, parts: &JobParts) -> Result
     ensures refused { IsTrue B.tells → IfErr result (IsBeginFault (B.state bench.old).file parts.now.size (B.state bench.old).cell_count) }
     ensures sound { IfErr result (IsSoundBegin parts.now.size (B.state bench.old).cell_count) }
     ensures reads { ReadsUnlessFault B.tells (B.state bench.old) (B.state bench.new) result }
-    ensures store { IsCounted (B.state bench.old).store_faults (B.state bench.new).store_faults (is_store_fault result) }
-    ensures device { IsCounted (B.state bench.old).device_faults (B.state bench.new).device_faults (is_device_fault result) }
+    ensures store { IsCounted (B.state bench.old).store_faults (B.state bench.new).store_faults (is_store_fault (fault_in begin_fault result)) }
+    ensures device { IsCounted (B.state bench.old).device_faults (B.state bench.new).device_faults (is_device_fault (fault_in begin_fault result)) }
 {
     let head = prepare(alloc, bench, parts)?;
     drop_and_put(bench, &head, parts, &mut [0; PIECE])

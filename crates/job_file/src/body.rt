@@ -11,7 +11,8 @@ ghost use Rattle.byte_map.specs.Image.{AreMaximal};
 ghost use Rattle.job_text.specs.Body.{flm_len, run_text};
 ghost use Rattle.job_text.specs.Parts.{AreParts, flms_of, head_of_parts, front_of, with_hash};
 ghost use Rattle.job_text.specs.Runs.{run_of, AreShort};
-ghost use Rattle.job_file.specs.Counted.{IsCounted, is_store_fault, is_device_fault, IsFault};
+ghost use Rattle.job_file.specs.Counted.{IsFault, begin_fault};
+ghost use Rattle.bench_model.specs.Counted.{is_store_fault, is_device_fault, fault_in, IsCounted};
 ghost use Rattle.job_file.specs.Stops.{IsShut, KeepsGate, Appends};
 
 use crate::fault::BeginFault;
@@ -156,8 +157,8 @@ fn put_body<B: Bench>(
     ensures moments { IsTrue B.tells → Leaves (file_half (B.state bench.old)) (file_half (B.state bench.new)) IsShut }
     ensures cells { CellsAreRead B.tells (B.state bench.old) (B.state bench.new) }
     ensures fault { IfErr result IsFault }
-    ensures store { IsCounted (B.state bench.old).store_faults (B.state bench.new).store_faults (is_store_fault result) }
-    ensures device { IsCounted (B.state bench.old).device_faults (B.state bench.new).device_faults (is_device_fault result) }
+    ensures store { IsCounted (B.state bench.old).store_faults (B.state bench.new).store_faults (is_store_fault (fault_in begin_fault result)) }
+    ensures device { IsCounted (B.state bench.old).device_faults (B.state bench.new).device_faults (is_device_fault (fault_in begin_fault result)) }
 {
     let behind = put_front(bench, head, parts)?;
     let mut hasher = hash_front(head, parts);
@@ -194,8 +195,8 @@ pub(crate) fn put_hashed<B: Bench>(
     ensures moments { IsTrue B.tells → Leaves (file_half (B.state bench.old)) (file_half (B.state bench.new)) IsShut }
     ensures cells { CellsAreRead B.tells (B.state bench.old) (B.state bench.new) }
     ensures fault { IfErr result IsFault }
-    ensures store { IsCounted (B.state bench.old).store_faults (B.state bench.new).store_faults (is_store_fault result) }
-    ensures device { IsCounted (B.state bench.old).device_faults (B.state bench.new).device_faults (is_device_fault result) }
+    ensures store { IsCounted (B.state bench.old).store_faults (B.state bench.new).store_faults (is_store_fault (fault_in begin_fault result)) }
+    ensures device { IsCounted (B.state bench.old).device_faults (B.state bench.new).device_faults (is_device_fault (fault_in begin_fault result)) }
 {
     let hash = put_body(bench, head, parts, window)?;
     bench.file_write(HASH_AT, &hash)?;
@@ -221,8 +222,8 @@ fn copy_cells<B: Bench>(
     ensures moments { Leaves (file_half (B.state bench.old)) (file_half (B.state bench.new)) (Follows KeepsGate (file_half (B.state bench.old))) }
     ensures cells { CellsAreRead B.tells (B.state bench.old) (B.state bench.new) }
     ensures fault { IfErr result IsFault }
-    ensures store { IsCounted (B.state bench.old).store_faults (B.state bench.new).store_faults (is_store_fault result) }
-    ensures device { IsCounted (B.state bench.old).device_faults (B.state bench.new).device_faults (is_device_fault result) }
+    ensures store { IsCounted (B.state bench.old).store_faults (B.state bench.new).store_faults (is_store_fault (fault_in begin_fault result)) }
+    ensures device { IsCounted (B.state bench.old).device_faults (B.state bench.new).device_faults (is_device_fault (fault_in begin_fault result)) }
 {
     bench.cells_read(at, window)?;
     bench.file_write(to, window)?;

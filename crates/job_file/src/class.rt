@@ -6,10 +6,11 @@ ghost use Rattle.bench_model.specs.State.{file_half};
 ghost use Rattle.bench_model.specs.Calls.{OnlyReads};
 ghost use Rattle.job_text.specs.Reading.{head_at, rest_at, format_in, is_damaged, job_as, places_of};
 ghost use Rattle.job_text.specs.Stands.{IsClassOf};
-ghost use Rattle.job_file.specs.Counted.{IsCounted, is_look_fault};
+ghost use Rattle.job_file.specs.Counted.{read_fault, look_fault};
+ghost use Rattle.bench_model.specs.Counted.{is_store_fault, fault_in, IsCounted};
 ghost use Rattle.job_file.specs.Faults.{IsSoundClass};
 ghost use Rattle.job_file.specs.First.{SyncsFirst};
-ghost use Rattle.job_file.specs.Readers.{Fails, Gives, is_read_fault, head_read, head_len, IsHeadOf, Counts, IsJobRest, IsJobBody, IsGate};
+ghost use Rattle.job_file.specs.Readers.{Fails, Gives, head_read, head_len, IsHeadOf, Counts, IsJobRest, IsJobBody, IsGate};
 
 use crate::damage::{find_damage, read_format};
 use crate::fault::{LookFault, ReadFault};
@@ -32,7 +33,7 @@ fn judge_head(whole: u64, format: Format, bytes: &[u8]) -> Result<Head, ReadFaul
     ensures said { (body : List ℕ) → head_len format ≤ length body → bytes.now ≡ take (head_len format) body
         → Gives (λ h. (h, drop (head_len format) body)) result (head_at whole format body) }
     ensures text { IfOk result (λ h. IsHeadOf format h bytes.now) }
-    ensures no_store { is_read_fault result ≡ false }
+    ensures no_store { is_store_fault (fault_in read_fault result) ≡ false }
 {
     match take_head(whole, format, bytes) {
         Ok((head, _)) => Ok(head),
@@ -55,7 +56,7 @@ fn read_head_into<B: Bench>(
         (head_at whole format (drop 1 (B.state bench.old).file)) }
     ensures text { IsTrue B.tells → IfOk result (λ h. IsHeadOf format h (take (head_len format) (drop 1 (B.state bench.old).file))) }
     ensures reads { OnlyReads B.tells (B.state bench.old) (B.state bench.new) }
-    ensures counted { IsCounted (B.state bench.old).store_faults (B.state bench.new).store_faults (is_read_fault result) }
+    ensures counted { IsCounted (B.state bench.old).store_faults (B.state bench.new).store_faults (is_store_fault (fault_in read_fault result)) }
 {
     match bench.file_read(1, bytes) {
         Ok(()) => judge_head(whole, format, bytes),
@@ -71,7 +72,7 @@ fn read_head<B: Bench>(bench: &mut B, whole: u64, format: Format) -> Result<Head
     ensures text { IsTrue B.tells → IfOk result (λ h. IsHeadOf format h (take (head_len format) (drop 1 (B.state bench.old).file))) }
     ensures long { IfOk result (λ h. (places_of format).front ≤ whole) }
     ensures reads { OnlyReads B.tells (B.state bench.old) (B.state bench.new) }
-    ensures counted { IsCounted (B.state bench.old).store_faults (B.state bench.new).store_faults (is_read_fault result) }
+    ensures counted { IsCounted (B.state bench.old).store_faults (B.state bench.new).store_faults (is_store_fault (fault_in read_fault result)) }
 {
     let places = places_in(format);
     if whole < places.front {
@@ -111,7 +112,7 @@ fn read_rest<B: Bench>(
     ensures ok { IsTrue B.tells → IfOk result (λ job. IsJobRest job format (B.state bench.old).file head) }
     ensures err { IsTrue B.tells → IfErr result (λ e. Fails e (rest_at whole format head (drop (places_of format).front (B.state bench.old).file))) }
     ensures reads { OnlyReads B.tells (B.state bench.old) (B.state bench.new) }
-    ensures counted { IsCounted (B.state bench.old).store_faults (B.state bench.new).store_faults (is_read_fault result) }
+    ensures counted { IsCounted (B.state bench.old).store_faults (B.state bench.new).store_faults (is_store_fault (fault_in read_fault result)) }
 {
     let places = places_in(format);
     let said = match read_said(alloc, bench, whole, &places, &head) {
@@ -162,7 +163,7 @@ fn read_job<B: Bench>(
     ensures ok { IsTrue B.tells → IfOk result (λ job. IsJobBody job format (drop 1 (B.state bench.old).file) (B.state bench.old).file) }
     ensures err { IsTrue B.tells → IfErr result (λ e. Fails e (job_as whole format (drop 1 (B.state bench.old).file))) }
     ensures reads { OnlyReads B.tells (B.state bench.old) (B.state bench.new) }
-    ensures counted { IsCounted (B.state bench.old).store_faults (B.state bench.new).store_faults (is_read_fault result) }
+    ensures counted { IsCounted (B.state bench.old).store_faults (B.state bench.new).store_faults (is_store_fault (fault_in read_fault result)) }
 {
     match read_head(bench, whole, format) {
         Ok(head) => read_rest(alloc, bench, whole, format, head, window),
@@ -175,7 +176,7 @@ fn is_open<B: Bench>(bench: &mut B, whole: u64) -> Result<bool, LookFault>
     requires told { IsTrue B.tells → length (B.state bench.old).file ≡ whole }
     ensures gives { IsTrue B.tells → IfOk result (IsGate (B.state bench.old).file) }
     ensures reads { OnlyReads B.tells (B.state bench.old) (B.state bench.new) }
-    ensures counted { IsCounted (B.state bench.old).store_faults (B.state bench.new).store_faults (is_look_fault result) }
+    ensures counted { IsCounted (B.state bench.old).store_faults (B.state bench.new).store_faults (is_store_fault (fault_in look_fault result)) }
 {
     if whole <= 1 {
         return Ok(false);
@@ -208,7 +209,7 @@ fn class_of_job<B: Bench>(
     ensures class { IsTrue B.tells → IfOk result (λ c. IsClassOf c (B.state bench.old).file) }
     ensures sound { IfOk result IsSoundClass }
     ensures reads { OnlyReads B.tells (B.state bench.old) (B.state bench.new) }
-    ensures counted { IsCounted (B.state bench.old).store_faults (B.state bench.new).store_faults (is_look_fault result) }
+    ensures counted { IsCounted (B.state bench.old).store_faults (B.state bench.new).store_faults (is_store_fault (fault_in look_fault result)) }
 {
     match read_job(alloc, bench, whole, format, window) {
         Ok(job) => Ok(Class::Stands(job)),
@@ -231,7 +232,7 @@ fn read_opened<B: Bench>(
     ensures class { IsTrue B.tells → IfOk result (λ c. IsClassOf c (B.state bench.old).file) }
     ensures sound { IfOk result IsSoundClass }
     ensures reads { OnlyReads B.tells (B.state bench.old) (B.state bench.new) }
-    ensures counted { IsCounted (B.state bench.old).store_faults (B.state bench.new).store_faults (is_look_fault result) }
+    ensures counted { IsCounted (B.state bench.old).store_faults (B.state bench.new).store_faults (is_store_fault (fault_in look_fault result)) }
 {
     let format = match read_format(bench, whole) {
         Ok(format) => format,
@@ -250,7 +251,7 @@ fn read_class<B: Bench>(alloc: Global, bench: &mut B, whole: u64) -> Result<Clas
     ensures class { IsTrue B.tells → IfOk result (λ c. IsClassOf c (B.state bench.old).file) }
     ensures sound { IfOk result IsSoundClass }
     ensures reads { OnlyReads B.tells (B.state bench.old) (B.state bench.new) }
-    ensures counted { IsCounted (B.state bench.old).store_faults (B.state bench.new).store_faults (is_look_fault result) }
+    ensures counted { IsCounted (B.state bench.old).store_faults (B.state bench.new).store_faults (is_store_fault (fault_in look_fault result)) }
 {
     match is_open(bench, whole) {
         Ok(true) => read_opened(alloc, bench, whole, &mut [0; PIECE]),
@@ -265,7 +266,7 @@ pub(crate) fn look<B: Bench>(alloc: Global, bench: &mut B) -> Result<Class, Look
     ensures sound { IfOk result IsSoundClass }
     ensures only { IsTrue B.tells → OnOk result (LeftOnly (B.state bench.old).file (file_half (B.state bench.new))) }
     ensures reads { OnlyReads B.tells (B.state bench.old) (B.state bench.new) }
-    ensures counted { IsCounted (B.state bench.old).store_faults (B.state bench.new).store_faults (is_look_fault result) }
+    ensures counted { IsCounted (B.state bench.old).store_faults (B.state bench.new).store_faults (is_store_fault (fault_in look_fault result)) }
     ensures first { SyncsFirst B.acts bench.old }
 {
     bench.file_sync()?;

@@ -6,7 +6,8 @@ ghost use Rattle.bench_model.specs.State.{file_half};
 ghost use Rattle.bench_model.specs.Calls.{CellsStay, CellsAreRead};
 ghost use Rattle.job_text.specs.Files.{IsFree, open_gate};
 ghost use Rattle.job_text.specs.Parts.{AreParts, head_of_parts, front_of, with_hash};
-ghost use Rattle.job_file.specs.Counted.{IsCounted, is_store_fault, is_device_fault, IsFault};
+ghost use Rattle.job_file.specs.Counted.{IsFault, begin_fault};
+ghost use Rattle.bench_model.specs.Counted.{is_store_fault, is_device_fault, fault_in, IsCounted};
 ghost use Rattle.job_file.specs.Stops.{IsFreeOrWhole, IsShut};
 ghost use Rattle.job_file.specs.Unopened.{UnopenedAtDeviceFault};
 
@@ -44,8 +45,8 @@ pub fn put_job<B: Bench>(
     ensures unopened { IsTrue B.tells → UnopenedAtDeviceFault (file_half (B.state bench.old)) (file_half (B.state bench.new)) result }
     ensures cells { CellsAreRead B.tells (B.state bench.old) (B.state bench.new) }
     ensures fault { IfErr result IsFault }
-    ensures store { IsCounted (B.state bench.old).store_faults (B.state bench.new).store_faults (is_store_fault result) }
-    ensures device { IsCounted (B.state bench.old).device_faults (B.state bench.new).device_faults (is_device_fault result) }
+    ensures store { IsCounted (B.state bench.old).store_faults (B.state bench.new).store_faults (is_store_fault (fault_in begin_fault result)) }
+    ensures device { IsCounted (B.state bench.old).device_faults (B.state bench.new).device_faults (is_device_fault (fault_in begin_fault result)) }
 {
     shut(bench)?;
     put_hashed(bench, head, parts, window)?;

@@ -9,8 +9,9 @@ ghost use Rattle.job_text.specs.Fits.{LiesIn};
 ghost use Rattle.job_text.specs.Body.{field, run_text};
 ghost use Rattle.job_text.specs.Reading.{is_placed, run_at, runs_at};
 ghost use Rattle.job_text.specs.Runs.{EndBelow, EndBy, run_of};
-ghost use Rattle.job_file.specs.Counted.{IsCounted};
-ghost use Rattle.job_file.specs.Readers.{Fails, Gives, is_read_fault, IsNoVerdict, IsPlaced, IsLaid, AddsRun};
+ghost use Rattle.bench_model.specs.Counted.{is_store_fault, fault_in, IsCounted};
+ghost use Rattle.job_file.specs.Counted.{read_fault};
+ghost use Rattle.job_file.specs.Readers.{Fails, Gives, IsNoVerdict, IsPlaced, IsLaid, AddsRun};
 
 use crate::fault::ReadFault;
 use crate::pieces::{PIECE, piece_end};
@@ -50,7 +51,7 @@ fn judge_run(
         → Gives (λ x. (run_of x.0 (take x.1 (drop (at + 8) file)), drop (at + 8 + x.1) file)) result (run_at whole regions.now low (drop at file)) }
     ensures text { IfOk result (λ x. head.now ≡ field x.0 ++ field x.1) }
     ensures placed { IfOk result (λ x. IsPlaced whole regions.now low at x.0 x.1) }
-    ensures no_store { is_read_fault result ≡ false }
+    ensures no_store { is_store_fault (fault_in read_fault result) ≡ false }
 {
     let place = le32(head, 0);
     let len = le32(head, 4);
@@ -82,7 +83,7 @@ fn read_run_head<B: Bench>(
     ensures text { IsTrue B.tells → IfOk result (λ x. take 8 (drop at (B.state bench.old).file) ≡ field x.0 ++ field x.1) }
     ensures placed { IfOk result (λ x. IsPlaced whole regions.now low at x.0 x.1) }
     ensures reads { OnlyReads B.tells (B.state bench.old) (B.state bench.new) }
-    ensures counted { IsCounted (B.state bench.old).store_faults (B.state bench.new).store_faults (is_read_fault result) }
+    ensures counted { IsCounted (B.state bench.old).store_faults (B.state bench.new).store_faults (is_store_fault (fault_in read_fault result)) }
 {
     let left = whole - at;
     if left < HEAD {
@@ -110,7 +111,7 @@ fn lay_window<B: Bench>(
     ensures fault { IfErr result IsNoVerdict }
     ensures stand { IsTrue B.tells → OnOk result (window.new ≡ take (length window.old) (drop from (B.state bench.old).file)) }
     ensures reads { OnlyReads B.tells (B.state bench.old) (B.state bench.new) }
-    ensures counted { IsCounted (B.state bench.old).store_faults (B.state bench.new).store_faults (is_read_fault result) }
+    ensures counted { IsCounted (B.state bench.old).store_faults (B.state bench.new).store_faults (is_store_fault (fault_in read_fault result)) }
 {
     bench.file_read(from, window)?;
     add_piece(image, place, window)?;
@@ -136,7 +137,7 @@ fn lay_run<B: Bench>(
     ensures ok { OnOk result (IsLaid B.tells (B.state bench.old).file from place len image.old image.new) }
     ensures fault { IfErr result IsNoVerdict }
     ensures reads { OnlyReads B.tells (B.state bench.old) (B.state bench.new) }
-    ensures counted { IsCounted (B.state bench.old).store_faults (B.state bench.new).store_faults (is_read_fault result) }
+    ensures counted { IsCounted (B.state bench.old).store_faults (B.state bench.new).store_faults (is_store_fault (fault_in read_fault result)) }
 {
     let count = len as usize;
     let mut at = 0;
@@ -172,7 +173,7 @@ fn read_run<B: Bench>(
     ensures ok { IfOk result (λ x. AddsRun B.tells (B.state bench.old).file whole regions.now low at image.old image.new x.0 x.1) }
     ensures err { IsTrue B.tells → IfErr result (λ e. Fails e (run_at whole regions.now low (drop at (B.state bench.old).file))) }
     ensures reads { OnlyReads B.tells (B.state bench.old) (B.state bench.new) }
-    ensures counted { IsCounted (B.state bench.old).store_faults (B.state bench.new).store_faults (is_read_fault result) }
+    ensures counted { IsCounted (B.state bench.old).store_faults (B.state bench.new).store_faults (is_store_fault (fault_in read_fault result)) }
 {
     match read_run_head(bench, whole, regions, low, at) {
         Ok((place, len)) => match lay_run(bench, image, at + HEAD, place, len, window) {
@@ -206,7 +207,7 @@ pub(crate) fn read_runs<B: Bench>(
     // A run has a cell at least, and then takes nine bytes.
     ensures taken { IfOk result (λ x. x.1 ≤ start + 9 * size_of regions.now) }
     ensures reads { OnlyReads B.tells (B.state bench.old) (B.state bench.new) }
-    ensures counted { IsCounted (B.state bench.old).store_faults (B.state bench.new).store_faults (is_read_fault result) }
+    ensures counted { IsCounted (B.state bench.old).store_faults (B.state bench.new).store_faults (is_store_fault (fault_in read_fault result)) }
 {
     let mut image = ByteMap::new(alloc);
     let mut from = 0;

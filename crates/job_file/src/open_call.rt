@@ -5,7 +5,8 @@ ghost use Rattle.bench_model.specs.State.{file_half};
 ghost use Rattle.bench_model.specs.Calls.{OnlyReads};
 ghost use Rattle.board_file.specs.Limits.{size_of};
 ghost use Rattle.job_text.specs.Stands.{StandsFor, IsClassOf};
-ghost use Rattle.job_file.specs.Counted.{IsCounted, is_open_fault};
+ghost use Rattle.job_file.specs.Counted.{open_fault};
+ghost use Rattle.bench_model.specs.Counted.{is_store_fault, fault_in, IsCounted};
 ghost use Rattle.job_file.specs.Faults.{IsOpenFault, IsSoundOpen, IsSoundClass};
 
 use crate::class::look;
@@ -21,7 +22,7 @@ fn judge(class: Class, found: u32) -> Result<Job, OpenFault>
     ensures sized { IfOk result (λ job. size_of job.board.regions ≡ found) }
     ensures refused { (file : List ℕ) → IsClassOf class file → IfErr result (IsOpenFault file found) }
     ensures sound { IfErr result (IsSoundOpen found) }
-    ensures no_fault { is_open_fault result ≡ false }
+    ensures no_fault { is_store_fault (fault_in open_fault result) ≡ false }
 {
     match class {
         Class::Free => Err(OpenFault::NoJob),
@@ -57,7 +58,7 @@ pub fn open<B: Bench>(alloc: Global, bench: &mut B) -> Result<Job, OpenFault>
     ensures sound { IfErr result (IsSoundOpen (B.state bench.old).cell_count) }
 
     ensures reads { OnlyReads B.tells (B.state bench.old) (B.state bench.new) }
-    ensures counted { IsCounted (B.state bench.old).store_faults (B.state bench.new).store_faults (is_open_fault result) }
+    ensures counted { IsCounted (B.state bench.old).store_faults (B.state bench.new).store_faults (is_store_fault (fault_in open_fault result)) }
 {
     let class = look(alloc, bench)?;
     judge(class, bench.cells_len())

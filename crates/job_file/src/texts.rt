@@ -8,8 +8,9 @@ ghost use Rattle.flm_descriptor.specs.Flm.{flm_of};
 ghost use Rattle.job_text.specs.Fits.{all_fit};
 ghost use Rattle.job_text.specs.Said.{algorithms_shown, one_or_two};
 ghost use Rattle.job_text.specs.Reading.{read_or, fits_in, file_at, second_at, texts_at};
-ghost use Rattle.job_file.specs.Counted.{IsCounted};
-ghost use Rattle.job_file.specs.Readers.{Gives, is_read_fault, board_read, algorithm_read, file_there, second_there, texts_there, SecondFits, CountsFiles};
+ghost use Rattle.bench_model.specs.Counted.{is_store_fault, fault_in, IsCounted};
+ghost use Rattle.job_file.specs.Counted.{read_fault};
+ghost use Rattle.job_file.specs.Readers.{Gives, board_read, algorithm_read, file_there, second_there, texts_there, SecondFits, CountsFiles};
 
 use crate::fault::ReadFault;
 use crate::pieces::read_text;
@@ -31,7 +32,7 @@ pub(crate) struct Said {
 /// The board of a text that begins at an offset.
 fn board_of(alloc: Global, at: u64, text: Vec<u8>) -> Result<Board, ReadFault>
     ensures gives { Gives board_shown result (read_or at (reading text.items)) }
-    ensures no_store { is_read_fault result ≡ false }
+    ensures no_store { is_store_fault (fault_in read_fault result) ≡ false }
 {
     match board_in(alloc, at, &text) {
         Ok(board) => Ok(board),
@@ -43,7 +44,7 @@ fn board_of(alloc: Global, at: u64, text: Vec<u8>) -> Result<Board, ReadFault>
 /// The algorithm of an FLM file that begins at an offset.
 fn algorithm_of(alloc: Global, at: u64, file: Vec<u8>) -> Result<Algorithm, ReadFault>
     ensures gives { Gives flm_shown result (read_or at (flm_of file.items)) }
-    ensures no_store { is_read_fault result ≡ false }
+    ensures no_store { is_store_fault (fault_in read_fault result) ≡ false }
 {
     match algorithm_in(alloc, at, &file) {
         Ok(algorithm) => Ok(algorithm),
@@ -65,7 +66,7 @@ fn read_board<B: Bench>(
     ensures gives { IsTrue B.tells → Gives board_shown result (board_read whole at len (drop at (B.state bench.old).file)) }
     ensures fits { IsOk result → at + len ≤ whole }
     ensures reads { OnlyReads B.tells (B.state bench.old) (B.state bench.new) }
-    ensures counted { IsCounted (B.state bench.old).store_faults (B.state bench.new).store_faults (is_read_fault result) }
+    ensures counted { IsCounted (B.state bench.old).store_faults (B.state bench.new).store_faults (is_store_fault (fault_in read_fault result)) }
 {
     match read_text(alloc, bench, whole, at, len) {
         Ok(text) => board_of(alloc, at, text),
@@ -86,7 +87,7 @@ fn read_algorithm<B: Bench>(
     ensures gives { IsTrue B.tells → Gives flm_shown result (algorithm_read whole at len (drop at (B.state bench.old).file)) }
     ensures fits { IsOk result → at + len ≤ whole }
     ensures reads { OnlyReads B.tells (B.state bench.old) (B.state bench.new) }
-    ensures counted { IsCounted (B.state bench.old).store_faults (B.state bench.new).store_faults (is_read_fault result) }
+    ensures counted { IsCounted (B.state bench.old).store_faults (B.state bench.new).store_faults (is_store_fault (fault_in read_fault result)) }
 {
     match read_text(alloc, bench, whole, at, len) {
         Ok(file) => algorithm_of(alloc, at, file),
@@ -111,7 +112,7 @@ fn read_file<B: Bench>(
     ensures fits { IsOk result → at + len ≤ whole }
     ensures fit { IfOk result (λ a. IsTrue (fits_in (board_shown board.now) (slice_get board.now.regions region) (flm_shown a))) }
     ensures reads { OnlyReads B.tells (B.state bench.old) (B.state bench.new) }
-    ensures counted { IsCounted (B.state bench.old).store_faults (B.state bench.new).store_faults (is_read_fault result) }
+    ensures counted { IsCounted (B.state bench.old).store_faults (B.state bench.new).store_faults (is_store_fault (fault_in read_fault result)) }
 {
     let algorithm = match read_algorithm(alloc, bench, whole, at, len) {
         Ok(algorithm) => algorithm,
@@ -140,7 +141,7 @@ fn read_second<B: Bench>(
     ensures ends { IfOk result (λ x. x.1 ≤ at + head.now.second) }
     ensures fit { IfOk result (λ x. SecondFits (board_shown board.now) head.now.files x.0) }
     ensures reads { OnlyReads B.tells (B.state bench.old) (B.state bench.new) }
-    ensures counted { IsCounted (B.state bench.old).store_faults (B.state bench.new).store_faults (is_read_fault result) }
+    ensures counted { IsCounted (B.state bench.old).store_faults (B.state bench.new).store_faults (is_store_fault (fault_in read_fault result)) }
 {
     if head.files == 1 {
         return Ok((None, at));
@@ -182,7 +183,7 @@ pub(crate) fn read_said<B: Bench>(
     ensures fits { IfOk result (λ s. s.end ≤ whole) }
     ensures fit { IfOk result (λ s. IsTrue (all_fit (board_shown s.board) s.board.regions (algorithms_shown (one_or_two s.first s.second)))) }
     ensures reads { OnlyReads B.tells (B.state bench.old) (B.state bench.new) }
-    ensures counted { IsCounted (B.state bench.old).store_faults (B.state bench.new).store_faults (is_read_fault result) }
+    ensures counted { IsCounted (B.state bench.old).store_faults (B.state bench.new).store_faults (is_store_fault (fault_in read_fault result)) }
 {
     let board = match read_board(alloc, bench, whole, places.front, head.board) {
         Ok(board) => board,

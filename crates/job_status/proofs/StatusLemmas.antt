@@ -1,5 +1,5 @@
 -- From what `open` answers to the end of `status`.
-use Rattle.std.proofs.Common.{◌≡◌, ◌≢◌, ◌∙◌, ◌==◌, sym, ap, subst, refl, inl, inr, ⊎_elim, arith, ℕ, Bool, IsTrue, List, [], ◌∷◌, map, sum_by, Err, None}
+use Rattle.std.proofs.Common.{◌≡◌, ◌≢◌, ◌∙◌, ◌==◌, sym, ap, subst, refl, inl, inr, ⊎_elim, arith, ℕ, Bool, IsTrue, List, [], ◌∷◌, map, sum_by, None}
 use Rattle.std.proofs.lemmas.Bool.{and_parts, eqb-true}
 use Rattle.std.proofs.lemmas.List.Sums.{sum_by-cons}
 use Rattle.bench_model.specs.State.{BenchState}
@@ -18,7 +18,8 @@ use Rattle.job_text.specs.Said.{algorithms_shown}
 use Rattle.job_text.specs.Fits.{is_device_of, fits, all_fit}
 use Rattle.job_text.specs.Stands.{IsSomeJob, IsNotAJob, IsDamaged}
 use Rattle.job_text.proofs.ClassLemmas.{never_jobs}
-use Rattle.job_file.specs.Counted as counted
+use Rattle.bench_model.specs.Counted as bench
+use Rattle.job_file.specs.Counted.{open_fault}
 use Rattle.job_file.specs.Faults.{IsOpenFault, IsSoundOpen, IsOtherSize}
 use Rattle.job_file.specs.declared.fault.OpenFault.{OpenFault}
 use Rattle.job_file.specs.declared.fault.OpenFault.TheVariants as opening
@@ -221,7 +222,7 @@ module _ (tells : Bool) (b after : BenchState) (inputs : InputsCall) (takes : Ta
       out_count = unraised o.faults o.faults output (refused r) refl (λ its. cc);
     }
 
-    pub ends_refused : (fault : OpenFault) → fault ≢ opening.NoJob → counted.IsCounted b.store_faults after.store_faults (counted.is_open_fault {T = Unit {0}} (Err fault))
+    pub ends_refused : (fault : OpenFault) → fault ≢ opening.NoJob → bench.IsCounted b.store_faults after.store_faults (bench.is_store_fault (open_fault fault))
         → (IsTrue tells → IsOpenFault b.file b.cell_count fault) → IsSoundOpen b.cell_count fault → StatusEnds (bench_call tells b after) inputs (sink_call told o o) (refused (of_open fault))
     ends_refused opening.OutOfMemory some counted is sound = refused_ends out_of_memory (record {
       kind = refl;

@@ -28,7 +28,7 @@ loads {B} {G} law l m width at offset v same unit arena bench place is =
     record {
       row = λ told. inr (subst P (sym found) good);
       bench = subst A (sym bench) (accesses_here G.tells (G.state l.bench.now) (λ c told. law l.bench.now c told));
-      cause = record { later = omega (arith, ap (λ (b : B). (G.state b).device_faults) bench); on_device = λ fault. absurd (false≢true fault); on_other = λ fine. ap (λ (b : B). (G.state b).device_faults) bench };
+      cause = record { later = omega (arith, ap (λ (b : B). (G.state b).device_faults) bench); on_fault = λ fault. absurd (false≢true fault); on_other = λ fine. ap (λ (b : B). (G.state b).device_faults) bench };
       idle = λ told fault. absurd (false≢true fault);
       same = same;
     }

@@ -2,7 +2,7 @@
 ghost use Rattle.std.specs.Prelude.{◌≡◌, ◌≤◌, ◌+◌, ◌-◌, length, take, drop, replicate, IsTrue, OnOk, OnErr, IfOk};
 ghost use Rattle.faults.specs.Counts.{HasCause};
 ghost use Rattle.bench_model.specs.Calls.{FileStays, written};
-ghost use Rattle.bench_model.specs.Device.{HasDeviceCause};
+ghost use Rattle.bench_model.specs.Counted.{IsCounted};
 ghost use Rattle.bench_model.specs.Does.{IsBrokenOff, StaysOpen};
 ghost use Rattle.board_file.specs.Shown.{shown};
 ghost use Rattle.flash_layout.specs.Bench.{Settles};
@@ -218,7 +218,7 @@ impl Machine {
         ensures more { GoesOn result left.old left.new steps }
         ensures file { FileStays (B.state bench.old) (B.state bench.new) }
         ensures agrees { UnitAgrees B.tells self.new.unit (B.state bench.new) }
-        ensures cause { HasDeviceCause (B.state bench.old).device_faults (B.state bench.new).device_faults (is_device_slice result) }
+        ensures cause { IsCounted (B.state bench.old).device_faults (B.state bench.new).device_faults (is_device_slice result) }
         ensures return_at { self.new.return_at ≡ self.old.return_at }
         ensures map { unit_map self.new.unit ≡ unit_map self.old.unit }
         ensures base { self.new.ram_base ≡ self.old.ram_base }
@@ -261,7 +261,7 @@ impl Machine {
             (point_in (over self.new arena.new window) (B.state bench.new).cells) (B.state bench.new) }
         ensures file { FileStays (B.state bench.old) (B.state bench.new) }
         ensures agrees { UnitAgrees B.tells self.new.unit (B.state bench.new) }
-        ensures cause { HasDeviceCause (B.state bench.old).device_faults (B.state bench.new).device_faults (is_device_end result) }
+        ensures cause { IsCounted (B.state bench.old).device_faults (B.state bench.new).device_faults (is_device_end result) }
         ensures return_at { self.new.return_at ≡ frame.now.return_at }
         ensures map { unit_map self.new.unit ≡ unit_map self.old.unit }
         ensures base { self.new.ram_base ≡ self.old.ram_base }

@@ -26,7 +26,7 @@ impl Target {
     ghost use Rattle.std.specs.Prelude.{◌≡◌, ◌≤◌, ◌+◌, ◌-◌, length, take, drop, replicate, IsTrue, OnOk, OnErr, IfOk};
     ghost use Rattle.faults.specs.Counts.{HasCause};
     ghost use Rattle.bench_model.specs.Calls.{FileStays, written};
-    ghost use Rattle.bench_model.specs.Device.{HasDeviceCause};
+    ghost use Rattle.bench_model.specs.Counted.{IsCounted};
     ghost use Rattle.bench_model.specs.Does.{IsBrokenOff, StaysOpen};
     ghost use Rattle.board_file.specs.Shown.{shown};
     ghost use Rattle.flash_layout.specs.Bench.{Settles};
@@ -128,7 +128,7 @@ impl Target {
         ensures more { GoesOn result left.old left.new steps }
         ensures file { FileStays (B.state bench.old) (B.state bench.new) }
         ensures agrees { UnitAgrees B.tells (stands self.new).unit (B.state bench.new) }
-        ensures cause { HasDeviceCause (B.state bench.old).device_faults (B.state bench.new).device_faults (is_device_slice result) }
+        ensures cause { IsCounted (B.state bench.old).device_faults (B.state bench.new).device_faults (is_device_slice result) }
         ensures return_at { (stands self.new).return_at ≡ (stands self.old).return_at }
         ensures map { unit_map (stands self.new).unit ≡ unit_map (stands self.old).unit }
         ensures base { (stands self.new).ram_base ≡ (stands self.old).ram_base }
@@ -145,7 +145,7 @@ impl Target {
             (B.state bench.old) result (point_in (stands self.new) (B.state bench.new).cells) (B.state bench.new) }
         ensures file { FileStays (B.state bench.old) (B.state bench.new) }
         ensures agrees { UnitAgrees B.tells (stands self.new).unit (B.state bench.new) }
-        ensures cause { HasDeviceCause (B.state bench.old).device_faults (B.state bench.new).device_faults (is_device_end result) }
+        ensures cause { IsCounted (B.state bench.old).device_faults (B.state bench.new).device_faults (is_device_end result) }
         ensures return_at { (stands self.new).return_at ≡ frame.now.return_at }
         ensures map { unit_map (stands self.new).unit ≡ unit_map (stands self.old).unit }
         ensures base { (stands self.new).ram_base ≡ (stands self.old).ram_base }

@@ -3,6 +3,7 @@ use Rattle.board_file.specs.Shown.{shown as board_of}
 use Rattle.flm_descriptor.specs.Shown.{Shown as AlgorithmShown, shown as algorithm_of}
 use Rattle.job_text.specs.Fits.{all_fit}
 use Rattle.job_text.specs.Said.{algorithms_shown}
+use Rattle.bench_model.specs.Counted.{is_store_fault, is_device_fault}
 use Rattle.flash_session.specs.Found.{AreFound}
 use Rattle.flash_session.specs.Goals.{goal_in}
 use Rattle.flash_session.specs.Starts.{later_shown}
@@ -12,8 +13,8 @@ use Rattle.std.proofs.lemmas.Result.{err_from_is_err_and}
 use Rattle.flash_session.specs.declared.fault.SurveyFault.{SurveyFault}
 use Rattle.flash_session.specs.declared.part.Part.{Part as RegionSurvey}
 use Rattle.flash_session.specs.declared.ready.Survey.{Survey}
-use Rattle.flash_session.proofs.FoundLemmas.{found_then, later_still, works_found, whole_found, refused, handed_store, handed_device}
-use Rattle.flash_session.proofs.Playing.{cause_then, counted_then}
+use Rattle.flash_session.proofs.FoundLemmas.{found_then, later_still, works_found, whole_found, refused, handed}
+use Rattle.bench_model.proofs.CountLemmas.{counted_then}
 use Rattle.flash_session.proofs.ReadLemmas.{read_then}
 use Rattle.flash_session.proofs.JobLemmas.{goal_length, sizes_are, blank_fits}
 use Rattle.flash_session.proofs.survey.survey_for.Goals as goal
@@ -76,12 +77,12 @@ survey_region-requires-clause-inside g c =
 pub returns-in_err-first-clause-store : goal.returns-in_err-first-clause-store
 returns-in_err-first-clause-store g c =
     let p = err_from_is_err_and c.from_residual-in_err-first.result c.from_residual-in_err-first.ensures.1 in
-    handed_store RegionSurvey Survey _ _ _ c.in_err-first.field-0.0 (p.1 ∙ ap (λ (e : SurveyFault). refused Survey e) p.2) c.in_err-first.ensures.store
+    handed is_store_fault Survey _ _ _ c.in_err-first.field-0.0 (p.1 ∙ ap (λ (e : SurveyFault). refused Survey e) p.2) c.in_err-first.ensures.store
 
 pub returns-in_err-first-clause-device : goal.returns-in_err-first-clause-device
 returns-in_err-first-clause-device g c =
     let p = err_from_is_err_and c.from_residual-in_err-first.result c.from_residual-in_err-first.ensures.1 in
-    handed_device RegionSurvey Survey _ _ _ c.in_err-first.field-0.0 (p.1 ∙ ap (λ (e : SurveyFault). refused Survey e) p.2) c.in_err-first.ensures.device
+    handed is_device_fault Survey _ _ _ c.in_err-first.field-0.0 (p.1 ∙ ap (λ (e : SurveyFault). refused Survey e) p.2) c.in_err-first.ensures.device
 
 pub returns-clause-reads : goal.returns-clause-reads
 returns-clause-reads g c = read_then c.survey_region.ensures.reads c.survey_second.ensures.reads
@@ -92,9 +93,9 @@ returns-in_err-second-clause-reads g c = read_then c.survey_region.ensures.reads
 pub returns-in_err-second-clause-store : goal.returns-in_err-second-clause-store
 returns-in_err-second-clause-store g c =
     let p = err_from_is_err_and c.from_residual-in_err-second.result c.from_residual-in_err-second.ensures.1 in
-    handed_store (Option RegionSurvey) Survey _ _ _ c.in_err-second.field-0.0 (p.1 ∙ ap (λ (e : SurveyFault). refused Survey e) p.2) (counted_then _ _ _ _ c.in_ok-first.ensures.store c.in_err-second.ensures.store)
+    handed is_store_fault Survey _ _ _ c.in_err-second.field-0.0 (p.1 ∙ ap (λ (e : SurveyFault). refused Survey e) p.2) (counted_then _ _ _ false _ refl c.in_ok-first.ensures.store c.in_err-second.ensures.store)
 
 pub returns-in_err-second-clause-device : goal.returns-in_err-second-clause-device
 returns-in_err-second-clause-device g c =
     let p = err_from_is_err_and c.from_residual-in_err-second.result c.from_residual-in_err-second.ensures.1 in
-    handed_device (Option RegionSurvey) Survey _ _ _ c.in_err-second.field-0.0 (p.1 ∙ ap (λ (e : SurveyFault). refused Survey e) p.2) (cause_then _ _ _ _ c.in_ok-first.ensures.device c.in_err-second.ensures.device)
+    handed is_device_fault Survey _ _ _ c.in_err-second.field-0.0 (p.1 ∙ ap (λ (e : SurveyFault). refused Survey e) p.2) (counted_then _ _ _ false _ refl c.in_ok-first.ensures.device c.in_err-second.ensures.device)

@@ -7,10 +7,8 @@ use Rattle.flash_session.specs.Goals.{goal_in}
 use Rattle.flash_session.proofs.ReadLemmas.{kept_room, read_here, read_then}
 use Rattle.flash_session.proofs.SurveyLemmas.{AreBytes, shifted, bytes_and, fed_and, no_bytes}
 use Rattle.std.proofs.lemmas.Result.{err_from_is_err_and}
-use Rattle.bench_model.specs.Device.{HasDeviceCause}
-use Rattle.job_file.specs.Counted.{IsCounted}
-use Rattle.flash_session.specs.Surveys.{is_survey_store, is_survey_device}
-use Rattle.flash_session.proofs.FoundLemmas.{refused}
+use Rattle.bench_model.specs.Counted.{is_store_fault, is_device_fault, IsCounted}
+use Rattle.flash_session.specs.Surveys.{survey_fault}
 use Rattle.flash_session.proofs.survey.survey_windows.Goals as goal
 
 pub loop-at-init : goal.loop-at-init
@@ -102,9 +100,9 @@ returns-clause-wanted g c = λ told.
 pub returns-in_err-survey_window-clause-store : goal.returns-in_err-survey_window-clause-store
 returns-in_err-survey_window-clause-store g c =
     let p = err_from_is_err_and c.from_residual.result c.from_residual.ensures.1 in
-    rw (p.1, p.2) (subst (λ (n : ℕ). IsCounted n (g.B.Bench.state c.survey_window.new.bench).store_faults (is_survey_store (refused (Unit {0}) c.in_err-survey_window.field-0.0))) c.loop-at.invariant.store c.in_err-survey_window.ensures.store)
+    rw (p.1, p.2) (subst (λ (n : ℕ). IsCounted n (g.B.Bench.state c.survey_window.new.bench).store_faults (is_store_fault (survey_fault c.in_err-survey_window.field-0.0))) c.loop-at.invariant.store c.in_err-survey_window.ensures.store)
 
 pub returns-in_err-survey_window-clause-device : goal.returns-in_err-survey_window-clause-device
 returns-in_err-survey_window-clause-device g c =
     let p = err_from_is_err_and c.from_residual.result c.from_residual.ensures.1 in
-    rw (p.1, p.2) (subst (λ (n : ℕ). HasDeviceCause n (g.B.Bench.state c.survey_window.new.bench).device_faults (is_survey_device (refused (Unit {0}) c.in_err-survey_window.field-0.0))) c.loop-at.invariant.device c.in_err-survey_window.ensures.device)
+    rw (p.1, p.2) (subst (λ (n : ℕ). IsCounted n (g.B.Bench.state c.survey_window.new.bench).device_faults (is_device_fault (survey_fault c.in_err-survey_window.field-0.0))) c.loop-at.invariant.device c.in_err-survey_window.ensures.device)

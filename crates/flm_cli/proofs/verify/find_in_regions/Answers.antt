@@ -1,22 +1,30 @@
-use Rattle.std.proofs.Common.{◌≡◌, ◌∙◌, sym, ap, arith, length}
-use Rattle.command_files.proofs.WantedLemmas.{only_one, size_of_one}
-use Rattle.flm_cli.proofs.PlaceLemmas.{one_finds}
+use Rattle.std.proofs.Common.{◌≡◌, ◌∙◌, refl, sym, ap, subst, arith, List, None}
+use Rattle.board_file.specs.declared.region.Region.{Region}
+use Rattle.board_file.specs.Limits.{size_of}
+use Rattle.flm_cli.specs.Steps.{FindsInImage}
+use Rattle.flm_cli.proofs.PlaceLemmas.{fits, regions_then, region_differs, all_regions}
 use Rattle.flm_cli.proofs.verify.find_in_regions.Goals as goal
 
 pub find_in_region-requires-clause-fits : goal.find_in_region-requires-clause-fits
 find_in_region-requires-clause-fits g c =
-    let board = c.args.board.now in
-    let region = c.region_at-first.result.now in
-    let only = only_one board.regions region (omega (arith, ap length c.as_slice-count.ensures, c.if-count-eq1.true)) c.region_at-first.ensures in
-    omega (arith, size_of_one board.regions region only, c.requires.cells)
+    let its = fits g.B.Bench.tells _ _ c.as_slice-regions.result.now c.args.image.now c.loop-region.region-index c.loop-region.start c.loop-region.invariant c.region-item.result c.loop-region-test.true c.region-item.is in
+    omega (arith, its, ap size_of c.as_slice-regions.ensures, c.requires.cells, c.loop-region.invariant.bench.count)
 
-pub returns-then-count-eq1-clause-ok : goal.returns-then-count-eq1-clause-ok
-returns-then-count-eq1-clause-ok g c =
-    let board = c.args.board.now in
-    let region = c.region_at-first.result.now in
-    let only = only_one board.regions region (omega (arith, ap length c.as_slice-count.ensures, c.if-count-eq1.true)) c.region_at-first.ensures in
-    one_finds g.B.Bench.tells (g.B.Bench.state c.args.bench.now).cells board.regions region c.args.image.now only c.find_in_region.result c.find_in_region.ensures.ok
+pub find_in_region-requires-clause-idle : goal.find_in_region-requires-clause-idle
+find_in_region-requires-clause-idle g c = λ told. c.loop-region.invariant.bench.operation told ∙ c.requires.idle told
 
-pub find_in_both-requires-clause-two : goal.find_in_both-requires-clause-two
-find_in_both-requires-clause-two g c =
-    omega (arith, ap length c.as_slice-count.ensures, c.if-count-eq1.false, c.args.board.now.some_region, c.args.board.now.few_regions)
+pub loop-region-preserved : goal.loop-region-preserved
+loop-region-preserved g c =
+    regions_then g.B.Bench.tells _ _ c.as_slice-regions.result.now c.args.image.now c.loop-region.region-index c.loop-region.start c.loop-region.invariant c.region-item.result c.loop-region-test.true c.region-item.is
+    c.in_ok-found.found c.in_ok-found.ensures.ok _ (sym c.is_some.ensures ∙ c.if-is_some.false) c.in_ok-found.ensures.bench (c.in_ok-found.ensures.cause.on_ok refl)
+
+pub returns-then-is_some-clause-ok : goal.returns-then-is_some-clause-ok
+returns-then-is_some-clause-ok g c =
+    subst (λ (rs : List Region). FindsInImage g.B.Bench.tells (g.B.Bench.state c.args.bench.now).cells rs c.args.image.now c.in_ok-found.found) c.as_slice-regions.ensures
+    (region_differs g.B.Bench.tells _ _ c.as_slice-regions.result.now c.args.image.now c.loop-region.region-index c.loop-region.start c.loop-region.invariant c.region-item.result c.loop-region-test.true c.region-item.is
+    c.in_ok-found.found c.in_ok-found.ensures.ok (sym c.is_some.ensures ∙ c.if-is_some.true))
+
+pub returns-clause-ok : goal.returns-clause-ok
+returns-clause-ok g c =
+    subst (λ (rs : List Region). FindsInImage g.B.Bench.tells (g.B.Bench.state c.args.bench.now).cells rs c.args.image.now None) c.as_slice-regions.ensures
+    (all_regions g.B.Bench.tells _ _ c.as_slice-regions.result.now c.args.image.now c.loop-region.region-index c.loop-region.start c.loop-region.invariant c.loop-region-test.false)

@@ -1,4 +1,4 @@
-use Rattle.std.proofs.Common.{◌≡◌, ◌<◌, ◌∙◌, ℕ, refl, sym, ap, subst, arith, drop, length, List, Some}
+use Rattle.std.proofs.Common.{◌≡◌, ◌<◌, ◌∙◌, ℕ, refl, sym, ap, subst, arith, drop, List, Some}
 use Rattle.std.proofs.lemmas.Result.{err_from_is_err_and}
 use Rattle.board_file.specs.declared.region.Region.{Region}
 use Rattle.board_file.specs.Limits.{size_of}
@@ -77,9 +77,6 @@ pub address_of-requires-clause-inside : goal.address_of-requires-clause-inside
 address_of-requires-clause-inside g c =
     let regions : c.as_slice.result.now ≡ (job_in c.args.session.now).board.regions = c.as_slice.ensures ∙ ap (λ (k : code.Job). k.board.regions) (c.job.ensures ∙ c.go.ensures.job) in
     subst (λ (rs : List Region). c.in-Mismatch.difference.at < size_of rs) (sym regions) c.in-Mismatch.ensures.sound.0
-
-pub address_of-requires-clause-few : goal.address_of-requires-clause-few
-address_of-requires-clause-few g c = omega (arith, ap length c.as_slice.ensures, c.job.result.now.board.few_regions)
 
 pub address_of-requires-clause-fit : goal.address_of-requires-clause-fit
 address_of-requires-clause-fit g c = λ k d less. (region_at c.as_slice.result.now k d less (rw c.as_slice.ensures c.job.result.now.board.regions_fit)).ends

@@ -1,26 +1,27 @@
 use Rattle.std.proofs.Common.{◌≡◌, ◌≤◌, ◌<◌, ◌+◌, ◌-◌, ◌∙◌, min, ℕ, List, [], Option, Some, None, length, take, refl, sym, ap, subst, arith}
 use Rattle.std.proofs.lemmas.List.{length-take}
+use Rattle.bench_model.specs.Counted.{is_store_fault, is_device_fault}
 use Rattle.readback.specs.declared.compare.Difference.{Difference}
 use Rattle.flash_session.specs.Differs.{FindsIn}
 use Rattle.flash_session.proofs.JobLemmas.{goal_length}
 use Rattle.flash_session.specs.declared.target_end.TargetEnd.TheVariants as ended
 use Rattle.flash_session.specs.Targets.{goal_for}
-use Rattle.flash_session.proofs.FitLemmas.{one_counted, none_counted}
-use Rattle.flash_session.proofs.UnreadLemmas.{device_of_device, store_of_device, device_of_store, store_of_store}
+use Rattle.flash_session.specs.declared.windows.Unread.TheVariants as unread
+use Rattle.flash_session.proofs.UnreadLemmas.{unread_counted}
 use Rattle.flash_session.proofs.TurnMade.{compare_at, compare_count, alike_turn, closing_turn, differs_turn, compare_unread}
 use Rattle.flash_session.proofs.player.Player.compare_through.Goals as goal
 
 pub returns-in-Err-Device-clause-turns : goal.returns-in-Err-Device-clause-turns
 returns-in-Err-Device-clause-turns g c =
     compare_unread g.B.Bench.tells (goal_for c.args.job.now c.args.self.now (g.B.Bench.state c.args.bench.now).file) c.args.self.now c.args.arena.now (g.B.Bench.state c.args.bench.now) c.requires.fit c.args.at c.requires.place (g.B.Bench.state c.compare_window.new.bench) c.compare_window.ensures.reads (λ told x. g.met.B.Bench.as_told c.args.bench.now x told)
-    ended.DeviceFault tt (one_counted _ _ c.in-Err-Device.ensures.device.later ((device_of_device c.in-Err-Device.field-0 _ _ c.in-Err-Device.field-0-is c.in-Err-Device.ensures.device).on_fault refl))
-    (store_of_device c.in-Err-Device.field-0 _ _ c.in-Err-Device.field-0-is c.in-Err-Device.ensures.store) (λ x. x) (λ moves a off. off)
+    ended.DeviceFault tt (unread_counted is_device_fault c.in-Err-Device.field-0 unread.Device _ _ c.in-Err-Device.field-0-is c.in-Err-Device.ensures.device)
+    (unread_counted is_store_fault c.in-Err-Device.field-0 unread.Device _ _ c.in-Err-Device.field-0-is c.in-Err-Device.ensures.store) (λ x. x) (λ moves a off. off)
 
 pub returns-in-Err-Store-clause-turns : goal.returns-in-Err-Store-clause-turns
 returns-in-Err-Store-clause-turns g c =
     compare_unread g.B.Bench.tells (goal_for c.args.job.now c.args.self.now (g.B.Bench.state c.args.bench.now).file) c.args.self.now c.args.arena.now (g.B.Bench.state c.args.bench.now) c.requires.fit c.args.at c.requires.place (g.B.Bench.state c.compare_window.new.bench) c.compare_window.ensures.reads (λ told x. g.met.B.Bench.as_told c.args.bench.now x told)
-    ended.StoreFault tt (none_counted _ _ ((device_of_store c.in-Err-Store.field-0 _ _ c.in-Err-Store.field-0-is c.in-Err-Store.ensures.device).on_other refl))
-    (store_of_store c.in-Err-Store.field-0 _ _ c.in-Err-Store.field-0-is c.in-Err-Store.ensures.store) (λ x. x) (λ moves a off. off)
+    ended.StoreFault tt (unread_counted is_device_fault c.in-Err-Store.field-0 unread.Store _ _ c.in-Err-Store.field-0-is c.in-Err-Store.ensures.device)
+    (unread_counted is_store_fault c.in-Err-Store.field-0 unread.Store _ _ c.in-Err-Store.field-0-is c.in-Err-Store.ensures.store) (λ x. x) (λ moves a off. off)
 
 pub returns-in-Ok-Some-clause-turns : goal.returns-in-Ok-Some-clause-turns
 returns-in-Ok-Some-clause-turns g c =

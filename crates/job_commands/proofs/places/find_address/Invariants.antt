@@ -1,5 +1,5 @@
-use Rattle.gang_commands.proofs.RefusalLemmas.{Searches}
-use Rattle.gang_commands.proofs.refusals.find_address.Given as goal
+use Rattle.job_commands.proofs.AddressLemmas.{Searches}
+use Rattle.job_commands.proofs.places.find_address.Given as goal
 
 abbrev pub invariant-loop-region : goal.invariant-loop-region
 invariant-loop-region l = Searches l.regions l.place l.region-index l.rest
