@@ -15,7 +15,11 @@ use Rattle.flash_session.specs.declared.fault.SurveyFault.{SurveyFault}
 use Rattle.bench_model.specs.Counted.{BenchFault, fault_in, IsCounted}
 use Rattle.flash_session.specs.Found.{IsFound, AreFound}
 use Rattle.flash_session.specs.Script.{Planned}
-use Rattle.flash_session.specs.Surveys.{planned_of, IsPlannedFor, ArePlannedFor, survey_fault}
+use Rattle.flash_session.specs.Surveys.{planned_of, IsPlannedFor, ArePlannedFor, survey_fault, HasSurveyed}
+use Rattle.job_text.specs.Said.{algorithms_shown}
+use Rattle.flash_session.specs.declared.goal.Goal.{Goal}
+use Rattle.flash_session.specs.declared.part.Task.{Task}
+use Rattle.flash_session.specs.Goals.{goal_in}
 use Rattle.flash_session.specs.SurveyFacts.{AreRegionSurveys}
 use Rattle.flash_session.proofs.JobLemmas.{sizes_are, second_start}
 use Rattle.flash_session.proofs.PartLemmas.{two_parts}
@@ -109,3 +113,11 @@ module _ (tells : Bool) (j : Job) (cells goal : List ℕ) (long : IsTrue tells �
         wanted = λ told. both_bytes a.device.size c.device.size (0 + a.device.size) goal (omega (arith, goal_long told, total)) zero (are.0.wanted told) (are.1.0.wanted told);
       }
   whole_found (a ∷ c ∷ d ∷ rest) (Some r) fit are = absurd are.1.1
+
+-- the work on all regions is what a survey of the job finds
+pub surveyed_all : (tells : Bool) (j : Job) (g : Goal) (file cells : List ℕ) → (IsTrue tells → length cells ≡ size_of j.board.regions) → (IsTrue tells → length (goal_in j g file) ≡ size_of j.board.regions) → (t : Task) → t.goal ≡ g
+    → AreFound tells j 0 (algorithms_shown j.algorithms) cells (goal_in j g file) (t.first ∷ option_to_list t.second)
+    → HasSurveyed tells j g file cells (record { regions = map planned_of (t.first ∷ option_to_list t.second); goal = t.goal })
+surveyed_all tells j g file cells long goal_long t is are =
+    let whole = whole_found tells j cells (goal_in j g file) long goal_long t.first (algorithms_shown j.algorithms) t.second j.fit are in
+    record { regions = whole.plans; goal = is; bytes = whole.bytes; wanted = whole.wanted }

@@ -18,8 +18,8 @@ pub mod AloneLemmas
 mod TakesLemmas
 pub mod WholeLemmas
 pub mod JobLemmas
-mod GoLemmas
-mod PartingLemmas
+pub mod GoLemmas
+mod LentLemmas
 pub mod PartLemmas
 mod GoalLemmas
 pub mod ReadLemmas

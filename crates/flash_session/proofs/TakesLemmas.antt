@@ -1,5 +1,6 @@
 -- A turn does one thing.
 use Rattle.std.proofs.Common.{◌≡◌, ◌≢◌, ◌≤◌, ◌<◌, ◌+◌, ◌-◌, min, ℕ, Bool, List, refl, sym, subst, arith}
+use Rattle.bench_model.specs.Calls.{CellsAreRead}
 use Rattle.bench_model.specs.State.{BenchState}
 use Rattle.algo_calls.specs.declared.call.Call.{Call}
 use Rattle.algo_calls.specs.declared.call.CallEnd.{CallEnd}
@@ -17,7 +18,7 @@ use Rattle.flash_session.specs.declared.cursor.Place.TheVariants as place
 use Rattle.flash_session.specs.declared.cursor.Step.TheVariants as step
 use Rattle.flash_session.specs.declared.target_end.TargetEnd.TheVariants as ended
 use Rattle.flash_session.specs.declared.player.Player.{Player}
-use Rattle.flash_session.specs.Takes.{IsKind, FromCursor, FromCall, TakesOn, Slice, SliceOf}
+use Rattle.flash_session.specs.Takes.{IsKind, FromCursor, FromCall, TakesOn, Slice, SliceOf, IsStill}
 use Rattle.flash_session.specs.Turns.{judged, Judges}
 
 pub begins_so : (c : Cursor) (r : Bool) (p : Phase) → IsKind c (step.Begin r p) → FromCursor c (place.At (at.Init r p))
@@ -74,15 +75,23 @@ takes_from steps size p q new is takes = subst (λ (x : Place). TakesOn steps si
 pub slice_more : (tells : Bool) (steps : ℕ) (old : Player) (cs : CallsIn) (arena arena' : List (List ℕ)) (start end : BenchState) (call : Call) (len left rest : ℕ) (next : Cursor)
     → Slices tells old.calls arena old.window start left rest steps slice.More cs arena' end
     → Slice tells steps call len left next old arena start (record old { calls = cs; place = place.In call len rest next }) arena' end
-slice_more tells steps old cs arena arena' start end call len left rest next went = record { rest = rest; cut = slice.More; falls = went.falls; few = went.most; run = went.run; behind = refl }
+slice_more tells steps old cs arena arena' start end call len left rest next went = record { rest = rest; cut = slice.More; falls = went.falls; few = went.most; run = went.run; behind = (refl, refl) }
 
 pub slice_ended : (tells : Bool) (steps : ℕ) (old new : Player) (cs : CallsIn) (arena arena' : List (List ℕ)) (start end : BenchState) (call : Call) (len left rest : ℕ) (next : Cursor) (e : RunEnd)
     → Slices tells old.calls arena old.window start left rest steps (slice.Ended e) cs arena' end → Judges (record old { calls = cs }) call len next e new
     → Slice tells steps call len left next old arena start new arena' end
 slice_ended tells steps old new cs arena arena' start end call len left rest next e went is =
     subst (λ (g : Player). Slice tells steps call len left next old arena start g arena' end) (sym is)
-    (record { rest = rest; cut = slice.Ended e; falls = went.falls; few = went.most; run = went.run; behind = refl })
+    (record { rest = rest; cut = slice.Ended e; falls = went.falls; few = went.most; run = went.run; behind = (refl, refl) })
 
-pub slice_from : (tells : Bool) (steps : ℕ) (p q : Place) (old : Player) (arena : List (List ℕ)) (start : BenchState) (new : Player) (arena' : List (List ℕ)) (end : BenchState) → p ≡ q
-    → SliceOf tells steps q old arena start new arena' end → SliceOf tells steps p old arena start new arena' end
-slice_from tells steps p q old arena start new arena' end is slices = subst (λ (x : Place). SliceOf tells steps x old arena start new arena' end) (sym is) slices
+pub slice_from : (tells : Bool) (goal : List ℕ) (steps : ℕ) (p q : Place) (old : Player) (arena : List (List ℕ)) (start : BenchState) (new : Player) (arena' : List (List ℕ)) (end : BenchState) → p ≡ q
+    → SliceOf tells goal steps q old arena start new arena' end → SliceOf tells goal steps p old arena start new arena' end
+slice_from tells goal steps p q old arena start new arena' end is slices = subst (λ (x : Place). SliceOf tells goal steps x old arena start new arena' end) (sym is) slices
+
+-- ---- the comparison and the close
+
+pub read_still : (tells : Bool) (x : Player) (p : Place) (arena : List (List ℕ)) (s t : BenchState) → CellsAreRead tells s t → IsStill tells x arena s (record x { place = p }) arena t
+read_still tells x p arena s t read = record {
+  made = refl;
+  untouched = record { calls = refl; ram = refl; stays = λ told. record { operation = read.operation told; cells = read.cells told } };
+}

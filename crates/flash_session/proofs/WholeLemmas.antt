@@ -26,7 +26,6 @@ use Rattle.flash_session.specs.declared.player.Player.{Player}
 use Rattle.flash_session.specs.Fit.{IsSoundEnd, IsPlace, Fit}
 use Rattle.flash_session.specs.Rest.{Legs, all_legs, unbroken}
 use Rattle.flash_session.specs.Stands.{OnWay, none, HasEnded, Stands, StandsOn}
-use Rattle.flash_session.specs.Takes.{TakesOn, SliceOf, IsOver}
 use Rattle.flash_session.specs.Targets.{setup_now, legs_for, point_for, goal_for, size_for, has_second}
 use Rattle.flash_session.specs.Turns.{IsUnended, IsDone, SameTarget, GoesOn, Turns, FileTurn, KeepsFile, place_fault}
 use Rattle.flash_session.specs.Whole.{at_close, IsPlaying, IsEndBefore, IsPlayed, IsEndOf, IsStop, Played}

@@ -41,12 +41,6 @@ kind_of stage.Erase = 1
 kind_of stage.Program = 2
 kind_of stage.Verify = 3
 
--- whether a phase verifies its pages
-abbrev pub verifies_in : Phase → Bool
-verifies_in stage.Erase = false
-verifies_in stage.Program = false
-verifies_in stage.Verify = true
-
 -- ---- the erasures: of the whole chip, or sector by sector
 
 abbrev pub sector_moves : Setup → Planned → ℕ → List Move

@@ -1,5 +1,6 @@
 -- The one thing that a turn does: by where a target stood, and where it stands then.
 use Rattle.std.specs.Prelude.{◌≡◌, ◌≤◌, ◌<◌, ◌+◌, ℕ, Bool, IsTrue, List, length}
+use Rattle.bench_model.specs.Does.{StaysOpen}
 use Rattle.bench_model.specs.State.{BenchState}
 use Rattle.target_core.specs.declared.run.SliceEnd.{SliceEnd}
 use Rattle.target_core.specs.declared.run.SliceEnd.TheVariants as slice
@@ -16,8 +17,9 @@ use Rattle.flash_session.specs.declared.cursor.Step.TheVariants as step
 use Rattle.flash_session.specs.declared.player.Player.{Player}
 use Rattle.flash_session.specs.declared.target_end.TargetEnd.{TargetEnd}
 use Rattle.flash_session.specs.declared.target_end.TargetEnd.TheVariants as ended
+use Rattle.flash_session.specs.Steps.{bytes_at, IsStep}
 use Rattle.flash_session.specs.Targets.{setup_now, point_for}
-use Rattle.flash_session.specs.Turns.{judged}
+use Rattle.flash_session.specs.Turns.{judged, made_by}
 
 -- a phase begins, or the last reset comes
 abbrev pub IsNoCall : Step → Type 0
@@ -105,12 +107,22 @@ FromCells size at (place.Comparing upto) = upto ≡ at + 4096
 FromCells size at place.Closing = size ≤ at + 4096
 FromCells size at (place.Ended e) = IsEndAmong at e
 
+-- the job was closed, or its file failed
+abbrev pub IsEndAtClose : TargetEnd → Type 0
+IsEndAtClose ended.Done = Unit {0}
+IsEndAtClose (ended.Open fault) = ⊥
+IsEndAtClose (ended.Survey fault) = ⊥
+IsEndAtClose (ended.CallFailed number call e) = ⊥
+IsEndAtClose (ended.Mismatch d) = ⊥
+IsEndAtClose ended.StoreFault = Unit {0}
+IsEndAtClose ended.DeviceFault = ⊥
+
 abbrev pub IsOver : Place → Type 0
 IsOver (place.At c) = ⊥
 IsOver (place.In call len left next) = ⊥
 IsOver (place.Comparing at) = ⊥
 IsOver place.Closing = ⊥
-IsOver (place.Ended e) = Unit {0}
+IsOver (place.Ended e) = IsEndAtClose e
 
 -- with so many steps asked for, over so many cells
 abbrev pub TakesOn : (steps size : ℕ) → Place → Place → Type 0
@@ -122,10 +134,11 @@ TakesOn steps size (place.Ended e) new = ⊥
 
 -- ---- in a call
 
--- where a target stands behind a slice that ended so
-abbrev pub IsBehind : (made : ℕ) → Call → (len left : ℕ) → Cursor → SliceEnd → Place → Type 0
-IsBehind made call len left next slice.More new = new ≡ place.In call len left next
-IsBehind made call len left next (slice.Ended e) new = new ≡ judged made call next (call_end_of (success_of call len) e)
+-- where a target stands behind a slice that ended so, and how many calls it has made
+abbrev pub IsBehind : (made : ℕ) → Call → (len left : ℕ) → Cursor → SliceEnd → Player → Type 0
+IsBehind made call len left next slice.More new = (new.place ≡ place.In call len left next) × (new.made ≡ made)
+IsBehind made call len left next (slice.Ended e) new = (new.place ≡ judged made call next (call_end_of (success_of call len) e))
+    × (new.made ≡ made_by made (call_end_of (success_of call len) e))
 
 -- The target went on in its call by so many steps, or by fewer where the call's run ended in them; then it was judged.
 pub record Slice (tells : Bool) (steps : ℕ) (call : Call) (len left : ℕ) (next : Cursor) (old : Player) (arena : List (List ℕ)) (start : BenchState)
@@ -136,34 +149,60 @@ pub record Slice (tells : Bool) (steps : ℕ) (call : Call) (len left : ℕ) (ne
   pub few : left ≤ rest + steps
   pub run : IsTrue tells → SliceFrom old.calls.machine.return_at (point_for old arena start.cells) start left rest steps cut
       (point_for new arena' end.cells) end
-  pub behind : IsBehind old.made call len rest next cut new.place
+  pub behind : IsBehind old.made call len rest next cut new
 
 -- ---- in any other turn
 
--- a call that was prepared stands at its first point, with its fuel
-abbrev pub IsFresh : Player → List (List ℕ) → Player → List (List ℕ) → Place → Type 0
-IsFresh old arena new arena' (place.At c) = Unit {0}
-IsFresh old arena new arena' (place.In call len left next) = (left ≡ fuel_of (setup_now old) call)
-    × ((bytes : List ℕ) × (length bytes ≡ len)
-    × ((cells : List ℕ) → point_for new arena' cells ≡ first_point (setup_now old) (point_for old arena cells).world (asked call bytes)))
-IsFresh old arena new arena' (place.Comparing at) = Unit {0}
-IsFresh old arena new arena' place.Closing = Unit {0}
-IsFresh old arena new arena' (place.Ended e) = Unit {0}
+-- the script comes to the reset of a phase next, and it stands loaded before the Init of that phase
+abbrev pub BeginsPhase : Player → Cursor → Cursor → Type 0
+BeginsPhase old c (at.Begin r p) = ⊥
+BeginsPhase old c (at.Init r p) = IsStep old c (step.Begin r p)
+BeginsPhase old c (at.Calls r p k) = ⊥
+BeginsPhase old c at.Last = ⊥
 
--- no call was made, nor a step of one
-pub record IsHost (old : Player) (arena : List (List ℕ)) (new : Player) (arena' : List (List ℕ)) : Type 0 where
-  pub made : new.made ≡ old.made
-  pub fresh : IsFresh old arena new arena' new.place
+-- The script comes to this call next, whose bytes are those of the goal where they are told. It stands at its first point, with its fuel.
+pub record IsFresh (tells : Bool) (goal : List ℕ) (old : Player) (arena : List (List ℕ)) (c : Cursor) (new : Player) (arena' : List (List ℕ))
+    (call : Call) (len left : ℕ) (next : Cursor) : Type 0 where
+  pub from : ℕ
+  pub comes : IsStep old c (step.Call call from len next)
+  pub fuel : left ≡ fuel_of (setup_now old) call
+  pub bytes : List ℕ
+  pub long : length bytes ≡ len
+  pub are : IsTrue tells → bytes ≡ bytes_at goal from len
+  pub first : (cells : List ℕ) → point_for new arena' cells ≡ first_point (setup_now old) (point_for old arena cells).world (asked call bytes)
 
--- nor was the machine touched
-pub record IsStill (old : Player) (arena : List (List ℕ)) (new : Player) (arena' : List (List ℕ)) : Type 0 where
-  pub made : new.made ≡ old.made
+-- the machine, the cells and the open operation are as they were
+pub record IsUntouched (tells : Bool) (old : Player) (arena : List (List ℕ)) (start : BenchState) (new : Player) (arena' : List (List ℕ))
+    (end : BenchState) : Type 0 where
   pub calls : new.calls ≡ old.calls
   pub ram : arena' ≡ arena
+  pub stays : IsTrue tells → StaysOpen start end
 
-abbrev pub SliceOf : Bool → (steps : ℕ) → Place → Player → List (List ℕ) → BenchState → Player → List (List ℕ) → BenchState → Type 0
-SliceOf tells steps (place.At c) old arena start new arena' end = IsHost old arena new arena'
-SliceOf tells steps (place.In call len left next) old arena start new arena' end = Slice tells steps call len left next old arena start new arena' end
-SliceOf tells steps (place.Comparing at) old arena start new arena' end = IsStill old arena new arena'
-SliceOf tells steps place.Closing old arena start new arena' end = IsStill old arena new arena'
-SliceOf tells steps (place.Ended e) old arena start new arena' end = Unit {0}
+-- The script's next move, by where it leads. A fault left all as it was.
+abbrev pub IsNextMove : Bool → (goal : List ℕ) → Player → List (List ℕ) → BenchState → Cursor → Player → List (List ℕ) → BenchState → Place → Type 0
+IsNextMove tells goal old arena start c new arena' end (place.At c') = BeginsPhase old c c'
+IsNextMove tells goal old arena start c new arena' end (place.In call len left next) = IsFresh tells goal old arena c new arena' call len left next
+    × (IsTrue tells → StaysOpen start end)
+IsNextMove tells goal old arena start c new arena' end (place.Comparing at) = IsStep old c step.Last
+IsNextMove tells goal old arena start c new arena' end place.Closing = ⊥
+IsNextMove tells goal old arena start c new arena' end (place.Ended e) = IsUntouched tells old arena start new arena' end
+
+-- From a place between two moves, the next move of the script. No call was made, nor a step of one.
+pub record IsHost (tells : Bool) (goal : List ℕ) (old : Player) (arena : List (List ℕ)) (start : BenchState) (c : Cursor) (new : Player)
+    (arena' : List (List ℕ)) (end : BenchState) : Type 0 where
+  pub made : new.made ≡ old.made
+  pub next : IsNextMove tells goal old arena start c new arena' end new.place
+
+-- the comparison, or the close
+pub record IsStill (tells : Bool) (old : Player) (arena : List (List ℕ)) (start : BenchState) (new : Player) (arena' : List (List ℕ))
+    (end : BenchState) : Type 0 where
+  pub made : new.made ≡ old.made
+  pub untouched : IsUntouched tells old arena start new arena' end
+
+-- to this goal
+abbrev pub SliceOf : Bool → (goal : List ℕ) → (steps : ℕ) → Place → Player → List (List ℕ) → BenchState → Player → List (List ℕ) → BenchState → Type 0
+SliceOf tells goal steps (place.At c) old arena start new arena' end = IsHost tells goal old arena start c new arena' end
+SliceOf tells goal steps (place.In call len left next) old arena start new arena' end = Slice tells steps call len left next old arena start new arena' end
+SliceOf tells goal steps (place.Comparing at) old arena start new arena' end = IsStill tells old arena start new arena' end
+SliceOf tells goal steps place.Closing old arena start new arena' end = IsStill tells old arena start new arena' end
+SliceOf tells goal steps (place.Ended e) old arena start new arena' end = Unit {0}

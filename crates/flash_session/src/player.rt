@@ -409,7 +409,7 @@ impl Player {
         requires step { IsStep self.old cursor (step.Begin second phase) }
         requires kind { IsKind cursor (step.Begin second phase) }
         ensures turns { (goal : List ℕ) → Turns B.tells goal self.old arena.old (B.state bench.old) self.new arena.new (B.state bench.new) }
-        ensures host { IsHost self.old arena.old self.new arena.new }
+        ensures host { (goal : List ℕ) → IsHost B.tells goal self.old arena.old (B.state bench.old) cursor self.new arena.new (B.state bench.new) }
         ensures one { FromCursor cursor self.new.place }
     {
         match self.calls.reset(arena, self.window, bench) {
@@ -429,7 +429,7 @@ impl Player {
         requires step { IsStep self.old cursor step.Last }
         requires kind { IsKind cursor step.Last }
         ensures turns { (goal : List ℕ) → Turns B.tells goal self.old arena.old (B.state bench.old) self.new arena.new (B.state bench.new) }
-        ensures host { IsHost self.old arena.old self.new arena.new }
+        ensures host { (goal : List ℕ) → IsHost B.tells goal self.old arena.old (B.state bench.old) cursor self.new arena.new (B.state bench.new) }
         ensures one { FromCursor cursor self.new.place }
     {
         match self.calls.reset(arena, self.window, bench) {
@@ -458,7 +458,8 @@ impl Player {
         requires stands { IsTrue B.tells → StandsFor job.now (B.state bench.old).file }
         ensures turns { Turns B.tells (goal_for job.now self.old (B.state bench.old).file) self.old arena.old (B.state bench.old) self.new arena.new
             (B.state bench.new) }
-        ensures host { IsHost self.old arena.old self.new arena.new }
+        ensures host { IsHost B.tells (goal_for job.now self.old (B.state bench.old).file) self.old arena.old (B.state bench.old) cursor self.new
+            arena.new (B.state bench.new) }
         ensures one { FromCursor cursor self.new.place }
     {
         match prepare_from(
@@ -493,7 +494,8 @@ impl Player {
         requires stands { IsTrue B.tells → StandsFor job.now (B.state bench.old).file }
         ensures turns { Turns B.tells (goal_for job.now self.old (B.state bench.old).file) self.old arena.old (B.state bench.old) self.new arena.new
             (B.state bench.new) }
-        ensures host { IsHost self.old arena.old self.new arena.new }
+        ensures host { IsHost B.tells (goal_for job.now self.old (B.state bench.old).file) self.old arena.old (B.state bench.old) cursor self.new
+            arena.new (B.state bench.new) }
         ensures one { FromCursor cursor self.new.place }
     {
         match self.step(cursor) {
@@ -589,7 +591,7 @@ impl Player {
         requires cells { length cells.old ≡ WINDOW }
         ensures turns { Turns B.tells (goal_for job.now self.old (B.state bench.old).file) self.old arena.old (B.state bench.old) self.new arena.new
             (B.state bench.new) }
-        ensures still { IsStill self.old arena.old self.new arena.new }
+        ensures still { IsStill B.tells self.old arena.old (B.state bench.old) self.new arena.new (B.state bench.new) }
         ensures one { FromCells (B.state bench.old).cell_count at self.new.place }
     {
         let count = bench.cells_len();
@@ -627,7 +629,7 @@ impl Player {
         requires stands { IsTrue B.tells → StandsFor job.now (B.state bench.old).file }
         ensures turns { Turns B.tells (goal_for job.now self.old (B.state bench.old).file) self.old arena.old (B.state bench.old) self.new arena.new
             (B.state bench.new) }
-        ensures still { IsStill self.old arena.old self.new arena.new }
+        ensures still { IsStill B.tells self.old arena.old (B.state bench.old) self.new arena.new (B.state bench.new) }
         ensures one { FromCells (B.state bench.old).cell_count at self.new.place }
     {
         self.compare_through(job, arena, bench, at, &mut [0; WINDOW], &mut [0; WINDOW]);
@@ -640,7 +642,7 @@ impl Player {
         requires whole { IsTrue B.tells → IsWhole (drop 1 (B.state bench.old).file) (B.state bench.old).file }
         requires only { IsTrue B.tells → LeftOnly (B.state bench.old).file (file_half (B.state bench.old)) }
         ensures turns { (goal : List ℕ) → Turns B.tells goal self.old arena.old (B.state bench.old) self.new arena.new (B.state bench.new) }
-        ensures still { IsStill self.old arena.old self.new arena.new }
+        ensures still { IsStill B.tells self.old arena.old (B.state bench.old) self.new arena.new (B.state bench.new) }
         ensures one { IsOver self.new.place }
     {
         match job_file::close(bench) {
@@ -670,7 +672,8 @@ impl Player {
         ensures turns { Turns B.tells (goal_for job.now self.old (B.state bench.old).file) self.old arena.old (B.state bench.old) self.new arena.new
             (B.state bench.new) }
         ensures one { TakesOn steps (B.state bench.old).cell_count self.old.place self.new.place }
-        ensures slice { SliceOf B.tells steps self.old.place self.old arena.old (B.state bench.old) self.new arena.new (B.state bench.new) }
+        ensures slice { SliceOf B.tells (goal_for job.now self.old (B.state bench.old).file) steps self.old.place self.old arena.old (B.state bench.old)
+            self.new arena.new (B.state bench.new) }
     {
         match self.place {
             Place::At(cursor) => self.host(job, arena, bench, cursor),
@@ -696,7 +699,8 @@ impl Player {
         ensures turns { Turns B.tells (goal_for job.now self.old (B.state bench.old).file) self.old arena.old (B.state bench.old) self.new arena.new
             (B.state bench.new) }
         ensures one { TakesOn steps (B.state bench.old).cell_count self.old.place self.new.place }
-        ensures slice { SliceOf B.tells steps self.old.place self.old arena.old (B.state bench.old) self.new arena.new (B.state bench.new) }
+        ensures slice { SliceOf B.tells (goal_for job.now self.old (B.state bench.old).file) steps self.old.place self.old arena.old (B.state bench.old)
+            self.new arena.new (B.state bench.new) }
     {
         if self.is_closing() {
             self.close(arena, bench);

@@ -16,8 +16,12 @@ pub(crate) struct Survey {
 
 impl Survey {
     ghost use Rattle.std.specs.Prelude.{◌≡◌, ◌<◌, length, get_or};
+    ghost use Rattle.job_text.specs.declared.job.Job.{Job};
     ghost use Rattle.flash_session.specs.declared.part.Part.{Part};
-    ghost use Rattle.flash_session.specs.Surveys.{regions_of};
+    ghost use Rattle.flash_session.specs.Fit.{AreTwins};
+    ghost use Rattle.flash_session.specs.Parts.{IsPlayerOf};
+    ghost use Rattle.flash_session.specs.Surveys.{regions_of, survey_shown};
+    ghost use Rattle.flash_session.specs.SurveyFacts.{IsSurvey};
 
     /// What was found in a region.
     pub fn region(&self, region: usize) -> &Part
@@ -31,5 +35,18 @@ impl Survey {
             Some(second) => second,
             None => unreachable!(),
         }
+    }
+
+    /// The player, which starts anew. Its RAM is given back.
+    pub fn into_player(self) -> Player
+        requires { AreTwins self.player }
+        ensures { (j : Job) → IsSurvey j self → IsPlayerOf j (survey_shown self) result }
+    {
+        let Survey { player, arena } = self;
+        let mut player = player;
+        let mut arena = arena;
+        player.task.count();
+        player.restart(&mut arena);
+        player
     }
 }

@@ -10,7 +10,7 @@ ghost use Rattle.flash_session.specs.Found.{IsFound, AreFound};
 ghost use Rattle.flash_session.specs.Goals.{goal_in};
 ghost use Rattle.flash_session.specs.Starts.{later_shown};
 ghost use Rattle.flash_session.specs.Surveys.{HasSurveyed, survey_shown, survey_fault};
-ghost use Rattle.flash_session.specs.SurveyFacts.{HasRoom, IsSurvey};
+ghost use Rattle.flash_session.specs.SurveyFacts.{HasRoom, IsSurvey, AreRegionSurveys};
 ghost use Rattle.erase_planner.specs.Marks.{Covers, Fed, SpareStays};
 ghost use Rattle.erase_planner.specs.Plans.{IsLeastPlan};
 
@@ -301,7 +301,61 @@ fn longest_page(first: &Algorithm, second: Option<&Algorithm>) -> u32
     }
 }
 
-/// Surveys the regions of a job: takes all memory of a session, reads the cells, and makes the plans from them to a goal.
+/// Surveys the regions of a job: reads the cells, and makes the plans from them to a goal.
+fn survey_task<B: Bench>(
+    alloc: Global,
+    bench: &mut B,
+    job: &Job,
+    goal: Goal,
+) -> Result<Task, SurveyFault>
+    requires count { (B.state bench.old).cell_count ≡ size_of job.now.board.regions }
+    requires idle { IsTrue B.tells → (B.state bench.old).operation ≡ None }
+    requires stands { IsTrue B.tells → StandsFor job.now (B.state bench.old).file }
+    ensures found { IfOk result (λ t. AreFound B.tells job.now 0 (algorithms_shown job.now.algorithms) (B.state bench.old).cells
+        (goal_in job.now goal (B.state bench.old).file) (t.first ∷ option_to_list t.second)) }
+    ensures goal { IfOk result (λ t. t.goal ≡ goal) }
+    ensures reads { IsRead B.tells (B.state bench.old) (B.state bench.new) }
+    ensures store { IsCounted (B.state bench.old).store_faults (B.state bench.new).store_faults (is_store_fault (fault_in survey_fault result)) }
+    ensures device { IsCounted (B.state bench.old).device_faults (B.state bench.new).device_faults (is_device_fault (fault_in survey_fault result)) }
+{
+    let (algorithm, other) = algorithms_of(job);
+    let first = survey_region(alloc, bench, job, algorithm, 0, goal)?;
+    let second = survey_second(alloc, bench, job, algorithm, other, goal)?;
+    Ok(Task {
+        goal,
+        first,
+        second,
+    })
+}
+
+/// The player of the work on a job's regions, on new machines of the job's board, with its RAM and a buffer for a page.
+fn player_for(alloc: Global, job: &Job, task: Task) -> Result<Survey, OutOfMemory>
+    ensures task { IfOk result (λ w. w.player.task ≡ task) }
+    ensures work { IfOk result (λ w. AreRegionSurveys (algorithms_shown job.now.algorithms) 0 (task.first ∷ option_to_list task.second)
+        → IsSurvey job.now w) }
+{
+    let (algorithm, other) = algorithms_of(job);
+    let machines = calls_of_job(alloc, job)?;
+    let (calls, other_calls) = machines;
+    let arena = Arena::new(alloc, &[job.board.ram_size])?;
+    let page = zeros(alloc, longest_page(algorithm, other) as usize)?;
+    let player = Player {
+        calls,
+        second: false,
+        other: other_calls,
+        window: 0,
+        task,
+        page,
+        made: 0,
+        place: Place::At(Cursor::Begin {
+            second: false,
+            phase: Phase::Erase,
+        }),
+    };
+    Ok(Survey { player, arena })
+}
+
+/// Surveys the regions of a job, and takes all memory of a session.
 pub(crate) fn survey_for<B: Bench>(
     alloc: Global,
     bench: &mut B,
@@ -317,29 +371,9 @@ pub(crate) fn survey_for<B: Bench>(
     ensures store { IsCounted (B.state bench.old).store_faults (B.state bench.new).store_faults (is_store_fault (fault_in survey_fault result)) }
     ensures device { IsCounted (B.state bench.old).device_faults (B.state bench.new).device_faults (is_device_fault (fault_in survey_fault result)) }
 {
-    let (algorithm, other) = algorithms_of(job);
-    let machines = calls_of_job(alloc, job)?;
-    let (calls, other_calls) = machines;
-    let arena = Arena::new(alloc, &[job.board.ram_size])?;
-    let page = zeros(alloc, longest_page(algorithm, other) as usize)?;
-    let first = survey_region(alloc, bench, job, algorithm, 0, goal)?;
-    let second = survey_second(alloc, bench, job, algorithm, other, goal)?;
-    let player = Player {
-        calls,
-        second: false,
-        other: other_calls,
-        window: 0,
-        task: Task {
-            goal,
-            first,
-            second,
-        },
-        page,
-        made: 0,
-        place: Place::At(Cursor::Begin {
-            second: false,
-            phase: Phase::Erase,
-        }),
-    };
-    Ok(Survey { player, arena })
+    let task = survey_task(alloc, bench, job, goal)?;
+    match player_for(alloc, job, task) {
+        Ok(survey) => Ok(survey),
+        Err(OutOfMemory) => Err(SurveyFault::OutOfMemory),
+    }
 }

@@ -1,5 +1,5 @@
 -- Turns of several targets, one after the other.
-use Rattle.std.proofs.Common.{◌≡◌, ◌≢◌, ◌<◌, ◌≤◌, ◌+◌, ◌∙◌, ◌↔◌, ◌⊎◌, inl, inr, ⊎_elim, ℕ, suc, Bool, true, false, IsTrue, List, [], ◌∷◌, ◌++◌, length, get_or, set, take, Option, Some, None, refl, sym, ap, subst, arith, append_assoc}
+use Rattle.std.proofs.Common.{◌≡◌, ◌≢◌, ◌<◌, ◌≤◌, ◌+◌, ◌∙◌, ◌↔◌, ◌⊎◌, inl, inr, ⊎_elim, ℕ, suc, Bool, true, false, IsTrue, List, [], ◌∷◌, ◌++◌, length, get_or, set, take, Option, Some, None, refl, sym, ap, subst, arith}
 use Rattle.std.specs.Borrow.{Bor}
 use Rattle.std.specs.List.{sum_by}
 use Rattle.std.proofs.lemmas.List.{get_or-set_other, get_or-set_same, length-set, get_or_read, take_more}
@@ -11,10 +11,10 @@ use Rattle.bench_model.specs.Outside.{SameOutside}
 use Rattle.bench_model.specs.Counted.{is_store_fault, is_device_fault, IsCounted}
 use Rattle.bench_model.proofs.CountLemmas.{counted_then, none_counted}
 use Rattle.bench_model.specs.History as history
-use Rattle.bench_model.specs.History.{left, Leaves, LeftOnly}
+use Rattle.bench_model.specs.History.{left, LeftOnly}
 use Rattle.bench_model.specs.State.{BenchState, file_half, cells_half}
 use Rattle.bench_model.proofs.Moments as moments
-use Rattle.bench_model.proofs.Moments.{leaves_as, leaves_then, still_only}
+use Rattle.bench_model.proofs.Moments.{still_only}
 use Rattle.job_text.specs.Files.{IsWhole}
 use Rattle.job_text.specs.Stands.{StandsFor}
 use Rattle.job_text.specs.declared.job.Job.{Job}
@@ -22,25 +22,22 @@ use Rattle.target_core.specs.Windows.{window_of, OnlyIn}
 use Rattle.target_core.specs.Targets.{with_ram, point_in}
 use Rattle.target_core.proofs.RamLemmas.{other_stays}
 use Rattle.flash_session.specs.declared.fault.SurveyFault.TheVariants as survey
-use Rattle.flash_session.specs.Moves.{Move, Stand, IsLeftOnWay}
-use Rattle.flash_session.specs.Script.{Leg}
-use Rattle.flash_session.proofs.Playing.{left_more}
+use Rattle.flash_session.specs.Moves.{Move, Stand}
 use Rattle.flash_session.specs.declared.cursor.Place.{Place}
 use Rattle.flash_session.specs.declared.cursor.Place.TheVariants as place
 use Rattle.flash_session.specs.declared.target_end.TargetEnd.{TargetEnd}
 use Rattle.flash_session.specs.declared.target_end.TargetEnd.TheVariants as ended
 use Rattle.flash_session.specs.declared.target_end.Turn.{Turn}
 use Rattle.flash_session.specs.declared.target_end.Turn.TheVariants as turn
-use Rattle.flash_session.specs.declared.part.Task.{Task}
 use Rattle.gang_run.specs.declared.target.GangTarget.{GangTarget}
 use Rattle.flash_session.specs.Alone.{FollowsAs}
-use Rattle.flash_session.specs.Fit.{legs_of, IsPlace, Fit, turns_ahead, togo}
+use Rattle.flash_session.specs.Fit.{IsPlace, Fit, togo}
 use Rattle.flash_session.specs.Guarded.{Guarded}
 use Rattle.flash_session.specs.Rest.{Legs, all_legs}
 use Rattle.flash_session.specs.Stands.{HasEnded, Stands, StandsOn}
 use Rattle.flash_session.specs.Takes.{TakesOn, SliceOf}
 use Rattle.flash_session.specs.Targets.{setup_now, point_for, legs_for, has_second, size_for, goal_for}
-use Rattle.flash_session.specs.Turns.{IsUnended, turn_of, place_fault, SameTarget, GoesOn, Turns, FileTurn}
+use Rattle.flash_session.specs.Turns.{IsUnended, turn_of, place_fault, GoesOn, Turns, FileTurn}
 use Rattle.flash_session.proofs.AloneLemmas.{goes_here, ends_alone}
 use Rattle.flash_session.proofs.FitLemmas.{goal_same, size_same, of_script}
 use Rattle.flash_session.proofs.WholeLemmas.{goes_then, turns_to}
@@ -54,7 +51,7 @@ use Rattle.gang_run.specs.declared.slot.Slot.{Slot}
 use Rattle.gang_run.specs.declared.slot.Slot.TheVariants as slot
 use Rattle.gang_run.specs.Alone.{EndsAlone}
 use Rattle.gang_run.specs.Gangs.{slot_at, OtherWindow, IsGang, gang_togo, AreReady, SameWindow, OneTurn, GivesTurn, GivesTurns, GivesRounds, one_round, rounds_of, AllSince, AllKept, Playing, Rounding}
-use Rattle.gang_run.specs.Slots.{slot_turn, slot_togo, place_end, slot_end, IsRefusal, EndsByScript, IsSlot, IsSlotJob, HasJob, Ready, IsReady, TargetTurns, SlotGoes, SlotTurns, SlotTakes, Counts, TargetKept, SlotKept, SlotStands, TargetSince, SlotSince}
+use Rattle.gang_run.specs.Slots.{slot_turn, slot_togo, place_end, slot_end, IsRefusal, EndsByScript, IsSlot, IsSlotJob, HasJob, Ready, IsReady, TargetTurns, SlotTurns, SlotTakes, Counts, TargetKept, SlotKept, SlotStands, TargetSince, SlotSince}
 
 -- ---- one target
 
@@ -237,7 +234,7 @@ slot_went {B} G self x y t arena arena' bench bench' is state more job went =
       goes = λ going. (y, refl, record { job = job; turns = went });
     })
 
-pub slot_took : (tells : Bool) (steps : ℕ) (self : Slot) (x y : GangTarget) (arena arena' : List (List ℕ)) (s t : BenchState) → self ≡ slot.Target x → TakesOn steps s.cell_count x.player.place y.player.place → SliceOf tells steps x.player.place x.player arena s y.player arena' t
+pub slot_took : (tells : Bool) (steps : ℕ) (self : Slot) (x y : GangTarget) (arena arena' : List (List ℕ)) (s t : BenchState) → self ≡ slot.Target x → TakesOn steps s.cell_count x.player.place y.player.place → SliceOf tells (goal_for x.job x.player s.file) steps x.player.place x.player arena s y.player arena' t
     → SlotTakes tells steps self arena s (slot.Target y) arena' t
 slot_took tells steps self x y arena arena' s t is takes slices = subst (λ (z : Slot). SlotTakes tells steps z arena s (slot.Target y) arena' t) (sym is) (λ going. (y, refl, takes, slices))
 

@@ -1,4 +1,3 @@
 pub mod GangLemmas
-mod MakingLemmas
 mod OpenLemmas
 mod OpeningLemmas

@@ -1,5 +1,5 @@
 -- The opening of a gang, bench after bench.
-use Rattle.std.proofs.Common.{◌≡◌, ◌≢◌, ◌<◌, ◌≤◌, ◌+◌, ◌*◌, ◌/◌, ◌^◌, ◌∙◌, ⊎_elim, ℕ, Bool, IsTrue, All, List, [], ◌∷◌, ◌++◌, length, map, get_or, set, replicate, refl, sym, ap, subst, arith}
+use Rattle.std.proofs.Common.{◌≡◌, ◌≢◌, ◌<◌, ◌≤◌, ◌+◌, ◌*◌, ◌^◌, ◌∙◌, ⊎_elim, ℕ, Bool, All, List, [], ◌∷◌, ◌++◌, length, get_or, set, replicate, refl, sym, ap, subst, arith}
 use Rattle.std.proofs.lemmas.List.{length-append, length-map, length-set, get_or_append_left, get_or_push, get_or_past, get_or-map, get_or-set_other, get_or-set_same, get_or_read}
 use Rattle.std.proofs.lemmas.List.Elements.{All-append, All-replicate, All-rest}
 use Rattle.std.proofs.lemmas.Bool.{cases_lt, cases_eq}
@@ -9,19 +9,17 @@ use Rattle.bench_model.proofs.MemoryLemmas.{same_outside_all}
 use Rattle.bench_model.proofs.Moments.{goes_here}
 use Rattle.board_file.specs.Limits.{most_ram}
 use Rattle.job_text.specs.Stands.{StandsFor}
-use Rattle.ram_arena.specs.Windows.{round_up, total, blank}
+use Rattle.ram_arena.specs.Windows.{total, blank}
 use Rattle.target_core.specs.Windows.{window_of}
 use Rattle.flash_session.specs.declared.fault.SurveyFault.TheVariants as survey
 use Rattle.flash_session.specs.declared.target_end.TargetEnd.{TargetEnd}
 use Rattle.flash_session.specs.declared.target_end.TargetEnd.TheVariants as ended
-use Rattle.flash_session.specs.declared.cursor.Place.{Place}
-use Rattle.flash_session.specs.declared.cursor.Place.TheVariants as place
 use Rattle.gang_run.specs.declared.target.GangTarget.{GangTarget}
 use Rattle.gang_run.specs.declared.gang.Gang.{Gang}
 use Rattle.gang_run.specs.declared.slot.Slot.{Slot}
 use Rattle.gang_run.specs.declared.slot.Slot.TheVariants as slot
 use Rattle.gang_run.specs.Gangs.{slot_at, OtherWindow, IsGang, AreReady}
-use Rattle.gang_run.specs.Opening.{IsLookedAt, IsRefused, IsOpened, AreOpened, AreLookedAt}
+use Rattle.gang_run.specs.Opening.{IsLookedAt, IsRefused, IsOpened, AreOpened}
 use Rattle.gang_run.specs.Opens.{ram_for, IsReadyIn, Opens, sizes_with, SlotAdded, slot_in, OpensAmong, Opening}
 use Rattle.gang_run.specs.Slots.{EndsByScript, IsSlot, IsReady}
 

@@ -1,5 +1,5 @@
 -- What the opening of a gang leaves.
-use Rattle.std.specs.Prelude.{◌≡◌, ◌≤◌, ◌<◌, ℕ, Bool, false, IsTrue, List, length, get_or, Result, Err, None}
+use Rattle.std.specs.Prelude.{◌≡◌, ◌<◌, ℕ, Bool, false, IsTrue, List, length, get_or, Result, Err, None}
 use Rattle.bench_model.specs.declared.bench.Bench.{Ghosts}
 use Rattle.bench_model.specs.Outside.{SameOutside}
 use Rattle.bench_model.specs.Counted.{is_store_fault, is_device_fault, IsCounted}
@@ -57,13 +57,9 @@ pub record IsUnsurveyed (tells : Bool) (fault : SurveyFault) (s t : BenchState) 
   pub device : IsCounted s.device_faults t.device_faults (is_device_fault (survey_fault fault))
 
 abbrev pub IsRefused : Bool → TargetEnd → BenchState → BenchState → Type 0
-IsRefused tells ended.Done s t = ⊥
 IsRefused tells (ended.Open fault) s t = IsUnopened tells fault s t
 IsRefused tells (ended.Survey fault) s t = IsUnsurveyed tells fault s t
-IsRefused tells (ended.CallFailed number call e) s t = ⊥
-IsRefused tells (ended.Mismatch d) s t = ⊥
-IsRefused tells ended.StoreFault s t = ⊥
-IsRefused tells ended.DeviceFault s t = ⊥
+IsRefused tells _ s t = ⊥
 
 -- A target has made no move of the script that a session which opened and surveyed the same would play, to the new goal, and its machine
 -- stands where that script starts. No fault was counted.

@@ -1,5 +1,5 @@
 -- The opening of one place of a gang.
-use Rattle.std.specs.Prelude.{◌≡◌, ◌≢◌, ◌≤◌, ◌<◌, ◌++◌, ℕ, Bool, IsTrue, All, List, [], ◌∷◌, length, get_or, replicate, IfSome, Option, Some, None, Result, Ok}
+use Rattle.std.specs.Prelude.{◌≡◌, ◌≢◌, ◌≤◌, ◌<◌, ◌++◌, ℕ, Bool, All, List, [], ◌∷◌, length, get_or, replicate, IfSome, Option, Result, Ok}
 use Rattle.std.specs.Prelude.{Err}
 use Rattle.bench_model.specs.declared.bench.Bench.{Ghosts}
 use Rattle.bench_model.specs.Counted.{is_store_fault, is_device_fault, IsCounted}
@@ -7,16 +7,14 @@ use Rattle.bench_model.specs.State.{BenchState}
 use Rattle.board_file.specs.Limits.{most_ram}
 use Rattle.faults.specs.declared.out_of_memory.OutOfMemory.{OutOfMemory}
 use Rattle.job_text.specs.declared.job.Job.{Job}
-use Rattle.algo_calls.specs.Shows.{setup_at}
 use Rattle.target_core.specs.Windows.{window_of}
 use Rattle.flash_session.specs.declared.fault.SurveyFault.{SurveyFault}
 use Rattle.flash_session.specs.declared.fault.SurveyFault.TheVariants as survey
-use Rattle.flash_session.specs.declared.parts.Parts.{Parts}
-use Rattle.flash_session.specs.Surveys.{survey_fault}
+use Rattle.flash_session.specs.Surveys.{survey_fault, Surveyed}
+use Rattle.flash_session.specs.Parts.{IsPlayerOf}
 use Rattle.flash_session.specs.declared.target_end.TargetEnd.{TargetEnd}
 use Rattle.flash_session.specs.declared.target_end.TargetEnd.TheVariants as ended
 use Rattle.gang_run.specs.declared.target.GangTarget.{GangTarget}
-use Rattle.flash_session.specs.Begun.{IsBegun}
 use Rattle.board_file.specs.Limits.{size_of}
 use Rattle.flash_session.specs.Fit.{Fit}
 use Rattle.flash_session.specs.Targets.{size_for}
@@ -26,15 +24,16 @@ use Rattle.gang_run.specs.Gangs.{OtherWindow}
 use Rattle.gang_run.specs.Slots.{HasMemory}
 use Rattle.gang_run.specs.Opening.{IsLookedAt, IsRefused, Begins}
 
--- so many bytes are a page of each region at least
-pub record HasPage (parts : Parts) (len : ℕ) : Type 0 where
-  pub first : (setup_at parts.first.calls).algorithm.device.page ≤ len
-  pub second : IfSome parts.second (λ w. (setup_at w.calls).algorithm.device.page ≤ len)
+-- it is a target of this job, with a player of the script that its survey planned, and with this window
+abbrev pub IsTargetOf : Job → Surveyed → (window : ℕ) → Slot → Type 0
+IsTargetOf j w window (slot.Refused e) = ⊥
+IsTargetOf j w window (slot.Target x) = (x.job ≡ j) × (x.player.window ≡ window) × IsPlayerOf j w x.player
 
--- it is a target that begins with what a session gave up, and has room for a page
-abbrev pub IsMade : Parts → (window : ℕ) → Slot → Type 0
-IsMade parts window (slot.Refused e) = ⊥
-IsMade parts window (slot.Target x) = IsBegun parts window x.player × (x.job ≡ parts.job) × HasPage parts (length x.player.page.items)
+-- the place of a job whose survey answered so, and found this
+abbrev pub GivesSlot : Job → Option Surveyed → (window : ℕ) → Result (Unit {0}) SurveyFault → Result Slot OutOfMemory → Type 0
+GivesSlot j found window (Ok u) (Ok p) = IfSome found (λ w. IsTargetOf j w window p)
+GivesSlot j found window (Err fault) (Ok p) = (p ≡ slot.Refused (ended.Survey fault)) × HasMemory fault
+GivesSlot j found window r (Err e) = Unit {0}
 
 -- the bytes of its RAM
 abbrev pub ram_for : GangTarget → ℕ
@@ -54,13 +53,8 @@ pub record FailsSurvey (fault : SurveyFault) (s t : BenchState) : Type 0 where
   pub device : IsCounted s.device_faults t.device_faults (is_device_fault (survey_fault fault))
 
 abbrev pub IsUnsurveyedEnd : TargetEnd → BenchState → BenchState → Type 0
-IsUnsurveyedEnd ended.Done s t = ⊥
-IsUnsurveyedEnd (ended.Open fault) s t = ⊥
 IsUnsurveyedEnd (ended.Survey fault) s t = FailsSurvey fault s t
-IsUnsurveyedEnd (ended.CallFailed number call e) s t = ⊥
-IsUnsurveyedEnd (ended.Mismatch d) s t = ⊥
-IsUnsurveyedEnd ended.StoreFault s t = ⊥
-IsUnsurveyedEnd ended.DeviceFault s t = ⊥
+IsUnsurveyedEnd _ s t = ⊥
 
 -- the survey of a job that was opened on this bench
 abbrev pub Surveys : Bool → Job → (window : ℕ) → Slot → BenchState → BenchState → Type 0

@@ -47,34 +47,21 @@ slot_togo (slot.Target x) = togo x.player
 abbrev pub OpensWithMemory : SessionFault → Type 0
 OpensWithMemory session.OutOfMemory = ⊥
 OpensWithMemory (session.Open opening.OutOfMemory) = ⊥
-OpensWithMemory (session.Open opening.NoJob) = Unit {0}
-OpensWithMemory (session.Open (opening.NotAJob at)) = Unit {0}
-OpensWithMemory (session.Open (opening.Damaged kept found)) = Unit {0}
-OpensWithMemory (session.Open opening.StoreFault) = Unit {0}
-OpensWithMemory (session.Open (opening.CellsDiffer said found)) = Unit {0}
-OpensWithMemory session.DeviceFault = Unit {0}
+OpensWithMemory _ = Unit {0}
 
 abbrev pub HasMemory : SurveyFault → Type 0
 HasMemory survey.OutOfMemory = ⊥
-HasMemory survey.DeviceFault = Unit {0}
-HasMemory survey.StoreFault = Unit {0}
+HasMemory _ = Unit {0}
 
 -- an end without a script, which is never want of memory
 abbrev pub IsRefusal : TargetEnd → Type 0
-IsRefusal ended.Done = ⊥
 IsRefusal (ended.Open fault) = OpensWithMemory fault
 IsRefusal (ended.Survey fault) = HasMemory fault
-IsRefusal (ended.CallFailed number call e) = ⊥
-IsRefusal (ended.Mismatch d) = ⊥
-IsRefusal ended.StoreFault = ⊥
-IsRefusal ended.DeviceFault = ⊥
+IsRefusal _ = ⊥
 
 abbrev pub EndsByScript : Place → Type 0
-EndsByScript (place.At c) = Unit {0}
-EndsByScript (place.In call len left next) = Unit {0}
-EndsByScript (place.Comparing at) = Unit {0}
-EndsByScript place.Closing = Unit {0}
 EndsByScript (place.Ended e) = IsScriptEnd e
+EndsByScript _ = Unit {0}
 
 -- a target without a script was refused, and one with a script ends by it
 abbrev pub IsSlot : Slot → Type 0
@@ -96,11 +83,8 @@ IsSlotJob (slot.Target x) (Some j) = j.now ≡ x.job
 
 -- how a target has ended, if it has
 abbrev pub place_end : Place → Option TargetEnd
-place_end (place.At c) = None
-place_end (place.In call len left next) = None
-place_end (place.Comparing at) = None
-place_end place.Closing = None
 place_end (place.Ended e) = Some e
+place_end _ = None
 
 abbrev pub slot_end : Slot → Option TargetEnd
 slot_end (slot.Refused e) = Some e
@@ -112,14 +96,9 @@ IsNoJob (Some j) = ⊥
 
 -- no job exactly where the end is Open or Survey
 abbrev pub HasJob : Option TargetEnd → Option (Bor Job) → Type 0
-HasJob None found = IsSome found
-HasJob (Some ended.Done) found = IsSome found
 HasJob (Some (ended.Open fault)) found = IsNoJob found
 HasJob (Some (ended.Survey fault)) found = IsNoJob found
-HasJob (Some (ended.CallFailed number call e)) found = IsSome found
-HasJob (Some (ended.Mismatch d)) found = IsSome found
-HasJob (Some ended.StoreFault) found = IsSome found
-HasJob (Some ended.DeviceFault) found = IsSome found
+HasJob _ found = IsSome found
 
 -- ---- a turn
 
@@ -155,7 +134,8 @@ pub record SlotTurns {B : Type 0} (G : Ghosts B) (old : Slot) (arena : List (Lis
 abbrev pub SlotTakes : Bool → (steps : ℕ) → Slot → List (List ℕ) → BenchState → Slot → List (List ℕ) → BenchState → Type 0
 SlotTakes tells steps (slot.Refused e) arena s new arena' t = Unit {0}
 SlotTakes tells steps (slot.Target x) arena s new arena' t = IsUnended x.player.place → (y : GangTarget) × (new ≡ slot.Target y)
-    × TakesOn steps s.cell_count x.player.place y.player.place × SliceOf tells steps x.player.place x.player arena s y.player arena' t
+    × TakesOn steps s.cell_count x.player.place y.player.place
+    × SliceOf tells (goal_for x.job x.player s.file) steps x.player.place x.player arena s y.player arena' t
 
 -- ---- turns
 

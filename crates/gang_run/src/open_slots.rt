@@ -1,41 +1,58 @@
 //! The opening of a gang.
-ghost use Rattle.std.specs.Prelude.{◌≡◌, IsTrue, IfOk, None};
+ghost use Rattle.std.specs.Prelude.{◌≡◌, IsTrue, IsSome, IfOk, OnOk, None};
 ghost use Rattle.bench_model.specs.Calls.{IsRead};
 ghost use Rattle.bench_model.specs.History.{LeftOnly};
 ghost use Rattle.bench_model.specs.Pairs.{PairsLeave};
 ghost use Rattle.bench_model.specs.State.{Left, file_half};
 ghost use Rattle.board_file.specs.Limits.{size_of};
 ghost use Rattle.job_text.specs.Stands.{StandsFor};
-ghost use Rattle.flash_session.specs.Sessions.{job_in};
+ghost use Rattle.job_text.specs.declared.job.Job.{Job};
+ghost use Rattle.flash_session.specs.Parts.{IsPlayerOf};
+ghost use Rattle.flash_session.specs.Sessions.{job_in, surveyed};
+ghost use Rattle.flash_session.specs.Surveys.{Surveyed};
 ghost use Rattle.gang_run.specs.Opening.{IsLookedAt};
-ghost use Rattle.gang_run.specs.Opens.{HasPage, IsMade, Surveys, Opens, AddsWindow, PutsSlot, AddsSlot};
+ghost use Rattle.gang_run.specs.Opens.{IsTargetOf, GivesSlot, Surveys, Opens, AddsWindow, PutsSlot, AddsSlot};
 
 use crate::slot::Slot;
 use crate::target::GangTarget;
 use bench_model::Bench;
 use faults::OutOfMemory;
-use flash_session::{Goal, Parts, Session, SessionFault, SurveyFault, TargetEnd, begin};
+use flash_session::{Goal, Parts, Session, SessionFault, SurveyFault, TargetEnd};
 use job_file::OpenFault;
 use std::alloc::Global;
 
-/// The bytes of a page of either region.
-fn longest_page(parts: &Parts) -> u32
-    ensures { HasPage parts.now result }
+/// A target of what a session gave up, with this window.
+fn make_slot(parts: Parts, window: usize) -> Slot
+    ensures { (j : Job) (w : Surveyed) → parts.job ≡ j → IsPlayerOf j w parts.player → IsTargetOf j w window result }
 {
-    let page = parts.first.calls.algorithm().device.page;
-    match &parts.second {
-        Some(work) => page.max(work.calls.algorithm().device.page),
-        None => page,
-    }
+    let Parts { job, player } = parts;
+    let mut player = player;
+    player.window = window;
+    Slot::Target(GangTarget { job, player })
 }
 
-/// A target of what a session gave up, with this window.
-fn make_slot(alloc: Global, parts: Parts, window: usize) -> Result<Slot, OutOfMemory>
-    ensures { IfOk result (IsMade parts window) }
+/// The place of a session's job whose survey answered so: a target with this window, or how it has ended.
+fn slot_of(
+    session: Session,
+    window: usize,
+    found: Result<(), SurveyFault>,
+) -> Result<Slot, OutOfMemory>
+    requires { OnOk found (IsSome (surveyed session)) }
+    ensures { GivesSlot (job_in session) (surveyed session) window found result }
 {
-    let page = vec![in alloc; 0u8; longest_page(&parts) as usize]?;
-    let (job, player) = begin(parts, window, page);
-    Ok(Slot::Target(GangTarget { job, player }))
+    match found {
+        Ok(()) => {
+            let parts = session.into_parts();
+            Ok(make_slot(parts, window))
+        }
+        Err(SurveyFault::OutOfMemory) => Err(OutOfMemory),
+        Err(SurveyFault::DeviceFault) => Ok(Slot::Refused(TargetEnd::Survey(
+            SurveyFault::DeviceFault,
+        ))),
+        Err(SurveyFault::StoreFault) => Ok(Slot::Refused(TargetEnd::Survey(
+            SurveyFault::StoreFault,
+        ))),
+    }
 }
 
 /// Surveys the job of a session to its new goal, and makes a target of it, with this window.
@@ -54,19 +71,8 @@ fn survey_slot<B: Bench>(
     ensures pairs { PairsLeave (B.state bench.old) (B.state bench.new) (Left (B.state bench.old)) }
 {
     let mut session = session;
-    match session.survey(alloc, bench, Goal::New) {
-        Ok(()) => {
-            let parts = session.into_parts();
-            make_slot(alloc, parts, window)
-        }
-        Err(SurveyFault::OutOfMemory) => Err(OutOfMemory),
-        Err(SurveyFault::DeviceFault) => Ok(Slot::Refused(TargetEnd::Survey(
-            SurveyFault::DeviceFault,
-        ))),
-        Err(SurveyFault::StoreFault) => Ok(Slot::Refused(TargetEnd::Survey(
-            SurveyFault::StoreFault,
-        ))),
-    }
+    let found = session.survey(alloc, bench, Goal::New);
+    slot_of(session, window, found)
 }
 
 /// Opens and surveys the job of a bench, and makes a target of it, with this window. A refusal other than want of memory is its end.

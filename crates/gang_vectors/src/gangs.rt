@@ -47,6 +47,28 @@ fn have_ended(gang: &Gang, count: usize) -> bool
     true
 }
 
+/// How many turns of so many steps the first target takes to its end, where they are few enough.
+pub fn turns_taken<B: Bench>(
+    gang: &mut Gang,
+    benches: &mut [B],
+    steps: u64,
+    most: u32,
+) -> Option<u32>
+    requires gang { IsGang gang.old }
+    requires count { length benches.old ≡ length gang.old.slots.items }
+    requires some { 1 ≤ length benches.old }
+    requires ready { AreReady B.Bench gang.old benches.old }
+    requires steps { 1 ≤ steps }
+{
+    for number in 0..most {
+        match gang.turn(benches, 0, steps) {
+            Turn::Ended => return Some(number + 1),
+            Turn::More => {}
+        }
+    }
+    None
+}
+
 /// Gives four times as many turns, which are drawn, with their steps.
 pub fn play_drawn<B: Bench>(gang: &mut Gang, benches: &mut [B], seed: u32, fours: u32)
     requires gang { IsGang gang.old }

@@ -8,6 +8,9 @@
 //! - `alone`: carries the job of each target alone, and prints how it ends, and whether the cells are then the image over the snapshot.
 //! - `turns ORDER STEPS`: a gang that has turns of so many steps at most, in the order `forward`, `backward` or the one drawn by a number as
 //!   the seed.
+//! - `takes COUNT...`: how many turns the job of each target takes alone where a turn may have all steps of a call. A phase takes one for its
+//!   reset with the load and two for each of its calls, its preparing and its run; then come the last reset, one comparison for 4,096 cells
+//!   and the close, up to the turn that ends it.
 //! - `lists COUNT`: so many gangs, each with 64 turns that are drawn with their steps, and then rounds to the end.
 //! - `stops COUNT`: so many gangs, each stopped after turns that are drawn, with each pick. A second gang carries on what is left, and so does
 //!   each target alone.
@@ -61,6 +64,7 @@ fn step(rt: &HostRuntime, team: &mut Team, line: &str) -> Result<()> {
             println!(rt; "{line}: as alone")?;
             Ok(())
         }
+        ["takes", counts @ ..] => team.take_counts(rt, counts),
         ["lists", count] => team.take_lists(rt, count.parse::<u32>()?),
         ["stops", count] => stop_gangs(rt, team, count.parse::<u32>()?),
         ["call", count] => team.call(rt, count.parse::<usize>()?, 0),

@@ -3,7 +3,7 @@ ghost use Rattle.std.specs.Prelude.{◌≡◌, ◌≤◌, length, IfOk};
 
 use crate::alone::carry;
 use crate::call::Streams;
-use crate::gangs::{play, play_drawn};
+use crate::gangs::{play, play_drawn, turns_taken};
 use crate::job::Job;
 use crate::orders::Order;
 use crate::report::print_end;
@@ -57,6 +57,13 @@ fn drive(alloc: Global, benches: &mut [MemoryBench], order: Order, steps: u64) -
         bail!("a target goes on");
     }
     Ok(gang)
+}
+
+/// How many turns a job takes in a gang of its own, where each call has all its steps in one.
+fn count_turns(alloc: Global, job: &Job) -> Result<u32> {
+    let mut benches = [job.bench(alloc)?];
+    let mut gang = Gang::open(alloc, &mut benches)?;
+    turns_taken(&mut gang, &mut benches, u64::MAX, TURNS).context("it goes on")
 }
 
 /// Opens a gang, gives it 64 turns that are drawn, and rounds to the end.
@@ -165,6 +172,18 @@ impl Team {
         let mut benches = self.benches(alloc)?;
         let gang = drive(alloc, &mut benches, order, steps)?;
         self.check(&gang, &benches)
+    }
+
+    /// Looks whether each job takes so many turns, and prints them.
+    pub fn take_counts(&self, rt: &HostRuntime, counts: &[&str]) -> Result<()> {
+        ensure!(counts.len() == self.jobs.len(), "a count for each target");
+        for (job, count) in self.jobs.iter().zip(counts.iter()) {
+            let taken = count_turns(rt.alloc(), job)?;
+            ensure!(taken == count.parse::<u32>()?, "{taken} turns, not {count}");
+            print!(rt; "{taken} ")?;
+        }
+        println!(rt; "turns")?;
+        Ok(())
     }
 
     /// Drives the jobs by a list of turns that is drawn.

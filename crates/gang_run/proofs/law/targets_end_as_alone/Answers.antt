@@ -1,6 +1,5 @@
 use Rattle.std.proofs.Common.{[], get_or, sym, subst}
 use Rattle.gang_run.specs.declared.slot.Slot.{Slot}
-use Rattle.gang_run.specs.declared.slot.Slot.TheVariants as slot
 use Rattle.gang_run.specs.Slots.{SlotStands, SlotSince}
 use Rattle.gang_run.specs.Gangs.{slot_at}
 use Rattle.gang_run.proofs.GangLemmas.{alone_of}

@@ -16,7 +16,10 @@ returns-in-Err-clause-turns g c = λ goal_now.
     c.in-Err.ensures.err c.reset.ensures.others c.reset.ensures.ram c.reset.ensures.bench c.in-Err.ensures.cause.later (c.in-Err.ensures.cause.on_fault refl) c.in-Err.ensures.err_cells
 
 pub returns-in-Ok-clause-host : goal.returns-in-Ok-clause-host
-returns-in-Ok-clause-host g c = record { made = ap (λ (p : Player). p.made) c.turn_to.ensures.rest; fresh = tt }
+returns-in-Ok-clause-host g c = λ goal_now. record { made = ap (λ (p : Player). p.made) c.turn_to.ensures.rest; next = c.requires.step }
+
+pub returns-in-Err-clause-host : goal.returns-in-Err-clause-host
+returns-in-Err-clause-host g c = λ goal_now. record { made = refl; next = record { calls = c.in-Err.ensures.err.0; ram = c.in-Err.ensures.err.1; stays = c.in-Err.ensures.err_cells } }
 
 pub returns-in-Ok-clause-one : goal.returns-in-Ok-clause-one
 returns-in-Ok-clause-one g c = begins_so c.args.cursor c.args.second c.args.phase c.requires.kind

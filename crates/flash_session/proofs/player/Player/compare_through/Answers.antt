@@ -8,6 +8,7 @@ use Rattle.flash_session.specs.declared.target_end.TargetEnd.TheVariants as ende
 use Rattle.flash_session.specs.Targets.{goal_for}
 use Rattle.flash_session.specs.declared.windows.Unread.TheVariants as unread
 use Rattle.flash_session.proofs.UnreadLemmas.{unread_counted}
+use Rattle.flash_session.proofs.TakesLemmas.{read_still}
 use Rattle.flash_session.proofs.TurnMade.{compare_at, compare_count, alike_turn, closing_turn, differs_turn, compare_unread}
 use Rattle.flash_session.proofs.player.Player.compare_through.Goals as goal
 
@@ -82,3 +83,18 @@ returns-in-Ok-Some-clause-one g c =
       omega (arith, found.finds.place),
       omega (arith, found.finds.place, found.finds.first.within, found.long, length-take c.min-len.result c.args.wanted.now, c.requires.wanted, c.min-len.ensures),
     )
+
+pub returns-in-Err-Device-clause-still : goal.returns-in-Err-Device-clause-still
+returns-in-Err-Device-clause-still g c = read_still g.B.Bench.tells c.args.self.now _ c.args.arena.now (g.B.Bench.state c.args.bench.now) (g.B.Bench.state c.compare_window.new.bench) c.compare_window.ensures.reads.cells
+
+pub returns-in-Err-Store-clause-still : goal.returns-in-Err-Store-clause-still
+returns-in-Err-Store-clause-still g c = read_still g.B.Bench.tells c.args.self.now _ c.args.arena.now (g.B.Bench.state c.args.bench.now) (g.B.Bench.state c.compare_window.new.bench) c.compare_window.ensures.reads.cells
+
+pub returns-in-Ok-Some-clause-still : goal.returns-in-Ok-Some-clause-still
+returns-in-Ok-Some-clause-still g c = read_still g.B.Bench.tells c.args.self.now _ c.args.arena.now (g.B.Bench.state c.args.bench.now) (g.B.Bench.state c.compare_window.new.bench) c.compare_window.ensures.reads.cells
+
+pub returns-then-at-len-clause-still : goal.returns-then-at-len-clause-still
+returns-then-at-len-clause-still g c = read_still g.B.Bench.tells c.args.self.now _ c.args.arena.now (g.B.Bench.state c.args.bench.now) (g.B.Bench.state c.compare_window.new.bench) c.compare_window.ensures.reads.cells
+
+pub returns-else-at-len-clause-still : goal.returns-else-at-len-clause-still
+returns-else-at-len-clause-still g c = read_still g.B.Bench.tells c.args.self.now _ c.args.arena.now (g.B.Bench.state c.args.bench.now) (g.B.Bench.state c.compare_window.new.bench) c.compare_window.ensures.reads.cells

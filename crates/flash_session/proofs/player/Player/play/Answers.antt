@@ -17,10 +17,10 @@ pub returns-in-Comparing-clause-one : goal.returns-in-Comparing-clause-one
 returns-in-Comparing-clause-one g c = takes_from c.args.steps _ c.args.self.now.place (place.Comparing c.in-Comparing.at) _ c.in-Comparing.is c.compare.ensures.one
 
 pub returns-in-At-clause-slice : goal.returns-in-At-clause-slice
-returns-in-At-clause-slice g c = slice_from g.B.Bench.tells c.args.steps c.args.self.now.place (place.At c.in-At.cursor) _ _ _ _ _ _ c.in-At.is c.host.ensures.host
+returns-in-At-clause-slice g c = slice_from g.B.Bench.tells (goal_for c.args.job.now c.args.self.now (g.B.Bench.state c.args.bench.now).file) c.args.steps c.args.self.now.place (place.At c.in-At.cursor) _ _ _ _ _ _ c.in-At.is c.host.ensures.host
 
 pub returns-in-In-clause-slice : goal.returns-in-In-clause-slice
-returns-in-In-clause-slice g c = slice_from g.B.Bench.tells c.args.steps c.args.self.now.place (place.In c.in-In.call c.in-In.len c.in-In.left c.in-In.next) _ _ _ _ _ _ c.in-In.is c.go_on.ensures.slice
+returns-in-In-clause-slice g c = slice_from g.B.Bench.tells (goal_for c.args.job.now c.args.self.now (g.B.Bench.state c.args.bench.now).file) c.args.steps c.args.self.now.place (place.In c.in-In.call c.in-In.len c.in-In.left c.in-In.next) _ _ _ _ _ _ c.in-In.is c.go_on.ensures.slice
 
 pub returns-in-Comparing-clause-slice : goal.returns-in-Comparing-clause-slice
-returns-in-Comparing-clause-slice g c = slice_from g.B.Bench.tells c.args.steps c.args.self.now.place (place.Comparing c.in-Comparing.at) _ _ _ _ _ _ c.in-Comparing.is c.compare.ensures.still
+returns-in-Comparing-clause-slice g c = slice_from g.B.Bench.tells (goal_for c.args.job.now c.args.self.now (g.B.Bench.state c.args.bench.now).file) c.args.steps c.args.self.now.place (place.Comparing c.in-Comparing.at) _ _ _ _ _ _ c.in-Comparing.is c.compare.ensures.still

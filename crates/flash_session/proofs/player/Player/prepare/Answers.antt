@@ -21,7 +21,19 @@ returns-in-Err-clause-turns g c =
 pub returns-in-Ok-clause-host : goal.returns-in-Ok-clause-host
 returns-in-Ok-clause-host g c =
     let prepared = c.in-Ok.ensures.prepares in
-    record { made = refl; fresh = (prepared.fuel, (prepared.bytes, prepared.long, prepared.first)) }
+    let cells = c.prepare_from.ensures.reads.cells in
+    record {
+      made = refl;
+      next = (
+        record { from = c.args.from; comes = c.requires.step; fuel = prepared.fuel; bytes = prepared.bytes; long = prepared.long; are = prepared.are; first = prepared.first },
+        λ told. record { operation = cells.operation; cells = cells.cells },
+      );
+    }
+
+pub returns-in-Err-clause-host : goal.returns-in-Err-clause-host
+returns-in-Err-clause-host g c =
+    let cells = c.prepare_from.ensures.reads.cells in
+    record { made = refl; next = record { calls = c.in-Err.ensures.prepares.0; ram = c.in-Err.ensures.prepares.1; stays = λ told. record { operation = cells.operation; cells = cells.cells } } }
 
 pub returns-in-Ok-clause-one : goal.returns-in-Ok-clause-one
 returns-in-Ok-clause-one g c = prepares_so c.args.cursor c.args.call c.args.from c.args.len c.in-Ok.left c.args.next c.requires.kind

@@ -1,4 +1,4 @@
-use Rattle.flash_session.proofs.PartingLemmas.{region_inside, plan_from}
+use Rattle.flash_session.proofs.LentLemmas.{region_inside, plan_from}
 use Rattle.flash_session.proofs.session.Session.plan_of.Goals as goal
 
 pub region-requires : goal.region-requires

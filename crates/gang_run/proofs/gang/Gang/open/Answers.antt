@@ -1,6 +1,5 @@
 use Rattle.std.proofs.Common.{◌≤◌, ◌^◌, ◌∙◌, ℕ, List, get_or, sym, ap, subst, arith}
 use Rattle.ram_arena.specs.Windows.{total, blank}
-use Rattle.gang_run.specs.declared.gang.Gang.{Gang}
 use Rattle.gang_run.proofs.OpeningLemmas.{opening_first, opening_on, looked_last, sizes_fit, all_opened, all_ready, is_gang}
 use Rattle.gang_run.proofs.gang.Gang.open.Goals as goal
 
