@@ -4,18 +4,20 @@ use Rattle.std.specs.List.{list_any}
 use Rattle.board_file.specs.declared.kind.ControllerKind.{ControllerKind}
 use Rattle.board_file.specs.declared.quiet.QuietRange.{QuietRange}
 use Rattle.board_file.specs.declared.sectors.SectorRun.{SectorRun}
+use Rattle.board_file.specs.Kinds.{block_of}
 use Rattle.board_file.specs.Shown.{Shown}
 use Rattle.flash_layout.specs.declared.area.Area.{Area}
 use Rattle.flash_layout.specs.declared.flash_map.FlashMap as code
 use Rattle.flash_layout.specs.Areas.{areas_of, runs_of}
 
--- the controller's kind, the areas, the sectors of all of them, the address of the controller's registers, the ticks that programming a
--- unit, erasing a sector and erasing an area take, and the quiet ranges
+-- the controller's kind, the areas, the sectors of all of them, the address of the controller's registers and the bytes of their block,
+-- the ticks that programming a unit, erasing a sector and erasing an area take, and the quiet ranges
 pub record FlashMap : Type 0 where
   pub kind : ControllerKind
   pub areas : List Area
   pub runs : List SectorRun
   pub base : ℕ
+  pub block : ℕ
   pub program_ticks : ℕ
   pub erase_ticks : ℕ
   pub chip_ticks : ℕ
@@ -28,6 +30,7 @@ map_of l = record {
   areas = l.areas.items;
   runs = l.runs.items;
   base = l.base;
+  block = l.block;
   program_ticks = l.program_ticks;
   erase_ticks = l.erase_ticks;
   chip_ticks = l.chip_ticks;
@@ -41,6 +44,7 @@ board_map b = record {
   areas = areas_of b.regions;
   runs = runs_of b.regions;
   base = b.controller_base;
+  block = block_of b.kind;
   program_ticks = b.program_ticks;
   erase_ticks = b.erase_ticks;
   chip_ticks = b.chip_ticks;

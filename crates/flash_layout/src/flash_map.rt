@@ -20,6 +20,8 @@ pub struct FlashMap {
     pub runs: Vec<SectorRun>,
     /// The address of the controller's registers.
     pub base: u32,
+    /// The bytes of their block.
+    pub block: u32,
     /// Ticks that programming a unit takes.
     pub program_ticks: u32,
     /// Ticks that erasing a sector takes.

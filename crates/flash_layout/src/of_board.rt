@@ -26,6 +26,7 @@ impl FlashMap {
             areas,
             runs,
             base: board.controller_base,
+            block: board.kind.block(),
             program_ticks: board.program_ticks,
             erase_ticks: board.erase_ticks,
             chip_ticks: board.chip_ticks,
