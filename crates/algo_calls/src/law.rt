@@ -1,9 +1,8 @@
 //! The laws on calls and resets.
 ghost use Rattle.std.specs.Prelude.{◌≡◌, ◌≤◌, ◌+◌, ◌-◌, ◌*◌, ℕ, false, length, List, Option, Some, None};
 ghost use Rattle.bench_model.specs.Calls.{written};
-ghost use Rattle.bench_model.specs.Outside.{SameOutside};
+ghost use Rattle.bench_model.specs.State.{SameOutside, cells_half};
 ghost use Rattle.bench_model.specs.History.{Leaves};
-ghost use Rattle.bench_model.specs.State.{cells_half};
 ghost use Rattle.page_geometry.specs.Geometry.{IsGeometry};
 ghost use Rattle.target_core.specs.declared.run.RunEnd.{RunEnd};
 ghost use Rattle.target_core.specs.Path.{Point};

@@ -8,7 +8,7 @@ use Rattle.faults.specs.Counts.{HasCause}
 use Rattle.faults.specs.FailingCalls.{Numbered, went}
 use Rattle.bench_model.specs.History.{left, Leaves, AddsNothing, Stays, LeftOnly}
 use Rattle.bench_model.specs.Calls.{written, Torn, Cut, Follows, IsOpen}
-use Rattle.bench_model.specs.Outside.{SameOutside}
+use Rattle.bench_model.specs.State.{SameOutside}
 use Rattle.bench_model.specs.Kept.{Kept, IsLeft, all_synced, after_write, after_cut}
 use Rattle.bench_model.specs.Record.{Held, Event, Recorded, FileOf, CellsOf, wrote, cut, synced, opened, settled, filled, broken_off, after, broken, in_range, held_now, half_of, noted}
 use Rattle.bench_model.specs.Memory.{InStep}

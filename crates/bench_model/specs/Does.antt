@@ -4,9 +4,8 @@
 use Rattle.std.specs.Prelude.{◌≡◌, ℕ, List, Bool, length, take, drop, IsTrue, Result, IfOk, OnOk, OnErr, Some, None, IfSome}
 use Rattle.faults.specs.Counts.{HasCause}
 use Rattle.bench_model.specs.History.{left, Leaves, AddsNothing, LeftOnly}
-use Rattle.bench_model.specs.State.{BenchState, file_half, cells_half}
+use Rattle.bench_model.specs.State.{BenchState, file_half, cells_half, SameOutside}
 use Rattle.bench_model.specs.Calls.{written, Torn, Cut, Shortened, Follows, FileStays, CellsStay}
-use Rattle.bench_model.specs.Outside.{SameOutside}
 use Rattle.bench_model.specs.declared.bench_fault.StoreFault.{StoreFault}
 use Rattle.bench_model.specs.declared.bench_fault.DeviceFault.{DeviceFault}
 

@@ -1,6 +1,5 @@
 pub mod History
 pub mod State
-pub mod Outside
 pub mod Calls
 pub mod Device
 pub mod Counted

@@ -4,8 +4,7 @@ use Rattle.std.specs.Option.{ForSome}
 use Rattle.std.proofs.Common.{subst, sym}
 use Rattle.std.proofs.Math.Nat.{le_refl}
 use Rattle.std.proofs.lemmas.List.{take_all}
-use Rattle.bench_model.specs.State.{BenchState}
-use Rattle.bench_model.specs.Outside.{SameOutside}
+use Rattle.bench_model.specs.State.{BenchState, SameOutside}
 use Rattle.bench_model.specs.Kept.{IsLeft}
 use Rattle.bench_model.specs.Record.{Event, Held, Recorded, FileOf, CellsOf, half_of, replay, held_now}
 

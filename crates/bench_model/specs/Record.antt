@@ -2,7 +2,7 @@
 use Rattle.std.specs.Prelude.{◌<◌, ◌≤◌, ◌+◌, ◌-◌, ◌≡◌, ◌++◌, ℕ, List, [], ◌∷◌, Bool, true, false, length, take, drop, replicate, slice_index_or, Option, Some}
 use Rattle.std.specs.Prelude.{None}
 use Rattle.bench_model.specs.Calls.{written}
-use Rattle.bench_model.specs.Outside.{SameOutside}
+use Rattle.bench_model.specs.State.{SameOutside}
 use Rattle.bench_model.specs.History.{Half}
 use Rattle.bench_model.specs.Kept.{Kept, IsLeft, IsWritten, IsPending, all_synced, after_write, after_cut}
 use Rattle.bench_model.specs.declared.change.Change.{Change}

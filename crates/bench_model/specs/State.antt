@@ -1,5 +1,5 @@
 -- What a bench means.
-use Rattle.std.specs.Prelude.{◌≤◌, ℕ, List, Option}
+use Rattle.std.specs.Prelude.{◌≡◌, ◌≤◌, ◌+◌, ℕ, List, length, take, drop, Option, Some, None}
 use Rattle.bench_model.specs.History.{Half}
 
 pub record BenchState : Type 1 where
@@ -31,3 +31,9 @@ Left b file cells = b.files_at b.moment file × b.cells_at b.moment cells
 -- a stop at some moment from `since` on may have left this file and these cells: each in its half at the same moment
 abbrev pub LeftSince : BenchState → ℕ → List ℕ → List ℕ → Type 0
 LeftSince b since file cells = (k : ℕ) × (since ≤ k) × (k ≤ b.moment) × b.files_at k file × b.cells_at k cells
+
+-- the same list outside the range of an operation, where any bytes may stand
+abbrev pub SameOutside : Option (ℕ × ℕ) → List ℕ → List ℕ → Type 0
+SameOutside None old new = new ≡ old
+SameOutside (Some range) old new = (length new ≡ length old)
+    × (take range.0 new ≡ take range.0 old) × (drop (range.0 + range.1) new ≡ drop (range.0 + range.1) old)

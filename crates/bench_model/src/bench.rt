@@ -3,9 +3,8 @@ ghost use Rattle.std.specs.Prelude.{◌≡◌, ◌≤◌, ◌+◌, ◌<◌, ◌^
 ghost use Rattle.std.specs.Option.{ForSome};
 ghost use Rattle.bench_model.specs.Act.{Act, FileLen, FileRead, FileWrite, FileCut, FileSync, CellsRead, CellsOpen, CellsSettle, CellsSettleFill, CellsDrop};
 ghost use Rattle.bench_model.specs.History.{left};
-ghost use Rattle.bench_model.specs.State.{BenchState, file_half, cells_half};
+ghost use Rattle.bench_model.specs.State.{BenchState, file_half, cells_half, SameOutside};
 ghost use Rattle.bench_model.specs.Calls.{IsOpen};
-ghost use Rattle.bench_model.specs.Outside.{SameOutside};
 ghost use Rattle.bench_model.specs.Does.{MeasuresFile, ReadsFile, WritesFile, CutsFile, SyncsFile, ReadsCells, OpensCells, SettlesCells, DropsCells};
 
 use crate::{DeviceFault, StoreFault};

@@ -5,8 +5,8 @@ use Rattle.bench_model.specs.History.{left}
 use Rattle.bench_model.specs.State.{BenchState, file_half, cells_half, Left}
 use Rattle.job_text.specs.Files.{IsFree, IsWhole}
 use Rattle.bench_model.specs.Pairs.{PairsInTurn}
-use Rattle.campaign.specs.Stops.{CampaignJob, IsUntouched, IsAtClose, IsDone}
-use Rattle.campaign.specs.Campaign.{goal_of, LaterCall, IsEntered, Keeps, AllGoOn, Campaign, IsCampaign, last_at, IsFinished, IsSafePair, IsSafe, AllSafe, IsSafeCampaign}
+use Rattle.campaign.specs.Stops.{CampaignJob, IsUntouched, IsAtClose, IsDone, IsEntered, last_at, IsFinished, IsSafePair, IsSafe}
+use Rattle.campaign.specs.Campaign.{goal_of, LaterCall, Keeps, AllGoOn, Campaign, IsCampaign, AllSafe, IsSafeCampaign}
 
 not_yet : (last : Option (List ℕ)) (closing : ℕ) (goal : List ℕ) (k : ℕ) → k < closing → last_at last closing goal k ≡ last
 not_yet last closing goal k lt = ap (λ (b : Bool). cond b (Some goal) last) (lt-leb closing k lt)

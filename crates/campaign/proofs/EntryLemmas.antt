@@ -3,8 +3,7 @@ use Rattle.std.proofs.Common.{inl, inr, ◌∙◌, ℕ, List, sym, subst}
 use Rattle.bench_model.specs.History.{left, LeftOnly}
 use Rattle.bench_model.specs.State.{BenchState, file_half, cells_half}
 use Rattle.job_text.specs.Files.{IsWhole}
-use Rattle.campaign.specs.Stops.{CampaignJob}
-use Rattle.campaign.specs.Campaign.{IsTold, IsEntered}
+use Rattle.campaign.specs.Stops.{CampaignJob, IsTold, IsEntered}
 
 -- after a call that ended, on the same bench
 pub after_return : (aim : CampaignJob) (new next : BenchState) → IsTold next → ((f : List ℕ) → left (file_half next) f → left (file_half new) f)

@@ -1,9 +1,18 @@
 -- Campaigns: a call of `program` or `begin`, and then calls that go on with its job.
-use Rattle.std.specs.Prelude.{◌≡◌, ◌⊎◌, ◌≤◌, ◌<◌, ℕ, List, [], ◌∷◌, Option, Some, None, nat_le, if◌then◌else◌}
+use Rattle.std.specs.Prelude.{◌≡◌, ◌⊎◌, ◌≤◌, ◌<◌, ℕ, List, [], ◌∷◌, Option, None}
 use Rattle.bench_model.specs.History.{left}
-use Rattle.bench_model.specs.State.{BenchState, file_half, cells_half, Left}
-use Rattle.job_text.specs.Files.{IsFree, IsWhole, IsClosed}
-use Rattle.campaign.specs.Stops.{CampaignJob, IsUntouched, FirstCallStops, WorkStops, IsDone}
+use Rattle.bench_model.specs.State.{BenchState, file_half, Left}
+use Rattle.bench_model.specs.Pairs.{PairsInTurn}
+use Rattle.job_text.specs.Files.{IsFree, IsWhole}
+use Rattle.campaign.specs.Stops.{CampaignJob, IsUntouched, IsAtClose, IsDone, IsTold, IsEntered, last_at, IsSafe}
+
+-- `program` or `begin` on a free file: before its close, to which `begin` never comes, each pair is untouched or whole
+pub record FirstCallStops (old new : BenchState) (closing : ℕ) (aim : CampaignJob) : Type 0 where
+  pub pairs : PairsInTurn old new closing (λ f c. IsUntouched old f c ⊎ IsWhole aim.body f) (IsAtClose aim.body aim.laid)
+
+-- `resume` or `revert` on a file that stands for the job: before its close each pair is one of the entry, or whole
+pub record WorkStops (old new : BenchState) (closing : ℕ) (body goal : List ℕ) : Type 0 where
+  pub pairs : PairsInTurn old new closing (λ f c. Left old f c ⊎ IsWhole body f) (IsAtClose body goal)
 
 -- what a later call is asked for
 pub data LaterCommand : Type 0 where
@@ -23,19 +32,6 @@ pub record LaterCall : Type 1 where
   pub status : ℕ
   pub closing : ℕ
   pub end : ℕ
-
--- the file as read and the cells as told are among what a stop may leave, as on every bench that tells its contents
-pub record IsTold (b : BenchState) : Type 0 where
-  pub as_read : left (file_half b) b.file
-  pub as_told : left (cells_half b) b.cells
-
--- The next call is entered with what the last one left when it ended or was stopped. Where every file that a stop may leave
--- then stands for the job, the cells may have become any others meanwhile: the target may go on by itself.
-pub record IsEntered (aim : CampaignJob) (new : BenchState) (end : ℕ) (next : BenchState) : Type 0 where
-  pub told : IsTold next
-  pub files : (f : List ℕ) → left (file_half next) f → new.files_at end f
-  pub cells : ((c : List ℕ) → left (cells_half next) c → new.cells_at end c)
-      ⊎ ((f : List ℕ) → left (file_half next) f → IsWhole aim.body f)
 
 -- a call that is never at its close, and leaves only what a stop at its entry may leave
 pub record StaysIdle (old new : BenchState) (closing : ℕ) : Type 0 where
@@ -74,25 +70,6 @@ pub record IsCampaign (c : Campaign) : Type 0 where
   pub in_time : c.end ≤ c.new.moment
   pub first : FirstCallStops c.start c.new c.closing c.aim
   pub calls : AllGoOn c.aim c.new c.end c.calls
-
--- the goal of the last call that was at its close, once this one has come so far
-abbrev pub last_at : Option (List ℕ) → ℕ → List ℕ → ℕ → Option (List ℕ)
-last_at last closing goal k = if nat_le closing k then Some goal else last
-
--- the job is finished: its file is closed, and the cells are the goal of the last call that was at its close
-pub record IsFinished (body : List ℕ) (last : Option (List ℕ)) (file cells : List ℕ) : Type 0 where
-  pub closed : IsClosed body file
-  pub done : last ≡ Some cells
-
--- untouched, whole or finished
-abbrev pub IsSafePair : BenchState → CampaignJob → Option (List ℕ) → List ℕ → List ℕ → Type 0
-IsSafePair start aim last f c = IsUntouched start f c ⊎ (IsWhole aim.body f ⊎ IsFinished aim.body last f c)
-
--- each pair left in a call is
-abbrev pub IsSafe : BenchState → CampaignJob → Option (List ℕ) → BenchState → BenchState → ℕ → List ℕ → Type 0
-IsSafe start aim last old new closing goal =
-    (k : ℕ) (f c : List ℕ) → old.moment ≤ k → k ≤ new.moment → new.files_at k f → new.cells_at k c
-    → IsSafePair start aim (last_at last closing goal k) f c
 
 -- each pair left in each of these calls is, and each of them that answers 0 leaves its goal
 abbrev pub AllSafe : BenchState → CampaignJob → Option (List ℕ) → List LaterCall → Type 0

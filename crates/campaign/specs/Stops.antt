@@ -1,9 +1,7 @@
--- What one call of the program promises of a stop, in terms of its bench alone. A pair is a file, and the cells.
-use Rattle.std.specs.Prelude.{◌≡◌, ◌⊎◌, ℕ, List, ◌∷◌, None}
+-- What a stop may leave in a campaign, in terms of the bench alone. A pair is a file, and the cells.
+use Rattle.std.specs.Prelude.{◌≡◌, ◌⊎◌, ◌≤◌, ℕ, List, ◌∷◌, Option, Some, None, nat_le, if◌then◌else◌}
 use Rattle.bench_model.specs.History.{left}
-use Rattle.bench_model.specs.State.{BenchState, file_half, Left}
-use Rattle.bench_model.specs.Outside.{SameOutside}
-use Rattle.bench_model.specs.Pairs.{PairsInTurn}
+use Rattle.bench_model.specs.State.{BenchState, file_half, cells_half, SameOutside}
 use Rattle.job_text.specs.Files.{IsFree, IsWhole, IsClosed}
 
 -- What a job is to a campaign: its body, and the cells that are wanted of it or brought back. `laid` is the image over the
@@ -24,16 +22,40 @@ pub record IsAtClose (body goal file cells : List ℕ) : Type 0 where
   pub whole_or_closed : IsWhole body file ⊎ IsClosed body file
   pub done : cells ≡ goal
 
--- `program` or `begin` on a free file: before its close, to which `begin` never comes, each pair is untouched or whole
-pub record FirstCallStops (old new : BenchState) (closing : ℕ) (aim : CampaignJob) : Type 0 where
-  pub pairs : PairsInTurn old new closing (λ f c. IsUntouched old f c ⊎ IsWhole aim.body f) (IsAtClose aim.body aim.laid)
-
--- `resume` or `revert` on a file that stands for the job: before its close each pair is one of the entry, or whole
-pub record WorkStops (old new : BenchState) (closing : ℕ) (body goal : List ℕ) : Type 0 where
-  pub pairs : PairsInTurn old new closing (λ f c. Left old f c ⊎ IsWhole body f) (IsAtClose body goal)
-
 -- what stands where such a call answers 0
 pub record IsDone (body goal : List ℕ) (new : BenchState) : Type 0 where
   pub file : new.file ≡ 0 ∷ body
   pub idle : new.operation ≡ None
   pub cells : new.cells ≡ goal
+
+-- the file as read and the cells as told are among what a stop may leave, as on every bench that tells its contents
+pub record IsTold (b : BenchState) : Type 0 where
+  pub as_read : left (file_half b) b.file
+  pub as_told : left (cells_half b) b.cells
+
+-- The next call is entered with what the last one left when it ended or was stopped. Where every file that a stop may leave
+-- then stands for the job, the cells may have become any others meanwhile: the target may go on by itself.
+pub record IsEntered (aim : CampaignJob) (new : BenchState) (end : ℕ) (next : BenchState) : Type 0 where
+  pub told : IsTold next
+  pub files : (f : List ℕ) → left (file_half next) f → new.files_at end f
+  pub cells : ((c : List ℕ) → left (cells_half next) c → new.cells_at end c)
+      ⊎ ((f : List ℕ) → left (file_half next) f → IsWhole aim.body f)
+
+-- the goal of the last call that was at its close, once this one has come so far
+abbrev pub last_at : Option (List ℕ) → ℕ → List ℕ → ℕ → Option (List ℕ)
+last_at last closing goal k = if nat_le closing k then Some goal else last
+
+-- the job is finished: its file is closed, and the cells are the goal of the last call that was at its close
+pub record IsFinished (body : List ℕ) (last : Option (List ℕ)) (file cells : List ℕ) : Type 0 where
+  pub closed : IsClosed body file
+  pub done : last ≡ Some cells
+
+-- untouched, whole or finished
+abbrev pub IsSafePair : BenchState → CampaignJob → Option (List ℕ) → List ℕ → List ℕ → Type 0
+IsSafePair start aim last f c = IsUntouched start f c ⊎ (IsWhole aim.body f ⊎ IsFinished aim.body last f c)
+
+-- each pair left in a call is
+abbrev pub IsSafe : BenchState → CampaignJob → Option (List ℕ) → BenchState → BenchState → ℕ → List ℕ → Type 0
+IsSafe start aim last old new closing goal =
+    (k : ℕ) (f c : List ℕ) → old.moment ≤ k → k ≤ new.moment → new.files_at k f → new.cells_at k c
+    → IsSafePair start aim (last_at last closing goal k) f c

@@ -7,7 +7,8 @@ use Rattle.report_text.specs.Refusal.{Refusal, out_of_memory, usage, input_fault
 use Rattle.report_text.proofs.StatusLemmas.{some_status}
 use Rattle.command_files.specs.Inputs.{InputsCall, IsFile, IsUntaken, NoneFailed, TakesNothing}
 use Rattle.command_files.specs.Steps.{IsTakeFault}
-use Rattle.command_answers.specs.Call.{BenchCall, SinkCall, Answer, done, refused, bench_call, sink_call, IsUntouched, Says}
+use Rattle.command_answers.specs.Call.{BenchCall, SinkCall, Answer, done, refused, bench_call, sink_call, IsUntouched}
+use Rattle.command_answers.specs.Said.{Says}
 use Rattle.command_answers.specs.Answered.{Fault, input, store, device, output, fault_in, IsCounted, AreCounted, DidNothing, OnlyLooked, Scope, on_files, on_job_file, on_own_bench, AtSeven, AtOne, StandsEarly, IsOf, EndsLawfully}
 
 -- The status.

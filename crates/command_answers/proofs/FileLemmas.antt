@@ -8,7 +8,8 @@ use Rattle.job_text.specs.declared.format.Format.{Format}
 use Rattle.job_text.specs.declared.format.Format.TheVariants.{First, Second}
 use Rattle.job_text.specs.Reading.{places_of}
 use Rattle.job_text.specs.Files.{IsFree, IsWhole, open_gate}
-use Rattle.job_text.specs.Body.{Job, body_of, AreFlms, IsJob}
+use Rattle.job_text.specs.Body.{Job, body_of}
+use Rattle.job_text.specs.Jobs.{AreFlms, IsJob}
 use Rattle.job_text.specs.Stands.{IsDamaged, IsNotAJob}
 use Rattle.job_text.specs.Reading as reading_of
 use Rattle.job_text.proofs.BodyLemmas.{same_job, long_body}

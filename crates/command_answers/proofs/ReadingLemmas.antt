@@ -4,7 +4,8 @@ use Rattle.std.proofs.Common.{◌≡◌, ap, subst, inl, inr, true}
 use Rattle.report_text.specs.Refusal.{Refusal}
 use Rattle.command_words.specs.Files.{FilesAsked}
 use Rattle.command_files.specs.Inputs.{InputsCall, FilesGiven, AreFiles}
-use Rattle.command_files.specs.Files.{Aim, IsAim, IsRefused}
+use Rattle.command_files.specs.Files.{Aim, IsAim}
+use Rattle.command_files.specs.Refused.{IsRefused}
 use Rattle.command_files.proofs.FilesLemmas.{one_given, one_aim, one_refusal, aim_or_refused}
 use Rattle.command_answers.specs.Call.{BenchCall, SinkCall, Answer, refused}
 use Rattle.command_answers.specs.Answered.{yields, DidNothing}

@@ -1,5 +1,5 @@
 pub mod Call
+pub mod Said
 pub mod Answered
 pub mod Shown
 pub mod Reading
-pub mod Places

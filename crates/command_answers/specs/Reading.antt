@@ -4,7 +4,8 @@ use Rattle.report_text.specs.Refusal.{Refusal, out_of_memory, usage, input_fault
 use Rattle.report_text.specs.Refusal.{image_misplaced}
 use Rattle.command_words.specs.Files.{FilesAsked}
 use Rattle.command_files.specs.Inputs.{InputsCall, FilesGiven, AreFiles, Given}
-use Rattle.command_files.specs.Files.{Aim, IsAim, IsRefused}
+use Rattle.command_files.specs.Files.{Aim, IsAim}
+use Rattle.command_files.specs.Refused.{IsRefused}
 use Rattle.command_answers.specs.Call.{BenchCall, SinkCall, Answer, refused}
 use Rattle.command_answers.specs.Answered.{Refuses, DidNothing}
 

@@ -14,8 +14,9 @@ use Rattle.image_set.specs.Ranges.{IsPlaceFault}
 use Rattle.report_text.specs.Refusal.{Refusal, usage, flm_refused, other_device, no_room, board_refused, image_refused, image_misplaced}
 use Rattle.command_words.specs.Files.{FilesAsked}
 use Rattle.command_files.specs.Inputs.{InputsCall, FilesGiven, AreEach, AreFiles, Given}
-use Rattle.image_more.specs.Files.{file_at}
-use Rattle.command_files.specs.Files.{flm_files, image_files, LeavesNoImage, IsBoardOf, IsForBoard, IsOneFor, AreFor, IsOtherDevice, HasNoRoom, IsUnfit, IsUnread, IsNoneFor, AreNotFor, IsImageRefused, Aim, ranges_of, IsUnionOf, AreRead, IsAim, HasNoImage, HasNoTarget, HasWrongImage, IsMisplaced, IsRefused}
+use Rattle.image_more.specs.Place.{file_at}
+use Rattle.command_files.specs.Files.{flm_files, image_files, IsBoardOf, IsForBoard, IsOneFor, AreFor, Aim, ranges_of, IsUnionOf, AreRead, IsAim}
+use Rattle.command_files.specs.Refused.{LeavesNoImage, IsOtherDevice, HasNoRoom, IsUnfit, IsUnread, IsNoneFor, AreNotFor, IsImageRefused, HasNoImage, HasNoTarget, HasWrongImage, IsMisplaced, IsRefused}
 use Rattle.command_files.proofs.ImageLemmas.{one_union, images_or_refused, one_image_refused, inside_or_fault, one_place_fault}
 
 -- The files that stand under the names.

@@ -11,11 +11,12 @@ use Rattle.image_more.specs.declared.fault.AnyFault.{AnyFault}
 use Rattle.image_more.specs.declared.fault.AnyFault.TheVariants as any
 use Rattle.image_more.specs.Any.{IsAnyFault}
 use Rattle.image_more.specs.Fault.{any_of}
-use Rattle.image_more.specs.Files.{file_at, IsNextUnion, IsUnionBefore}
+use Rattle.image_more.specs.Files.{IsNextUnion, IsUnionBefore}
+use Rattle.image_more.specs.Place.{file_at}
 use Rattle.image_more.proofs.AnyLemmas.{one_any_image, any_image_or_fault, one_any_fault}
 use Rattle.image_set.proofs.UnionLemmas.{below_end}
 use Rattle.command_files.specs.Inputs.{name_at}
-use Rattle.command_files.specs.Files.{Clashes, IsImageRefused}
+use Rattle.command_files.specs.Refused.{Clashes, IsImageRefused}
 
 -- Two images.
 

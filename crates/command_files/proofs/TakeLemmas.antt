@@ -10,7 +10,7 @@ use Rattle.outside_io.specs.State.{InputsState}
 use Rattle.report_text.specs.Refusal.{Refusal, out_of_memory, input_fault}
 use Rattle.command_words.proofs.ArgumentLemmas.{in_parts}
 use Rattle.command_files.specs.Inputs.{InputsCall, inputs_call, name_at, IsFile, IsThere, AreEach, NoneFailed}
-use Rattle.image_more.specs.Files.{file_at}
+use Rattle.image_more.specs.Place.{file_at}
 use Rattle.command_files.specs.Steps.{IsTakeFault}
 
 -- Each of two lists.

@@ -5,7 +5,8 @@ use Rattle.std.proofs.Math.Numerals.{add-one}
 use Rattle.std.proofs.lemmas.List.Sums.{sum_by-cons}
 use Rattle.byte_map.specs.Image.{Run}
 use Rattle.image_more.specs.Any.{IsAnyImage}
-use Rattle.image_more.specs.Files.{file_at, IsUnionBefore}
+use Rattle.image_more.specs.Files.{IsUnionBefore}
+use Rattle.image_more.specs.Place.{file_at}
 use Rattle.board_file.specs.declared.region.Region.{Region}
 use Rattle.board_file.specs.Limits.{size_of}
 use Rattle.board_file.specs.Text.{IsBoard}
@@ -23,7 +24,8 @@ use Rattle.report_text.specs.declared.refusal.Refusal as value
 use Rattle.report_text.specs.Refused.{of_flm}
 use Rattle.command_words.specs.Files.{FilesAsked}
 use Rattle.command_files.specs.Inputs.{FilesGiven}
-use Rattle.command_files.specs.Files.{others_of, flm_files, image_files, LeavesNoImage, IsOneFor, AreFor, IsUnfit, IsUnread, IsNoneFor, AreNotFor, Aim, ranges_of, IsUnionOf, AreRead, IsAim, HasBoard, HasTarget, IsMisplaced}
+use Rattle.command_files.specs.Files.{others_of, flm_files, image_files, IsOneFor, AreFor, Aim, ranges_of, IsUnionOf, AreRead, IsAim}
+use Rattle.command_files.specs.Refused.{LeavesNoImage, IsUnfit, IsUnread, IsNoneFor, AreNotFor, HasBoard, HasTarget, IsMisplaced}
 use Rattle.command_files.specs.Steps.{Adds, IsBoardRefusal, IsFlmRefusal, AreFlmRefusal, ReadsAlgorithms, IsImagesRefusal, IsFilesRefusal}
 
 -- one file more

@@ -1,26 +1,15 @@
--- What a command's files say: an image, for a board and by an algorithm for each of its regions where the command has FLM files; or why
--- they are refused.
-use Rattle.std.specs.Prelude.{◌≡◌, ◌≢◌, ◌≤◌, ◌<◌, ◌-◌, ◌⊎◌, ℕ, List, [], ◌∷◌, ◌++◌, map, length, take, drop, Option, option_to_list, Some, None, IsSome, Ok}
-use Rattle.std.specs.Prelude.{Err}
+-- What a command's files say: an image, for a board and by an algorithm for each of its regions where the command has FLM files.
+use Rattle.std.specs.Prelude.{◌≡◌, ◌≤◌, ◌-◌, ℕ, List, [], ◌∷◌, ◌++◌, map, length, take, drop, Option, option_to_list, Some, None, IsSome, Ok}
 use Rattle.byte_map.specs.Image.{Run}
 use Rattle.board_file.specs.declared.region.Region.{Region}
 use Rattle.board_file.specs.Shown as board
-use Rattle.board_file.specs.Text.{reading, IsBoard}
+use Rattle.board_file.specs.Text.{IsBoard}
 use Rattle.flm_descriptor.specs.Shown as flm
 use Rattle.flm_descriptor.specs.Flm.{flm_of}
-use Rattle.flm_descriptor.specs.declared.fault.FlmFault.{FlmFault}
 use Rattle.algo_loader.specs.Places.{need_of}
-use Rattle.image_set.specs.declared.fault.ImageFault.{ImageFault}
-use Rattle.image_more.specs.declared.fault.AnyFault.{AnyFault}
-use Rattle.image_more.specs.declared.fault.AnyFault.TheVariants.{OutOfMemory}
-use Rattle.image_more.specs.Any.{IsAnyImage, IsAnyFault}
-use Rattle.image_more.specs.Fault.{any_of}
-use Rattle.image_more.specs.Files.{file_at, IsUnionBefore}
-use Rattle.image_set.specs.Union.{IsUnionFault}
-use Rattle.image_set.specs.Ranges.{LiesInside, IsPlaceFault}
-use Rattle.report_text.specs.Refusal.{Refusal, usage, board_refused, flm_refused, other_device, no_room, image_refused, image_misplaced}
-use Rattle.command_words.specs.Files.{FilesAsked}
-use Rattle.command_files.specs.Inputs.{FilesGiven, name_at}
+use Rattle.image_more.specs.Files.{IsUnionBefore}
+use Rattle.image_set.specs.Ranges.{LiesInside}
+use Rattle.command_files.specs.Inputs.{FilesGiven}
 
 -- The names behind the board. Where a command has an FLM file it has one for each region of the board, which are the first of these
 -- names, and the others are images; else all are images.
@@ -37,11 +26,6 @@ flm_files first others board = option_to_list first ++ take (others_of first boa
 -- the images
 abbrev pub image_files : Option (List ℕ) → List (List ℕ) → board.Shown → List (List ℕ)
 image_files first others board = drop (others_of first board.regions) others
-
--- FLM files leave no name for an image
-pub record LeavesNoImage (files : FilesGiven) (board : board.Shown) : Type 0 where
-  pub has_flm : IsSome files.flm
-  pub few : length files.images < length board.regions
 
 -- The board and the algorithms.
 
@@ -67,67 +51,6 @@ AreFor board regions [] [] = Unit {0}
 AreFor board (region ∷ regions) (file ∷ files) (algorithm ∷ algorithms) = IsOneFor board region file algorithm × AreFor board regions files algorithms
 AreFor board regions files algorithms = ⊥
 
--- Why one isn't.
-
--- its device, which is told, has another base or another size
-pub record IsOtherDevice (base size : ℕ) (algorithm : flm.Shown) (told_base told_size : ℕ) : Type 0 where
-  pub base_is : told_base ≡ algorithm.device.base
-  pub size_is : told_size ≡ algorithm.device.size
-  pub other : (told_base ≢ base) ⊎ (told_size ≢ size)
-
--- its device is the region, and it needs more bytes than the RAM has
-pub record HasNoRoom (board : board.Shown) (base size : ℕ) (algorithm : flm.Shown) (need have : ℕ) : Type 0 where
-  pub base_is : algorithm.device.base ≡ base
-  pub size_is : algorithm.device.size ≡ size
-  pub need_is : need ≡ need_of algorithm board
-  pub have_is : have ≡ board.ram_size
-  pub more : have < need
-
-abbrev pub IsUnfit : board.Shown → ℕ → ℕ → flm.Shown → Refusal → Type 0
-IsUnfit board base size algorithm (other_device told_base told_size) = IsOtherDevice base size algorithm told_base told_size
-IsUnfit board base size algorithm (no_room need have) = HasNoRoom board base size algorithm need have
-IsUnfit board base size algorithm _ = ⊥
-
--- an FLM file says no algorithm
-abbrev pub IsUnread : List ℕ → Refusal → Type 0
-IsUnread file (flm_refused fault) = flm_of file ≡ Err fault
-IsUnread file _ = ⊥
-
--- or one that isn't for the region
-pub record IsReadUnfit (board : board.Shown) (region : Region) (file : List ℕ) (refusal : Refusal) : Type 0 where
-  pub algorithm : flm.Shown
-  pub says : flm_of file ≡ Ok algorithm
-  pub unfit : IsUnfit board region.base region.size algorithm refusal
-
-abbrev pub IsNoneFor : board.Shown → Region → List ℕ → Refusal → Type 0
-IsNoneFor board region file refusal = IsUnread file refusal ⊎ IsReadUnfit board region file refusal
-
--- the first FLM file that isn't one for the region in its place
-abbrev pub AreNotFor : board.Shown → List Region → List (List ℕ) → Refusal → Type 0
-AreNotFor board (region ∷ regions) (file ∷ files) refusal =
-    IsNoneFor board region file refusal ⊎ (((algorithm : flm.Shown) × IsOneFor board region file algorithm) × AreNotFor board regions files refusal)
-AreNotFor board regions files refusal = ⊥
-
--- The images, file after file.
-
--- a file's image clashes with those before it
-pub record Clashes (raw_at : Option ℕ) (file : List ℕ) (before : List Run) (fault : AnyFault) : Type 0 where
-  pub image : List Run
-  pub is_image : IsAnyImage raw_at file image
-  pub clash : ImageFault
-  pub is_clash : IsUnionFault before image clash
-  pub fault_is : fault ≡ any_of clash
-
--- the first file that stands for no image, or for one that clashes with those before it; it is named
-pub record IsImageRefused (raw_at : Option ℕ) (names files : List (List ℕ)) (name : List ℕ) (fault : AnyFault) : Type 0 where
-  pub place : ℕ
-  pub inside : place < length files
-  pub name_is : name ≡ name_at names place
-  pub before : List Run
-  pub is_before : IsUnionBefore raw_at files place before
-  pub is_fault : IsAnyFault raw_at (file_at files place) fault ⊎ Clashes raw_at (file_at files place) before fault
-  pub no_memory : fault ≢ OutOfMemory
-
 -- What is wanted of the cells: an image, in the regions of a board, by an algorithm for each where there are FLM files.
 pub record Aim : Type 0 where
   pub board : board.Shown
@@ -152,51 +75,3 @@ pub record AreRead (raw_at : Option ℕ) (files : FilesGiven) (aim : Aim) : Type
 pub record IsAim (raw_at : Option ℕ) (files : FilesGiven) (aim : Aim) : Type 0 where
   pub are_read : AreRead raw_at files aim
   pub inside : LiesInside aim.image (ranges_of aim.board.regions)
-
--- Why the files are refused.
-
--- there is a board, and FLM files for its regions leave no name for an image
-pub record HasNoImage (files : FilesGiven) : Type 0 where
-  pub board : board.Shown
-  pub is_board : IsBoard files.board board
-  pub leaves : LeavesNoImage files board
-
--- there is a board, and a name for an image
-pub record HasBoard (files : FilesGiven) : Type 0 where
-  pub board : board.Shown
-  pub is_board : IsBoardOf files board
-
--- and an algorithm for each of its regions, where there are FLM files
-pub record HasTarget (files : FilesGiven) : Type 0 where
-  pub has_board : HasBoard files
-  pub algorithms : List flm.Shown
-  pub are_for : AreFor has_board.board has_board.board.regions (flm_files files.flm files.images has_board.board) algorithms
-
--- and an FLM file that isn't one for its region
-pub record HasNoTarget (files : FilesGiven) (refusal : Refusal) : Type 0 where
-  pub has_board : HasBoard files
-  pub are_not : AreNotFor has_board.board has_board.board.regions (flm_files files.flm files.images has_board.board) refusal
-
--- there is all that, and an image file is wrong
-pub record HasWrongImage (asked : FilesAsked) (files : FilesGiven) (name : List ℕ) (fault : AnyFault) : Type 0 where
-  pub has_target : HasTarget files
-  pub is_wrong : IsImageRefused asked.raw_at (image_files files.flm asked.images has_target.has_board.board)
-      (image_files files.flm files.images has_target.has_board.board) name fault
-
--- the image is empty, or has a byte outside the regions
-pub record IsMisplaced (raw_at : Option ℕ) (files : FilesGiven) (fault : ImageFault) : Type 0 where
-  pub aim : Aim
-  pub are_read : AreRead raw_at files aim
-  pub is_fault : IsPlaceFault aim.image (ranges_of aim.board.regions) fault
-
--- Each of these says that the earlier ones aren't so: the board comes first, then whether a name is left for an image, then each FLM file
--- in its turn with its device and its room, then the images in their order, then the place of their union.
-abbrev pub IsRefused : FilesAsked → FilesGiven → Refusal → Type 0
-IsRefused asked files (board_refused fault) = reading files.board ≡ Err fault
-IsRefused asked files usage = HasNoImage files
-IsRefused asked files (flm_refused fault) = HasNoTarget files (flm_refused fault)
-IsRefused asked files (other_device base size) = HasNoTarget files (other_device base size)
-IsRefused asked files (no_room need have) = HasNoTarget files (no_room need have)
-IsRefused asked files (image_refused name fault) = HasWrongImage asked files name fault
-IsRefused asked files (image_misplaced fault) = IsMisplaced asked.raw_at files fault
-IsRefused asked files _ = ⊥

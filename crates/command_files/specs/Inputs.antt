@@ -2,7 +2,7 @@
 use Rattle.std.specs.Prelude.{◌≡◌, ◌<◌, ℕ, Bool, IsTrue, List, [], ◌∷◌, ◌++◌, All, length, get_or, Option, option_to_list, Some}
 use Rattle.outside_io.specs.State.{InputsState}
 use Rattle.command_words.specs.Files.{FilesAsked}
-use Rattle.image_more.specs.Files.{file_at}
+use Rattle.image_more.specs.Place.{file_at}
 
 -- what the inputs mean at entry and at exit, and whether they tell what stands under their names
 pub record InputsCall : Type 0 where

@@ -1,3 +1,4 @@
 pub mod Inputs
 pub mod Files
+pub mod Refused
 pub mod Steps

@@ -18,8 +18,9 @@ use Rattle.report_text.specs.Shown.{shown}
 use Rattle.report_text.specs.declared.refusal.Refusal.{Refusal}
 use Rattle.command_words.specs.Files.{FilesAsked, names_in}
 use Rattle.command_files.specs.Inputs.{InputsCall, FilesGiven, AreEach, AreFiles, Given, IsUntaken, NoneFailed}
-use Rattle.command_files.specs.Files.{IsForBoard, IsOneFor, AreFor, IsUnfit, IsNoneFor, AreNotFor, Clashes, IsImageRefused, IsUnionOf, flm_files, Aim, IsAim}
-use Rattle.command_files.specs.Files.{IsRefused}
+use Rattle.command_files.specs.Files.{IsForBoard, IsOneFor, AreFor, IsUnionOf, flm_files, Aim, IsAim}
+use Rattle.command_files.specs.Refused.{IsUnfit, IsNoneFor, AreNotFor, Clashes, IsImageRefused}
+use Rattle.command_files.specs.Refused.{IsRefused}
 use Rattle.command_files.specs.declared.take.Files.{Files}
 use Rattle.command_files.specs.declared.task.Task.{Task}
 use Rattle.command_files.specs.declared.wanted.Wanted.{Wanted}

@@ -3,7 +3,8 @@ ghost use Rattle.std.specs.Prelude.{◌≡◌, ℕ, Option};
 ghost use Rattle.report_text.specs.Refusal.{Refusal};
 ghost use Rattle.command_words.specs.Files.{FilesAsked};
 ghost use Rattle.command_files.specs.Inputs.{FilesGiven};
-ghost use Rattle.command_files.specs.Files.{Aim, IsAim, IsRefused};
+ghost use Rattle.command_files.specs.Files.{Aim, IsAim};
+ghost use Rattle.command_files.specs.Refused.{IsRefused};
 
 /// Files say one thing: they want one image for one board, or are refused for one reason, and never both.
 pub fn files_say_one_thing()

@@ -9,7 +9,8 @@ ghost use Rattle.report_text.specs.Refusal.{out_of_memory, usage};
 ghost use Rattle.report_text.specs.Shown.{shown};
 ghost use Rattle.command_words.specs.Names.{names_of};
 ghost use Rattle.command_words.specs.Requested.{files_of};
-ghost use Rattle.command_files.specs.Files.{others_of, LeavesNoImage, ranges_of};
+ghost use Rattle.command_files.specs.Files.{others_of, ranges_of};
+ghost use Rattle.command_files.specs.Refused.{LeavesNoImage};
 ghost use Rattle.command_files.specs.Steps.{bytes_of, ReadsBoard, ReadsOne, ReadsAlgorithms, ChecksAlgorithm, Adds, IsAddFault, ReadsImages, ReadsFiles};
 
 use crate::take::Files;

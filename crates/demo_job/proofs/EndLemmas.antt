@@ -3,7 +3,8 @@ use Rattle.std.proofs.Common.{◌≡◌, ◌∙◌, sym, subst, refl, arith, inl
 use Rattle.faults.specs.Counts.{Rose}
 use Rattle.report_text.specs.Refusal.{out_of_memory, no_job, not_a_job, damaged, cells_differ, store_fault, device_fault, output_fault, call_failed, mismatch}
 use Rattle.command_files.specs.Inputs.{InputsCall, TakesNothing}
-use Rattle.command_answers.specs.Call.{BenchCall, SinkCall, TookPart, IsUntouched, Answer, done, refused}
+use Rattle.command_answers.specs.Call.{BenchCall, SinkCall, IsUntouched, Answer, done, refused}
+use Rattle.command_answers.specs.Said.{TookPart}
 use Rattle.command_answers.specs.Answered.{input, store, device, output, fault_in, on_job_file, on_own_bench, IsCounted, IsOf, StandsEarly, EndsLawfully}
 use Rattle.command_answers.proofs.AnswerLemmas.{unraised}
 use Rattle.demo_job.specs.Run.{silence}

@@ -15,7 +15,7 @@ use Rattle.byte_map.proofs.Overlays.{length-over}
 use Rattle.page_geometry.specs.Geometry.{Geometry}
 use Rattle.erase_planner.specs.Plans.{chosen}
 use Rattle.job_text.specs.Fits.{is_device_of, fits, all_fit}
-use Rattle.flash_session.specs.Goals.{overlaid}
+use Rattle.job_text.specs.Laid.{overlaid}
 use Rattle.demo_job.specs.Made.{base, cells_of, image_of, laid_of}
 use Rattle.demo_job.specs.Target.{Target}
 use Rattle.demo_job.specs.Run.{work_of}

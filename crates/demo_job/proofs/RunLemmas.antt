@@ -2,9 +2,8 @@
 use Rattle.std.proofs.Common.{◌≡◌, ◌≢◌, ◌⊎◌, ⊎_elim, inl, inr, refl, sym, ap, subst, arith, ◌∙◌, ◌≤◌, ◌<◌, ℕ, true, List, [], ◌∷◌, option_copied, Option, Some, None}
 use Rattle.std.specs.Prelude.{length, ◌^◌}
 use Rattle.std.proofs.lemmas.Bool.{cases_lt, cases_eq}
-use Rattle.bench_model.specs.Outside.{SameOutside}
+use Rattle.bench_model.specs.State.{SameOutside, BenchState, file_half}
 use Rattle.bench_model.specs.History.{left}
-use Rattle.bench_model.specs.State.{BenchState, file_half}
 use Rattle.bench_model.specs.declared.stop.StopBench.{StopBench}
 use Rattle.byte_map.specs.Image.{Run}
 use Rattle.board_file.specs.Limits.{size_of}
@@ -19,7 +18,8 @@ use Rattle.job_commands.specs.Steps.{BeginsParts}
 use Rattle.bench_model.specs.Shown.{bench_of}
 use Rattle.bench_model.specs.declared.memory.MemoryBench.{MemoryBench}
 use Rattle.job_text.specs.Files.{IsFree, IsWhole, IsClosed}
-use Rattle.job_text.specs.Body.{Job, body_of, flm_len, AreFlms, IsJob}
+use Rattle.job_text.specs.Body.{Job, body_of, flm_len}
+use Rattle.job_text.specs.Jobs.{AreFlms, IsJob}
 use Rattle.campaign.specs.Stops.{IsUntouched, IsAtClose}
 use Rattle.flash_session.specs.declared.goal.Goal.TheVariants.{New}
 use Rattle.report_text.specs.Refusal.{Refusal as Reason, out_of_memory, no_job, cells_differ, status_of}

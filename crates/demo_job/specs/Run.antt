@@ -13,7 +13,8 @@ use Rattle.bench_model.specs.declared.pick.Pick.TheVariants.{Filled}
 use Rattle.bench_model.specs.declared.stop.StopBench.{StopBench}
 use Rattle.campaign.specs.Stops.{IsUntouched}
 use Rattle.job_text.specs.declared.format.Format.TheVariants.{Second}
-use Rattle.job_text.specs.Body.{Job, IsJob}
+use Rattle.job_text.specs.Body.{Job}
+use Rattle.job_text.specs.Jobs.{IsJob}
 use Rattle.erase_planner.specs.Plans.{Chosen}
 use Rattle.flash_session.specs.declared.goal.Goal.TheVariants.{New}
 use Rattle.report_text.specs.Shown as refusal

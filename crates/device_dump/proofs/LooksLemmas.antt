@@ -2,8 +2,7 @@
 use Rattle.std.proofs.Common.{◌≡◌, ◌∙◌, sym, subst, refl, arith, inl, inr, ℕ, Bool, IsTrue, OnOk, List, length, take, drop, Result, Ok, Err}
 use Rattle.std.proofs.lemmas.List.{take_all}
 use Rattle.faults.specs.Counts.{Rose, HasCause}
-use Rattle.bench_model.specs.State.{BenchState}
-use Rattle.bench_model.specs.Outside.{SameOutside}
+use Rattle.bench_model.specs.State.{BenchState, SameOutside}
 use Rattle.bench_model.specs.Does.{DropsCells, ReadsCells}
 use Rattle.bench_model.specs.declared.bench_fault.DeviceFault.{DeviceFault}
 use Rattle.bench_model.proofs.Moments.{adds_nothing_then, file_stays_then}

@@ -1,13 +1,13 @@
 -- What commands do that look at the cells, and what they print of them.
 use Rattle.std.specs.Prelude.{◌≡◌, ◌⊎◌, ℕ, IsTrue, List, None, Result, OnOk, OnErr}
 use Rattle.faults.specs.Counts.{HasCause}
-use Rattle.bench_model.specs.State.{cells_half}
+use Rattle.bench_model.specs.State.{cells_half, SameOutside}
 use Rattle.bench_model.specs.History.{AddsNothing}
 use Rattle.bench_model.specs.Calls.{FileStays}
-use Rattle.bench_model.specs.Outside.{SameOutside}
 use Rattle.bench_model.specs.declared.bench_fault.DeviceFault.{DeviceFault}
 use Rattle.report_text.specs.Refusal.{output_fault}
-use Rattle.command_answers.specs.Call.{BenchCall, SinkCall, Answer, done, refused, TookNothing}
+use Rattle.command_answers.specs.Call.{BenchCall, SinkCall, Answer, done, refused}
+use Rattle.command_answers.specs.Said.{TookNothing}
 
 -- an operation open at entry was broken off: none is open, and the cells outside its range are as they were
 pub record IsBrokenOff (bench : BenchCall) : Type 0 where

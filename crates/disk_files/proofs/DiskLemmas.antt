@@ -2,7 +2,7 @@
 use Rattle.std.proofs.Common.{◌≡◌, ◌≤◌, ◌+◌, ◌-◌, ◌∙◌, ap, sym, refl, ℕ, List, ◌++◌, length, take, drop, arith, append_assoc, append-nil, length-take, length-drop, length-append, Option, Some, None}
 use Rattle.std.proofs.lemmas.List.{take_at, drop_at, take_all, drop_all, take-take, drop-drop, take-append-drop}
 use Rattle.bench_model.specs.Calls.{written, Torn}
-use Rattle.bench_model.specs.Outside.{SameOutside}
+use Rattle.bench_model.specs.State.{SameOutside}
 use Rattle.disk_files.specs.DiskDoes.{InRange}
 use Rattle.disk_files.specs.Memory.{DiffersInside, differs_inside, outside_of}
 use Rattle.disk_files.proofs.WriteLemmas.{take_split}

@@ -2,7 +2,7 @@
 use Rattle.std.specs.Prelude.{◌≡◌, ◌+◌, ℕ, List, length, take, drop, Option, Some, None}
 use Rattle.std.specs.Option.{ForSome}
 use Rattle.std.proofs.Common.{subst, sym, refl}
-use Rattle.bench_model.specs.Outside.{SameOutside}
+use Rattle.bench_model.specs.State.{SameOutside}
 
 -- these bytes are those cells, but for the range of an operation
 pub record DiffersInside (operation : Option (ℕ × ℕ)) (cells bytes : List ℕ) : Type 0 where

@@ -2,7 +2,7 @@
 ghost use Rattle.std.specs.Prelude.{◌≡◌, ◌≤◌, ◌+◌, ◌<◌, ◌^◌, ◌↔◌, List, ℕ, Bool, true, false, All, length, IsTrue, IfOk, None, Option};
 ghost use Rattle.std.specs.Option.{ForSome};
 ghost use Rattle.bench_model.specs.History.{left};
-ghost use Rattle.bench_model.specs.Outside.{SameOutside};
+ghost use Rattle.bench_model.specs.State.{SameOutside};
 ghost use Rattle.disk_files.specs.DiskState.{DiskState, job_half, range_half};
 ghost use Rattle.disk_files.specs.Fails.{CallEnds, CallMayStop, FileSyncEnds, CellsSyncEnds};
 ghost use Rattle.disk_files.specs.DiskDoes.{OnlyReadsJob, ReadsSome, WritesSome, WritesJob, SetsJobLength, SyncsJob, SyncsFolder, SyncsBytes, WritesBytes};

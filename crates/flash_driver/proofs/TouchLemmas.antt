@@ -5,8 +5,7 @@ use Rattle.bench_model.specs.declared.bench_fault.BusEnd.{BusEnd}
 use Rattle.bench_model.specs.Device.{is_device}
 use Rattle.bench_model.specs.Counted.{IsCounted}
 use Rattle.bench_model.specs.History.{left}
-use Rattle.bench_model.specs.State.{BenchState, cells_half}
-use Rattle.bench_model.specs.Outside.{SameOutside}
+use Rattle.bench_model.specs.State.{BenchState, cells_half, SameOutside}
 use Rattle.bench_model.proofs.Moments.{leaves_here, leaves_then, leaves_as, file_stays_here, file_stays_then}
 use Rattle.flash_layout.specs.Bench.{Accesses, Touches, IsIdle}
 use Rattle.flash_layout.specs.Maps.{FlashMap}

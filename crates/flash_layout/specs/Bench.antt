@@ -2,9 +2,8 @@
 use Rattle.std.specs.Prelude.{◌≡◌, ◌⊎◌, ℕ, Bool, true, IsTrue, Option, None, Result, OnErr}
 use Rattle.faults.specs.Counts.{HasCause}
 use Rattle.bench_model.specs.History.{Leaves}
-use Rattle.bench_model.specs.State.{BenchState, cells_half}
+use Rattle.bench_model.specs.State.{BenchState, cells_half, SameOutside}
 use Rattle.bench_model.specs.Calls.{FileStays}
-use Rattle.bench_model.specs.Outside.{SameOutside}
 use Rattle.bench_model.specs.Device.{is_device}
 use Rattle.bench_model.specs.Counted.{IsCounted}
 use Rattle.bench_model.specs.declared.bench_fault.BusEnd.{BusEnd}

@@ -1,8 +1,7 @@
 -- A target that has ended, and where one begins.
 use Rattle.std.proofs.Common.{◌≡◌, ◌≤◌, ◌+◌, ◌*◌, ◌∙◌, ◌↔◌, ℕ, Bool, false, IsTrue, Option, List, [], ◌∷◌, ◌++◌, Ok, refl, sym, ap, subst, arith}
 use Rattle.bench_model.specs.History.{left, Leaves}
-use Rattle.bench_model.specs.Outside.{SameOutside}
-use Rattle.bench_model.specs.State.{BenchState, cells_half}
+use Rattle.bench_model.specs.State.{SameOutside, BenchState, cells_half}
 use Rattle.bench_model.proofs.Moments.{leaves_here, leaves_as}
 use Rattle.target_core.specs.World.{World}
 use Rattle.target_core.specs.Path.{Point}

@@ -13,7 +13,8 @@ use Rattle.bench_model.specs.Calls.{FileIsRead}
 use Rattle.job_text.specs.Stands.{StandsFor}
 use Rattle.job_text.specs.declared.job.Job.{Job}
 use Rattle.flash_session.specs.declared.goal.Goal.{Goal}
-use Rattle.flash_session.specs.Goals.{overlaid, goal_in}
+use Rattle.flash_session.specs.Goals.{goal_in}
+use Rattle.job_text.specs.Laid.{overlaid}
 use Rattle.flash_session.proofs.PartLemmas.{part_at}
 
 over_take : (image : List Run) (base n : ℕ) (cells : List ℕ) → take n (over image base cells) ≡ over image base (take n cells)

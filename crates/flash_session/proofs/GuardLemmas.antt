@@ -1,9 +1,8 @@
 -- One turn more of what a stop leaves.
 use Rattle.std.proofs.Common.{◌≡◌, ◌∙◌, ◌↔◌, ◌⊎◌, inl, inr, ℕ, Bool, IsTrue, List, ◌∷◌, ◌++◌, ◌+◌, length, drop, None, Option, refl, sym, ap, subst}
 use Rattle.bench_model.specs.History.{left, Leaves, LeftOnly}
-use Rattle.bench_model.specs.Outside.{SameOutside}
+use Rattle.bench_model.specs.State.{SameOutside, BenchState, file_half, cells_half}
 use Rattle.bench_model.specs.Pairs.{PairsLeave, PairsInTurn}
-use Rattle.bench_model.specs.State.{BenchState, file_half, cells_half}
 use Rattle.bench_model.proofs.Moments.{leaves_here, leaves_as, stays_leaves, pairs_of, pairs_then, in_turn, never}
 use Rattle.job_text.specs.Files.{IsWhole}
 use Rattle.job_file.specs.Stops.{IsWholeOrClosed}

@@ -10,7 +10,7 @@ use Rattle.page_geometry.proofs.TestLemmas.{cases_in}
 use Rattle.erase_planner.specs.Plans.{Leads}
 use Rattle.algo_calls.specs.Setups.{Setup}
 use Rattle.algo_calls.specs.Frames.{Request}
-use Rattle.bench_model.specs.Outside.{SameOutside}
+use Rattle.bench_model.specs.State.{SameOutside}
 use Rattle.algo_calls.specs.Duties.{Site, part, Duty, Acting, Quiet, IsReady, Does, AreReady, checks, works_of, Verifies}
 use Rattle.algo_calls.proofs.IdealLemmas.{acts_length, does_same, in_three}
 

@@ -3,7 +3,7 @@
 use Rattle.std.proofs.Common.{◌≡◌, ◌<◌, ◌≤◌, ◌+◌, ◌-◌, ◌∙◌, ⊎_elim, ℕ, List, [], ◌∷◌, ◌++◌, map, length, replicate, get_or, Option, Some, None, Result, Ok, refl, sym, ap, subst, arith}
 use Rattle.std.proofs.lemmas.List.{get_or-take, get_or-drop, map-append}
 use Rattle.std.proofs.lemmas.Bool.{cases_lt}
-use Rattle.bench_model.specs.Outside.{SameOutside}
+use Rattle.bench_model.specs.State.{SameOutside}
 use Rattle.flash_layout.specs.Maps.{FlashMap}
 use Rattle.page_geometry.specs.Geometry.{Geometry, IsGeometry}
 use Rattle.target_core.specs.World.{World}

@@ -3,8 +3,7 @@ use Rattle.std.proofs.Common.{◌≡◌, ◌<◌, ◌≤◌, ◌+◌, ◌-◌, �
 use Rattle.std.proofs.Math.Seq.{take-add}
 use Rattle.std.proofs.lemmas.List.{append-nil, take-take, take_all, get_or-take, get_or-drop}
 use Rattle.bench_model.specs.History.{left, Leaves, AddsNothing}
-use Rattle.bench_model.specs.State.{BenchState, cells_half}
-use Rattle.bench_model.specs.Outside.{SameOutside}
+use Rattle.bench_model.specs.State.{BenchState, cells_half, SameOutside}
 use Rattle.bench_model.proofs.Moments.{leaves_here, leaves_as}
 use Rattle.target_core.specs.World.{World}
 use Rattle.target_core.specs.Units.{state_op}

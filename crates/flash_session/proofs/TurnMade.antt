@@ -3,9 +3,8 @@ use Rattle.std.proofs.Common.{◌≡◌, ◌≢◌, ◌<◌, ◌≤◌, ◌+◌,
 use Rattle.std.proofs.lemmas.List.{append-nil}
 use Rattle.faults.specs.Counts.{Rose}
 use Rattle.bench_model.specs.History.{left, Leaves, AddsNothing}
-use Rattle.bench_model.specs.State.{BenchState, file_half, cells_half}
+use Rattle.bench_model.specs.State.{BenchState, file_half, cells_half, SameOutside}
 use Rattle.bench_model.specs.Calls.{CellsStay, OnlyReads, IsRead, FileIsRead}
-use Rattle.bench_model.specs.Outside.{SameOutside}
 use Rattle.bench_model.specs.Counted.{is_store_fault, is_device_fault, IsCounted}
 use Rattle.bench_model.specs.Does.{StaysOpen}
 use Rattle.bench_model.proofs.Moments.{leaves_here, leaves_as, stays_leaves}

@@ -4,9 +4,8 @@ use Rattle.std.proofs.lemmas.Bool.{false≢true}
 use Rattle.std.proofs.lemmas.List.{append-nil}
 use Rattle.bench_model.specs.History.{left, Leaves}
 use Rattle.bench_model.specs.Calls.{FileIsRead}
-use Rattle.bench_model.specs.Outside.{SameOutside}
 use Rattle.bench_model.specs.Counted.{is_store_fault, is_device_fault, IsCounted}
-use Rattle.bench_model.specs.State.{BenchState, file_half, cells_half}
+use Rattle.bench_model.specs.State.{BenchState, file_half, cells_half, SameOutside}
 use Rattle.bench_model.proofs.Moments.{leaves_as, leaves_then, adds_nothing_here}
 use Rattle.job_text.specs.declared.job.Job.{Job}
 use Rattle.flash_session.specs.declared.session.Reached.{Reached}

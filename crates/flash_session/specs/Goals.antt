@@ -1,16 +1,10 @@
 -- What a session is to reach.
-use Rattle.std.specs.Prelude.{ℕ, List, [], ◌∷◌, ◌++◌, take, drop}
-use Rattle.board_file.specs.declared.region.Region.{Region}
-use Rattle.byte_map.specs.Image.{Run, over}
+use Rattle.std.specs.Prelude.{ℕ, List}
+use Rattle.job_text.specs.Laid.{overlaid}
 use Rattle.job_text.specs.Stands.{snapshot_in}
 use Rattle.job_text.specs.declared.job.Job.{Job}
 use Rattle.flash_session.specs.declared.goal.Goal.{Goal}
 use Rattle.flash_session.specs.declared.goal.Goal.TheVariants as goal
-
--- An image laid over the cells of regions in order: each cell becomes the image's byte at its address, and stays where the image has none.
-abbrev pub overlaid : List Run → List Region → List ℕ → List ℕ
-overlaid image [] cells = cells
-overlaid image (r ∷ rest) cells = over image r.base (take r.size cells) ++ overlaid image rest (drop r.size cells)
 
 -- the image laid over a snapshot, or the snapshot
 abbrev pub laid : Job → Goal → List ℕ → List ℕ

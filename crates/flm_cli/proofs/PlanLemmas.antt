@@ -25,11 +25,13 @@ use Rattle.report_text.specs.Refusal.{Refusal, out_of_memory, usage, input_fault
 use Rattle.algo_calls.specs.Duties.{device_of}
 use Rattle.command_words.specs.Files.{FilesAsked, names_in}
 use Rattle.command_files.specs.Inputs.{InputsCall, FilesGiven, AreFiles, NoneFailed}
-use Rattle.command_files.specs.Files.{others_of, AreFor, Aim, IsAim, IsRefused}
+use Rattle.command_files.specs.Files.{others_of, AreFor, Aim, IsAim}
+use Rattle.command_files.specs.Refused.{IsRefused}
 use Rattle.command_files.specs.Steps.{IsTakeFault, IsFilesRefusal, aim_of}
 use Rattle.command_files.specs.declared.wanted.Wanted.{Wanted}
 use Rattle.command_files.proofs.WantedLemmas.{only_one, only_two, size_of_one, size_of_two}
-use Rattle.command_answers.specs.Call.{BenchCall, SinkCall, Answer, done, refused, bench_call, sink_call, PrintsText}
+use Rattle.command_answers.specs.Call.{BenchCall, SinkCall, Answer, done, refused, bench_call, sink_call}
+use Rattle.command_answers.specs.Said.{PrintsText}
 use Rattle.command_answers.specs.Answered.{input, store, device, output, fault_in, yields, IsUnless, StandsEarly, IsOf, EndsLawfully, on_files}
 use Rattle.command_answers.specs.Reading.{ShowsFiles}
 use Rattle.flm_cli.specs.Plan.{plan_for, text_for, plans_for, text_of, PlanLeaves, IsPlanned, ShowsPlan, IsDueForPlan, PlanEnds, has_plan}

@@ -1,8 +1,7 @@
 -- What words ask for, and calls that end before any work.
 use Rattle.std.proofs.Common.{◌≡◌, refl, inl, inr, subst, arith, ℕ, Bool, IsTrue, List, length, Option, Some, None}
 use Rattle.bench_model.specs.History.{left}
-use Rattle.bench_model.specs.State.{BenchState, cells_half}
-use Rattle.bench_model.specs.Outside.{SameOutside}
+use Rattle.bench_model.specs.State.{BenchState, cells_half, SameOutside}
 use Rattle.bench_model.proofs.Moments.{only_reads_here}
 use Rattle.outside_io.specs.State.{InputsState, SinkState}
 use Rattle.flash_session.specs.declared.goal.Goal.TheVariants.{New, Old}

@@ -10,7 +10,8 @@ use Rattle.board_file.specs.Shown as board
 use Rattle.report_text.specs.Refusal.{Refusal, out_of_memory, usage, input_fault, flm_refused, other_device, no_room, board_refused, image_refused, image_misplaced, cells_differ, device_fault, output_fault, differs}
 use Rattle.command_words.specs.Files.{FilesAsked, names_in}
 use Rattle.command_files.specs.Inputs.{InputsCall, FilesGiven, AreFiles, NoneFailed}
-use Rattle.command_files.specs.Files.{flm_files, image_files, AreNotFor, HasNoTarget, Aim, IsAim, IsRefused}
+use Rattle.command_files.specs.Files.{flm_files, image_files, Aim, IsAim}
+use Rattle.command_files.specs.Refused.{AreNotFor, HasNoTarget, IsRefused}
 use Rattle.command_files.specs.Steps.{IsTakeFault, IsFilesRefusal, aim_of}
 use Rattle.command_files.specs.declared.wanted.Wanted.{Wanted}
 use Rattle.image_set.proofs.UnionLemmas.{below_end}
@@ -20,7 +21,7 @@ use Rattle.command_answers.specs.Answered.{yields, DidNothing, IsOf, on_files}
 use Rattle.flm_cli.specs.Comparison as comparison
 use Rattle.flm_cli.specs.Comparison.{Compares}
 use Rattle.command_answers.specs.Reading.{ShowsFiles, AnswersFiles}
-use Rattle.command_answers.specs.Places.{address_at}
+use Rattle.job_text.specs.Laid.{address_at}
 use Rattle.flm_cli.specs.Verify.{wanted_at, CellsAgree, IsLeastDifference, DiffersAt, AgreesWith, IsComparedWithImage, Shows, IsDueForImage, VerifyEnds, has_verify}
 use Rattle.command_answers.proofs.ReadingLemmas.{answers_yielding, answers_refused, answers_worked}
 use Rattle.command_answers.proofs.AnswerLemmas.{did_nothing, plain_lawful, untaken_lawful}

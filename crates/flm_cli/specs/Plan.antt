@@ -17,7 +17,8 @@ use Rattle.algo_calls.specs.Duties.{device_of}
 use Rattle.command_words.specs.Files.{FilesAsked, names_in}
 use Rattle.command_files.specs.Inputs.{InputsCall}
 use Rattle.command_files.specs.Files.{Aim}
-use Rattle.command_answers.specs.Call.{BenchCall, SinkCall, Answer, done, refused, PrintsText}
+use Rattle.command_answers.specs.Call.{BenchCall, SinkCall, Answer, done, refused}
+use Rattle.command_answers.specs.Said.{PrintsText}
 use Rattle.command_answers.specs.Answered.{IsUnless, Refuses, DidNothing, EndsLawfully, on_files}
 use Rattle.device_dump.specs.Looks.{PrintsNothing}
 use Rattle.flm_cli.specs.Comparison.{Stands, HasOtherSize}

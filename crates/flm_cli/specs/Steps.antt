@@ -11,10 +11,11 @@ use Rattle.report_text.specs.Refusal.{out_of_memory, device_fault, output_fault,
 use Rattle.report_text.specs.End.{end_text}
 use Rattle.report_text.specs.declared.end.End.TheVariants.{Same}
 use Rattle.algo_calls.specs.Duties.{device_of}
-use Rattle.command_answers.specs.Call.{BenchCall, SinkCall, Answer, done, refused, TookNothing, PrintsText, SaysText}
+use Rattle.command_answers.specs.Call.{BenchCall, SinkCall, Answer, done, refused}
+use Rattle.command_answers.specs.Said.{TookNothing, PrintsText, SaysText}
 use Rattle.command_answers.specs.Answered.{device, output, IsCounted}
 use Rattle.flm_cli.specs.Plan.{PlanLeaves}
-use Rattle.command_answers.specs.Places.{address_at}
+use Rattle.job_text.specs.Laid.{address_at}
 use Rattle.flm_cli.specs.Verify.{CellsAgree, IsLeastDifference}
 use Rattle.flm_cli.specs.declared.plan.PlanBuffers.{PlanBuffers}
 

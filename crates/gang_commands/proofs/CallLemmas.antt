@@ -19,8 +19,8 @@ use Rattle.job_text.specs.Said.{algorithms_shown}
 use Rattle.job_text.specs.Stands.{StandsFor, IsSomeJob, snapshot_in}
 use Rattle.job_text.specs.declared.job.Job.{Job}
 use Rattle.job_file.specs.declared.fault.OpenFault.TheVariants as opening
-use Rattle.campaign.specs.Campaign.{Keeps}
-use Rattle.campaign.specs.Stops.{CampaignJob, IsDone, WorkStops}
+use Rattle.campaign.specs.Campaign.{Keeps, WorkStops}
+use Rattle.campaign.specs.Stops.{CampaignJob, IsDone}
 use Rattle.flash_session.specs.declared.session.Reached.{Reached}
 use Rattle.flash_session.specs.declared.session.SessionEnd.{SessionEnd}
 use Rattle.flash_session.specs.declared.session.SessionEnd.TheVariants as end
@@ -30,7 +30,8 @@ use Rattle.flash_session.specs.declared.fault.SurveyFault.{SurveyFault}
 use Rattle.flash_session.specs.declared.fault.SurveyFault.TheVariants as survey
 use Rattle.flash_session.specs.declared.goal.Goal.{Goal}
 use Rattle.flash_session.specs.declared.goal.Goal.TheVariants.{New}
-use Rattle.flash_session.specs.Goals.{overlaid, goal_in}
+use Rattle.flash_session.specs.Goals.{goal_in}
+use Rattle.job_text.specs.Laid.{overlaid}
 use Rattle.flash_session.specs.Opened.{IsSessionFault}
 use Rattle.flash_session.specs.Outcome.{Follows, end_fault, IsReached}
 use Rattle.flash_session.specs.Script.{Leg}

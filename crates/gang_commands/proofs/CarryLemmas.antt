@@ -19,7 +19,8 @@ use Rattle.campaign.specs.Stops.{IsAtClose}
 use Rattle.flash_session.specs.declared.fault.SurveyFault.TheVariants as survey
 use Rattle.flash_session.specs.declared.goal.Goal.{Goal}
 use Rattle.flash_session.specs.declared.goal.Goal.TheVariants.{New}
-use Rattle.flash_session.specs.Goals.{overlaid, goal_in}
+use Rattle.flash_session.specs.Goals.{goal_in}
+use Rattle.job_text.specs.Laid.{overlaid}
 use Rattle.flash_session.specs.Moves.{Stand, stand_at}
 use Rattle.flash_session.specs.Script.{Leg}
 use Rattle.flash_session.specs.Sessions.{job_legs}

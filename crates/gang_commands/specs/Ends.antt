@@ -9,7 +9,8 @@ use Rattle.board_file.specs.Limits.{size_of}
 use Rattle.board_file.specs.Shown as board
 use Rattle.flm_descriptor.specs.Shown as flm
 use Rattle.algo_calls.specs.Duties.{AllServe}
-use Rattle.job_text.specs.Body.{Job, body_of, IsJob}
+use Rattle.job_text.specs.Body.{Job, body_of}
+use Rattle.job_text.specs.Jobs.{IsJob}
 use Rattle.job_text.specs.Files.{IsFree, IsWhole}
 use Rattle.job_text.specs.Stands.{IsSomeJob}
 use Rattle.campaign.specs.Campaign as campaign

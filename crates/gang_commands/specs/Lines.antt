@@ -6,7 +6,7 @@ use Rattle.flash_session.specs.declared.target_end.TargetEnd.TheVariants as ende
 use Rattle.report_text.specs.Refusal.{Refusal, status_of, store_fault, device_fault, call_failed}
 use Rattle.report_text.specs.Refusal.{mismatch}
 use Rattle.report_text.specs.Target.{target_line}
-use Rattle.command_answers.specs.Places.{address_at}
+use Rattle.job_text.specs.Laid.{address_at}
 use Rattle.job_commands.specs.Refused.{of_session, of_survey}
 
 -- how a target ended, with the regions of its job's board where its job was opened

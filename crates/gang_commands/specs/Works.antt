@@ -11,11 +11,13 @@ use Rattle.job_text.specs.Stands.{StandsFor, IsSomeJob, IsDamaged, IsNotAJob}
 use Rattle.job_text.specs.declared.job.Job.{Job}
 use Rattle.job_file.specs.declared.fault.OpenFault.{OpenFault}
 use Rattle.job_file.specs.declared.fault.OpenFault.TheVariants as opening
-use Rattle.campaign.specs.Stops.{CampaignJob, WorkStops}
+use Rattle.campaign.specs.Stops.{CampaignJob}
+use Rattle.campaign.specs.Campaign.{WorkStops}
 use Rattle.flash_session.specs.declared.fault.SessionFault.TheVariants as session
 use Rattle.flash_session.specs.declared.goal.Goal.TheVariants.{New}
-use Rattle.flash_session.specs.Goals.{overlaid, goal_in}
+use Rattle.flash_session.specs.Goals.{goal_in}
 use Rattle.flash_session.specs.Opened.{IsJobOf, IsSessionFault, IsSoundSession}
+use Rattle.job_text.specs.Laid.{overlaid}
 use Rattle.flash_session.specs.Sessions.{job_legs}
 use Rattle.flash_session.specs.Starts.{job_start}
 use Rattle.flash_session.specs.Surveys.{Surveyed, HasSurveyed}
@@ -26,7 +28,7 @@ use Rattle.flash_session.specs.Alone.{FollowsAs}
 use Rattle.flash_session.specs.Guarded.{FileEnd}
 use Rattle.gang_run.specs.Opening.{IsLookedAt}
 use Rattle.gang_run.specs.Slots.{OpensWithMemory, HasMemory}
-use Rattle.command_answers.specs.Places.{address_at}
+use Rattle.job_text.specs.Laid.{address_at}
 use Rattle.gang_commands.specs.Lines.{Outcome}
 
 -- what a job is to a campaign

@@ -7,12 +7,11 @@ use Rattle.std.proofs.lemmas.List.Sums.{sum_by-set}
 use Rattle.std.proofs.lemmas.Bool.{cases_lt, cases_eq}
 use Rattle.bench_model.specs.declared.bench.Bench.{Ghosts}
 use Rattle.bench_model.specs.Calls.{FileIsRead}
-use Rattle.bench_model.specs.Outside.{SameOutside}
 use Rattle.bench_model.specs.Counted.{is_store_fault, is_device_fault, IsCounted}
 use Rattle.bench_model.proofs.CountLemmas.{counted_then, none_counted}
+use Rattle.bench_model.specs.State.{SameOutside, BenchState, file_half, cells_half}
 use Rattle.bench_model.specs.History as history
 use Rattle.bench_model.specs.History.{left, LeftOnly}
-use Rattle.bench_model.specs.State.{BenchState, file_half, cells_half}
 use Rattle.bench_model.proofs.Moments as moments
 use Rattle.bench_model.proofs.Moments.{still_only}
 use Rattle.job_text.specs.Files.{IsWhole}

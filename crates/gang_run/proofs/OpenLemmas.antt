@@ -2,11 +2,10 @@
 use Rattle.std.proofs.Common.{◌≡◌, ◌<◌, ◌+◌, ◌^◌, ◌∙◌, ℕ, Bool, IsTrue, All, List, [], ◌∷◌, length, replicate, Option, Some, None, IsSomeAnd, IfSome, Result, Ok, Err, IfOk, OnOk, refl, sym, ap, subst, arith}
 use Rattle.std.proofs.lemmas.List.{length-replicate}
 use Rattle.bench_model.specs.Calls.{IsRead}
-use Rattle.bench_model.specs.Outside.{SameOutside}
 use Rattle.bench_model.specs.Counted.{is_store_fault, is_device_fault, fault_in, IsCounted}
+use Rattle.bench_model.specs.State.{SameOutside, BenchState, Left, file_half}
 use Rattle.bench_model.specs.History.{LeftOnly}
 use Rattle.bench_model.specs.Pairs.{PairsLeave}
-use Rattle.bench_model.specs.State.{BenchState, Left, file_half}
 use Rattle.bench_model.proofs.Moments.{still_only, pairs_as, pairs_then}
 use Rattle.board_file.specs.Limits.{size_of}
 use Rattle.board_file.specs.Shown.{Shown as BoardShown, shown as board_of}

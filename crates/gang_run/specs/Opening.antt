@@ -1,11 +1,10 @@
 -- What the opening of a gang leaves.
 use Rattle.std.specs.Prelude.{◌≡◌, ◌<◌, ℕ, Bool, false, IsTrue, List, length, get_or, Result, Err, None}
 use Rattle.bench_model.specs.declared.bench.Bench.{Ghosts}
-use Rattle.bench_model.specs.Outside.{SameOutside}
 use Rattle.bench_model.specs.Counted.{is_store_fault, is_device_fault, IsCounted}
+use Rattle.bench_model.specs.State.{SameOutside, BenchState, Left, file_half}
 use Rattle.bench_model.specs.History.{LeftOnly}
 use Rattle.bench_model.specs.Pairs.{PairsLeave}
-use Rattle.bench_model.specs.State.{BenchState, Left, file_half}
 use Rattle.board_file.specs.Shown.{shown as board_of}
 use Rattle.job_text.specs.Stands.{StandsFor}
 use Rattle.flash_session.specs.declared.fault.SessionFault.{SessionFault}

@@ -6,7 +6,8 @@ use Rattle.byte_map.proofs.Runs.{or_else, byte_at-append}
 use Rattle.image_set.specs.Union.{IsUnion}
 use Rattle.image_set.proofs.UnionLemmas.{union_swap}
 use Rattle.image_more.specs.Any.{IsAnyImage}
-use Rattle.image_more.specs.Files.{file_at, IsUnionBefore, HasByte}
+use Rattle.image_more.specs.Files.{IsUnionBefore, HasByte}
+use Rattle.image_more.specs.Place.{file_at}
 use Rattle.image_more.proofs.AnyLemmas.{one_any_image}
 
 -- a byte of a union is one of the two images'

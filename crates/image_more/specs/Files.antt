@@ -1,11 +1,9 @@
 -- The union of the images of files, one after another.
-use Rattle.std.specs.Prelude.{◌≡◌, ◌<◌, ℕ, zero, suc, List, [], get_or, Option, Some}
+use Rattle.std.specs.Prelude.{◌≡◌, ◌<◌, ℕ, zero, suc, List, [], Option, Some}
 use Rattle.byte_map.specs.Image.{Run, byte_at}
 use Rattle.image_set.specs.Union.{IsUnion}
 use Rattle.image_more.specs.Any.{IsAnyImage}
-
-abbrev pub file_at : List (List ℕ) → ℕ → List ℕ
-file_at files k = get_or files k []
+use Rattle.image_more.specs.Place.{file_at}
 
 -- the union of the images before a file, and the file's own
 pub record IsNextUnion (IsBefore : List Run → Type 0) (raw_at : Option ℕ) (file : List ℕ) (whole : List Run) : Type 0 where

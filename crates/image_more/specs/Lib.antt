@@ -1,6 +1,7 @@
 pub mod Fault
 pub mod Uf2
 pub mod Any
+pub mod Place
 pub mod Files
 pub mod Rows
 pub mod Texts

@@ -2,11 +2,11 @@
 use Rattle.std.proofs.Common.{arith, ◌≡◌, ◌⊎◌, ⊎_elim, inl, inr, refl, ◌∙◌, ℕ, Bool, true, List, [], ◌∷◌, length, IsTrue, Option, None, sym, subst}
 use Rattle.outside_io.specs.State.{SinkState}
 use Rattle.bench_model.specs.History.{GoesOn, Leaves, LeftOnly}
-use Rattle.bench_model.specs.State.{BenchState, file_half, cells_half, Left}
-use Rattle.bench_model.specs.Outside.{SameOutside}
+use Rattle.bench_model.specs.State.{BenchState, file_half, cells_half, Left, SameOutside}
 use Rattle.bench_model.specs.Pairs.{PairsLeave}
 use Rattle.job_text.specs.Files.{IsFree, IsWhole}
-use Rattle.job_text.specs.Body.{body_of, IsJob}
+use Rattle.job_text.specs.Body.{body_of}
+use Rattle.job_text.specs.Jobs.{IsJob}
 use Rattle.job_text.specs.Parts.{job_of, AreParts}
 use Rattle.job_text.specs.declared.parts.JobParts.{JobParts}
 use Rattle.job_text.proofs.PartLemmas.{job_of_parts}
@@ -14,7 +14,8 @@ use Rattle.campaign.specs.Stops.{IsUntouched, IsAtClose}
 use Rattle.flash_session.specs.declared.goal.Goal.TheVariants.{New}
 use Rattle.flash_session.specs.Script.{Broken}
 use Rattle.report_text.specs.Refusal.{Refusal, out_of_memory, input_fault, no_job, not_a_job, damaged, cells_differ, store_fault, device_fault, output_fault, call_failed, mismatch}
-use Rattle.command_answers.specs.Call.{BenchCall, SinkCall, TookPartBehind, Answer, done, refused, bench_call, sink_call}
+use Rattle.command_answers.specs.Call.{BenchCall, SinkCall, Answer, done, refused, bench_call, sink_call}
+use Rattle.command_answers.specs.Said.{TookPartBehind}
 use Rattle.command_answers.specs.Answered.{yields, StandsEarly, IsOf, on_job_file}
 use Rattle.command_answers.proofs.FileLemmas.{not_free}
 use Rattle.job_commands.specs.Work.{Work, body, shown_plan, Breaks, IsOnPath, IsOutsidePlanAsSurveyed}

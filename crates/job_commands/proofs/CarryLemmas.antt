@@ -4,8 +4,7 @@ use Rattle.faults.specs.Counts.{Rose}
 use Rattle.outside_io.specs.State.{SinkState}
 use Rattle.outside_io.specs.Appends.{AppendsPart}
 use Rattle.bench_model.specs.History.{left, Leaves, AddsNothing, LeftOnly}
-use Rattle.bench_model.specs.State.{BenchState, file_half, cells_half, Left}
-use Rattle.bench_model.specs.Outside.{SameOutside}
+use Rattle.bench_model.specs.State.{BenchState, file_half, cells_half, Left, SameOutside}
 use Rattle.bench_model.specs.Pairs.{PairsLeave}
 use Rattle.bench_model.proofs.Moments.{leaves_as, pairs_as, pairs_then, never}
 use Rattle.job_text.specs.Files.{IsWhole, IsFree}
@@ -14,7 +13,8 @@ use Rattle.target_core.proofs.UnitLemmas.{fresh_idle}
 use Rattle.flash_session.specs.Script.{Broken}
 use Rattle.flash_session.specs.Starts.{start_of}
 use Rattle.report_text.specs.Refusal.{out_of_memory, store_fault, device_fault, output_fault, call_failed, mismatch}
-use Rattle.command_answers.specs.Call.{SinkCall, TookNothing, TookAll, TookPart, TookPartBehind, Answer, done, refused, bench_call, sink_call}
+use Rattle.command_answers.specs.Call.{SinkCall, Answer, done, refused, bench_call, sink_call}
+use Rattle.command_answers.specs.Said.{TookNothing, TookAll, TookPart, TookPartBehind}
 use Rattle.command_answers.specs.Answered.{yields}
 use Rattle.job_commands.specs.Work.{Work, body, shown_plan, Breaks, IsOnPath, IsOutsidePlanAsSurveyed}
 use Rattle.job_commands.specs.Carry.{EndsBeforePlan, HasJob, HasReached, Comes, Carries, done_text, BrokenOff}

@@ -1,14 +1,14 @@
 -- A command on a job ends before any work: the bench and `out` weren't called.
 use Rattle.std.proofs.Common.{◌≡◌, ◌⊎◌, inl, inr, refl, ◌∙◌, sym, ℕ, Bool, true, List, length, Option}
 use Rattle.bench_model.specs.History.{left}
-use Rattle.bench_model.specs.State.{BenchState, file_half, cells_half, Left}
-use Rattle.bench_model.specs.Outside.{SameOutside}
+use Rattle.bench_model.specs.State.{BenchState, file_half, cells_half, Left, SameOutside}
 use Rattle.bench_model.specs.Pairs.{PairsLeave}
 use Rattle.bench_model.proofs.Moments.{adds_nothing_here, pairs_of}
 use Rattle.outside_io.specs.State.{SinkState}
 use Rattle.board_file.specs.Limits.{size_of}
 use Rattle.job_text.specs.Files.{IsWhole}
-use Rattle.job_text.specs.Body.{body_of, IsJob}
+use Rattle.job_text.specs.Body.{body_of}
+use Rattle.job_text.specs.Jobs.{IsJob}
 use Rattle.campaign.specs.Stops.{IsUntouched}
 use Rattle.flash_session.specs.declared.goal.Goal.{Goal}
 use Rattle.flash_session.specs.declared.goal.Goal.TheVariants.{New}

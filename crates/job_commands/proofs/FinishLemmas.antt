@@ -30,14 +30,15 @@ use Rattle.flash_session.specs.declared.goal.Goal.TheVariants.{New, Old}
 use Rattle.flash_session.specs.Script.{Planned, planned, Leg, Broken}
 use Rattle.flash_session.specs.Outcome.{Follows}
 use Rattle.flash_session.specs.Starts.{job_start}
-use Rattle.flash_session.specs.Goals.{overlaid, goal_in}
+use Rattle.flash_session.specs.Goals.{goal_in}
+use Rattle.job_text.specs.Laid.{overlaid, address_at}
 use Rattle.flash_session.specs.Surveys.{Surveyed, IsPlannedFor, ArePlannedFor, HasSurveyed}
 use Rattle.flash_session.specs.Sessions.{Goes, JobServes, IsAsSurveyed, job_legs, legs_for}
 use Rattle.flash_session.specs.Local.{IsInPlans, SameBut}
 use Rattle.report_text.specs.Refusal.{store_fault, device_fault, output_fault, call_failed, mismatch}
-use Rattle.command_answers.specs.Call.{SinkCall, TookNothing, TookAll, TookPart, Answer, done, refused, bench_call, sink_call}
+use Rattle.command_answers.specs.Call.{SinkCall, Answer, done, refused, bench_call, sink_call}
+use Rattle.command_answers.specs.Said.{TookNothing, TookAll, TookPart}
 use Rattle.command_answers.specs.Answered.{IsUnless}
-use Rattle.command_answers.specs.Places.{address_at}
 use Rattle.job_commands.specs.Work.{Work, body, plan_in, plans_in, plans_of, legs_of, start_for, Ends, IsOnPath, KeepsDuties, IsOutsidePlanAsSurveyed}
 use Rattle.job_commands.specs.Carry.{HasReached, done_text}
 use Rattle.job_commands.specs.GoOn.{goal_in as text_goal_in}

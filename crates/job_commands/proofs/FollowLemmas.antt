@@ -5,10 +5,11 @@ use Rattle.bench_model.specs.State.{BenchState, file_half}
 use Rattle.board_file.specs.Shown as board
 use Rattle.flm_descriptor.specs.Shown as flm
 use Rattle.job_text.specs.Files.{IsFree, IsWhole}
-use Rattle.job_text.specs.Body.{Job, IsJob}
+use Rattle.job_text.specs.Body.{Job}
+use Rattle.job_text.specs.Jobs.{IsJob}
 use Rattle.campaign.specs.Stops as stops
-use Rattle.campaign.specs.Stops.{IsUntouched}
-use Rattle.campaign.specs.Campaign.{goal_of, AllGoOn, last_at, IsCampaign, IsSafe}
+use Rattle.campaign.specs.Stops.{IsUntouched, last_at, IsSafe}
+use Rattle.campaign.specs.Campaign.{goal_of, AllGoOn, IsCampaign}
 use Rattle.campaign.proofs.CampaignLemmas.{in_turn, reads, one, enters, campaigns_are_safe}
 use Rattle.command_words.specs.Files.{FilesAsked}
 use Rattle.command_files.specs.Inputs.{FilesGiven}

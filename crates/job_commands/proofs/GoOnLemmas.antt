@@ -1,8 +1,7 @@
 -- The end of `resume` and `revert`. The top call takes it as the answer of both.
 use Rattle.std.proofs.Common.{◌≡◌, refl, ℕ, Bool, IsTrue, List, [], length}
 use Rattle.bench_model.specs.History.{left}
-use Rattle.bench_model.specs.State.{BenchState, cells_half}
-use Rattle.bench_model.specs.Outside.{SameOutside}
+use Rattle.bench_model.specs.State.{BenchState, cells_half, SameOutside}
 use Rattle.outside_io.specs.State.{SinkState}
 use Rattle.flash_session.specs.declared.goal.Goal.{Goal}
 use Rattle.report_text.specs.Refusal.{out_of_memory}

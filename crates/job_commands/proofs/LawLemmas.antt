@@ -3,9 +3,8 @@ use Rattle.std.proofs.Common.{◌≡◌, ◌≢◌, ⊎_elim, inl, inr, refl, �
 use Rattle.std.proofs.lemmas.Bool.{cases_eq}
 use Rattle.std.proofs.lemmas.List.{length-replicate}
 use Rattle.bench_model.specs.History.{left}
-use Rattle.bench_model.specs.State.{BenchState, cells_half, Left}
+use Rattle.bench_model.specs.State.{BenchState, cells_half, Left, SameOutside}
 use Rattle.bench_model.specs.Calls.{OnlyReads}
-use Rattle.bench_model.specs.Outside.{SameOutside}
 use Rattle.bench_model.proofs.Moments.{never}
 use Rattle.board_file.specs.Limits.{size_of}
 use Rattle.board_file.specs.Shown as board
@@ -13,8 +12,8 @@ use Rattle.job_text.specs.Files.{IsFree, IsWhole}
 use Rattle.job_text.specs.Body.{Job, body_of}
 use Rattle.job_text.specs.Stands.{IsSomeJob}
 use Rattle.campaign.specs.Stops as stops
-use Rattle.campaign.specs.Stops.{IsUntouched, IsAtClose, WorkStops}
-use Rattle.campaign.specs.Campaign.{goal_of}
+use Rattle.campaign.specs.Stops.{IsUntouched, IsAtClose}
+use Rattle.campaign.specs.Campaign.{WorkStops, goal_of}
 use Rattle.flash_session.specs.declared.goal.Goal.{Goal}
 use Rattle.flash_session.specs.declared.goal.Goal.TheVariants.{New, Old}
 use Rattle.report_text.specs.Refusal.{Refusal, no_job, cells_differ}

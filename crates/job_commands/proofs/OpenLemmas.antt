@@ -1,9 +1,8 @@
 -- What the class of the file at entry says of the answer.
 use Rattle.std.proofs.Common.{◌≡◌, ◌⊎◌, inl, inr, refl, ◌∙◌, ℕ, Bool, List, Err, sym, ap, subst}
 use Rattle.outside_io.specs.State.{SinkState}
-use Rattle.bench_model.specs.State.{BenchState, Left}
+use Rattle.bench_model.specs.State.{BenchState, Left, SameOutside}
 use Rattle.bench_model.specs.Calls.{OnlyReads}
-use Rattle.bench_model.specs.Outside.{SameOutside}
 use Rattle.bench_model.specs.Pairs.{PairsLeave}
 use Rattle.board_file.specs.Limits.{size_of}
 use Rattle.board_file.specs.Shown as board
@@ -21,7 +20,8 @@ use Rattle.flash_session.specs.declared.session.Session.{Session}
 use Rattle.flash_session.specs.declared.goal.Goal.{Goal}
 use Rattle.flash_session.specs.Opened.{IsSessionFault, ReadsIfRefused}
 use Rattle.report_text.specs.Refusal.{not_a_job, damaged}
-use Rattle.command_answers.specs.Call.{BenchCall, SinkCall, TookNothing, Answer, refused, bench_call, sink_call}
+use Rattle.command_answers.specs.Call.{BenchCall, SinkCall, Answer, refused, bench_call, sink_call}
+use Rattle.command_answers.specs.Said.{TookNothing}
 use Rattle.command_answers.specs.Answered.{OnlyLooked, StandsEarly, on_job_file}
 use Rattle.command_answers.proofs.FileLemmas.{not_free, damaged_open, one_reason, one_kept, one_found, one_job}
 use Rattle.job_commands.specs.Work.{Work, body}

@@ -29,7 +29,8 @@ use Rattle.flash_session.specs.Surveys.{Surveyed, ArePlannedFor, HasSurveyed}
 use Rattle.report_text.specs.Plan.{plan_text}
 use Rattle.report_text.specs.Region.{region_text}
 use Rattle.report_text.specs.Refusal.{Refusal, no_job, store_fault, device_fault, output_fault, call_failed, mismatch}
-use Rattle.command_answers.specs.Call.{SinkCall, sink_call, TookNothing, TookAll, TookPart, Answer, done, refused}
+use Rattle.command_answers.specs.Call.{SinkCall, sink_call, Answer, done, refused}
+use Rattle.command_answers.specs.Said.{TookNothing, TookAll, TookPart}
 use Rattle.command_answers.specs.Answered.{IsOf}
 use Rattle.job_commands.specs.Work.{shown_region, plans_shown}
 use Rattle.job_commands.specs.Printed.{IsPlanFor, ArePlansFor, AreLawful, OfSomePlans, PrintsWork, PrintsEnd}

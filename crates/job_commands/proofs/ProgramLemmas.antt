@@ -2,13 +2,13 @@
 use Rattle.std.proofs.Common.{◌≡◌, ◌≢◌, ◌≤◌, ◌⊎◌, ⊎_elim, ◌∙◌, inl, inr, refl, sym, subst, ℕ, Bool, true, false, IsTrue, List, length, Option, option_copied, None}
 use Rattle.std.specs.Option.{ForSome}
 use Rattle.bench_model.specs.History.{left}
-use Rattle.bench_model.specs.State.{BenchState, cells_half}
-use Rattle.bench_model.specs.Outside.{SameOutside}
+use Rattle.bench_model.specs.State.{BenchState, cells_half, SameOutside}
 use Rattle.outside_io.specs.State.{SinkState}
 use Rattle.board_file.specs.Limits.{size_of}
 use Rattle.board_file.specs.Shown as board
 use Rattle.flm_descriptor.specs.Shown as flm
-use Rattle.job_text.specs.Body.{Job, IsJob}
+use Rattle.job_text.specs.Body.{Job}
+use Rattle.job_text.specs.Jobs.{IsJob}
 use Rattle.job_text.specs.Parts.{job_of, flms_of, AreParts}
 use Rattle.job_text.specs.declared.parts.JobParts.{JobParts}
 use Rattle.campaign.specs.Stops.{IsUntouched}
@@ -16,7 +16,8 @@ use Rattle.flash_session.specs.declared.goal.Goal.TheVariants.{New}
 use Rattle.report_text.specs.Refusal.{Refusal, out_of_memory, usage, input_fault, flm_refused, other_device, no_room, board_refused, image_refused, image_misplaced, job_open, not_a_job, damaged, cells_differ, store_fault, device_fault, output_fault, call_failed, mismatch}
 use Rattle.command_words.specs.Files.{FilesAsked, names_in}
 use Rattle.command_files.specs.Inputs.{InputsCall, FilesGiven, AreFiles, NoneFailed}
-use Rattle.command_files.specs.Files.{flm_files, Aim, IsAim, IsRefused}
+use Rattle.command_files.specs.Files.{flm_files, Aim, IsAim}
+use Rattle.command_files.specs.Refused.{IsRefused}
 use Rattle.command_files.specs.Steps.{IsTakeFault, IsFilesRefusal, TookFiles, task_aim, IsTask}
 use Rattle.command_files.specs.declared.task.Task.{Task}
 use Rattle.command_answers.specs.Call.{BenchCall, SinkCall, Answer, done, refused, bench_call, sink_call}

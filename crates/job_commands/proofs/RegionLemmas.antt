@@ -15,7 +15,8 @@ use Rattle.board_file.proofs.CountLemmas.{at_most_two}
 use Rattle.flm_descriptor.specs.Shown as flm
 use Rattle.image_set.specs.Ranges.{is_inside, LiesInside}
 use Rattle.job_text.specs.Fits.{holds, Covers, AreCovered, LiesIn, all_fit, Suits}
-use Rattle.job_text.specs.Body.{flm_len, AreFlms, IsJob}
+use Rattle.job_text.specs.Body.{flm_len}
+use Rattle.job_text.specs.Jobs.{AreFlms, IsJob}
 use Rattle.job_text.specs.Parts.{files_with, flms_of, AreParts}
 use Rattle.job_text.specs.declared.parts.JobParts.{JobParts}
 use Rattle.command_files.specs.Inputs.{FilesGiven}

@@ -2,13 +2,13 @@
 use Rattle.std.proofs.Common.{◌≡◌, ◌⊎◌, ⊎_elim, inl, inr, refl, ◌∙◌, append-nil, ℕ, Bool, List, [], ◌∷◌, length, IsTrue, None, Err, sym, ap, subst}
 use Rattle.outside_io.specs.State.{SinkState}
 use Rattle.bench_model.specs.History.{left, Leaves, LeftOnly}
-use Rattle.bench_model.specs.State.{BenchState, file_half}
+use Rattle.bench_model.specs.State.{BenchState, file_half, SameOutside}
 use Rattle.bench_model.specs.Calls.{OnlyReads}
-use Rattle.bench_model.specs.Outside.{SameOutside}
 use Rattle.bench_model.specs.Pairs.{PairsLeave}
 use Rattle.bench_model.proofs.Moments.{pairs_of}
 use Rattle.job_text.specs.Files.{IsFree, IsWhole}
-use Rattle.job_text.specs.Body.{Job, body_of, IsJob}
+use Rattle.job_text.specs.Body.{Job, body_of}
+use Rattle.job_text.specs.Jobs.{IsJob}
 use Rattle.job_text.specs.Parts.{job_of, AreParts}
 use Rattle.job_text.specs.declared.parts.JobParts.{JobParts}
 use Rattle.job_text.proofs.ClassLemmas.{never_jobs}
@@ -21,7 +21,8 @@ use Rattle.job_file.specs.declared.fault.BeginFault.{BeginFault}
 use Rattle.job_file.specs.declared.fault.BeginFault.TheVariants as beginning
 use Rattle.campaign.specs.Stops.{IsUntouched}
 use Rattle.report_text.specs.Refusal.{Refusal, out_of_memory, input_fault, not_a_job, store_fault, device_fault, output_fault}
-use Rattle.command_answers.specs.Call.{BenchCall, SinkCall, TookNothing, TookAll, TookPart, Answer, done, refused, bench_call, sink_call}
+use Rattle.command_answers.specs.Call.{BenchCall, SinkCall, Answer, done, refused, bench_call, sink_call}
+use Rattle.command_answers.specs.Said.{TookNothing, TookAll, TookPart}
 use Rattle.command_answers.specs.Answered.{OnlyLooked, StandsEarly, IsOf, on_job_file}
 use Rattle.command_answers.proofs.FileLemmas.{not_free, damaged_open, one_reason, one_kept, one_found}
 use Rattle.job_commands.specs.Carry.{EndsInBegin, BrokenOff}

@@ -2,9 +2,8 @@
 use Rattle.std.proofs.Common.{◌≡◌, ◌⊎◌, ◌∙◌, refl, sym, ap, subst, ℕ, Bool, IsTrue, List, ◌∷◌, drop, Option, Some, None, IfSome, IsSomeAnd, Result, Ok, Err}
 use Rattle.outside_io.specs.State.{SinkState}
 use Rattle.bench_model.specs.History.{left}
-use Rattle.bench_model.specs.State.{BenchState, cells_half, Left}
+use Rattle.bench_model.specs.State.{BenchState, cells_half, Left, SameOutside}
 use Rattle.bench_model.specs.Calls.{IsRead}
-use Rattle.bench_model.specs.Outside.{SameOutside}
 use Rattle.bench_model.specs.Pairs.{PairsLeave}
 use Rattle.bench_model.proofs.Moments.{adds_nothing_then, leaves_as}
 use Rattle.outside_io.specs.declared.sink.OutputFault.{OutputFault}

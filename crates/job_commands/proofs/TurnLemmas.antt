@@ -2,8 +2,7 @@
 use Rattle.std.proofs.Common.{◌≡◌, ◌∙◌, ⊎_elim, refl, sym, subst, ◌≤◌, ◌<◌, ◌+◌, ℕ, List, Option, Some, None, arith}
 use Rattle.std.proofs.lemmas.Bool.{cases_lt}
 use Rattle.bench_model.specs.History.{left, Leaves}
-use Rattle.bench_model.specs.State.{BenchState, cells_half}
-use Rattle.bench_model.specs.Outside.{SameOutside}
+use Rattle.bench_model.specs.State.{BenchState, cells_half, SameOutside}
 use Rattle.bench_model.specs.Pairs.{PairsLeave, PairsInTurn}
 use Rattle.bench_model.proofs.Moments.{goes_then, leaves_here}
 use Rattle.job_commands.specs.Carry.{CellsInTurn, BrokenOff}

@@ -5,7 +5,8 @@ use Rattle.bench_model.specs.History.{LeftOnly}
 use Rattle.bench_model.specs.State.{BenchState, file_half}
 use Rattle.bench_model.specs.Pairs.{PairsLeave}
 use Rattle.job_text.specs.Files.{IsWhole}
-use Rattle.job_text.specs.Body.{Job, body_of, IsJob}
+use Rattle.job_text.specs.Body.{Job, body_of}
+use Rattle.job_text.specs.Jobs.{IsJob}
 use Rattle.campaign.specs.Stops.{IsUntouched}
 use Rattle.report_text.specs.End.{end_text}
 use Rattle.report_text.specs.declared.end.End.TheVariants.{Begun}
@@ -14,7 +15,8 @@ use Rattle.report_text.specs.Refusal.{other_device, no_room, image_refused, imag
 use Rattle.command_words.specs.Files.{FilesAsked}
 use Rattle.command_files.specs.Inputs.{InputsCall, FilesGiven}
 use Rattle.command_files.specs.Files.{Aim}
-use Rattle.command_answers.specs.Call.{BenchCall, SinkCall, Call, TookAll, TookPart, Answer, done, refused, PrintsText}
+use Rattle.command_answers.specs.Call.{BenchCall, SinkCall, Call, Answer, done, refused}
+use Rattle.command_answers.specs.Said.{TookAll, TookPart, PrintsText}
 use Rattle.command_answers.specs.Answered.{AnswersBy, OnlyLooked}
 use Rattle.job_commands.specs.Carry.{IsAsEntered, EndsInBegin, NeverBegun, BrokenOff}
 use Rattle.job_commands.specs.Beginning.{job_for, EndsOnJob}

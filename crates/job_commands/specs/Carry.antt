@@ -1,8 +1,7 @@
 -- What `program`, `resume` and `revert` have in common: a job is carried to its goal.
 use Rattle.std.specs.Prelude.{◌≡◌, ◌⊎◌, ◌≤◌, ◌<◌, ◌++◌, ℕ, List, ◌∷◌, None}
 use Rattle.bench_model.specs.History.{GoesOn, Leaves}
-use Rattle.bench_model.specs.State.{BenchState, file_half, cells_half}
-use Rattle.bench_model.specs.Outside.{SameOutside}
+use Rattle.bench_model.specs.State.{BenchState, file_half, cells_half, SameOutside}
 use Rattle.bench_model.specs.Pairs.{PairsInTurn}
 use Rattle.job_text.specs.Files.{IsFree, IsWhole}
 use Rattle.job_file.specs.Stops.{IsUnopened}
@@ -11,7 +10,8 @@ use Rattle.flash_session.specs.Script.{Broken}
 use Rattle.report_text.specs.End.{end_text}
 use Rattle.report_text.specs.declared.end.End.TheVariants.{Done}
 use Rattle.report_text.specs.Refusal.{out_of_memory, input_fault, store_fault, device_fault, output_fault, call_failed, mismatch}
-use Rattle.command_answers.specs.Call.{BenchCall, SinkCall, TookNothing, TookAll, TookPart, TookPartBehind, Answer, done, refused}
+use Rattle.command_answers.specs.Call.{BenchCall, SinkCall, Answer, done, refused}
+use Rattle.command_answers.specs.Said.{TookNothing, TookAll, TookPart, TookPartBehind}
 use Rattle.command_answers.specs.Answered.{IsUnless}
 use Rattle.job_commands.specs.Work.{Work, body, shown_plan, Ends, Fails, Misses, Breaks, IsOnPath, KeepsDuties, IsOutsidePlanAsSurveyed}
 

@@ -5,11 +5,12 @@ use Rattle.board_file.specs.Limits.{size_of}
 use Rattle.board_file.specs.Shown as board
 use Rattle.flm_descriptor.specs.Shown as flm
 use Rattle.job_text.specs.Files.{IsFree, IsWhole}
-use Rattle.job_text.specs.Body.{Job, body_of, IsJob}
+use Rattle.job_text.specs.Body.{Job, body_of}
+use Rattle.job_text.specs.Jobs.{IsJob}
 use Rattle.job_text.specs.Stands.{IsSomeJob, IsDamaged, IsNotAJob}
 use Rattle.flash_session.specs.declared.goal.Goal.{Goal}
 use Rattle.flash_session.specs.declared.goal.Goal.TheVariants.{New, Old}
-use Rattle.flash_session.specs.Goals.{overlaid}
+use Rattle.job_text.specs.Laid.{overlaid}
 use Rattle.report_text.specs.Refusal.{no_job, not_a_job, damaged, cells_differ, Refusal, out_of_memory, store_fault, device_fault, output_fault, call_failed}
 use Rattle.report_text.specs.Refusal.{mismatch}
 use Rattle.command_files.specs.Inputs.{InputsCall, TakesNothing}

@@ -1,19 +1,19 @@
 -- A call of the program as a campaign has it.
 use Rattle.std.specs.Prelude.{◌≡◌, ◌≤◌, ◌⊎◌, ℕ, IsTrue, List, [], ◌∷◌, length}
 use Rattle.bench_model.specs.History.{left}
-use Rattle.bench_model.specs.State.{BenchState, file_half, cells_half}
-use Rattle.bench_model.specs.Outside.{SameOutside}
+use Rattle.bench_model.specs.State.{BenchState, file_half, cells_half, SameOutside}
 use Rattle.board_file.specs.Shown as board
 use Rattle.flm_descriptor.specs.Shown as flm
 use Rattle.job_text.specs.Files.{IsFree, IsWhole}
-use Rattle.job_text.specs.Body.{Job, body_of, IsJob}
+use Rattle.job_text.specs.Body.{Job, body_of}
+use Rattle.job_text.specs.Jobs.{IsJob}
 use Rattle.campaign.specs.Stops as stops
-use Rattle.campaign.specs.Stops.{FirstCallStops}
+use Rattle.campaign.specs.Campaign.{FirstCallStops, Keeps, Campaign, IsCampaign, IsSafeCampaign}
 use Rattle.campaign.specs.Campaign as campaign
-use Rattle.campaign.specs.Campaign.{Keeps, IsTold, IsEntered, Campaign, IsCampaign, IsSafeCampaign}
+use Rattle.campaign.specs.Stops.{IsTold, IsEntered}
 use Rattle.flash_session.specs.declared.goal.Goal.{Goal}
 use Rattle.flash_session.specs.declared.goal.Goal.TheVariants.{New, Old}
-use Rattle.flash_session.specs.Goals.{overlaid}
+use Rattle.job_text.specs.Laid.{overlaid}
 use Rattle.command_words.specs.Files.{FilesAsked}
 use Rattle.command_files.specs.Inputs.{FilesGiven, AreFiles}
 use Rattle.command_files.specs.Files.{Aim, IsAim}

@@ -1,6 +1,6 @@
 -- The session of a job that was opened, on benches that tell their contents.
 use Rattle.std.specs.Prelude.{◌≡◌, ℕ, List}
-use Rattle.bench_model.specs.Outside.{SameOutside}
+use Rattle.bench_model.specs.State.{SameOutside}
 use Rattle.bench_model.specs.History.{left, AddsNothing, LeftOnly}
 use Rattle.bench_model.specs.Pairs.{PairsLeave}
 use Rattle.bench_model.specs.State.{BenchState, file_half, cells_half, Left}

@@ -5,7 +5,8 @@ use Rattle.page_geometry.specs.Geometry.{IsGeometry}
 use Rattle.flash_session.specs.Script.{Planned}
 use Rattle.report_text.specs.Refusal.{store_fault, device_fault, output_fault, call_failed, mismatch}
 use Rattle.algo_calls.specs.Duties.{device_of}
-use Rattle.command_answers.specs.Call.{SinkCall, TookNothing, TookAll, TookPart, TookPartBehind, Answer, done, refused, PrintsText}
+use Rattle.command_answers.specs.Call.{SinkCall, Answer, done, refused}
+use Rattle.command_answers.specs.Said.{TookNothing, TookAll, TookPart, TookPartBehind, PrintsText}
 use Rattle.job_commands.specs.Work.{plans_shown}
 use Rattle.job_commands.specs.Carry.{done_text}
 

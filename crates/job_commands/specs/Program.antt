@@ -1,6 +1,6 @@
 -- What `program [--raw-at ADDR] BOARD FLM... IMAGE...` answers: a job is begun, and carried to its image.
 use Rattle.std.specs.Prelude.{List, ℕ, Bool, true, false}
-use Rattle.job_text.specs.Body.{IsJob}
+use Rattle.job_text.specs.Jobs.{IsJob}
 use Rattle.campaign.specs.Stops.{IsUntouched}
 use Rattle.flash_session.specs.declared.goal.Goal.TheVariants.{New}
 use Rattle.report_text.specs.Refusal.{Refusal, out_of_memory, usage, input_fault, board_refused, flm_refused, other_device, no_room, image_refused}

@@ -6,7 +6,8 @@ use Rattle.bench_model.specs.Pairs.{PairsInTurn}
 use Rattle.board_file.specs.Shown as board
 use Rattle.job_text.specs.Said.{algorithms_shown}
 use Rattle.job_text.specs.Files.{IsFree, IsWhole}
-use Rattle.job_text.specs.Body.{Job, IsJob}
+use Rattle.job_text.specs.Body.{Job}
+use Rattle.job_text.specs.Jobs.{IsJob}
 use Rattle.job_text.specs.Parts.{job_of, AreParts}
 use Rattle.job_text.specs.declared.job.Job as code
 use Rattle.job_text.specs.declared.parts.JobParts.{JobParts}
@@ -16,7 +17,8 @@ use Rattle.flash_session.specs.declared.goal.Goal.TheVariants.{New}
 use Rattle.flash_session.specs.Script.{Broken}
 use Rattle.report_text.specs.Refusal.{Refusal, out_of_memory, job_open, no_job, not_a_job, damaged, cells_differ, store_fault, device_fault, output_fault}
 use Rattle.report_text.specs.Refusal.{call_failed, mismatch}
-use Rattle.command_answers.specs.Call.{BenchCall, SinkCall, TookNothing, TookAll, TookPart, Answer, done, refused}
+use Rattle.command_answers.specs.Call.{BenchCall, SinkCall, Answer, done, refused}
+use Rattle.command_answers.specs.Said.{TookNothing, TookAll, TookPart}
 use Rattle.command_answers.specs.Answered.{store, device, output, IsCounted, IsUnless}
 use Rattle.job_commands.specs.Work.{Work, body, Fails, Misses, Breaks, IsOnPath, KeepsDuties, IsOutsidePlanAsSurveyed}
 use Rattle.job_commands.specs.Carry.{HasJob, HasReached, HasClosed, Carries, done_text}

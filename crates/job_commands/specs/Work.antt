@@ -11,7 +11,7 @@ use Rattle.algo_calls.specs.Duties.{AllServe, device_of, part, site_of}
 use Rattle.job_text.specs.Body.{Job, body_of}
 use Rattle.report_text.specs.Plan.{plan_text}
 use Rattle.report_text.specs.Region.{plans_text}
-use Rattle.command_answers.specs.Places.{address_at}
+use Rattle.job_text.specs.Laid.{address_at}
 use Rattle.flash_session.specs.Differs.{DiffersFirst}
 use Rattle.flash_session.specs.Local.{IsInPlans, SameBut}
 use Rattle.flash_session.specs.Moves.{Move, Stand, stand_at, IsLeftOnWay}

@@ -2,7 +2,7 @@
 ghost use Rattle.std.specs.Prelude.{◌≡◌, ◌<◌, ◌≤◌, ◌+◌, All, Some};
 ghost use Rattle.board_file.specs.Limits.{size_of};
 ghost use Rattle.board_file.specs.Table.{addresses};
-ghost use Rattle.command_answers.specs.Places.{address_at};
+ghost use Rattle.job_text.specs.Laid.{address_at};
 
 use board_file::Region;
 

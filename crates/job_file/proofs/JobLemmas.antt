@@ -15,7 +15,8 @@ use Rattle.job_text.specs.declared.format.Format.TheVariants.{First, Second}
 use Rattle.job_text.specs.declared.head.Head.{Head}
 use Rattle.job_text.specs.declared.head.Places.{Places}
 use Rattle.job_text.specs.declared.job.Job as code
-use Rattle.job_text.specs.Body.{Job, first_mark, flm_len, run_text, body_of, IsJob, MayHave, AreFlms}
+use Rattle.job_text.specs.Body.{Job, first_mark, flm_len, run_text, body_of, MayHave}
+use Rattle.job_text.specs.Jobs.{IsJob, AreFlms}
 use Rattle.job_text.specs.Said.{algorithms_shown, one_or_two}
 use Rattle.job_text.specs.Stands.{snapshot_in, StandsFor}
 use Rattle.job_text.specs.Reading.{holds_or, Texts, File, files_of, files_in, texts_at, runs_at, Found, places_of, rest_at, format_in, is_damaged, job_as, head_at}

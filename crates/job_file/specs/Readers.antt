@@ -17,7 +17,8 @@ use Rattle.job_text.specs.declared.head.Head.{Head}
 use Rattle.job_text.specs.declared.head.Places.{Places}
 use Rattle.job_text.specs.declared.damage.Damage.{Damage}
 use Rattle.job_text.specs.declared.job.Job as code
-use Rattle.job_text.specs.Body.{Job, first_mark, field, flm_len, run_text, hashed_of, body_of, IsJob, AreFlms}
+use Rattle.job_text.specs.Body.{Job, first_mark, field, flm_len, run_text, hashed_of, body_of}
+use Rattle.job_text.specs.Jobs.{IsJob, AreFlms}
 use Rattle.job_text.specs.Said.{algorithms_shown}
 use Rattle.job_text.specs.Stands.{snapshot_in}
 use Rattle.job_text.specs.Runs.{run_of}

@@ -1,9 +1,8 @@
 //! The call that begins a job.
 ghost use Rattle.std.specs.Prelude.{◌≡◌, ◌++◌, ◌∷◌, ℕ, List, length, false, IsTrue, IsOk, OnOk, IfOk, IfErr, None};
 ghost use Rattle.bench_model.specs.History.{LeftOnly, Leaves, AddsNothing};
-ghost use Rattle.bench_model.specs.State.{file_half, cells_half};
+ghost use Rattle.bench_model.specs.State.{file_half, cells_half, SameOutside};
 ghost use Rattle.bench_model.specs.Calls.{OnlyReads};
-ghost use Rattle.bench_model.specs.Outside.{SameOutside};
 ghost use Rattle.job_text.specs.Body.{body_of};
 ghost use Rattle.job_text.specs.Files.{IsFree, open_gate};
 ghost use Rattle.job_text.specs.Parts.{job_of, AreParts, head_of_parts, front_of, with_hash};

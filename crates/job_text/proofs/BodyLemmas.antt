@@ -17,7 +17,8 @@ use Rattle.job_text.specs.declared.format.Format.TheVariants.{First, Second}
 use Rattle.job_text.specs.declared.head.Head.{Head}
 use Rattle.job_text.specs.declared.head.Places.{Places}
 use Rattle.job_text.specs.Fits.{fits, all_fit, Suits}
-use Rattle.job_text.specs.Body.{Job, first_mark, second_mark, field, flm_len, run_text, tail_of, hashed_of, body_in, body_of, MayHave, AreFlms, IsJob}
+use Rattle.job_text.specs.Body.{Job, first_mark, second_mark, field, flm_len, run_text, tail_of, hashed_of, body_in, body_of, MayHave}
+use Rattle.job_text.specs.Jobs.{AreFlms, IsJob}
 use Rattle.job_text.specs.Reading.{text_at, read_or, holds_or, head_at, runs_at, File, fits_in, file_at, second_at, Texts, are_files, files_of, files_in, texts_at, Found, places_of, rest_at, format_in, job_as, job_at}
 use Rattle.job_text.specs.Heads.{SecondFits}
 use Rattle.job_text.proofs.Steps.{bind_ok, bind_to, ok_is, held, holds, was_read, is_read}
@@ -328,7 +329,7 @@ texts_all d places h text (f ∷ g ∷ []) b (a ∷ c ∷ e ∷ more) rest few a
 texts_all d places h text (f ∷ g ∷ k ∷ flms) b (a ∷ c ∷ more) rest (inl one) are fit is_board board_is files_is first_is second_is = absurd (omega (arith, one))
 texts_all d places h text (f ∷ g ∷ k ∷ flms) b (a ∷ c ∷ more) rest (inr two) are fit is_board board_is files_is first_is second_is = absurd (omega (arith, two))
 
-few_files : (format : Format) (n : ℕ) → MayHave format n → (n ≡ 1) ⊎ (n ≡ 2)
+pub few_files : (format : Format) (n : ℕ) → MayHave format n → (n ≡ 1) ⊎ (n ≡ 2)
 few_files First n one = inl one
 few_files Second n few = few
 
@@ -451,7 +452,7 @@ head_fits j b algorithms is =
     let two = at_most_two (length j.flms) (few_files j.format (length j.flms) is.files) in
     record { board = is.short_board; files = omega (arith, two); first = is.short_first; second = is.short_second; runs = small.runs; cells = small.cells }
 
-one_file : (flms : List (List ℕ)) → length flms ≡ 1 → flm_len flms 1 ≡ 0
+pub one_file : (flms : List (List ℕ)) → length flms ≡ 1 → flm_len flms 1 ≡ 0
 one_file [] one = refl
 one_file (f ∷ []) one = refl
 one_file (f ∷ g ∷ flms) one = absurd (omega (arith, one))
@@ -471,7 +472,7 @@ as_format d Second j b algorithms long format_is few is =
     (bind_to _ (λ x. rest_at d Second x.0 x.1) (head_for j, tail_of j) _ (second_again d (head_for j) (second_mark ++ sha256 (hashed_of j)) (tail_of j) (marked_len (hashed_of j)) (head_fits j b algorithms is))
     (rest_again d Second j b algorithms format_is is))
 
-format_of : (format : Format) (j : Job) → format_in (body_in format j) ≡ format
+pub format_of : (format : Format) (j : Job) → format_in (body_in format j) ≡ format
 format_of First j = refl
 format_of Second j = refl
 

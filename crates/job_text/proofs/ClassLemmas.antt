@@ -15,7 +15,8 @@ use Rattle.job_text.specs.declared.job.Class.TheVariants.{Free, Stands, Damaged,
 use Rattle.job_text.specs.declared.job.Job as code
 use Rattle.job_text.specs.Files.{IsFree, IsWhole}
 use Rattle.job_text.specs.Said.{algorithms_shown}
-use Rattle.job_text.specs.Body.{Job, second_mark, hashed_of, body_in, body_of, IsJob}
+use Rattle.job_text.specs.Body.{Job, second_mark, hashed_of, body_in, body_of}
+use Rattle.job_text.specs.Jobs.{IsJob}
 use Rattle.job_text.specs.Reading as reading
 use Rattle.job_text.specs.Reading.{Found, places_of, is_second, format_in, job_as, job_at, kept_in, found_in, is_damaged, class_behind, class_of, class_from, free, stands, damaged, not_a_job, seen_of}
 use Rattle.job_text.specs.Shown.{IsClass}

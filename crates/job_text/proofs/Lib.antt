@@ -6,8 +6,9 @@ pub mod FlmLemmas
 pub mod RegionLemmas
 pub mod HeadLemmas
 pub mod BodyLemmas
+pub mod OneTextLemmas
 pub mod ClassLemmas
-mod OneClassLemmas
+pub mod OneClassLemmas
 pub mod RunLemmas
 pub mod LoopLemmas
 pub mod FitLemmas

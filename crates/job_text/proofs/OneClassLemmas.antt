@@ -11,10 +11,10 @@ use Rattle.job_text.proofs.TakeLemmas.{IsBytes}
 use Rattle.job_text.proofs.BodyLemmas.{same_job}
 use Rattle.job_text.proofs.ClassLemmas.{IsFoundIn, free_class, stands_class, damaged_class, not_class, never_jobs}
 
-abbrev IsSomething : List ℕ → Type 0
+abbrev pub IsSomething : List ℕ → Type 0
 IsSomething file = IsFree file ⊎ (IsSomeJob file ⊎ (((kept : List ℕ) × (found : List ℕ) × IsDamaged kept found file) ⊎ ((at : ℕ) × IsNotAJob at file)))
 
-something : (file : List ℕ) (c : Class) → IsBytes file → class_of file ≡ c → IsSomething file
+pub something : (file : List ℕ) (c : Class) → IsBytes file → class_of file ≡ c → IsSomething file
 something file free fits is = inl (free_class file is)
 something file (stands x) fits is =
     let found : IsFoundIn x file = stands_class file x fits is in

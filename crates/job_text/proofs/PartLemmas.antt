@@ -9,7 +9,8 @@ use Rattle.std.proofs.lemmas.Option.{get_or_from_slice_get}
 use Rattle.sha2.specs.Sha256.{sha256}
 use Rattle.byte_map.specs.Image.{Run}
 use Rattle.job_text.specs.Runs.{AreShort}
-use Rattle.job_text.specs.Body.{second_mark, field, flm_len, run_text, hashed_of, body_of, IsJob}
+use Rattle.job_text.specs.Body.{second_mark, field, flm_len, run_text, hashed_of, body_of}
+use Rattle.job_text.specs.Jobs.{IsJob}
 use Rattle.job_text.specs.declared.parts.JobParts.{JobParts}
 use Rattle.job_text.specs.Parts.{files_with, flms_of, job_of, AreParts, lengths_of, front_of, with_hash}
 use Rattle.job_text.proofs.RegionLemmas.{small_regions}

@@ -8,7 +8,7 @@ use Rattle.board_file.specs.Shown as board
 use Rattle.flm_descriptor.specs.Shown as flm
 use Rattle.algo_loader.specs.Places.{has_room}
 use Rattle.job_text.specs.Fits.{is_device_of, fits, all_fit}
-use Rattle.job_text.specs.Body.{AreFlms}
+use Rattle.job_text.specs.Jobs.{AreFlms}
 use Rattle.job_text.specs.Reading.{fits_in}
 use Rattle.job_text.proofs.CoverLemmas.{AreSmall}
 use Rattle.job_text.proofs.FlmLemmas.{IsInMemory, device_in_memory}

@@ -1,7 +1,9 @@
 pub mod Files
 pub mod Fits
 pub mod Said
+pub mod Laid
 pub mod Body
+pub mod Jobs
 pub mod Reading
 pub mod Shown
 pub mod Heads

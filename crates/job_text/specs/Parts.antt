@@ -8,7 +8,8 @@ use Rattle.board_file.specs.Text.{IsBoard}
 use Rattle.flm_descriptor.specs.Shown as flm
 use Rattle.job_text.specs.declared.format.Format.TheVariants.{Second}
 use Rattle.job_text.specs.Fits.{Suits}
-use Rattle.job_text.specs.Body.{Job, second_mark, field, flm_len, run_text, AreFlms}
+use Rattle.job_text.specs.Body.{Job, second_mark, field, flm_len, run_text}
+use Rattle.job_text.specs.Jobs.{AreFlms}
 use Rattle.job_text.specs.declared.parts.JobParts.{JobParts}
 
 -- the FLM files

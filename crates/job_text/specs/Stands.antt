@@ -8,7 +8,8 @@ use Rattle.job_text.specs.declared.job.Class.TheVariants.{Free, Stands, Damaged,
 use Rattle.job_text.specs.declared.job.Job as code
 use Rattle.job_text.specs.Files.{IsFree, IsWhole, open_gate}
 use Rattle.job_text.specs.Said.{algorithms_shown}
-use Rattle.job_text.specs.Body.{Job, second_mark, body_of, IsJob}
+use Rattle.job_text.specs.Body.{Job, second_mark, body_of}
+use Rattle.job_text.specs.Jobs.{IsJob}
 use Rattle.job_text.specs.Reading.{class_of, not_a_job}
 
 -- the snapshot of a job in its file

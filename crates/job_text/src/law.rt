@@ -2,7 +2,8 @@
 ghost use Rattle.std.specs.Prelude.{◌≡◌, ◌<◌, ℕ, List, get_or, length};
 ghost use Rattle.board_file.specs.Shown as board;
 ghost use Rattle.flm_descriptor.specs.Shown as flm;
-ghost use Rattle.job_text.specs.Body.{Job, IsJob, body_of};
+ghost use Rattle.job_text.specs.Body.{Job, HasFields, body_of};
+ghost use Rattle.job_text.specs.Jobs.{IsJob};
 ghost use Rattle.job_text.specs.Classes.{HasOneClass};
 ghost use Rattle.job_text.specs.Stands.{IsSomeJob, IsDamaged};
 ghost use Rattle.job_text.specs.declared.parts.JobParts.{JobParts};
@@ -12,6 +13,16 @@ ghost use Rattle.job_text.specs.Parts.{job_of, AreParts};
 pub fn bodies_have_one_job()
     ensures { (j k : Job) (b c : board.Shown) (a e : List flm.Shown) → IsJob j b a → IsJob k c e
         → body_of j ≡ body_of k → j ≡ k }
+{}
+
+/// So it is wherever the numbers of both jobs have room in their fields, whatever their texts say.
+pub fn fields_tell_one_job()
+    ensures { (j k : Job) → HasFields j → HasFields k → body_of j ≡ body_of k → j ≡ k }
+{}
+
+/// The numbers of a job have room in their fields.
+pub fn jobs_have_fields()
+    ensures { (j : Job) (b : board.Shown) (a : List flm.Shown) → IsJob j b a → HasFields j }
 {}
 
 /// With any snapshot of the size, parts make a job.

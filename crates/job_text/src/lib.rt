@@ -30,7 +30,8 @@ pub use format::{Format, format_of};
 pub use head::{Head, Places, places_in, take_head};
 pub use job::{Class, Job, cells_in};
 pub use law::{
-    bodies_have_one_job, damaged_files_have_no_job, files_have_one_class, parts_make_a_job,
+    bodies_have_one_job, damaged_files_have_no_job, fields_tell_one_job, files_have_one_class,
+    jobs_have_fields, parts_make_a_job,
 };
 pub use parts::{JobParts, head_text, run_head};
 pub use runs::add_piece;

@@ -3,6 +3,7 @@ pub mod Inspection
 pub mod Faults
 pub mod Calls
 pub mod Refusal
+pub mod Lines
 pub mod Shown
 pub mod Refused
 pub mod Plan

@@ -1,7 +1,8 @@
 -- The line of one of many targets.
 use Rattle.std.specs.Prelude.{ℕ, List, [], ◌∷◌, ◌++◌, codes, decimal, Option, Some, None}
 use Rattle.std.specs.List.{concat}
-use Rattle.report_text.specs.Refusal.{Refusal, reason_of}
+use Rattle.report_text.specs.Refusal.{Refusal}
+use Rattle.report_text.specs.Lines.{reason_of}
 
 -- which one it is, counted from 1
 unfoldable pub target_head : ℕ → List ℕ

@@ -1,8 +1,9 @@
 //! The refusals of the top call, and the line of each on standard error.
 ghost use Rattle.std.specs.Prelude.{◌≡◌};
 ghost use Rattle.outside_io.specs.Puts.{Puts};
-ghost use Rattle.report_text.specs.Refusal.{status_of, reason_of, line_of, image_too_long, other_device, no_room, not_a_job, damaged, cells_differ};
-ghost use Rattle.report_text.specs.Refusal.{difference_text, hash_text};
+ghost use Rattle.report_text.specs.Refusal.{status_of, image_too_long, other_device, no_room, not_a_job, damaged, cells_differ};
+ghost use Rattle.report_text.specs.Lines.{reason_of, line_of};
+ghost use Rattle.report_text.specs.Lines.{difference_text, hash_text};
 ghost use Rattle.report_text.specs.Shown.{shown};
 
 use crate::board_reason::put_board_fault;

@@ -1,6 +1,6 @@
 //! The laws on runs: each has one end, and slices of it, however cut, end as it does.
 ghost use Rattle.std.specs.Prelude.{◌≡◌, ◌≤◌, ◌+◌, ◌*◌, ℕ, false, length, List, Some};
-ghost use Rattle.bench_model.specs.Outside.{SameOutside};
+ghost use Rattle.bench_model.specs.State.{SameOutside};
 ghost use Rattle.target_core.specs.declared.run.RunEnd.{RunEnd};
 ghost use Rattle.target_core.specs.declared.run.SliceEnd.TheVariants.{More, Ended};
 ghost use Rattle.target_core.specs.Local.{LieIn};

@@ -1,6 +1,6 @@
 use Rattle.std.proofs.Common.{◌≡◌, ◌∙◌, [], arith}
 use Rattle.std.proofs.lemmas.List.{get_or_default}
-use Rattle.image_more.specs.Files.{file_at}
+use Rattle.image_more.specs.Place.{file_at}
 use Rattle.command_files.proofs.WantedLemmas.{union_more}
 use Rattle.command_files.proofs.wanted.read_images.Goals as goal
 

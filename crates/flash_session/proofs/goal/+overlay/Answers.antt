@@ -3,7 +3,7 @@ use Rattle.std.proofs.lemmas.List.{length-drop}
 use Rattle.board_file.specs.declared.region.Region.{Region}
 use Rattle.board_file.specs.Limits.{size_of}
 use Rattle.byte_map.specs.Image.{over}
-use Rattle.flash_session.specs.Goals.{overlaid}
+use Rattle.job_text.specs.Laid.{overlaid}
 use Rattle.flash_session.proofs.GoalLemmas.{fit_rest, lay_past, old_past, old_behind, lay_here}
 use Rattle.flash_session.proofs.JobLemmas.{size_of-cons}
 use Rattle.flash_session.proofs.goal.+overlay.Goals as goal

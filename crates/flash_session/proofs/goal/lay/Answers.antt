@@ -4,7 +4,8 @@ use Rattle.board_file.specs.Limits.{size_of}
 use Rattle.board_file.specs.Shown.{shown as board_of}
 use Rattle.board_file.specs.Table.{addresses}
 use Rattle.flash_session.specs.declared.goal.Goal.{Goal}
-use Rattle.flash_session.specs.Goals.{overlaid, laid}
+use Rattle.flash_session.specs.Goals.{laid}
+use Rattle.job_text.specs.Laid.{overlaid}
 use Rattle.flash_session.proofs.JobLemmas.{fits_end}
 use Rattle.flash_session.proofs.goal.lay.Goals as goal
 

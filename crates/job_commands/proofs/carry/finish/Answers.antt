@@ -3,7 +3,7 @@ use Rattle.std.proofs.lemmas.Result.{err_from_is_err_and}
 use Rattle.board_file.specs.declared.region.Region.{Region}
 use Rattle.board_file.specs.Limits.{size_of}
 use Rattle.board_file.proofs.Laws.{region_at}
-use Rattle.command_answers.specs.Places.{address_at}
+use Rattle.job_text.specs.Laid.{address_at}
 use Rattle.bench_model.specs.History.{LeftOnly}
 use Rattle.bench_model.specs.State.{file_half}
 use Rattle.bench_model.proofs.Moments.{still_only}

@@ -1,4 +1,4 @@
-use Rattle.report_text.specs.Refusal.{reason_of}
+use Rattle.report_text.specs.Lines.{reason_of}
 use Rattle.report_text.proofs.refusal.put_device.Goals as goal
 
 pub returns : goal.returns

@@ -1,4 +1,4 @@
-use Rattle.report_text.specs.Refusal.{difference_text}
+use Rattle.report_text.specs.Lines.{difference_text}
 use Rattle.report_text.proofs.refusal.put_difference.Goals as goal
 
 pub returns : goal.returns

@@ -1,5 +1,5 @@
 use Rattle.std.proofs.Common.{take, Ok}
-use Rattle.report_text.specs.Refusal.{hash_text}
+use Rattle.report_text.specs.Lines.{hash_text}
 use Rattle.outside_io.specs.Puts.{Puts}
 use Rattle.report_text.proofs.refusal.put_hash.Given as goal
 

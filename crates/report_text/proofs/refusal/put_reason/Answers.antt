@@ -1,5 +1,5 @@
 use Rattle.std.proofs.Common.{◌≡◌, ap, sym}
-use Rattle.report_text.specs.Refusal.{reason_of}
+use Rattle.report_text.specs.Lines.{reason_of}
 use Rattle.report_text.specs.Shown.{shown}
 use Rattle.report_text.specs.declared.refusal.Refusal.{Refusal}
 use Rattle.outside_io.proofs.PutTexts.{puts_as, puts_stops, puts_failed}

@@ -1,5 +1,5 @@
 use Rattle.std.specs.Prelude.{codes}
-use Rattle.report_text.specs.Refusal.{reason_of, line_of}
+use Rattle.report_text.specs.Lines.{reason_of, line_of}
 use Rattle.report_text.specs.Shown.{shown}
 use Rattle.outside_io.proofs.PutTexts.{puts_then, puts_stops, puts_failed}
 use Rattle.report_text.proofs.refusal.put_refusal.Goals as goal

@@ -1,5 +1,5 @@
 use Rattle.std.proofs.Common.{arith, refl, ap, sym, subst, ◌∙◌, ◌≡◌, ℕ, List, length, Option, Some, None}
-use Rattle.bench_model.specs.Outside.{SameOutside}
+use Rattle.bench_model.specs.State.{SameOutside}
 use Rattle.bench_model.specs.Memory.{InStep}
 use Rattle.bench_model.specs.Record.{held_now, broken_off, broken}
 use Rattle.bench_model.proofs.MemoryLemmas.{went_cause, step_broken, within, length-broken, only_broken, in_step_after, longest-after, made-after, greatest-after, ended_adds_nothing, file_stays_after}

@@ -1,6 +1,6 @@
 use Rattle.std.proofs.Common.{arith, refl, ap, sym, subst, ◌∙◌, ◌≡◌, ℕ, List, length, Option, Some, None}
 use Rattle.bench_model.specs.Calls.{written}
-use Rattle.bench_model.specs.Outside.{SameOutside}
+use Rattle.bench_model.specs.State.{SameOutside}
 use Rattle.bench_model.specs.Memory.{InStep}
 use Rattle.bench_model.specs.Record.{held_now, settled}
 use Rattle.bench_model.proofs.MemoryLemmas.{went_cause, in_open, step_settled, within, length-in_range, only_in_range, length-open, in_step_after, longest-after, made-after, greatest-after, ended_adds_nothing, file_stays_after}

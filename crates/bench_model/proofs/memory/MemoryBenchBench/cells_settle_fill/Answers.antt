@@ -1,7 +1,7 @@
 use Rattle.std.proofs.Common.{arith, refl, ap, sym, subst, ◌∙◌, ◌≡◌, ℕ, List, length, replicate, Option, Some, None}
 use Rattle.std.proofs.lemmas.List.{length-replicate}
 use Rattle.bench_model.specs.Calls.{written}
-use Rattle.bench_model.specs.Outside.{SameOutside}
+use Rattle.bench_model.specs.State.{SameOutside}
 use Rattle.bench_model.specs.Memory.{InStep}
 use Rattle.bench_model.specs.Record.{held_now, filled}
 use Rattle.bench_model.proofs.MemoryLemmas.{went_cause, in_open, step_filled, within, length-in_range, only_in_range, in_step_after, longest-after, made-after, greatest-after, ended_adds_nothing, file_stays_after}

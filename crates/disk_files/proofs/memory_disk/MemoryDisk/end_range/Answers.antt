@@ -1,7 +1,7 @@
 use Rattle.std.proofs.Common.{◌≡◌, ◌≤◌, ◌+◌, ◌-◌, ◌∙◌, ap, sym, subst, arith, ℕ, List, length, take, drop, Option, Some}
 use Rattle.std.specs.Prelude.{IfSome}
 use Rattle.bench_model.specs.Calls.{written}
-use Rattle.bench_model.specs.Outside.{SameOutside}
+use Rattle.bench_model.specs.State.{SameOutside}
 use Rattle.disk_files.specs.Memory.{outside_of}
 use Rattle.disk_files.proofs.DiskLemmas.{range_written, differs_closed}
 use Rattle.disk_files.proofs.memory_disk.MemoryDisk.end_range.Goals as goal

@@ -1,0 +1,51 @@
+-- What a call prints: on `out`, and on `err` where it is refused.
+use Rattle.std.specs.Prelude.{◌≡◌, ◌≤◌, ◌++◌, ◌⊎◌, ℕ, IsTrue, List}
+use Rattle.faults.specs.Counts.{Rose}
+use Rattle.outside_io.specs.Appends.{AppendsPart}
+use Rattle.report_text.specs.Refusal.{status_of, output_fault}
+use Rattle.report_text.specs.Lines.{line_of}
+use Rattle.command_answers.specs.Call.{SinkCall, Answer, done, refused}
+
+-- What a sink took.
+
+-- nothing, and it counted no fault
+pub record TookNothing (sink : SinkCall) : Type 0 where
+  pub taken : sink.after.taken ≡ sink.before.taken
+  pub faults : sink.after.faults ≡ sink.before.faults
+
+-- the whole text, and it counted no fault
+pub record TookAll (sink : SinkCall) (text : List ℕ) : Type 0 where
+  pub taken : IsTrue sink.tells → sink.after.taken ≡ sink.before.taken ++ text
+  pub faults : sink.after.faults ≡ sink.before.faults
+
+-- a beginning of the text, where its count of faults rose
+pub record TookPart (sink : SinkCall) (text : List ℕ) : Type 0 where
+  pub taken : IsTrue sink.tells → AppendsPart text sink.before.taken sink.after.taken
+  pub later : sink.before.faults ≤ sink.after.faults
+  pub rose : Rose sink.before.faults sink.after.faults
+
+-- this whole text and then a beginning of another, where its count of faults rose
+pub record TookPartBehind (sink : SinkCall) (whole text : List ℕ) : Type 0 where
+  pub taken : IsTrue sink.tells → AppendsPart text (sink.before.taken ++ whole) sink.after.taken
+  pub later : sink.before.faults ≤ sink.after.faults
+  pub rose : Rose sink.before.faults sink.after.faults
+
+-- Status 0 says nothing on `err`. A refusal has its status, and its line goes to `err`, or a beginning of it where the
+-- count of `err` rose.
+abbrev pub Says : ℕ → SinkCall → Answer → Type 0
+Says status err done = (status ≡ 0) × TookNothing err
+Says status err (refused refusal) = (status ≡ status_of refusal) × (TookAll err (line_of refusal) ⊎ TookPart err (line_of refusal))
+
+-- What an answer prints.
+
+-- a text where done, a beginning of it where `out` fails, and nothing with every other answer
+abbrev pub PrintsText : SinkCall → List ℕ → Answer → Type 0
+PrintsText out text done = TookAll out text
+PrintsText out text (refused output_fault) = TookPart out text
+PrintsText out text (refused _) = TookNothing out
+
+-- the same, where there is no other answer
+abbrev pub SaysText : SinkCall → List ℕ → Answer → Type 0
+SaysText out text done = TookAll out text
+SaysText out text (refused output_fault) = TookPart out text
+SaysText out text (refused _) = ⊥

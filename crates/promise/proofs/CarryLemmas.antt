@@ -1,0 +1,100 @@
+-- A job that is carried to its goal.
+use Rattle.std.proofs.Common.{◌≡◌, ◌≢◌, ◌⊎◌, ⊎_elim, inl, inr, refl, ◌∙◌, subst, ℕ, IsTrue, List}
+use Rattle.std.proofs.lemmas.Bool.{cases_eq}
+use Rattle.bench_model.specs.State.{BenchState, Left}
+use Rattle.bench_model.specs.Pairs.{PairsInTurn}
+use Rattle.board_file.specs.Limits.{size_of}
+use Rattle.board_file.specs.Shown as board
+use Rattle.flm_descriptor.specs.Shown as flm
+use Rattle.job_text.specs.Files.{IsFree, IsWhole}
+use Rattle.job_text.specs.Body as written
+use Rattle.job_text.specs.Body.{body_of}
+use Rattle.job_text.specs.Jobs.{IsJob}
+use Rattle.job_text.specs.Stands.{IsSomeJob}
+use Rattle.job_text.proofs.OneTextLemmas.{has_fields}
+use Rattle.campaign.specs.Stops.{IsAtClose}
+use Rattle.flash_session.specs.declared.goal.Goal.{Goal}
+use Rattle.flash_session.specs.declared.goal.Goal.TheVariants.{New, Old}
+use Rattle.report_text.specs.Refusal.{no_job, not_a_job, damaged, cells_differ}
+use Rattle.command_answers.specs.Call as answers
+use Rattle.command_answers.specs.Call.{Answer, done}
+use Rattle.job_commands.specs.Carry as carry
+use Rattle.job_commands.specs.GoOn.{goal_in, work_to, GoOnAnswers}
+use Rattle.promise.specs.Job.{Job, laid}
+use Rattle.promise.specs.Texts.{Says}
+use Rattle.promise.specs.Promise.{Carries, IsRefused, GoesOn}
+use Rattle.promise.proofs.ClassLemmas.{IsDamagedSo, IsNoJobSo, AreBytes, something}
+use Rattle.promise.proofs.StopLemmas.{its}
+use Rattle.promise.proofs.RefusedLemmas.{looked}
+
+abbrev pub goal_for : Goal → Job → List ℕ
+goal_for New job = laid job
+goal_for Old job = job.snapshot
+
+-- the job of a text and a board
+abbrev pub job_of : written.Job → board.Shown → Job
+job_of text b = record { body = body_of text; regions = b.regions; image = text.image; snapshot = text.snapshot }
+
+pub says : (text : written.Job) (b : board.Shown) (algorithms : List flm.Shown) → IsJob text b algorithms → Says (job_of text b)
+says text b algorithms is = record {
+  text = text;
+  board = b;
+  body_is = refl;
+  has_fields = has_fields text b algorithms is;
+  is_board = is.board;
+  regions_are = refl;
+  image_is = refl;
+  snapshot_is = refl;
+}
+
+pub same_goal : (goal : Goal) (text : written.Job) (b : board.Shown) → goal_in goal text b ≡ goal_for goal (job_of text b)
+same_goal New text b = refl
+same_goal Old text b = refl
+
+module _ (call : answers.Call) (answer : Answer) (zero : call.status ≡ 0 → answer ≡ done) (goal : Goal) (text : written.Job) (b : board.Shown)
+    (algorithms : List flm.Shown) (is : IsJob text b algorithms) where
+  pub carries : (First : List ℕ → List ℕ → Type 0) (surveyed : List ℕ)
+      → carry.Carries call.bench call.out First (work_to goal text b algorithms surveyed) answer
+      → Carries (its call) (job_of text b) (goal_for goal (job_of text b)) First
+  carries First surveyed it = record {
+    says = says text b algorithms is;
+    done = λ is_zero.
+        let w = work_to goal text b algorithms surveyed in
+        let comes = subst (λ (a : Answer). carry.Comes call.bench call.out w it.broken a) (zero is_zero) it.comes in
+        record { file = comes.0.file; idle = comes.0.reached.idle; cells = comes.0.reached.goal ∙ same_goal goal text b };
+    closing = it.stops.closing;
+    before = λ k f c from to f_at c_at early. it.stops.pairs.before k f c from to early f_at c_at;
+    from = λ k f c from to f_at c_at late.
+        subst (λ (g : List ℕ). IsAtClose (body_of text) g f c) (same_goal goal text b) (it.stops.pairs.from k f c late to f_at c_at);
+  }
+
+-- `resume` and `revert`
+pub goes_on : (goal : Goal) (call : answers.Call) → IsTrue call.bench.tells → AreBytes call.bench.before.file → GoOnAnswers goal call
+    → IsRefused (its call) ⊎ GoesOn (its call) (goal_for goal)
+goes_on goal call told bytes answers =
+    let file = call.bench.before.file in
+    let from = answers.ends.told told in
+    let stands = answers.ends.lawful.stands in
+    ⊎_elim
+    (λ (is_free : IsFree file). inl (looked call answers.answer no_job told answers.zero (λ early. early) stands (from.free is_free)))
+    (λ (rest : IsSomeJob file ⊎ (IsDamagedSo file ⊎ IsNoJobSo file)). ⊎_elim
+    (λ (some : IsSomeJob file). ⊎_elim
+    (λ (size : size_of some.board.regions ≡ call.bench.before.cell_count).
+    let carried = from.stands some.job some.board some.algorithms some.is some.whole size in
+    inr (record {
+      job = job_of some.job some.board;
+      whole = some.whole;
+      carries = carries call answers.answer answers.zero goal some.job some.board some.algorithms some.is (Left call.bench.before) carried.0 carried.1;
+    }))
+    (λ (other : size_of some.board.regions ≢ call.bench.before.cell_count).
+    inl (looked call answers.answer (cells_differ (size_of some.board.regions) call.bench.before.cell_count) told answers.zero (λ early. early) stands
+    (from.other_size some other)))
+    (cases_eq (size_of some.board.regions) call.bench.before.cell_count))
+    (λ (none : IsDamagedSo file ⊎ IsNoJobSo file). ⊎_elim
+    (λ (is : IsDamagedSo file).
+    inl (looked call answers.answer (damaged is.0 is.1) told answers.zero (λ early. early) stands (from.is_damaged is.0 is.1 is.2)))
+    (λ (is : IsNoJobSo file).
+    inl (looked call answers.answer (not_a_job is.0) told answers.zero (λ early. early) stands (from.not_job is.0 is.1)))
+    none)
+    rest)
+    (something file bytes)

@@ -1,0 +1,91 @@
+-- A call comes to its end.
+use Rattle.std.proofs.Common.{◌≡◌, ⊎_elim, inl, inr, refl, sym, ap, ◌∙◌, ℕ, true, IsTrue, IsSome, List, length, Some}
+use Rattle.board_file.specs.Limits.{size_of}
+use Rattle.flash_session.specs.declared.goal.Goal.{Goal}
+use Rattle.flash_session.specs.declared.goal.Goal.TheVariants.{New, Old}
+use Rattle.report_text.specs.Refusal.{out_of_memory, input_fault, store_fault, device_fault, output_fault}
+use Rattle.job_text.specs.Body as written
+use Rattle.command_words.specs.Files.{FilesAsked}
+use Rattle.command_words.specs.Words.{Command, Asks, program, begin, resume, revert, plan, verify, compare, status, inspect, dump, demo}
+use Rattle.command_answers.specs.Call as answers
+use Rattle.command_answers.specs.Call.{BenchCall, SinkCall, Answer, done, refused}
+use Rattle.command_answers.specs.Said.{Says as SaysOn}
+use Rattle.command_answers.specs.Answered.{yields, IsUnless, AreCounted}
+use Rattle.job_commands.specs.GoOn.{GoOnAnswers}
+use Rattle.job_commands.specs.Program as programs
+use Rattle.job_commands.specs.Begin as begins
+use Rattle.flm_cli.specs.Answers.{Answers}
+use Rattle.promise.specs.Job.{Job}
+use Rattle.promise.specs.Texts.{Says}
+use Rattle.promise.specs.Complete.{NoFault, IsRight, KeepsDuties, IsReady, IsReadyFor, IsComplete, Completes}
+use Rattle.promise.proofs.StopLemmas.{its}
+use Rattle.promise.proofs.CampaignLemmas.{whole_text}
+use Rattle.promise.proofs.BackLemmas.{AreRight, are_right, its_aim}
+
+-- the answer that is due is done
+ends : (call : answers.Call) (answer : Answer) → SaysOn call.status call.err answer → AreCounted call.bench call.inputs call.out answer
+    → NoFault (its call) → IsUnless answer done → IsComplete (its call)
+ends call done says counts none unless = inl says.0
+ends call (refused out_of_memory) says counts none unless = inr says.0
+ends call (refused (input_fault name)) says counts none unless = absurd (none.input (counts.inputs_count.only refl))
+ends call (refused store_fault) says counts none unless = absurd (none.store (counts.store_count.only refl))
+ends call (refused device_fault) says counts none unless = absurd (none.device (counts.device_count.only refl))
+ends call (refused output_fault) says counts none unless = absurd (none.output (counts.out_count.only refl))
+ends call (refused r) says counts none unless = ⊎_elim
+    (λ (is : refused r ≡ done). absurd (cc))
+    (λ (is : yields (refused r) ≡ true). absurd (cc))
+    unless
+
+its_size : (job : Job) (says : Says job) (right : IsRight job says) (count : ℕ) → length job.snapshot ≡ count → size_of says.board.regions ≡ count
+its_size job says right count is = sym right.is_job.cells ∙ ap (λ (l : List ℕ). length l) (sym says.snapshot_is) ∙ is
+
+goes_on : (goal : Goal) (call : answers.Call) → IsTrue call.bench.tells → GoOnAnswers goal call
+    → (job : Job) → IsReady (its call) job → KeepsDuties job → NoFault (its call) → IsComplete (its call)
+goes_on goal call told it job ready keeps none =
+    let says = ready.says in
+    let carried = (it.ends.told told).stands says.text says.board ready.right.algorithms ready.right.is_job (whole_text job says call.bench.before.file ready.whole)
+    (its_size job says ready.right call.bench.before.cell_count ready.sized) in
+    ends call it.answer it.says it.ends.lawful.counts none (carried.1.complete (keeps says ready.right))
+
+begun : (bench : BenchCall) (out : SinkCall) (text : List ℕ) (job : written.Job) (answer : Answer) → begins.BegunComes bench out text job answer → IsUnless answer done
+begun bench out text job done comes = inl refl
+begun bench out text job (refused out_of_memory) comes = inr refl
+begun bench out text job (refused (input_fault name)) comes = inr refl
+begun bench out text job (refused store_fault) comes = inr refl
+begun bench out text job (refused device_fault) comes = inr refl
+begun bench out text job (refused output_fault) comes = inr refl
+begun bench out text job (refused r) comes = absurd comes
+
+module _ (asked : FilesAsked) (call : answers.Call) (told : IsTrue call.bench.tells) (told_files : IsTrue call.inputs.tells) (some : IsSome asked.flm) (job : Job)
+    (ready : IsReadyFor (its call) asked job) (none : NoFault (its call)) where
+  right : AreRight call.inputs asked (its_aim call.inputs asked job some ready.files ready.right.algorithms ready.right.is_job ready.short)
+  right = are_right call.inputs asked job some ready.files ready.right.algorithms ready.right.is_job ready.short
+
+  size : size_of ready.files.says.board.regions ≡ call.bench.before.cell_count
+  size = its_size job ready.files.says ready.right call.bench.before.cell_count ready.sized
+
+  programmed : programs.ProgramAnswers asked call → KeepsDuties job → IsComplete (its call)
+  programmed it keeps =
+      let over = it.ends.files.goes right.files (its_aim call.inputs asked job some ready.files ready.right.algorithms ready.right.is_job ready.short) told_files right.are_files right.is_aim told in
+      let starts = over.begins right.has_texts ready.free size in
+      ends call it.answer it.says it.ends.lawful.counts none (starts.carries.complete (keeps ready.files.says ready.right))
+
+  only_begun : begins.BeginAnswers asked call → IsComplete (its call)
+  only_begun it =
+      let over = it.ends.files.goes right.files (its_aim call.inputs asked job some ready.files ready.right.algorithms ready.right.is_job ready.short) told_files right.are_files right.is_aim told in
+      let starts = over.begins right.has_texts ready.free size in
+      ends call it.answer it.says it.ends.lawful.counts none (begun call.bench call.out _ _ it.answer starts.begins.comes)
+
+pub completes : (command : Command) (words : List (List ℕ)) (call : answers.Call) → IsTrue call.bench.tells → IsTrue call.inputs.tells → Asks words command
+    → Answers call (Some command) → Completes command (its call)
+completes (program asked) words call told told_files asks it = λ job ready keeps none. programmed asked call told told_files asks.names.has_flm job ready none it keeps
+completes (begin asked) words call told told_files asks it = λ job ready none. only_begun asked call told told_files asks.names.has_flm job ready none it
+completes resume words call told told_files asks it = goes_on New call told it
+completes revert words call told told_files asks it = goes_on Old call told it
+completes (plan files) words call told told_files asks it = tt
+completes (verify files) words call told told_files asks it = tt
+completes (compare image) words call told told_files asks it = tt
+completes status words call told told_files asks it = tt
+completes (inspect flm) words call told told_files asks it = tt
+completes (dump form board) words call told told_files asks it = tt
+completes (demo seed) words call told told_files asks it = tt

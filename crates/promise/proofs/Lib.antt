@@ -1,0 +1,12 @@
+mod StopLemmas
+mod RefusedLemmas
+mod ClassLemmas
+mod CarryLemmas
+mod FileLemmas
+mod BeginLemmas
+mod KeepLemmas
+mod CampaignLemmas
+mod BackLemmas
+mod CompleteLemmas
+mod GangLemmas
+mod CellLemmas

@@ -1,0 +1,25 @@
+-- What a stop leaves in a call that does no work, by the records of the commands.
+use Rattle.bench_model.specs.History.{AddsNothing}
+use Rattle.bench_model.specs.State.{cells_half, Left}
+use Rattle.bench_model.specs.Calls.{FileStays, OnlyReads}
+use Rattle.command_answers.specs.Call as answers
+use Rattle.promise.specs.Promise.{Call, AtEachStop, call_of}
+
+-- the call as the promise sees it
+abbrev pub its : answers.Call → Call
+its call = call_of call.inputs.before.stands call.bench.before call.bench.after (call.inputs.before.faults, call.inputs.after.faults)
+    (call.out.before.faults, call.out.after.faults) call.status
+
+-- a call that leaves only what a stop at its entry might have left
+abbrev pub IsIdle : answers.Call → Type 0
+IsIdle call = AtEachStop (its call) (λ moment file cells. Left call.bench.before file cells)
+
+pub only_reads : (call : answers.Call) → OnlyReads call.bench.tells call.bench.before call.bench.after → IsIdle call
+only_reads call reads k f c from to f_at c_at = (reads.moments.each k f from to f_at, (reads.cells.half.same k c from to).0 c_at)
+
+pub untouched : (call : answers.Call) → answers.IsUntouched call.bench → IsIdle call
+untouched call is k f c from to f_at c_at = ((is.file.half.same k f from to).0 f_at, (is.cells.half.same k c from to).0 c_at)
+
+pub adds_nothing : (call : answers.Call) → FileStays call.bench.before call.bench.after
+    → AddsNothing (cells_half call.bench.before) (cells_half call.bench.after) → IsIdle call
+adds_nothing call file cells k f c from to f_at c_at = ((file.half.same k f from to).0 f_at, cells.each k c from to c_at)

@@ -1,0 +1,5 @@
+pub mod Job
+pub mod Texts
+pub mod Promise
+pub mod Campaign
+pub mod Complete

@@ -1,0 +1,83 @@
+-- What a call of the programmer promises: what its status 0 means, and what a stop of the power leaves at any moment in it.
+use Rattle.std.specs.Prelude.{◌≡◌, ◌≢◌, ◌≤◌, ◌<◌, ◌⊎◌, ℕ, List, Option, None}
+use Rattle.bench_model.specs.State.{BenchState, Left, SameOutside}
+use Rattle.job_text.specs.Files.{IsFree, IsWhole}
+use Rattle.campaign.specs.Stops.{IsUntouched, IsAtClose, IsDone}
+use Rattle.command_words.specs.Files.{FilesAsked}
+use Rattle.command_words.specs.Words.{Command, program, begin, resume, revert}
+use Rattle.promise.specs.Job.{Job, laid}
+use Rattle.promise.specs.Texts.{Says, IsOfFiles}
+
+-- A call: what stands under each name; the job file and the cells, and the counts of faults of inputs and output, at its entry and at its
+-- exit; and the status that it answers.
+pub record Call : Type 1 where
+  pub under : List ℕ → Option (List ℕ)
+  pub old : BenchState
+  pub new : BenchState
+  pub input_faults : ℕ × ℕ
+  pub output_faults : ℕ × ℕ
+  pub status : ℕ
+
+-- This holds of each moment of the call, with each file and the cells beside it that a stop may leave then.
+abbrev pub AtEachStop : Call → (ℕ → List ℕ → List ℕ → Type 0) → Type 0
+AtEachStop call Leaves = (moment : ℕ) (file cells : List ℕ) → call.old.moment ≤ moment → moment ≤ call.new.moment
+    → call.new.files_at moment file → call.new.cells_at moment cells → Leaves moment file cells
+
+-- A call does no work: it doesn't answer 0, and a stop leaves nothing that one at its entry might not have left.
+pub record IsRefused (call : Call) : Type 0 where
+  pub not_done : call.status ≢ 0
+  pub stopped : AtEachStop call (λ moment file cells. Left call.old file cells)
+
+-- A call carries a job to a goal. With status 0 it is done: the cells are the goal, no operation is open, and the file is closed behind the
+-- job. Up to the moment of its close a stop leaves what has First, or the job whole in its file. From then on the cells are the goal, and
+-- the file is whole or closed.
+pub record Carries (call : Call) (job : Job) (goal : List ℕ) (First : List ℕ → List ℕ → Type 0) : Type 0 where
+  pub says : Says job
+  pub done : call.status ≡ 0 → IsDone job.body goal call.new
+  pub closing : ℕ
+  pub before : AtEachStop call (λ moment file cells. moment < closing → First file cells ⊎ IsWhole job.body file)
+  pub from : AtEachStop call (λ moment file cells. closing ≤ moment → IsAtClose job.body goal file cells)
+
+-- A job of these files is begun over a free file. Its snapshot is the cells of the entry, but in the range of an operation that was open.
+pub record IsBegun (call : Call) (asked : FilesAsked) (job : Job) : Type 0 where
+  pub files : IsOfFiles call.under asked job
+  pub free : IsFree call.old.file
+  pub snapshot : SameOutside call.old.operation call.old.cells job.snapshot
+
+-- `program` begins a job, and carries it to its image laid over the snapshot. Before its close a stop leaves the device untouched, or the
+-- job whole.
+pub record Programs (call : Call) (asked : FilesAsked) : Type 0 where
+  pub job : Job
+  pub begun : IsBegun call asked job
+  pub carries : Carries call job (laid job) (IsUntouched call.old)
+
+-- `begin` begins a job, and leaves it whole.
+pub record Begins (call : Call) (asked : FilesAsked) : Type 0 where
+  pub job : Job
+  pub begun : IsBegun call asked job
+  pub done : call.status ≡ 0 → IsWhole job.body call.new.file × (call.new.cells ≡ job.snapshot) × (call.new.operation ≡ None)
+  pub stopped : AtEachStop call (λ moment file cells. IsUntouched call.old file cells ⊎ IsWhole job.body file)
+
+-- `resume` and `revert` carry the job for which the file stands at entry, with the snapshot that it has there.
+pub record GoesOn (call : Call) (goal_of : Job → List ℕ) : Type 0 where
+  pub job : Job
+  pub whole : IsWhole job.body call.old.file
+  pub carries : Carries call job (goal_of job) (Left call.old)
+
+-- What a call promises, by the command that its words ask for.
+abbrev pub Keeps : Command → Call → Type 0
+Keeps (program asked) call = IsRefused call ⊎ Programs call asked
+Keeps (begin asked) call = IsRefused call ⊎ Begins call asked
+Keeps resume call = IsRefused call ⊎ GoesOn call laid
+Keeps revert call = IsRefused call ⊎ GoesOn call (λ job. job.snapshot)
+Keeps _ call = AtEachStop call (λ moment file cells. Left call.old file cells)
+
+-- A call by its parts.
+abbrev pub call_of : (List ℕ → Option (List ℕ)) → BenchState → BenchState → ℕ × ℕ → ℕ × ℕ → ℕ → Call
+call_of under old new input_faults output_faults status =
+    record { under = under; old = old; new = new; input_faults = input_faults; output_faults = output_faults; status = status }
+
+-- What a call for several benches promises, which takes no inputs: for each of them it is a call of `resume`.
+abbrev pub AllResume : {B : Type 0} → Ghosts B → ℕ → List B → List B → Type 0
+AllResume {B} G status benches benches' = (i : ℕ) (b : B) → i < length benches
+    → Keeps resume (call_of (λ name. None) (G.state (get_or benches i b)) (G.state (get_or benches' i b)) (0, 0) (0, 0) status)
