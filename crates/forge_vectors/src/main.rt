@@ -1,31 +1,19 @@
 //! Makes FLM files and inspects them: A1 to A7 for the board of one file, F1 and A1 for those of two others, A1 and A2 for the second
-//! region of a fourth, and a listing with data and zeroed data. It prints what each file says, and its bytes.
+//! region of a fourth, and a listing with data and zeroed data. It prints what each file says, and its bytes; and then, of forged algorithms
+//! on five boards, whether they are A1 on a board that A1 serves.
 #![tactic(auto)]
 
 mod data;
+mod files;
 mod put;
+mod serves;
 
 use anyhow::Result;
-use board_file::{Board, read_board};
+use board_file::Board;
 use data::with_data;
+use files::{board, read_file};
 use flm_forge::{Kind, listing, listing_at};
 use put::put;
-use std::fs::File;
-use std::io::Read;
-
-/// The bytes of a file.
-fn read_file(rt: &HostRuntime, name: &str) -> Result<Vec<u8>> {
-    let mut file = File::open(rt, name)?;
-    let mut bytes = Vec::new(rt.alloc());
-    file.read_to_end(&mut bytes)?;
-    Ok(bytes)
-}
-
-/// The board of a file.
-fn board(rt: &HostRuntime, name: &str) -> Result<Board> {
-    let text = read_file(rt, name)?;
-    Ok(read_board(rt.alloc(), &text)?)
-}
 
 /// Puts an algorithm with pages of so many bytes.
 fn put_kind(rt: &HostRuntime, name: &str, kind: Kind, board: &Board, page: u32) -> Result<()> {
@@ -61,9 +49,10 @@ fn put_second(rt: &HostRuntime, board: &Board, page: u32) -> Result<()> {
 }
 
 fn main(rt: HostRuntime) -> Result<()> {
-    put_kinds(&rt, &board(&rt, "board.toml")?, 64)?;
+    put_kinds(&rt, &board(&rt, "small.toml")?, 64)?;
     put_kind(&rt, "F1", Kind::F1, &board(&rt, "fpec.toml")?, 64)?;
     put_kind(&rt, "wide", Kind::A1, &board(&rt, "wide.toml")?, 1024)?;
     put_second(&rt, &board(&rt, "two.toml")?, 64)?;
-    put(&rt, "data", &with_data(&rt, read_file(&rt, "data.s")?)?)
+    put(&rt, "data", &with_data(&rt, read_file(&rt, "data.s")?)?)?;
+    serves::put_answers(&rt)
 }

@@ -1,20 +1,18 @@
 //! Asks of forged algorithms whether they are A1 on a board that A1 serves. Each line has the board, the algorithm, the bytes of a page and
 //! the answer. The last line says whether the text of A1 makes `A1_CODE`.
-#![tactic(auto)]
 
+use crate::files::board;
 use anyhow::Result;
 use armv6m_asm::assemble;
-use board_file::{Board, read_board};
+use board_file::Board;
 use flm_descriptor::read_flm;
 use flm_forge::{Kind, Listing, forge, listing};
 use serve_law::{A1_CODE, a1_serves};
-use std::fs;
 
 /// The board of this name, from its file.
-fn board(rt: &HostRuntime, name: &str) -> Result<Board> {
+fn board_of(rt: &HostRuntime, name: &str) -> Result<Board> {
     let path = format!(in rt.alloc(); "{name}.toml")?;
-    let text = fs::read(rt, path.as_str())?;
-    Ok(read_board(rt.alloc(), &text)?)
+    board(rt, path.as_str())
 }
 
 /// The answer for the algorithm of a listing.
@@ -39,7 +37,7 @@ fn put(rt: &HostRuntime, name: &str, board: &Board, kind: Kind, page: u32) -> Re
 
 /// Puts the answers for algorithms on the board of this name.
 fn put_all(rt: &HostRuntime, name: &str, algorithms: &[(Kind, u32)]) -> Result<()> {
-    let board = board(rt, name)?;
+    let board = board_of(rt, name)?;
     for &(kind, page) in algorithms {
         put(rt, name, &board, kind, page)?;
     }
@@ -54,7 +52,7 @@ fn makes_code(rt: &HostRuntime, listing: &Listing) -> Result<bool> {
 
 /// Puts whether the text of A1 makes its code.
 fn put_code(rt: &HostRuntime) -> Result<()> {
-    let board = board(rt, "small")?;
+    let board = board(rt, "small.toml")?;
     let listing = listing(rt.alloc(), Kind::A1, &board, 64)?;
     println!(rt; "code {}", makes_code(rt, &listing)?)?;
     Ok(())
@@ -75,11 +73,12 @@ const SMALL: [(Kind, u32); 10] = [
     (Kind::A7, 64),
 ];
 
-fn main(rt: HostRuntime) -> Result<()> {
-    put_all(&rt, "small", &SMALL)?;
-    put_all(&rt, "demo", &[(Kind::A1, 1024)])?;
-    put_all(&rt, "unit_4", &[(Kind::A1, 64)])?;
-    put_all(&rt, "fpec", &[(Kind::A1, 64), (Kind::F1, 64)])?;
-    put_all(&rt, "quiet", &[(Kind::A1, 64)])?;
-    put_code(&rt)
+/// Puts the answers.
+pub fn put_answers(rt: &HostRuntime) -> Result<()> {
+    put_all(rt, "small", &SMALL)?;
+    put_all(rt, "demo", &[(Kind::A1, 1024)])?;
+    put_all(rt, "unit_4", &[(Kind::A1, 64)])?;
+    put_all(rt, "fpec", &[(Kind::A1, 64), (Kind::F1, 64)])?;
+    put_all(rt, "quiet", &[(Kind::A1, 64)])?;
+    put_code(rt)
 }
