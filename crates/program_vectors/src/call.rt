@@ -31,11 +31,15 @@ impl Outside {
     }
 }
 
-/// The words of a line.
+/// The words of a line, which are parted by blanks. `""` is the empty word.
 pub fn words_of(alloc: Global, line: &str) -> Result<Vec<Word>> {
     let mut words = Vec::new(alloc);
-    for word in line.split_whitespace() {
-        words.push(Word::copy(alloc, word)?)?;
+    for text in line.split_whitespace() {
+        let text = match text {
+            "\"\"" => "",
+            _ => text,
+        };
+        words.push(Word::copy(alloc, text)?)?;
     }
     Ok(words)
 }

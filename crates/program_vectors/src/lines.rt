@@ -27,6 +27,7 @@
 //!   turn. A job that is left is resumed.
 //! - `pairs COUNT WORDS`: calls of `program` of which every pair of the first so many calls on the job file fails; each job is gone on with to
 //!   its end.
+//! - `words PATH`: of each line of a file, the line and what its words ask for.
 
 use crate::call::{run, run_apart};
 use crate::failing::{fail_all, fail_pairs};
@@ -34,6 +35,7 @@ use crate::files::Form;
 use crate::job::{put_random, run_random};
 use crate::stops::{keep, stop, stop_all, stop_tenths};
 use crate::trial::Trial;
+use crate::words::ask_all;
 use anyhow::{Result, bail};
 use bench_model::MemoryBench;
 use row_text::{bytes_of, lines_of};
@@ -93,6 +95,7 @@ fn sweep(rt: &HostRuntime, trial: &mut Trial, line: &str) -> Result<()> {
         ["tenths", pick, words] => stop_tenths(rt, trial, pick, words),
         ["pairs", count, words] => fail_pairs(rt, trial, count.parse::<u64>()?, words),
         ["faults", ..] => fail_all(rt, trial, line.strip_prefix("faults ").unwrap_or(line)),
+        ["words", path] => ask_all(rt, path),
         _ => change(rt, trial, line),
     }
 }

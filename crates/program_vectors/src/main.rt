@@ -18,6 +18,7 @@ mod left;
 mod lines;
 mod stops;
 mod trial;
+mod words;
 
 use anyhow::Result;
 use std::{env, fs};

@@ -1,12 +1,22 @@
-//! What words ask for, in text.
+//! What the words of lines ask for, in text.
 
+use crate::call::words_of;
 use anyhow::Result;
 use command_words::{CommandLine, FileNames, Names, Request, TextForm};
-use octets::Word;
-use std::alloc::Global;
+use std::fs;
+
+/// Prints each line of a file, and below it what its words ask for.
+pub fn ask_all(rt: &HostRuntime, path: &str) -> Result<()> {
+    let text = fs::read_to_string(rt, path)?;
+    for line in text.lines() {
+        println!(rt; "{line}")?;
+        ask(rt, line)?;
+    }
+    Ok(())
+}
 
 /// Prints what the words of a line ask for.
-pub fn ask(rt: &HostRuntime, line: &str) -> Result<()> {
+fn ask(rt: &HostRuntime, line: &str) -> Result<()> {
     let words = words_of(rt.alloc(), line)?;
     let line = CommandLine::read(rt.alloc(), &words)?;
     match line.request() {
@@ -14,19 +24,6 @@ pub fn ask(rt: &HostRuntime, line: &str) -> Result<()> {
         Some(request) => show(rt, &request)?,
     }
     Ok(())
-}
-
-/// The words of a line.
-fn words_of(alloc: Global, line: &str) -> Result<Vec<Word>> {
-    let mut words = Vec::new(alloc);
-    for text in line.split_whitespace() {
-        let text = match text {
-            "\"\"" => "",
-            _ => text,
-        };
-        words.push(Word::copy(alloc, text)?)?;
-    }
-    Ok(words)
 }
 
 /// Prints a request.
