@@ -67,12 +67,18 @@ fn image_of_text(alloc: Global, text: &[u8]) -> Result<ByteMap, ImageFault> {
     read_image(alloc, text, None)
 }
 
+/// Merges the image of a text into a map.
+fn merge_text(alloc: Global, map: &mut ByteMap, text: &[u8]) -> Result<(), ImageFault> {
+    let image = image_of_text(alloc, text)?;
+    merge(alloc, map, &image)
+}
+
 #[test]
 fn equal_bytes_are_merged(rt: HostRuntime) -> Result<(), Fail> {
     let first = b":020000040800F2\n:0100000055AA\n:00000001FF\n";
     let mut map = image_of_text(rt.alloc(), first)?;
     let longer = b"\n:020000040800F2\n:02000000557732\n:00000001FF\n";
-    merge(rt.alloc(), &mut map, &image_of_text(rt.alloc(), longer)?)?;
+    merge_text(rt.alloc(), &mut map, longer)?;
     assert!(rt; map.runs() == 1);
     assert!(rt; map.run(0) == (0x0800_0000, [0x55, 0x77].as_slice()));
     let other = b":020000040800F2\n:010000006699\n:00000001FF\n";
@@ -81,18 +87,24 @@ fn equal_bytes_are_merged(rt: HostRuntime) -> Result<(), Fail> {
         old: 0x55,
         new: 0x66,
     };
-    assert!(rt; merge(rt.alloc(), &mut map, &image_of_text(rt.alloc(), other)?) == Err(conflict));
+    assert!(rt; merge_text(rt.alloc(), &mut map, other) == Err(conflict));
     assert!(rt; map.get(0x0800_0000) == Some(0x55));
     Ok(())
+}
+
+/// The image of three pieces.
+fn three_pieces(alloc: Global) -> Result<ByteMap, LayFault> {
+    let mut map = image_of(alloc, 0, &[9])?;
+    map.lay(0x11, &[2, 8, 7])?;
+    map.lay(0x20, &[4])?;
+    Ok(map)
 }
 
 /// A conflict in a later run, where the earlier runs were free: none of them is added.
 #[test]
 fn a_refused_union_adds_nothing(rt: HostRuntime) -> Result<(), Fail> {
+    let other = three_pieces(rt.alloc())?;
     let mut map = image_of(rt.alloc(), 0x10, &[1, 2, 3])?;
-    let mut other = image_of(rt.alloc(), 0, &[9])?;
-    other.lay(0x11, &[2, 8, 7])?;
-    other.lay(0x20, &[4])?;
     let conflict = ImageFault::Conflict {
         at: 0x12,
         old: 3,

@@ -1,7 +1,10 @@
 //! UF2 files by hand, by the table of a block's fields.
 
+use byte_map::ByteMap;
 use image_more::{AnyFault, Uf2Fault, read_any, read_uf2};
 use image_set::ImageFault;
+use std::alloc::Global;
+use std::process::Abort;
 use std::test::Fail;
 
 /// The bytes of the short images.
@@ -39,25 +42,34 @@ fn file(first: [u8; 512], second: [u8; 512]) -> [u8; 1024] {
     file
 }
 
+/// Asserts that a map has the four bytes and no other.
+fn expect_four(rt: &impl Abort, map: &ByteMap) {
+    assert!(rt; map.runs() == 1);
+    assert!(rt; map.run(0) == (0x0800_0000, FOUR));
+}
+
+/// Asserts what the two payloads of a file make.
+fn expect_both(rt: &HostRuntime, file: &[u8]) -> Result<(), Fail> {
+    let map = read_uf2(rt.alloc(), file)?;
+    assert!(rt; map.runs() == 1);
+    assert!(rt; map.run(0).1.len() == 512);
+    assert!(rt; map.get(0x0800_00FF) == Some(0xAA));
+    assert!(rt; map.get(0x0800_0100) == Some(0x55));
+    Ok(())
+}
+
 /// The payload of a block for main flash, from its address on; of another block nothing. Blocks stand in any order.
 #[test]
 fn payloads_for_main_flash(rt: HostRuntime) -> Result<(), Fail> {
     let four = block(0, 0x0800_0000, 4, b"\x01\x02\x03\x04");
-    let map = read_uf2(rt.alloc(), &four)?;
-    assert!(rt; map.runs() == 1);
-    assert!(rt; map.run(0) == (0x0800_0000, FOUR));
+    expect_four(&rt, &read_uf2(rt.alloc(), &four)?);
     let elsewhere = block(1, 0xFFFF_FFFF, 4, b"\x01\x02\x03\x04");
     assert!(rt; read_uf2(rt.alloc(), &elsewhere)?.runs() == 0);
     let both = file(
         block(0x2000, 0x0800_0100, 256, &[0x55; 256]),
         block(0x2000, 0x0800_0000, 256, &[0xAA; 256]),
     );
-    let map = read_uf2(rt.alloc(), &both)?;
-    assert!(rt; map.runs() == 1);
-    assert!(rt; map.run(0).1.len() == 512);
-    assert!(rt; map.get(0x0800_00FF) == Some(0xAA));
-    assert!(rt; map.get(0x0800_0100) == Some(0x55));
-    Ok(())
+    expect_both(&rt, &both)
 }
 
 /// Each refusal, in the order of the checks.
@@ -102,16 +114,24 @@ fn each_fault_at_its_block(rt: HostRuntime) {
     }
 }
 
+/// The byte that a file has at an address.
+fn byte_of(
+    alloc: Global,
+    file: &[u8],
+    raw_at: Option<u32>,
+    at: u32,
+) -> Result<Option<u8>, AnyFault> {
+    Ok(read_any(alloc, file, raw_at)?.get(at))
+}
+
 /// A file that begins as UF2 is read as it, unless an address is given; all others are read as before.
 #[test]
 fn forms_beside_uf2(rt: HostRuntime) -> Result<(), Fail> {
     let four = block(0, 0x0800_0000, 4, b"\x01\x02\x03\x04");
-    assert!(rt; read_any(rt.alloc(), &four, None)?.get(0x0800_0003) == Some(4));
-    assert!(rt; read_any(rt.alloc(), &four, Some(0))?.get(0) == Some(b'U'));
+    assert!(rt; byte_of(rt.alloc(), &four, None, 0x0800_0003)? == Some(4));
+    assert!(rt; byte_of(rt.alloc(), &four, Some(0), 0)? == Some(b'U'));
     let text = b":020000040800F2\n:0400000001020304F2\n:00000001FF\n";
-    let map = read_any(rt.alloc(), text, None)?;
-    assert!(rt; map.runs() == 1);
-    assert!(rt; map.run(0) == (0x0800_0000, FOUR));
+    expect_four(&rt, &read_any(rt.alloc(), text, None)?);
     Ok(())
 }
 
