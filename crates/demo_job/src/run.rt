@@ -44,12 +44,7 @@ pub fn demo_run(alloc: Global, seed: u32, bench: MemoryBench) -> Result<Demo, Ou
 }
 
 /// Plays the demonstration in its scene.
-fn play(
-    alloc: Global,
-    seed: u32,
-    scene: &Scene,
-    bench: MemoryBench,
-) -> Result<Demo, OutOfMemory>
+fn play(alloc: Global, seed: u32, scene: &Scene, bench: MemoryBench) -> Result<Demo, OutOfMemory>
     requires scene { IsScene seed scene.now }
     requires fresh { IsFresh seed (bench_of bench) }
     ensures { IfOk result (Shows seed bench) }

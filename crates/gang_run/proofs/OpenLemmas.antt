@@ -10,7 +10,6 @@ use Rattle.bench_model.proofs.Moments.{still_only, pairs_as, pairs_then}
 use Rattle.board_file.specs.Limits.{size_of}
 use Rattle.board_file.specs.Shown.{Shown as BoardShown, shown as board_of}
 use Rattle.flm_descriptor.specs.Shown.{Shown as AlgorithmShown}
-
 use Rattle.job_text.specs.Said.{algorithms_shown}
 use Rattle.job_text.specs.Stands.{StandsFor}
 use Rattle.job_text.specs.declared.job.Job.{Job}

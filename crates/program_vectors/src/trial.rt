@@ -161,13 +161,7 @@ pub fn bench_with(alloc: Global, cells: &[u8], job: &[u8], fails: Fails) -> Resu
 }
 
 /// The same with so much room for the job file.
-fn bench_in(
-    alloc: Global,
-    cells: &[u8],
-    job: &[u8],
-    room: u64,
-    fails: Fails,
-) -> Result<MemoryBench>
+fn bench_in(alloc: Global, cells: &[u8], job: &[u8], room: u64, fails: Fails) -> Result<MemoryBench>
     ensures { IfOk result (λ bench. (bench_of bench).operation ≡ None) }
 {
     let cells = &cells[..cells.len().min(MOST)];
