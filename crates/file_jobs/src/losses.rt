@@ -4,9 +4,9 @@ use crate::cached_disk::{CachedDisk, Remains};
 use crate::cached_file::{Fate, Loss};
 use anyhow::{Context, Result, bail, ensure};
 use disk_files::{DiskBench, WindowedDisk};
-use flm_cli::flmprog;
 use octets::Word;
 use outside_io::{MemoryInputs, MemorySink};
+use promise::flash;
 use std::alloc::Global;
 use std::{fmt, fs};
 
@@ -137,7 +137,7 @@ impl Job {
         let mut inputs = self.inputs()?;
         let mut out = MemorySink::new(alloc, 4096, &[])?;
         let mut err = MemorySink::new(alloc, 256, &[])?;
-        let status = flmprog(alloc, &given, &mut bench, &mut inputs, &mut out, &mut err);
+        let status = flash(alloc, &given, &mut bench, &mut inputs, &mut out, &mut err);
         Ok((status, bench.into_disk().into_disk()))
     }
 

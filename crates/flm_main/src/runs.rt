@@ -3,10 +3,10 @@
 use crate::arguments::{Arguments, read_arguments};
 use crate::benches::open_benches;
 use faults::OutOfMemory;
-use flm_cli::{flmgang, flmprog};
 use host_files::{FileBench, FileInputs, HeldStreams, ProgressLine, StdSink, hold_streams};
 use octets::Word;
 use outside_io::Sink;
+use promise::{flash, flash_gang};
 use std::process::ExitCode;
 
 /// The status where there is no memory for the words or the benches.
@@ -61,7 +61,7 @@ fn call_one(
     err.wipe_first(line.share());
     bench.show_on(line.share());
     let mut inputs = FileInputs::new(rt);
-    Ok(flmprog(
+    Ok(flash(
         rt.alloc(),
         arguments.words(),
         &mut bench,
@@ -78,7 +78,7 @@ fn call_many(rt: HostRuntime, line: &ProgressLine, words: &[Word]) -> Result<u8,
     out.wipe_first(line.share());
     err.wipe_first(line.share());
     let mut benches = open_benches(rt, line, words)?;
-    Ok(flmgang(
+    Ok(flash_gang(
         rt.alloc(),
         words,
         benches.as_mut_slice(),

@@ -2,9 +2,9 @@
 
 use anyhow::Result;
 use bench_model::Bench;
-use gang_commands::flmgang;
 use octets::Word;
 use outside_io::MemorySink;
+use promise::flash_gang;
 use std::alloc::Global;
 use std::str;
 
@@ -40,7 +40,7 @@ impl Streams {
         benches: &mut [B],
     ) -> Result<u8> {
         let words = words_of(alloc, count)?;
-        Ok(flmgang(alloc, &words, benches, &mut self.out, &mut self.err))
+        Ok(flash_gang(alloc, &words, benches, &mut self.out, &mut self.err))
     }
 
     /// Prints what was put on standard output and on standard error by a call with so many words, and its status.

@@ -4,9 +4,9 @@ use crate::files::Files;
 use crate::trial::{Fails, Trial};
 use anyhow::Result;
 use bench_model::{Bench, MemoryBench};
-use flm_cli::flmprog;
 use octets::Word;
 use outside_io::{MemoryInputs, MemorySink};
+use promise::flash;
 use std::alloc::Global;
 use std::str;
 
@@ -46,7 +46,7 @@ pub fn words_of(alloc: Global, line: &str) -> Result<Vec<Word>> {
 
 /// The status of a call with these words.
 pub fn answer<B: Bench>(alloc: Global, words: &[Word], bench: &mut B, outside: &mut Outside) -> u8 {
-    flmprog(
+    flash(
         alloc,
         words,
         bench,

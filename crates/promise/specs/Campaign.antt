@@ -10,8 +10,7 @@ use Rattle.command_words.specs.Words.{Command, program, begin, resume, revert}
 use Rattle.promise.specs.Job.{Job, laid, aim_of}
 use Rattle.promise.specs.Promise.{Call, IsRefused, IsBegun, Keeps}
 
--- A later call, of `resume` or `revert`: the call from its entry to its exit had no stop ended it, and the moment at which it ended or was
--- stopped.
+-- A later call, of `resume` or `revert`: the call as it would be had no stop ended it, and the moment at which it ended or was stopped.
 pub record Later : Type 1 where
   pub goal : Goal
   pub call : Call
@@ -42,8 +41,8 @@ abbrev pub AllKeep : List Later → Type 0
 AllKeep [] = Unit {0}
 AllKeep (next ∷ rest) = Keeps (command_to next.goal) next.call × AllKeep rest
 
--- Each call has one moment from which it closes the job, such that a stop at any moment leaves the device untouched, or the job whole, or
--- the job closed with the goal of the last call that was at its close by then; and where it answers 0 it left its own goal.
+-- Each call has a moment from which it closes the job. A stop leaves the device untouched, or the job whole, or the job closed, with the
+-- goal of the last call that was at its close by then; and where a call answers 0 it left its own goal.
 abbrev pub AllSafe : BenchState → Job → Option (List ℕ) → List Later → Type 0
 AllSafe start job last [] = Unit {0}
 AllSafe start job last (next ∷ rest) = (closing : ℕ)

@@ -8,8 +8,7 @@ use Rattle.command_words.specs.Words.{Command, program, begin, resume, revert}
 use Rattle.promise.specs.Job.{Job, laid}
 use Rattle.promise.specs.Texts.{Says, IsOfFiles}
 
--- A call: what stands under each name; the job file and the cells, and the counts of faults of inputs and output, at its entry and at its
--- exit; and the status that it answers.
+-- A call: what stands under each name; job file, cells, and counts of faults at its entry and at its exit; and the status that it answers.
 pub record Call : Type 1 where
   pub under : List ℕ → Option (List ℕ)
   pub old : BenchState
@@ -28,9 +27,8 @@ pub record IsRefused (call : Call) : Type 0 where
   pub not_done : call.status ≢ 0
   pub stopped : AtEachStop call (λ moment file cells. Left call.old file cells)
 
--- A call carries a job to a goal. With status 0 it is done: the cells are the goal, no operation is open, and the file is closed behind the
--- job. Up to the moment of its close a stop leaves what has First, or the job whole in its file. From then on the cells are the goal, and
--- the file is whole or closed.
+-- A call carries a job to a goal. With status 0 the cells are the goal, no operation is open, and the file is closed behind the job. Up to
+-- its close a stop leaves what has First, or the job whole in its file; from then on the cells are the goal, and the file is whole or closed.
 pub record Carries (call : Call) (job : Job) (goal : List ℕ) (First : List ℕ → List ℕ → Type 0) : Type 0 where
   pub says : Says job
   pub done : call.status ≡ 0 → IsDone job.body goal call.new
@@ -44,8 +42,7 @@ pub record IsBegun (call : Call) (asked : FilesAsked) (job : Job) : Type 0 where
   pub free : IsFree call.old.file
   pub snapshot : SameOutside call.old.operation call.old.cells job.snapshot
 
--- `program` begins a job, and carries it to its image laid over the snapshot. Before its close a stop leaves the device untouched, or the
--- job whole.
+-- `program` begins a job, and carries it to its image laid over the snapshot. Before its close a stop leaves it untouched, or the job whole.
 pub record Programs (call : Call) (asked : FilesAsked) : Type 0 where
   pub job : Job
   pub begun : IsBegun call asked job
