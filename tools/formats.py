@@ -410,58 +410,107 @@ class NotAJob(Exception):
         self.at = at
 
 
+class Damaged(Exception):
+    pass
+
+
 class Job:
-    """A job file: board, algorithms, image and where the snapshot begins. Raises NotAJob with the place of the first check that fails."""
+    """A job file: board, algorithms, image and where the snapshot begins. Raises NotAJob with the place of the first check that fails, and Damaged
+    where a file of the second format keeps another hash than that of its bytes."""
 
     def __init__(self, data):
-        end = len(data)
-        if end < 24:
-            raise NotAJob(end)
-        if data[1:8] != b"FLMJOB1":
+        self.data = data
+        if len(data) < 24:
+            raise NotAJob(len(data))
+        if data[1:8] == b"FLMJOB2":
+            count, cells = self.second()
+        elif data[1:8] == b"FLMJOB1":
+            count, cells = self.first()
+        else:
             raise NotAJob(1)
-        board, flm, count, cells = struct.unpack_from("<IIII", data, 8)
-        self.board = self.read(data, 24, board, Board)
-        self.algorithm = self.read(data, 24 + board, flm, self.on_board)
-        if cells != self.board.regions[0][1]:
+        for _ in range(count):
+            self.run()
+        self.snapshot_at = self.at
+        if self.at + cells != len(data):
+            raise NotAJob(len(data))
+
+    def first(self):
+        board, flm, count, cells = struct.unpack_from("<IIII", self.data, 8)
+        self.texts(24, board, [flm], 24)
+        if cells != sum(it[1] for it in self.board.regions):
             raise NotAJob(20)
         if count == 0:
             raise NotAJob(16)
-        self.image, at = {}, 24 + board + flm
-        for _ in range(count):
-            at = self.run(data, at)
-        self.snapshot_at = at
-        if at + cells != end:
-            raise NotAJob(end)
+        return count, cells
 
-    def read(self, data, at, length, reader):
-        if at + length > len(data):
-            raise NotAJob(len(data))
+    def second(self):
+        if len(self.data) < 64:
+            raise NotAJob(len(self.data))
+        if hashlib.sha256(self.data[40:]).digest() != self.data[8:40]:
+            raise Damaged()
+        board, files, flm, other, count, cells = struct.unpack_from("<6I", self.data, 40)
+        self.texts(64, board, [flm, other][:files], 44, other if files == 1 else 0, files)
+        if cells != sum(it[1] for it in self.board.regions):
+            raise NotAJob(60)
+        if count == 0:
+            raise NotAJob(56)
+        return count, cells
+
+    def texts(self, at, board, lengths, fits, spare=0, files=1):
+        self.board = self.read(at, board, Board)
+        if len(self.board.regions) != files:
+            raise NotAJob(fits)
+        if spare:
+            raise NotAJob(52)
+        at += board
+        self.algorithms = []
+        for region, length in zip(self.board.regions, lengths):
+            self.algorithms.append(self.read(at, length, lambda text: self.on_board(text, region)))
+            at += length
+        self.image, self.at = {}, at
+
+    def read(self, at, length, reader):
+        if at + length > len(self.data):
+            raise NotAJob(len(self.data))
         try:
-            return reader(data[at:at + length])
+            return reader(self.data[at:at + length])
         except Refused:
             raise NotAJob(at) from None
 
-    def on_board(self, data):
-        found = Algorithm(data)
-        if (found.base, found.size) != self.board.regions[0][:2] or found.need(self.board.stack) > self.board.ram_size or len(self.board.regions) > 1:
+    def on_board(self, text, region):
+        found = Algorithm(text)
+        if (found.base, found.size) != region[:2] or found.need(self.board.stack) > self.board.ram_size:
             raise Refused("device")
         return found
 
-    def run(self, data, at):
+    def run(self):
+        at, data = self.at, self.data
         if at + 8 > len(data):
             raise NotAJob(len(data))
         address, length = struct.unpack_from("<II", data, at)
-        base, size = self.board.regions[0][:2]
-        least = max(self.image) + 2 if self.image else base
         if at + 8 + length > len(data):
             raise NotAJob(len(data))
-        if length == 0 or address < least or address + length > base + size:
+        held = all(any(it[0] <= x < it[0] + it[1] for it in self.board.regions) for x in range(address, address + length))
+        if length == 0 or self.image and address < max(self.image) + 2 or not held:
             raise NotAJob(at)
         self.image.update(enumerate(data[at + 8:at + 8 + length], address))
-        return at + 8 + length
+        self.at = at + 8 + length
 
     def said(self):
-        return self.board.said() + self.algorithm.said() + said_of_image(self.image) + struct.pack("<Q", self.snapshot_at)
+        algorithms = b"".join(it.said() for it in self.algorithms)
+        return self.board.said() + algorithms + said_of_image(self.image) + struct.pack("<Q", self.snapshot_at)
+
+
+def job_file(board, files, image, cells, second=True):
+    """The file of an open job: its texts, its image as a map, and the snapshot."""
+    found = runs(image)
+    texts = board + b"".join(files)
+    body = b"".join(words(at, len(data)) + bytes(data) for at, data in found) + cells
+    if not second:
+        return b"\xa5FLMJOB1" + words(len(board), len(files[0]), len(found), len(cells)) + texts + body
+    lengths = ([len(it) for it in files] + [0])[:2]
+    rest = words(len(board), len(files), *lengths, len(found), len(cells)) + texts + body
+    return b"\xa5FLMJOB2" + hashlib.sha256(rest).digest() + rest
 
 
 def is_free(data):

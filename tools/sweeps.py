@@ -7,7 +7,7 @@ The list of sweeps is crates/file_vectors/data/sweeps.txt: `WHAT; READER HOW FRO
 import os
 import re
 
-from formats import Algorithm, Elf, Job, NotAJob, Refused, fnv, is_free, read_hex, read_srec, said_of_image, words
+from formats import Algorithm, Damaged, Elf, Job, NotAJob, Refused, fnv, is_free, read_hex, read_srec, said_of_image, words
 
 DATA = "crates/file_vectors/data/"
 VALUES = {
@@ -40,6 +40,8 @@ def answer(reader, data):
         return "%s %08X" % (thing, fnv([read(data)]))
     except NotAJob as fault:
         return "NotAJob Length" if fault.at == len(data) else "NotAJob At%d" % fault.at
+    except Damaged:
+        return "Damaged"
     except Refused as fault:
         return str(fault)
 

@@ -1,0 +1,132 @@
+#!/usr/bin/env python3
+"""The job files that `job_vectors` compares and changes, by the format, and what it has to print of files that are made of them.
+
+  python3 tools/job_files.py write FOLDER     writes job.bin, first.bin and two.bin, as they stand in crates/job_vectors/data
+  python3 tools/job_files.py hashes NAME      prints the list of changes of that name (changes.txt, two.txt) with the hashes that its files keep
+  python3 tools/job_files.py first            prints what is made of a job of the first format: in crates/job_vectors/stdout behind that line
+  python3 tools/job_files.py second           the same of one of the second format
+  python3 tools/job_files.py two              the same of one of two regions, behind its line on cells
+
+They are called from the repository's top. Each line of a list is `WHAT: CHANGE..`, a CHANGE `AT=BYTES`, `cut=LENGTH` or `more=BYTES`."""
+import hashlib
+import os
+import sys
+
+from formats import Damaged, Job, NotAJob, is_free, job_file
+
+DATA = "crates/job_vectors/data/"
+
+
+def read(name):
+    with open(DATA + name, "rb") as file:
+        return file.read()
+
+
+def files():
+    """The three job files: of the small board in both formats, and of two regions."""
+    small, two, flm, second = read("small.toml"), read("two.toml"), read("algorithm.flm"), read("second.flm")
+    image = {0x08000000 + k: k + 1 for k in range(4)}
+    both = dict(image)
+    both[0x1FFFF000] = 0x55
+    return {"job.bin": job_file(small, [flm], image, b"\xff" * 1024), "first.bin": job_file(small, [flm], image, b"\xff" * 1024, False),
+            "two.bin": job_file(two, [flm, second], both, b"\xff" * 1280)}
+
+
+def kind(data, job):
+    if is_free(data):
+        return "free %d" % len(data)
+    try:
+        Job(data)
+    except Damaged:
+        return "damaged"
+    except NotAJob as fault:
+        return "not a job at %d" % fault.at
+    return "job" if data == job else "another job"
+
+
+def changed(job, changes):
+    data = bytearray(job)
+    for change in changes.split():
+        at, value = change.split("=")
+        if at == "cut":
+            del data[int(value):]
+        elif at == "more":
+            data += bytes.fromhex(value)
+        else:
+            data[int(at):int(at) + len(value) // 2] = bytes.fromhex(value)
+    return bytes(data)
+
+
+def put_prefixes(job):
+    found = [kind(job[:length], job) for length in range(len(job))]
+    for length, it in enumerate(found):
+        if it != "damaged" and it != "not a job at %d" % length:
+            print("%d bytes: %s" % (length, it))
+    print("%d prefixes: not a job at their length" % sum(it.startswith("not a job") for it in found))
+    if "damaged" in found:
+        print("%d prefixes: damaged" % found.count("damaged"))
+
+
+def put_changes(job, name):
+    for line in read(name).decode().splitlines():
+        what, changes = line.split(":")
+        print("%s: %s" % (what, kind(changed(job, changes), job)))
+
+
+def put_single_bytes(job):
+    found = [kind(job[:at] + bytes([job[at] ^ 1]) + job[at + 1:], job) for at in range(len(job))]
+    counts = [sum(it.startswith(name) for it in found) for name in ("free", "not a job", "damaged")]
+    print("single bytes: %d free, %d not a job, %d damaged, %d jobs" % (*counts, len(found) - sum(counts)))
+
+
+def hashes(name):
+    """The list again, with the hashes made anew where a line says `with its hash`: each run of bytes that differ from the job's, and its end."""
+    job = files()["two.bin" if name == "two.txt" else "job.bin"]
+    for line in read(name).decode().splitlines():
+        what, changes = line.split(":")
+        if what.endswith("with its hash"):
+            data = changed(job, changes)
+            data = data[:8] + hashlib.sha256(data[40:]).digest() + data[40:]
+            changes = "".join(" " + it for it in differences(job, data))
+        print("%s:%s" % (what, changes))
+
+
+def differences(old, new):
+    found = []
+    for at in range(min(len(old), len(new))):
+        if old[at] != new[at]:
+            if found and at == found[-1][1]:
+                found[-1][1] = at + 1
+            else:
+                found.append([at, at + 1])
+    changes = ["%d=%s" % (start, new[start:stop].hex().upper()) for start, stop in found]
+    if len(new) < len(old):
+        changes.append("cut=%d" % len(new))
+    elif len(new) > len(old):
+        changes.append("more=%s" % new[len(old):].hex().upper())
+    return changes
+
+
+def main(words):
+    os.chdir(os.path.join(os.path.dirname(os.path.abspath(__file__)), ".."))
+    made = files()
+    if words[0] == "write":
+        for name, data in made.items():
+            with open(os.path.join(words[1], name), "wb") as file:
+                file.write(data)
+    elif words[0] == "hashes":
+        hashes(words[1])
+    elif words[0] == "first":
+        put_prefixes(made["first.bin"])
+        put_changes(made["first.bin"], "first.txt")
+    elif words[0] == "second":
+        put_prefixes(made["job.bin"])
+        put_changes(made["job.bin"], "changes.txt")
+        put_single_bytes(made["job.bin"])
+    elif words[0] == "two":
+        put_prefixes(made["two.bin"])
+        put_changes(made["two.bin"], "two.txt")
+
+
+if __name__ == "__main__":
+    main(sys.argv[1:])
