@@ -5,6 +5,8 @@ use byte_map::ByteMap;
 use image_hex::read_hex;
 use image_more::{write_hex, write_srec};
 use outside_io::MemorySink;
+use std::alloc::Global;
+use std::process::Abort;
 use std::test::Fail;
 
 const EMPTY: &[u8] = b":00000001FF\n";
@@ -33,16 +35,16 @@ fn fill(map: &mut ByteMap) -> bool {
 }
 
 /// Asserts what the map's text is as Intel HEX.
-fn expect_hex(rt: &HostRuntime, map: &ByteMap, text: &[u8]) -> Result<(), Fail> {
-    let mut out = MemorySink::new(rt.alloc(), 4096, &[])?;
+fn expect_hex(rt: &impl Abort, alloc: Global, map: &ByteMap, text: &[u8]) -> Result<(), Fail> {
+    let mut out = MemorySink::new(alloc, 4096, &[])?;
     assert!(rt; write_hex(map, &mut out).is_ok());
     assert!(rt; out.bytes() == text);
     Ok(())
 }
 
 /// Asserts what the map's text is as S-records.
-fn expect_srec(rt: &HostRuntime, map: &ByteMap, text: &[u8]) -> Result<(), Fail> {
-    let mut out = MemorySink::new(rt.alloc(), 4096, &[])?;
+fn expect_srec(rt: &impl Abort, alloc: Global, map: &ByteMap, text: &[u8]) -> Result<(), Fail> {
+    let mut out = MemorySink::new(alloc, 4096, &[])?;
     assert!(rt; write_srec(map, &mut out).is_ok());
     assert!(rt; out.bytes() == text);
     Ok(())
@@ -52,18 +54,18 @@ fn expect_srec(rt: &HostRuntime, map: &ByteMap, text: &[u8]) -> Result<(), Fail>
 fn rows_as_objcopy_writes_them(rt: HostRuntime) -> Result<(), Fail> {
     let mut map = ByteMap::new(rt.alloc());
     assert!(rt; fill(&mut map));
-    expect_hex(&rt, &map, HEX)?;
-    expect_srec(&rt, &map, SREC)
+    expect_hex(&rt, rt.alloc(), &map, HEX)?;
+    expect_srec(&rt, rt.alloc(), &map, SREC)
 }
 
 /// Four bytes, by hand; and no byte at all.
 #[test]
 fn short_texts(rt: HostRuntime) -> Result<(), Fail> {
     let mut map = ByteMap::new(rt.alloc());
-    expect_hex(&rt, &map, EMPTY)?;
+    expect_hex(&rt, rt.alloc(), &map, EMPTY)?;
     map.lay(0x0800_0000, b"\x01\x02\x03\x04")?;
-    expect_hex(&rt, &map, FOUR_HEX)?;
-    expect_srec(&rt, &map, FOUR_SREC)
+    expect_hex(&rt, rt.alloc(), &map, FOUR_HEX)?;
+    expect_srec(&rt, rt.alloc(), &map, FOUR_SREC)
 }
 
 /// A text goes out in pieces of up to 4,096 bytes: here 92 rows behind the record of type 04, and then the rest. A put that fails leaves
@@ -72,28 +74,29 @@ fn short_texts(rt: HostRuntime) -> Result<(), Fail> {
 fn each_put_fails_in_turn(rt: HostRuntime) -> Result<(), Fail> {
     let mut map = ByteMap::new(rt.alloc());
     map.lay(0x0800_0000, &[0x5A; 2048])?;
-    expect_beginnings(&rt, &map)?;
-    expect_back(&rt, &map)
+    expect_beginnings(&rt, rt.alloc(), &map)?;
+    expect_back(&rt, rt.alloc(), &map)
 }
 
 /// Asserts that the map's text has 5,660 bytes, of which a failing put leaves a beginning.
-fn expect_beginnings(rt: &HostRuntime, map: &ByteMap) -> Result<(), Fail> {
-    let mut whole = MemorySink::new(rt.alloc(), 8192, &[])?;
+fn expect_beginnings(rt: &impl Abort, alloc: Global, map: &ByteMap) -> Result<(), Fail> {
+    let mut whole = MemorySink::new(alloc, 8192, &[])?;
     assert!(rt; write_hex(map, &mut whole).is_ok());
     assert!(rt; whole.bytes().len() == 5660);
-    expect_beginning(rt, map, whole.bytes(), 1, 0)?;
-    expect_beginning(rt, map, whole.bytes(), 2, 4064)
+    expect_beginning(rt, alloc, map, whole.bytes(), 1, 0)?;
+    expect_beginning(rt, alloc, map, whole.bytes(), 2, 4064)
 }
 
 /// Asserts that so many bytes of the map's text stand where this put fails.
 fn expect_beginning(
-    rt: &HostRuntime,
+    rt: &impl Abort,
+    alloc: Global,
     map: &ByteMap,
     whole: &[u8],
     put: u64,
     len: usize,
 ) -> Result<(), Fail> {
-    let mut out = MemorySink::new(rt.alloc(), 8192, &[put])?;
+    let mut out = MemorySink::new(alloc, 8192, &[put])?;
     assert!(rt; write_hex(map, &mut out).is_err());
     assert!(rt; out.bytes().len() == len);
     assert!(rt; whole.starts_with(out.bytes()));
@@ -101,15 +104,15 @@ fn expect_beginning(
 }
 
 /// Asserts that the text of a map of one run is read back where the third put would fail.
-fn expect_back(rt: &HostRuntime, map: &ByteMap) -> Result<(), Fail> {
-    let mut out = MemorySink::new(rt.alloc(), 8192, &[3])?;
+fn expect_back(rt: &impl Abort, alloc: Global, map: &ByteMap) -> Result<(), Fail> {
+    let mut out = MemorySink::new(alloc, 8192, &[3])?;
     assert!(rt; write_hex(map, &mut out).is_ok());
-    expect_same(rt, map, out.bytes())
+    expect_same(rt, alloc, map, out.bytes())
 }
 
 /// Asserts that a text is of the same map of one run.
-fn expect_same(rt: &HostRuntime, map: &ByteMap, text: &[u8]) -> Result<(), Fail> {
-    let read = read_hex(rt.alloc(), text)?;
+fn expect_same(rt: &impl Abort, alloc: Global, map: &ByteMap, text: &[u8]) -> Result<(), Fail> {
+    let read = read_hex(alloc, text)?;
     assert!(rt; read.runs() == 1);
     assert!(rt; map.runs() == 1);
     assert!(rt; read.run(0) == map.run(0));

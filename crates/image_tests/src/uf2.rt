@@ -49,8 +49,8 @@ fn expect_four(rt: &impl Abort, map: &ByteMap) {
 }
 
 /// Asserts what the two payloads of a file make.
-fn expect_both(rt: &HostRuntime, file: &[u8]) -> Result<(), Fail> {
-    let map = read_uf2(rt.alloc(), file)?;
+fn expect_both(rt: &impl Abort, alloc: Global, file: &[u8]) -> Result<(), Fail> {
+    let map = read_uf2(alloc, file)?;
     assert!(rt; map.runs() == 1);
     assert!(rt; map.run(0).1.len() == 512);
     assert!(rt; map.get(0x0800_00FF) == Some(0xAA));
@@ -69,7 +69,7 @@ fn payloads_for_main_flash(rt: HostRuntime) -> Result<(), Fail> {
         block(0x2000, 0x0800_0100, 256, &[0x55; 256]),
         block(0x2000, 0x0800_0000, 256, &[0xAA; 256]),
     );
-    expect_both(&rt, &both)
+    expect_both(&rt, rt.alloc(), &both)
 }
 
 /// Each refusal, in the order of the checks.
