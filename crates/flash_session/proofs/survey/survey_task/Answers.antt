@@ -42,12 +42,12 @@ survey_region-requires-clause-inside g c =
 
 pub returns-in_err-first-clause-store : goal.returns-in_err-first-clause-store
 returns-in_err-first-clause-store g c =
-    let p = err_from_is_err_and c.from_residual-in_err-first.result c.from_residual-in_err-first.ensures.1 in
+    let p = err_from_is_err_and c.from_residual.result c.from_residual.ensures.1 in
     handed is_store_fault Task _ _ _ c.in_err-first.field-0.0 (p.1 ∙ ap (λ (e : SurveyFault). refused Task e) p.2) c.in_err-first.ensures.store
 
 pub returns-in_err-first-clause-device : goal.returns-in_err-first-clause-device
 returns-in_err-first-clause-device g c =
-    let p = err_from_is_err_and c.from_residual-in_err-first.result c.from_residual-in_err-first.ensures.1 in
+    let p = err_from_is_err_and c.from_residual.result c.from_residual.ensures.1 in
     handed is_device_fault Task _ _ _ c.in_err-first.field-0.0 (p.1 ∙ ap (λ (e : SurveyFault). refused Task e) p.2) c.in_err-first.ensures.device
 
 pub returns-clause-reads : goal.returns-clause-reads
