@@ -1,5 +1,5 @@
 -- What each call on a host's files does.
-use Rattle.std.specs.Prelude.{◌≡◌, ◌≤◌, ◌<◌, ◌+◌, ℕ, List, Bool, true, false, length, take, drop, ◌++◌, IsTrue, Result, IfOk, OnOk, OnErr, Some, None, Option}
+use Rattle.std.specs.Prelude.{◌≡◌, ◌≤◌, ◌+◌, ℕ, List, Bool, true, false, length, take, drop, ◌++◌, IsTrue, Result, IfOk, OnOk, OnErr, Some, None, Option}
 use Rattle.bench_model.specs.History.{left, Leaves, AddsNothing, LeftOnly, Stays}
 use Rattle.bench_model.specs.Calls.{Torn, Cut, Shortened, Follows}
 use Rattle.disk_files.specs.DiskState.{DiskState, job_half, range_half, JobAsWas, CellsAsWere}
@@ -12,18 +12,15 @@ pub record OnlyReadsJob (tells : Bool) (old new : DiskState) : Type 0 where
   pub moments : AddsNothing (job_half old) (job_half new)
   pub cells : CellsAsWere old new
 
--- a read gives some of the bytes, and at least one where all that it asks for are there
+-- a read gives some of the bytes
 pub record ReadsSome {E : Type 0} (tells : Bool) (held : List ℕ) (at : ℕ) (before after : List ℕ) (result : Result ℕ E) : Type 0 where
   pub count : IfOk result (λ n. n ≤ length before)
   pub ok : IsTrue tells → IfOk result (λ n. after ≡ take n (drop at held) ++ drop n before)
-  pub some : IsTrue tells → IfOk result (λ n. at + length before ≤ length held → 0 < length before → 0 < n)
 
--- A write puts as many of the bytes as it says, at least one where there are any; in the rest of the range, and on an error in all of it,
--- any may stand.
+-- A write puts as many of the bytes as it says; in the rest of the range, and on an error in all of it, any may stand.
 pub record WritesSome {E : Type 0} (tells : Bool) (old new : List ℕ) (at : ℕ) (bytes : List ℕ) (result : Result ℕ E) : Type 0 where
   pub count : IfOk result (λ n. n ≤ length bytes)
   pub some : IsTrue tells → IfOk result (λ n. take (at + n) new ≡ take at old ++ take n bytes)
-  pub more : IsTrue tells → IfOk result (λ n. 0 < length bytes → 0 < n)
   pub torn : IsTrue tells → Torn at (length bytes) old new
 
 -- a write changes no entry

@@ -1,5 +1,5 @@
 -- When calls on a host's files fail.
-use Rattle.std.specs.Prelude.{◌≡◌, ◌≤◌, ◌<◌, ◌^◌, ◌+◌, ◌⊎◌, false, length, Result, IsOk, IsErr, IfErr, OnOk, OnErr}
+use Rattle.std.specs.Prelude.{◌≡◌, ◌≤◌, ◌<◌, ◌^◌, ◌+◌, ◌⊎◌, ℕ, false, length, Result, IsOk, IsErr, IfOk, IfErr, OnOk, OnErr}
 use Rattle.std.specs.IoError.{error_kind}
 use Rattle.std.specs.declared.io.Error.{Error}
 use Rattle.std.specs.declared.io.ErrorKind.TheVariants.{Interrupted}
@@ -18,10 +18,12 @@ pub record CallEnds {T E : Type 0} (old new : DiskState) (result : Result T E) :
   pub interrupted : new.interrupted ≡ old.interrupted
   pub syncs : KeepsSyncs old new
 
--- the same of a call that can be made again where a signal interrupted it, which is no error
-pub record CallMayStop {T : Type 0} (old new : DiskState) (result : Result T Error) : Type 0 where
+-- The same of a read or a write of so many bytes. It can be made again where a signal interrupted it, which is no error. It moves as many bytes as
+-- it says; where it moves none of some, that is one.
+pub record CallMoves (old new : DiskState) (wanted : ℕ) (result : Result ℕ Error) : Type 0 where
   pub later : old.errors ≤ new.errors
-  pub on_ok : IsOk result → (new.errors ≡ old.errors) × (new.interrupted ≡ old.interrupted)
+  pub moved : IfOk result (λ n. 0 < n → (new.errors ≡ old.errors) × (new.interrupted ≡ old.interrupted))
+  pub nothing : IfOk result (λ n. n ≡ 0 → 0 < wanted → Rose old.errors new.errors)
   pub stopped : IfErr result (λ fault. error_kind fault ≡ Interrupted → (new.errors ≡ old.errors) × (new.interrupted ≡ old.interrupted + 1))
   pub failed : IfErr result (λ fault. (error_kind fault ≡ Interrupted → ⊥) → Rose old.errors new.errors)
   pub syncs : KeepsSyncs old new

@@ -4,7 +4,7 @@ ghost use Rattle.std.specs.Option.{ForSome};
 ghost use Rattle.bench_model.specs.History.{left};
 ghost use Rattle.bench_model.specs.State.{SameOutside};
 ghost use Rattle.disk_files.specs.DiskState.{DiskState, job_half, range_half};
-ghost use Rattle.disk_files.specs.Fails.{CallEnds, CallMayStop, FileSyncEnds, CellsSyncEnds};
+ghost use Rattle.disk_files.specs.Fails.{CallEnds, CallMoves, FileSyncEnds, CellsSyncEnds};
 ghost use Rattle.disk_files.specs.DiskDoes.{OnlyReadsJob, ReadsSome, WritesSome, WritesJob, SetsJobLength, SyncsJob, SyncsFolder, SyncsBytes, WritesBytes};
 ghost use Rattle.disk_files.specs.DiskDoes.{ReadsBytes, OpensRange, ClosesRange, InRange};
 
@@ -13,7 +13,8 @@ use std::io;
 /// A job file and a cells file. Offsets and lengths are in bytes, of which one is a cell.
 ///
 /// Each call may fail, and counts that. What it may leave then is said by its clauses as well. A read or a write that a signal interrupted is
-/// no error: it can be made again. Once a sync has failed no later one of the same file brings anything to the disk for sure. The job
+/// no error: it can be made again. One that answers that it moved none of some bytes is one, as at the end of a file that others have cut. Once a
+/// sync has failed no later one of the same file brings anything to the disk for sure. The job
 /// file's entry in its folder has to be
 /// on the disk before any other call on it than `job_open` and `folder_sync`.
 pub trait Disk {
@@ -48,7 +49,7 @@ pub trait Disk {
         ensures reads { ReadsSome tells (state self.old).file at out.old out.new result }
         ensures entry { IsTrue tells → (state self.new).entry ≡ (state self.old).entry }
         ensures does { OnlyReadsJob tells (state self.old) (state self.new) }
-        ensures fails { IsTrue tells → CallMayStop (state self.old) (state self.new) result };
+        ensures fails { IsTrue tells → CallMoves (state self.old) (state self.new) (length out.old) result };
 
     /// Writes some bytes of the job file, while no cell is written and not synced.
     fn job_write_at(&mut self, at: u64, bytes: &[u8]) -> io::Result<usize>
@@ -57,7 +58,7 @@ pub trait Disk {
         requires synced { IsTrue tells → (state self.old).unsynced ≡ false }
         ensures writes { WritesSome tells (state self.old).file (state self.new).file at bytes.now result }
         ensures does { WritesJob tells (state self.old) (state self.new) at (length bytes.now) }
-        ensures fails { IsTrue tells → CallMayStop (state self.old) (state self.new) result };
+        ensures fails { IsTrue tells → CallMoves (state self.old) (state self.new) (length bytes.now) result };
 
     /// Cuts the job file, while no cell is written and not synced.
     fn job_set_len(&mut self, len: u64) -> io::Result<()>
@@ -82,14 +83,14 @@ pub trait Disk {
     fn cells_read_at(&mut self, at: u64, out: &mut [u8]) -> io::Result<usize>
         ensures reads { ReadsSome tells (state self.old).bytes at out.old out.new result }
         ensures does { ReadsBytes tells (state self.old) (state self.new) }
-        ensures fails { IsTrue tells → CallMayStop (state self.old) (state self.new) result };
+        ensures fails { IsTrue tells → CallMoves (state self.old) (state self.new) (length out.old) result };
 
     /// Writes some of the cells, in the open range.
     fn cells_write_at(&mut self, at: u64, bytes: &[u8]) -> io::Result<usize>
         requires { IsTrue tells → InRange at (length bytes.now) (state self.old).operation }
         ensures writes { WritesSome tells (state self.old).bytes (state self.new).bytes at bytes.now result }
         ensures does { WritesBytes tells (state self.old) (state self.new) }
-        ensures fails { IsTrue tells → CallMayStop (state self.old) (state self.new) result };
+        ensures fails { IsTrue tells → CallMoves (state self.old) (state self.new) (length bytes.now) result };
 
     /// Says that the cells of a range may be written from now on.
     fn open_range(&mut self, at: u32, len: u32) -> io::Result<()>

@@ -144,7 +144,10 @@ impl<B: Bench + Drop> Disk for MemoryDisk<B> {
         let wanted = out.len() as u64;
         match self.bench.file_len() {
             Ok(len) if wanted <= len && at <= len - wanted => {}
-            Ok(_) => return Ok(0),
+            Ok(_) => {
+                self.errors.raise();
+                return Ok(0);
+            }
             Err(_) => {
                 self.errors.raise();
                 return Err(io::Error::from(ErrorKind::Other));
@@ -199,11 +202,13 @@ impl<B: Bench + Drop> Disk for MemoryDisk<B> {
     fn cells_read_at(&mut self, at: u64, out: &mut [u8]) -> io::Result<usize> {
         let len = self.bytes.len();
         let from = at as usize;
-        if out.len() > len || from > len - out.len() {
+        if from >= len {
+            self.errors.raise();
             return Ok(0);
         }
-        out.copy_from_slice(&self.bytes[from..from + out.len()]);
-        Ok(out.len())
+        let count = out.len().min(len - from);
+        out[..count].copy_from_slice(&self.bytes[from..from + count]);
+        Ok(count)
     }
 
     fn cells_write_at(&mut self, at: u64, bytes: &[u8]) -> io::Result<usize> {

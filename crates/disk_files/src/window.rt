@@ -35,7 +35,8 @@ impl Window {
 
     /// Drops its cells.
     pub fn clear(&mut self)
-        ensures { self.new.len ≡ 0 }
+        ensures len { self.new.len ≡ 0 }
+        ensures bytes { self.new.bytes ≡ self.old.bytes }
     {
         self.len = 0;
     }

@@ -1,7 +1,7 @@
 //! Cells that are read through a window.
 ghost use Rattle.std.specs.Prelude.{◌≡◌, ◌≤◌, ◌+◌, length, take, drop, vec_len, IsTrue};
 ghost use Rattle.disk_files.specs.DiskDoes.{ReadsBytes};
-ghost use Rattle.disk_files.specs.Fails.{CallMayStop};
+ghost use Rattle.disk_files.specs.Fails.{CallMoves};
 ghost use Rattle.disk_files.specs.Window.{IsCopy};
 
 use crate::Disk;
@@ -41,7 +41,7 @@ impl<F: Disk> WindowedDisk<F> {
     /// the disk gives them.
     fn fill(&mut self, at: u64, count: usize) -> io::Result<usize>
         ensures reads { ReadsBytes F.tells (F.state self.old.disk) (F.state self.new.disk) }
-        ensures fails { IsTrue F.tells → CallMayStop (F.state self.old.disk) (F.state self.new.disk) result }
+        ensures fails { IsTrue F.tells → CallMoves (F.state self.old.disk) (F.state self.new.disk) (vec_len self.old.window.bytes) result }
     {
         let skip = at % WINDOW as u64;
         let from = if count > WINDOW - skip as usize {
@@ -112,7 +112,9 @@ impl<F: Disk + Drop> Disk for WindowedDisk<F> {
             return Ok(out.len());
         }
         if out.len() <= self.window.bytes.len() {
-            self.fill(at, out.len())?;
+            if self.fill(at, out.len())? == 0 {
+                return Ok(0);
+            }
             if self.window.copy(at, out) {
                 return Ok(out.len());
             }

@@ -1,7 +1,7 @@
 -- The pairs among words.
 use Rattle.std.proofs.Common.{◌≡◌, ◌≤◌, ◌<◌, ◌+◌, ◌*◌, ◌++◌, ◌∙◌, ◌⊎◌, inl, inr, ℕ, zero, suc, List, [], ◌∷◌, length, take, map, get_or, sym, ap, arith, refl, take_all, length-take-le}
 use Rattle.std.proofs.lemmas.List.{map-append, take_more}
-use Rattle.flm_main.specs.Line.{job_names}
+use Rattle.flm_main.specs.Line.{job_names, cells_names}
 
 pub names_within : (words : List (List ℕ)) → 2 * length (job_names words) ≤ length words
 names_within [] = omega (arith)
@@ -48,3 +48,25 @@ in_whole (suc n) (suc i) (x ∷ xs) less = omega (arith, in_whole n i xs (omega 
 pub names_on : {A : Type 0} (f : A → List ℕ) (items : List A) (b : A) (names : List (List ℕ)) (i : ℕ) → map f items ≡ take i names → i < length names → f b ≡ get_or names i []
     → map f (items ++ (b ∷ [])) ≡ take (i + 1) names
 names_on f items b names i e less q = map-append f items (b ∷ []) ∙ ap (λ l. l ++ (f b ∷ [])) e ∙ ap (λ x. take i names ++ (x ∷ [])) q ∙ sym (take_more names i [] less)
+
+-- the same of the cells files, of which there are as many
+pub as_many : (words : List (List ℕ)) → length (cells_names words) ≡ length (job_names words)
+as_many [] = refl
+as_many (job ∷ []) = refl
+as_many (job ∷ cells ∷ rest) = ap suc (as_many rest)
+
+pub cells_at : (words : List (List ℕ)) (index : ℕ) → index < length (job_names words) → get_or words (2 * index + 1) [] ≡ get_or (cells_names words) index []
+cells_at [] index less = elim less [ ]
+cells_at (job ∷ []) index less = elim less [ ]
+cells_at (job ∷ cells ∷ rest) zero less = refl
+cells_at (job ∷ cells ∷ rest) (suc index) less =
+    let further : 2 * suc index + 1 ≡ suc (suc (2 * index + 1)) = omega (arith) in
+    ap (λ i. get_or (job ∷ cells ∷ rest) i []) further ∙ cells_at rest index (omega (arith, less))
+
+-- the first so many of two lists of one length
+pub take_as_many : {A B : Type 0} (n : ℕ) (xs : List A) (ys : List B) → length ys ≡ length xs → take (length (take n xs)) ys ≡ take n ys
+take_as_many zero xs ys same = refl
+take_as_many (suc n) [] [] same = refl
+take_as_many {A} {B} (suc n) [] (y ∷ ys) same = elim same [ ]
+take_as_many {A} {B} (suc n) (x ∷ xs) [] same = elim same [ ]
+take_as_many (suc n) (x ∷ xs) (y ∷ ys) same = ap (λ l. y ∷ l) (take_as_many n xs ys (omega (arith, same)))

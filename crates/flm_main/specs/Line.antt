@@ -23,3 +23,9 @@ abbrev pub job_names : List (List ℕ) → List (List ℕ)
 job_names [] = []
 job_names (job ∷ []) = []
 job_names (job ∷ cells ∷ rest) = job ∷ job_names rest
+
+-- and those of their cells files
+abbrev pub cells_names : List (List ℕ) → List (List ℕ)
+cells_names [] = []
+cells_names (job ∷ []) = []
+cells_names (job ∷ cells ∷ rest) = cells ∷ cells_names rest

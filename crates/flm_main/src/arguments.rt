@@ -1,12 +1,13 @@
 //! The words of the command line.
 ghost use Rattle.std.specs.Prelude.{◌≡◌, ◌++◌, ◌∷◌, [], ◌↔◌, IsTrue, OnOk, drop, get_or};
 ghost use Rattle.flm_main.specs.Line.{job_name, cells_name, words_for_one, IsForGang, words_for_gang};
+ghost use Rattle.flm_main.specs.Given.{texts_of, IsRead};
 
 use faults::OutOfMemory;
 use octets::Word;
 use std::alloc::Global;
 use std::env::{self, Args};
-use std::io::ErrorKind;
+use std::io::{self, ErrorKind};
 use std::marker::Model;
 
 /// What stands in place of the job file's name where the words are for several devices.
@@ -44,8 +45,10 @@ impl Arguments {
         Ok(())
     }
 
-    /// Takes all arguments.
-    fn take_all(&mut self, alloc: Global, given: Args) -> Result<(), OutOfMemory> {
+    /// Takes all arguments, in their order.
+    fn take_all(&mut self, alloc: Global, given: Args) -> Result<(), OutOfMemory>
+        ensures { OnOk result (self.new ≡ self.old ++ texts_of given) }
+    {
         for argument in given {
             self.take(Word::copy(alloc, argument.as_str())?)?;
         }
@@ -74,11 +77,12 @@ impl Arguments {
     pub fn are_for_gang(&self) -> bool
         ensures { IsTrue result ↔ IsForGang self.now }
     {
-        self.job() == GANG
+        self.text_at(1) == GANG
     }
 
     /// The name of the one device's job file.
     pub fn job(&self) -> &str
+        requires { IsForGang self.now → ⊥ }
         ensures { result.now ≡ job_name self.now }
     {
         self.text_at(1)
@@ -86,6 +90,7 @@ impl Arguments {
 
     /// The name of its cells file.
     pub fn cells(&self) -> &str
+        requires { IsForGang self.now → ⊥ }
         ensures { result.now ≡ cells_name self.now }
     {
         self.text_at(2)
@@ -93,6 +98,7 @@ impl Arguments {
 
     /// Its command, with the words of that.
     pub fn words(&self) -> &[Word]
+        requires { IsForGang self.now → ⊥ }
         ensures { result.now ≡ words_for_one self.now }
     {
         self.words_from(3)
@@ -100,17 +106,25 @@ impl Arguments {
 
     /// The words for several devices: for each the names of its job file and its cells file, in turn.
     pub fn gang_words(&self) -> &[Word]
+        requires { IsForGang self.now }
         ensures { result.now ≡ words_for_gang self.now }
     {
         self.words_from(2)
     }
 }
 
-/// Reads the command line. Where a word isn't UTF-8 there are no arguments, which fits no command.
+/// Reads the command line.
 pub fn read_arguments(rt: HostRuntime) -> Result<Arguments, OutOfMemory> {
-    let mut arguments = Arguments::new(rt.alloc());
-    match env::args(&rt) {
-        Ok(given) => arguments.take_all(rt.alloc(), given)?,
+    arguments_of(rt.alloc(), env::args(&rt))
+}
+
+/// The arguments of a command line that was read so. Where a word isn't UTF-8 there are none, which fits no command.
+fn arguments_of(alloc: Global, line: io::Result<Args>) -> Result<Arguments, OutOfMemory>
+    ensures { IsRead line result }
+{
+    let mut arguments = Arguments::new(alloc);
+    match line {
+        Ok(given) => arguments.take_all(alloc, given)?,
         Err(fault) if fault.kind() == ErrorKind::InvalidData => {}
         Err(_) => return Err(OutOfMemory),
     }

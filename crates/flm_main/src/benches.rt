@@ -1,12 +1,30 @@
 //! The benches of several devices.
 ghost use Rattle.std.specs.Prelude.{◌≡◌, ◌<◌, ◌+◌, ◌*◌, [], length, take, map, get_or, IfOk};
-ghost use Rattle.host_files.specs.Bench.{job_name_of};
-ghost use Rattle.flm_main.specs.Line.{job_names};
+ghost use Rattle.host_files.specs.Bench.{job_name_of, cells_name_of};
+ghost use Rattle.flm_main.specs.Line.{job_name, cells_name, IsForGang, job_names, cells_names};
 
+use crate::arguments::Arguments;
 use crate::pairs::{count_pairs, pair_at};
 use faults::OutOfMemory;
 use host_files::{FileBench, ProgressLine};
 use octets::Word;
+
+/// The bench of one device.
+pub fn open_one(
+    rt: HostRuntime,
+    line: &ProgressLine,
+    arguments: &Arguments,
+) -> Result<FileBench, OutOfMemory>
+    requires { IsForGang arguments.now → ⊥ }
+    ensures job { IfOk result (λ bench. job_name_of bench ≡ job_name arguments.now) }
+    ensures cells { IfOk result (λ bench. cells_name_of bench ≡ cells_name arguments.now) }
+{
+    let job = Word::copy(rt.alloc(), arguments.job())?;
+    let cells = Word::copy(rt.alloc(), arguments.cells())?;
+    let mut bench = FileBench::new(rt, job, cells);
+    bench.show_on(line.share());
+    Ok(bench)
+}
 
 /// The bench of the pair of this index, beside those before it.
 fn open_bench(
@@ -17,11 +35,13 @@ fn open_bench(
     others: &[FileBench],
 ) -> Result<FileBench, OutOfMemory>
     requires { 2 * index + 1 < length words.now }
-    ensures { IfOk result (λ bench. job_name_of bench ≡ get_or words.now (2 * index) []) }
+    ensures job { IfOk result (λ bench. job_name_of bench ≡ get_or words.now (2 * index) []) }
+    ensures cells { IfOk result (λ bench. cells_name_of bench ≡ get_or words.now (2 * index + 1) []) }
 {
     let pair = pair_at(words, index);
     let job = Word::copy(rt.alloc(), pair.job.text())?;
-    let mut bench = FileBench::beside(rt, job, pair.cells.text(), others);
+    let cells = Word::copy(rt.alloc(), pair.cells.text())?;
+    let mut bench = FileBench::beside(rt, job, cells, others);
     bench.show_on(line.share());
     Ok(bench)
 }
@@ -32,7 +52,8 @@ pub fn open_benches(
     line: &ProgressLine,
     words: &[Word],
 ) -> Result<Vec<FileBench>, OutOfMemory>
-    ensures { IfOk result (λ benches. map job_name_of benches.items ≡ take 16 (job_names words.now)) }
+    ensures jobs { IfOk result (λ benches. map job_name_of benches.items ≡ take 16 (job_names words.now)) }
+    ensures cells { IfOk result (λ benches. map cells_name_of benches.items ≡ take 16 (cells_names words.now)) }
 {
     let mut benches = Vec::new(rt.alloc());
     for index in 0..count_pairs(words) {

@@ -1,9 +1,12 @@
 //! A call on files.
+ghost use Rattle.std.specs.Prelude.{◌≡◌, IfOk, IsErr};
+ghost use Rattle.std.specs.Process.{exit_status};
+ghost use Rattle.flm_main.specs.Line.{IsForGang};
 
 use crate::arguments::{Arguments, read_arguments};
-use crate::benches::open_benches;
+use crate::benches::{open_benches, open_one};
 use faults::OutOfMemory;
-use host_files::{FileBench, FileInputs, HeldStreams, ProgressLine, StdSink, hold_streams};
+use host_files::{FileInputs, HeldStreams, ProgressLine, StdSink, hold_streams};
 use octets::Word;
 use outside_io::Sink;
 use promise::{flash, flash_gang};
@@ -19,14 +22,28 @@ const NO_STREAMS: u8 = 10;
 /// Where there is no memory for the arguments that is 1. Where the standard streams can't be held no file is opened, and it is 10, as where
 /// standard output failed.
 pub fn run(rt: HostRuntime) -> ExitCode {
-    let Ok(streams) = hold_streams(rt) else {
-        let _put = StdSink::new(rt.stderr()).put(b"flmprog: output fault\n");
-        return ExitCode::from(NO_STREAMS);
-    };
-    match read_arguments(rt) {
-        Ok(arguments) => ExitCode::from(call(streams, arguments)),
-        Err(_) => ExitCode::from(NO_MEMORY),
+    match hold_streams(rt) {
+        Ok(streams) => end(streams, read_arguments(rt)),
+        Err(_) => end_without_streams(rt),
     }
+}
+
+/// The end with the arguments that were read: the status of the call.
+fn end(streams: HeldStreams, arguments: Result<Arguments, OutOfMemory>) -> ExitCode
+    ensures { IsErr arguments → exit_status result ≡ 1 }
+{
+    match arguments {
+        Ok(arguments) => ExitCode::from(call(streams, arguments)),
+        Err(OutOfMemory) => ExitCode::from(NO_MEMORY),
+    }
+}
+
+/// The end where no stream can be held.
+fn end_without_streams(rt: HostRuntime) -> ExitCode
+    ensures { exit_status result ≡ 10 }
+{
+    let _put = StdSink::new(rt.stderr()).put(b"flmprog: output fault\n");
+    ExitCode::from(NO_STREAMS)
 }
 
 /// Runs what these arguments ask for on the files of their names, with its text on standard output and its refusal on standard error: the
@@ -41,6 +58,14 @@ pub fn call(streams: HeldStreams, arguments: Arguments) -> u8 {
         call_one(rt, &line, &arguments)
     };
     line.wipe();
+    status_of(answered)
+}
+
+/// The status of a call that was answered so.
+fn status_of(answered: Result<u8, OutOfMemory>) -> u8
+    ensures answered { IfOk answered (λ status. result ≡ status) }
+    ensures memory { IsErr answered → result ≡ 1 }
+{
     match answered {
         Ok(status) => status,
         Err(OutOfMemory) => NO_MEMORY,
@@ -48,18 +73,14 @@ pub fn call(streams: HeldStreams, arguments: Arguments) -> u8 {
 }
 
 /// The command for one device.
-fn call_one(
-    rt: HostRuntime,
-    line: &ProgressLine,
-    arguments: &Arguments,
-) -> Result<u8, OutOfMemory> {
+fn call_one(rt: HostRuntime, line: &ProgressLine, arguments: &Arguments) -> Result<u8, OutOfMemory>
+    requires { IsForGang arguments.now → ⊥ }
+{
     let mut out = StdSink::new(rt.stdout());
     let mut err = StdSink::new(rt.stderr());
-    let job = Word::copy(rt.alloc(), arguments.job())?;
-    let mut bench = FileBench::new(rt, job, arguments.cells());
+    let mut bench = open_one(rt, line, arguments)?;
     out.wipe_first(line.share());
     err.wipe_first(line.share());
-    bench.show_on(line.share());
     let mut inputs = FileInputs::new(rt);
     Ok(flash(
         rt.alloc(),

@@ -12,3 +12,7 @@ state_of b = over untold_disk b.bench.cell_count b.bench.store_faults b.bench.de
 -- the name of its job file
 abbrev pub job_name_of : FileBench → List ℕ
 job_name_of b = b.bench.disk.disk.job.name
+
+-- and that of its cells file
+abbrev pub cells_name_of : FileBench → List ℕ
+cells_name_of b = b.bench.disk.disk.cells.name

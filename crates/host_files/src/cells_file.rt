@@ -1,8 +1,9 @@
 //! The cells of the device as a file with one byte a cell.
-ghost use Rattle.std.specs.Prelude.{◌≤◌, length, IfOk};
+ghost use Rattle.std.specs.Prelude.{◌≡◌, ◌≤◌, length, IfOk};
 
 use crate::file_id::FileId;
 use crate::file_lock::FileLock;
+use octets::Word;
 use std::fs::{File, OpenOptions};
 use std::io;
 use std::io::ErrorKind;
@@ -13,6 +14,7 @@ use std::os::unix::fs::FileExt;
 /// another looks at it.
 #[derive(Drop)]
 pub struct CellsFile {
+    name: Word,
     file: Option<File>,
     writable: bool,
     count: u32,
@@ -20,13 +22,16 @@ pub struct CellsFile {
 }
 
 impl CellsFile {
-    /// Opens the file.
-    pub fn open(rt: HostRuntime, name: &str) -> CellsFile {
-        let (file, count, writable) = match open_file(rt, name) {
+    /// Opens the file of this name.
+    pub fn open(rt: HostRuntime, name: Word) -> CellsFile
+        ensures { result.name ≡ name }
+    {
+        let (file, count, writable) = match open_file(rt, name.text()) {
             Ok((file, count, writable)) => (Some(file), count, writable),
             Err(_) => (None, 0, false),
         };
         CellsFile {
+            name,
             file,
             writable,
             count,
@@ -35,7 +40,9 @@ impl CellsFile {
     }
 
     /// Has each call fail from now on that another program's lock would have fail.
-    pub fn shut(&mut self) {
+    pub fn shut(&mut self)
+        ensures { self.new.name ≡ self.old.name }
+    {
         self.lock = FileLock::lost();
     }
 

@@ -33,12 +33,13 @@ fn is_taken(benches: &[FileBench], file: Option<FileId>) -> bool {
 }
 
 impl FileBench {
-    ghost use Rattle.host_files.specs.Bench.{state_of, job_name_of};
+    ghost use Rattle.host_files.specs.Bench.{state_of, job_name_of, cells_name_of};
 
     /// Opens the cells file. One that can't be opened counts as no cells, and each call on it that can fail does. The
     /// job file is opened by the first call on it.
-    pub fn new(rt: HostRuntime, job_name: Word, cells_name: &str) -> FileBench
+    pub fn new(rt: HostRuntime, job_name: Word, cells_name: Word) -> FileBench
         ensures job { job_name_of result ≡ job_name }
+        ensures cells { cells_name_of result ≡ cells_name }
         ensures store { (state_of result).store_faults ≡ 0 }
         ensures device { (state_of result).device_faults ≡ 0 }
     {
@@ -51,10 +52,11 @@ impl FileBench {
     pub fn beside(
         rt: HostRuntime,
         job_name: Word,
-        cells_name: &str,
+        cells_name: Word,
         others: &[FileBench],
     ) -> FileBench
         ensures job { job_name_of result ≡ job_name }
+        ensures cells { cells_name_of result ≡ cells_name }
         ensures store { (state_of result).store_faults ≡ 0 }
         ensures device { (state_of result).device_faults ≡ 0 }
     {
@@ -89,6 +91,7 @@ impl FileBench {
     /// Counts from now on on this line which cells were erased and programmed.
     pub fn show_on(&mut self, line: ProgressLine)
         ensures job { job_name_of self.new ≡ job_name_of self.old }
+        ensures cells { cells_name_of self.new ≡ cells_name_of self.old }
         ensures count { (state_of self.new).cell_count ≡ (state_of self.old).cell_count }
         ensures store { (state_of self.new).store_faults ≡ (state_of self.old).store_faults }
         ensures device { (state_of self.new).device_faults ≡ (state_of self.old).device_faults }

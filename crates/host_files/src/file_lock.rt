@@ -1,5 +1,6 @@
 //! Advisory locks on whole files, so that two programs at one file don't mix.
-ghost use Rattle.std.specs.Prelude.{◌≡◌, IsErr, OnOk};
+ghost use Rattle.std.specs.Prelude.{◌≡◌, IsOk, IsErr, OnOk, Err};
+ghost use Rattle.std.specs.declared.io.Error.{Error};
 
 use std::fs::{File, TryLockError};
 use std::io;
@@ -62,9 +63,11 @@ impl FileLock {
         }
     }
 
-    /// Follows what the system answered. One that didn't give the lock took the one that was held.
+    /// Follows what the system answered. One that didn't give the lock took the one that was held. A file system that has no locks is gone on with.
     fn take(&mut self, answer: Result<(), TryLockError>, wanted: Hold) -> io::Result<()>
-        ensures { OnOk result (self.new.hold ≡ wanted) }
+        ensures took { OnOk result (self.new.hold ≡ wanted) }
+        ensures without { (fault : Error) → answer ≡ Err (TryLockError.Error fault) → IsOk result }
+        ensures kept_off { answer ≡ Err TryLockError.WouldBlock → IsErr result }
     {
         match answer {
             Ok(()) | Err(TryLockError::Error(_)) => {

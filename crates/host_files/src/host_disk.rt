@@ -16,7 +16,8 @@ pub struct HostDisk {
 impl HostDisk {
     /// The files of a host.
     pub fn new(job: JobFile, cells: CellsFile) -> HostDisk
-        ensures { result.job ≡ job }
+        ensures job { result.job ≡ job }
+        ensures cells { result.cells ≡ cells }
     {
         HostDisk { job, cells }
     }

@@ -12,11 +12,13 @@ mod job_file;
 mod progress_line;
 mod std_sink;
 mod streams;
-#[cfg(test)]
-mod tests;
 
+pub use cells_file::CellsFile;
 pub use file_bench::FileBench;
+pub use file_id::FileId;
 pub use file_inputs::FileInputs;
+pub use host_disk::HostDisk;
+pub use job_file::JobFile;
 pub use progress_line::ProgressLine;
 pub use std_sink::StdSink;
 pub use streams::{HeldStreams, hold_streams};

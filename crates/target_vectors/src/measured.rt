@@ -42,7 +42,8 @@ fn run_file(rt: &HostRuntime, cells: Cells<'_>, name: &str, rounds: u32) -> Resu
             run_over(rt, bench, name, rounds)
         }
         Cells::File(cells) => {
-            let bench = FileBench::new(*rt, Word::copy(alloc, "measured.job")?, cells);
+            let job = Word::copy(alloc, "measured.job")?;
+            let bench = FileBench::new(*rt, job, Word::copy(alloc, cells)?);
             run_over(rt, bench, name, rounds)
         }
     }

@@ -1,10 +1,16 @@
-use Rattle.std.proofs.Common.{rules, refl, ◌≡◌}
+use Rattle.std.proofs.Common.{rules, ◌≡◌, ◌<◌}
 use Rattle.std.proofs.lemmas.List.{take_rest}
 use Rattle.std.specs.IoError.{error_kind}
 use Rattle.std.specs.declared.io.ErrorKind.TheVariants.{Interrupted}
 use Rattle.disk_files.proofs.FailLemmas.{goes_ok, goes_stopped}
 use Rattle.disk_files.proofs.WriteLemmas.{written_more, written_no_more}
 use Rattle.disk_files.proofs.job_half.write_all.Goals as goal
+
+pub returns-in-Ok-eq0-clause-torn : goal.returns-in-Ok-eq0-clause-torn
+returns-in-Ok-eq0-clause-torn g c =
+    let S = g.F.Disk.state in
+    (written_no_more g.F.Disk.tells (S c.args.disk.now) (S c.loop-done.disk) (S c.job_write_at.new.self) c.args.at c.args.bytes.now c.loop-done.done c.loop-done.invariant.0
+    _ (take_rest c.args.bytes.now c.loop-done.done) c.job_write_at.ensures.does c.job_write_at.ensures.writes.torn).torn
 
 pub returns-in-Ok-eq0-clause-moments : goal.returns-in-Ok-eq0-clause-moments
 returns-in-Ok-eq0-clause-moments g c =
@@ -27,14 +33,15 @@ returns-in-Err-2-clause-moments g c =
 pub loop-done-preserved-in-Ok : goal.loop-done-preserved-in-Ok
 loop-done-preserved-in-Ok g c =
     let S = g.F.Disk.state in
-    let known = c.loop-done.invariant in (
+    let known = c.loop-done.invariant in
+    let some : 0 < c.in-Ok.count = search rules in (
       written_more g.F.Disk.tells (S c.args.disk.now) (S c.loop-done.disk) (S c.job_write_at.new.self) c.args.at c.args.bytes.now c.loop-done.done known.0
           _ (take_rest c.args.bytes.now c.loop-done.done) c.job_write_at.ensures.does c.job_write_at.ensures.writes.torn c.in-Ok.count c.in-Ok.ensures.writes.count c.in-Ok.ensures.writes.some,
       known.1,
       known.2,
       known.3,
       known.4,
-      goes_ok known.5 (λ told. (c.in-Ok.ensures.fails told).on_ok refl) (λ told. (c.in-Ok.ensures.fails told).syncs),
+      goes_ok known.5 (λ told. (c.in-Ok.ensures.fails told).moved some) (λ told. (c.in-Ok.ensures.fails told).syncs),
     )
 
 pub loop-done-preserved : goal.loop-done-preserved

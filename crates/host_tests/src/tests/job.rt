@@ -1,17 +1,16 @@
 //! The job file from one run to the next.
 
 use super::{Files, Temporary, bench_over};
-use crate::file_bench::FileBench;
 use bench_model::Bench;
 use faults::OutOfMemory;
+use host_files::FileBench;
 use octets::Word;
 use std::os::unix::fs::symlink;
 use std::test::Fail;
 
 /// A bench with this job file and no cells.
 fn job_file(file: &Temporary) -> Result<FileBench, OutOfMemory> {
-    let name = Word::copy(file.rt.alloc(), file.name.text())?;
-    Ok(FileBench::new(file.rt, name, ""))
+    Ok(FileBench::new(file.rt, file.word()?, Word::copy(file.rt.alloc(), "")?))
 }
 
 /// Writes, cuts, and writes and cuts past the end.

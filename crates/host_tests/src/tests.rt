@@ -6,11 +6,11 @@ mod cells;
 mod inputs;
 mod job;
 mod locks;
+mod systems;
 
-use crate::file_bench::FileBench;
-use crate::std_sink::StdSink;
 use bench_model::Bench;
 use faults::OutOfMemory;
+use host_files::{FileBench, StdSink};
 use octets::Word;
 use outside_io::Sink;
 use std::alloc::{AllocError, Global};
@@ -46,6 +46,11 @@ impl Temporary {
         let folder = env::temp_dir(&rt)?;
         let name = Word::copy(rt.alloc(), folder.as_path().as_str())?;
         Ok(Temporary { rt, name })
+    }
+
+    /// Its name.
+    fn word(&self) -> Result<Word, OutOfMemory> {
+        Word::copy(self.rt.alloc(), self.name.text())
     }
 
     /// Puts these bytes into the file, and says whether that went well.
@@ -93,8 +98,7 @@ struct Files {
 
 /// A bench over two files.
 fn bench_over(job: &Temporary, cells: &Temporary) -> Result<FileBench, OutOfMemory> {
-    let name = Word::copy(job.rt.alloc(), job.name.text())?;
-    Ok(FileBench::new(job.rt, name, cells.name.text()))
+    Ok(FileBench::new(job.rt, job.word()?, cells.word()?))
 }
 
 impl Files {

@@ -25,6 +25,20 @@ fn a_bench_holds_what_was_written(rt: HostRuntime) -> Result<(), Fail> {
     Ok(())
 }
 
+/// Others cut both files under the bench: what isn't there any more is a fault.
+#[test]
+fn files_that_others_cut_are_not_read_whole(rt: HostRuntime) -> Result<(), Fail> {
+    let mut files = Files::new(rt, "short_job", "short_cells", &[1, 2, 3, 4, 5, 6])?;
+    assert!(rt; files.write_synced(0, b"abcdef"));
+    assert!(rt; files.reads_cells([1, 2, 3, 4, 5, 6]) && files.reads(3, *b"def"));
+    assert!(rt; files.bench.cells_drop().is_ok());
+    assert!(rt; files.job.write(b"abcd") && files.cells.write(&[1, 2]));
+    assert!(rt; !files.reads_cells([1, 2, 0, 0, 0, 0]));
+    assert!(rt; files.reads(1, *b"bcd") && !files.reads(3, *b"d\0\0"));
+    assert!(rt; files.remove());
+    Ok(())
+}
+
 #[test]
 fn a_missing_cells_file_has_no_cells(rt: HostRuntime) -> Result<(), Fail> {
     let cells = Temporary::new(rt, "no_cells")?;

@@ -1,8 +1,8 @@
 //! Other programs at the same files.
 
 use super::{Files, Temporary, bench_over};
-use crate::file_bench::FileBench;
 use bench_model::Bench;
+use host_files::FileBench;
 use octets::Word;
 use std::fs;
 use std::fs::File;
@@ -132,8 +132,7 @@ fn a_cut_keeps_the_job_file_too(rt: HostRuntime) -> Result<(), Fail> {
 
 /// Whether a job file of this name is a fault over these cells, which stay.
 fn is_the_cells_file(cells: &Temporary, name: &Temporary) -> Result<bool, Fail> {
-    let word = Word::copy(cells.rt.alloc(), name.name.text())?;
-    let mut bench = FileBench::new(cells.rt, word, cells.name.text());
+    let mut bench = FileBench::new(cells.rt, name.word()?, cells.word()?);
     Ok(
         bench.file_len().is_err()
             && bench.file_write(0, b"x").is_err()
@@ -160,8 +159,7 @@ fn the_cells_file_is_no_job_file(rt: HostRuntime) -> Result<(), Fail> {
 fn beside(rt: HostRuntime, others: &[FileBench], job: &str, cells: &str) -> Result<Files, Fail> {
     let job = Temporary::new(rt, job)?;
     let cells = Temporary::new(rt, cells)?;
-    let word = Word::copy(rt.alloc(), job.name.text())?;
-    let bench = FileBench::beside(rt, word, cells.name.text(), others);
+    let bench = FileBench::beside(rt, job.word()?, cells.word()?, others);
     Ok(Files { job, cells, bench })
 }
 
@@ -193,8 +191,8 @@ fn a_file_of_another_bench_is_a_fault(rt: HostRuntime) -> Result<(), Fail> {
 #[test]
 fn cells_that_cannot_be_written_are_read(rt: HostRuntime) -> Result<(), Fail> {
     let job = Temporary::new(rt, "program_job")?;
-    let word = Word::copy(rt.alloc(), job.name.text())?;
-    let mut bench = FileBench::new(rt, word, "/proc/self/exe");
+    let program = Word::copy(rt.alloc(), "/proc/self/exe")?;
+    let mut bench = FileBench::new(rt, job.word()?, program);
     assert!(rt; bench.cells_len() >= 6);
     let mut found = [0; 4];
     assert!(rt; bench.cells_read(0, &mut found).is_ok());

@@ -1,7 +1,7 @@
 //! Files as inputs.
 
 use super::{Temporary, pattern};
-use crate::file_inputs::FileInputs;
+use host_files::FileInputs;
 use outside_io::Inputs;
 use std::test::Fail;
 

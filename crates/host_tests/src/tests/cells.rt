@@ -1,13 +1,10 @@
 //! Cells through the window of those that were read last.
 
 use super::{Temporary, pattern};
-use crate::cells_file::CellsFile;
-use crate::file_bench::FileBench;
-use crate::host_disk::HostDisk;
-use crate::job_file::JobFile;
 use bench_model::Bench;
 use disk_files::{Disk, WindowedDisk};
 use faults::OutOfMemory;
+use host_files::{CellsFile, FileBench, HostDisk, JobFile};
 use octets::Word;
 use std::fs;
 use std::test::Fail;
@@ -27,7 +24,7 @@ impl Trial {
     fn new(rt: HostRuntime, end: &str) -> Result<Trial, Fail> {
         let bytes = pattern(rt.alloc(), CELLS)?;
         let file = Temporary::holding(rt, end, &bytes)?;
-        let bench = FileBench::new(rt, Word::copy(rt.alloc(), "")?, file.name.text());
+        let bench = FileBench::new(rt, Word::copy(rt.alloc(), "")?, file.word()?);
         Ok(Trial { file, bench })
     }
 
@@ -68,7 +65,7 @@ impl Trial {
 
 /// The cells of a file through a window, beside a job file with no name.
 fn windowed(rt: HostRuntime, name: &str) -> Result<WindowedDisk<HostDisk>, OutOfMemory> {
-    let cells = CellsFile::open(rt, name);
+    let cells = CellsFile::open(rt, Word::copy(rt.alloc(), name)?);
     let job = JobFile::new(rt, Word::copy(rt.alloc(), "")?, cells.id());
     Ok(WindowedDisk::new(rt.alloc(), HostDisk::new(job, cells)))
 }
@@ -107,6 +104,18 @@ fn a_fill_is_seen_at_once(rt: HostRuntime) -> Result<(), Fail> {
     assert!(rt; trial.fill(4000, 600, 208));
     assert!(rt; trial.reads(4092, [208; 4]));
     assert!(rt; trial.reads(4598, [208, 208, 82, 83]));
+    assert!(rt; trial.file.remove());
+    Ok(())
+}
+
+#[test]
+fn a_fill_has_all_bits_of_its_value(rt: HostRuntime) -> Result<(), Fail> {
+    let mut trial = Trial::new(rt, "blanked")?;
+    assert!(rt; trial.fill(20, 40, 0xFF));
+    assert_eq!(rt; trial.stored(59), Some(0xFF));
+    assert!(rt; trial.reads(18, [18, 19, 0xFF, 0xFF]));
+    assert!(rt; trial.fill(30, 2, 0));
+    assert!(rt; trial.reads(29, [0xFF, 0, 0, 0xFF]));
     assert!(rt; trial.file.remove());
     Ok(())
 }
