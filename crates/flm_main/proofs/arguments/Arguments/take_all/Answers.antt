@@ -9,7 +9,6 @@ nothing_left : {X : Type 0} (xs : List X) → length xs ≡ 0 → xs ≡ []
 nothing_left [] none = refl
 nothing_left (x ∷ xs) none = absurd (omega (arith, none))
 
-
 pub loop-argument-preserved : goal.loop-argument-preserved
 loop-argument-preserved c =
     let at = c.loop-argument in
