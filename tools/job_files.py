@@ -1,7 +1,8 @@
 #!/usr/bin/env python3
-"""The job files that `job_vectors` compares and changes, by the format, and what it has to print of files that are made of them.
+"""The job files that `job_vectors`, `file_vectors` and `program_vectors` read and compare, by the format, and what `job_vectors` has to print of files that
+are made of them.
 
-  python3 tools/job_files.py write FOLDER     writes job.bin, first.bin and two.bin, as they stand in crates/job_vectors/data
+  python3 tools/job_files.py write FOLDER     writes all of them, into folders that are named like the crates
   python3 tools/job_files.py hashes NAME      prints the list of changes of that name (changes.txt, two.txt) with the hashes that its files keep
   python3 tools/job_files.py first            prints what is made of a job of the first format: in crates/job_vectors/stdout behind that line
   python3 tools/job_files.py second           the same of one of the second format
@@ -10,26 +11,59 @@
 They are called from the repository's top. Each line of a list is `WHAT: CHANGE..`, a CHANGE `AT=BYTES`, `cut=LENGTH` or `more=BYTES`."""
 import hashlib
 import os
+import struct
 import sys
 
-from formats import Damaged, Job, NotAJob, is_free, job_file
-
-DATA = "crates/job_vectors/data/"
+from formats import Damaged, Elf, Job, NotAJob, is_free, job_file
 
 
-def read(name):
-    with open(DATA + name, "rb") as file:
+
+FOUR = {0x08000000 + k: k + 1 for k in range(4)}
+BOTH = {**FOUR, 0x1FFFF000: 0x55}
+ONE = {0x08000041: 0xAA}
+BLANK = b"\xff"
+
+
+def read(name, crate="job_vectors"):
+    with open("crates/%s/data/%s" % (crate, name), "rb") as file:
         return file.read()
 
 
 def files():
-    """The three job files: of the small board in both formats, and of two regions."""
+    """The three job files of `job_vectors`: of the small board in both formats, and of two regions."""
     small, two, flm, second = read("small.toml"), read("two.toml"), read("algorithm.flm"), read("second.flm")
-    image = {0x08000000 + k: k + 1 for k in range(4)}
-    both = dict(image)
-    both[0x1FFFF000] = 0x55
-    return {"job.bin": job_file(small, [flm], image, b"\xff" * 1024), "first.bin": job_file(small, [flm], image, b"\xff" * 1024, False),
-            "two.bin": job_file(two, [flm, second], both, b"\xff" * 1280)}
+    return {"job.bin": job_file(small, [flm], FOUR, BLANK * 1024), "first.bin": job_file(small, [flm], FOUR, BLANK * 1024, False),
+            "two.bin": job_file(two, [flm, second], BOTH, BLANK * 1280)}
+
+
+def for_second_region(flm, base, size):
+    """A forged FLM file for a device of another base and size, without the symbol of EraseChip: what lies behind that moves up by its 16 bytes."""
+    elf, data = Elf(flm), bytearray(flm)
+    table = struct.unpack_from("<I", flm, 32)[0]
+    symbols = next(it for it in elf.headers if it[1] == 2)
+    dscr = elf.section(b"DevDscr", 1)
+    struct.pack_into("<II", data, dscr[4] + elf.symbol(b"FlashDevice") - dscr[3] + 132, base, size)
+    chip = next(at for at in range(symbols[4], symbols[4] + symbols[5], 16) if struct.unpack_from("<I", flm, at + 4)[0] == elf.symbol(b"EraseChip"))
+    for k, header in enumerate(elf.headers):
+        at = table + 40 * k
+        if header[4] > chip:
+            struct.pack_into("<I", data, at + 16, header[4] - 16)
+        if header is symbols:
+            struct.pack_into("<I", data, at + 20, header[5] - 16)
+    struct.pack_into("<I", data, 32, table - 16)
+    return bytes(data[:chip] + data[chip + 16:])
+
+
+def other_files():
+    """Those of the other crates. A job that was closed has 00 for its first byte."""
+    small, flm, a1, full = read("small.toml"), read("algorithm.flm"), read("a1.flm", "file_vectors"), bytes(range(256)) + BLANK * 768
+    closed = {"one_region.job": job_file(small, [a1], FOUR, BLANK * 1024),
+              "two_regions.job": job_file(read("two.toml"), [a1, for_second_region(a1, 0x1FFFF000, 256)], BOTH, BLANK * 1280)}
+    one_sector = job_file(small, [a1], ONE, full, False)
+    return {"file_vectors": {"sector.job": one_sector},
+            "program_vectors": {"job.bin": job_file(small, [flm], FOUR, BLANK * 1024, False), "first_format.job": one_sector,
+                                "two_runs.bin": job_file(small, [flm], {**FOUR, **ONE}, BLANK * 1024, False),
+                                **{name: b"\0" + data[1:] for name, data in closed.items()}}}
 
 
 def kind(data, job):
@@ -111,9 +145,11 @@ def main(words):
     os.chdir(os.path.join(os.path.dirname(os.path.abspath(__file__)), ".."))
     made = files()
     if words[0] == "write":
-        for name, data in made.items():
-            with open(os.path.join(words[1], name), "wb") as file:
-                file.write(data)
+        for crate, its in {"job_vectors": made, **other_files()}.items():
+            os.makedirs(os.path.join(words[1], crate), exist_ok=True)
+            for name, data in its.items():
+                with open(os.path.join(words[1], crate, name), "wb") as file:
+                    file.write(data)
     elif words[0] == "hashes":
         hashes(words[1])
     elif words[0] == "first":

@@ -50,7 +50,7 @@ take_loader() {
 take_compiled() {
     local name=$1
     shift
-    arm-none-eabi-gcc -mcpu=cortex-m0 -mthumb -Os -ffreestanding -DBASE=$base -DSIZE=$size -DPAGE=$page -DSECTOR=$sector "$@" -c -o "$name.o" \
+    arm-none-eabi-gcc -mcpu=cortex-m0 -mthumb -Os -ffreestanding -DBASE="$base" -DSIZE="$size" -DPAGE="$page" -DSECTOR="$sector" "$@" -c -o "$name.o" \
         "$tests/data/vendor.c" && take_linked "$name" "$name.o"
 }
 
@@ -95,9 +95,9 @@ make_flm() {
 # Cells of a kind, an image of so many bytes at a place, and what they come to: KIND AT BYTES.
 made() {
     rm -f job
-    head -c $size /dev/zero | tr '\0' '\377' > cells
+    head -c "$size" /dev/zero | tr '\0' '\377' > cells
     case $1 in
-        used) random_bytes $size > cells ;;
+        used) random_bytes "$size" > cells ;;
         half)
             random_bytes $((size / 2)) | lay /dev/stdin 0 cells
             random_bytes 3 | lay /dev/stdin $((size - 5000)) cells
@@ -164,7 +164,7 @@ gang_of_four() {
         mv job job.$number
         mv cells cells.$number
         mv new new.$number
-        pairs+=(job.$number cells.$number)
+        pairs+=("job.$number" "cells.$number")
     done
     "$program" --gang "${pairs[@]}" > out 2> err
     row "$it: the gang" $?
@@ -439,7 +439,7 @@ take_algorithms
 for algorithm in "${algorithms[@]}"; do
     for layout in gnu armlink; do
         for bit in 0 1; do
-            run_with $algorithm $layout $bit
+            run_with "$algorithm" $layout $bit
         done
     done
     echo "$algorithm: $right right, $wrong wrong"
