@@ -37,8 +37,6 @@ compare 'jobs of the second format' <(python3 tools/job_files.py second) <(betwe
 compare 'jobs of two regions' <(python3 tools/job_files.py two) <(between $stored 'a job of two regions' | tail -n +3)
 first=$(head -n 1 crates/file_vectors/data/sweeps.txt)
 compare 'the sweeps' <(python3 tools/sweeps.py) <(echo "$first"; between crates/file_vectors/stdout "$first")
-told=$(python3 tools/answers.py check)
-compare "commands that run no algorithm: $told" <(echo "${told##*$'\n'}" | grep -o ' 0 wrong') <(echo ' 0 wrong')
-echo "$told"
+if python3 tools/answers.py check; then right=$((right + 1)); else wrong=$((wrong + 1)); fi
 echo "$right right, $wrong wrong"
 [ $wrong = 0 ]
