@@ -1,17 +1,14 @@
 //! The controllers that are driven.
 
-use crate::driven::Driven;
 use anyhow::Result;
 use board_file::{ControllerKind, SectorRun, read_board};
-use flash_controller::Controller;
 use flash_driver::{Driver, Registers, State};
 use flash_layout::{Area, FlashMap};
-use fpec_controller::Fpec;
 use std::alloc::Global;
 use std::fs;
 
 /// Two areas apart from each other: 4 cells in units of 2, and 4 cells in units of 4 that are 0 when they are erased.
-fn layout(alloc: Global, kind: ControllerKind) -> Result<FlashMap> {
+fn layout<R: Registers>(alloc: Global, kind: ControllerKind) -> Result<FlashMap> {
     let first = Area {
         base: 0x0800_0000,
         size: 4,
@@ -30,6 +27,7 @@ fn layout(alloc: Global, kind: ControllerKind) -> Result<FlashMap> {
         areas: vec![in alloc; first, second]?,
         runs: vec![in alloc; run, run]?,
         base: 0x4002_2000,
+        block: R::block(kind),
         program_ticks: 1,
         erase_ticks: 2,
         chip_ticks: 3,
@@ -39,7 +37,7 @@ fn layout(alloc: Global, kind: ControllerKind) -> Result<FlashMap> {
 
 /// A controller over two areas: as after a reset, and nothing runs.
 fn over_areas<R: Registers>(alloc: Global, kind: ControllerKind) -> Result<Driver<R>> {
-    let layout = layout(alloc, kind)?;
+    let layout = layout::<R>(alloc, kind)?;
     let registers = R::fresh(kind);
     let operation = None;
     Ok(Driver {
@@ -51,20 +49,15 @@ fn over_areas<R: Registers>(alloc: Global, kind: ControllerKind) -> Result<Drive
     })
 }
 
-/// The controller FC1 of a board's file, or that over two areas.
-pub fn controller(rt: &HostRuntime, name: &str) -> Result<Driven> {
+/// The controller of a board's file, or that over two areas.
+pub fn driver<R: Registers>(
+    rt: &HostRuntime,
+    kind: ControllerKind,
+    name: &str,
+) -> Result<Driver<R>> {
     if name == "areas" {
-        return Ok(Driven::Fc1(over_areas(rt.alloc(), ControllerKind::Fc1)?));
+        return over_areas(rt.alloc(), kind);
     }
     let board = read_board(rt.alloc(), &fs::read(rt, name)?)?;
-    Ok(Driven::Fc1(Controller::new(rt.alloc(), &board)?))
-}
-
-/// The controller FPEC of a board's file, or that over two areas.
-pub fn fpec(rt: &HostRuntime, name: &str) -> Result<Driven> {
-    if name == "areas" {
-        return Ok(Driven::Fpec(over_areas(rt.alloc(), ControllerKind::Fpec)?));
-    }
-    let board = read_board(rt.alloc(), &fs::read(rt, name)?)?;
-    Ok(Driven::Fpec(Fpec::new(rt.alloc(), &board)?))
+    Ok(Driver::new(rt.alloc(), &board)?)
 }

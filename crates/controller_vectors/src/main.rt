@@ -1,5 +1,6 @@
 //! Drives the controllers row by row of their tables: `controller_vectors FILES`, each a file of steps and of what each step has
-//! to answer. It prints the name of each row that holds, and ends with an error at the first step that answers otherwise.
+//! to answer. It prints the name of each row that holds, and ends with an error at the first step that answers otherwise. The rows of a
+//! file are of one controller.
 //!
 //! A line is `row NAME`, or one of these, with numbers in hexadecimal digits: `new BOARD CELLS FAIL` (FC1 for a file with a board,
 //! or for `areas`; the number of the cell call that fails, or 0), `fpec BOARD CELLS FAIL` (the same with FPEC),
@@ -7,7 +8,6 @@
 //! `device`.
 #![tactic(auto)]
 
-mod driven;
 mod made;
 mod steps;
 mod trial;

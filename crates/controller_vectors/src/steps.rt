@@ -1,9 +1,13 @@
 //! The steps of the rows.
 
-use crate::made::{controller, fpec};
+use crate::made::driver;
 use crate::trial::Trial;
 use anyhow::{Result, bail};
 use bench_model::BusEnd;
+use board_file::ControllerKind;
+use flash_controller::State as Fc1State;
+use flash_driver::Registers;
+use fpec_controller::State as FpecState;
 use row_text::{bytes_of, number};
 use std::alloc::Global;
 use std::result;
@@ -36,7 +40,7 @@ fn loaded(found: result::Result<u32, BusEnd>, due: &str) -> Result<bool> {
 }
 
 /// Whether a step answers what is due.
-fn holds(trial: &mut Trial, words: &[&str], alloc: Global) -> Result<bool> {
+fn holds<R: Registers>(trial: &mut Trial<R>, words: &[&str], alloc: Global) -> Result<bool> {
     match words {
         ["store", at, width, value, due] => {
             let found = trial.store(number(at)?, number(width)?, number(value)?);
@@ -50,30 +54,48 @@ fn holds(trial: &mut Trial, words: &[&str], alloc: Global) -> Result<bool> {
     }
 }
 
-/// The trial of a line `new` or `fpec`.
-fn made(rt: &HostRuntime, words: &[&str]) -> Result<Option<Trial>> {
-    let (driven, cells, fail) = match words {
-        ["new", board, cells, fail] => (controller(rt, board)?, cells, fail),
-        ["fpec", board, cells, fail] => (fpec(rt, board)?, cells, fail),
-        _ => return Ok(None),
-    };
-    let cells = bytes_of(rt.alloc(), cells)?;
-    let trial = Trial::new(rt.alloc(), driven, &cells, number(fail)?)?;
-    Ok(Some(trial))
+/// The trial of a line that begins with this word.
+fn made<R: Registers>(
+    rt: &HostRuntime,
+    kind: ControllerKind,
+    new: &str,
+    words: &[&str],
+) -> Result<Option<Trial<R>>> {
+    match words {
+        [first, board, cells, fail] if *first == new => {
+            let cells = bytes_of(rt.alloc(), cells)?;
+            let driver = driver(rt, kind, board)?;
+            Ok(Some(Trial::new(rt.alloc(), driver, &cells, number(fail)?)?))
+        }
+        _ => Ok(None),
+    }
 }
 
 /// Goes through the lines, and prints the name of each row.
-pub fn check(rt: &HostRuntime, text: &str) -> Result<()> {
-    let mut trial = Trial::new(rt.alloc(), controller(rt, "areas")?, &[0; 8], 0)?;
+fn check_all<R: Registers>(
+    rt: &HostRuntime,
+    kind: ControllerKind,
+    new: &str,
+    text: &str,
+) -> Result<()> {
+    let mut trial = Trial::<R>::new(rt.alloc(), driver(rt, kind, "areas")?, &[0; 8], 0)?;
     for line in text.lines() {
         let words = line.split_whitespace().collect::<Vec<&str>>(rt.alloc())?;
         if let Some(name) = line.strip_prefix("row ") {
             println!(rt; "{name}")?;
-        } else if let Some(made) = made(rt, &words)? {
+        } else if let Some(made) = made(rt, kind, new, &words)? {
             trial = made;
         } else if !words.is_empty() && !holds(&mut trial, &words, rt.alloc())? {
             bail!("{line}");
         }
     }
     Ok(())
+}
+
+/// Goes through the lines of a file, all of one controller.
+pub fn check(rt: &HostRuntime, text: &str) -> Result<()> {
+    if text.lines().any(|line| line.starts_with("fpec ")) {
+        return check_all::<FpecState>(rt, ControllerKind::Fpec, "fpec", text);
+    }
+    check_all::<Fc1State>(rt, ControllerKind::Fc1, "new", text)
 }

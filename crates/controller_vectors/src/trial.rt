@@ -1,45 +1,44 @@
 //! A controller over a bench in memory.
 ghost use Rattle.std.specs.Prelude.{true};
 ghost use Rattle.bench_model.specs.Shown.{bench_of};
-ghost use Rattle.flash_layout.specs.Bench.{Agrees};
-ghost use Rattle.controller_vectors.specs.Driven.{driven_map, driven_range};
+ghost use Rattle.flash_driver.specs.Calls.{DriverAgrees};
 
-use crate::driven::Driven;
 use anyhow::{Result, bail};
 use bench_model::{BusEnd, MemoryBench};
+use flash_driver::{Driver, Registers};
 use std::alloc::Global;
 use std::result;
 
 /// A controller and its bench, whose open operation is the controller's.
 #[derive(Drop)]
-pub struct Trial {
-    driven: Driven,
+pub struct Trial<R> {
+    driver: Driver<R>,
     bench: MemoryBench,
 
-    ghost agrees: { Agrees true (driven_map driven) (driven_range driven) (bench_of bench) },
+    ghost agrees: { DriverAgrees true driver.layout driver.state (bench_of bench) },
 }
 
-impl Trial {
+impl<R: Registers> Trial<R> {
     /// This controller, which runs nothing, over these cells. The cell call of this number fails, and an operation that is
     /// broken off leaves 5A.
-    pub fn new(alloc: Global, driven: Driven, cells: &[u8], fail: u32) -> Result<Trial> {
-        if driven.cells() as usize != cells.len() {
+    pub fn new(alloc: Global, driver: Driver<R>, cells: &[u8], fail: u32) -> Result<Trial<R>> {
+        if driver.cells() as usize != cells.len() {
             bail!("another number of cells");
         }
-        if driven.is_running() {
+        if driver.is_running() {
             bail!("an operation runs");
         }
         let fails = [u64::from(fail)];
         let bench = MemoryBench::new(alloc, cells, &[], 0, 0x1000, &[], &fails, &[0x5A])?;
-        Ok(Trial { driven, bench })
+        Ok(Trial { driver, bench })
     }
 
     /// A store of so many bytes, or a bus fault where it isn't one.
     pub fn store(&mut self, at: u32, width: u32, value: u32) -> result::Result<(), BusEnd> {
         match width {
-            1 => self.driven.store(&mut self.bench, at, 1, value),
-            2 if at % 2 == 0 => self.driven.store(&mut self.bench, at, 2, value),
-            4 if at % 4 == 0 => self.driven.store(&mut self.bench, at, 4, value),
+            1 => self.driver.store(&mut self.bench, at, 1, value),
+            2 if at % 2 == 0 => self.driver.store(&mut self.bench, at, 2, value),
+            4 if at % 4 == 0 => self.driver.store(&mut self.bench, at, 4, value),
             _ => Err(BusEnd::Fault),
         }
     }
@@ -47,9 +46,9 @@ impl Trial {
     /// A load of so many bytes, or a bus fault where it isn't one.
     pub fn load(&mut self, at: u32, width: u32) -> result::Result<u32, BusEnd> {
         match width {
-            1 => self.driven.load(&mut self.bench, at, 1),
-            2 if at % 2 == 0 => self.driven.load(&mut self.bench, at, 2),
-            4 if at % 4 == 0 => self.driven.load(&mut self.bench, at, 4),
+            1 => self.driver.load(&mut self.bench, at, 1),
+            2 if at % 2 == 0 => self.driver.load(&mut self.bench, at, 2),
+            4 if at % 4 == 0 => self.driver.load(&mut self.bench, at, 4),
             _ => Err(BusEnd::Fault),
         }
     }
@@ -57,14 +56,14 @@ impl Trial {
     /// Some ticks, up to the first that fails.
     pub fn ticks(&mut self, count: u32) -> result::Result<(), BusEnd> {
         for _tick in 0..count {
-            self.driven.tick(&mut self.bench)?;
+            self.driver.tick(&mut self.bench)?;
         }
         Ok(())
     }
 
     /// A reset.
     pub fn reset(&mut self) -> result::Result<(), BusEnd> {
-        self.driven.reset(&mut self.bench)?;
+        self.driver.reset(&mut self.bench)?;
         Ok(())
     }
 

@@ -7,7 +7,8 @@ use Rattle.flash_layout.specs.declared.work.Operation.{Operation}
 use Rattle.flash_layout.specs.Lock.{is_unlocked, next_lock, flag_value, kept}
 use Rattle.flash_layout.specs.Maps.{FlashMap}
 use Rattle.flash_layout.specs.Work.{unit_work}
-use Rattle.flash_driver.specs.declared.state.Taken.{Taken}
+use Rattle.flash_driver.specs.declared.state.Effect.{Effect}
+use Rattle.flash_driver.specs.declared.state.Effect.TheVariants as effect
 use Rattle.flash_driver.specs.Erasures.{all_are, erases_sector, erases_first, becomes, begins_or}
 use Rattle.flash_driver.specs.Table.{Table}
 use Rattle.flash_controller.specs.declared.state.State.{State}
@@ -48,10 +49,10 @@ abbrev pub address_stored : State → Option Operation → ℕ → State
 address_stored s runs value = if is_ready s runs then record s { address = value } else with_sequence s
 
 -- after a store to START: CMD 2 erases the sector of ADDR, or sets RANGE where ADDR lies outside the flash; CMD 3 erases the first area
-unfoldable pub started : FlashMap → State → Option Operation → ℕ → Taken State
+unfoldable pub started : FlashMap → State → Option Operation → ℕ → Effect × State
 started map s runs value =
-    if is_ready s runs && nat_eq value 1 && nat_eq s.command 2 then begins_or s (record s { range = true }) (erases_sector map s.address)
-    else if is_ready s runs && nat_eq value 1 && nat_eq s.command 3 then begins_or s (with_sequence s) (erases_first map)
+    if is_ready s runs && nat_eq value 1 && nat_eq s.command 2 then begins_or (erases_sector map s.address) s (record s { range = true })
+    else if is_ready s runs && nat_eq value 1 && nat_eq s.command 3 then begins_or (erases_first map) s (with_sequence s)
     else becomes (with_sequence s)
 
 -- what the register at an offset of the block answers to a load
@@ -60,12 +61,12 @@ load s runs offset =
     if nat_eq offset 0 then Some 0 else if nat_eq offset 4 then Some (status s runs) else if nat_eq offset 8 then Some s.command
     else if nat_eq offset 12 then Some s.address else if nat_eq offset 16 then Some 0 else None
 
--- and what a store to it leaves: KEY, STATUS, CMD, ADDR, START
-unfoldable pub store : FlashMap → State → Option Operation → ℕ → ℕ → Option (Taken State)
+-- and what a store to it does: KEY, STATUS, CMD, ADDR, START
+unfoldable pub store : FlashMap → State → Option Operation → ℕ → ℕ → Effect × State
 store map s runs offset value =
-    if nat_eq offset 0 then Some (becomes (key_stored s value)) else if nat_eq offset 4 then Some (becomes (status_stored s value))
-    else if nat_eq offset 8 then Some (becomes (command_stored s runs value)) else if nat_eq offset 12 then Some (becomes (address_stored s runs value))
-    else if nat_eq offset 16 then Some (started map s runs value) else None
+    if nat_eq offset 0 then becomes (key_stored s value) else if nat_eq offset 4 then becomes (status_stored s value)
+    else if nat_eq offset 8 then becomes (command_stored s runs value) else if nat_eq offset 12 then becomes (address_stored s runs value)
+    else if nat_eq offset 16 then started map s runs value else (effect.Fault, s)
 
 -- The flash.
 
@@ -73,10 +74,10 @@ abbrev pub may_program : State → Area → ℕ → Bool
 may_program s a width = is_unlocked s.lock && nat_eq s.command 1 && nat_eq width a.unit
 
 -- After a store to the flash: CMD 1 programs an empty unit; a unit that isn't empty sets NOTEMPTY, and all else SEQ.
-unfoldable pub program : FlashMap → State → Found → ℕ → ℕ → List ℕ → Taken State
+unfoldable pub program : FlashMap → State → Found → ℕ → ℕ → List ℕ → Effect × State
 program map s found width value seen =
     if may_program s found.area width then
-    (if all_are found.area.empty seen then record { registers = s; begins = Some (record { work = unit_work width value; place = found.place; ticks = map.program_ticks }) }
+    (if all_are found.area.empty seen then (effect.Begins (record { work = unit_work width value; place = found.place; ticks = map.program_ticks }), s)
     else becomes (record s { not_empty = true }))
     else becomes (with_sequence s)
 
@@ -86,11 +87,11 @@ done s = record s { done = true }
 
 abbrev pub fc1_table : Table State
 fc1_table = record {
+  block = λ kind. 32;
   fresh = λ kind. after_reset;
-  block = λ s. 32;
   load = load;
   store = store;
   looks = λ s area width value. may_program s area width;
-  program = λ map s found width value seen. Some (program map s found width value seen);
+  program = program;
   ended = done;
 }

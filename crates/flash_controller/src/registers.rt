@@ -7,7 +7,7 @@ ghost use Rattle.flash_controller.specs.Table.{started};
 
 use crate::state::State;
 use board_file::ControllerKind;
-use flash_driver::{Driver, Registers, Taken, all_are, erases_first, erases_sector};
+use flash_driver::{Driver, Effect, Registers, all_are, erases_first, erases_sector};
 use flash_layout::{Area, FlashMap, Found, Operation, unit_work};
 
 /// The bytes of the block of registers.
@@ -23,21 +23,27 @@ const ERASE_CHIP: u32 = 3;
 pub type Controller = Driver<State>;
 
 impl State {
-    /// After a store to START.
+    /// A store to START.
     #[tactic(auto, unfolding(crate::specs::Table::started))]
-    fn started(self, layout: &FlashMap, operation: Option<Operation>, value: u32) -> Taken<State>
-        ensures value { result ≡ started (map_of layout.now) self operation value }
-        ensures begins { MayBegin (cells_in layout.now.areas.items) operation result.begins }
+    fn start(&mut self, layout: &FlashMap, operation: Option<Operation>, value: u32) -> Effect
+        ensures value { (result, self.new) ≡ started (map_of layout.now) self.old operation value }
+        ensures begins { MayBegin (cells_in layout.now.areas.items) operation result }
     {
-        if self.is_ready(operation) && value == 1 && self.command == ERASE_SECTOR {
-            let range = true;
-            let outside = State { range, ..self };
-            return Taken::begins_or(self, outside, erases_sector(layout, self.address));
+        let is_start = self.is_ready(operation) && value == 1;
+        if is_start && self.command == ERASE_SECTOR {
+            if let Some(operation) = erases_sector(layout, self.address) {
+                return Effect::Begins { operation };
+            }
+            self.range = true;
+            return Effect::Taken;
         }
-        if self.is_ready(operation) && value == 1 && self.command == ERASE_CHIP {
-            return Taken::begins_or(self, self.with_sequence(), erases_first(layout));
+        if is_start && self.command == ERASE_CHIP {
+            if let Some(operation) = erases_first(layout) {
+                return Effect::Begins { operation };
+            }
         }
-        Taken::becomes(self.with_sequence())
+        self.sequence = true;
+        Effect::Taken
     }
 }
 
@@ -47,13 +53,12 @@ impl Registers for State {
 
     ghost table = { fc1_table };
 
-    fn fresh(_kind: ControllerKind) -> State {
-        State::reset()
+    fn block(_kind: ControllerKind) -> u32 {
+        BLOCK
     }
 
-    #[inline(always)]
-    fn block(&self) -> u32 {
-        BLOCK
+    fn fresh(_kind: ControllerKind) -> State {
+        State::reset()
     }
 
     #[inline(always)]
@@ -69,20 +74,21 @@ impl Registers for State {
 
     #[inline(always)]
     fn store(
-        self,
+        &mut self,
         layout: &FlashMap,
         operation: Option<Operation>,
         offset: u32,
         value: u32,
-    ) -> Option<Taken<State>> {
+    ) -> Effect {
         match offset {
-            0 => Some(Taken::becomes(self.key_stored(value))),
-            4 => Some(Taken::becomes(self.status_stored(value))),
-            8 => Some(Taken::becomes(self.command_stored(operation, value))),
-            12 => Some(Taken::becomes(self.address_stored(operation, value))),
-            16 => Some(self.started(layout, operation, value)),
-            _ => None,
+            0 => self.store_key(value),
+            4 => self.store_status(value),
+            8 => self.store_command(operation, value),
+            12 => self.store_address(operation, value),
+            16 => return self.start(layout, operation, value),
+            _ => return Effect::Fault,
         }
+        Effect::Taken
     }
 
     #[inline(always)]
@@ -92,29 +98,29 @@ impl Registers for State {
 
     #[inline(always)]
     fn program(
-        self,
+        &mut self,
         layout: &FlashMap,
         found: Found,
         width: u32,
         value: u32,
         seen: &[u8],
-    ) -> Option<Taken<State>> {
+    ) -> Effect {
         if !self.may_program(&found.area, width) {
-            return Some(Taken::becomes(self.with_sequence()));
+            self.sequence = true;
+            return Effect::Taken;
         }
         if !all_are(found.area.empty, seen) {
-            let not_empty = true;
-            return Some(Taken::becomes(State { not_empty, ..self }));
+            self.not_empty = true;
+            return Effect::Taken;
         }
         let work = unit_work(width, value);
         let place = found.place;
         let ticks = layout.program_ticks;
-        let registers = self;
-        let begins = Some(Operation { work, place, ticks });
-        Some(Taken { registers, begins })
+        let operation = Operation { work, place, ticks };
+        Effect::Begins { operation }
     }
 
-    fn ended(self) -> State {
-        State { done: true, ..self }
+    fn end(&mut self) {
+        self.done = true;
     }
 }

@@ -1,6 +1,6 @@
 //! The registers.
 ghost use Rattle.std.specs.Prelude.{◌≡◌};
-ghost use Rattle.flash_controller.specs.Table.{is_ready, status, key_stored, status_stored, command_stored, address_stored, with_sequence};
+ghost use Rattle.flash_controller.specs.Table.{is_ready, status, key_stored, status_stored, command_stored, address_stored};
 ghost use Rattle.flash_controller.specs.Table.{after_reset, may_program};
 
 use flash_layout::{Area, Lock, Operation, flag_value};
@@ -73,64 +73,42 @@ impl State {
         self.lock.is_unlocked() && self.command == PROGRAM && width == area.unit
     }
 
-    /// After a store to KEY.
-    pub fn key_stored(self, value: u32) -> State
-        ensures { result ≡ key_stored self value }
+    /// A store to KEY.
+    pub fn store_key(&mut self, value: u32)
+        ensures { self.new ≡ key_stored self.old value }
     {
-        State {
-            lock: self.lock.after_key(value),
-            ..self
-        }
+        self.lock = self.lock.after_key(value);
     }
 
-    /// After a store to STATUS: the flags whose bits are set in the value are cleared.
-    pub fn status_stored(self, value: u32) -> State
-        ensures { result ≡ status_stored self value }
+    /// A store to STATUS: the flags whose bits are set in the value are cleared.
+    pub fn store_status(&mut self, value: u32)
+        ensures { self.new ≡ status_stored self.old value }
     {
-        State {
-            done: self.done && (value / 2) % 2 == 0,
-            sequence: self.sequence && (value / 4) % 2 == 0,
-            range: self.range && (value / 8) % 2 == 0,
-            not_empty: self.not_empty && (value / 16) % 2 == 0,
-            ..self
-        }
+        self.done = self.done && (value / 2) % 2 == 0;
+        self.sequence = self.sequence && (value / 4) % 2 == 0;
+        self.range = self.range && (value / 8) % 2 == 0;
+        self.not_empty = self.not_empty && (value / 16) % 2 == 0;
     }
 
-    /// With SEQ set.
-    pub fn with_sequence(self) -> State
-        ensures { result ≡ with_sequence self }
-    {
-        State {
-            sequence: true,
-            ..self
-        }
-    }
-
-    /// After a store to CMD.
-    pub fn command_stored(self, operation: Option<Operation>, value: u32) -> State
-        ensures { result ≡ command_stored self operation value }
+    /// A store to CMD.
+    pub fn store_command(&mut self, operation: Option<Operation>, value: u32)
+        ensures { self.new ≡ command_stored self.old operation value }
     {
         if self.is_ready(operation) && value <= LAST_COMMAND {
-            State {
-                command: value,
-                ..self
-            }
+            self.command = value;
         } else {
-            self.with_sequence()
+            self.sequence = true;
         }
     }
 
-    /// After a store to ADDR.
-    pub fn address_stored(self, operation: Option<Operation>, value: u32) -> State
-        ensures { result ≡ address_stored self operation value }
+    /// A store to ADDR.
+    pub fn store_address(&mut self, operation: Option<Operation>, value: u32)
+        ensures { self.new ≡ address_stored self.old operation value }
     {
         if self.is_ready(operation) {
-            State {
-                address: value,
-                ..self
-            }
+            self.address = value;
         } else {
-            self.with_sequence()
+            self.sequence = true;
         }
     }
 }

@@ -1,13 +1,12 @@
 -- How accesses of a bench come one after the other.
-use Rattle.std.proofs.Common.{◌≡◌, ◌≤◌, ◌+◌, ◌↔◌, ℕ, Bool, true, false, IsTrue, List, length, take, drop, Option, Some, None, Result, refl, sym, ap, subst, arith, ◌∙◌, ◌⊎◌, inl, inr, ⊎_elim}
+use Rattle.std.proofs.Common.{◌≡◌, ◌+◌, ◌↔◌, ℕ, Bool, false, IsTrue, List, length, take, drop, Option, Some, None, Result, refl, sym, ap, subst, arith, ◌∙◌, ◌⊎◌, inl, inr, ⊎_elim}
 use Rattle.faults.specs.Counts.{Rose}
 use Rattle.bench_model.specs.declared.bench_fault.BusEnd.{BusEnd}
-use Rattle.bench_model.specs.Device.{is_device}
 use Rattle.bench_model.specs.Counted.{IsCounted}
 use Rattle.bench_model.specs.History.{left}
 use Rattle.bench_model.specs.State.{BenchState, cells_half, SameOutside}
 use Rattle.bench_model.proofs.Moments.{leaves_here, leaves_then, leaves_as, file_stays_here, file_stays_then}
-use Rattle.flash_layout.specs.Bench.{Accesses, Touches, IsIdle}
+use Rattle.flash_layout.specs.Bench.{Accesses, Touches}
 use Rattle.flash_layout.specs.Maps.{FlashMap}
 
 -- what a stop leaves while no operation is open, it leaves whatever is open

@@ -7,7 +7,8 @@ use Rattle.flash_layout.specs.declared.work.Operation.{Operation}
 use Rattle.flash_layout.specs.declared.work.Work.TheVariants as work
 use Rattle.flash_layout.specs.Areas.{sector_of}
 use Rattle.flash_layout.specs.Maps.{FlashMap}
-use Rattle.flash_driver.specs.declared.state.Taken.{Taken}
+use Rattle.flash_driver.specs.declared.state.Effect.{Effect}
+use Rattle.flash_driver.specs.declared.state.Effect.TheVariants as effect
 
 -- the erasure of a sector
 abbrev pub erases : ℕ → Option SectorCells → Option Operation
@@ -26,14 +27,14 @@ erases_area ticks (a ∷ rest) = Some (record { work = work.Fill a.size a.empty;
 abbrev pub erases_first : FlashMap → Option Operation
 erases_first map = erases_area map.chip_ticks map.areas
 
--- a store that is taken and begins nothing
-abbrev pub becomes : {R : Type 0} → R → Taken R
-becomes r = record { registers = r; begins = None }
+-- a store that does no more than to leave these registers
+abbrev pub becomes : {R : Type 0} → R → Effect × R
+becomes r = (effect.Taken, r)
 
--- registers with an operation that they begin, or else other ones
-abbrev pub begins_or : {R : Type 0} → R → R → Option Operation → Taken R
-begins_or r other None = becomes other
-begins_or r other (Some o) = record { registers = r; begins = Some o }
+-- the operation is begun, and leaves these registers; or there is none, and others are left
+abbrev pub begins_or : {R : Type 0} → Option Operation → R → R → Effect × R
+begins_or None r other = becomes other
+begins_or (Some o) r other = (effect.Begins o, r)
 
 -- these cells hold one byte alone
 abbrev pub all_are : ℕ → List ℕ → Bool

@@ -10,10 +10,10 @@ abbrev pub of_found : Option Found → Place
 of_found None = place.Nowhere
 of_found (Some found) = place.Flash found
 
--- What an access of so many bytes goes to, where the controller's block has so many bytes. The block takes words alone.
-unfoldable pub place_of : FlashMap → ℕ → ℕ → ℕ → Place
-place_of map block at width =
-    if nat_le map.base at && nat_lt (at - map.base) block then (if nat_eq width 4 then place.Register (at - map.base) else place.Nowhere)
+-- What an access of so many bytes goes to. The controller's block takes words alone.
+unfoldable pub place_of : FlashMap → ℕ → ℕ → Place
+place_of map at width =
+    if nat_le map.base at && nat_lt (at - map.base) map.block then (if nat_eq width 4 then place.Register (at - map.base) else place.Nowhere)
     else of_found (find map.areas 0 at)
 
 -- a register is met by a word alone, and a cell that an access goes to lies in the cells, with the bytes of the access

@@ -13,34 +13,39 @@ use Rattle.flash_layout.specs.Work.{work_len, tick_at}
 use Rattle.flash_driver.specs.declared.place.Place.{Place}
 use Rattle.flash_driver.specs.declared.place.Place.TheVariants as place
 use Rattle.flash_driver.specs.declared.state.State.{State}
-use Rattle.flash_driver.specs.declared.state.Taken.{Taken}
+use Rattle.flash_driver.specs.declared.state.Effect.{Effect}
+use Rattle.flash_driver.specs.declared.state.Effect.TheVariants as effect
 use Rattle.flash_driver.specs.Places.{place_of}
 
 -- What the registers of one kind do.
 pub record Table (R : Type 0) : Type 0 where
-  -- as after a reset, on a board of a kind
+  -- the bytes of their block, on a board of a kind
+  pub block : ControllerKind → ℕ
+  -- as after a reset, on such a board
   pub fresh : ControllerKind → R
-  -- the bytes of their block
-  pub block : R → ℕ
   -- what a register answers to a load, by the operation that runs and its offset; none where there is no register
   pub load : R → Option Operation → ℕ → Option ℕ
-  -- what a store of a value to a register leaves; none where there is no register
-  pub store : FlashMap → R → Option Operation → ℕ → ℕ → Option (Taken R)
+  -- what a store of a value to a register does, and the registers after it
+  pub store : FlashMap → R → Option Operation → ℕ → ℕ → Effect × R
   -- whether a store to a cell of an area, of a width and a value, looks at the cells there; no operation runs
   pub looks : R → Area → ℕ → ℕ → Bool
-  -- what such a store leaves, where it sees these cells (none, where it doesn't look); none where it isn't taken
-  pub program : FlashMap → R → Found → ℕ → ℕ → List ℕ → Option (Taken R)
+  -- what such a store does, where it sees these cells (none, where it doesn't look), and the registers after it
+  pub program : FlashMap → R → Found → ℕ → ℕ → List ℕ → Effect × R
   -- as after the end of an operation
   pub ended : R → R
 
--- An operation that is begun where this one runs: none runs, and it has a cell and lies in the cells.
-abbrev pub MayBegin : ℕ → Option Operation → Option Operation → Type 0
-MayBegin cells runs None = Unit {0}
-MayBegin cells runs (Some o) = (runs ≡ None) × (0 < work_len o.work) × (o.place + work_len o.work ≤ cells)
+-- a map with the block of a table's registers
+abbrev pub with_block : {R : Type 0} → Table R → FlashMap → FlashMap
+with_block t map = record map { block = t.block map.kind }
 
-abbrev pub Begins : {R : Type 0} → ℕ → Option Operation → Option (Taken R) → Type 0
-Begins cells runs None = Unit {0}
-Begins cells runs (Some taken) = MayBegin cells runs taken.begins
+-- an operation has a cell and lies in the cells
+abbrev pub MayRun : ℕ → Operation → Type 0
+MayRun cells o = (0 < work_len o.work) × (o.place + work_len o.work ≤ cells)
+
+-- an operation is begun where none runs
+abbrev pub MayBegin : ℕ → Option Operation → Effect → Type 0
+MayBegin cells runs (effect.Begins o) = (runs ≡ None) × MayRun cells o
+MayBegin cells runs _ = Unit {0}
 
 abbrev pub is_running : {R : Type 0} → State R → Bool
 is_running s = is_some s.operation
@@ -65,13 +70,16 @@ load_at t s cells width place.Nowhere = Err bus.Fault
 abbrev pub Stored : Type 0 → Type 0
 Stored R = Result (Unit {0}) BusEnd × State R
 
-abbrev pub begun : Option Operation → Option Operation → Option Operation
-begun runs None = runs
-begun runs (Some o) = Some o
+abbrev pub answer_of : Effect → Result (Unit {0}) BusEnd
+answer_of effect.Fault = Err bus.Fault
+answer_of _ = Ok tt
 
-abbrev pub leaves : {R : Type 0} → State R → Option (Taken R) → Stored R
-leaves s None = (Err bus.Fault, s)
-leaves s (Some taken) = (Ok tt, record { registers = taken.registers; operation = begun s.operation taken.begins })
+abbrev pub begun : Option Operation → Effect → Option Operation
+begun runs (effect.Begins o) = Some o
+begun runs _ = runs
+
+abbrev pub leaves : {R : Type 0} → State R → Effect × R → Stored R
+leaves s done = (answer_of done.0, record { registers = done.1; operation = begun s.operation done.0 })
 
 -- the cells that a store sees
 abbrev pub seen : Bool → List ℕ → ℕ → ℕ → List ℕ
@@ -87,10 +95,10 @@ store_at t map s cells width value (place.Flash found) = if is_running s then (E
 store_at t map s cells width value place.Nowhere = (Err bus.Fault, s)
 
 unfoldable pub load_row : {R : Type 0} → Table R → FlashMap → State R → List ℕ → ℕ → ℕ → Result ℕ BusEnd
-load_row t map s cells at width = load_at t s cells width (place_of map (t.block s.registers) at width)
+load_row t map s cells at width = load_at t s cells width (place_of map at width)
 
 unfoldable pub store_row : {R : Type 0} → Table R → FlashMap → State R → List ℕ → ℕ → ℕ → ℕ → Stored R
-store_row t map s cells at width value = store_at t map s cells width value (place_of map (t.block s.registers) at width)
+store_row t map s cells at width value = store_at t map s cells width value (place_of map at width)
 
 -- a load there looks at cells
 abbrev pub reads : {R : Type 0} → State R → Place → Bool
@@ -102,15 +110,15 @@ abbrev pub compares : {R : Type 0} → Table R → State R → ℕ → ℕ → P
 compares t s width value (place.Flash found) = not (is_running s) && t.looks s.registers found.area width value
 compares t s width value _ = false
 
--- what is taken begins an operation
-abbrev pub begins : {R : Type 0} → Option (Taken R) → Bool
-begins None = false
-begins (Some taken) = is_some taken.begins
+-- it begins an operation
+abbrev pub begins : Effect → Bool
+begins (effect.Begins o) = true
+begins _ = false
 
 -- a store there that looks at no cell opens an operation
 abbrev pub opens : {R : Type 0} → Table R → FlashMap → State R → ℕ → ℕ → Place → Bool
-opens t map s width value (place.Register offset) = begins (t.store map s.registers s.operation offset value)
-opens t map s width value (place.Flash found) = not (is_running s) && begins (t.program map s.registers found width value [])
+opens t map s width value (place.Register offset) = begins (t.store map s.registers s.operation offset value).0
+opens t map s width value (place.Flash found) = not (is_running s) && begins (t.program map s.registers found width value []).0
 opens t map s width value place.Nowhere = false
 
 -- Outside the RAM: the row, and else in a quiet range a load of 0 or a store of nothing.

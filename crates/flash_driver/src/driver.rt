@@ -11,12 +11,12 @@ ghost use Rattle.flash_layout.specs.Maps.{map_of, board_map, in_quiet};
 ghost use Rattle.flash_layout.specs.Work.{range_of, settles, tick_at};
 ghost use Rattle.flash_driver.specs.Calls.{LoadGives, StoreGives, DriverAgrees, DriverTouches, LowersTo};
 ghost use Rattle.flash_driver.specs.Places.{place_of};
-ghost use Rattle.flash_driver.specs.Table.{fresh, is_running, load_row, store_row, bus_load, bus_store, tick_row, programmed, leaves, reads, compares, opens, begins, Begins, done, running};
+ghost use Rattle.flash_driver.specs.Table.{fresh, is_running, load_row, store_row, bus_load, bus_store, tick_row, programmed, leaves, reads, compares, opens, begins, MayBegin, done, running, with_block};
 
 use crate::look::look;
 use crate::place::{Place, place_of};
 use crate::registers::Registers;
-use crate::state::{State, Taken};
+use crate::state::{Effect, State};
 use bench_model::{Bench, BusEnd, DeviceFault};
 use board_file::Board;
 use faults::OutOfMemory;
@@ -52,10 +52,11 @@ fn lowers(operation: &mut Option<Operation>) -> bool
 impl<R: Registers> Driver<R> {
     /// The controller of a board, as after a reset.
     pub fn new(alloc: Global, board: &Board) -> Result<Driver<R>, OutOfMemory>
-        ensures map { IfOk result (λ driver. map_of driver.layout ≡ board_map (shown board.now)) }
+        ensures map { IfOk result (λ driver. map_of driver.layout ≡ with_block R.table (board_map (shown board.now))) }
         ensures state { IfOk result (λ driver. driver.state ≡ fresh R.table board.now.kind) }
     {
-        let layout = FlashMap::of(alloc, board)?;
+        let mut layout = FlashMap::of(alloc, board)?;
+        layout.block = R::block(board.kind);
         let registers = R::fresh(board.kind);
         let operation = None;
         Ok(Driver {
@@ -96,14 +97,14 @@ impl<R: Registers> Driver<R> {
         requires width { IsWidth width }
         requires aligned { at % width ≡ 0 }
         ensures row { IsTrue B.tells → LoadGives (load_row R.table (map_of self.old.layout) self.old.state (B.state bench.old).cells at width) result }
-        ensures elsewhere { reads self.old.state (place_of (map_of self.old.layout) (R.table.block self.old.state.registers) at width) ≡ false
+        ensures elsewhere { reads self.old.state (place_of (map_of self.old.layout) at width) ≡ false
             → result ≡ load_row R.table (map_of self.old.layout) self.old.state [] at width }
         ensures same { self.new ≡ self.old }
         ensures byte { width ≡ 1 → IfOk result (λ value. value < 2 ^ 8) }
         ensures half { width ≡ 2 → IfOk result (λ value. value < 2 ^ 16) }
         ensures touches { DriverTouches B.tells self.new.layout self.new.state (B.state bench.old) (B.state bench.new) result }
     {
-        match place_of(&self.layout, self.state.registers.block(), at, width) {
+        match place_of(&self.layout, at, width) {
             Place::Register { offset } => {
                 match self.state.registers.load(self.state.operation, offset) {
                     Some(value) => Ok(value),
@@ -135,20 +136,22 @@ impl<R: Registers> Driver<R> {
         requires aligned { at % width ≡ 0 }
         ensures row { IsTrue B.tells → StoreGives (store_row R.table (map_of self.old.layout) self.old.state (B.state bench.old).cells at width value)
             self.old.state result self.new.state }
-        ensures elsewhere { compares R.table self.old.state width value (place_of (map_of self.old.layout) (R.table.block self.old.state.registers) at width) ≡ false
+        ensures elsewhere { compares R.table self.old.state width value (place_of (map_of self.old.layout) at width) ≡ false
             → StoreGives (store_row R.table (map_of self.old.layout) self.old.state [] at width value) self.old.state result self.new.state }
-        ensures quiet { compares R.table self.old.state width value (place_of (map_of self.old.layout) (R.table.block self.old.state.registers) at width) ≡ false
-            → opens R.table (map_of self.old.layout) self.old.state width value (place_of (map_of self.old.layout) (R.table.block self.old.state.registers) at width) ≡ false
+        ensures quiet { compares R.table self.old.state width value (place_of (map_of self.old.layout) at width) ≡ false
+            → opens R.table (map_of self.old.layout) self.old.state width value (place_of (map_of self.old.layout) at width) ≡ false
             → is_device result ≡ false }
         ensures device { is_device result ≡ true → self.new.state ≡ self.old.state }
         ensures layout { self.new.layout ≡ self.old.layout }
         ensures touches { DriverTouches B.tells self.new.layout self.new.state (B.state bench.old) (B.state bench.new) result }
     {
-        match place_of(&self.layout, self.state.registers.block(), at, width) {
+        match place_of(&self.layout, at, width) {
             Place::Register { offset } => {
-                let registers = self.state.registers;
-                let taken = registers.store(&self.layout, self.state.operation, offset, value);
-                self.take(bench, taken)
+                let before = self.state.registers;
+                let operation = self.state.operation;
+                let registers = &mut self.state.registers;
+                let effect = registers.store(&self.layout, operation, offset, value);
+                self.take(bench, before, effect)
             }
             Place::Flash { found } => {
                 if self.is_running() {
@@ -160,32 +163,31 @@ impl<R: Registers> Driver<R> {
         }
     }
 
-    /// Takes what a store leaves, and opens the operation that it begins.
+    /// Opens the operation that a store begins. Where that fails the registers are again as they were before it.
     #[inline(always)]
-    fn take<B: Bench>(&mut self, bench: &mut B, taken: Option<Taken<R>>) -> Result<(), BusEnd>
+    fn take<B: Bench>(&mut self, bench: &mut B, before: R, effect: Effect) -> Result<(), BusEnd>
         requires agrees { DriverAgrees B.tells self.old.layout self.old.state (B.state bench.old) }
-        requires begins { Begins (cells_in self.old.layout.areas.items) self.old.state.operation taken }
-        ensures gives { StoreGives (leaves self.old.state taken) self.old.state result self.new.state }
-        ensures quiet { begins taken ≡ false → is_device result ≡ false }
-        ensures device { is_device result ≡ true → self.new.state ≡ self.old.state }
+        requires begins { MayBegin (cells_in self.old.layout.areas.items) self.old.state.operation effect }
+        ensures gives { StoreGives (leaves self.old.state (effect, self.old.state.registers)) (record self.old.state { registers = before }) result self.new.state }
+        ensures quiet { begins effect ≡ false → is_device result ≡ false }
+        ensures device { is_device result ≡ true → self.new.state ≡ record self.old.state { registers = before } }
         ensures layout { self.new.layout ≡ self.old.layout }
         ensures touches { DriverTouches B.tells self.new.layout self.new.state (B.state bench.old) (B.state bench.new) result }
     {
-        let Some(taken) = taken else {
-            return Err(BusEnd::Fault);
-        };
-        let registers = taken.registers;
-        let Some(operation) = taken.begins else {
-            self.state.registers = registers;
-            return Ok(());
+        let operation = match effect {
+            Effect::Fault => return Err(BusEnd::Fault),
+            Effect::Taken => return Ok(()),
+            Effect::Begins { operation } => operation,
         };
         match bench.cells_open(operation.place, operation.work.len()) {
             Ok(()) => {
-                self.state.registers = registers;
                 self.state.operation = Some(operation);
                 Ok(())
             }
-            Err(DeviceFault) => Err(BusEnd::Device),
+            Err(DeviceFault) => {
+                self.state.registers = before;
+                Err(BusEnd::Device)
+            }
         }
     }
 
@@ -207,21 +209,22 @@ impl<R: Registers> Driver<R> {
         ensures elsewhere { R.table.looks self.old.state.registers found.area width value ≡ false
             → StoreGives (programmed R.table (map_of self.old.layout) self.old.state [] width value found) self.old.state result self.new.state }
         ensures quiet { R.table.looks self.old.state.registers found.area width value ≡ false
-            → begins (R.table.program (map_of self.old.layout) self.old.state.registers found width value []) ≡ false → is_device result ≡ false }
+            → begins (R.table.program (map_of self.old.layout) self.old.state.registers found width value []).0 ≡ false → is_device result ≡ false }
         ensures device { is_device result ≡ true → self.new.state ≡ self.old.state }
         ensures layout { self.new.layout ≡ self.old.layout }
         ensures touches { DriverTouches B.tells self.new.layout self.new.state (B.state bench.old) (B.state bench.new) result }
     {
-        let registers = self.state.registers;
-        if !registers.looks(&found.area, width, value) {
-            let taken = registers.program(&self.layout, found, width, value, &[]);
-            return self.take(bench, taken);
+        let before = self.state.registers;
+        let registers = &mut self.state.registers;
+        if !before.looks(&found.area, width, value) {
+            let effect = registers.program(&self.layout, found, width, value, &[]);
+            return self.take(bench, before, effect);
         }
         let mut bytes = [0; WORD];
         let seen = &mut bytes[..width as usize];
         look(bench, found.place, seen)?;
-        let taken = registers.program(&self.layout, found, width, value, seen);
-        self.take(bench, taken)
+        let effect = registers.program(&self.layout, found, width, value, seen);
+        self.take(bench, before, effect)
     }
 
     /// A load from outside the RAM: as `load`, but 0 in a quiet range where nothing else takes it.
@@ -323,7 +326,7 @@ impl<R: Registers> Driver<R> {
         }
         match settle(bench, &operation) {
             Ok(()) => {
-                self.state.registers = self.state.registers.ended();
+                self.state.registers.end();
                 self.state.operation = None;
                 Ok(())
             }

@@ -1,4 +1,4 @@
-//! What drives the bench for a flash controller of whichever kind. A controller is its registers alone, by the trait `Registers`: six functions
+//! What drives the bench for a flash controller of whichever kind. A controller is its registers alone, by the trait `Registers`: seven functions
 //! that touch no bench. `Driver` stands between the core's loads and stores and the bench that holds the cells. Nothing else opens, settles or
 //! breaks off an operation on the cells.
 #![tactic(auto)]
@@ -14,4 +14,4 @@ pub use driver::Driver;
 pub use erasures::{all_are, erases_first, erases_sector};
 pub use place::Place;
 pub use registers::Registers;
-pub use state::{State, Taken};
+pub use state::{Effect, State};

@@ -22,13 +22,13 @@ pub enum Place {
     Nowhere,
 }
 
-/// What an access of so many bytes goes to, where the controller's block has so many bytes. The registers take words alone.
+/// What an access of so many bytes goes to. The registers take words alone.
 #[tactic(auto, unfolding(crate::specs::Places::place_of))]
-pub fn place_of(layout: &FlashMap, block: u32, at: u32, width: u32) -> Place
-    ensures value { result ≡ place_of (map_of layout.now) block at width }
+pub fn place_of(layout: &FlashMap, at: u32, width: u32) -> Place
+    ensures value { result ≡ place_of (map_of layout.now) at width }
     ensures inside { PlaceInside (map_of layout.now) at width result }
 {
-    if at >= layout.base && at - layout.base < block {
+    if at >= layout.base && at - layout.base < layout.block {
         if width != 4 {
             return Place::Nowhere;
         }

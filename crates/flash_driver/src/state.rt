@@ -1,4 +1,4 @@
-//! What a controller holds.
+//! What a controller holds, and what a store to it does.
 
 use flash_layout::Operation;
 
@@ -11,11 +11,16 @@ pub struct State<R> {
     pub operation: Option<Operation>,
 }
 
-/// What a store that is taken leaves.
+/// What a store does, beside what it leaves in the registers.
 #[derive(Clone, Copy, Debug, PartialEq, Eq)]
-pub struct Taken<R> {
-    /// The registers.
-    pub registers: R,
-    /// The operation that it begins.
-    pub begins: Option<Operation>,
+pub enum Effect {
+    /// A bus fault: nothing takes it.
+    Fault,
+    /// Nothing more.
+    Taken,
+    /// It begins an operation.
+    Begins {
+        /// The operation.
+        operation: Operation,
+    },
 }

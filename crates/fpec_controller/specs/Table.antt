@@ -1,6 +1,5 @@
 -- The table of the controller FPEC: what its registers answer and become. The rows are those of `flash_driver/specs/Table` by `fpec_table`.
 use Rattle.std.specs.Prelude.{ℕ, Bool, true, false, not, ◌&&◌, ◌||◌, nat_eq, if◌then◌else◌, ◌+◌, ◌/◌, ◌%◌, List, Option, Some, None, is_some}
-use Rattle.flash_layout.specs.declared.area.Area.{Area}
 use Rattle.flash_layout.specs.declared.area.Found.{Found}
 use Rattle.flash_layout.specs.declared.lock.Lock.TheVariants as lock
 use Rattle.flash_layout.specs.declared.work.Work.{Work}
@@ -8,8 +7,9 @@ use Rattle.flash_layout.specs.declared.work.Work.TheVariants as work
 use Rattle.flash_layout.specs.declared.work.Operation.{Operation}
 use Rattle.flash_layout.specs.Lock.{is_unlocked, next_lock, flag_value, kept}
 use Rattle.flash_layout.specs.Maps.{FlashMap}
-use Rattle.flash_driver.specs.declared.state.Taken.{Taken}
-use Rattle.flash_driver.specs.Erasures.{all_are, erases_sector, erases_first, becomes}
+use Rattle.flash_driver.specs.declared.state.Effect.{Effect}
+use Rattle.flash_driver.specs.declared.state.Effect.TheVariants as effect
+use Rattle.flash_driver.specs.Erasures.{all_are, erases_sector, erases_first, becomes, begins_or}
 use Rattle.flash_driver.specs.Table.{Table}
 use Rattle.fpec_controller.specs.declared.state.State.{State}
 
@@ -63,10 +63,10 @@ abbrev pub address_stored : State → Option Operation → ℕ → State
 address_stored s runs value = if is_some runs then s else record s { address = value }
 
 -- an erasure is started: PER alone erases the sector of AR where AR lies in the flash, MER alone the first area, and neither or both nothing
-unfoldable pub started : FlashMap → State → Taken State
+unfoldable pub started : FlashMap → State → Effect × State
 started map s =
-    if s.erases_sector && not s.erases_all then record { registers = s; begins = erases_sector map s.address }
-    else if s.erases_all && not s.erases_sector then record { registers = s; begins = erases_first map }
+    if s.erases_sector && not s.erases_all then begins_or (erases_sector map s.address) s s
+    else if s.erases_all && not s.erases_sector then begins_or (erases_first map) s s
     else becomes s
 
 abbrev pub has_bit : ℕ → ℕ → Bool
@@ -77,7 +77,7 @@ abbrev pub with_bits : State → ℕ → State
 with_bits s value = record s { programs = has_bit value 1; erases_sector = has_bit value 2; erases_all = has_bit value 4 }
 
 -- After a store to CR. While it is locked or an operation runs nothing changes; bit 7 locks it; and else bit 6 starts an erasure.
-unfoldable pub control_stored : FlashMap → State → Option Operation → ℕ → Taken State
+unfoldable pub control_stored : FlashMap → State → Option Operation → ℕ → Effect × State
 control_stored map s runs value =
     if not (is_unlocked s.lock) || is_some runs then becomes s
     else if has_bit value 128 then becomes (record (with_bits s value) { lock = lock.Locked })
@@ -91,13 +91,13 @@ load s runs offset =
     else if nat_eq offset 0x0C then Some (status s runs) else if nat_eq offset 0x10 then Some (control s runs)
     else if nat_eq offset 0x14 then Some s.address else if nat_eq offset 0x1C then Some 0 else if nat_eq offset 0x20 then Some 0xFFFFFFFF else None
 
--- and what a store to it leaves
-unfoldable pub store : FlashMap → State → Option Operation → ℕ → ℕ → Option (Taken State)
+-- and what a store to it does
+unfoldable pub store : FlashMap → State → Option Operation → ℕ → ℕ → Effect × State
 store map s runs offset value =
-    if nat_eq offset 0x00 then Some (becomes (access_control_stored s value)) else if nat_eq offset 0x04 then Some (becomes (key_stored s value))
-    else if nat_eq offset 0x08 then Some (becomes s) else if nat_eq offset 0x0C then Some (becomes (status_stored s value))
-    else if nat_eq offset 0x10 then Some (control_stored map s runs value) else if nat_eq offset 0x14 then Some (becomes (address_stored s runs value))
-    else if nat_eq offset 0x1C then Some (becomes s) else if nat_eq offset 0x20 then Some (becomes s) else None
+    if nat_eq offset 0x00 then becomes (access_control_stored s value) else if nat_eq offset 0x04 then becomes (key_stored s value)
+    else if nat_eq offset 0x08 then becomes s else if nat_eq offset 0x0C then becomes (status_stored s value)
+    else if nat_eq offset 0x10 then control_stored map s runs value else if nat_eq offset 0x14 then becomes (address_stored s runs value)
+    else if nat_eq offset 0x1C then becomes s else if nat_eq offset 0x20 then becomes s else (effect.Fault, s)
 
 -- The flash.
 
@@ -109,12 +109,12 @@ abbrev pub half_of : ℕ → ℕ
 half_of value = value % 0x10000
 
 -- After a store to the flash: only a halfword is taken. PG programs an erased halfword, and 0 over any; over any other halfword PGERR is set.
-unfoldable pub program : FlashMap → State → Found → ℕ → ℕ → List ℕ → Option (Taken State)
+unfoldable pub program : FlashMap → State → Found → ℕ → ℕ → List ℕ → Effect × State
 program map s found width value seen =
-    if not (nat_eq width 2) then None
-    else if not (may_program s) then Some (becomes s)
-    else if nat_eq (half_of value) 0 || all_are 0xFF seen then Some (record { registers = s; begins = Some (record { work = work.Half value; place = found.place; ticks = map.program_ticks }) })
-    else Some (becomes (record s { program_error = true }))
+    if not (nat_eq width 2) then (effect.Fault, s)
+    else if not (may_program s) then becomes s
+    else if nat_eq (half_of value) 0 || all_are 0xFF seen then (effect.Begins (record { work = work.Half value; place = found.place; ticks = map.program_ticks }), s)
+    else becomes (record s { program_error = true })
 
 -- a store looks at the cells that may program, and not with 0
 abbrev pub looks : State → ℕ → ℕ → Bool
@@ -126,8 +126,8 @@ done s = record s { ended = true }
 
 abbrev pub fpec_table : Table State
 fpec_table = record {
+  block = λ kind. 64;
   fresh = λ kind. after_reset;
-  block = λ s. 64;
   load = load;
   store = store;
   looks = λ s area width value. looks s width value;

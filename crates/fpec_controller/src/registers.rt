@@ -7,7 +7,7 @@ ghost use Rattle.fpec_controller.specs.Table.{control_stored, started};
 
 use crate::state::{State, has_bit};
 use board_file::ControllerKind;
-use flash_driver::{Driver, Registers, Taken, all_are, erases_first, erases_sector};
+use flash_driver::{Driver, Effect, Registers, all_are, erases_first, erases_sector};
 use flash_layout::{Area, FlashMap, Found, Lock, Operation, Work};
 
 /// The bytes of the block of registers.
@@ -32,47 +32,46 @@ const ERASED: u8 = 0xFF;
 pub type Fpec = Driver<State>;
 
 impl State {
-    /// After a store to CR.
+    /// A store to CR.
     #[tactic(auto, unfolding(crate::specs::Table::control_stored))]
-    fn control_stored(
-        self,
+    fn store_control(
+        &mut self,
         layout: &FlashMap,
         operation: Option<Operation>,
         value: u32,
-    ) -> Taken<State>
-        ensures value { result ≡ control_stored (map_of layout.now) self operation value }
-        ensures begins { MayBegin (cells_in layout.now.areas.items) operation result.begins }
+    ) -> Effect
+        ensures value { (result, self.new) ≡ control_stored (map_of layout.now) self.old operation value }
+        ensures begins { MayBegin (cells_in layout.now.areas.items) operation result }
     {
         if !self.lock.is_unlocked() || operation.is_some() {
-            return Taken::becomes(self);
+            return Effect::Taken;
         }
-        let state = self.with_bits(value);
+        self.take_bits(value);
         if has_bit(value, LOCK) {
-            let lock = Lock::Locked;
-            return Taken::becomes(State { lock, ..state });
+            self.lock = Lock::Locked;
+            return Effect::Taken;
         }
         if has_bit(value, START) {
-            return state.started(layout);
+            return self.start(layout);
         }
-        Taken::becomes(state)
+        Effect::Taken
     }
 
     /// Starts the erasure that PER and MER name.
     #[tactic(auto, unfolding(crate::specs::Table::started))]
-    fn started(self, layout: &FlashMap) -> Taken<State>
-        ensures value { result ≡ started (map_of layout.now) self }
-        ensures begins { MayBegin (cells_in layout.now.areas.items) None result.begins }
+    fn start(&self, layout: &FlashMap) -> Effect
+        ensures value { (result, self.now) ≡ started (map_of layout.now) self.now }
+        ensures begins { MayBegin (cells_in layout.now.areas.items) None result }
     {
-        let registers = self;
-        if self.erases_sector && !self.erases_all {
-            let begins = erases_sector(layout, self.address);
-            return Taken { registers, begins };
+        let begins = match (self.erases_sector, self.erases_all) {
+            (true, false) => erases_sector(layout, self.address),
+            (false, true) => erases_first(layout),
+            _ => None,
+        };
+        match begins {
+            Some(operation) => Effect::Begins { operation },
+            None => Effect::Taken,
         }
-        if self.erases_all && !self.erases_sector {
-            let begins = erases_first(layout);
-            return Taken { registers, begins };
-        }
-        Taken::becomes(registers)
     }
 }
 
@@ -82,13 +81,12 @@ impl Registers for State {
 
     ghost table = { fpec_table };
 
-    fn fresh(_kind: ControllerKind) -> State {
-        State::reset()
+    fn block(_kind: ControllerKind) -> u32 {
+        BLOCK
     }
 
-    #[inline(always)]
-    fn block(&self) -> u32 {
-        BLOCK
+    fn fresh(_kind: ControllerKind) -> State {
+        State::reset()
     }
 
     #[inline(always)]
@@ -106,21 +104,22 @@ impl Registers for State {
 
     #[inline(always)]
     fn store(
-        self,
+        &mut self,
         layout: &FlashMap,
         operation: Option<Operation>,
         offset: u32,
         value: u32,
-    ) -> Option<Taken<State>> {
+    ) -> Effect {
         match offset {
-            0x00 => Some(Taken::becomes(self.access_control_stored(value))),
-            0x04 => Some(Taken::becomes(self.key_stored(value))),
-            0x08 | 0x1C | 0x20 => Some(Taken::becomes(self)),
-            0x0C => Some(Taken::becomes(self.status_stored(value))),
-            0x10 => Some(self.control_stored(layout, operation, value)),
-            0x14 => Some(Taken::becomes(self.address_stored(operation, value))),
-            _ => None,
+            0x00 => self.store_access_control(value),
+            0x04 => self.store_key(value),
+            0x08 | 0x1C | 0x20 => (),
+            0x0C => self.store_status(value),
+            0x10 => return self.store_control(layout, operation, value),
+            0x14 => self.store_address(operation, value),
+            _ => return Effect::Fault,
         }
+        Effect::Taken
     }
 
     #[inline(always)]
@@ -130,38 +129,31 @@ impl Registers for State {
 
     #[inline(always)]
     fn program(
-        self,
+        &mut self,
         layout: &FlashMap,
         found: Found,
         width: u32,
         value: u32,
         seen: &[u8],
-    ) -> Option<Taken<State>> {
+    ) -> Effect {
         if width != HALF {
-            return None;
+            return Effect::Fault;
         }
         if !self.may_program() {
-            return Some(Taken::becomes(self));
+            return Effect::Taken;
         }
         if value % 0x1_0000 != 0 && !all_are(ERASED, seen) {
-            let program_error = true;
-            return Some(Taken::becomes(State {
-                program_error,
-                ..self
-            }));
+            self.program_error = true;
+            return Effect::Taken;
         }
         let work = Work::Half { value };
         let place = found.place;
         let ticks = layout.program_ticks;
-        let registers = self;
-        let begins = Some(Operation { work, place, ticks });
-        Some(Taken { registers, begins })
+        let operation = Operation { work, place, ticks };
+        Effect::Begins { operation }
     }
 
-    fn ended(self) -> State {
-        State {
-            ended: true,
-            ..self
-        }
+    fn end(&mut self) {
+        self.ended = true;
     }
 }

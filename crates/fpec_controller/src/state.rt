@@ -90,59 +90,43 @@ impl State {
         self.lock.is_unlocked() && self.programs
     }
 
-    /// After a store to ACR.
-    pub fn access_control_stored(self, value: u32) -> State
-        ensures { result ≡ access_control_stored self value }
+    /// A store to ACR.
+    pub fn store_access_control(&mut self, value: u32)
+        ensures { self.new ≡ access_control_stored self.old value }
     {
-        State {
-            access_control: value,
-            ..self
+        self.access_control = value;
+    }
+
+    /// A store to KEYR.
+    pub fn store_key(&mut self, value: u32)
+        ensures { self.new ≡ key_stored self.old value }
+    {
+        self.lock = self.lock.after_key(value);
+    }
+
+    /// A store to SR: the flags whose bits are set in the value are cleared.
+    pub fn store_status(&mut self, value: u32)
+        ensures { self.new ≡ status_stored self.old value }
+    {
+        self.program_error = self.program_error && (value / 4) % 2 == 0;
+        self.ended = self.ended && (value / 32) % 2 == 0;
+    }
+
+    /// A store to AR.
+    pub fn store_address(&mut self, operation: Option<Operation>, value: u32)
+        ensures { self.new ≡ address_stored self.old operation value }
+    {
+        if operation.is_none() {
+            self.address = value;
         }
     }
 
-    /// After a store to KEYR.
-    pub fn key_stored(self, value: u32) -> State
-        ensures { result ≡ key_stored self value }
+    /// Takes PG, PER and MER of a value.
+    pub fn take_bits(&mut self, value: u32)
+        ensures { self.new ≡ with_bits self.old value }
     {
-        State {
-            lock: self.lock.after_key(value),
-            ..self
-        }
-    }
-
-    /// After a store to SR: the flags whose bits are set in the value are cleared.
-    pub fn status_stored(self, value: u32) -> State
-        ensures { result ≡ status_stored self value }
-    {
-        State {
-            program_error: self.program_error && (value / 4) % 2 == 0,
-            ended: self.ended && (value / 32) % 2 == 0,
-            ..self
-        }
-    }
-
-    /// After a store to AR.
-    pub fn address_stored(self, operation: Option<Operation>, value: u32) -> State
-        ensures { result ≡ address_stored self operation value }
-    {
-        if operation.is_some() {
-            return self;
-        }
-        State {
-            address: value,
-            ..self
-        }
-    }
-
-    /// With PG, PER and MER of a value.
-    pub fn with_bits(self, value: u32) -> State
-        ensures { result ≡ with_bits self value }
-    {
-        State {
-            programs: has_bit(value, 1),
-            erases_sector: has_bit(value, 2),
-            erases_all: has_bit(value, 4),
-            ..self
-        }
+        self.programs = has_bit(value, 1);
+        self.erases_sector = has_bit(value, 2);
+        self.erases_all = has_bit(value, 4);
     }
 }

@@ -11,7 +11,7 @@ use Rattle.flash_layout.specs.Work.{work_len, work_bytes}
 use Rattle.flash_driver.specs.Erasures.{begins_or, erases}
 use Rattle.flash_driver.specs.Table.{leaves, tick_row}
 use Rattle.target_core.specs.declared.unit.AnyRegisters.TheVariants.{Fc1}
-use Rattle.target_core.specs.AnyTable.{taken_as}
+use Rattle.target_core.specs.AnyTable.{does_as}
 use Rattle.target_core.specs.Units.{UnitState, state_op}
 use Rattle.target_core.specs.World.{World, world_tick}
 use Rattle.target_core.specs.Path.{Point}
@@ -148,7 +148,7 @@ module _ (g : Given) (x : Range) (c a : ℕ) (ram cells : List ℕ) (home : IsHo
 
   -- what the sixth instruction leaves, given what lies at the address
   abbrev ordered_at : Option SectorCells → World
-  ordered_at o = a1_world g (written 176 [] ram) (leaves (unlocked 2 at) (taken_as Fc1 (Some (begins_or (regs 2 at) (record (regs 2 at) { range = true }) (erases g.erase_ticks o))))).1 cells
+  ordered_at o = a1_world g (written 176 [] ram) (leaves (unlocked 2 at) (does_as Fc1 (begins_or (erases g.erase_ticks o) (regs 2 at) (record (regs 2 at) { range = true })))).1 cells
 
   sixth : Goes r 1 (after_in 5 first) (begun g r at 2 at x.start fill (written 176 [] ram) home lies 2 g.erase_ticks cells)
   unfolding computed first_point

@@ -1,6 +1,9 @@
-//! The laws on runs: each has one end, and slices of it, however cut, end as it does.
+//! The laws on runs: each has one end, and slices of it, however cut, end as it does. And the law on the block of registers.
 ghost use Rattle.std.specs.Prelude.{◌≡◌, ◌≤◌, ◌+◌, ◌*◌, ℕ, false, length, List, Some};
 ghost use Rattle.bench_model.specs.State.{SameOutside};
+ghost use Rattle.board_file.specs.Kinds.{block_of};
+ghost use Rattle.board_file.specs.declared.kind.ControllerKind.{ControllerKind};
+ghost use Rattle.target_core.specs.AnyTable.{any_table};
 ghost use Rattle.target_core.specs.declared.run.RunEnd.{RunEnd};
 ghost use Rattle.target_core.specs.declared.run.SliceEnd.TheVariants.{More, Ended};
 ghost use Rattle.target_core.specs.Local.{LieIn};
@@ -41,4 +44,9 @@ pub fn slices_are_one_run<B: Bench>()
 pub fn paths_stay_in_a_range()
     ensures { (first : Point) (last : ℕ) (range : ℕ × ℕ) → range.0 + range.1 ≤ length first.world.cells → LieIn range first last
         → (c : List ℕ) → IsLeftOnPath first last c → SameOutside (Some range) first.world.cells c }
+{}
+
+/// The block that a board keeps free for the registers of its controller is that of their table.
+pub fn blocks_are_of_one_size()
+    ensures { (kind : ControllerKind) → any_table.block kind ≡ block_of kind }
 {}

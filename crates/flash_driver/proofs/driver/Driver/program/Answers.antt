@@ -1,4 +1,4 @@
-use Rattle.std.proofs.Common.{sym, ap, ◌∙◌}
+use Rattle.std.proofs.Common.{ap, ◌∙◌}
 use Rattle.flash_layout.specs.Work.{range_of}
 use Rattle.flash_driver.proofs.TouchLemmas.{look_then}
 use Rattle.flash_driver.proofs.driver.Driver.program.Goals as goal
