@@ -1,12 +1,11 @@
 -- Why a command's files are refused.
-use Rattle.std.specs.Prelude.{◌≡◌, ◌≢◌, ◌<◌, ◌⊎◌, ℕ, List, [], ◌∷◌, length, Option, IsSome, Ok, Err}
+use Rattle.std.specs.Prelude.{◌≡◌, ◌≢◌, ◌<◌, ◌⊎◌, ℕ, List, ◌∷◌, length, Option, IsSome, Ok, Err}
 use Rattle.byte_map.specs.Image.{Run}
 use Rattle.board_file.specs.declared.region.Region.{Region}
 use Rattle.board_file.specs.Shown as board
 use Rattle.board_file.specs.Text.{reading, IsBoard}
 use Rattle.flm_descriptor.specs.Shown as flm
 use Rattle.flm_descriptor.specs.Flm.{flm_of}
-use Rattle.flm_descriptor.specs.declared.fault.FlmFault.{FlmFault}
 use Rattle.algo_loader.specs.Places.{need_of}
 use Rattle.image_set.specs.declared.fault.ImageFault.{ImageFault}
 use Rattle.image_more.specs.declared.fault.AnyFault.{AnyFault}

@@ -329,7 +329,7 @@ texts_all d places h text (f ∷ g ∷ []) b (a ∷ c ∷ e ∷ more) rest few a
 texts_all d places h text (f ∷ g ∷ k ∷ flms) b (a ∷ c ∷ more) rest (inl one) are fit is_board board_is files_is first_is second_is = absurd (omega (arith, one))
 texts_all d places h text (f ∷ g ∷ k ∷ flms) b (a ∷ c ∷ more) rest (inr two) are fit is_board board_is files_is first_is second_is = absurd (omega (arith, two))
 
-pub few_files : (format : Format) (n : ℕ) → MayHave format n → (n ≡ 1) ⊎ (n ≡ 2)
+few_files : (format : Format) (n : ℕ) → MayHave format n → (n ≡ 1) ⊎ (n ≡ 2)
 few_files First n one = inl one
 few_files Second n few = few
 

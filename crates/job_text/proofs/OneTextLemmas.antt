@@ -1,5 +1,5 @@
 -- A body says one job, where the numbers of the job have room in their fields; and those of a job whose texts suit one another have.
-use Rattle.std.proofs.Common.{◌≡◌, ◌⊎◌, ⊎_elim, inl, inr, ℕ, suc, ◌≤◌, ◌<◌, ◌+◌, ◌^◌, List, [], ◌∷◌, ◌++◌, All, length, drop, refl, sym, ap, subst, ◌∙◌, append_assoc, arith}
+use Rattle.std.proofs.Common.{◌≡◌, ◌⊎◌, ⊎_elim, inl, ℕ, ◌≤◌, ◌<◌, ◌+◌, ◌^◌, List, [], ◌∷◌, ◌++◌, All, length, drop, refl, sym, ap, subst, ◌∙◌, append_assoc, arith}
 use Rattle.std.specs.List.{concat, flat_map}
 use Rattle.std.proofs.lemmas.List.{append-nil}
 use Rattle.std.proofs.lemmas.List.Concat.{flat_map-cons}
@@ -20,7 +20,7 @@ use Rattle.job_text.proofs.Steps.{ok_is}
 use Rattle.job_text.proofs.TakeLemmas.{number_again}
 use Rattle.job_text.proofs.CoverLemmas.{AreSmall, each_covered, covers_small}
 use Rattle.job_text.proofs.RegionLemmas.{small_regions}
-use Rattle.job_text.proofs.BodyLemmas.{few_regions, few_files, small_job, one_file, format_of}
+use Rattle.job_text.proofs.BodyLemmas.{few_regions, small_job, one_file, format_of}
 
 abbrev HasRoom : Run → Type 0
 HasRoom run = (run.at < 2 ^ 32) × (length run.bytes < 2 ^ 32)

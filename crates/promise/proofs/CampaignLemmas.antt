@@ -1,9 +1,8 @@
 -- In every campaign what a stop leaves is safe, by induction on the list of calls.
-use Rattle.std.proofs.Common.{◌≡◌, ◌⊎◌, ⊎_elim, inl, inr, refl, ◌∙◌, sym, ap, subst, ◌≤◌, ◌<◌, arith, ℕ, suc, List, [], ◌∷◌, Option, None, Ok}
+use Rattle.std.proofs.Common.{◌≡◌, ◌⊎◌, ⊎_elim, inl, inr, ◌∙◌, sym, ap, subst, ◌≤◌, ◌<◌, arith, ℕ, suc, List, [], ◌∷◌, Option, None, Ok}
 use Rattle.std.proofs.lemmas.Bool.{cases_lt}
 use Rattle.bench_model.specs.History.{left}
 use Rattle.bench_model.specs.State.{BenchState, file_half, cells_half, Left}
-use Rattle.bench_model.specs.Pairs.{PairsInTurn}
 use Rattle.board_file.specs.Shown as board
 use Rattle.board_file.specs.Text.{reading}
 use Rattle.job_text.specs.Files.{IsFree, IsWhole}

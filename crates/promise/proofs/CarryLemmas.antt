@@ -1,12 +1,11 @@
 -- A job that is carried to its goal.
 use Rattle.std.proofs.Common.{◌≡◌, ◌≢◌, ◌⊎◌, ⊎_elim, inl, inr, refl, ◌∙◌, subst, ℕ, IsTrue, List}
 use Rattle.std.proofs.lemmas.Bool.{cases_eq}
-use Rattle.bench_model.specs.State.{BenchState, Left}
-use Rattle.bench_model.specs.Pairs.{PairsInTurn}
+use Rattle.bench_model.specs.State.{Left}
 use Rattle.board_file.specs.Limits.{size_of}
 use Rattle.board_file.specs.Shown as board
 use Rattle.flm_descriptor.specs.Shown as flm
-use Rattle.job_text.specs.Files.{IsFree, IsWhole}
+use Rattle.job_text.specs.Files.{IsFree}
 use Rattle.job_text.specs.Body as written
 use Rattle.job_text.specs.Body.{body_of}
 use Rattle.job_text.specs.Jobs.{IsJob}

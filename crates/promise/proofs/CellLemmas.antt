@@ -1,5 +1,5 @@
 -- An image laid over cells, cell by cell.
-use Rattle.std.proofs.Common.{◌≡◌, ⊎_elim, ◌∙◌, sym, ap, refl, ◌+◌, ◌-◌, ◌<◌, ◌≤◌, arith, cond, Bool, ℕ, List, [], ◌∷◌, length, get_or, take, drop, Some}
+use Rattle.std.proofs.Common.{◌≡◌, ⊎_elim, ◌∙◌, sym, ap, ◌+◌, ◌-◌, ◌<◌, ◌≤◌, arith, cond, Bool, ℕ, List, [], ◌∷◌, length, get_or, take, drop, Some}
 use Rattle.std.specs.Prelude.{unwrap_or}
 use Rattle.std.proofs.lemmas.Bool.{cases_lt, lt-ltb, le-ltb}
 use Rattle.std.proofs.lemmas.List.{length-take, length-drop, get_or_append_left, get_or-append_right, get_or-take, get_or-drop}
