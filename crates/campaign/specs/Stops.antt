@@ -22,7 +22,7 @@ pub record IsAtClose (body goal file cells : List ℕ) : Type 0 where
   pub whole_or_closed : IsWhole body file ⊎ IsClosed body file
   pub done : cells ≡ goal
 
--- what stands where such a call answers 0
+-- what stands where a call of `program`, `resume` or `revert` answers 0
 pub record IsDone (body goal : List ℕ) (new : BenchState) : Type 0 where
   pub file : new.file ≡ 0 ∷ body
   pub idle : new.operation ≡ None

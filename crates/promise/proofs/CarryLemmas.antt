@@ -34,7 +34,7 @@ goal_for Old job = job.snapshot
 abbrev pub job_of : written.Job → board.Shown → Job
 job_of text b = record { body = body_of text; regions = b.regions; image = text.image; snapshot = text.snapshot }
 
-pub says : (text : written.Job) (b : board.Shown) (algorithms : List flm.Shown) → IsJob text b algorithms → Says (job_of text b)
+abbrev pub says : (text : written.Job) (b : board.Shown) (algorithms : List flm.Shown) → IsJob text b algorithms → Says (job_of text b)
 says text b algorithms is = record {
   text = text;
   board = b;

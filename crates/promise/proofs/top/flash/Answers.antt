@@ -11,7 +11,7 @@ returns-clause-promise g c = λ told told_files command asks. keeps command
     (inputs_call g.I.Inputs.tells (g.I.Inputs.state c.args.inputs.now) (g.I.Inputs.state c.flmprog.new.inputs))
     (sink_call g.O.Sink.tells (g.O.Sink.state c.args.out.now) (g.O.Sink.state c.flmprog.new.out))
     (sink_call g.E.Sink.tells (g.E.Sink.state c.args.err.now) (g.E.Sink.state c.flmprog.new.err)))
-    told told_files (g.B.Bench.bytes c.args.bench.now told).0 (c.flmprog.ensures (Some command) asks)
+    told told_files (g.met.B.Bench.bytes c.args.bench.now told).0 (c.flmprog.ensures (Some command) asks)
 
 pub returns-clause-complete : goal.returns-clause-complete
 returns-clause-complete g c = λ told told_files command asks. completes command c.args.words.now
