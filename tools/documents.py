@@ -41,7 +41,7 @@ def clauses_in(text):
 
 
 FILES = sorted(files())
-FOLDERS = {os.path.dirname(it) for it in FILES}
+FOLDERS = {it[:k] for it in FILES for k, end in enumerate(it) if end == "/"}
 WORDS, CLAUSES, FIELDS, HEADS = set(), set(), set(), {}
 for path in FILES:
     if path.endswith(SOURCES) or path.endswith(("/stdout", "/args", "crates.txt")):
