@@ -1,5 +1,5 @@
 //! Advisory locks on whole files, so that two programs at one file don't mix.
-ghost use Rattle.std.specs.Prelude.{◌≡◌, IsOk, IsErr, OnOk, Err};
+ghost use Rattle.std.specs.Prelude.{◌≡◌, IsOk, IsErr, OnOk};
 ghost use Rattle.std.specs.declared.io.Error.{Error};
 
 use std::fs::{File, TryLockError};
