@@ -1,23 +1,23 @@
 #!/usr/bin/env python3
-"""What `program_vectors` has to print of the commands that run no algorithm: `plan`, `verify`, `compare`, `inspect`, `dump` and `status`, on one region.
+"""What `program_vectors` has to print of its commands where nothing fails and the algorithm, A1 or F1, keeps its duties.
 
   python3 tools/answers.py NAME        from the repository's top: the rows of crates/program_vectors/data/NAME
-  python3 tools/answers.py check       says of the rows of all five lists whether crates/program_vectors/stdout has them so
+  python3 tools/answers.py check       says of the rows of all lists whether crates/program_vectors/stdout has them so
 
-The language of the rows stands in crates/program_vectors/src/lines.rt. A row is left out where it has a call of another command, or where a call of its
-on the cells, the job file or a stream fails: in which order and how often those are called is no format."""
+The language of the rows stands in crates/program_vectors/src/lines.rt. A row is left out where it runs a demonstration or another algorithm, and where it is
+stopped or a call of its on the cells, the job file or a stream fails: in which order and how often those are called is no format."""
 import difflib
 import os
 import re
 import struct
 import sys
 
-from formats import Algorithm, Board, Damaged, Elf, Job, NotAJob, Refused, is_free, read_hex, read_srec, runs
+from formats import Algorithm, Board, Damaged, Elf, Job, NotAJob, Refused, is_free, job_file, read_hex, read_srec, runs
+from job_files import for_second_region
 
 DATA = "crates/program_vectors/data/"
-LISTS = ["plan.txt", "cells.txt", "files.txt", "status.txt", "dump.txt"]
 USAGE = (2, "usage: flm_tool JOB CELLS COMMAND [WORDS]")
-COMMANDS = {"plan": 3, "verify": 2, "compare": 1, "inspect": 1, "dump": 2, "status": 0}
+COMMANDS = {"program": 3, "begin": 3, "plan": 3, "verify": 2, "compare": 1, "inspect": 1, "dump": 2, "status": 0, "resume": 0, "revert": 0, "demo": 1}
 
 
 class Answer(Exception):
@@ -40,7 +40,7 @@ def address(word):
 
 def request(words):
     """The command, its names and the address of raw bytes, or Usage."""
-    if not words or words[0] not in list(COMMANDS) + ["program", "begin", "resume", "revert", "demo"]:
+    if not words or words[0] not in COMMANDS:
         raise Answer(*USAGE)
     command, names, raw, rest = words[0], [], [], list(words[1:])
     while rest:
@@ -54,11 +54,9 @@ def request(words):
             raise Answer(*USAGE)
         else:
             names.append(word)
-    if command not in COMMANDS:
-        if command in ("program", "begin") and (len(names) < 3 or len(raw) > 1 or raw and len(names) != 3):
-            raise Answer(*USAGE)
+    if command == "demo":
         raise LeftOut()
-    least, images = COMMANDS[command], command in ("plan", "verify")
+    least, images = COMMANDS[command], command in ("program", "begin", "plan", "verify")
     fits = least <= len(names) <= least + 15 if images else len(names) == least
     if not fits or len(raw) > (1 if images else 0) or raw and len(names) != least or command == "dump" and names[0] not in ("hex", "srec"):
         raise Answer(*USAGE)
@@ -145,23 +143,24 @@ def taken(trial, names):
     return found
 
 
-def board_of(data):
+def board_of(data, names=()):
+    """The board. On one of two regions two FLM files and an image are wanted behind it."""
     try:
         board = Board(data)
     except Refused as fault:
         raise Answer(6, "board: %s" % fault) from None
-    if len(board.regions) != 1:
-        raise LeftOut()
+    if len(board.regions) == 2 and len(names) == 2:
+        raise Answer(*USAGE)
     return board
 
 
-def algorithm_of(data, board=None):
+def algorithm_of(data, board=None, region=None):
     try:
         found = Algorithm(data)
     except Refused as fault:
         raise Answer(5, "flm: %s" % fault) from None
     if board:
-        if (found.base, found.size) != board.regions[0][:2]:
+        if (found.base, found.size) != region[:2]:
             raise Answer(5, "flm: other device %08X %d" % (found.base, found.size))
         if found.need(board.stack) > board.ram_size:
             raise Answer(5, "flm: NoRoom %d %d" % (found.need(board.stack), board.ram_size))
@@ -176,13 +175,29 @@ def images_of(names, data, raw, board):
             merge(image, its)
         except Refused as fault:
             raise Answer(4, "image %s: %s" % (name, fault)) from None
-    base, size = board.regions[0][:2]
     if not image:
         raise Answer(4, "image: EmptyImage")
-    outside = [at for at in image if not base <= at < base + size]
+    outside = [at for at in image if not any(base <= at < base + size for base, size, *_ in board.regions)]
     if outside:
         raise Answer(4, "image: OutsideDevice %08X" % min(outside))
     return image
+
+
+def places(board):
+    """Base, size and first place of each region."""
+    found, place = [], 0
+    for base, size, *_ in board.regions:
+        found.append((base, size, place))
+        place += size
+    return found
+
+
+def place_of(board, at):
+    return next(place + at - base for base, size, place in places(board) if base <= at < base + size)
+
+
+def cells_in(board):
+    return sum(it[1] for it in board.regions)
 
 
 # ---- commands
@@ -194,20 +209,95 @@ def the_cells(trial, wanted=None):
     if trial.open:
         at, length = trial.open
         trial.cells[at:at + length] = b"\x5a" * length
+        trial.open = None
     return trial.cells
 
 
-def plan(trial, names, raw):
+def job_of(trial, names, raw):
+    """What a job's files say: texts, board, algorithms and image."""
     data = taken(trial, names)
-    board = board_of(data[0])
-    algorithm = algorithm_of(data[1], board)
-    image = images_of(names[2:], data[2:], raw, board)
-    base, size = board.regions[0][:2]
-    old = the_cells(trial, size)
-    new = bytearray(old)
+    board = board_of(data[0], names[1:])
+    files = 1 + len(board.regions)
+    algorithms = [algorithm_of(it, board, region) for it, region in zip(data[1:files], board.regions)]
+    if any(name in trial.others for name in names[1:files]):
+        raise LeftOut()
+    return data[0], data[1:files], board, algorithms, images_of(names[files:], data[files:], raw, board)
+
+
+def over(image, board, cells):
+    """The image laid over cells."""
+    new = bytearray(cells)
     for at, byte in image.items():
-        new[at - base] = byte
-    return plan_text(algorithm, board.numbers[5:], old, new)
+        new[place_of(board, at)] = byte
+    return new
+
+
+def plans(board, algorithms, old, new):
+    """The plan of each region, with a line for each where there are two."""
+    lines = []
+    for algorithm, (base, size, place) in zip(algorithms, places(board)):
+        lines += ["region %08X" % base] * (len(algorithms) > 1)
+        lines += plan_text(algorithm, board.numbers[5:], old[place:place + size], new[place:place + size])
+    return lines
+
+
+def plan(trial, names, raw):
+    _, _, board, algorithms, image = job_of(trial, names, raw)
+    old = the_cells(trial, cells_in(board))
+    return plans(board, algorithms, old, over(image, board, old))
+
+
+def begin(trial, names, raw):
+    text, files, board, _, image = job_of(trial, names, raw)
+    if not is_free(trial.job):
+        raise Answer(7, not_free(trial.job))
+    cells = the_cells(trial, cells_in(board))
+    trial.job = job_file(text, files, image, bytes(cells))
+    return ["begun"]
+
+
+def not_free(data):
+    """Why no job can be begun over this file."""
+    try:
+        Job(bytes(data))
+    except NotAJob as fault:
+        return "job: not a job at %d" % fault.at
+    except Damaged:
+        raise LeftOut() from None
+    return "job: open"
+
+
+def program(trial, names, raw):
+    begin(trial, names, raw)
+    return resume(trial, [], None)
+
+
+def open_job(trial):
+    """The job, on a bench that has as many cells."""
+    if is_free(trial.job):
+        raise Answer(7, "job: none")
+    why = not_free(trial.job)
+    if why != "job: open":
+        raise Answer(7, why)
+    job = Job(bytes(trial.job))
+    the_cells(trial, cells_in(job.board))
+    return job, bytearray(trial.job[job.snapshot_at:])
+
+
+def carry(trial, job, goal):
+    lines = plans(job.board, job.algorithms, trial.cells, goal)
+    trial.cells[:] = goal
+    trial.job = b"\0" + trial.job[1:]
+    return lines + ["done"]
+
+
+def resume(trial, _, __):
+    job, snapshot = open_job(trial)
+    return carry(trial, job, over(job.image, job.board, snapshot))
+
+
+def revert(trial, _, __):
+    return carry(trial, *open_job(trial))
 
 
 def plan_text(algorithm, weights, old, new):
@@ -236,11 +326,11 @@ def verify(trial, names, raw):
     data = taken(trial, names)
     board = board_of(data[0])
     image = images_of(names[1:], data[1:], raw, board)
-    base, size = board.regions[0][:2]
-    cells = the_cells(trial, size)
-    for at in sorted(image):
-        if cells[at - base] != image[at]:
-            raise Answer(13, "differs at %08X wanted %02X found %02X" % (at, image[at], cells[at - base]))
+    cells = the_cells(trial, cells_in(board))
+    for at in sorted(image, key=lambda at: place_of(board, at)):
+        found = cells[place_of(board, at)]
+        if found != image[at]:
+            raise Answer(13, "differs at %08X wanted %02X found %02X" % (at, image[at], found))
     return ["same"]
 
 
@@ -267,6 +357,8 @@ def inspect(trial, names, _):
 
 def dump(trial, names, _):
     board = board_of(taken(trial, names[1:])[0])
+    if len(board.regions) > 1:
+        raise LeftOut()
     base, size = board.regions[0][:2]
     cells = the_cells(trial, size)
     lines, upper, at = [] if names[0] == "hex" else ["S0030000FC"], None, 0
@@ -291,33 +383,52 @@ def hex_record(record):
 def status(trial, names, _):
     if is_free(trial.job):
         return ["job none"]
-    try:
-        job = Job(bytes(trial.job))
-    except NotAJob as fault:
-        raise Answer(7, "job: not a job at %d" % fault.at) from None
-    except Damaged:
-        raise LeftOut() from None
-    size = sum(it[1] for it in job.board.regions)
-    if size != len(trial.cells):
-        raise Answer(7, "job: %d cells wanted, %d found" % (size, len(trial.cells)))
+    why = not_free(trial.job)
+    if why != "job: open":
+        raise Answer(7, why)
+    job = Job(bytes(trial.job))
+    if cells_in(job.board) != len(trial.cells):
+        raise Answer(7, "job: %d cells wanted, %d found" % (cells_in(job.board), len(trial.cells)))
     return ["job open"] + ["device %08X %d" % it[:2] for it in job.board.regions] + ["image %d bytes in %d runs" % (len(job.image), len(runs(job.image)))]
 
 
-CALLS = {"plan": plan, "verify": verify, "compare": compare, "inspect": inspect, "dump": dump, "status": status}
+CALLS = {"program": program, "begin": begin, "resume": resume, "revert": revert, "plan": plan, "verify": verify, "compare": compare, "inspect": inspect,
+         "dump": dump, "status": status}
 
 
 # ---- rows
 
+def forged(kind, board, page, time, region="0"):
+    """An algorithm's FLM file for a region of a board, by the bytes of A1 on the small board. F1 differs in its code, of which nothing is said here."""
+    with open("crates/file_vectors/data/a1.flm", "rb") as file:
+        flm = file.read()
+    base, size, empty, _, sectors = Board(board).regions[int(region)]
+    if region != "0":
+        flm = for_second_region(flm, base, size)
+    elf = Elf(flm)
+    dscr = elf.section(b"DevDscr", 1)
+    at = dscr[4] + elf.symbol(b"FlashDevice") - dscr[3]
+    data = bytearray(flm)
+    struct.pack_into("<IIIIB", data, at + 132, base, size, int(page), 0, empty)
+    struct.pack_into("<I", data, at + 156, int(time))
+    if len(sectors) > 1:
+        raise LeftOut()
+    struct.pack_into("<I", data, at + 160, sectors[0][1])
+    return bytes(data)
+
+
 class Trial:
-    def __init__(self, files):
+    def __init__(self, files, others):
         self.files, self.cells, self.job, self.open, self.fail_take = files, bytearray(b"\xff" * 1024), b"", None, 0
+        # the names of algorithms that don't keep their duties
+        self.others, self.began = others, None
 
     def change(self, what, first="", rest=""):
         if what == "file":
             with open(DATA + rest, "rb") as file:
                 self.files[first] = file.read()
         elif what == "text":
-            self.files[first] = rest.replace("|", "\n").encode()
+            self.files[first] = (rest.replace("|", "\n") + "\n").encode()
         elif what == "bytes":
             self.files[first] = bytes.fromhex(rest)
         elif what == "empty":
@@ -336,50 +447,85 @@ class Trial:
             self.open = (int(first), int(rest))
         elif what == "from" and first == "job":
             self.job = self.files[rest]
+        elif what == "from" and first == "cells":
+            self.cells = bytearray(self.files[rest])
+        elif what == "job":
+            self.job = bytes.fromhex(first)
+        elif what == "forge":
+            kind, board, *numbers = rest.split()
+            if kind not in ("A1", "F1"):
+                self.others.add(first)
+            self.files[first] = forged(kind, self.files[board], *numbers)
         elif what == "fail" and first == "take":
             self.fail_take = int(rest)
         else:
             raise LeftOut()
 
-    def call(self, words):
-        """What a call on a bench of its own prints."""
-        kept, lines = bytes(self.cells), []
+    def answer(self, words):
+        """What a call puts, and its status."""
         try:
             command, names, raw = request(words)
-            lines = CALLS[command](self, names, raw)
-            number = 0
+            lines, number = CALLS[command](self, names, raw), 0
         except Answer as answer:
             number, line = answer.args
             lines = ["flmprog: " + line]
         if sum(len(line) + 1 for line in lines) > 4096:
             # the room for standard output
             raise LeftOut()
+        return lines, number
+
+    def call(self, words):
+        """What a call on a bench of its own prints."""
+        kept, job, opened = bytes(self.cells), self.job, self.open
+        lines, number = self.answer(words)
         left = "the same cells" if bytes(self.cells) == kept else "other cells"
-        self.cells = bytearray(kept)
+        left += "" if self.job == job else ", another job file"
+        self.cells, self.job, self.open = bytearray(kept), job, opened
         return lines + ["status %d, %s" % (number, left)]
+
+    def run(self, words):
+        """What a call on the row's bench prints."""
+        if self.began is None:
+            self.began = bytes(self.cells)
+        job = self.job
+        lines, number = self.answer(words)
+        lines.append("status %d" % number)
+        others = [k for k, byte in enumerate(self.cells) if byte != self.began[k]]
+        lines += ["cell %d: %02X is %02X" % (k, self.began[k], self.cells[k]) for k in others[:4]]
+        lines.append("%d other cells" % len(others) if others else "the same cells")
+        return lines + ["the same job file" if self.job == job else {0xA5: "a job is open", 0: "a job is closed"}[self.job[0]]]
+
+    def body(self, name):
+        same = self.job[1:] == self.files[name][1:]
+        return ["the job of " + name if same else "another job than that of " + name]
 
 
 def rows(name):
     """Name and lines of each row of a list, or none for one that is left out."""
-    files, told, trial, out = {}, None, None, False
+    files, others = {}, set()
     with open(DATA + name) as file:
         lines = file.read().splitlines()
-    found = []
-    trial = Trial(files)
+    found, trial = [], Trial(files, others)
     for line in lines:
         if line.startswith("row "):
-            trial, told, out = Trial(files), [], False
-            found.append([line[4:], told])
+            trial = Trial(files, others)
+            found.append([line[4:], []])
         elif line:
-            words = line.split(" ", 2)
-            try:
-                if words[0] == "call":
-                    told += trial.call(line.split()[1:])
-                else:
-                    trial.change(*words)
-            except LeftOut:
-                found[-1][1] = None
+            step(trial, found[-1] if found else None, line)
     return found
+
+
+def step(trial, row, line):
+    words = line.split(" ", 2)
+    try:
+        if words[0] in ("call", "run", "body"):
+            told = trial.body(words[1]) if words[0] == "body" else getattr(trial, words[0])(line.split()[1:])
+            if row[1] is not None:
+                row[1] += told
+        else:
+            trial.change(*words)
+    except LeftOut:
+        row[1] = None
 
 
 def check():
@@ -398,11 +544,9 @@ def check():
         begins.append(at)
         at += 1
     ends = begins[1:] + [len(stored)]
-    model = {name: iter(rows(name)) for name in LISTS}
+    model = {name: iter(rows(name)) for name in order}
     right = wrong = out = 0
     for (name, title), begin, end in zip(titles, begins, ends):
-        if name not in model:
-            continue
         told = next(model[name])[1]
         if told is None:
             out += 1
