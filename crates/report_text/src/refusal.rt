@@ -235,7 +235,7 @@ pub fn put_refusal<E: Sink>(err: &mut E, refusal: &Refusal<'_>) -> Result<(), Ou
 }
 
 /// Puts what a refusal says.
-#[tactic(auto, unfolding(crate::specs::Refusal::reason_of))]
+#[tactic(auto, unfolding(crate::specs::Lines::reason_of))]
 pub(crate) fn put_reason<E: Sink>(err: &mut E, refusal: &Refusal<'_>) -> Result<(), OutputFault>
     ensures { Puts E.tells (E.state err.old) (E.state err.new) (reason_of (shown refusal.now)) result }
 {
@@ -282,7 +282,7 @@ pub(crate) fn put_reason<E: Sink>(err: &mut E, refusal: &Refusal<'_>) -> Result<
 }
 
 /// Puts how many bytes an image has, and for how many cells.
-#[tactic(auto, unfolding(crate::specs::Refusal::reason_of))]
+#[tactic(auto, unfolding(crate::specs::Lines::reason_of))]
 fn put_lengths<E: Sink>(err: &mut E, bytes: usize, cells: u32) -> Result<(), OutputFault>
     ensures { Puts E.tells (E.state err.old) (E.state err.new) (reason_of (image_too_long bytes cells)) result }
 {
@@ -294,7 +294,7 @@ fn put_lengths<E: Sink>(err: &mut E, bytes: usize, cells: u32) -> Result<(), Out
 }
 
 /// Puts the base and the size of an algorithm's device.
-#[tactic(auto, unfolding(crate::specs::Refusal::reason_of))]
+#[tactic(auto, unfolding(crate::specs::Lines::reason_of))]
 fn put_device<E: Sink>(err: &mut E, base: u32, size: u32) -> Result<(), OutputFault>
     ensures { Puts E.tells (E.state err.old) (E.state err.new) (reason_of (other_device base size)) result }
 {
@@ -305,7 +305,7 @@ fn put_device<E: Sink>(err: &mut E, base: u32, size: u32) -> Result<(), OutputFa
 }
 
 /// Puts how many bytes of RAM an algorithm needs, and how many there are.
-#[tactic(auto, unfolding(crate::specs::Refusal::reason_of))]
+#[tactic(auto, unfolding(crate::specs::Lines::reason_of))]
 fn put_room<E: Sink>(err: &mut E, need: u64, have: u64) -> Result<(), OutputFault>
     ensures { Puts E.tells (E.state err.old) (E.state err.new) (reason_of (no_room need have)) result }
 {
@@ -317,7 +317,7 @@ fn put_room<E: Sink>(err: &mut E, need: u64, have: u64) -> Result<(), OutputFaul
 }
 
 /// Puts where the first check of a job file fails.
-#[tactic(auto, unfolding(crate::specs::Refusal::reason_of))]
+#[tactic(auto, unfolding(crate::specs::Lines::reason_of))]
 fn put_offset<E: Sink>(err: &mut E, at: u64) -> Result<(), OutputFault>
     ensures { Puts E.tells (E.state err.old) (E.state err.new) (reason_of (not_a_job at)) result }
 {
@@ -327,7 +327,7 @@ fn put_offset<E: Sink>(err: &mut E, at: u64) -> Result<(), OutputFault>
 }
 
 /// Puts the hash that a job file keeps, and the one that was found.
-#[tactic(auto, unfolding(crate::specs::Refusal::reason_of))]
+#[tactic(auto, unfolding(crate::specs::Lines::reason_of))]
 fn put_hashes<E: Sink>(err: &mut E, kept: &[u8], found: &[u8]) -> Result<(), OutputFault>
     ensures { Puts E.tells (E.state err.old) (E.state err.new) (reason_of (damaged kept.now found.now)) result }
 {
@@ -348,7 +348,7 @@ fn put_hash<E: Sink>(err: &mut E, hash: &[u8]) -> Result<(), OutputFault>
 }
 
 /// Puts how many cells are wanted, and how many there are.
-#[tactic(auto, unfolding(crate::specs::Refusal::reason_of))]
+#[tactic(auto, unfolding(crate::specs::Lines::reason_of))]
 fn put_cells<E: Sink>(err: &mut E, wanted: u32, found: u32) -> Result<(), OutputFault>
     ensures { Puts E.tells (E.state err.old) (E.state err.new) (reason_of (cells_differ wanted found)) result }
 {
@@ -363,7 +363,7 @@ fn put_cells<E: Sink>(err: &mut E, wanted: u32, found: u32) -> Result<(), Output
 }
 
 /// Puts a place or an address, with the byte that is wanted there and the one that was found.
-#[tactic(auto, unfolding(crate::specs::Refusal::difference_text))]
+#[tactic(auto, unfolding(crate::specs::Lines::difference_text))]
 fn put_difference<E: Sink>(
     err: &mut E,
     what: &[u8],
