@@ -2,6 +2,7 @@
 use Rattle.std.proofs.Common.{◌≡◌, ℕ, Bool, None, refl, ap, sym, ◌∙◌}
 use Rattle.bench_model.specs.State.{BenchState}
 use Rattle.board_file.specs.declared.kind.ControllerKind.{ControllerKind}
+use Rattle.board_file.specs.declared.kind.ControllerKind.TheVariants as kind
 use Rattle.board_file.specs.Kinds.{block_of}
 use Rattle.board_file.specs.Shown.{Shown}
 use Rattle.flash_layout.specs.Maps.{board_map}
@@ -11,7 +12,8 @@ use Rattle.target_core.specs.Units.{Unit, fresh, state_op, unit_cells, unit_stat
 
 -- the block of a kind's registers is that of its boards
 pub block_same : (k : ControllerKind) → any_table.block k ≡ block_of k
-block_same k = grind
+block_same kind.Fc1 = refl
+block_same kind.Fpec = refl
 
 pub with_same : (b : Shown) → with_block any_table (board_map b) ≡ board_map b
 with_same b = ap (λ (n : ℕ). record (board_map b) { block = n }) (block_same b.kind)

@@ -4,4 +4,4 @@ use Rattle.target_core.proofs.UnitLemmas.{with_same}
 use Rattle.target_core.proofs.machine.Machine.new.Goals as goal
 
 pub returns-clause-map : goal.returns-clause-map
-returns-clause-map c = c.in_ok-new.ensures.map ∙ with_same (shown c.args.board.now)
+returns-clause-map c = c.in_ok-unit.ensures.map ∙ with_same (shown c.args.board.now)
