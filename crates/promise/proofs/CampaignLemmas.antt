@@ -77,14 +77,14 @@ closes : (start : BenchState) (job : Job) (last : Option (List ℕ)) (call : Cal
     → ((f c : List ℕ) → First f c → IsSafePair start (aim_of job) last f c) → IsWithin call end → (closing : ℕ)
     → AtEachStop call (λ moment f c. moment < closing → First f c) → AtEachStop call (λ moment f c. closing ≤ moment → IsAtClose job.body goal f c)
     → Closes start job last call goal
-closes start job last call end goal First good within closing before from = ⊎_elim
+closes start job last call end goal First good within closing early_stops late_stops = ⊎_elim
     (λ (early : closing < call.old.moment). record {
       closing = call.old.moment;
       safe = in_turn start (aim_of job) last call.old call.new call.old.moment goal First good (record {
         started = omega arith;
         later = omega (arith, within.0, within.1);
         before = λ k f c entered to early_ f_at c_at. absurd (omega (arith, entered, early_));
-        from = λ k f c late to f_at c_at. from k f c late to f_at c_at (omega (arith, early, late));
+        from = λ k f c late to f_at c_at. late_stops k f c late to f_at c_at (omega (arith, early, late));
       });
     })
     (λ (late : call.old.moment ≤ closing). record {
@@ -92,8 +92,8 @@ closes start job last call end goal First good within closing before from = ⊎_
       safe = in_turn start (aim_of job) last call.old call.new closing goal First good (record {
         started = late;
         later = omega (arith, within.0, within.1);
-        before = λ k f c entered to early f_at c_at. before k f c entered to f_at c_at early;
-        from = λ k f c late_ to f_at c_at. from k f c (omega (arith, late, late_)) to f_at c_at late_;
+        before = λ k f c entered to early f_at c_at. early_stops k f c entered to f_at c_at early;
+        from = λ k f c late_ to f_at c_at. late_stops k f c (omega (arith, late, late_)) to f_at c_at late_;
       });
     })
     (cases_lt closing call.old.moment)
