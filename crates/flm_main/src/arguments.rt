@@ -1,7 +1,9 @@
 //! The words of the command line.
-ghost use Rattle.std.specs.Prelude.{◌≡◌, ◌++◌, ◌∷◌, [], ◌↔◌, IsTrue, OnOk, drop, get_or};
+ghost use Rattle.std.specs.Prelude.{◌≡◌, ◌++◌, ◌∷◌, [], ◌↔◌, IsTrue, IsErr, IfOk, IfErr, OnOk, drop, get_or};
 ghost use Rattle.flm_main.specs.Line.{job_name, cells_name, words_for_one, IsForGang, words_for_gang};
-ghost use Rattle.flm_main.specs.Given.{texts_of, IsRead};
+ghost use Rattle.std.specs.IoError.{error_kind};
+ghost use Rattle.std.specs.declared.io.ErrorKind.TheVariants.{InvalidData};
+ghost use Rattle.flm_main.specs.Given.{texts_of};
 
 use faults::OutOfMemory;
 use octets::Word;
@@ -120,7 +122,9 @@ pub fn read_arguments(rt: HostRuntime) -> Result<Arguments, OutOfMemory> {
 
 /// The arguments of a command line that was read so. Where a word isn't UTF-8 there are none, which fits no command.
 fn arguments_of(alloc: Global, line: io::Result<Args>) -> Result<Arguments, OutOfMemory>
-    ensures { IsRead line result }
+    ensures taken { IfOk line (λ given. IfOk result (λ words. words ≡ texts_of given)) }
+    ensures faulty { IfErr line (λ fault. error_kind fault ≡ InvalidData → IfOk result (λ words. words ≡ [])) }
+    ensures failed { IfErr line (λ fault. (error_kind fault ≡ InvalidData → ⊥) → IsErr result) }
 {
     let mut arguments = Arguments::new(alloc);
     match line {

@@ -21,3 +21,11 @@ loop-argument-preserved c =
           ∙ append_assoc c.args.self.now (map (λ argument. string_bytes argument) at.yielded) (string_bytes x ∷ [])
           ∙ ap (λ (l : List (List ℕ)). c.args.self.now ++ l) (sym (map-append (λ argument. string_bytes argument) at.yielded (x ∷ []))),
     )
+
+pub returns : goal.returns
+returns c =
+    let at = c.loop-argument in
+    let none = c.in-None.ensures.steps in
+    let empty : into_iter_items at.argument-iterator ≡ [] = nothing_left _ (sym at.argument-iterator.rest.ok.0 ∙ none.0) in
+    let all = sym (append-nil at.yielded) ∙ rw empty at at.invariant.0 ∙ ap (λ s. into_iter_items s) c.into_iter-argument-iterator.ensures.into_iter_gives in
+    at.invariant.1 ∙ ap (λ (l : List (String Global)). c.args.self.now ++ map (λ argument. string_bytes argument) l) all
