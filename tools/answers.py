@@ -525,7 +525,15 @@ def step(trial, row, line):
         else:
             trial.change(*words)
     except LeftOut:
-        row[1] = None
+        if row is not None:
+            row[1] = None
+
+
+def asked(name):
+    """How many lines a list prints of what command lines ask for, which stand behind all rows."""
+    with open(DATA + name) as file:
+        paths = [line.split()[1] for line in file if line.startswith("words ")]
+    return sum(2 * open(DATA + path).read().count("\n") for path in paths)
 
 
 def check():
@@ -543,7 +551,7 @@ def check():
         at = stored.index(title, at)
         begins.append(at)
         at += 1
-    ends = begins[1:] + [len(stored)]
+    ends = begins[1:] + [len(stored) - sum(map(asked, order))]
     model = {name: iter(rows(name)) for name in order}
     right = wrong = out = 0
     for (name, title), begin, end in zip(titles, begins, ends):
