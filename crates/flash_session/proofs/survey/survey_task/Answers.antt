@@ -1,4 +1,4 @@
-use Rattle.std.proofs.Common.{◌∙◌, IsTrue, List, ◌∷◌, Option, option_to_list, refl, sym, ap, subst, arith}
+use Rattle.std.proofs.Common.{◌∙◌, IsTrue, false, List, ◌∷◌, Option, option_to_list, refl, sym, ap, subst, arith}
 use Rattle.board_file.specs.Shown.{shown as board_of}
 use Rattle.flm_descriptor.specs.Shown.{Shown as AlgorithmShown, shown as algorithm_of}
 use Rattle.job_text.specs.Fits.{all_fit}
