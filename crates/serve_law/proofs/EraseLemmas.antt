@@ -1,5 +1,5 @@
 -- EraseSector and EraseChip, by induction on the ticks left.
-use Rattle.std.proofs.Common.{◌≡◌, ◌+◌, ◌<◌, ◌≤◌, ◌^◌, ◌%◌, ℕ, zero, suc, Bool, true, false, List, [], ◌∷◌, ◌++◌, length, replicate, Option, Some, refl, sym, ap, subst, arith}
+use Rattle.std.proofs.Common.{◌≡◌, ◌+◌, ◌<◌, ◌≤◌, ◌^◌, ◌%◌, ℕ, zero, suc, Bool, true, false, List, [], ◌∷◌, ◌++◌, length, replicate, Option, Some, None, refl, sym, ap, subst, arith}
 use Rattle.bench_model.specs.Calls.{written}
 use Rattle.armv6m_step.specs.declared.core_state.Core.{Core}
 use Rattle.flm_descriptor.specs.Shape.{Range, range}
@@ -9,17 +9,21 @@ use Rattle.flash_layout.specs.declared.work.Work.{Work}
 use Rattle.flash_layout.specs.declared.work.Work.TheVariants as work
 use Rattle.flash_layout.specs.Work.{work_len, work_bytes}
 use Rattle.flash_driver.specs.Erasures.{begins_or, erases}
-use Rattle.flash_driver.specs.Table.{leaves, tick_row}
+use Rattle.flash_driver.specs.Table.{Stored, leaves, tick_row}
+use Rattle.armv6m_step.specs.Functional.{Stepped, outcome}
+use Rattle.armv6m_step.specs.Step.{instruction}
+use Rattle.target_core.specs.declared.unit.AnyRegisters.{AnyRegisters}
 use Rattle.target_core.specs.declared.unit.AnyRegisters.TheVariants.{Fc1}
 use Rattle.target_core.specs.AnyTable.{does_as}
 use Rattle.target_core.specs.Units.{UnitState, state_op}
-use Rattle.target_core.specs.World.{World, world_tick}
+use Rattle.armv6m_step.specs.Access.{Access, Load, Store, stored}
+use Rattle.target_core.specs.World.{World, Answer, world_tick}
 use Rattle.target_core.specs.Path.{Point}
 use Rattle.algo_calls.specs.declared.call.Call.TheVariants as a_call
 use Rattle.algo_calls.specs.Frames.{Request, asked, first_point, fuel_of}
 use Rattle.algo_calls.specs.Duties.{OpensIn}
 use Rattle.serve_law.proofs.Ranges.{span}
-use Rattle.serve_law.proofs.Computed.{computed, after_in}
+use Rattle.serve_law.proofs.Computed.{computed, after_in, answer_in, goes_by}
 use Rattle.serve_law.proofs.HomeLemmas.{IsHome}
 use Rattle.serve_law.proofs.GoesLemmas.{Goes, goes_then, all_idle, idle_goes, run_goes, step_goes, AllIn}
 use Rattle.serve_law.proofs.DoneLemmas.{IsDone, run_done}
@@ -146,14 +150,30 @@ module _ (g : Given) (x : Range) (c a : ℕ) (ram cells : List ℕ) (home : IsHo
   unfolding computed first_point all_idle
   five = idle_goes r 5 first home refl refl
 
-  -- what the sixth instruction leaves, given what lies at the address
-  abbrev ordered_at : Option SectorCells → World
-  ordered_at o = a1_world g (written 176 [] ram) (leaves (unlocked 2 at) (does_as Fc1 (begins_or (erases g.erase_ticks o) (regs 2 at) (record (regs 2 at) { range = true })))).1 cells
+  -- the registers that the sixth instruction leaves, given what lies at the address
+  abbrev ordered_at : Option SectorCells → Stored AnyRegisters
+  ordered_at o = leaves (unlocked 2 at) (does_as Fc1 (begins_or (erases g.erase_ticks o) (regs 2 at) (record (regs 2 at) { range = true })))
+
+  -- so its accesses are answered
+  abbrev answer_at : Option SectorCells → World → Access → Answer
+  answer_at o w (Load width from) = answer_in w (Load width from)
+  answer_at o w (Store width to v) = (stored (ordered_at o).0, record w { state = (ordered_at o).1 })
+
+  abbrev stepped_at : Option SectorCells → Stepped World
+  stepped_at o = outcome (answer_at o) (instruction (after_in 5 first).core) (after_in 5 first).core (after_in 5 first).world
+
+  -- whatever lies there, it goes
+  sixth_goes : (o : Option SectorCells) → goes_by (answer_at o) (after_in 5 first) ≡ true
+  unfolding computed first_point
+  sixth_goes None = refl
+  sixth_goes (Some s) = refl
 
   sixth : Goes r 1 (after_in 5 first) (begun g r at 2 at x.start fill (written 176 [] ram) home lies 2 g.erase_ticks cells)
   unfolding computed first_point
-  sixth = subst (λ (q : Point). Goes r 1 (after_in 5 first) q) (ap (λ (o : Option SectorCells). let q : Point = record { core = erase_core g at 1 2 false false 0x20000046; world = world_tick (ordered_at o) } in q) is)
-      (step_goes r (after_in 5 first) home refl tt (subst (λ (o : Option SectorCells). OpensIn r (state_op (ordered_at o).state)) (sym is) lies))
+  sixth = subst (λ (q : Point). Goes r 1 (after_in 5 first) q)
+      (ap (λ (o : Option SectorCells). let q : Point = record { core = (stepped_at o).core; world = world_tick (stepped_at o).bus } in q) is)
+      (step_goes r (after_in 5 first) home (sixth_goes (sector_of (a1_area g ∷ []) (g.runs ++ []) at)) tt
+      (subst (λ (o : Option SectorCells). OpensIn r (state_op (stepped_at o).bus.state)) (sym is) lies))
 
   abbrev steps : ℕ
   steps = 5 + (1 + erase_steps g r at 2 at x.start fill (written 176 [] ram) home lies g.erase_ticks)
