@@ -1,5 +1,6 @@
 -- What a call of the programmer promises: what its status 0 means, and what a stop of the power leaves at any moment in it.
-use Rattle.std.specs.Prelude.{◌≡◌, ◌≢◌, ◌≤◌, ◌<◌, ◌⊎◌, ℕ, List, Option, None}
+use Rattle.std.specs.Prelude.{◌≡◌, ◌≢◌, ◌≤◌, ◌<◌, ◌⊎◌, ℕ, List, length, get_or, Option, None}
+use Rattle.bench_model.specs.declared.bench.Bench.{Ghosts}
 use Rattle.bench_model.specs.State.{BenchState, Left, SameOutside}
 use Rattle.job_text.specs.Files.{IsFree, IsWhole}
 use Rattle.campaign.specs.Stops.{IsUntouched, IsAtClose, IsDone}
