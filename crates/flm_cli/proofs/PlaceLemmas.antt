@@ -29,7 +29,7 @@ module _ (region : Region) (rest : List Region) (image : List Run) where
 abbrev AgreeFrom : List ℕ → ℕ → List Region → List Run → Type 0
 AgreeFrom cells start regions image = (place byte : ℕ) → wanted_at regions image place ≡ Some byte → slice_index cells (start + place) ≡ byte
 
-record LeastFrom (tells : Bool) (cells : List ℕ) (start : ℕ) (regions : List Region) (image : List Run) (at wanted found : ℕ) : Type 0 where
+pub record LeastFrom (tells : Bool) (cells : List ℕ) (start : ℕ) (regions : List Region) (image : List Run) (at wanted found : ℕ) : Type 0 where
   pub place : ℕ
   pub address : address_at regions place ≡ Some at
   pub is_wanted : wanted_at regions image place ≡ Some wanted

@@ -67,6 +67,6 @@ cells_at (job ∷ cells ∷ rest) (suc index) less =
 pub take_as_many : {A B : Type 0} (n : ℕ) (xs : List A) (ys : List B) → length ys ≡ length xs → take (length (take n xs)) ys ≡ take n ys
 take_as_many zero xs ys same = refl
 take_as_many (suc n) [] [] same = refl
-take_as_many {A} {B} (suc n) [] (y ∷ ys) same = elim same [ ]
-take_as_many {A} {B} (suc n) (x ∷ xs) [] same = elim same [ ]
+take_as_many (suc n) [] (y ∷ ys) same = absurd (omega (arith, same))
+take_as_many (suc n) (x ∷ xs) [] same = absurd (omega (arith, same))
 take_as_many (suc n) (x ∷ xs) (y ∷ ys) same = ap (λ l. y ∷ l) (take_as_many n xs ys (omega (arith, same)))
