@@ -47,7 +47,7 @@ right_or_refused : (bytes : List ℕ) (k : ℕ) (fault : ImageFault) → IsRight
 right_or_refused bytes k NoForm right is other = is
 right_or_refused bytes k (Hex fault) right is other = is
 right_or_refused bytes k (Srec fault) right is other = is
-right_or_refused bytes k (Elf fault) right is other = let whole = right.whole in cc
+right_or_refused bytes k (Elf fault) right is other = let whole = right.whole in let cut = is.0 in cc
 right_or_refused bytes k (Conflict at old new) right is other =
     agrees_or_clashes (piece_at bytes k) (pieces_before bytes k) at old new right.fits right.agrees is.1.1
 right_or_refused bytes k (PastEnd at) right is other = omega (arith, right.fits, is.1.1)
@@ -57,10 +57,10 @@ right_or_refused bytes k OutOfMemory right is other = other refl
 
 one_segment_fault : (bytes : List ℕ) (k : ℕ) (image : List Run) (a b : ImageFault) → IsSegmentFault bytes k image a → IsSegmentFault bytes k image b
     → a ≢ OutOfMemory → b ≢ OutOfMemory → a ≡ b
-one_segment_fault bytes k image (Elf a) (Elf b) one two no_a no_b = let same : a ≡ b = cc in ap Elf same
-one_segment_fault bytes k image (Elf a) (Conflict at old new) one two no_a no_b = let whole = two.0 in absurd (cc)
-one_segment_fault bytes k image (Elf a) (PastEnd at) one two no_a no_b = let whole = two.0 in absurd (cc)
-one_segment_fault bytes k image (Conflict at old new) (Elf b) one two no_a no_b = let whole = one.0 in absurd (cc)
+one_segment_fault bytes k image (Elf a) (Elf b) one two no_a no_b = ap Elf (one.1 ∙ sym two.1)
+one_segment_fault bytes k image (Elf a) (Conflict at old new) one two no_a no_b = let cut = one.0 in let whole = two.0 in absurd (cc)
+one_segment_fault bytes k image (Elf a) (PastEnd at) one two no_a no_b = let cut = one.0 in let whole = two.0 in absurd (cc)
+one_segment_fault bytes k image (Conflict at old new) (Elf b) one two no_a no_b = let whole = one.0 in let cut = two.0 in absurd (cc)
 one_segment_fault bytes k image (Conflict at old new) (Conflict at' old' new') one two no_a no_b =
     let same = one_clash (piece_at bytes k) image at at' old old' new new' one.1.1 two.1.1 in
     let a = same.at_is in
@@ -68,7 +68,7 @@ one_segment_fault bytes k image (Conflict at old new) (Conflict at' old' new') o
     let c = same.new_is in
     cc
 one_segment_fault bytes k image (Conflict at old new) (PastEnd at') one two no_a no_b = absurd (omega (arith, one.1.0, two.1.1))
-one_segment_fault bytes k image (PastEnd at) (Elf b) one two no_a no_b = let whole = one.0 in absurd (cc)
+one_segment_fault bytes k image (PastEnd at) (Elf b) one two no_a no_b = let whole = one.0 in let cut = two.0 in absurd (cc)
 one_segment_fault bytes k image (PastEnd at) (Conflict at' old new) one two no_a no_b = absurd (omega (arith, two.1.0, one.1.1))
 one_segment_fault bytes k image (PastEnd at) (PastEnd at') one two no_a no_b = ap PastEnd (one.1.0 ∙ sym two.1.0)
 one_segment_fault bytes k image OutOfMemory b one two no_a no_b = absurd (no_a refl)

@@ -12,7 +12,7 @@ use Rattle.elf32.specs.Tables.{segment_part}
 use Rattle.byte_map.specs.declared.fault.LayFault.{LayFault}
 use Rattle.byte_map.specs.declared.fault.LayFault.TheVariants as lay
 use Rattle.image_set.specs.Fault.{fault_of}
-use Rattle.image_set.specs.Segments.{is_loaded, piece_at, pieces_before, size_before, IsRight, IsImageBefore, IsSegmentFault, IsFirstRefused}
+use Rattle.image_set.specs.Segments.{is_loaded, piece_at, is_cut_at, pieces_before, size_before, IsRight, IsImageBefore, IsSegmentFault, IsFirstRefused}
 use Rattle.image_set.specs.Read.{IsFaultOfForm}
 use Rattle.image_set.specs.declared.form.Form.TheVariants as form
 use Rattle.image_set.specs.declared.fault.ImageFault.{ImageFault}
@@ -34,7 +34,7 @@ size_more bytes k loaded is =
     ap (size_before bytes) (add-one k) ∙ ap (λ (b : Bool). cond b (length (piece_at bytes k).bytes + size_before bytes k) (size_before bytes k)) is
 
 -- one more segment that is loaded
-pub segment_more : (bytes : List ℕ) (k : ℕ) (image new : List Run) → IsImageBefore bytes k image → is_loaded bytes k ≡ true → segment_part bytes k ≡ Ok (piece_at bytes k).bytes → Lays (piece_at bytes k) image new → IsImageBefore bytes (k + 1) new
+pub segment_more : (bytes : List ℕ) (k : ℕ) (image new : List Run) → IsImageBefore bytes k image → is_loaded bytes k ≡ true → is_cut_at bytes k ≡ false → Lays (piece_at bytes k) image new → IsImageBefore bytes (k + 1) new
 segment_more bytes k image new before loaded whole lays =
     let piece = piece_at bytes k in
     record {
@@ -88,10 +88,32 @@ part_is bytes k lent is =
     let s = segment_at bytes k in
     part_by (is_cut bytes s.offset s.filesz) (Truncated field.Segment) (part bytes s.offset s.filesz) lent is
 
+whole_by : (cut : Bool) (fault : ElfFault) (own lent : List ℕ) → cond cut (Err fault) (Ok own) ≡ Ok lent → cut ≡ false
+whole_by true fault own lent is = absurd (cc)
+whole_by false fault own lent is = refl
+
+pub is_whole : (bytes : List ℕ) (k : ℕ) (lent : List ℕ) → segment_part bytes k ≡ Ok lent → is_cut_at bytes k ≡ false
+unfolding segment_part whole_part
+is_whole bytes k lent is =
+    let s = segment_at bytes k in
+    whole_by (is_cut bytes s.offset s.filesz) (Truncated field.Segment) (part bytes s.offset s.filesz) lent is
+
+cut_by : (cut : Bool) (due fault : ElfFault) (own : List ℕ) → cond cut (Err due) (Ok own) ≡ Err fault → (cut ≡ true) × (fault ≡ due)
+cut_by true due fault own is = (refl, cc)
+cut_by false due fault own is = absurd (cc)
+
+-- one that doesn't
+pub is_refused : (bytes : List ℕ) (k : ℕ) (image : List Run) (fault : ElfFault) → segment_part bytes k ≡ Err fault
+    → IsSegmentFault bytes k image (Elf fault)
+unfolding segment_part whole_part
+is_refused bytes k image fault is =
+    let s = segment_at bytes k in
+    cut_by (is_cut bytes s.offset s.filesz) (Truncated field.Segment) fault (part bytes s.offset s.filesz) is
+
 -- a segment whose bytes were not added
 pub lay_refused : (bytes : List ℕ) (k : ℕ) (image : List Run) (fault : LayFault) → segment_part bytes k ≡ Ok (piece_at bytes k).bytes → IsLayFault (piece_at bytes k) image fault → IsSegmentFault bytes k image (fault_of fault)
-lay_refused bytes k image (lay.Conflict at old new) whole is = (whole, is)
-lay_refused bytes k image (lay.PastEnd at) whole is = (whole, is)
+lay_refused bytes k image (lay.Conflict at old new) whole is = (is_whole bytes k (piece_at bytes k).bytes whole, is)
+lay_refused bytes k image (lay.PastEnd at) whole is = (is_whole bytes k (piece_at bytes k).bytes whole, is)
 lay_refused bytes k image lay.OutOfMemory whole is = tt
 
 first_refused : (bytes : List ℕ) (k : ℕ) (image : List Run) (fault : ImageFault) → file_fault bytes ≡ None → k < e_phnum bytes → is_loaded bytes k ≡ true → IsImageBefore bytes k image → IsSegmentFault bytes k image fault → IsFirstRefused bytes fault

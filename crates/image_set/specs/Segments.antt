@@ -1,12 +1,13 @@
 -- The image of an ELF file (System V ABI, chapter 5, "Program Header").
-use Rattle.std.specs.Prelude.{◌≡◌, ◌⊎◌, ◌≤◌, ◌<◌, ◌^◌, ◌==◌, ◌+◌, ℕ, zero, suc, Bool, IsTrue, List, [], ◌∷◌, length, Some, None, Ok, Err, if◌then◌else◌}
+use Rattle.std.specs.Prelude.{◌≡◌, ◌⊎◌, ◌≤◌, ◌<◌, ◌^◌, ◌==◌, ◌+◌, ℕ, zero, suc, Bool, true, false, IsTrue, List, [], ◌∷◌, length, Some, None, if◌then◌else◌}
 use Rattle.byte_map.specs.Image.{Run, end_of, IsSameMap, AreMaximal}
 use Rattle.byte_map.specs.Laying.{AgreesBelow, IsLayFault}
 use Rattle.byte_map.specs.declared.fault.LayFault.TheVariants as lay
 use Rattle.elf32.specs.declared.fault.ElfFault.{ElfFault}
+use Rattle.elf32.specs.declared.fault.ElfFault.TheVariants.{Truncated}
+use Rattle.elf32.specs.declared.fault.Field.TheVariants as field
 use Rattle.elf32.specs.Format.{e_phnum, segment_at}
-use Rattle.elf32.specs.Checks.{part, file_fault}
-use Rattle.elf32.specs.Tables.{segment_part}
+use Rattle.elf32.specs.Checks.{is_cut, part, file_fault}
 use Rattle.image_set.specs.declared.fault.ImageFault.{ImageFault}
 use Rattle.image_set.specs.declared.fault.ImageFault.TheVariants.{NoForm, Hex, Srec, Elf, Conflict, PastEnd, OutsideDevice, EmptyImage, OutOfMemory}
 
@@ -17,6 +18,10 @@ is_loaded bytes k = (segment_at bytes k).kind == 1
 -- the p_filesz bytes of segment `k` in the file, from p_paddr on
 abbrev pub piece_at : List ℕ → ℕ → Run
 piece_at bytes k = record { at = (segment_at bytes k).paddr; bytes = part bytes (segment_at bytes k).offset (segment_at bytes k).filesz }
+
+-- whether they go past the end of the file
+abbrev pub is_cut_at : List ℕ → ℕ → Bool
+is_cut_at bytes k = is_cut bytes (segment_at bytes k).offset (segment_at bytes k).filesz
 
 -- the pieces of the loaded segments before a place of the table
 abbrev pub pieces_before : List ℕ → ℕ → List Run
@@ -30,7 +35,7 @@ size_before bytes (suc k) = if is_loaded bytes k then length (piece_at bytes k).
 
 -- segment `k` is right: it ends in the file and at 2^32 or below it, and agrees with the loaded segments before it
 pub record IsRight (bytes : List ℕ) (k : ℕ) : Type 0 where
-  pub whole : segment_part bytes k ≡ Ok (piece_at bytes k).bytes
+  pub whole : is_cut_at bytes k ≡ false
   pub fits : end_of (piece_at bytes k) ≤ 2 ^ 32
   pub agrees : AgreesBelow (piece_at bytes k) (pieces_before bytes k) (2 ^ 32)
 
@@ -55,10 +60,9 @@ abbrev pub IsSegmentFault : List ℕ → ℕ → List Run → ImageFault → Typ
 IsSegmentFault bytes k image NoForm = ⊥
 IsSegmentFault bytes k image (Hex fault) = ⊥
 IsSegmentFault bytes k image (Srec fault) = ⊥
-IsSegmentFault bytes k image (Elf fault) = segment_part bytes k ≡ Err fault
-IsSegmentFault bytes k image (Conflict at old new) = (segment_part bytes k ≡ Ok (piece_at bytes k).bytes)
-    × IsLayFault (piece_at bytes k) image (lay.Conflict at old new)
-IsSegmentFault bytes k image (PastEnd at) = (segment_part bytes k ≡ Ok (piece_at bytes k).bytes) × IsLayFault (piece_at bytes k) image (lay.PastEnd at)
+IsSegmentFault bytes k image (Elf fault) = (is_cut_at bytes k ≡ true) × (fault ≡ Truncated field.Segment)
+IsSegmentFault bytes k image (Conflict at old new) = (is_cut_at bytes k ≡ false) × IsLayFault (piece_at bytes k) image (lay.Conflict at old new)
+IsSegmentFault bytes k image (PastEnd at) = (is_cut_at bytes k ≡ false) × IsLayFault (piece_at bytes k) image (lay.PastEnd at)
 IsSegmentFault bytes k image (OutsideDevice at) = ⊥
 IsSegmentFault bytes k image EmptyImage = ⊥
 IsSegmentFault bytes k image OutOfMemory = Unit {0}

@@ -10,13 +10,17 @@ use byte_map::{ByteMap, LayFault};
 use std::alloc::Global;
 
 /// Adds the bytes of another image to one. Where the two have unequal bytes it answers the least such address, with the
-/// byte of `into` as the old one. A refusal leaves `into` as it was.
-pub fn merge(alloc: Global, into: &mut ByteMap, other: &ByteMap) -> Result<(), ImageFault>
-    ensures ok { OnOk result (IsUnion into.old other.now into.new) }
-    ensures refused { IfErr result (IsUnionFault into.old other.now) }
+/// byte of `into` as the old one. A refusal leaves `into` as it was. The first image is taken as it is.
+pub fn merge(alloc: Global, into: &mut ByteMap, other: ByteMap) -> Result<(), ImageFault>
+    ensures ok { OnOk result (IsUnion into.old other into.new) }
+    ensures refused { IfErr result (IsUnionFault into.old other) }
     ensures err { OnErr result (into.new ≡ into.old) }
 {
-    let union = unite(alloc, into, other)?;
+    if into.runs() == 0 {
+        *into = other;
+        return Ok(());
+    }
+    let union = unite(alloc, into, &other)?;
     *into = union;
     Ok(())
 }

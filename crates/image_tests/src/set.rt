@@ -70,7 +70,7 @@ fn image_of_text(alloc: Global, text: &[u8]) -> Result<ByteMap, ImageFault> {
 /// Merges the image of a text into a map.
 fn merge_text(alloc: Global, map: &mut ByteMap, text: &[u8]) -> Result<(), ImageFault> {
     let image = image_of_text(alloc, text)?;
-    merge(alloc, map, &image)
+    merge(alloc, map, image)
 }
 
 #[test]
@@ -110,7 +110,7 @@ fn a_refused_union_adds_nothing(rt: HostRuntime) -> Result<(), Fail> {
         old: 3,
         new: 8,
     };
-    assert!(rt; merge(rt.alloc(), &mut map, &other) == Err(conflict));
+    assert!(rt; merge(rt.alloc(), &mut map, other) == Err(conflict));
     assert!(rt; map.runs() == 1);
     assert!(rt; map.run(0) == (0x10, [1, 2, 3].as_slice()));
     Ok(())

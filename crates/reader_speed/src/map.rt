@@ -99,7 +99,7 @@ fn lay_records(alloc: Global, plan: &Plan, parity: Option<u32>) -> Result<ByteMa
 fn merge_records(alloc: Global, plan: &Plan) -> Result<ByteMap> {
     let mut map = lay_records(alloc, plan, Some(0))?;
     let other = lay_records(alloc, plan, Some(1))?;
-    merge(alloc, &mut map, &other)?;
+    merge(alloc, &mut map, other)?;
     Ok(map)
 }
 

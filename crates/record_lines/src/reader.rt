@@ -10,6 +10,9 @@ use crate::fault::{LineFault, TextFault};
 use byte_map::ByteMap;
 use std::alloc::Global;
 
+/// An image of so many runs is laid line by line. One of more is laid in the order of its addresses.
+const FEW_RUNS: usize = 64;
+
 /// A format of records. A value is what is known of the lines that were read.
 pub trait RecordFormat: Drop {
     /// A record.
@@ -46,8 +49,14 @@ pub fn read_records<S: RecordFormat>(
     ensures ok { IfOk result (IsImageOfText S.format (lines_of text.now)) }
     ensures err { IfErr result (IsTextFault S.format (lines_of text.now)) }
 {
-    match read_by_address::<S>(alloc, text) {
-        Some(map) => Ok(map),
-        None => read_by_line::<S>(alloc, text),
+    if let Some(read) = read_by_line::<S>(alloc, text, FEW_RUNS) {
+        return read;
+    }
+    if let Some(map) = read_by_address::<S>(alloc, text) {
+        return Ok(map);
+    }
+    match read_by_line::<S>(alloc, text, usize::MAX) {
+        Some(read) => read,
+        None => unreachable!(),
     }
 }

@@ -1,11 +1,10 @@
-use Rattle.std.proofs.Common.{◌≡◌, ◌<◌, ◌+◌, ℕ, List, true, false, length, Ok, refl, sym, subst, arith}
+use Rattle.std.proofs.Common.{◌≡◌, ◌<◌, ◌+◌, ℕ, List, true, false, length, refl, sym, subst, arith}
 use Rattle.std.proofs.lemmas.Bool.{eq-eqb, ne_eqb}
 use Rattle.std.proofs.lemmas.Result.{err_from_is_err_and}
 use Rattle.byte_map.specs.Laying.{Lays}
 use Rattle.elf32.specs.Format.{e_phnum, segment_at}
-use Rattle.elf32.specs.Tables.{segment_part}
-use Rattle.image_set.specs.Segments.{is_loaded, piece_at, IsImageBefore, IsSegmentFault}
-use Rattle.image_set.proofs.SegmentLemmas.{no_segment, size_more, segment_more, segment_skipped, elf_refused}
+use Rattle.image_set.specs.Segments.{is_loaded, piece_at, is_cut_at, IsImageBefore, IsSegmentFault}
+use Rattle.image_set.proofs.SegmentLemmas.{no_segment, size_more, segment_more, segment_skipped, is_whole, elf_refused}
 use Rattle.image_set.proofs.segments.read_elf.Goals as goal
 use Rattle.image_set.proofs.segments.read_elf.Goals.{then-segment-eq-LOAD+in_ok-lay_segment, else-segment-eq-LOAD}
 
@@ -21,7 +20,9 @@ loop-index-preserved c =
     elim c.if-segment-eq-LOAD.branch [
       | then-segment-eq-LOAD+in_ok-lay_segment w ↦
           let loaded = subst (λ (b : List ℕ). is_loaded b index ≡ true) same (eq-eqb (segment_at c.in-Ok.elf index).kind 1 (rw c.segment.ensures at w.if-segment-eq-LOAD.true)) in
-          let whole = subst (λ (b : List ℕ). segment_part b index ≡ Ok (piece_at b index).bytes) same w.in_ok-lay_segment.ensures.whole in
+          let elf = c.in-Ok.elf in
+          let ends = is_whole elf index (piece_at elf index).bytes w.in_ok-lay_segment.ensures.whole in
+          let whole = subst (λ (b : List ℕ). is_cut_at b index ≡ false) same ends in
           let lays = subst (λ (b : List ℕ). Lays (piece_at b index) before w.lay_segment.new.map) same w.in_ok-lay_segment.ensures.ok in
           let size = subst (λ (b : List ℕ). w.lay_segment.new.room + length (piece_at b index).bytes ≡ c.loop-index.room) same w.in_ok-lay_segment.ensures.size in (
             subst (IsImageBefore bytes (index + 1)) (sym w.map-is) (segment_more bytes index before w.lay_segment.new.map c.loop-index.invariant.0 loaded whole lays),
