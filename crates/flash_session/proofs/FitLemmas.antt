@@ -41,8 +41,8 @@ pub of_script : (tells : Bool) (size : ℕ) (e : TargetEnd) (b : BenchState) →
 of_script tells size ended.Done b sound = tt
 of_script tells size (ended.Open fault) b sound = absurd sound
 of_script tells size (ended.Survey fault) b sound = absurd sound
-of_script tells size (ended.CallFailed number call e) b sound = tt
-of_script tells size (ended.Mismatch d) b sound = tt
+of_script tells size (ended.CallFailed number call e) b sound = sound
+of_script tells size (ended.Mismatch d) b sound = sound.1
 of_script tells size ended.StoreFault b sound = tt
 of_script tells size ended.DeviceFault b sound = tt
 

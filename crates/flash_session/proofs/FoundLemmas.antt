@@ -2,10 +2,13 @@
 use Rattle.std.proofs.Common.{◌≡◌, ◌<◌, ◌≤◌, ◌+◌, ◌^◌, ◌∙◌, ℕ, Bool, IsTrue, is_some, Result, Err, List, [], ◌∷◌, map, option_to_list, length, take, drop, Option, Some, None, refl, sym, ap, subst, arith}
 use Rattle.std.proofs.lemmas.List.{take_all}
 use Rattle.std.proofs.lemmas.List.Elements.{All-append}
+use Rattle.std.specs.Borrow.{Bor}
+use Rattle.bench_model.specs.State.{BenchState}
 use Rattle.board_file.specs.Limits.{size_of}
 use Rattle.board_file.specs.Shown.{Shown as BoardShown, shown as board_of}
 use Rattle.flm_descriptor.specs.Shown.{Shown as AlgorithmShown}
 use Rattle.flash_layout.specs.Areas.{areas_of}
+use Rattle.page_geometry.specs.Geometry.{Geometry}
 use Rattle.erase_planner.specs.Plans.{IsLeastPlan}
 use Rattle.algo_calls.specs.Duties.{cells_before}
 use Rattle.job_text.specs.Fits.{all_fit}
@@ -20,6 +23,9 @@ use Rattle.job_text.specs.Said.{algorithms_shown}
 use Rattle.flash_session.specs.declared.goal.Goal.{Goal}
 use Rattle.flash_session.specs.declared.part.Task.{Task}
 use Rattle.flash_session.specs.Goals.{goal_in}
+use Rattle.flash_session.specs.RegionPlans.{IsPartFor}
+use Rattle.flash_session.specs.Sources.{IsMadeFrom}
+use Rattle.flash_session.specs.declared.region_survey.Source.TheVariants as from
 use Rattle.flash_session.specs.SurveyFacts.{AreRegionSurveys}
 use Rattle.flash_session.proofs.JobLemmas.{sizes_are, second_start}
 use Rattle.flash_session.proofs.PartLemmas.{two_parts}
@@ -45,6 +51,35 @@ found_still tells j a start c d g h r one two is =
       work = is.work;
       bytes = λ told. subst (λ (l : List ℕ). AreBytes l) (mine c d (one told)) (is.bytes told);
       wanted = λ told. subst (λ (l : List ℕ). AreBytes l) (mine g h (two told)) (is.wanted told);
+    }
+
+-- what a survey to the goal of a job made of the memory for a region
+pub found_by : (tells : Bool) (j : Bor Job) (g : Goal) (a : AlgorithmShown) (start : ℕ) (s : BenchState) (r : RegionSurvey) → IsPartFor a r → r.start ≡ start
+    → IsMadeFrom tells (from.Job j g) j.now.board.weights a r.geometry r.start s r.plan.made → IsFound tells j.now a start s.cells (goal_in j.now g s.file) r
+found_by tells j g a start s r part place made =
+    let b = board_of j.now.board in
+    let all = goal_in j.now g s.file in
+    let cells : IsTrue tells → made.cells ≡ take a.device.size (drop start s.cells) = λ told. made.told told ∙ ap (λ (k : ℕ). take a.device.size (drop k s.cells)) place in
+    let wanted : IsTrue tells → made.wanted ≡ take a.device.size (drop start all) = λ told.
+    made.are told ∙ ap (λ (k : ℕ). take k (drop r.start all)) made.long ∙ ap (λ (k : ℕ). take a.device.size (drop k all)) place in
+    record {
+      plan = record {
+        layout = part.layout;
+        lawful = part.lawful;
+        base = part.base;
+        empty = part.empty;
+        plan = λ told. subst (λ (x : List ℕ). IsLeastPlan r.geometry b.weights (is_some a.entries.erase_chip) a.device.empty (take a.device.size (drop start s.cells)) x r.plan.made) (wanted told)
+            (subst (λ (x : List ℕ). IsLeastPlan r.geometry b.weights (is_some a.entries.erase_chip) a.device.empty x made.wanted r.plan.made) (cells told) made.least);
+        entry = made.entry;
+      };
+      work = record {
+        work = record { size = ap (λ (l : Geometry). l.size) part.layout; fit = part.fit; entry = made.entry; empty = part.empty };
+        base = part.base;
+        end = part.end;
+        place = place;
+      };
+      bytes = λ told. subst (λ (l : List ℕ). AreBytes l) (cells told) made.bytes;
+      wanted = λ told. subst (λ (l : List ℕ). AreBytes l) (wanted told) made.wanted_bytes;
     }
 
 -- cells and file that were only read are the same

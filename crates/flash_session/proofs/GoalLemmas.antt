@@ -27,6 +27,14 @@ over_drop image base zero cells = let z : base ≡ base + 0 = omega arith in ap 
 over_drop image base (suc n) [] = refl
 over_drop image base (suc n) (c ∷ cells) = let e : base + 1 + n ≡ base + suc n = omega arith in over_drop image (base + 1) n cells ∙ ap (λ (k : ℕ). over image k (drop n cells)) e
 
+-- an image over cells, and over those behind them
+pub over_append : (image : List Run) (base : ℕ) (cells more : List ℕ) → over image base (cells ++ more) ≡ over image base cells ++ over image (base + length cells) more
+over_append image base [] more = let z : base ≡ base + 0 = omega arith in ap (λ (k : ℕ). over image k more) z
+over_append image base (c ∷ cells) more =
+    let e : base + 1 + length cells ≡ base + length (c ∷ cells) = omega arith in
+    ap (λ (l : List ℕ). unwrap_or (byte_at image base) c ∷ l)
+    (over_append image (base + 1) cells more ∙ ap (λ (k : ℕ). over image (base + 1) cells ++ over image k more) e)
+
 -- ---- cells of regions, from a place on
 
 -- regions that end by the last address

@@ -2,7 +2,7 @@
 use Rattle.std.proofs.Common.{◌≡◌, ◌<◌, ◌≤◌, ◌+◌, ◌-◌, ◌++◌, ◌∙◌, ℕ, Bool, IsTrue, List, length, take, drop, get_or, Some, None, refl, sym, ap, arith, length-append}
 use Rattle.std.proofs.lemmas.List.{length-take, length-drop}
 use Rattle.bench_model.specs.State.{BenchState, file_half, cells_half}
-use Rattle.bench_model.specs.Calls.{OnlyReads, IsRead}
+use Rattle.bench_model.specs.Calls.{FileStays, OnlyReads, IsRead}
 use Rattle.bench_model.proofs.Moments.{adds_nothing_here, adds_nothing_then, stays_adds_nothing}
 use Rattle.readback.specs.Readback.{OnlyReadsCells}
 
@@ -36,6 +36,10 @@ read_cells tells s t reads = record {
   file = record { file = λ told. reads.file.file; moments = stays_adds_nothing reads.file.half };
   cells = record { cells = reads.cells; operation = reads.operation; count = reads.count; moments = reads.moments };
 }
+
+-- the cells alone
+pub only_cells : {tells : Bool} {s t : BenchState} → IsRead tells s t → FileStays s t → OnlyReadsCells tells s t
+only_cells reads file = record { cells = reads.cells.cells; operation = reads.cells.operation; count = reads.cells.count; moments = reads.cells.moments; file = file }
 
 -- a window whose front was filled is as long as it was
 pub kept_room : (n : ℕ) (window front : List ℕ) → length window ≡ 4096 → n ≤ 4096 → length front ≡ length (take n window) → length (front ++ drop n window) ≡ 4096

@@ -48,13 +48,14 @@ legs_of t = legs_for t []
 abbrev pub togo : Player → ℕ
 togo t = turns_ahead (legs_of t) (size_for t) t.place
 
--- an end that a target with a script may come to
+-- An end that a target with a script may come to, on every bench: a call that failed has a number, and was neither done nor broken off by a
+-- device fault; the two bytes of a mismatch differ.
 abbrev pub IsScriptEnd : TargetEnd → Type 0
 IsScriptEnd ended.Done = Unit {0}
 IsScriptEnd (ended.Open fault) = ⊥
 IsScriptEnd (ended.Survey fault) = ⊥
-IsScriptEnd (ended.CallFailed number call e) = Unit {0}
-IsScriptEnd (ended.Mismatch d) = Unit {0}
+IsScriptEnd (ended.CallFailed number call e) = IsNotDone number e
+IsScriptEnd (ended.Mismatch d) = d.want ≢ d.got
 IsScriptEnd ended.StoreFault = Unit {0}
 IsScriptEnd ended.DeviceFault = Unit {0}
 

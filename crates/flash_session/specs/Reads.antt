@@ -1,4 +1,4 @@
--- The fault of a comparison that was not made.
+-- The fault of cells, or of the bytes that are wanted of them, that were not read.
 use Rattle.std.specs.Prelude.{Option, Some}
 use Rattle.bench_model.specs.Counted.{BenchFault, store, device}
 use Rattle.flash_session.specs.declared.windows.Unread.{Unread}

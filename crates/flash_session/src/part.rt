@@ -1,5 +1,5 @@
 //! What a player's script is made of.
-ghost use Rattle.std.specs.Prelude.{IfSome};
+ghost use Rattle.std.specs.Prelude.{◌≡◌, ◌<◌, ◌^◌, IfSome};
 ghost use Rattle.flash_session.specs.Items.{IsSmall};
 
 use crate::cursor::Item;
@@ -7,7 +7,10 @@ use crate::goal::Goal;
 use crate::phase::Phase;
 use algo_calls::Call;
 use erase_planner::Plan;
+use faults::OutOfMemory;
+use flm_descriptor::Algorithm;
 use page_geometry::Geometry;
+use std::alloc::Global;
 
 /// The work on a region: the sectors and pages, what to erase and to program of them, the address of the first byte, and the place of the
 /// first cell.
@@ -68,14 +71,42 @@ fn count_second(part: &Option<Part>)
     }
 }
 
+/// The value of an erased byte.
+fn empty_of(algorithm: &Algorithm) -> u8
+    ensures value { result ≡ algorithm.now.device.empty }
+    ensures byte { algorithm.now.device.empty < 2 ^ 8 }
+{
+    algorithm.device.empty
+}
+
 impl Part {
-    ghost use Rattle.std.specs.Prelude.{◌≡◌, ◌<◌, ◌≤◌, ◌+◌, ◌^◌, ℕ, List, Bool, true, false, [], length, get_or, IsTrue, is_some, MatchOption};
+    ghost use Rattle.std.specs.Prelude.{◌≡◌, ◌<◌, ◌≤◌, ◌+◌, ◌^◌, ℕ, List, Bool, true, false, [], length, get_or, IsTrue, is_some, IfOk, MatchOption};
+    ghost use Rattle.flm_descriptor.specs.Shown.{shown as algorithm_of};
     ghost use Rattle.algo_calls.specs.Setups.{Setup};
+    ghost use Rattle.flash_session.specs.RegionPlans.{IsPartFor};
     ghost use Rattle.flash_session.specs.Script.{IsErrand, has_verify, page_call};
     ghost use Rattle.flash_session.specs.Items.{sectors_on, pages_on, calls_on_phase};
     ghost use Rattle.flash_session.specs.Steps.{IsItem};
     ghost use Rattle.flash_session.specs.Targets.{planned_in};
     ghost use Rattle.flash_session.specs.declared.phase.Phase.TheVariants as stage;
+
+    /// The work on a region, whose first cell is at place `start`, by the algorithm for its device: it takes the memory of the plan.
+    pub fn new(alloc: Global, algorithm: &Algorithm, start: u32) -> Result<Part, OutOfMemory>
+        ensures part { IfOk result (IsPartFor (algorithm_of algorithm.now)) }
+        ensures place { IfOk result (λ part. part.start ≡ start) }
+    {
+        // `byte` of this call: what an erased cell holds is a byte
+        let _empty = empty_of(algorithm);
+        let geometry = Geometry::of(alloc, algorithm)?;
+        let mut plan = Plan::new(alloc);
+        plan.reserve(&geometry)?;
+        Ok(Part {
+            geometry,
+            plan,
+            base: algorithm.device.base,
+            start,
+        })
+    }
 
     /// The next sector of the plan, from this one on.
     fn find_sector(&self, index: u32) -> Option<u32>

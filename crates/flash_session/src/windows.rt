@@ -14,7 +14,7 @@ use bench_model::{Bench, DeviceFault, StoreFault};
 use job_text::Job;
 use readback::{Difference, first_difference};
 
-/// Why cells were not compared with a goal.
+/// Why cells, or the bytes that are wanted of them, were not read.
 #[derive(Clone, Copy, Debug, PartialEq, Eq)]
 pub(crate) enum Unread {
     Device,

@@ -1,8 +1,6 @@
--- What was found where cells were compared, and cells that were read in two pieces.
-use Rattle.std.proofs.Common.{◌≡◌, ◌+◌, ◌∙◌, sym, ap, subst, refl, arith, ℕ, Bool, IsTrue, IfOk, OnOk, List, ◌++◌, length, length-drop, take, drop, slice_index, Option, Some, None, Result, Ok, Err}
-use Rattle.std.proofs.lemmas.List.{take_all, take-append-drop}
+-- What was found where cells were compared.
+use Rattle.std.proofs.Common.{◌≡◌, ◌+◌, ◌∙◌, sym, ap, subst, arith, ℕ, Bool, IfOk, List, length, take, drop, slice_index, Option, Some, None, Result, Ok, Err}
 use Rattle.bench_model.specs.State.{BenchState}
-use Rattle.bench_model.specs.Does.{ReadsCells}
 use Rattle.bench_model.specs.declared.bench_fault.DeviceFault.{DeviceFault}
 use Rattle.byte_map.specs.Image.{Run}
 use Rattle.board_file.specs.declared.region.Region.{Region}
@@ -54,17 +52,3 @@ module _ (tells : Bool) (a b c : BenchState) (reads : OnlyReadsCells tells b c) 
       → IfOk result (FoundBy 0 (AgreesWith (bench_call tells a c) regions image) (DiffersAt (bench_call tells a c) regions image))
   found_in_image regions image (Ok found) finds = in_image regions image found finds
   found_in_image regions image (Err e) finds = tt
-
--- the cells that were read in two pieces are the cells
-pub both_read : {T U : Type 0} {tells : Bool} {a b c : BenchState} (start : ℕ) (one one' two two' : List ℕ) (done : T) (result : Result U DeviceFault)
-    → ReadsCells {T = T} tells a b 0 one one' (Ok done) → ReadsCells {T = U} tells b c start two two' result → length one ≡ start
-    → (IsTrue tells → length a.cells ≡ start + length two) → IsTrue tells → OnOk result (c.cells ≡ one' ++ two')
-both_read {a = a} {b = b} {c = c} start one one' two two' done (Ok u) first second here all told =
-    let front : take start a.cells ≡ one' = ap (λ (k : ℕ). take k a.cells) (sym here) ∙ sym (first.ok told) in
-    let rest : take (length two) (drop start a.cells) ≡ drop start a.cells =
-    take_all (length two) (drop start a.cells) (omega (arith, length-drop start a.cells, all told)) in
-    let back : drop start a.cells ≡ two' =
-    sym rest ∙ ap (λ (l : List ℕ). take (length two) (drop start l)) (sym (first.cells told)) ∙ sym (second.ok told) in
-    second.cells told ∙ first.cells told ∙ sym (take-append-drop start a.cells) ∙ ap (λ (l : List ℕ). l ++ drop start a.cells) front
-    ∙ ap (λ (l : List ℕ). one' ++ l) back
-both_read start one one' two two' done (Err e) first second here all told = tt

@@ -1,23 +1,29 @@
 -- From the steps of `plan` to its end. Each step that may end `plan` has its lemma.
-use Rattle.std.proofs.Common.{◌≡◌, ◌≢◌, ◌<◌, ◌≤◌, ◌+◌, ◌-◌, ◌^◌, ◌∙◌, ⊎_elim, ◌⊎◌, sym, ap, subst, refl, arith, inl, inr, ℕ, zero, suc, Bool, true, IsTrue, IsSome, List, [], ◌∷◌, ◌++◌, map, length, take, drop, get_or, slice_get, append-nil, Option, option_to_list, Some, None, Ok, Err}
-use Rattle.std.specs.List.{list_all}
-use Rattle.std.proofs.lemmas.List.{take_all, take_at, drop_at, take-append-le, length-take-le, length-append}
+use Rattle.std.proofs.Common.{◌≡◌, ◌≢◌, ◌<◌, ◌≤◌, ◌+◌, ◌-◌, ◌^◌, ◌∙◌, sym, ap, subst, refl, arith, inl, inr, ℕ, zero, suc, Bool, true, false, nat_lt, IsTrue, IsSome, is_some, All, List, [], ◌∷◌, ◌++◌, map, length, take, drop, set, get_or, append-nil, Option, option_to_list, Some, None, Result, OnOk, Ok, Err}
+use Rattle.std.specs.List.{flat_map}
+use Rattle.std.proofs.Math.Seq.{take-add}
+use Rattle.std.proofs.lemmas.Bool.{lt-ltb}
+use Rattle.std.proofs.lemmas.List.{take_all, take_at, take_more, take_more_set, drop_at, drop-drop, map-append, length-take-le, length-append}
+use Rattle.std.proofs.lemmas.List.Elements.{All-nil, All-cons}
 use Rattle.bench_model.specs.State.{BenchState, cells_half}
 use Rattle.bench_model.specs.declared.bench_fault.DeviceFault.{DeviceFault}
 use Rattle.bench_model.proofs.Moments.{adds_nothing_here, file_stays_here, cells_stay_here}
 use Rattle.outside_io.specs.State.{SinkState}
 use Rattle.outside_io.specs.declared.sink.OutputFault.{OutputFault}
-use Rattle.byte_map.specs.Image.{Run}
+use Rattle.byte_map.specs.Image.{Run, over}
 use Rattle.board_file.specs.declared.board.Weights.{Weights}
 use Rattle.board_file.specs.declared.region.Region.{Region}
-use Rattle.board_file.specs.Limits.{region_fits, size_of}
-use Rattle.board_file.proofs.Laws.{region_at}
+use Rattle.board_file.specs.Limits.{size_of}
 use Rattle.board_file.specs.Shown as board
 use Rattle.flm_descriptor.specs.Shown as flm
 use Rattle.flm_descriptor.specs.declared.algorithm.Algorithm.{Algorithm}
 use Rattle.page_geometry.specs.Geometry.{Geometry}
-use Rattle.erase_planner.specs.Plans.{Chosen}
-use Rattle.erase_planner.specs.Marks.{Covers, PlanView}
+use Rattle.erase_planner.specs.Plans.{Chosen, chosen}
+use Rattle.readback.specs.Readback.{OnlyReadsCells}
+use Rattle.readback.proofs.ReadbackLemmas.{only_reads_cells_here, only_reads_cells_then}
+use Rattle.flash_session.specs.declared.part.Part.{Part}
+use Rattle.flash_session.specs.RegionPlans.{IsPartFor, IsPlannedOver}
+use Rattle.flash_session.proofs.JobLemmas.{size_of-cons}
 use Rattle.report_text.specs.Plan.{plan_text}
 use Rattle.report_text.specs.Region.{region_text, plans_text}
 use Rattle.outside_io.specs.Puts.{Puts}
@@ -29,15 +35,13 @@ use Rattle.command_files.specs.Files.{others_of, AreFor, Aim, IsAim}
 use Rattle.command_files.specs.Refused.{IsRefused}
 use Rattle.command_files.specs.Steps.{IsTakeFault, IsFilesRefusal, aim_of}
 use Rattle.command_files.specs.declared.wanted.Wanted.{Wanted}
-use Rattle.command_files.proofs.WantedLemmas.{only_one, only_two, size_of_one, size_of_two}
 use Rattle.command_answers.specs.Call.{BenchCall, SinkCall, Answer, done, refused, bench_call, sink_call}
 use Rattle.command_answers.specs.Said.{PrintsText}
 use Rattle.command_answers.specs.Answered.{input, store, device, output, fault_in, yields, IsUnless, StandsEarly, IsOf, EndsLawfully, on_files}
 use Rattle.command_answers.specs.Reading.{ShowsFiles}
-use Rattle.flm_cli.specs.Plan.{plan_for, text_for, plans_for, text_of, PlanLeaves, IsPlanned, ShowsPlan, IsDueForPlan, PlanEnds, has_plan}
+use Rattle.flm_cli.specs.Plan.{text_for, plans_for, text_of, PlanLeaves, IsPlanned, ShowsPlan, IsDueForPlan, PlanEnds, has_plan}
 use Rattle.device_dump.specs.Looks.{LooksAtCells, PrintsNothing}
-use Rattle.flm_cli.specs.Steps.{AreSized, AreBuffersFor, IsBaseAt, AreBuffersStill, IsPrinted, Printed, PlansCells}
-use Rattle.flm_cli.specs.declared.plan.PlanBuffers.{PlanBuffers}
+use Rattle.flm_cli.specs.Steps.{AreDevices, AreParts, ArePlanned, cells_on, part_text, parts_text, IsPrinted, Printed, PlansCells}
 use Rattle.command_answers.proofs.ReadingLemmas.{answers_yielding, answers_refused, answers_worked}
 use Rattle.command_answers.proofs.AnswerLemmas.{unraised, never_store, did_nothing, plain_lawful, untaken_lawful}
 use Rattle.flm_cli.proofs.FoundLemmas.{is_early}
@@ -139,16 +143,6 @@ module _ (bench : BenchCall) (told : Bool) (o : SinkState) (text : List ℕ → 
           (λ is. let same : output ≡ device = cc in cc);
       out_count = record { later = puts.cause.later; only = λ its. puts.cause.on_fault refl; answered = λ more. refl };
     }
-
--- a slice that was written through is what its vector holds
-pub written_back : (len : ℕ) (new old : List ℕ) → len ≡ length new → take len (new ++ drop (length new) old) ≡ new
-written_back len new old same = take-append-le len new (drop (length new) old) (omega arith) ∙ take_all len new (omega arith)
-
--- the text of a plan that was chosen
-pub text_is : (weights : Weights) (algorithm : flm.Shown) (image : List Run) (base : ℕ) (cells : List ℕ) (geometry : Geometry) (plan : Chosen)
-    → geometry ≡ device_of algorithm → plan ≡ plan_for weights algorithm image base cells → plan_text geometry base plan ≡ text_for weights algorithm image base cells
-text_is weights algorithm image base cells geometry plan geometry_is plan_is =
-    ap (λ (l : Geometry). plan_text l base plan) geometry_is ∙ ap (λ (p : Chosen). plan_text (device_of algorithm) base p) plan_is
 
 -- The exits before it.
 
@@ -256,110 +250,46 @@ module _ (tells told : Bool) (b : BenchState) (o : SinkState) (inputs : InputsCa
 
 -- An algorithm for each region.
 
-sized_by : (b : board.Shown) (regions : List Region) (files : List (List ℕ)) (algorithms : List flm.Shown) → length files ≡ length regions
-    → AreFor b regions files algorithms → AreSized regions algorithms
-sized_by b [] [] [] same are = tt
-sized_by b [] [] (a ∷ more) same are = absurd are
-sized_by b [] (f ∷ fs) algorithms same are = absurd (omega (arith, same))
-sized_by b (r ∷ rs) [] algorithms same are = absurd (omega (arith, same))
-sized_by b (r ∷ rs) (f ∷ fs) [] same are = absurd are
-sized_by b (r ∷ rs) (f ∷ fs) (a ∷ more) same are = (are.0.fits.size_is, sized_by b rs fs more (omega (arith, same)) are.1)
+devices_by : (b : board.Shown) (regions : List Region) (files : List (List ℕ)) (algorithms : List flm.Shown) → length files ≡ length regions
+    → AreFor b regions files algorithms → AreDevices regions algorithms
+devices_by b [] [] [] same are = tt
+devices_by b [] [] (a ∷ more) same are = absurd are
+devices_by b [] (f ∷ fs) algorithms same are = absurd (omega (arith, same))
+devices_by b (r ∷ rs) [] algorithms same are = absurd (omega (arith, same))
+devices_by b (r ∷ rs) (f ∷ fs) [] same are = absurd are
+devices_by b (r ∷ rs) (f ∷ fs) (a ∷ more) same are = (are.0.fits.base_is, are.0.fits.size_is, devices_by b rs fs more (omega (arith, same)) are.1)
 
-each_by : (regions : List Region) (algorithms : List flm.Shown) → AreSized regions algorithms → length algorithms ≡ length regions
-each_by [] [] sized = refl
-each_by [] (a ∷ more) sized = absurd sized
-each_by (r ∷ rs) [] sized = absurd sized
-each_by (r ∷ rs) (a ∷ more) sized = ap suc (each_by rs more sized.1)
+each_by : (regions : List Region) (algorithms : List flm.Shown) → AreDevices regions algorithms → length algorithms ≡ length regions
+each_by [] [] devices = refl
+each_by [] (a ∷ more) devices = absurd devices
+each_by (r ∷ rs) [] devices = absurd devices
+each_by (r ∷ rs) (a ∷ more) devices = ap suc (each_by rs more devices.2)
 
 -- as many FLM files as regions
 as_many : (b : board.Shown) (regions : List Region) (first : Option (List ℕ)) (others : List (List ℕ)) (algorithms : List flm.Shown) → IsSome first
     → (IsSome first → length regions ≤ length others) → 0 < length regions
-    → AreFor b regions (option_to_list first ++ take (others_of first regions) others) algorithms → AreSized regions algorithms
+    → AreFor b regions (option_to_list first ++ take (others_of first regions) others) algorithms → AreDevices regions algorithms
 as_many b regions None others algorithms some enough any are = absurd (cc)
 as_many b regions (Some f) others algorithms some enough any are =
     let few = length-take-le (length regions - 1) others (omega (arith, enough some)) in
-    sized_by b regions (f ∷ take (length regions - 1) others) algorithms (omega (arith, few, any)) are
+    devices_by b regions (f ∷ take (length regions - 1) others) algorithms (omega (arith, few, any)) are
 
-pub sized_of : (raw_at : Option ℕ) (files : FilesGiven) (aim : Aim) → IsAim raw_at files aim → IsSome files.flm → 0 < length aim.board.regions
-    → AreSized aim.board.regions aim.algorithms
-sized_of raw_at files aim is some any =
+pub devices_of : (raw_at : Option ℕ) (files : FilesGiven) (aim : Aim) → IsAim raw_at files aim → IsSome files.flm → 0 < length aim.board.regions
+    → AreDevices aim.board.regions aim.algorithms
+devices_of raw_at files aim is some any =
     as_many aim.board aim.board.regions files.flm files.images aim.algorithms some is.are_read.board.enough any is.are_read.algorithms
 
-pub first_sized : (regions : List Region) (items : List Algorithm) (r : Region) (x : Algorithm) → AreSized regions (map flm.shown items)
-    → slice_get regions 0 ≡ Some r → slice_get items 0 ≡ Some x → x.device.size ≡ r.size
-first_sized [] items r x sized region item = absurd (cc)
-first_sized (s ∷ rs) [] r x sized region item = absurd sized
-first_sized (s ∷ rs) (y ∷ ys) r x sized region item =
-    let one : s ≡ r = cc in
-    let two : y ≡ x = cc in
-    ap (λ (a : Algorithm). a.device.size) (sym two) ∙ sized.0 ∙ ap (λ (q : Region). q.size) one
-
-pub second_sized : (regions : List Region) (items : List Algorithm) (r : Region) (x : Algorithm) → AreSized regions (map flm.shown items)
-    → slice_get regions 1 ≡ Some r → slice_get items 1 ≡ Some x → x.device.size ≡ r.size
-second_sized [] items r x sized region item = absurd (cc)
-second_sized (s ∷ rs) [] r x sized region item = absurd sized
-second_sized (s ∷ []) (y ∷ ys) r x sized region item = absurd (cc)
-second_sized (s ∷ t ∷ rs) (y ∷ []) r x sized region item = absurd sized.1
-second_sized (s ∷ t ∷ rs) (y ∷ z ∷ ys) r x sized region item =
-    let one : t ≡ r = cc in
-    let two : z ≡ x = cc in
-    ap (λ (a : Algorithm). a.device.size) (sym two) ∙ sized.1.0 ∙ ap (λ (q : Region). q.size) one
-
-pub items_many : (regions : List Region) (items : List Algorithm) → AreSized regions (map flm.shown items) → length items ≡ length regions
-items_many [] [] sized = refl
-items_many [] (a ∷ more) sized = absurd sized
-items_many (r ∷ rs) [] sized = absurd sized
-items_many (r ∷ rs) (a ∷ more) sized = ap suc (items_many rs more sized.1)
-
--- the first address of a region of a board
-base_fits : (regions : List Region) (i : ℕ) (r d : Region) → i < length regions → r ≡ get_or regions i d → IsTrue (list_all region_fits regions) → r.base + r.size ≤ 2 ^ 32
-base_fits regions i r d less is fit = subst (λ (q : Region). q.base + q.size ≤ 2 ^ 32) (sym is) (region_at regions i d less fit).ends
-
-is_at : (regions : List Region) (i : ℕ) (r d : Region) → i < length regions → r ≡ get_or regions i d → slice_get regions i ≡ Some r
-is_at [] i r d less is = absurd (omega (arith, less))
-is_at (q ∷ qs) zero r d less is = let same : q ≡ r = sym is in cc
-is_at (q ∷ qs) (suc i) r d less is = is_at qs i r d (omega (arith, less)) is
-
-pub base_at : (regions list : List Region) (i : ℕ) (d : Region) → list ≡ regions → i < length regions → IsTrue (list_all region_fits regions)
-    → IsBaseAt regions i (get_or list i d).base
-base_at regions list i d same less fit =
-    let r = get_or list i d in
-    let is : r ≡ get_or regions i d = ap (λ (l : List Region). get_or l i d) same in
-    record { region = r; is = is_at regions i r d less is; base_is = refl; ends = base_fits regions i r d less is fit }
-
--- The texts.
-
--- the text for one region is that of its plan
-pub text_of_one : (wanted : Wanted) (region : Region) (algorithm : Algorithm) (cells : List ℕ) → wanted.board.regions ≡ region ∷ []
-    → wanted.algorithms.items ≡ algorithm ∷ [] → length cells ≡ region.size
-    → text_for wanted.board.weights (flm.shown algorithm) wanted.image region.base cells ≡ text_of (aim_of wanted) cells
-text_of_one wanted region algorithm cells only one all =
-    let weights = wanted.board.weights in
-    ap (λ (c : List ℕ). text_for weights (flm.shown algorithm) wanted.image region.base c) (sym (take_all region.size cells (omega (arith, all))))
-    ∙ ap (λ (rs : List Region). plans_text (plans_for weights wanted.image rs (flm.shown algorithm ∷ []) cells)) (sym only)
-    ∙ ap (λ (l : List Algorithm). plans_text (plans_for weights wanted.image wanted.board.regions (map flm.shown l) cells)) (sym one)
-
--- the text for two regions is that of both plans, each behind the line of its region
-pub text_of_two : (wanted : Wanted) (one two : Region) (a c : Algorithm) (xs ys : List ℕ) → wanted.board.regions ≡ one ∷ two ∷ []
-    → wanted.algorithms.items ≡ a ∷ c ∷ [] → length xs ≡ one.size → length ys ≡ two.size
-    → (region_text one.base ++ text_for wanted.board.weights (flm.shown a) wanted.image one.base xs)
-    ++ (region_text two.base ++ text_for wanted.board.weights (flm.shown c) wanted.image two.base ys) ≡ text_of (aim_of wanted) (xs ++ ys)
-text_of_two wanted one two a c xs ys are items all others =
-    let w = wanted.board.weights in
-    let image = wanted.image in
-    let first = λ (l : List ℕ). region_text one.base ++ text_for w (flm.shown a) image one.base l in
-    let second = λ (l : List ℕ). region_text two.base ++ text_for w (flm.shown c) image two.base l in
-    ap (λ (l : List ℕ). first l ++ second ys) (sym (take_at xs ys one.size all))
-    ∙ ap (λ (l : List ℕ). first (take one.size (xs ++ ys)) ++ second l)
-    (sym (ap (λ (l : List ℕ). take two.size l) (drop_at xs ys one.size all) ∙ take_all two.size ys (omega (arith, others))))
-    ∙ ap (λ (l : List ℕ). first (take one.size (xs ++ ys)) ++ l) (sym (append-nil (second (take two.size (drop one.size (xs ++ ys))))))
-    ∙ ap (λ (rs : List Region). plans_text (plans_for w image rs (flm.shown a ∷ flm.shown c ∷ []) (xs ++ ys))) (sym are)
-    ∙ ap (λ (l : List Algorithm). plans_text (plans_for w image wanted.board.regions (map flm.shown l) (xs ++ ys))) (sym items)
+-- their devices have the regions' cells
+pub device_cells : (regions : List Region) (algorithms : List flm.Shown) → AreDevices regions algorithms → cells_on algorithms ≡ size_of regions
+device_cells [] [] devices = refl
+device_cells [] (a ∷ more) devices = absurd devices
+device_cells (r ∷ rs) [] devices = absurd devices
+device_cells (r ∷ rs) (a ∷ more) devices = omega (arith, size_of-cons r rs, devices.1, device_cells rs more devices.2)
 
 -- The end of the work on the cells.
 
 module _ (bench : BenchCall) (inputs : InputsCall) (out : SinkCall) (asked : FilesAsked) (files : FilesGiven) (are : AreFiles inputs asked files) (wanted : Wanted)
-    (is : IsAim asked.raw_at files (aim_of wanted)) (sized : AreSized wanted.board.regions (map flm.shown wanted.algorithms.items))
+    (is : IsAim asked.raw_at files (aim_of wanted)) (devices : AreDevices wanted.board.regions (map flm.shown wanted.algorithms.items))
     (cells : size_of wanted.board.regions ≡ bench.before.cell_count) where
   abbrev aim : Aim
   aim = aim_of wanted
@@ -370,7 +300,7 @@ module _ (bench : BenchCall) (inputs : InputsCall) (out : SinkCall) (asked : Fil
   planned_is : (answer : Answer) → IsPrinted bench out text answer → IsPlanned bench out aim answer
   planned_is answer printed = record {
     size = cells;
-    each = each_by aim.board.regions aim.algorithms sized;
+    each = each_by aim.board.regions aim.algorithms devices;
     cells = printed.cells;
     all = printed.all ∙ sym cells;
     surveyed = printed.surveyed;
@@ -402,79 +332,239 @@ module _ (bench : BenchCall) (inputs : InputsCall) (out : SinkCall) (asked : Fil
         (planned_shows answer plans.printed) (planned_due answer plans.leaves.prints plans.printed);
   }
 
--- The buffers.
+-- The memory.
 
--- nothing was read into it
-pub buffers_here : (buffers : PlanBuffers) → AreBuffersStill buffers buffers
-buffers_here buffers = record { geometry = refl; plan = refl; goal = refl; cells = refl }
+parts_more : (algorithms : List flm.Shown) (start : ℕ) (parts : List Part) (a : flm.Shown) (p : Part) → AreParts algorithms start parts → IsPartFor a p → p.start ≡ start + cells_on algorithms
+    → AreParts (algorithms ++ a ∷ []) start (parts ++ p ∷ [])
+parts_more [] start [] a p are is at = let here : p.start ≡ start = omega (arith, at) in (is, here, tt)
+parts_more [] start (q ∷ parts) a p are is at = absurd are
+parts_more (b ∷ algorithms) start [] a p are is at = absurd are
+parts_more (b ∷ algorithms) start (q ∷ parts) a p are is at =
+    let behind : p.start ≡ start + b.device.size + cells_on algorithms = omega (arith, at) in
+    (are.0, are.1, parts_more algorithms (start + b.device.size) parts a p are.2 is behind)
 
--- buffers that were read into are buffers for the same algorithm
-pub buffers_stay : (algorithm : flm.Shown) (old new : PlanBuffers) → AreBuffersFor algorithm old → AreBuffersStill old new → AreBuffersFor algorithm new
-buffers_stay algorithm old new has still = record {
-  geometry = still.geometry ∙ has.geometry;
-  covers = subst (λ (l : Geometry). Covers l new.plan) (sym still.geometry) (subst (λ (p : PlanView). Covers old.geometry p) (sym still.plan) has.covers);
-  cells = still.cells ∙ has.cells;
-  goal = ap length still.goal ∙ has.goal;
-}
+cells_more : (algorithms : List flm.Shown) (a : flm.Shown) → cells_on (algorithms ++ a ∷ []) ≡ cells_on algorithms + a.device.size
+cells_more [] a = omega arith
+cells_more (b ∷ algorithms) a = omega (arith, cells_more algorithms a)
 
--- the regions of a board are one or two
-pub one_region : (regions : List Region) (r : Region) → length regions ≡ 1 → slice_get regions 0 ≡ Some r → regions ≡ r ∷ []
-one_region = only_one
+cells_within : (n : ℕ) (algorithms : List Algorithm) → cells_on (map flm.shown (take n algorithms)) ≤ cells_on (map flm.shown algorithms)
+cells_within zero algorithms = omega arith
+cells_within (suc n) [] = omega arith
+cells_within (suc n) (a ∷ algorithms) = omega (arith, cells_within n algorithms)
 
-pub two_regions : (regions : List Region) (r s : Region) → length regions ≡ 2 → slice_get regions 0 ≡ Some r → slice_get regions 1 ≡ Some s → regions ≡ r ∷ s ∷ []
-two_regions regions r s two = only_two regions r s (omega (arith, two)) (omega (arith, two))
+one_more : (algorithms : List Algorithm) (i : ℕ) (a : Algorithm) → i < length algorithms → a ≡ get_or algorithms i a
+    → map flm.shown (take (i + 1) algorithms) ≡ map flm.shown (take i algorithms) ++ flm.shown a ∷ []
+one_more algorithms i a less is =
+    ap (λ (l : List Algorithm). map flm.shown l) (take_more algorithms i a less ∙ ap (λ (x : Algorithm). take i algorithms ++ x ∷ []) (sym is))
+    ∙ map-append flm.shown (take i algorithms) (a ∷ [])
+
+-- the memory for the first algorithms was taken
+pub record TakenTo (algorithms : List Algorithm) (parts : List Part) (start i : ℕ) : Type 0 where
+  pub are : AreParts (map flm.shown (take i algorithms)) 0 parts
+  pub start_is : start ≡ cells_on (map flm.shown (take i algorithms))
+
+module _ (algorithms : List Algorithm) (parts : List Part) (start i : ℕ) (a : Algorithm) (so_far : TakenTo algorithms parts start i) (less : i < length algorithms) (is : a ≡ get_or algorithms i a) where
+  pub taken_more : (p : Part) → IsPartFor (flm.shown a) p → p.start ≡ start → TakenTo algorithms (parts ++ p ∷ []) (start + a.device.size) (i + 1)
+  taken_more p for_it at =
+      let before = map flm.shown (take i algorithms) in
+      let here : p.start ≡ 0 + cells_on before = omega (arith, at, so_far.start_is) in
+      record {
+        are = subst (λ (l : List flm.Shown). AreParts l 0 (parts ++ p ∷ [])) (sym (one_more algorithms i a less is)) (parts_more before 0 parts (flm.shown a) p so_far.are for_it here);
+        start_is = omega (arith, so_far.start_is, ap cells_on (one_more algorithms i a less is), cells_more before (flm.shown a));
+      }
+
+  -- a region ends within all cells
+  pub ends_within : start + a.device.size ≤ cells_on (map flm.shown algorithms)
+  ends_within = omega (arith, so_far.start_is, ap cells_on (one_more algorithms i a less is), cells_more (map flm.shown (take i algorithms)) (flm.shown a), cells_within (i + 1) algorithms)
+
+pub taken_all : (algorithms : List Algorithm) (parts : List Part) (start i : ℕ) → TakenTo algorithms parts start i → length algorithms ≤ i → AreParts (map flm.shown algorithms) 0 parts
+taken_all algorithms parts start i so_far past = subst (λ (l : List Algorithm). AreParts (map flm.shown l) 0 parts) (take_all i algorithms past) so_far.are
+
+-- The survey.
+
+pub many_parts : (algorithms : List Algorithm) (start : ℕ) (parts : List Part) → AreParts (map flm.shown algorithms) start parts → length parts ≡ length algorithms
+many_parts [] start [] are = refl
+many_parts [] start (p ∷ parts) are = absurd are
+many_parts (a ∷ algorithms) start [] are = absurd are
+many_parts (a ∷ algorithms) start (p ∷ parts) are = ap suc (many_parts algorithms (start + a.device.size) parts are.2)
+
+-- one of them, within all cells
+pub record IsOneOf (a : flm.Shown) (p : Part) (end : ℕ) : Type 0 where
+  pub is : IsPartFor a p
+  pub inside : p.start + a.device.size ≤ end
+
+pub part_at : (algorithms : List Algorithm) (start : ℕ) (parts : List Part) (i : ℕ) (d : Algorithm) (e : Part) → i < length parts → AreParts (map flm.shown algorithms) start parts
+    → IsOneOf (flm.shown (get_or algorithms i d)) (get_or parts i e) (start + cells_on (map flm.shown algorithms))
+part_at [] start [] i d e less are = absurd (omega (arith, less))
+part_at [] start (p ∷ parts) i d e less are = absurd are
+part_at (a ∷ algorithms) start [] i d e less are = absurd are
+part_at (a ∷ algorithms) start (p ∷ parts) zero d e less are = record { is = are.0; inside = omega (arith, are.1) }
+part_at (a ∷ algorithms) start (p ∷ parts) (suc i) d e less are =
+    let rest = part_at algorithms (start + a.device.size) parts i d e (omega (arith, less)) are.2 in
+    record { is = rest.is; inside = omega (arith, rest.inside) }
+
+parts_set : (algorithms : List Algorithm) (start : ℕ) (parts : List Part) (i : ℕ) (d : Algorithm) (e p : Part) → i < length parts → AreParts (map flm.shown algorithms) start parts
+    → IsPartFor (flm.shown (get_or algorithms i d)) p → p.start ≡ (get_or parts i e).start → AreParts (map flm.shown algorithms) start (set parts i p)
+parts_set [] start [] i d e p less are is at = absurd (omega (arith, less))
+parts_set [] start (q ∷ parts) i d e p less are is at = absurd are
+parts_set (a ∷ algorithms) start [] i d e p less are is at = absurd are
+parts_set (a ∷ algorithms) start (q ∷ parts) zero d e p less are is at = (is, at ∙ are.1, are.2)
+parts_set (a ∷ algorithms) start (q ∷ parts) (suc i) d e p less are is at =
+    (are.0, are.1, parts_set algorithms (start + a.device.size) parts i d e p (omega (arith, less)) are.2 is at)
+
+module _ (tells : Bool) (weights : Weights) (image : List Run) where
+  plan_still : (all cells : List ℕ) (a : flm.Shown) (p : Part) → (IsTrue tells → all ≡ cells) → IsPlannedOver tells weights image all a p → IsPlannedOver tells weights image cells a p
+  plan_still all cells a p same is = record {
+    cells = is.cells;
+    long = is.long;
+    told = λ told. is.told told ∙ ap (λ (l : List ℕ). take a.device.size (drop p.start l)) (same told);
+    plan = is.plan;
+  }
+
+  plans_still : (all cells : List ℕ) (algorithms : List flm.Shown) (parts : List Part) → (IsTrue tells → all ≡ cells) → ArePlanned tells weights image all algorithms parts
+      → ArePlanned tells weights image cells algorithms parts
+  plans_still all cells [] [] same are = tt
+  plans_still all cells [] (p ∷ parts) same are = absurd are
+  plans_still all cells (a ∷ algorithms) [] same are = absurd are
+  plans_still all cells (a ∷ algorithms) (p ∷ parts) same are = (plan_still all cells a p same are.0, plans_still all cells algorithms parts same are.1)
+
+  -- the cells were only read since
+  pub plans_since : {T E : Type 0} (r : Result T E) (all cells : List ℕ) (algorithms : List flm.Shown) (parts : List Part) → (IsTrue tells → cells ≡ all)
+      → OnOk r (ArePlanned tells weights image all algorithms parts) → OnOk r (ArePlanned tells weights image cells algorithms parts)
+  plans_since (Ok v) all cells algorithms parts same are = plans_still all cells algorithms parts (λ told. sym (same told)) are
+  plans_since (Err e) all cells algorithms parts same are = tt
+
+  plans_more : (all : List ℕ) (algorithms : List flm.Shown) (parts : List Part) (a : flm.Shown) (p : Part) → ArePlanned tells weights image all algorithms parts
+      → IsPlannedOver tells weights image all a p → ArePlanned tells weights image all (algorithms ++ a ∷ []) (parts ++ p ∷ [])
+  plans_more all [] [] a p are is = (is, tt)
+  plans_more all [] (q ∷ parts) a p are is = absurd are
+  plans_more all (b ∷ algorithms) [] a p are is = absurd are
+  plans_more all (b ∷ algorithms) (q ∷ parts) a p are is = (are.0, plans_more all algorithms parts a p are.1 is)
+
+  -- the first regions were surveyed
+  pub record SurveyedTo (algorithms : List Algorithm) (before now : BenchState) (parts : List Part) (i : ℕ) : Type 0 where
+    pub are : AreParts (map flm.shown algorithms) 0 parts
+    pub plans : ArePlanned tells weights image before.cells (map flm.shown (take i algorithms)) (take i parts)
+    pub reads : OnlyReadsCells tells before now
+    pub faults : now.device_faults ≡ before.device_faults
+
+  pub surveyed_none : (algorithms : List Algorithm) (s : BenchState) (parts : List Part) → AreParts (map flm.shown algorithms) 0 parts → SurveyedTo algorithms s s parts 0
+  surveyed_none algorithms s parts are = record { are = are; plans = tt; reads = only_reads_cells_here tells s; faults = refl }
+
+  module _ (algorithms : List Algorithm) (before now later : BenchState) (parts : List Part) (i : ℕ) (a : Algorithm) (old new : Part) (so_far : SurveyedTo algorithms before now parts i) (less : i < length parts)
+      (is : a ≡ get_or algorithms i a) (was : old ≡ get_or parts i old) where
+    pub surveyed_more : IsPartFor (flm.shown a) new → new.start ≡ old.start → IsPlannedOver tells weights image now.cells (flm.shown a) new → OnlyReadsCells tells now later
+        → later.device_faults ≡ now.device_faults → SurveyedTo algorithms before later (set parts i new) (i + 1)
+    surveyed_more for_it at plan reads faults =
+        let within : i < length algorithms = omega (arith, less, many_parts algorithms 0 parts so_far.are) in
+        let more = plans_more before.cells (map flm.shown (take i algorithms)) (take i parts) (flm.shown a) new so_far.plans (plan_still now.cells before.cells (flm.shown a) new so_far.reads.cells plan) in
+        record {
+          are = parts_set algorithms 0 parts i a old new less so_far.are (subst (λ (x : Algorithm). IsPartFor (flm.shown x) new) is for_it) (at ∙ ap (λ (p : Part). p.start) was);
+          plans = subst (λ (l : List flm.Shown). ArePlanned tells weights image before.cells l (take (i + 1) (set parts i new))) (sym (one_more algorithms i a within is))
+              (subst (λ (l : List Part). ArePlanned tells weights image before.cells (map flm.shown (take i algorithms) ++ flm.shown a ∷ []) l) (sym (take_more_set parts i new less)) more);
+          reads = only_reads_cells_then so_far.reads reads;
+          faults = faults ∙ so_far.faults;
+        }
+
+    pub one_of : IsOneOf (flm.shown a) old (cells_on (map flm.shown algorithms))
+    one_of =
+        let end = cells_on (map flm.shown algorithms) in
+        let one = part_at algorithms 0 parts i a old less so_far.are in
+        let its = subst (λ (x : Algorithm). IsOneOf (flm.shown x) old (0 + end)) (sym is) (subst (λ (p : Part). IsOneOf (flm.shown (get_or algorithms i a)) p (0 + end)) (sym was) one) in
+        record { is = its.is; inside = omega (arith, its.inside) }
+
+  pub surveyed_all : (algorithms : List Algorithm) (before now : BenchState) (parts : List Part) (i : ℕ) → SurveyedTo algorithms before now parts i → length parts ≤ i
+      → ArePlanned tells weights image before.cells (map flm.shown algorithms) parts
+  surveyed_all algorithms before now parts i so_far past =
+      subst (λ (l : List Algorithm). ArePlanned tells weights image before.cells (map flm.shown l) parts) (take_all i algorithms (omega (arith, past, many_parts algorithms 0 parts so_far.are)))
+      (subst (λ (l : List Part). ArePlanned tells weights image before.cells (map flm.shown (take i algorithms)) l) (take_all i parts past) so_far.plans)
 
 -- What is printed.
 
--- the plan that was chosen in buffers
-made_text : (wanted : Wanted) (algorithm : Algorithm) (base : ℕ) (made old : PlanBuffers) (geometry : Geometry) (plan : Chosen) → AreBuffersFor (flm.shown algorithm) made
-    → AreBuffersStill made old → geometry ≡ old.geometry → plan ≡ plan_for wanted.board.weights (flm.shown algorithm) wanted.image base old.cells.items
-    → plan_text geometry base plan ≡ text_for wanted.board.weights (flm.shown algorithm) wanted.image base old.cells.items
-made_text wanted algorithm base made old geometry plan has still geometry_is plan_is =
-    text_is wanted.board.weights (flm.shown algorithm) wanted.image base old.cells.items geometry plan (geometry_is ∙ still.geometry ∙ has.geometry) plan_is
+next_cells : (start n m : ℕ) (all : List ℕ) → take n (drop start all) ++ take m (drop (start + n) all) ≡ take (n + m) (drop start all)
+next_cells start n m all = ap (λ (l : List ℕ). take n (drop start all) ++ take m l) (sym (drop-drop n start all)) ∙ sym (take-add n m (drop start all))
 
-module _ (wanted : Wanted) (region : Region) (algorithm : Algorithm) (base : ℕ) (made old : PlanBuffers) (base_is : base ≡ region.base)
-    (size : algorithm.device.size ≡ region.size) (has : AreBuffersFor (flm.shown algorithm) made) (still : AreBuffersStill made old) where
-  buffers_cells : length old.cells.items ≡ region.size
-  buffers_cells = still.cells ∙ has.cells ∙ size
+abbrev told_of : Part → ℕ × List ℕ
+told_of p = (p.base, plan_text p.geometry p.base p.plan.made)
 
-  module _ (only : wanted.board.regions ≡ region ∷ []) (one : wanted.algorithms.items ≡ algorithm ∷ []) where
-    pub only_cells : (count : ℕ) → size_of wanted.board.regions ≡ count → length old.cells.items ≡ count
-    only_cells count is = buffers_cells ∙ sym (size_of_one wanted.board.regions region only) ∙ is
+module _ (tells : Bool) (weights : Weights) (image : List Run) (all : List ℕ) where
+  -- the text of the plan of a region
+  one_text : (r : Region) (a : flm.Shown) (p : Part) → a.device.base ≡ r.base → IsPartFor a p → (is : IsPlannedOver tells weights image all a p)
+      → plan_text p.geometry p.base p.plan.made ≡ text_for weights a image r.base is.cells
+  one_text r a p base part is =
+      let chip = is_some a.entries.erase_chip in
+      let empty = a.device.empty in
+      ap (λ (m : Chosen). plan_text p.geometry p.base m) is.plan.chosen
+      ∙ ap (λ (l : Geometry). plan_text l p.base (chosen l weights chip empty is.cells (over image a.device.base is.cells))) part.layout
+      ∙ ap (λ (n : ℕ). plan_text (device_of a) n (chosen (device_of a) weights chip empty is.cells (over image a.device.base is.cells))) (part.base ∙ base)
+      ∙ ap (λ (n : ℕ). plan_text (device_of a) r.base (chosen (device_of a) weights chip empty is.cells (over image n is.cells))) base
 
-    pub only_text : (geometry : Geometry) (plan : Chosen) → geometry ≡ old.geometry
-        → plan ≡ plan_for wanted.board.weights (flm.shown algorithm) wanted.image base old.cells.items → plan_text geometry base plan ≡ text_of (aim_of wanted) old.cells.items
-    only_text geometry plan geometry_is plan_is =
-        made_text wanted algorithm base made old geometry plan has still geometry_is plan_is
-        ∙ ap (λ (n : ℕ). text_for wanted.board.weights (flm.shown algorithm) wanted.image n old.cells.items) base_is
-        ∙ text_of_one wanted region algorithm old.cells.items only one buffers_cells
+  -- some cells, from a place on, whose plans these are
+  pub record AreOf (regions : List Region) (algorithms : List flm.Shown) (start : ℕ) (parts : List Part) : Type 0 where
+    pub cells : List ℕ
+    pub long : length cells ≡ size_of regions
+    pub told : IsTrue tells → cells ≡ take (size_of regions) (drop start all)
+    pub texts : map told_of parts ≡ plans_for weights image regions algorithms cells
 
-  module _ (region' : Region) (algorithm' : Algorithm) (base' : ℕ) (made' old' : PlanBuffers) (base_is' : base' ≡ region'.base)
-      (size' : algorithm'.device.size ≡ region'.size) (has' : AreBuffersFor (flm.shown algorithm') made') (still' : AreBuffersStill made' old')
-      (are : wanted.board.regions ≡ region ∷ region' ∷ []) (items : wanted.algorithms.items ≡ algorithm ∷ algorithm' ∷ []) where
-    other_cells : length old'.cells.items ≡ region'.size
-    other_cells = still'.cells ∙ has'.cells ∙ size'
+  are_of : (regions : List Region) (algorithms : List flm.Shown) (start : ℕ) (parts : List Part) → AreDevices regions algorithms → AreParts algorithms start parts
+      → ArePlanned tells weights image all algorithms parts → AreOf regions algorithms start parts
+  are_of [] [] start [] devices are plans = record { cells = []; long = refl; told = λ told. refl; texts = refl }
+  are_of [] [] start (p ∷ parts) devices are plans = absurd are
+  are_of [] (a ∷ algorithms) start parts devices are plans = absurd devices
+  are_of (r ∷ regions) [] start parts devices are plans = absurd devices
+  are_of (r ∷ regions) (a ∷ algorithms) start [] devices are plans = absurd are
+  are_of (r ∷ regions) (a ∷ algorithms) start (p ∷ parts) devices are plans =
+      let one = plans.0 in
+      let rest = are_of regions algorithms (start + a.device.size) parts devices.2 are.2 plans.1 in
+      let total = size_of-cons r regions in
+      let size = devices.1 in
+      let base = are.0.base ∙ devices.0 in
+      let whole : a.device.size + size_of regions ≡ size_of (r ∷ regions) = omega (arith, size, total) in
+      record {
+        cells = one.cells ++ rest.cells;
+        long = omega (arith, length-append one.cells rest.cells, one.long, rest.long, whole);
+        told = λ told.
+            ap (λ (l : List ℕ). l ++ rest.cells) (one.told told ∙ ap (λ (k : ℕ). take a.device.size (drop k all)) are.1)
+            ∙ ap (λ (l : List ℕ). take a.device.size (drop start all) ++ l) (rest.told told)
+            ∙ next_cells start a.device.size (size_of regions) all
+            ∙ ap (λ (k : ℕ). take k (drop start all)) whole;
+        texts =
+            ap (λ (t : List ℕ). (p.base, t) ∷ map told_of parts) (one_text r a p devices.0 are.0 one)
+            ∙ ap (λ (n : ℕ). (n, text_for weights a image r.base one.cells) ∷ map told_of parts) base
+            ∙ ap (λ (l : List ℕ). (r.base, text_for weights a image r.base l) ∷ map told_of parts) (sym (take_at one.cells rest.cells r.size (one.long ∙ size)))
+            ∙ ap (λ (l : List (ℕ × List ℕ)). (r.base, text_for weights a image r.base (take r.size (one.cells ++ rest.cells))) ∷ l)
+            (rest.texts ∙ ap (λ (l : List ℕ). plans_for weights image regions algorithms l) (sym (drop_at one.cells rest.cells r.size (one.long ∙ size))));
+      }
 
-    pub both_cells : (count : ℕ) → size_of wanted.board.regions ≡ count → length (old.cells.items ++ old'.cells.items) ≡ count
-    both_cells count is = omega (arith, length-append old.cells.items old'.cells.items, buffers_cells, other_cells, size_of_two wanted.board.regions region region' are, is)
+module _ (tells : Bool) (wanted : Wanted) (s : BenchState) (parts : List Part) (devices : AreDevices wanted.board.regions (map flm.shown wanted.algorithms.items))
+    (are : AreParts (map flm.shown wanted.algorithms.items) 0 parts)
+    (plans : ArePlanned tells wanted.board.weights wanted.image s.cells (map flm.shown wanted.algorithms.items) parts) where
+  -- the cells, as they were read
+  pub read_of : AreOf tells wanted.board.weights wanted.image s.cells wanted.board.regions (map flm.shown wanted.algorithms.items) 0 parts
+  read_of = are_of tells wanted.board.weights wanted.image s.cells wanted.board.regions (map flm.shown wanted.algorithms.items) 0 parts devices are plans
 
-    pub both_text : (geometry geometry' : Geometry) (plan plan' : Chosen) → geometry ≡ old.geometry → geometry' ≡ old'.geometry
-        → plan ≡ plan_for wanted.board.weights (flm.shown algorithm) wanted.image base old.cells.items
-        → plan' ≡ plan_for wanted.board.weights (flm.shown algorithm') wanted.image base' old'.cells.items
-        → (region_text base ++ plan_text geometry base plan) ++ (region_text base' ++ plan_text geometry' base' plan') ≡ text_of (aim_of wanted) (old.cells.items ++ old'.cells.items)
-    both_text geometry geometry' plan plan' geometry_is geometry_is' plan_is plan_is' =
-        let w = wanted.board.weights in
-        let image = wanted.image in
-        ap (λ (l : List ℕ). (region_text base ++ l) ++ (region_text base' ++ plan_text geometry' base' plan'))
-        (made_text wanted algorithm base made old geometry plan has still geometry_is plan_is)
-        ∙ ap (λ (l : List ℕ). (region_text base ++ text_for w (flm.shown algorithm) image base old.cells.items) ++ (region_text base' ++ l))
-        (made_text wanted algorithm' base' made' old' geometry' plan' has' still' geometry_is' plan_is')
-        ∙ ap (λ (n : ℕ). (region_text n ++ text_for w (flm.shown algorithm) image n old.cells.items)
-        ++ (region_text base' ++ text_for w (flm.shown algorithm') image base' old'.cells.items)) base_is
-        ∙ ap (λ (n : ℕ). (region_text region.base ++ text_for w (flm.shown algorithm) image region.base old.cells.items)
-        ++ (region_text n ++ text_for w (flm.shown algorithm') image n old'.cells.items)) base_is'
-        ∙ text_of_two wanted region region' algorithm algorithm' old.cells.items old'.cells.items are items buffers_cells other_cells
+  -- where they are told they are these
+  pub read_told : (IsTrue tells → length s.cells ≡ size_of wanted.board.regions) → IsTrue tells → s.cells ≡ read_of.cells
+  read_told all told = sym (read_of.told told ∙ take_all (size_of wanted.board.regions) s.cells (omega (arith, all told)))
 
--- the geometry of buffers is as large as the device that they are for
-pub buffers_size : (algorithm : flm.Shown) (buffers : PlanBuffers) → AreBuffersFor algorithm buffers → buffers.geometry.size ≡ algorithm.device.size
-buffers_size algorithm buffers has = ap (λ (l : Geometry). l.size) has.geometry
+  pub read_text : parts_text parts ≡ text_of (aim_of wanted) read_of.cells
+  read_text = ap (λ (l : List (ℕ × List ℕ)). plans_text l) read_of.texts
+
+pub parts_end : (algorithms : List flm.Shown) (start : ℕ) (parts : List Part) → AreParts algorithms start parts → All (λ p. p.base + p.geometry.size ≤ 2 ^ 32) parts
+parts_end [] start [] are = All-nil (λ (p : Part). p.base + p.geometry.size ≤ 2 ^ 32)
+parts_end [] start (p ∷ parts) are = absurd are
+parts_end (a ∷ algorithms) start [] are = absurd are
+parts_end (a ∷ algorithms) start (p ∷ parts) are =
+    All-cons (λ (p : Part). p.base + p.geometry.size ≤ 2 ^ 32) p parts are.0.end (parts_end algorithms (start + a.device.size) parts are.2)
+
+named_texts : (parts : List Part) → flat_map (λ (p : Part). part_text true p) parts ≡ flat_map (λ (plan : ℕ × List ℕ). region_text plan.0 ++ plan.1) (map told_of parts)
+named_texts [] = refl
+named_texts (p ∷ parts) = ap (λ (l : List ℕ). part_text true p ++ l) (named_texts parts)
+
+-- the texts of all, one after the other
+pub all_texts : (parts : List Part) → flat_map (λ (p : Part). part_text (nat_lt 1 (length parts)) p) parts ≡ parts_text parts
+all_texts [] = refl
+all_texts (p ∷ []) = append-nil (part_text false p)
+all_texts (p ∷ q ∷ parts) =
+    let many = lt-ltb 1 (length (p ∷ q ∷ parts)) (omega arith) in
+    ap (λ (b : Bool). flat_map (λ (x : Part). part_text b x) (p ∷ q ∷ parts)) many ∙ named_texts (p ∷ q ∷ parts)

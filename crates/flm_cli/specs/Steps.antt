@@ -1,23 +1,24 @@
 -- What the steps of the commands answer.
-use Rattle.std.specs.Prelude.{◌≡◌, ◌≢◌, ◌≤◌, ◌<◌, ◌+◌, ◌^◌, ◌⊎◌, ℕ, Bool, IsTrue, List, [], ◌∷◌, length, slice_get, slice_index, Option, Some, None, Result, Ok}
-use Rattle.std.specs.Prelude.{Err, OnOk, OnErr}
+use Rattle.std.specs.Prelude.{◌≡◌, ◌≢◌, ◌<◌, ◌+◌, ℕ, Bool, true, false, IsTrue, List, [], ◌∷◌, ◌++◌, map, length, slice_index, Option, Some, None, Result, Ok, Err}
 use Rattle.bench_model.specs.declared.bench_fault.DeviceFault.{DeviceFault}
 use Rattle.byte_map.specs.Image.{Run, byte_at}
 use Rattle.board_file.specs.declared.region.Region.{Region}
 use Rattle.readback.specs.declared.compare.Difference.{Difference}
 use Rattle.flm_descriptor.specs.Shown as flm
-use Rattle.erase_planner.specs.Marks.{Covers}
+use Rattle.board_file.specs.declared.board.Weights.{Weights}
+use Rattle.flash_session.specs.declared.part.Part.{Part}
+use Rattle.flash_session.specs.RegionPlans.{IsPartFor, IsPlannedOver}
+use Rattle.report_text.specs.Plan.{plan_text}
+use Rattle.report_text.specs.Region.{region_text, plans_text}
 use Rattle.report_text.specs.Refusal.{out_of_memory, device_fault, output_fault, differs}
 use Rattle.report_text.specs.End.{end_text}
 use Rattle.report_text.specs.declared.end.End.TheVariants.{Same}
-use Rattle.algo_calls.specs.Duties.{device_of}
 use Rattle.command_answers.specs.Call.{BenchCall, SinkCall, Answer, done, refused}
 use Rattle.command_answers.specs.Said.{TookNothing, PrintsText, SaysText}
 use Rattle.command_answers.specs.Answered.{device, output, IsCounted}
 use Rattle.flm_cli.specs.Plan.{PlanLeaves}
 use Rattle.job_text.specs.Laid.{address_at}
 use Rattle.flm_cli.specs.Verify.{CellsAgree, IsLeastDifference}
-use Rattle.flm_cli.specs.declared.plan.PlanBuffers.{PlanBuffers}
 
 -- None where each cell is the image's byte wherever it has one, else the least place where one isn't, by its address
 abbrev pub FindsInImage : Bool → List ℕ → List Region → List Run → Option Difference → Type 0
@@ -65,32 +66,39 @@ TellsFound base (Ok (Some d)) out answer = SaysNothing out (refused (differs (ba
 
 -- The steps of `plan`.
 
--- memory for the plan of an algorithm's device: as many old and wanted cells, and a plan with room for each sector and page
-pub record AreBuffersFor (algorithm : flm.Shown) (buffers : PlanBuffers) : Type 0 where
-  pub geometry : buffers.geometry ≡ device_of algorithm
-  pub covers : Covers buffers.geometry buffers.plan
-  pub cells : length buffers.cells.items ≡ algorithm.device.size
-  pub goal : length buffers.goal.items ≡ algorithm.device.size
+-- an algorithm for each region, whose device is the region
+abbrev pub AreDevices : List Region → List flm.Shown → Type 0
+AreDevices [] [] = Unit {0}
+AreDevices (region ∷ regions) (algorithm ∷ algorithms) =
+    (algorithm.device.base ≡ region.base) × (algorithm.device.size ≡ region.size) × AreDevices regions algorithms
+AreDevices regions algorithms = ⊥
 
--- the buffers are as they were, but for what the cells hold, which are as many
-pub record AreBuffersStill (old new : PlanBuffers) : Type 0 where
-  pub geometry : new.geometry ≡ old.geometry
-  pub plan : new.plan ≡ old.plan
-  pub goal : new.goal.items ≡ old.goal.items
-  pub cells : length new.cells.items ≡ length old.cells.items
+-- how many cells the devices of algorithms have together
+abbrev pub cells_on : List flm.Shown → ℕ
+cells_on [] = 0
+cells_on (algorithm ∷ algorithms) = algorithm.device.size + cells_on algorithms
 
--- the first address of the region at a place of a list; the last one is a word
-pub record IsBaseAt (regions : List Region) (index base : ℕ) : Type 0 where
-  pub region : Region
-  pub is : slice_get regions index ≡ Some region
-  pub base_is : base ≡ region.base
-  pub ends : base + region.size ≤ 2 ^ 32
+-- memory for a plan by each algorithm, for cells that follow those of the one before it, the first of them at this place
+abbrev pub AreParts : List flm.Shown → ℕ → List Part → Type 0
+AreParts [] start [] = Unit {0}
+AreParts (algorithm ∷ algorithms) start (part ∷ parts) = IsPartFor algorithm part × (part.start ≡ start) × AreParts algorithms (start + algorithm.device.size) parts
+AreParts algorithms start parts = ⊥
 
--- an algorithm for each region, whose device has the region's size
-abbrev pub AreSized : List Region → List flm.Shown → Type 0
-AreSized [] [] = Unit {0}
-AreSized (region ∷ regions) (algorithm ∷ algorithms) = (algorithm.device.size ≡ region.size) × AreSized regions algorithms
-AreSized regions algorithms = ⊥
+-- each has the plan from its own of all cells to an image laid over them
+abbrev pub ArePlanned : Bool → Weights → List Run → List ℕ → List flm.Shown → List Part → Type 0
+ArePlanned tells weights image all [] [] = Unit {0}
+ArePlanned tells weights image all (algorithm ∷ algorithms) (part ∷ parts) =
+    IsPlannedOver tells weights image all algorithm part × ArePlanned tells weights image all algorithms parts
+ArePlanned tells weights image all algorithms parts = ⊥
+
+-- the text of a plan, behind the line of its region where that is named
+abbrev pub part_text : Bool → Part → List ℕ
+part_text false part = plan_text part.geometry part.base part.plan.made
+part_text true part = region_text part.base ++ plan_text part.geometry part.base part.plan.made
+
+-- the text of all
+abbrev pub parts_text : List Part → List ℕ
+parts_text parts = plans_text (map (λ part. (part.base, plan_text part.geometry part.base part.plan.made)) parts)
 
 -- the text for cells that were read
 pub record IsPrinted (bench : BenchCall) (out : SinkCall) (text : List ℕ → List ℕ) (answer : Answer) : Type 0 where

@@ -1,31 +1,27 @@
 //! `plan [--raw-at ADDR] BOARD FLM IMAGE...`: what would be erased and programmed to bring images into the cells.
-ghost use Rattle.std.specs.Prelude.{◌≡◌, ◌≤◌, ◌<◌, ◌+◌, ◌++◌, ◌^◌, ℕ, List, All, IsSome, IsTrue, IfOk, OnOk, IfSome, Some, None, length, map, slice_get};
-ghost use Rattle.bench_model.specs.Does.{ReadsCells};
+ghost use Rattle.std.specs.Prelude.{◌≡◌, ◌≤◌, ◌<◌, ◌+◌, ◌^◌, All, IsSome, IsTrue, IfOk, OnOk, None, map, true};
+ghost use Rattle.faults.specs.Counts.{HasCause};
 ghost use Rattle.board_file.specs.Limits.{size_of};
 ghost use Rattle.flm_descriptor.specs.Shown.{shown};
-ghost use Rattle.report_text.specs.Plan.{plan_text};
-ghost use Rattle.report_text.specs.Region.{region_text};
 ghost use Rattle.outside_io.specs.Puts.{Puts};
+ghost use Rattle.readback.specs.Readback.{OnlyReadsCells};
 ghost use Rattle.command_words.specs.Files.{names_in};
 ghost use Rattle.command_words.specs.Requested.{files_of};
 ghost use Rattle.command_files.specs.Inputs.{inputs_call};
 ghost use Rattle.command_files.specs.Steps.{aim_of};
 ghost use Rattle.command_answers.specs.Call.{bench_call, sink_call};
-ghost use Rattle.flm_cli.specs.Plan.{plan_for, text_of, PlanEnds};
+ghost use Rattle.flm_cli.specs.Plan.{text_of, PlanEnds};
 ghost use Rattle.command_answers.specs.Shown.{answer_of};
-ghost use Rattle.flm_cli.specs.Steps.{AreSized, AreBuffersFor, IsBaseAt, AreBuffersStill, PlansCells};
+ghost use Rattle.flm_cli.specs.Steps.{AreDevices, AreParts, ArePlanned, cells_on, part_text, parts_text, PlansCells};
 ghost use Rattle.device_dump.specs.Looks.{LooksAtCells};
 
 use bench_model::{Bench, DeviceFault};
-use board_file::Board;
 use command_files::{Wanted, cells_of, read_files, take_files};
 use command_words::FileNames;
-use erase_planner::{Plan, plan_into};
 use faults::OutOfMemory;
+use flash_session::{Part, survey_cells};
 use flm_descriptor::Algorithm;
 use outside_io::{Inputs, OutputFault, Sink};
-use page_geometry::Geometry;
-use readback::read_cells;
 use report_text::{Refusal, put_plan, put_region};
 use std::alloc::Global;
 
@@ -56,231 +52,118 @@ pub fn plan<'a, B: Bench, I: Inputs, O: Sink>(
     print_plans(alloc, &wanted, bench, out)
 }
 
-/// What the plan for a device is made in: the geometry of the device, the plan, the cells as they are, and as they are to be.
-#[derive(Drop)]
-pub struct PlanBuffers {
-    pub geometry: Geometry,
-    pub plan: Plan,
-    pub cells: Vec<u8>,
-    pub goal: Vec<u8>,
-}
-
-/// Prints the plans for a board's regions, for as many cells as these have.
+/// Prints the plans for a board's regions, for as many cells as these have. All memory is taken before the cells are looked at.
 fn print_plans<'a, B: Bench, O: Sink>(
     alloc: Global,
     wanted: &Wanted,
     bench: &mut B,
     out: &mut O,
 ) -> Result<(), Refusal<'a>>
-    requires sized { AreSized wanted.now.board.regions (map shown wanted.now.algorithms.items) }
+    requires devices { AreDevices wanted.now.board.regions (map shown wanted.now.algorithms.items) }
     requires cells { size_of wanted.now.board.regions ≡ (B.state bench.old).cell_count }
     ensures { PlansCells (bench_call B.tells (B.state bench.old) (B.state bench.new)) (sink_call O.tells (O.state out.old) (O.state out.new))
         (text_of (aim_of wanted.now)) (answer_of result) }
 {
-    if wanted.board.regions.as_slice().len() == 1 {
-        return print_only(alloc, wanted, bench, out);
-    }
-    print_both(alloc, wanted, bench, out)
+    let mut parts = make_parts(alloc, &wanted.algorithms)?;
+    print_from(wanted, bench, out, &mut parts)
 }
 
-/// Prints the plan for the one region of a board. All memory is taken before the cells are looked at.
-fn print_only<'a, B: Bench, O: Sink>(
-    alloc: Global,
-    wanted: &Wanted,
-    bench: &mut B,
-    out: &mut O,
-) -> Result<(), Refusal<'a>>
-    requires one { length wanted.now.board.regions ≡ 1 }
-    requires sized { AreSized wanted.now.board.regions (map shown wanted.now.algorithms.items) }
-    requires cells { size_of wanted.now.board.regions ≡ (B.state bench.old).cell_count }
-    ensures { PlansCells (bench_call B.tells (B.state bench.old) (B.state bench.new)) (sink_call O.tells (O.state out.old) (O.state out.new))
-        (text_of (aim_of wanted.now)) (answer_of result) }
-{
-    let base = base_of(&wanted.board, 0);
-    let algorithm = algorithm_at(wanted, 0);
-    let mut buffers = make_buffers(alloc, algorithm)?;
-    survey(bench, &mut buffers)?;
-    choose_plan(wanted, algorithm, base, &mut buffers);
-    put_plan(out, &buffers.geometry, base, &buffers.plan)?;
-    Ok(())
-}
-
-/// Prints the plans for the two regions of a board, one after the other. All memory is taken before the cells are looked at.
-fn print_both<'a, B: Bench, O: Sink>(
-    alloc: Global,
-    wanted: &Wanted,
-    bench: &mut B,
-    out: &mut O,
-) -> Result<(), Refusal<'a>>
-    requires two { length wanted.now.board.regions ≡ 2 }
-    requires sized { AreSized wanted.now.board.regions (map shown wanted.now.algorithms.items) }
-    requires cells { size_of wanted.now.board.regions ≡ (B.state bench.old).cell_count }
-    ensures { PlansCells (bench_call B.tells (B.state bench.old) (B.state bench.new)) (sink_call O.tells (O.state out.old) (O.state out.new))
-        (text_of (aim_of wanted.now)) (answer_of result) }
-{
-    let algorithm = algorithm_at(wanted, 0);
-    let other_algorithm = algorithm_at(wanted, 1);
-    let (mut buffers, mut other_buffers) = make_both_buffers(alloc, algorithm, other_algorithm)?;
-    print_from(wanted, bench, out, &mut buffers, &mut other_buffers)
-}
-
-/// Reads the cells of the two regions into these buffers, and prints the plans from them.
+/// Surveys the regions, and prints their plans.
 fn print_from<'a, B: Bench, O: Sink>(
     wanted: &Wanted,
     bench: &mut B,
     out: &mut O,
-    buffers: &mut PlanBuffers,
-    other_buffers: &mut PlanBuffers,
+    parts: &mut [Part],
 ) -> Result<(), Refusal<'a>>
-    requires two { length wanted.now.board.regions ≡ 2 }
-    requires sized { AreSized wanted.now.board.regions (map shown wanted.now.algorithms.items) }
+    requires devices { AreDevices wanted.now.board.regions (map shown wanted.now.algorithms.items) }
     requires cells { size_of wanted.now.board.regions ≡ (B.state bench.old).cell_count }
-    requires first { IfSome (slice_get wanted.now.algorithms.items 0) (λ a. AreBuffersFor (shown a) buffers.old) }
-    requires second { IfSome (slice_get wanted.now.algorithms.items 1) (λ a. AreBuffersFor (shown a) other_buffers.old) }
+    requires parts { AreParts (map shown wanted.now.algorithms.items) 0 parts.old }
     ensures { PlansCells (bench_call B.tells (B.state bench.old) (B.state bench.new)) (sink_call O.tells (O.state out.old) (O.state out.new))
         (text_of (aim_of wanted.now)) (answer_of result) }
 {
-    let base = base_of(&wanted.board, 0);
-    let other_base = base_of(&wanted.board, 1);
-    let algorithm = algorithm_at(wanted, 0);
-    let other_algorithm = algorithm_at(wanted, 1);
-    survey_both(bench, buffers, algorithm.device.size, other_buffers)?;
-    choose_plan(wanted, algorithm, base, buffers);
-    choose_plan(wanted, other_algorithm, other_base, other_buffers);
-    put_both(out, base, buffers, other_base, other_buffers)?;
+    survey(bench, wanted, parts)?;
+    put_parts(out, parts)?;
     Ok(())
 }
 
-/// The address of the first cell of a region.
-fn base_of(board: &Board, index: usize) -> u32
-    requires { index < length board.now.regions }
-    ensures { IsBaseAt board.now.regions index result }
+/// Takes the memory for the plans by these algorithms, each for its own region.
+fn make_parts(alloc: Global, algorithms: &[Algorithm]) -> Result<Vec<Part>, OutOfMemory>
+    requires { cells_on (map shown algorithms.now) < 2 ^ 32 }
+    ensures { IfOk result (λ parts. AreParts (map shown algorithms.now) 0 parts.items) }
 {
-    board.regions.as_slice()[index].base
+    let mut parts = Vec::new(alloc);
+    let mut start = 0;
+    for algorithm in algorithms {
+        parts.push(Part::new(alloc, algorithm, start)?)?;
+        start += algorithm.device.size;
+    }
+    Ok(parts)
 }
 
-/// The algorithm for the region of this number.
-fn algorithm_at(wanted: &Wanted, index: usize) -> &Algorithm
-    requires { index < length wanted.now.algorithms.items }
-    ensures { slice_get wanted.now.algorithms.items index ≡ Some result.now }
+/// Breaks off an open operation, and makes the plans from the cells as they are to the image laid over them.
+fn survey<B: Bench>(bench: &mut B, wanted: &Wanted, parts: &mut [Part]) -> Result<(), DeviceFault>
+    requires parts { AreParts (map shown wanted.now.algorithms.items) 0 parts.old }
+    requires cells { cells_on (map shown wanted.now.algorithms.items) ≡ (B.state bench.old).cell_count }
+    ensures parts { OnOk result (AreParts (map shown wanted.now.algorithms.items) 0 parts.new) }
+    ensures plans { OnOk result (ArePlanned B.tells wanted.now.board.weights wanted.now.image (B.state bench.new).cells
+        (map shown wanted.now.algorithms.items) parts.new) }
+    ensures looks { LooksAtCells (bench_call B.tells (B.state bench.old) (B.state bench.new)) result }
 {
-    &wanted.algorithms[index]
+    bench.cells_drop()?;
+    survey_parts(bench, wanted, parts)
 }
 
-/// Puts the plans of two regions, each behind the line of its region.
-fn put_both<O: Sink>(
-    out: &mut O,
-    base: u32,
-    buffers: &PlanBuffers,
-    other_base: u32,
-    other_buffers: &PlanBuffers,
-) -> Result<(), OutputFault>
-    requires first { base + buffers.now.geometry.size ≤ 2 ^ 32 }
-    requires second { other_base + other_buffers.now.geometry.size ≤ 2 ^ 32 }
-    ensures { Puts O.tells (O.state out.old) (O.state out.new)
-        ((region_text base ++ plan_text buffers.now.geometry base buffers.now.plan.made)
-        ++ (region_text other_base ++ plan_text other_buffers.now.geometry other_base other_buffers.now.plan.made)) result }
+/// Makes the plan of each region.
+fn survey_parts<B: Bench>(
+    bench: &mut B,
+    wanted: &Wanted,
+    parts: &mut [Part],
+) -> Result<(), DeviceFault>
+    requires parts { AreParts (map shown wanted.now.algorithms.items) 0 parts.old }
+    requires cells { cells_on (map shown wanted.now.algorithms.items) ≡ (B.state bench.old).cell_count }
+    requires idle { IsTrue B.tells → (B.state bench.old).operation ≡ None }
+    ensures parts { OnOk result (AreParts (map shown wanted.now.algorithms.items) 0 parts.new) }
+    ensures plans { OnOk result (ArePlanned B.tells wanted.now.board.weights wanted.now.image (B.state bench.old).cells
+        (map shown wanted.now.algorithms.items) parts.new) }
+    ensures reads { OnlyReadsCells B.tells (B.state bench.old) (B.state bench.new) }
+    ensures cause { HasCause (B.state bench.old).device_faults (B.state bench.new).device_faults result }
 {
-    put_named(out, base, buffers)?;
-    put_named(out, other_base, other_buffers)
+    let weights = &wanted.board.weights;
+    for index in 0..parts.len() {
+        let algorithm = &wanted.algorithms[index];
+        survey_cells(bench, &wanted.image, weights, algorithm, &mut parts[index])?;
+    }
+    Ok(())
+}
+
+/// Puts the plans: the text of the plan where there is one region, else for each in turn the line of the region and the text.
+fn put_parts<O: Sink>(out: &mut O, parts: &[Part]) -> Result<(), OutputFault>
+    requires { All (λ p. p.base + p.geometry.size ≤ 2 ^ 32) parts.now }
+    ensures { Puts O.tells (O.state out.old) (O.state out.new) (parts_text parts.now) result }
+{
+    let named = parts.len() > 1;
+    for part in parts {
+        put_part(out, named, part)?;
+    }
+    Ok(())
+}
+
+/// Puts the text of a plan, behind the line of its region where that is named.
+fn put_part<O: Sink>(out: &mut O, named: bool, part: &Part) -> Result<(), OutputFault>
+    requires { part.now.base + part.now.geometry.size ≤ 2 ^ 32 }
+    ensures { Puts O.tells (O.state out.old) (O.state out.new) (part_text named part.now) result }
+{
+    if named {
+        return put_named(out, part);
+    }
+    put_plan(out, &part.geometry, part.base, &part.plan)
 }
 
 /// Puts the line of a region and its plan.
-fn put_named<O: Sink>(out: &mut O, base: u32, buffers: &PlanBuffers) -> Result<(), OutputFault>
-    requires { base + buffers.now.geometry.size ≤ 2 ^ 32 }
-    ensures { Puts O.tells (O.state out.old) (O.state out.new) (region_text base ++ plan_text buffers.now.geometry base buffers.now.plan.made) result }
+fn put_named<O: Sink>(out: &mut O, part: &Part) -> Result<(), OutputFault>
+    requires { part.now.base + part.now.geometry.size ≤ 2 ^ 32 }
+    ensures { Puts O.tells (O.state out.old) (O.state out.new) (part_text true part.now) result }
 {
-    put_region(out, base)?;
-    put_plan(out, &buffers.geometry, base, &buffers.plan)
-}
-
-/// Takes the memory for a plan of an algorithm's device.
-fn make_buffers(alloc: Global, algorithm: &Algorithm) -> Result<PlanBuffers, OutOfMemory>
-    ensures { IfOk result (AreBuffersFor (shown algorithm.now)) }
-{
-    let geometry = Geometry::of(alloc, algorithm)?;
-    let mut plan = Plan::new(alloc);
-    plan.reserve(&geometry)?;
-    let size = algorithm.device.size as usize;
-    Ok(PlanBuffers {
-        geometry,
-        plan,
-        cells: vec![in alloc; 0; size]?,
-        goal: vec![in alloc; 0; size]?,
-    })
-}
-
-/// The same for two algorithms.
-fn make_both_buffers(
-    alloc: Global,
-    algorithm: &Algorithm,
-    other: &Algorithm,
-) -> Result<(PlanBuffers, PlanBuffers), OutOfMemory>
-    ensures { IfOk result (λ both. AreBuffersFor (shown algorithm.now) both.0 × AreBuffersFor (shown other.now) both.1) }
-{
-    Ok((make_buffers(alloc, algorithm)?, make_buffers(alloc, other)?))
-}
-
-/// Breaks off an open operation, and reads all cells.
-fn survey<B: Bench>(bench: &mut B, buffers: &mut PlanBuffers) -> Result<(), DeviceFault>
-    requires { length buffers.old.cells.items ≡ (B.state bench.old).cell_count }
-    ensures surveyed { IsTrue B.tells → OnOk result ((B.state bench.new).cells ≡ buffers.new.cells.items) }
-    ensures stays { AreBuffersStill buffers.old buffers.new }
-    ensures looks { LooksAtCells (bench_call B.tells (B.state bench.old) (B.state bench.new)) result }
-{
-    bench.cells_drop()?;
-    read_buffers(bench, 0, buffers)
-}
-
-/// The same of two regions, each into its own buffers. The cells of the second begin at place `start`.
-fn survey_both<B: Bench>(
-    bench: &mut B,
-    buffers: &mut PlanBuffers,
-    start: u32,
-    other_buffers: &mut PlanBuffers,
-) -> Result<(), DeviceFault>
-    requires first { length buffers.old.cells.items ≡ start }
-    requires cells { start + length other_buffers.old.cells.items ≡ (B.state bench.old).cell_count }
-    ensures surveyed { IsTrue B.tells → OnOk result ((B.state bench.new).cells ≡ buffers.new.cells.items ++ other_buffers.new.cells.items) }
-    ensures stays { AreBuffersStill buffers.old buffers.new }
-    ensures other_stays { AreBuffersStill other_buffers.old other_buffers.new }
-    ensures looks { LooksAtCells (bench_call B.tells (B.state bench.old) (B.state bench.new)) result }
-{
-    bench.cells_drop()?;
-    read_buffers(bench, 0, buffers)?;
-    read_buffers(bench, start, other_buffers)
-}
-
-/// Reads the cells from one place on.
-fn read_buffers<B: Bench>(
-    bench: &mut B,
-    at: u32,
-    buffers: &mut PlanBuffers,
-) -> Result<(), DeviceFault>
-    requires range { at + length buffers.old.cells.items ≤ (B.state bench.old).cell_count }
-    requires idle { IsTrue B.tells → (B.state bench.old).operation ≡ None }
-    ensures reads { ReadsCells B.tells (B.state bench.old) (B.state bench.new) at buffers.old.cells.items buffers.new.cells.items result }
-    ensures stays { AreBuffersStill buffers.old buffers.new }
-{
-    read_cells(bench, at, &mut buffers.cells)
-}
-
-/// Chooses the plan from the cells in the buffers to the image laid over them, of which the first has the address `base`.
-fn choose_plan(wanted: &Wanted, algorithm: &Algorithm, base: u32, buffers: &mut PlanBuffers)
-    requires fits { AreBuffersFor (shown algorithm.now) buffers.old }
-    requires ends { base + algorithm.now.device.size ≤ 2 ^ 32 }
-    ensures plan { buffers.new.plan.made ≡ plan_for wanted.now.board.weights (shown algorithm.now) wanted.now.image base buffers.old.cells.items }
-    ensures geometry { buffers.new.geometry ≡ buffers.old.geometry }
-{
-    buffers.goal.copy_from_slice(&buffers.cells);
-    wanted.image.overlay_into(base, &mut buffers.goal);
-    plan_into(
-        &buffers.geometry,
-        &wanted.board.weights,
-        algorithm.entries.erase_chip.is_some(),
-        &buffers.cells,
-        &buffers.goal,
-        algorithm.device.empty,
-        &mut buffers.plan,
-    );
+    put_region(out, part.base)?;
+    put_plan(out, &part.geometry, part.base, &part.plan)
 }

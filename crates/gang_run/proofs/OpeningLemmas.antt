@@ -8,6 +8,7 @@ use Rattle.bench_model.specs.State.{BenchState, file_half, cells_half}
 use Rattle.bench_model.proofs.MemoryLemmas.{same_outside_all}
 use Rattle.bench_model.proofs.Moments.{goes_here}
 use Rattle.board_file.specs.Limits.{most_ram}
+use Rattle.job_file.specs.First.{SyncsFirst}
 use Rattle.job_text.specs.Stands.{StandsFor}
 use Rattle.ram_arena.specs.Windows.{total, blank}
 use Rattle.target_core.specs.Windows.{window_of}
@@ -19,7 +20,7 @@ use Rattle.gang_run.specs.declared.gang.Gang.{Gang}
 use Rattle.gang_run.specs.declared.slot.Slot.{Slot}
 use Rattle.gang_run.specs.declared.slot.Slot.TheVariants as slot
 use Rattle.gang_run.specs.Gangs.{slot_at, OtherWindow, IsGang, AreReady}
-use Rattle.gang_run.specs.Opening.{IsLookedAt, IsRefused, IsOpened, AreOpened}
+use Rattle.gang_run.specs.Opening.{IsLookedAt, IsRefused, IsOpened, AreOpened, AreSynced}
 use Rattle.gang_run.specs.Opens.{ram_for, IsReadyIn, Opens, sizes_with, SlotAdded, slot_in, OpensAmong, Opening}
 use Rattle.gang_run.specs.Slots.{EndsByScript, IsSlot, IsReady}
 
@@ -77,6 +78,7 @@ module _ {B : Type 0} (G : Ghosts B) where
     places = refl;
     opened = λ i d less. absurd (omega (arith, less));
     looked = λ i d less. absurd (omega (arith, less));
+    synced = λ i d less. absurd (omega (arith, less));
     still = λ i d after. refl;
     apart = λ i j other. tt;
     few = omega arith;
@@ -84,7 +86,7 @@ module _ {B : Type 0} (G : Ghosts B) where
   }
 
   module _ (first now : List B) (slots : List Slot) (sizes : List ℕ) (upto : ℕ) (b b' : B) (slots' : List Slot) (sizes' : List ℕ) (was : Opening G first now slots sizes upto) (inside : upto < length now) (bench : b ≡ get_or now upto b)
-      (added : SlotAdded G.tells slots sizes (G.state b) slots' sizes' (G.state b')) (looked : IsLookedAt G.tells (G.state b) (G.state b')) where
+      (added : SlotAdded G.tells slots sizes (G.state b) slots' sizes' (G.state b')) (looked : IsLookedAt G.tells (G.state b) (G.state b')) (synced : SyncsFirst G.acts b) where
     abbrev after : List B
     after = set now upto b'
 
@@ -132,6 +134,14 @@ module _ {B : Type 0} (G : Ghosts B) where
         (subst (λ (c : B). IsLookedAt G.tells (G.state c) (G.state (get_or after upto d))) (sym (was_here d)) (subst (λ (c : B). IsLookedAt G.tells (G.state b) (G.state c)) (sym (now_here d)) looked)))
         (cases_lt i upto)
 
+    synced_now : (i : ℕ) (d : B) → i < upto + 1 → SyncsFirst G.acts (get_or first i d)
+    synced_now i d less = ⊎_elim
+        (λ (before : i < upto). was.synced i d before)
+        (λ (past : upto ≤ i).
+        let here : i ≡ upto = omega (arith, past, less) in
+        subst (λ (k : ℕ). SyncsFirst G.acts (get_or first k d)) (sym here) (subst (λ (c : B). SyncsFirst G.acts c) (sym (was_here d)) synced))
+        (cases_lt i upto)
+
     apart_here : (i : ℕ) → i ≢ upto → OtherWindow (slot_in slots' i) added.slot × OtherWindow added.slot (slot_in slots' i)
     apart_here i other = ⊎_elim
         (λ (before : i < upto).
@@ -163,6 +173,7 @@ module _ {B : Type 0} (G : Ghosts B) where
       places = omega (arith, ap (λ (l : List Slot). length l) added.slots_are, length-append slots (added.slot ∷ []), was.places);
       opened = opened_now;
       looked = looked_now;
+      synced = synced_now;
       still = λ i d past. now_other i d (λ same. omega (arith, same, past)) ∙ was.still i d (omega (arith, past));
       apart = apart_now;
       few = omega (arith, ap (λ (l : List ℕ). length l) added.sizes_are, sizes_more added.slot sizes, was.few);
@@ -179,6 +190,10 @@ total_small (n ∷ sizes) small =
 
 pub sizes_fit : (sizes : List ℕ) (n : ℕ) → All (λ n. n ≤ most_ram) sizes → length sizes ≤ n → n ≤ 16 → (length sizes ≤ 64) × (total sizes ≤ 2 ^ 30)
 sizes_fit sizes n small few less = (omega (arith, few, less), omega (arith, total_small sizes small, few, less))
+
+pub all_synced : {B : Type 0} (G : Ghosts B) (first now : List B) (slots : List Slot) (sizes : List ℕ) (upto : ℕ) → Opening G first now slots sizes upto
+    → length first ≤ upto → AreSynced G first
+all_synced G first now slots sizes upto was all i d less = was.synced i d (omega (arith, less, all))
 
 module _ {B : Type 0} (G : Ghosts B) (first now : List B) (g : Gang) (sizes : List ℕ) (upto : ℕ) (was : Opening G first now g.slots.items sizes upto) (all : length first ≤ upto) (arena : g.arena ≡ blank sizes) where
   window_blank : (x : GangTarget) → x.player.window < length sizes → get_or sizes x.player.window 0 ≡ ram_for x → (x.player.window < length g.arena) × (window_of g.arena x.player.window ≡ replicate (ram_for x) 0)

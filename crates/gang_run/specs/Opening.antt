@@ -6,6 +6,7 @@ use Rattle.bench_model.specs.State.{SameOutside, BenchState, Left, file_half}
 use Rattle.bench_model.specs.History.{LeftOnly}
 use Rattle.bench_model.specs.Pairs.{PairsLeave}
 use Rattle.board_file.specs.Shown.{shown as board_of}
+use Rattle.job_file.specs.First.{SyncsFirst}
 use Rattle.job_text.specs.Stands.{StandsFor}
 use Rattle.flash_session.specs.declared.fault.SessionFault.{SessionFault}
 use Rattle.flash_session.specs.declared.fault.SurveyFault.{SurveyFault}
@@ -87,3 +88,7 @@ AreOpened {B} G benches g benches' = (i : ℕ) (d : B) → i < length benches �
 
 abbrev pub AreLookedAt : {B : Type 0} → Ghosts B → List B → List B → Type 0
 AreLookedAt {B} G benches benches' = (i : ℕ) (d : B) → i < length benches → IsLookedAt G.tells (G.state (get_or benches i d)) (G.state (get_or benches' i d))
+
+-- the job file of each was synced before any other call on its bench
+abbrev pub AreSynced : {B : Type 0} → Ghosts B → List B → Type 0
+AreSynced {B} G benches = (i : ℕ) (d : B) → i < length benches → SyncsFirst G.acts (get_or benches i d)

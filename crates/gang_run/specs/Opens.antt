@@ -6,6 +6,7 @@ use Rattle.bench_model.specs.Counted.{is_store_fault, is_device_fault, IsCounted
 use Rattle.bench_model.specs.State.{BenchState}
 use Rattle.board_file.specs.Limits.{most_ram}
 use Rattle.faults.specs.declared.out_of_memory.OutOfMemory.{OutOfMemory}
+use Rattle.job_file.specs.First.{SyncsFirst}
 use Rattle.job_text.specs.declared.job.Job.{Job}
 use Rattle.target_core.specs.Windows.{window_of}
 use Rattle.flash_session.specs.declared.fault.SurveyFault.{SurveyFault}
@@ -107,6 +108,7 @@ pub record Opening {B : Type 0} (G : Ghosts B) (first now : List B) (slots : Lis
   pub places : length slots ≡ upto
   pub opened : (i : ℕ) (d : B) → i < upto → OpensAmong G.tells sizes (slot_in slots i) (G.state (get_or first i d)) (G.state (get_or now i d))
   pub looked : (i : ℕ) (d : B) → i < upto → IsLookedAt G.tells (G.state (get_or first i d)) (G.state (get_or now i d))
+  pub synced : (i : ℕ) (d : B) → i < upto → SyncsFirst G.acts (get_or first i d)
   pub still : (i : ℕ) (d : B) → upto ≤ i → get_or now i d ≡ get_or first i d
   pub apart : (i j : ℕ) → i ≢ j → OtherWindow (slot_in slots i) (slot_in slots j)
   pub few : length sizes ≤ upto

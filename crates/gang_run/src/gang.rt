@@ -1,7 +1,7 @@
 //! A gang of targets.
-ghost use Rattle.std.specs.Prelude.{◌≡◌, ◌<◌, ◌≤◌, ℕ, List, All, true, false, length, get_or, IfOk};
+ghost use Rattle.std.specs.Prelude.{◌≡◌, ◌<◌, ◌≤◌, ℕ, List, All, true, false, length, get_or, IfOk, OnOk};
 ghost use Rattle.gang_run.specs.Gangs.{slot_at, IsGang, AreReady, OneTurn, GivesTurns, GivesRounds, one_round, AllSince, AllKept, Playing, gang_togo};
-ghost use Rattle.gang_run.specs.Opening.{AreOpened, AreLookedAt};
+ghost use Rattle.gang_run.specs.Opening.{AreOpened, AreLookedAt, AreSynced};
 ghost use Rattle.gang_run.specs.Slots.{slot_turn, SlotTakes, IsSlotEnd, IsSlotJob};
 ghost use Rattle.gang_run.specs.declared.gang.Gang.{Gang};
 ghost use Rattle.flash_session.specs.declared.target_end.Turn.TheVariants as a_turn;
@@ -30,7 +30,7 @@ pub struct Asked {
 }
 
 impl Gang {
-    /// Opens the job of each bench in order, and surveys it to its new goal. A refusal other than want of memory is that target's end. Then
+    /// Opens the job of each bench in order, whose file it syncs first, and surveys it to its new goal. A refusal other than want of memory is that target's end. Then
     /// it makes the RAM of each target that goes on, all in one allocation. There are 1 to 16 benches.
     ///
     /// # Errors
@@ -44,6 +44,7 @@ impl Gang {
         ensures count { IfOk result (λ gang. length benches.new ≡ length gang.slots.items) }
         ensures ready { IfOk result (λ gang. AreReady B.Bench gang benches.new) }
         ensures looked { AreLookedAt B.Bench benches.old benches.new }
+        ensures first { OnOk result (AreSynced B.Bench benches.old) }
         ensures benches { length benches.new ≡ length benches.old }
     {
         let mut slots = Vec::new(alloc);

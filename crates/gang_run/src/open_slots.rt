@@ -5,6 +5,7 @@ ghost use Rattle.bench_model.specs.History.{LeftOnly};
 ghost use Rattle.bench_model.specs.Pairs.{PairsLeave};
 ghost use Rattle.bench_model.specs.State.{Left, file_half};
 ghost use Rattle.board_file.specs.Limits.{size_of};
+ghost use Rattle.job_file.specs.First.{SyncsFirst};
 ghost use Rattle.job_text.specs.Stands.{StandsFor};
 ghost use Rattle.job_text.specs.declared.job.Job.{Job};
 ghost use Rattle.flash_session.specs.Parts.{IsPlayerOf};
@@ -79,6 +80,7 @@ fn survey_slot<B: Bench>(
 fn open_slot<B: Bench>(alloc: Global, bench: &mut B, window: usize) -> Result<Slot, OutOfMemory>
     ensures slot { IfOk result (λ slot. Opens B.tells window slot (B.state bench.old) (B.state bench.new)) }
     ensures looked { IsLookedAt B.tells (B.state bench.old) (B.state bench.new) }
+    ensures first { SyncsFirst B.acts bench.old }
 {
     match Session::open(alloc, bench) {
         Ok(session) => survey_slot(alloc, bench, session, window),
@@ -116,6 +118,7 @@ pub(crate) fn add_slot<B: Bench>(
 ) -> Result<(), OutOfMemory>
     ensures added { AddsSlot B.tells slots.old.items sizes.old.items (B.state bench.old) slots.new.items sizes.new.items (B.state bench.new) result }
     ensures looked { IsLookedAt B.tells (B.state bench.old) (B.state bench.new) }
+    ensures first { SyncsFirst B.acts bench.old }
 {
     match open_slot(alloc, bench, sizes.len()) {
         Ok(slot) => put_slot(slot, slots, sizes),

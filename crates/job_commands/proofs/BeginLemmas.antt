@@ -1,5 +1,5 @@
 -- A job was begun (a to b), and is carried (b to d). `begin_job` joins both stretches by them.
-use Rattle.std.proofs.Common.{arith, ◌≡◌, ◌⊎◌, ⊎_elim, inl, inr, refl, ◌∙◌, ℕ, Bool, true, List, [], ◌∷◌, length, IsTrue, Option, None, sym, subst}
+use Rattle.std.proofs.Common.{arith, ◌≡◌, ◌⊎◌, ⊎_elim, inl, inr, refl, ◌∙◌, ℕ, Bool, true, false, List, [], ◌∷◌, length, IsTrue, Option, None, sym, subst}
 use Rattle.outside_io.specs.State.{SinkState}
 use Rattle.bench_model.specs.History.{GoesOn, Leaves, LeftOnly}
 use Rattle.bench_model.specs.State.{BenchState, file_half, cells_half, Left, SameOutside}
@@ -18,6 +18,7 @@ use Rattle.command_answers.specs.Call.{BenchCall, SinkCall, Answer, done, refuse
 use Rattle.command_answers.specs.Said.{TookPartBehind}
 use Rattle.command_answers.specs.Answered.{yields, StandsEarly, IsOf, on_job_file}
 use Rattle.command_answers.proofs.FileLemmas.{not_free}
+use Rattle.job_commands.specs.Answers.{is_of_work}
 use Rattle.job_commands.specs.Work.{Work, body, shown_plan, Breaks, IsOnPath, IsOutsidePlanAsSurveyed}
 use Rattle.job_commands.specs.Carry.{EndsInBegin, NeverBegun, EndsBeforePlan, EndsInPlan, EndsInScript, EndsInClose, HasClosed, Comes, CellsInTurn, BrokenOff, Carries, done_text}
 use Rattle.job_commands.specs.GoOn.{work_to, GoesOnFrom, has_resume}
@@ -101,6 +102,7 @@ module _ (tells : Bool) (a b d : BenchState) (out : SinkCall) (w : Work) (idle :
           path = off_then a b d off idle (IsOnPath w rest.broken) path (starts_on_path w rest.broken);
           local = λ keeps. off_then a b d off idle (IsOutsidePlanAsSurveyed w) (from_there (IsOutsidePlanAsSurveyed w) (rest.stops.at_entry idle) (rest.stops.local keeps)) (starts_outside w);
         };
+        settled = inr (ended_then a b d off idle (IsOnPath w rest.broken) path);
         complete = rest.complete;
       }
 
@@ -167,17 +169,18 @@ module _ (tells sinks : Bool) (a b : BenchState) (p : SinkState) (parts : JobPar
     off = subst (λ (s : List ℕ). BrokenOff a b s) (sym is) alone.broken_off
 
     ends : (q : Refusal) → Comes (bench_call tells a b) (sink_call sinks p p) w nothing_broken (refused q) → yields (refused q) ≡ true
-        → Carries (bench_call tells a b) (sink_call sinks p p) (IsUntouched a) w (refused q)
-    ends q comes yield = ends_early tells a b (sink_call sinks p p) (IsUntouched a) w (refused q) surveyed comes yield alone.pairs off
+        → is_of_work (refused q) ≡ false → Carries (bench_call tells a b) (sink_call sinks p p) (IsUntouched a) w (refused q)
+    ends q comes yield before = ends_early tells a b (sink_call sinks p p) (IsUntouched a) w (refused q) surveyed comes yield alone.pairs off
+        (inl (before, record { taken = refl; faults = refl }))
 
     early : (q : Refusal) → IsOf has_start (refused q) → BegunComes (bench_call tells a b) (sink_call sinks p p) [] w.job (refused q)
         → Carries (bench_call tells a b) (sink_call sinks p p) (IsUntouched a) w (refused q)
     early out_of_memory kind comes =
         let reads = comes.reads told in
-        ends out_of_memory (record { file = inr (reads.file told); cells = same_here a.operation reads.cells.cells; prints = comes.prints }) refl
+        ends out_of_memory (record { file = inr (reads.file told); cells = same_here a.operation reads.cells.cells; prints = comes.prints }) refl refl
     early (input_fault name) kind comes = absurd (cc)
-    early store_fault kind comes = ends store_fault (inl comes) refl
-    early device_fault kind comes = ends device_fault (inl comes) refl
+    early store_fault kind comes = ends store_fault (inl comes) refl refl
+    early device_fault kind comes = ends device_fault (inl comes) refl refl
     early output_fault kind comes = absurd (cc)
     early q kind comes = absurd comes
 

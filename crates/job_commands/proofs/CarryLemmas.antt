@@ -1,5 +1,5 @@
 -- A job is carried: entered (a), opened (b), surveyed (m), finished (d).
-use Rattle.std.proofs.Common.{◌≡◌, ◌⊎◌, ⊎_elim, inl, inr, refl, ◌≤◌, ◌+◌, arith, ◌++◌, ◌∙◌, ℕ, Bool, true, List, Option, None, sym, ap, subst, append_assoc}
+use Rattle.std.proofs.Common.{◌≡◌, ◌⊎◌, ⊎_elim, inl, inr, refl, ◌≤◌, ◌+◌, arith, ◌++◌, ◌∙◌, ℕ, Bool, true, false, List, Option, None, sym, ap, subst, append_assoc}
 use Rattle.faults.specs.Counts.{Rose}
 use Rattle.outside_io.specs.State.{SinkState}
 use Rattle.outside_io.specs.Appends.{AppendsPart}
@@ -16,6 +16,7 @@ use Rattle.report_text.specs.Refusal.{out_of_memory, store_fault, device_fault, 
 use Rattle.command_answers.specs.Call.{SinkCall, Answer, done, refused, bench_call, sink_call}
 use Rattle.command_answers.specs.Said.{TookNothing, TookAll, TookPart, TookPartBehind}
 use Rattle.command_answers.specs.Answered.{yields}
+use Rattle.job_commands.specs.Answers.{is_of_work}
 use Rattle.job_commands.specs.Work.{Work, body, shown_plan, Breaks, IsOnPath, IsOutsidePlanAsSurveyed}
 use Rattle.job_commands.specs.Carry.{EndsBeforePlan, HasJob, HasReached, Comes, Carries, done_text, BrokenOff}
 use Rattle.job_commands.specs.Steps.{FinishComes, Finishes}
@@ -43,9 +44,9 @@ starts_outside w = record { long = refl; same = λ i out. refl }
 -- An end before the script.
 pub ends_early : (tells : Bool) (a x : BenchState) (out : SinkCall) (First : List ℕ → List ℕ → Type 0) (w : Work) (answer : Answer)
     → SameOutside a.operation a.cells w.surveyed → Comes (bench_call tells a x) out w nothing_broken answer → yields answer ≡ true
-    → PairsLeave a x (λ f c. First f c ⊎ IsWhole (body w) f) → BrokenOff a x w.surveyed
-    → Carries (bench_call tells a x) out First w answer
-ends_early tells a x out First w answer surveyed comes yield pairs off = record {
+    → PairsLeave a x (λ f c. First f c ⊎ IsWhole (body w) f) → (off : BrokenOff a x w.surveyed)
+    → (is_of_work answer ≡ false × TookNothing out) ⊎ (off.turn ≤ x.moment) → Carries (bench_call tells a x) out First w answer
+ends_early tells a x out First w answer surveyed comes yield pairs off settled = record {
   surveyed = surveyed;
   broken = nothing_broken;
   comes = comes;
@@ -59,6 +60,7 @@ ends_early tells a x out First w answer surveyed comes yield pairs off = record 
     path = off_as off (IsOnPath w nothing_broken) (starts_on_path w nothing_broken);
     local = λ keeps. off_as off (IsOutsidePlanAsSurveyed w) (starts_outside w);
   };
+  settled = settled;
   complete = λ keeps. inr yield;
 }
 
@@ -74,19 +76,21 @@ module _ (tells sinks : Bool) (a x : BenchState) (p : SinkState) (w : Work) (who
 
   pub no_memory : Carries (bench_call tells a x) (sink_call sinks p p) (Left a) w (refused out_of_memory)
   no_memory = ends_early tells a x (sink_call sinks p p) (Left a) w (refused out_of_memory) surveyed
-      (record { file = inl (same ∙ whole); cells = outside; prints = nothing }) refl pairs off
+      (record { file = inl (same ∙ whole); cells = outside; prints = nothing }) refl pairs off (inl (refl, nothing))
 
   pub no_store : Carries (bench_call tells a x) (sink_call sinks p p) (Left a) w (refused store_fault)
   no_store = ends_early tells a x (sink_call sinks p p) (Left a) w (refused store_fault) surveyed (inr (inl before_plan)) refl pairs off
+      (inl (refl, nothing))
 
   pub no_device : Carries (bench_call tells a x) (sink_call sinks p p) (Left a) w (refused device_fault)
   no_device = ends_early tells a x (sink_call sinks p p) (Left a) w (refused device_fault) surveyed (inr (inl before_plan)) refl pairs off
+      (inl (refl, nothing))
 
   -- in the plan's text
   pub ends_in_plan : (q : SinkState) → x.cells ≡ w.surveyed → x.operation ≡ None → TookPart (sink_call sinks p q) (shown_plan w)
       → Carries (bench_call tells a x) (sink_call sinks p q) (Left a) w (refused output_fault)
   ends_in_plan q is idle part = ends_early tells a x (sink_call sinks p q) (Left a) w (refused output_fault) surveyed
-      (inl (record { job = same ∙ whole; cells = is; idle = idle; prints = part })) refl pairs off
+      (inl (record { job = same ∙ whole; cells = is; idle = idle; prints = part })) refl pairs off (inr (off.ended idle))
 
 -- the pairs up to the survey
 pub opened : {a b : BenchState} (body : List ℕ) → PairsLeave a b (Left a) → PairsLeave a b (λ f c. Left a f c ⊎ IsWhole body f)
@@ -151,5 +155,6 @@ module _ (tells sinks : Bool) (a m d : BenchState) (p q r : SinkState) (w : Work
       path = off_then a m d off idle (IsOnPath w rest.broken) rest.path (starts_on_path w rest.broken);
       local = λ keeps. off_then a m d off idle (IsOutsidePlanAsSurveyed w) (rest.local keeps) (starts_outside w);
     };
+    settled = inr (ended_then a m d off idle (IsOnPath w rest.broken) rest.path);
     complete = rest.complete;
   }

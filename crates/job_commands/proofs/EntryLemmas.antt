@@ -1,5 +1,5 @@
 -- A command on a job ends before any work: the bench and `out` weren't called.
-use Rattle.std.proofs.Common.{◌≡◌, ◌⊎◌, inl, inr, refl, ◌∙◌, sym, ℕ, Bool, true, List, length, Option}
+use Rattle.std.proofs.Common.{◌≡◌, ◌⊎◌, inl, inr, refl, ◌∙◌, sym, ℕ, Bool, true, false, List, length, Option}
 use Rattle.bench_model.specs.History.{left}
 use Rattle.bench_model.specs.State.{BenchState, file_half, cells_half, Left, SameOutside}
 use Rattle.bench_model.specs.Pairs.{PairsLeave}
@@ -19,7 +19,7 @@ use Rattle.command_answers.specs.Call.{Answer, refused, bench_call, sink_call}
 use Rattle.command_answers.specs.Answered.{yields}
 use Rattle.command_answers.proofs.AnswerLemmas.{only_looked}
 use Rattle.job_commands.specs.Work.{Work, body}
-use Rattle.job_commands.specs.Answers.{is_of_free}
+use Rattle.job_commands.specs.Answers.{is_of_free, is_of_work}
 use Rattle.job_commands.specs.Carry.{Comes, BrokenOff}
 use Rattle.job_commands.specs.GoOn.{work_to, GoesOnFrom}
 use Rattle.job_commands.specs.Beginning.{HasTexts, job_for, OverFile}
@@ -79,14 +79,15 @@ module _ (tells sinks : Bool) (b : BenchState) (o : SinkState) (many : length b.
     its_job : HasTexts files aim → size_of aim.board.regions ≡ b.cell_count → IsJob (job_for files aim b.cells) aim.board aim.algorithms
     its_job has sized = aim_job raw_at files aim has b.cells is (many ∙ sym sized)
 
-    program_begins : (answer : Answer) → yields answer ≡ true → ((w : Work) → Comes (bench_call tells b b) (sink_call sinks o o) w nothing_broken answer)
+    program_begins : (answer : Answer) → yields answer ≡ true → is_of_work answer ≡ false → ((w : Work) → Comes (bench_call tells b b) (sink_call sinks o o) w nothing_broken answer)
         → HasTexts files aim → size_of aim.board.regions ≡ b.cell_count → Begins (bench_call tells b b) (sink_call sinks o o) files aim answer
-    program_begins answer yield comes has sized =
+    program_begins answer yield early comes has sized =
         let w = work_to New (job_for files aim b.cells) aim.board aim.algorithms b.cells in
         record {
           snapshot = b.cells;
           is_job = its_job has sized;
-          carries = ends_early tells b b (sink_call sinks o o) (IsUntouched b) w answer (same_here b.operation refl) (comes w) yield (pairs_here (body w)) off;
+          carries = ends_early tells b b (sink_call sinks o o) (IsUntouched b) w answer (same_here b.operation refl) (comes w) yield (pairs_here (body w)) off
+              (inl (early, record { taken = refl; faults = refl }));
         }
 
     begin_starts : (answer : Answer) → BegunComes (bench_call tells b b) (sink_call sinks o o) begun_text (job_for files aim b.cells) answer
@@ -106,9 +107,9 @@ module _ (tells sinks : Bool) (b : BenchState) (o : SinkState) (many : length b.
     pub program_unread : (r : Refusal) → IsEarly r → OverFile (bench_call tells b b) (sink_call sinks o o) (size_of aim.board.regions) (refused r) (HasTexts files aim)
         (λ has. Begins (bench_call tells b b) (sink_call sinks o o) files aim (refused r))
     program_unread out_of_memory its = over_here (size_of aim.board.regions) (refused out_of_memory) refl (λ of. cc)
-        (program_begins (refused out_of_memory) refl (λ w. record { file = inr refl; cells = same_here b.operation refl; prints = record { taken = refl; faults = refl } }))
+        (program_begins (refused out_of_memory) refl refl (λ w. record { file = inr refl; cells = same_here b.operation refl; prints = record { taken = refl; faults = refl } }))
     program_unread (input_fault name) its = over_here (size_of aim.board.regions) (refused (input_fault name)) refl (λ of. cc)
-        (program_begins (refused (input_fault name)) refl (λ w. tt))
+        (program_begins (refused (input_fault name)) refl refl (λ w. tt))
     program_unread r its = absurd its
 
     pub begin_unread : (r : Refusal) → IsEarly r → OverFile (bench_call tells b b) (sink_call sinks o o) (size_of aim.board.regions) (refused r) (HasTexts files aim)

@@ -4,6 +4,7 @@ ghost use Rattle.board_file.specs.Limits.{size_of};
 ghost use Rattle.bench_model.specs.History.{GoesOn, LeftOnly};
 ghost use Rattle.bench_model.specs.State.{file_half};
 ghost use Rattle.job_text.specs.Stands.{StandsFor};
+ghost use Rattle.job_file.specs.First.{SyncsFirst};
 ghost use Rattle.flash_session.specs.declared.goal.Goal as goals;
 ghost use Rattle.flash_session.specs.Sessions.{job_in, surveyed};
 ghost use Rattle.flash_session.specs.Surveys.{HasSurveyed};
@@ -115,6 +116,7 @@ pub(crate) fn carry<'a, B: Bench, O: Sink>(
     ensures kind { IsOf has_resume (answer_of result) }
     ensures prints { PrintsWork (B.state bench.old).cell_count (sink_call O.tells (O.state out.old) (O.state out.new)) (answer_of result) }
     ensures sound { IsSound (answer_of result) }
+    ensures first { SyncsFirst B.acts bench.old }
     ensures goes_on { IsTrue B.tells → GoesOn (file_half (B.state bench.old)) (file_half (B.state bench.new)) }
     ensures counts { BenchCounted (bench_call B.tells (B.state bench.old) (B.state bench.new))
         (sink_call O.tells (O.state out.old) (O.state out.new)) (answer_of result) }

@@ -1,4 +1,5 @@
 //! `resume` and `revert`: they go on with the job in the file.
+ghost use Rattle.job_file.specs.First.{SyncsFirst};
 ghost use Rattle.command_files.specs.Inputs.{InputsCall, TakesNothing};
 ghost use Rattle.command_answers.specs.Call.{bench_call, sink_call};
 ghost use Rattle.command_answers.specs.Shown.{answer_of};
@@ -19,8 +20,11 @@ pub fn go_on<'a, B: Bench, O: Sink>(
     bench: &mut B,
     out: &mut O,
 ) -> Result<(), Refusal<'a>>
-    ensures { (inputs : InputsCall) → TakesNothing inputs → GoOnEnds goal (bench_call B.tells (B.state bench.old) (B.state bench.new)) inputs
+    ensures ends { (inputs : InputsCall) → TakesNothing inputs → GoOnEnds goal (bench_call B.tells (B.state bench.old) (B.state bench.new)) inputs
         (sink_call O.tells (O.state out.old) (O.state out.new)) (answer_of result) }
+
+    // The file is synced before any other call on the bench.
+    ensures first { SyncsFirst B.acts bench.old }
 {
     carry(alloc, goal, bench, out)
 }

@@ -8,6 +8,7 @@ ghost use Rattle.job_text.specs.Stands.{StandsFor, IsClassOf};
 ghost use Rattle.job_file.specs.Counted.{open_fault};
 ghost use Rattle.bench_model.specs.Counted.{is_store_fault, fault_in, IsCounted};
 ghost use Rattle.job_file.specs.Faults.{IsOpenFault, IsSoundOpen, IsSoundClass};
+ghost use Rattle.job_file.specs.First.{SyncsFirst};
 
 use crate::class::look;
 use crate::fault::OpenFault;
@@ -42,7 +43,8 @@ fn judge(class: Class, found: u32) -> Result<Job, OpenFault>
     }
 }
 
-/// Opens the job for which the file stands. It changes nothing; once it answered Ok, a stop leaves this file alone.
+/// Opens the job for which the file stands. It syncs the file first, so that what it reads is what a stop leaves, and changes nothing: once
+/// it answered Ok, a stop leaves this file alone.
 ///
 /// # Errors
 ///
@@ -52,6 +54,9 @@ pub fn open<B: Bench>(alloc: Global, bench: &mut B) -> Result<Job, OpenFault>
     ensures ok { IsTrue B.tells → IfOk result (λ job. StandsFor job (B.state bench.old).file) }
     ensures sized { IfOk result (λ job. size_of job.board.regions ≡ (B.state bench.old).cell_count) }
     ensures only { IsTrue B.tells → OnOk result (LeftOnly (B.state bench.old).file (file_half (B.state bench.new))) }
+
+    // The file is synced before any other call on the bench.
+    ensures first { SyncsFirst B.acts bench.old }
 
     // With `ok` and `sized`, each refusal comes exactly where it says.
     ensures refused { IsTrue B.tells → IfErr result (IsOpenFault (B.state bench.old).file (B.state bench.old).cell_count) }

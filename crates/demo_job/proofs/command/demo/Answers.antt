@@ -1,3 +1,4 @@
+-- `demo`: its contract, `DemoSays`.
 use Rattle.std.proofs.Common.{refl, inl, inr}
 use Rattle.std.proofs.lemmas.Result.{err_from_is_err_and}
 use Rattle.demo_job.proofs.command.demo.Goals as goal

@@ -1,3 +1,4 @@
+-- `tell`: its contract, `Prints`.
 use Rattle.std.proofs.Common.{refl, inl, inr}
 use Rattle.std.proofs.lemmas.Result.{err_from_is_err_and}
 use Rattle.demo_job.proofs.command.tell.Goals as goal

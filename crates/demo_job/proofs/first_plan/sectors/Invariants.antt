@@ -1,3 +1,4 @@
+-- `sectors`: what holds at each turn of its loop.
 use Rattle.std.proofs.Common.{◌≡◌, ◌≤◌, ℕ, false, get_or}
 use Rattle.page_geometry.specs.Cells.{count_below}
 use Rattle.demo_job.proofs.first_plan.sectors.Given as goal

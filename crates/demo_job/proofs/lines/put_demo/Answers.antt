@@ -1,3 +1,4 @@
+-- `put_demo`: its contract, `Puts`.
 use Rattle.std.proofs.Common.{ap}
 use Rattle.std.specs.Prelude.{codes}
 use Rattle.demo_job.specs.Lines.{number_text, demo_text}

@@ -1,3 +1,4 @@
+-- `one_run`: that it keeps its contract.
 use Rattle.demo_job.proofs.MadeLemmas.{one_piece}
 use Rattle.demo_job.proofs.made.one_run.Goals as goal
 

@@ -1,3 +1,4 @@
+-- `put_blank`: what holds at each turn of its loop.
 use Rattle.std.proofs.Common.{◌≡◌, ◌++◌}
 use Rattle.std.specs.Prelude.{replicate}
 use Rattle.demo_job.proofs.made.put_blank.Given as goal

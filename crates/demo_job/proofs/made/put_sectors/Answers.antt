@@ -1,3 +1,4 @@
+-- `put_sectors`: that its loop keeps what it has to.
 use Rattle.std.proofs.Common.{sym}
 use Rattle.demo_job.proofs.MadeLemmas.{begin_sectors, more_sectors, more_after, not_after_sectors}
 use Rattle.demo_job.proofs.made.put_sectors.Goals as goal

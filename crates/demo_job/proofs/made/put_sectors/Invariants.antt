@@ -1,3 +1,4 @@
+-- `put_sectors`: what holds at each turn of its loop.
 use Rattle.std.proofs.Common.{◌≡◌, ◌++◌}
 use Rattle.demo_job.specs.Made.{sectors, after_sectors}
 use Rattle.demo_job.proofs.made.put_sectors.Given as goal

@@ -1,3 +1,4 @@
+-- `begin_stopped`: its contract, `BeginsOver`, and what `begin_job` asks for.
 use Rattle.std.proofs.Common.{◌∙◌, sym, subst, List, [], ◌∷◌, IsTrue}
 use Rattle.bench_model.specs.Stopped.{stopped}
 use Rattle.byte_map.specs.Image.{Run}

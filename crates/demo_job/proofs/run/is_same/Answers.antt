@@ -1,3 +1,4 @@
+-- `is_same`: that it keeps its contract.
 use Rattle.demo_job.proofs.ShowLemmas.{bytes_same}
 use Rattle.demo_job.proofs.run.is_same.Goals as goal
 

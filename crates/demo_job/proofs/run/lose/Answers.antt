@@ -1,3 +1,4 @@
+-- `lose`: its contract, `IsLost`.
 use Rattle.std.proofs.Common.{◌≡◌, ◌∙◌, refl, sym, subst, true, List, [], ◌∷◌}
 use Rattle.bench_model.specs.State.{Left}
 use Rattle.bench_model.specs.Loss.{IsPicked, after_loss}

@@ -1,3 +1,4 @@
+-- `play`: its contract, `Shows`.
 use Rattle.demo_job.proofs.run.play.Goals as goal
 
 pub returns : goal.returns

@@ -1,3 +1,4 @@
+-- `flm`: its contract, `IsSomeAnd`.
 use Rattle.std.specs.Prelude.{slice_get}
 use Rattle.flm_forge.specs.Listed.{listing_of}
 use Rattle.flm_forge.specs.Read.{IsForged}

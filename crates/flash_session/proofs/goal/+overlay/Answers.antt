@@ -1,3 +1,4 @@
+-- `+overlay`: that it keeps its contract, and what `overlay` asks for.
 use Rattle.std.proofs.Common.{◌≡◌, ◌<◌, ◌≤◌, ◌∙◌, ◌-◌, ◌+◌, ◌∷◌, ℕ, List, length, take, drop, refl, sym, ap, subst, arith}
 use Rattle.std.proofs.lemmas.List.{length-drop}
 use Rattle.board_file.specs.declared.region.Region.{Region}

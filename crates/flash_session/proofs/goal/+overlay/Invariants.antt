@@ -1,3 +1,4 @@
+-- `+overlay`: what falls with each turn of its loop.
 use Rattle.std.proofs.Common.{length}
 use Rattle.flash_session.proofs.goal.+overlay.Given as goal
 

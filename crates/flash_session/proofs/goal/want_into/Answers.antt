@@ -1,3 +1,4 @@
+-- `want_into`: its clause `ok`.
 use Rattle.std.proofs.Common.{◌∙◌, ℕ, length, take, drop, sym, ap}
 use Rattle.job_text.specs.Stands.{snapshot_in}
 use Rattle.flash_session.specs.Goals.{goal_in}

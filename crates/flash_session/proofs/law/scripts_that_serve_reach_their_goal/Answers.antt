@@ -1,3 +1,4 @@
+-- `scripts_that_serve_reach_their_goal`: its contract, `IsReached`.
 use Rattle.std.proofs.Common.{◌∙◌}
 use Rattle.flash_session.proofs.ServedLemmas.{reaches_goal, surveyed_job}
 use Rattle.flash_session.proofs.law.scripts_that_serve_reach_their_goal.Goals as goal

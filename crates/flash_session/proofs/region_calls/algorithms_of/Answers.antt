@@ -1,3 +1,4 @@
+-- `algorithms_of`: that it keeps its contract, and that an arm is never reached.
 use Rattle.std.proofs.Common.{◌∙◌, List, length, sym, ap, arith}
 use Rattle.board_file.specs.Shown.{shown as board_of}
 use Rattle.flm_descriptor.specs.declared.algorithm.Algorithm.{Algorithm}

@@ -1,3 +1,4 @@
+-- `player_for`: its clause `work`, and that its result is as its type asks.
 use Rattle.std.proofs.Common.{ℕ, List, ◌∷◌, length, sym, subst}
 use Rattle.flm_descriptor.specs.Shown.{Shown as AlgorithmShown, shown as algorithm_of}
 use Rattle.flash_session.specs.Starts.{later_shown}

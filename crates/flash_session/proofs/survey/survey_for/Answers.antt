@@ -1,3 +1,4 @@
+-- `survey_for`: its clauses `found`, `work`, `store` and `device`.
 use Rattle.std.proofs.Common.{◌∙◌, ◌∷◌, map, option_to_list, sym, ap, subst}
 use Rattle.bench_model.specs.Counted.{is_store_fault, is_device_fault}
 use Rattle.std.proofs.lemmas.Result.{err_from_is_err_and}

@@ -1,3 +1,4 @@
+-- `targets_begin`: its contract, `StandsOn`.
 use Rattle.flash_session.proofs.AloneLemmas.{stands_first}
 use Rattle.flash_session.proofs.turn_law.targets_begin.Goals as goal
 

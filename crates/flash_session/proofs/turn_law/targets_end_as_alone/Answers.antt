@@ -1,3 +1,4 @@
+-- `targets_end_as_alone`: its contract, `FollowsAs`.
 use Rattle.flash_session.proofs.AloneLemmas.{ends_alone}
 use Rattle.flash_session.proofs.turn_law.targets_end_as_alone.Goals as goal
 

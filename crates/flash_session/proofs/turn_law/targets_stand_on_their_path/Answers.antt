@@ -1,3 +1,4 @@
+-- `targets_stand_on_their_path`: its contract, `Broken`.
 use Rattle.flash_session.specs.Targets.{setup_now, legs_for, point_for}
 use Rattle.flash_session.proofs.AloneLemmas.{on_script}
 use Rattle.flash_session.proofs.turn_law.targets_stand_on_their_path.Goals as goal

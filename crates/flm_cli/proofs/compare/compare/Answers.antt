@@ -1,3 +1,4 @@
+-- `compare`: its contract, `CompareEnds`, and what `tell_found` asks for.
 use Rattle.std.proofs.Common.{rules, ◌≡◌, sym, ap, subst, arith, ℕ, List, length, Err}
 use Rattle.command_files.specs.Inputs.{inputs_call, IsFile}
 use Rattle.report_text.specs.Shown.{shown}

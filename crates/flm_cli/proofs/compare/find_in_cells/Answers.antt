@@ -1,3 +1,4 @@
+-- `find_in_cells`: its clauses `looks` and `found`.
 use Rattle.std.proofs.Common.{rules, ◌≡◌, Err}
 use Rattle.device_dump.proofs.LooksLemmas.{looks_dropped, looks_by}
 use Rattle.flm_cli.proofs.LooksLemmas.{found_in_bytes}

@@ -1,3 +1,4 @@
+-- `inspect`: its contract, `InspectEnds`.
 use Rattle.std.proofs.Common.{rules, ◌≡◌, sym, subst, arith, refl, ℕ, List, Err}
 use Rattle.std.proofs.lemmas.Result.{err_from_is_err_and}
 use Rattle.flm_descriptor.specs.Shown as flm

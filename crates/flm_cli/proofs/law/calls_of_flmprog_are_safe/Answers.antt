@@ -1,3 +1,4 @@
+-- `calls_of_flmprog_are_safe`: its contract, `IsSafeFrom`.
 use Rattle.job_commands.proofs.FollowLemmas.{calls_are_safe}
 use Rattle.flm_cli.proofs.LawLemmas.{begins, all_go_on}
 use Rattle.flm_cli.proofs.law.calls_of_flmprog_are_safe.Goals as goal

@@ -9,17 +9,17 @@ use Rattle.report_text.specs.Shown.{shown}
 use Rattle.command_answers.specs.Call.{bench_call, sink_call, refused}
 use Rattle.flm_cli.specs.Plan.{PlanEnds}
 use Rattle.command_answers.specs.Shown.{answer_of}
-use Rattle.flm_cli.proofs.PlanLemmas.{ends_untaken, ends_unread, ends_other_size, ends_planned, sized_of}
+use Rattle.flm_cli.proofs.PlanLemmas.{ends_untaken, ends_unread, ends_other_size, ends_planned, devices_of}
 use Rattle.flm_cli.proofs.plan.plan.Goals as goal
 
 pub read_files-requires : goal.read_files-requires
 read_files-requires g c = c.in_ok-files.ensures.takes.0.images.count
 
-pub print_plans-requires-clause-sized : goal.print_plans-requires-clause-sized
-print_plans-requires-clause-sized g c =
+pub print_plans-requires-clause-devices : goal.print_plans-requires-clause-devices
+print_plans-requires-clause-devices g c =
     let inputs = inputs_call g.I.Inputs.tells (g.I.Inputs.state c.args.inputs.now) (g.I.Inputs.state c.take_files.new.inputs) in
     let some = has_file inputs (files_of c.args.names.now) (bytes_of c.in_ok-files.files) c.requires.has_flm c.in_ok-files.ensures.takes.0 in
-    sized_of c.args.names.now.raw_at (bytes_of c.in_ok-files.files) (aim_of c.in_ok-wanted.wanted) c.in_ok-wanted.ensures some c.in_ok-wanted.wanted.board.some_region
+    devices_of c.args.names.now.raw_at (bytes_of c.in_ok-files.files) (aim_of c.in_ok-wanted.wanted) c.in_ok-wanted.ensures some c.in_ok-wanted.wanted.board.some_region
 
 pub print_plans-requires-clause-cells : goal.print_plans-requires-clause-cells
 print_plans-requires-clause-cells g c = sym c.cells_of-size.ensures ∙ (sym c.if-cells-size.false ∙ c.cells_len-cells.ensures)
@@ -60,6 +60,6 @@ returns g c =
     let inputs = inputs_call g.I.Inputs.tells (g.I.Inputs.state c.args.inputs.now) (g.I.Inputs.state c.take_files.new.inputs) in
     let out = sink_call g.O.Sink.tells (g.O.Sink.state c.args.out.now) (g.O.Sink.state c.print_plans.new.out) in
     let some = has_file inputs (files_of c.args.names.now) (bytes_of c.in_ok-files.files) c.requires.has_flm c.in_ok-files.ensures.takes.0 in
-    let sized = sized_of c.args.names.now.raw_at (bytes_of c.in_ok-files.files) (aim_of c.in_ok-wanted.wanted) c.in_ok-wanted.ensures some c.in_ok-wanted.wanted.board.some_region in
-    ends_planned bench inputs out (files_of c.args.names.now) (bytes_of c.in_ok-files.files) c.in_ok-files.ensures.takes.0 c.in_ok-wanted.wanted c.in_ok-wanted.ensures sized
+    let devices = devices_of c.args.names.now.raw_at (bytes_of c.in_ok-files.files) (aim_of c.in_ok-wanted.wanted) c.in_ok-wanted.ensures some c.in_ok-wanted.wanted.board.some_region in
+    ends_planned bench inputs out (files_of c.args.names.now) (bytes_of c.in_ok-files.files) c.in_ok-files.ensures.takes.0 c.in_ok-wanted.wanted c.in_ok-wanted.ensures devices
     (sym c.cells_of-size.ensures ∙ (sym c.if-cells-size.false ∙ c.cells_len-cells.ensures)) c.in_ok-files.ensures.takes.1 (answer_of c.print_plans.result) c.print_plans.ensures

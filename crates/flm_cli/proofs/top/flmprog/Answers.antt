@@ -1,3 +1,4 @@
+-- `flmprog`: its contract, `Answers`, and what `run` asks for.
 use Rattle.report_text.specs.Refusal.{out_of_memory}
 use Rattle.command_answers.specs.Call.{refused}
 use Rattle.command_answers.specs.Shown.{answer_of}

@@ -47,13 +47,13 @@ pub returns-in-Some-Resume : goal.returns-in-Some-Resume
 returns-in-Some-Resume g c = λ asked given.
     let i = g.I.Inputs.state c.args.inputs.now in
     ends_as c.args.words.now (Some resume) asked _ _ _ _ (rw c.in-Some-Resume.field-0-is at (c.in-Some-Resume.ensures c.args.words.now c.requires.read)) given
-    (c.go_on.ensures (inputs_call g.I.Inputs.tells i i) (record { stands = λ name. refl; faults = refl; failed = refl }))
+    (c.go_on.ensures.ends (inputs_call g.I.Inputs.tells i i) (record { stands = λ name. refl; faults = refl; failed = refl }))
 
 pub returns-in-Some-Revert : goal.returns-in-Some-Revert
 returns-in-Some-Revert g c = λ asked given.
     let i = g.I.Inputs.state c.args.inputs.now in
     ends_as c.args.words.now (Some revert) asked _ _ _ _ (rw c.in-Some-Revert.field-0-is at (c.in-Some-Revert.ensures c.args.words.now c.requires.read)) given
-    (c.go_on-in-Some-Revert.ensures (inputs_call g.I.Inputs.tells i i) (record { stands = λ name. refl; faults = refl; failed = refl }))
+    (c.go_on-in-Some-Revert.ensures.ends (inputs_call g.I.Inputs.tells i i) (record { stands = λ name. refl; faults = refl; failed = refl }))
 
 pub returns-in-Some-Status : goal.returns-in-Some-Status
 returns-in-Some-Status g c = λ asked given.

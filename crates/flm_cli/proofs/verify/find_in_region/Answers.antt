@@ -1,3 +1,4 @@
+-- `find_in_region`: its clause `ok`, that its loop keeps what it has to, and what `find_in_run` asks for.
 use Rattle.std.proofs.Common.{refl, sym, arith, ◌∙◌}
 use Rattle.flm_cli.proofs.DifferenceLemmas.{run_ends, runs_then, runs_differ, all_agree}
 use Rattle.flm_cli.proofs.verify.find_in_region.Goals as goal

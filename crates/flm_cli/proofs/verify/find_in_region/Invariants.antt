@@ -1,3 +1,4 @@
+-- `find_in_region`: what holds at each turn of its loop.
 use Rattle.flm_cli.proofs.DifferenceLemmas.{RunsSoFar}
 use Rattle.flm_cli.proofs.verify.find_in_region.Given as goal
 

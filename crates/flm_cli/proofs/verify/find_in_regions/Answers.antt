@@ -1,3 +1,4 @@
+-- `find_in_regions`: its clause `ok`, that its loop keeps what it has to, and what `find_in_region` asks for.
 use Rattle.std.proofs.Common.{◌≡◌, ◌∙◌, refl, sym, ap, subst, arith, List, None}
 use Rattle.board_file.specs.declared.region.Region.{Region}
 use Rattle.board_file.specs.Limits.{size_of}

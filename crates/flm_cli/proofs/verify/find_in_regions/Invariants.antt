@@ -1,3 +1,4 @@
+-- `find_in_regions`: what holds at each turn of its loop.
 use Rattle.flm_cli.proofs.PlaceLemmas.{RegionsSoFar}
 use Rattle.flm_cli.proofs.verify.find_in_regions.Given as goal
 

@@ -1,3 +1,4 @@
+-- `find_in_run`: its clause `ok`.
 use Rattle.std.proofs.Common.{rules, ◌≡◌, refl, arith}
 use Rattle.flm_cli.proofs.DifferenceLemmas.{clip_none, clip_same, clip_differs}
 use Rattle.flm_cli.proofs.verify.find_in_run.Goals as goal

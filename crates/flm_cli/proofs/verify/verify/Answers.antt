@@ -1,3 +1,4 @@
+-- `verify`: its contract, `VerifyEnds`, and what `read_files` and `tell_found` ask for.
 use Rattle.std.proofs.Common.{rules, ◌≡◌, ◌∙◌, sym, subst, ℕ, Err}
 use Rattle.command_words.specs.Requested.{files_of}
 use Rattle.command_files.specs.Inputs.{inputs_call}

@@ -1,3 +1,4 @@
+-- `jobs_are_lent`: its contract, `HasJob`.
 use Rattle.gang_run.specs.Gangs.{slot_at}
 use Rattle.gang_run.proofs.GangLemmas.{job_exact}
 use Rattle.gang_run.proofs.law.jobs_are_lent.Goals as goal

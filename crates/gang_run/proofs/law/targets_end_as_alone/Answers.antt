@@ -1,3 +1,4 @@
+-- `targets_end_as_alone`: its contract, `EndsAlone`.
 use Rattle.std.proofs.Common.{[], get_or, sym, subst}
 use Rattle.gang_run.specs.declared.slot.Slot.{Slot}
 use Rattle.gang_run.specs.Slots.{SlotStands, SlotSince}

@@ -1,3 +1,4 @@
+-- `turns_begin`: its contract, `Playing`.
 use Rattle.gang_run.proofs.GangLemmas.{playing_here}
 use Rattle.gang_run.proofs.law.turns_begin.Goals as goal
 

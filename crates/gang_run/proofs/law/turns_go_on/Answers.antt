@@ -1,3 +1,4 @@
+-- `turns_go_on`: its contract, `Playing`.
 use Rattle.gang_run.proofs.GangLemmas.{playing_on}
 use Rattle.gang_run.proofs.law.turns_go_on.Goals as goal
 

@@ -1,3 +1,4 @@
+-- `make_slot`: its contract, `IsTargetOf`.
 use Rattle.std.proofs.Common.{refl}
 use Rattle.flash_session.proofs.GoLemmas.{player_in}
 use Rattle.gang_run.proofs.open_slots.make_slot.Goals as goal

@@ -1,3 +1,4 @@
+-- `open_slot`: its clauses `slot` and `looked`.
 use Rattle.std.proofs.Common.{refl}
 use Rattle.flash_session.specs.declared.session.Session.{Session}
 use Rattle.flash_session.specs.Sessions.{job_in}

@@ -1,3 +1,4 @@
+-- `survey_slot`: its clause `slot`.
 use Rattle.std.proofs.Common.{subst}
 use Rattle.job_text.specs.declared.job.Job.{Job}
 use Rattle.flash_session.specs.Sessions.{job_in, surveyed}

@@ -1,3 +1,4 @@
+-- `carry`: its clauses `told`, `early`, `kind`, `sound`, `prints` and `counts`, and what `carry_on` asks for.
 use Rattle.std.proofs.Common.{◌≡◌, ◌∙◌, refl, sym, subst, ℕ, List}
 use Rattle.bench_model.specs.History.{LeftOnly}
 use Rattle.bench_model.specs.State.{file_half}

@@ -1,3 +1,4 @@
+-- `carry_on`: its clauses `sound`, `told`, `early`, `counts`, `kind` and `prints`, and what `put_plans` and `finish` ask for.
 use Rattle.std.proofs.Common.{◌≡◌, ◌∙◌, refl, sym, subst, ℕ, List, IsSomeAnd}
 use Rattle.std.proofs.lemmas.Result.{err_from_is_err_and}
 use Rattle.bench_model.specs.History.{LeftOnly}

@@ -1,3 +1,4 @@
+-- `finish`: its clauses `sound` and `told`, and what `close` and `address_of` ask for.
 use Rattle.std.proofs.Common.{◌≡◌, ◌<◌, ◌∙◌, ℕ, refl, sym, ap, subst, arith, drop, List, Some}
 use Rattle.std.proofs.lemmas.Result.{err_from_is_err_and}
 use Rattle.board_file.specs.declared.region.Region.{Region}

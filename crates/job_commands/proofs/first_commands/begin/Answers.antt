@@ -1,3 +1,4 @@
+-- `begin`: its contract, `BeginEnds`, and what `begin_alone` asks for.
 use Rattle.std.proofs.Common.{rules, ◌≡◌, ◌∙◌, sym, Err}
 use Rattle.report_text.specs.Shown.{shown}
 use Rattle.command_words.specs.Requested.{files_of}

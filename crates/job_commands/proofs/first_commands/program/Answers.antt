@@ -1,3 +1,4 @@
+-- `program`: its contract, `ProgramEnds`, and what `begin_job` asks for.
 use Rattle.std.proofs.Common.{rules, ◌≡◌, ◌∙◌, sym, Err}
 use Rattle.report_text.specs.Shown.{shown}
 use Rattle.command_words.specs.Requested.{files_of}

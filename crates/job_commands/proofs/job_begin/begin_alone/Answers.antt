@@ -1,3 +1,4 @@
+-- `begin_alone`: its clauses `told`, `early`, `kind`, `prints`, `sized`, `sound` and `counts`.
 use Rattle.std.proofs.Common.{rules, ◌≡◌, refl, Err}
 use Rattle.std.proofs.lemmas.Result.{err_from_is_err_and}
 use Rattle.report_text.specs.Shown.{shown}

@@ -1,3 +1,4 @@
+-- `begin_job`: its clauses `told`, `early`, `kind`, `prints`, `sized`, `sound` and `counts`.
 use Rattle.std.proofs.Common.{rules, ◌≡◌, refl, sym, subst, ℕ, Err}
 use Rattle.bench_model.specs.State.{Left}
 use Rattle.job_text.specs.Parts.{job_of}

@@ -1,3 +1,4 @@
+-- `calls_are_safe`: its contract, `IsSafeFrom`.
 use Rattle.job_commands.proofs.FollowLemmas as law
 use Rattle.job_commands.proofs.law.calls_are_safe.Goals as goal
 

@@ -1,3 +1,4 @@
+-- `calls_keep`: its clauses `later` and `first`.
 use Rattle.job_commands.proofs.LawLemmas.{later_keeps, first_keeps}
 use Rattle.job_commands.proofs.law.calls_keep.Goals as goal
 

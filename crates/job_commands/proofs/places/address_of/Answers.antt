@@ -1,3 +1,4 @@
+-- `address_of`: that an arm is never reached.
 use Rattle.std.proofs.Common.{◌∙◌, ℕ, Option, IsSome, sym, subst}
 use Rattle.std.proofs.lemmas.Bool.{false≢true}
 use Rattle.command_answers.proofs.PlaceLemmas.{has_address}

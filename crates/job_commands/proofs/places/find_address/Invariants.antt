@@ -1,3 +1,4 @@
+-- `find_address`: what holds at each turn of its loop.
 use Rattle.job_commands.proofs.AddressLemmas.{Searches}
 use Rattle.job_commands.proofs.places.find_address.Given as goal
 

@@ -1,3 +1,4 @@
+-- `put_region_plan`: its contract, `Puts`, and that an index is in bounds.
 use Rattle.std.proofs.Common.{◌≡◌, ◌<◌, ◌∙◌, arith, ap, subst, List, length, get_or}
 use Rattle.flm_descriptor.specs.declared.algorithm.Algorithm.{Algorithm}
 use Rattle.job_text.specs.declared.job.Job.{Job}

@@ -1,3 +1,4 @@
+-- `start`: its clauses `told`, `early`, `kind` and `sound`.
 use Rattle.std.proofs.Common.{◌≡◌, ◌∙◌, refl, sym, subst, length, []}
 use Rattle.report_text.specs.Refusal.{Refusal}
 use Rattle.command_answers.specs.Answered.{StandsEarly, IsOf, on_job_file}

@@ -1,3 +1,4 @@
+-- `begin`: its clauses `ok`, `stops`, `after` and `unopened`.
 use Rattle.std.proofs.Common.{rules, Err, ⊎_elim, inl, ◌≡◌, ◌++◌, ◌∷◌, ℕ, List, length, sym, refl, subst, arith, None, OnOk}
 use Rattle.bench_model.specs.History.{LeftOnly, left}
 use Rattle.bench_model.specs.State.{file_half}

@@ -1,3 +1,4 @@
+-- `drop_and_put`: its clauses `unopened`, `ok` and `stops`.
 use Rattle.std.proofs.Common.{rules, ◌≡◌, ◌∙◌, ◌++◌, ◌∷◌, ℕ, List, None, inl, inr, Err, OnOk, sym, subst}
 use Rattle.std.proofs.lemmas.Result.{on_ok_weaker}
 use Rattle.bench_model.specs.History.{LeftOnly}

@@ -1,3 +1,4 @@
+-- `append`: its contract, `Appends`.
 use Rattle.job_file.proofs.BodyLemmas.{written_part}
 use Rattle.job_file.proofs.body.append.Goals as goal
 

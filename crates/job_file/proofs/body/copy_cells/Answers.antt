@@ -1,3 +1,4 @@
+-- `copy_cells`: its clauses `moments` and `hash`.
 use Rattle.std.proofs.Common.{◌++◌, ℕ, List, subst}
 use Rattle.sha2.specs.Hashers.{Holds256}
 use Rattle.job_file.proofs.PutLemmas.{kept_by_write}

@@ -1,3 +1,4 @@
+-- `files_len`: its clauses `value` and `bound`.
 use Rattle.std.proofs.Common.{ℕ, List, length, ap, arith, length-append}
 use Rattle.job_file.proofs.HashLemmas.{concat_none, concat_some, second_len}
 use Rattle.job_file.proofs.body.files_len.Goals as goal

@@ -1,3 +1,4 @@
+-- `put_body`: its clauses `moments`, `cells` and `hash`, that its loop keeps what it has to, and what `copy_cells` asks for.
 use Rattle.std.proofs.Common.{◌≡◌, ◌≤◌, ◌-◌, ◌++◌, ◌∷◌, ◌∙◌, ℕ, List, length, take, drop, ap, refl, sym, subst, arith, length-append}
 use Rattle.std.proofs.lemmas.List.{length-take, length-drop, append-nil, take_all}
 use Rattle.job_text.specs.Parts.{front_of}

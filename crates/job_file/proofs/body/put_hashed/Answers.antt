@@ -1,3 +1,4 @@
+-- `put_hashed`: its clauses `ok`, `moments` and `cells`, and what `file_write` asks for.
 use Rattle.std.proofs.Common.{◌∙◌, ◌++◌, ℕ, List, length, ap, arith}
 use Rattle.sha2.proofs.Facts256.{length-sha256}
 use Rattle.bench_model.specs.Calls.{written}

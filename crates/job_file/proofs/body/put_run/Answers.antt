@@ -1,3 +1,4 @@
+-- `put_run`: its contract, `Appends`, and what `append` asks for.
 use Rattle.std.proofs.Common.{◌++◌, ℕ, List, length, subst, arith}
 use Rattle.job_text.specs.Body.{field, run_text}
 use Rattle.job_text.specs.Runs.{run_of}

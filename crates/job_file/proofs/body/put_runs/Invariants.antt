@@ -1,3 +1,4 @@
+-- `put_runs`: what holds at each turn of its loop.
 use Rattle.job_file.proofs.BodyLemmas.{RunsPut}
 use Rattle.job_file.proofs.body.put_runs.Given as goal
 

@@ -1,3 +1,4 @@
+-- `check_counts`: its contract, `Counts`.
 use Rattle.job_file.proofs.JobLemmas.{cells_differ, no_runs}
 use Rattle.job_file.proofs.class.check_counts.Goals as goal
 

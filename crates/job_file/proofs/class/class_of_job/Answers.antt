@@ -1,3 +1,4 @@
+-- `class_of_job`: its clause `class`.
 use Rattle.std.proofs.Common.{◌∙◌, ℕ, length, drop, ap, subst}
 use Rattle.job_text.specs.declared.format.Format.{Format}
 use Rattle.job_text.specs.Reading.{job_as}

@@ -1,3 +1,4 @@
+-- `is_open`: its clause `gives`.
 use Rattle.std.proofs.Common.{arith}
 use Rattle.job_file.proofs.FileLemmas.{free_short}
 use Rattle.job_file.proofs.JobLemmas.{gate_open, gate_shut}

@@ -1,3 +1,4 @@
+-- `look`: its clause `first`.
 use Rattle.job_file.proofs.class.look.Goals as goal
 
 pub returns-in_err-file_sync-clause-first : goal.returns-in_err-file_sync-clause-first

@@ -1,3 +1,4 @@
+-- `read_head`: its clause `said`, and what `read_head_into` asks for.
 use Rattle.std.proofs.Common.{◌≡◌, ap, drop, arith}
 use Rattle.job_text.specs.declared.head.Places.{Places}
 use Rattle.job_text.specs.Reading.{places_of}

@@ -1,3 +1,4 @@
+-- `read_head_into`: its clauses `said` and `text`.
 use Rattle.std.proofs.Common.{◌∙◌, ℕ, List, take, drop, ap, subst, arith}
 use Rattle.std.proofs.lemmas.List.{length-drop}
 use Rattle.std.proofs.lemmas.Result.{IfOk-weaker}

@@ -1,3 +1,4 @@
+-- `read_job`: its clauses `ok` and `err`, and what `read_rest` asks for.
 use Rattle.std.proofs.Common.{◌∙◌, ℕ, List, Result, length, drop, sym, ap, subst}
 use Rattle.std.proofs.lemmas.Result.{IfOk-weaker, IfErr-weaker}
 use Rattle.job_text.specs.Reading.{Found, places_of, rest_at}

@@ -1,3 +1,4 @@
+-- `read_opened`: its clause `class`, and what `find_damage` asks for.
 use Rattle.std.proofs.Common.{◌≡◌, ◌∙◌, ℕ, List, Option, Some, length, drop, ap, subst, sym}
 use Rattle.job_text.specs.Reading.{format_in, kept_in}
 use Rattle.job_text.specs.declared.damage.Damage.{Damage}

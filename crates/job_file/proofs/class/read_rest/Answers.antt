@@ -1,3 +1,4 @@
+-- `read_rest`: its clauses `err` and `ok`, and what `read_said` and `read_runs` ask for.
 use Rattle.std.proofs.Common.{◌≡◌, ◌++◌, ◌∙◌, ℕ, List, Result, Ok, Err, refl, length, drop, ap, subst, arith}
 use Rattle.std.specs.List.{flat_map}
 use Rattle.board_file.specs.declared.region.Region.{Region}

@@ -1,3 +1,4 @@
+-- `compare_hashes`: its clauses `ok` and `differ`, and what `read_kept` asks for.
 use Rattle.std.proofs.Common.{◌∙◌, ℕ, List, take, drop, length, ap, sym, arith}
 use Rattle.std.proofs.lemmas.List.{length-drop, drop-drop}
 use Rattle.sha2.specs.Sha256.{sha256}

@@ -1,3 +1,4 @@
+-- `find_damage`: its clause `ok`, and what `compare_hashes` asks for.
 use Rattle.std.proofs.Common.{◌∙◌, drop}
 use Rattle.job_file.proofs.HashLemmas.{first_intact, second_by}
 use Rattle.job_file.proofs.damage.find_damage.Goals as goal

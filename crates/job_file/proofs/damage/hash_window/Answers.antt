@@ -1,3 +1,4 @@
+-- `hash_window`: its clause `ok`.
 use Rattle.std.proofs.Common.{◌++◌, ℕ, List, subst}
 use Rattle.sha2.specs.Hashers.{Holds256}
 use Rattle.job_file.proofs.damage.hash_window.Goals as goal

@@ -1,3 +1,4 @@
+-- `read_format`: its clause `ok`.
 use Rattle.std.proofs.Common.{◌∙◌, ℕ, List, drop, sym, ap, arith}
 use Rattle.std.proofs.lemmas.List.{length-drop}
 use Rattle.job_text.specs.Reading.{format_in}

@@ -1,3 +1,4 @@
+-- `read_hash`: what holds at each turn of its loop, and what falls with it.
 use Rattle.std.proofs.Common.{◌-◌}
 use Rattle.job_file.proofs.HashLemmas.{HashedSoFar}
 use Rattle.job_file.proofs.damage.read_hash.Given as goal

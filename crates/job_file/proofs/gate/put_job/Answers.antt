@@ -1,3 +1,4 @@
+-- `put_job`: its clauses `moments` and `unopened`.
 use Rattle.std.proofs.Common.{rules, ◌≡◌, ◌∙◌, ◌++◌, ◌∷◌, ap, inl, inr, List, ℕ, arith, Err}
 use Rattle.bench_model.specs.State.{file_half}
 use Rattle.bench_model.proofs.Moments.{leaves_as, leaves_then, leaves_step, leaves_then_nothing}

@@ -1,3 +1,4 @@
+-- `shut`: its clause `moments`.
 use Rattle.std.proofs.Common.{refl}
 use Rattle.bench_model.proofs.Moments.{leaves_then, leaves_step}
 use Rattle.job_text.specs.Files.{IsFree}

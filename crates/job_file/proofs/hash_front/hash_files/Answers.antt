@@ -1,3 +1,4 @@
+-- `hash_files`: its contract, `Holds256`.
 use Rattle.std.proofs.Common.{◌++◌, ◌∙◌, ℕ, List, ap, subst, append_assoc}
 use Rattle.sha2.specs.Hashers.{Holds256}
 use Rattle.job_file.proofs.HashLemmas.{concat_none, concat_some}

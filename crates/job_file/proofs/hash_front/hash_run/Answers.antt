@@ -1,3 +1,4 @@
+-- `hash_run`: its contract, `Holds256`.
 use Rattle.std.proofs.Common.{◌++◌, ◌∙◌, ℕ, List, length, ap, subst, append_assoc}
 use Rattle.sha2.specs.Hashers.{Holds256}
 use Rattle.job_text.specs.Body.{field}

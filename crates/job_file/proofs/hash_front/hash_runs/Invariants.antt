@@ -1,3 +1,4 @@
+-- `hash_runs`: what holds at each turn of its loop.
 use Rattle.std.proofs.Common.{ℕ, List, ◌++◌, take}
 use Rattle.std.specs.List.{flat_map}
 use Rattle.sha2.specs.Hashers.{Holds256}

@@ -1,3 +1,4 @@
+-- `judge_run`: its clauses `said`, `text` and `placed`.
 use Rattle.std.proofs.Common.{◌∙◌, sym, arith}
 use Rattle.job_file.proofs.StepLemmas.{judged_cut, judged_misplaced, judged, placed_parts, head_fields}
 use Rattle.job_file.proofs.image.judge_run.Goals as goal

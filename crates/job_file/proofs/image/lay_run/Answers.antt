@@ -1,3 +1,4 @@
+-- `lay_run`: its clause `ok`, that its loop keeps what it has to, and what `lay_window` asks for.
 use Rattle.std.proofs.Common.{◌≡◌, ◌≤◌, ◌+◌, ◌-◌, ◌++◌, ◌∙◌, [], ℕ, List, length, take, drop, ap, refl, arith, length-append}
 use Rattle.std.proofs.lemmas.List.{length-take, length-drop}
 use Rattle.bench_model.proofs.Moments.{only_reads_then, only_reads_here}

@@ -1,3 +1,4 @@
+-- `read_run`: its clauses `ok` and `err`, and what `lay_run` asks for.
 use Rattle.std.proofs.Common.{ℕ, List, length, drop, ap, arith}
 use Rattle.job_text.specs.Reading.{run_at}
 use Rattle.job_file.proofs.ImageLemmas.{run_added, no_verdict}

@@ -1,3 +1,4 @@
+-- `read_run_head`: its clauses `said` and `text`.
 use Rattle.std.proofs.Common.{◌∙◌, drop, sym, arith}
 use Rattle.std.proofs.lemmas.List.{length-drop}
 use Rattle.std.proofs.lemmas.Result.{IfOk-weaker}

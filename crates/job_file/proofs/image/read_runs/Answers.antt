@@ -1,3 +1,4 @@
+-- `read_runs`: its clauses `gives`, `text`, `inside` and `taken`, that its loop keeps what it has to, and what `read_run` asks for.
 use Rattle.std.proofs.Common.{List, drop, refl, sym, subst, arith}
 use Rattle.byte_map.specs.Image.{Run}
 use Rattle.std.proofs.lemmas.Result.{err_from_is_err_and}

@@ -1,3 +1,4 @@
+-- `read_runs`: what holds at each turn of its loop.
 use Rattle.job_file.proofs.ImageLemmas.{RunsSoFar}
 use Rattle.job_file.proofs.image.read_runs.Given as goal
 

@@ -1,3 +1,4 @@
+-- `judge`: its clause `refused`.
 use Rattle.std.proofs.Common.{refl, subst}
 use Rattle.job_text.specs.declared.job.Class.{Class}
 use Rattle.job_text.specs.Stands.{StandsFor, IsClassOf}

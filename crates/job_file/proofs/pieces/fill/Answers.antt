@@ -1,3 +1,4 @@
+-- `fill`: that its loop keeps what it has to.
 use Rattle.std.proofs.Common.{rules, ◌≡◌, ◌≤◌, ◌+◌, ◌-◌, ◌∙◌, length, take, drop, ap, refl, arith, List, ℕ}
 use Rattle.std.proofs.lemmas.List.{places, length-take, length-drop}
 use Rattle.bench_model.proofs.Moments.{only_reads_then}

@@ -1,3 +1,4 @@
+-- `snapshot_into`: what `file_read` asks for.
 use Rattle.std.proofs.Common.{length, arith}
 use Rattle.job_file.proofs.TextLemmas.{some_cells, snapshot_within}
 use Rattle.job_file.proofs.snapshot.snapshot_into.Goals as goal

@@ -1,3 +1,4 @@
+-- `check_files`: its contract, `CountsFiles`.
 use Rattle.std.proofs.Common.{sym, ◌∙◌}
 use Rattle.job_file.proofs.TextsLemmas.{files_differ}
 use Rattle.job_file.proofs.texts.check_files.Goals as goal

@@ -1,3 +1,4 @@
+-- `read_board`: its clauses `gives` and `fits`.
 use Rattle.std.proofs.Common.{ℕ, List, Result, drop, sym, subst}
 use Rattle.faults.specs.Results.{◌>>=◌}
 use Rattle.board_file.specs.Shown as board

@@ -1,3 +1,4 @@
+-- `read_file`: its clause `gives`.
 use Rattle.std.proofs.Common.{◌∙◌, drop, refl, sym}
 use Rattle.board_file.specs.Shown as board
 use Rattle.flm_descriptor.specs.Shown as flm

@@ -1,3 +1,4 @@
+-- `read_said`: its clauses `gives` and `fit`, and what `read_file` and `read_second` ask for.
 use Rattle.std.proofs.Common.{◌≡◌, ◌+◌, ◌∙◌, true, ℕ, List, Ok, length, drop, refl, ap, subst, arith}
 use Rattle.board_file.specs.declared.region.Region.{Region}
 use Rattle.board_file.specs.Shown as board

@@ -1,3 +1,4 @@
+-- `read_second`: its clause `gives`.
 use Rattle.std.proofs.Common.{◌≡◌, ◌∙◌, ◌+◌, ℕ, Some, Ok, drop, sym, ap, arith}
 use Rattle.board_file.specs.Shown as board
 use Rattle.job_file.specs.Readers.{file_there}

@@ -1,3 +1,4 @@
+-- `status`: its contract, `StatusEnds`.
 use Rattle.std.proofs.Common.{rules, ◌≢◌, ◌∙◌, ap, sym, refl, sum_by}
 use Rattle.board_file.specs.Shown as board
 use Rattle.flm_descriptor.specs.declared.device.Device.{Device}

@@ -1,3 +1,4 @@
+-- `Draws::put`: that its loop keeps what it has to.
 use Rattle.std.proofs.Common.{sym}
 use Rattle.demo_job.proofs.GeneratorLemmas.{begin_bytes, more_bytes, more_state, not_after}
 use Rattle.demo_job.proofs.draws.Draws.put.Goals as goal

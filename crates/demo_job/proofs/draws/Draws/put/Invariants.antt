@@ -1,3 +1,4 @@
+-- `Draws::put`: what holds at each turn of its loop.
 use Rattle.std.proofs.Common.{◌≡◌, ◌++◌}
 use Rattle.demo_job.specs.Generator.{draws, after}
 use Rattle.demo_job.proofs.draws.Draws.put.Given as goal

@@ -1,3 +1,4 @@
+-- `Part::erase_item`: its contract, `IsItem`.
 use Rattle.std.proofs.Common.{◌∙◌, sym}
 use Rattle.flash_session.proofs.ItemLemmas.{by_sectors}
 use Rattle.flash_session.proofs.part.Part.erase_item.Goals as goal

@@ -1,3 +1,4 @@
+-- `Part::find_page`: that it keeps its contract, and that its loop keeps what it has to.
 use Rattle.std.proofs.Common.{◌∙◌, length, get_or, false, sym, arith}
 use Rattle.flash_session.specs.Script.{page_at}
 use Rattle.flash_session.proofs.Lists.{none_of}

@@ -1,3 +1,4 @@
+-- `Part::find_page`: what holds at each turn of its loop.
 use Rattle.std.proofs.Common.{◌≡◌, ℕ, Bool, List}
 use Rattle.algo_calls.specs.Setups.{Setup}
 use Rattle.flash_session.specs.Items.{pages_on}

@@ -1,3 +1,4 @@
+-- `Part::find_sector`: that it keeps its contract, and that its loop keeps what it has to.
 use Rattle.std.proofs.Common.{◌∙◌, length, get_or, false, sym, arith}
 use Rattle.flash_session.specs.Script.{sector_moves}
 use Rattle.flash_session.proofs.Lists.{none_of}

@@ -1,3 +1,4 @@
+-- `Part::find_sector`: what holds at each turn of its loop.
 use Rattle.std.proofs.Common.{◌≡◌, ℕ, List}
 use Rattle.algo_calls.specs.Setups.{Setup}
 use Rattle.flash_session.specs.Items.{sectors_on}

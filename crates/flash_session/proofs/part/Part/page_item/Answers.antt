@@ -1,3 +1,4 @@
+-- `Part::page_item`: its contract, `IsItem`.
 use Rattle.std.proofs.Common.{arith}
 use Rattle.flash_session.proofs.ItemLemmas.{page_next}
 use Rattle.flash_session.proofs.part.Part.page_item.Goals as goal

@@ -1,3 +1,4 @@
+-- `Part::sector_item`: its contract, `IsItem`.
 use Rattle.std.proofs.Common.{arith}
 use Rattle.flash_session.proofs.ItemLemmas.{sector_next}
 use Rattle.flash_session.proofs.part.Part.sector_item.Goals as goal

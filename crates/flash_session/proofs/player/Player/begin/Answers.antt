@@ -1,3 +1,4 @@
+-- `Player::begin`: its clause `step`.
 use Rattle.flash_session.proofs.StepLemmas.{step_begins, step_behind}
 use Rattle.flash_session.proofs.player.Player.begin.Goals as goal
 

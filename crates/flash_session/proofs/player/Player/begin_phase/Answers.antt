@@ -1,3 +1,4 @@
+-- `Player::begin_phase`: its clauses `turns`, `host` and `one`.
 use Rattle.std.proofs.Common.{refl, ap}
 use Rattle.flash_session.specs.declared.player.Player.{Player}
 use Rattle.flash_session.proofs.TakesLemmas.{begins_so, breaks_so}

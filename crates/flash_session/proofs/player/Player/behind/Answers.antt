@@ -1,3 +1,4 @@
+-- `Player::behind`: its clause `step`.
 use Rattle.std.proofs.Common.{Bool, sym, subst, ◌∙◌}
 use Rattle.flash_session.specs.declared.cursor.Step.TheVariants as step
 use Rattle.flash_session.specs.Steps.{IsStepBehind}

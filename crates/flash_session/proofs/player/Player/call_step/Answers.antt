@@ -1,3 +1,4 @@
+-- `Player::call_step`: its clause `step`.
 use Rattle.std.proofs.Common.{◌+◌, ℕ, ap, sym, subst}
 use Rattle.algo_calls.specs.declared.call.Call.TheVariants.{UnInit}
 use Rattle.flash_session.specs.declared.cursor.Cursor.{Cursor}

@@ -1,3 +1,4 @@
+-- `Player::close`: its clauses `turns` and `still`.
 use Rattle.std.proofs.Common.{refl}
 use Rattle.flash_session.proofs.TurnMade.{done_turn, store_turn}
 use Rattle.flash_session.proofs.player.Player.close.Goals as goal

@@ -1,3 +1,4 @@
+-- `Player::compare_through`: its clauses `turns`, `one` and `still`.
 use Rattle.std.proofs.Common.{◌≡◌, ◌≤◌, ◌<◌, ◌+◌, ◌-◌, ◌∙◌, min, ℕ, List, [], Option, Some, None, length, take, refl, sym, ap, subst, arith}
 use Rattle.std.proofs.lemmas.List.{length-take}
 use Rattle.bench_model.specs.Counted.{is_store_fault, is_device_fault}

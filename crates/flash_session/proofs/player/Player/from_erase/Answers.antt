@@ -1,3 +1,4 @@
+-- `Player::from_erase`: its contract, `IsPhaseFrom`.
 use Rattle.std.proofs.Common.{Bool, subst}
 use Rattle.flash_session.specs.declared.phase.Phase.TheVariants as stage
 use Rattle.flash_session.specs.Steps.{has_phase}

@@ -1,3 +1,4 @@
+-- `Player::go`: its clause `follows`, and that its loop keeps what it has to.
 use Rattle.std.proofs.Common.{◌≡◌, false, sym, subst}
 use Rattle.flash_session.specs.declared.phase.Phase.TheVariants as stage
 use Rattle.flash_session.specs.declared.cursor.Cursor.TheVariants as at

@@ -1,3 +1,4 @@
+-- `Player::go_on`: its clauses `turns`, `one` and `slice`.
 use Rattle.std.proofs.Common.{refl}
 use Rattle.flash_session.proofs.TakesLemmas.{judges_so, slice_more, slice_ended}
 use Rattle.flash_session.proofs.TurnMade.{further_turn, came_turn}

@@ -1,3 +1,4 @@
+-- `Player::has_calls`: that it keeps its contract.
 use Rattle.std.proofs.Common.{Bool, sym, subst}
 use Rattle.flash_session.specs.Steps.{has_phase}
 use Rattle.flash_session.proofs.StepLemmas.{any_item}

@@ -1,3 +1,4 @@
+-- `Player::host`: its clauses `turns` and `host`.
 use Rattle.flash_session.specs.Targets.{goal_for}
 use Rattle.flash_session.proofs.player.Player.host.Goals as goal
 

@@ -1,3 +1,4 @@
+-- `Player::last_reset`: its clauses `turns`, `host` and `one`.
 use Rattle.std.proofs.Common.{refl}
 use Rattle.flash_session.proofs.TakesLemmas.{resets_so, last_breaks_so}
 use Rattle.flash_session.proofs.TurnMade.{last_turn, reset_broken}

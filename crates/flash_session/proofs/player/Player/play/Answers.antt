@@ -1,3 +1,4 @@
+-- `Player::play`: its clauses `turns`, `one` and `slice`.
 use Rattle.std.proofs.Common.{◌≡◌}
 use Rattle.flash_session.proofs.TakesLemmas.{takes_from, slice_from}
 use Rattle.flash_session.specs.Targets.{goal_for}

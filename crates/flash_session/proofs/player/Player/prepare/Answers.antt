@@ -1,3 +1,4 @@
+-- `Player::prepare`: its clauses `turns`, `host` and `one`.
 use Rattle.std.proofs.Common.{◌∙◌, ◌≤◌, ℕ, List, length, refl, sym, ap, subst}
 use Rattle.flash_session.proofs.ReadLemmas.{kept_items}
 use Rattle.flash_session.proofs.TakesLemmas.{prepares_so, unread_so}

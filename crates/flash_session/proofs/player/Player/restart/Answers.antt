@@ -1,3 +1,4 @@
+-- `Player::restart`: its contract, `Restarts`, and what `turn_to` asks for.
 use Rattle.std.proofs.Common.{refl}
 use Rattle.flash_session.proofs.MachineLemmas.{restarts_by, twins_kept}
 use Rattle.flash_session.proofs.player.Player.restart.Goals as goal

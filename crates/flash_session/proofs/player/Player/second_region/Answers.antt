@@ -1,3 +1,4 @@
+-- `Player::second_region`: its clause `step`.
 use Rattle.flash_session.proofs.StepLemmas.{second_begins, second_ends}
 use Rattle.flash_session.proofs.player.Player.second_region.Goals as goal
 

@@ -1,3 +1,4 @@
+-- `Player::step`: its clause `step`.
 use Rattle.std.proofs.Common.{ℕ, sym, subst}
 use Rattle.algo_calls.specs.declared.call.Call.TheVariants.{Init}
 use Rattle.flash_session.specs.declared.cursor.Cursor.{Cursor}

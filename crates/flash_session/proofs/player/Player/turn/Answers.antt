@@ -1,3 +1,4 @@
+-- `Player::turn`: its clauses `turns` and `slice`.
 use Rattle.std.proofs.Common.{◌∙◌, sym}
 use Rattle.flash_session.specs.Targets.{goal_for}
 use Rattle.flash_session.specs.declared.cursor.Place.TheVariants as place

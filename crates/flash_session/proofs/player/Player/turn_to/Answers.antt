@@ -1,3 +1,4 @@
+-- `Player::turn_to`: its contract, `TurnsTo`.
 use Rattle.std.proofs.Common.{refl}
 use Rattle.flash_session.proofs.MachineLemmas.{differ_by, turned_to}
 use Rattle.flash_session.proofs.player.Player.turn_to.Goals as goal

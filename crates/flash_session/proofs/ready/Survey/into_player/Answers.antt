@@ -1,3 +1,4 @@
+-- `Survey::into_player`: its contract, `IsPlayerOf`.
 use Rattle.flash_session.proofs.GoLemmas.{anew_player}
 use Rattle.flash_session.proofs.ready.Survey.into_player.Goals as goal
 

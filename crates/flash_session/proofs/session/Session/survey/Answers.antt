@@ -1,3 +1,4 @@
+-- `Session::survey`: its clauses `store` and `device`.
 use Rattle.std.proofs.Common.{◌∙◌, ap}
 use Rattle.std.proofs.lemmas.Result.{err_from_is_err_and}
 use Rattle.bench_model.specs.Counted.{is_store_fault, is_device_fault}

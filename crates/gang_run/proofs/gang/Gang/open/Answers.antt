@@ -1,6 +1,6 @@
 use Rattle.std.proofs.Common.{◌≤◌, ◌^◌, ◌∙◌, ℕ, List, get_or, sym, ap, subst, arith}
 use Rattle.ram_arena.specs.Windows.{total, blank}
-use Rattle.gang_run.proofs.OpeningLemmas.{opening_first, opening_on, looked_last, sizes_fit, all_opened, all_ready, is_gang}
+use Rattle.gang_run.proofs.OpeningLemmas.{opening_first, opening_on, looked_last, sizes_fit, all_opened, all_synced, all_ready, is_gang}
 use Rattle.gang_run.proofs.gang.Gang.open.Goals as goal
 
 pub loop-index-init : goal.loop-index-init
@@ -9,7 +9,7 @@ loop-index-init g c = rw (c.new-slots.ensures.items, c.new-sizes.ensures.items) 
 pub loop-index-preserved : goal.loop-index-preserved
 loop-index-preserved g c =
     opening_on g.B.Bench c.args.benches.now c.loop-index.benches c.loop-index.slots.items c.loop-index.sizes.items c.loop-index.index (get_or c.loop-index.benches c.loop-index.index c.index-benches-index.result) c.add_slot.new.bench c.add_slot.new.slots.items c.add_slot.new.sizes.items
-    c.loop-index.invariant (omega (arith, c.loop-index.invariant.count, c.loop-index-test.true)) (ap (λ x. get_or c.loop-index.benches c.loop-index.index x) c.index-benches-index.is) c.in-Ok.ensures.added c.add_slot.ensures.looked
+    c.loop-index.invariant (omega (arith, c.loop-index.invariant.count, c.loop-index-test.true)) (ap (λ x. get_or c.loop-index.benches c.loop-index.index x) c.index-benches-index.is) c.in-Ok.ensures.added c.add_slot.ensures.looked c.add_slot.ensures.first
 
 pub returns-in-Err-clause-looked : goal.returns-in-Err-clause-looked
 returns-in-Err-clause-looked g c = λ i d less.
@@ -21,6 +21,11 @@ new-requires-clause-bytes g c = subst (λ (l : List ℕ). total l ≤ 2 ^ 30) (s
 
 pub returns-clause-opened : goal.returns-clause-opened
 returns-clause-opened g c = all_opened g.B.Bench c.args.benches.now c.loop-index.benches (record { arena = c.in_ok-arena.arena; slots = c.loop-index.slots }) c.loop-index.sizes.items c.loop-index.index c.loop-index.invariant (omega (arith, c.loop-index.invariant.count, c.loop-index-test.false)) (c.in_ok-arena.ensures ∙ ap (λ (l : List ℕ). blank l) c.deref.ensures.value)
+
+pub returns-clause-first : goal.returns-clause-first
+returns-clause-first g c =
+    all_synced g.B.Bench c.args.benches.now c.loop-index.benches c.loop-index.slots.items c.loop-index.sizes.items c.loop-index.index
+    c.loop-index.invariant (omega (arith, c.loop-index.invariant.count, c.loop-index-test.false))
 
 pub returns-clause-gang : goal.returns-clause-gang
 returns-clause-gang g c = is_gang g.B.Bench c.args.benches.now c.loop-index.benches (record { arena = c.in_ok-arena.arena; slots = c.loop-index.slots }) c.loop-index.sizes.items c.loop-index.index c.loop-index.invariant (omega (arith, c.loop-index.invariant.count, c.loop-index-test.false)) (c.in_ok-arena.ensures ∙ ap (λ (l : List ℕ). blank l) c.deref.ensures.value) c.loop-index.invariant.within

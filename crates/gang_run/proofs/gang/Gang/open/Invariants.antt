@@ -1,3 +1,4 @@
+-- `Gang::open`: what holds at each turn of its loop.
 use Rattle.gang_run.specs.Opens.{Opening}
 use Rattle.gang_run.proofs.gang.Gang.open.Given as goal
 

@@ -1,3 +1,4 @@
+-- `Gang::round`: that its loop keeps what it has to.
 use Rattle.std.proofs.Common.{refl}
 use Rattle.gang_run.proofs.GangLemmas.{round_here, round_on, round_then}
 use Rattle.gang_run.proofs.gang.Gang.round.Goals as goal

@@ -1,3 +1,4 @@
+-- `Gang::round`: what holds at each turn of its loop.
 use Rattle.gang_run.specs.Gangs.{Rounding, GivesTurns, one_round}
 use Rattle.gang_run.proofs.gang.Gang.round.Given as goal
 

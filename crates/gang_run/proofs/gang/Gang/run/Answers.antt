@@ -1,3 +1,4 @@
+-- `Gang::run`: its clauses `gives`, `since`, `kept` and `count`, and that its loop keeps what it has to.
 use Rattle.std.proofs.Common.{refl}
 use Rattle.gang_run.proofs.GangLemmas.{playing_here, round_more}
 use Rattle.gang_run.proofs.gang.Gang.run.Goals as goal

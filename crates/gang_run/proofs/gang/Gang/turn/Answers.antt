@@ -1,3 +1,4 @@
+-- `Gang::turn`: its clauses `turn`, `gang`, `ready` and `one`.
 use Rattle.std.proofs.Common.{get_or, refl, ap, arith}
 use Rattle.std.specs.Vec.{with_item}
 use Rattle.gang_run.proofs.GangLemmas.{one_turn, gang_now, ready_now, takes_at}

@@ -1,3 +1,4 @@
+-- `Gang::turns`: its clause `gives`, and that its loop keeps what it has to.
 use Rattle.std.proofs.Common.{List, refl, subst, arith}
 use Rattle.std.proofs.lemmas.List.{take_all}
 use Rattle.gang_run.specs.declared.gang.Asked.{Asked}

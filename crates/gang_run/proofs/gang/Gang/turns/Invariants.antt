@@ -1,3 +1,4 @@
+-- `Gang::turns`: what holds at each turn of its loop.
 use Rattle.std.proofs.Common.{take}
 use Rattle.gang_run.specs.Gangs.{GivesTurns, Playing}
 use Rattle.gang_run.proofs.gang.Gang.turns.Given as goal

@@ -1,3 +1,4 @@
+-- `Slot::turn`: its clauses `turns` and `one`.
 use Rattle.std.proofs.Common.{refl}
 use Rattle.gang_run.proofs.GangLemmas.{slot_went, slot_took, slot_rests}
 use Rattle.gang_run.proofs.slot.Slot.turn.Goals as goal
