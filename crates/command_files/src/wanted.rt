@@ -254,6 +254,6 @@ fn add_image(
     ensures err { IfErr result (IsAddFault raw_at file.now into.old) }
 {
     let image = read_any(alloc, file, raw_at)?;
-    merge(alloc, into, &image)?;
+    merge(alloc, into, image)?;
     Ok(())
 }

@@ -2,6 +2,7 @@
 use Rattle.std.specs.Prelude.{◌≡◌, ◌≤◌, ◌<◌, ◌^◌, ◌⊎◌, ℕ, List, [], ◌∷◌, ◌++◌, length, All, slice_index, codes, Option, Some, None, IsSome}
 use Rattle.std.specs.Str.Parse.{IsNumeral, digits_value}
 use Rattle.command_words.specs.Files.{FilesAsked, names_in}
+pub use Rattle.command_words.specs.Files.{Command, program, begin, resume, revert, plan, verify, compare, status, inspect, dump, demo, names_asked}
 use Rattle.command_words.specs.declared.command.CommandName.{CommandName}
 use Rattle.command_words.specs.declared.command.CommandName.TheVariants.{Program, Begin, Resume, Revert, Plan, Verify, Compare, Status, Inspect, Dump, Demo}
 use Rattle.command_words.specs.declared.command.TextForm.{TextForm}
@@ -190,20 +191,7 @@ IsBegin words files = IsOnTarget Begin words files
 abbrev pub IsPlan : List (List ℕ) → FilesAsked → Type 0
 IsPlan words files = IsOnTarget Plan words files
 
--- What words ask for: a command, with the names of its files or its number.
-
-pub data Command : Type 0 where
-  program : (files : FilesAsked) → Command
-  begin : (files : FilesAsked) → Command
-  resume : Command
-  revert : Command
-  plan : (files : FilesAsked) → Command
-  verify : (files : FilesAsked) → Command
-  compare : (image : List ℕ) → Command
-  status : Command
-  inspect : (flm : List ℕ) → Command
-  dump : (form : TextForm) → (board : List ℕ) → Command
-  demo : (seed : ℕ) → Command
+-- What words ask for.
 
 abbrev pub Asks : List (List ℕ) → Command → Type 0
 Asks words (program files) = IsProgram words files
@@ -217,17 +205,6 @@ Asks words status = HasNoName Status words
 Asks words (inspect flm) = IsInspect words flm
 Asks words (dump form board) = IsDump words form board
 Asks words (demo seed) = IsDemo words seed
-
--- the names of the files that a command may take, in the order of the words
-abbrev pub names_asked : Command → List (List ℕ)
-names_asked (program files) = names_in files
-names_asked (begin files) = names_in files
-names_asked (plan files) = names_in files
-names_asked (verify files) = names_in files
-names_asked (compare image) = image ∷ []
-names_asked (inspect flm) = flm ∷ []
-names_asked (dump form board) = board ∷ []
-names_asked _ = []
 
 -- the words fit no command
 abbrev pub AsksNothing : List (List ℕ) → Type 0

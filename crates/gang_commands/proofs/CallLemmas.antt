@@ -1,27 +1,19 @@
 -- What the answers of a gang say of its status and of each bench.
-use Rattle.std.proofs.Common.{◌≡◌, ◌⊎◌, ⊎_elim, inl, inr, ◌<◌, ◌≤◌, ◌+◌, ◌∙◌, refl, sym, ap, subst, arith, ℕ, zero, suc, false, IsTrue, List, [], ◌∷◌, length, get_or, None}
+use Rattle.std.proofs.Common.{◌≡◌, ⊎_elim, inl, inr, ◌<◌, ◌∙◌, refl, sym, ap, subst, arith, ℕ, zero, suc, false, IsTrue, List, [], ◌∷◌, length, get_or, None}
 use Rattle.std.proofs.lemmas.List.{length-map}
 use Rattle.faults.specs.Counts.{Rose}
 use Rattle.bench_model.specs.declared.bench.Bench.{Ghosts}
 use Rattle.bench_model.specs.Counted.{is_store_fault, is_device_fault, IsCounted}
-use Rattle.bench_model.specs.Pairs.{PairsLeave}
-use Rattle.bench_model.specs.State.{BenchState, Left, file_half, cells_half}
+use Rattle.bench_model.specs.State.{BenchState, file_half, cells_half}
 use Rattle.bench_model.proofs.Moments.{goes_here}
 use Rattle.board_file.specs.Limits.{size_of}
 use Rattle.board_file.specs.Shown as board
-use Rattle.byte_map.specs.Image.{Run}
 use Rattle.flm_descriptor.specs.Shown as flm
 use Rattle.algo_calls.specs.Duties.{AllServe}
-use Rattle.job_text.specs.Body as text
-use Rattle.job_text.specs.Body.{body_of}
-use Rattle.job_text.specs.Files.{IsFree, IsWhole}
 use Rattle.job_text.specs.Said.{algorithms_shown}
-use Rattle.job_text.specs.Stands.{StandsFor, IsSomeJob, snapshot_in}
+use Rattle.job_text.specs.Stands.{StandsFor}
 use Rattle.job_text.specs.declared.job.Job.{Job}
 use Rattle.job_file.specs.declared.fault.OpenFault.TheVariants as opening
-use Rattle.campaign.specs.Campaign.{Keeps, WorkStops}
-use Rattle.campaign.specs.Stops.{CampaignJob, IsDone}
-use Rattle.flash_session.specs.declared.session.Reached.{Reached}
 use Rattle.flash_session.specs.declared.session.SessionEnd.{SessionEnd}
 use Rattle.flash_session.specs.declared.session.SessionEnd.TheVariants as end
 use Rattle.flash_session.specs.declared.fault.SessionFault.{SessionFault}
@@ -31,7 +23,6 @@ use Rattle.flash_session.specs.declared.fault.SurveyFault.TheVariants as survey
 use Rattle.flash_session.specs.declared.goal.Goal.{Goal}
 use Rattle.flash_session.specs.declared.goal.Goal.TheVariants.{New}
 use Rattle.flash_session.specs.Goals.{goal_in}
-use Rattle.job_text.specs.Laid.{overlaid}
 use Rattle.flash_session.specs.Opened.{IsSessionFault}
 use Rattle.flash_session.specs.Outcome.{Follows, end_fault, IsReached}
 use Rattle.flash_session.specs.Script.{Leg}
@@ -42,23 +33,22 @@ use Rattle.command_answers.specs.Call.{SinkCall}
 use Rattle.command_answers.proofs.FileLemmas.{AreOne, not_free, one_job}
 use Rattle.job_commands.specs.Refused.{of_session, of_survey}
 use Rattle.report_text.specs.Refusal.{status_of}
-use Rattle.report_text.proofs.StatusLemmas.{some_status}
 use Rattle.flash_session.specs.declared.target_end.TargetEnd.{TargetEnd}
 use Rattle.flash_session.specs.declared.target_end.TargetEnd.TheVariants as ended
 use Rattle.flash_session.specs.Alone.{FollowsAs}
-use Rattle.flash_session.specs.Guarded.{FileEnd}
 use Rattle.gang_run.specs.declared.gang.Gang.{Gang}
 use Rattle.gang_run.specs.Gangs.{AreReady}
 use Rattle.gang_run.specs.Opening.{AreOpened}
 use Rattle.gang_run.specs.Slots.{OpensWithMemory, HasMemory}
 use Rattle.flash_session.specs.Turns.{target_fault}
-use Rattle.gang_commands.specs.Ends.{AllFinished, as_resume, KeepsOn, AllKeep, IsServed, AllServed, NoneRose, NoneRoseIn}
+use Rattle.gang_commands.specs.Ends.{AllFinished, KeepsOn, AllKeep, IsServed, AllServed, NoneRose, NoneRoseIn}
 use Rattle.gang_commands.specs.Gangs.{HasNoUsage, HasNoMemory, HaveEnded, Answers}
 use Rattle.gang_commands.specs.Lines.{Outcome, reason_in, status_before, status_in}
 use Rattle.gang_commands.specs.Puts.{outcome_of, outcomes, Runs}
 use Rattle.gang_commands.specs.Words.{DoFit}
-use Rattle.gang_commands.specs.Works.{aim_of, Carries, Comes, IsSound}
+use Rattle.gang_commands.specs.Works.{Carries, Comes, IsSound}
 use Rattle.gang_commands.proofs.CarryLemmas.{all_end}
+use Rattle.gang_commands.proofs.TargetLemmas.{done_first, finished_by, keeps_by, looked_on}
 use Rattle.gang_commands.proofs.WordLemmas.{some_benches}
 
 -- ---- statuses
@@ -92,16 +82,6 @@ all_usage : (ends : List Outcome) → status_in ends ≡ 2 → ⊥
 all_usage [] is = omega (arith, is)
 all_usage (x ∷ xs) is = all_usage xs (no_usage x x.end (status_in xs) is)
 
--- with status 0 it is done, and so are those behind it
-done_first : (o : Outcome) (e : TargetEnd) (rest : ℕ) → status_before (reason_in o.regions e) rest ≡ 0 → (e ≡ ended.Done) × (rest ≡ 0)
-done_first o ended.Done rest is = (refl, is)
-done_first o (ended.Open fault) rest is = absurd (omega (arith, some_status (of_session fault), is))
-done_first o (ended.Survey fault) rest is = absurd (omega (arith, some_status (of_survey fault), is))
-done_first o (ended.CallFailed number call e) rest is = absurd (omega (arith, is))
-done_first o (ended.Mismatch d) rest is = absurd (omega (arith, is))
-done_first o ended.StoreFault rest is = absurd (omega (arith, is))
-done_first o ended.DeviceFault rest is = absurd (omega (arith, is))
-
 all_done : (ends : List Outcome) (i : ℕ) (x : Outcome) → i < length ends → status_in ends ≡ 0 → (get_or ends i x).end ≡ ended.Done
 all_done [] i x less is = absurd (omega (arith, less))
 all_done (y ∷ ys) zero x less is = (done_first y y.end (status_in ys) is).0
@@ -111,91 +91,6 @@ none_left : (ends : List Outcome) → ((i : ℕ) (x : Outcome) → i < length en
 none_left [] each = refl
 none_left (y ∷ ys) each =
     ap (λ (e : TargetEnd). status_before (reason_in y.regions e) (status_in ys)) (each 0 y (omega arith)) ∙ none_left ys (λ i x less. each (suc i) x (omega (arith, less)))
-
--- ---- one bench
-
-some_job : {B : Type 0} (G : Ghosts B) (s : BenchState) (x : Outcome) (t : BenchState) → Carries G s x t → IsSomeJob s.file
-some_job G s x t c = record { job = c.stands.text; board = board.shown c.job.board; algorithms = algorithms_shown c.job.algorithms; is = c.stands.is; whole = c.stands.whole }
-
-its_goal : (j : Job) (s : BenchState) (stands : StandsFor j s.file) → goal_in j New s.file ≡ overlaid stands.text.image j.board.regions stands.text.snapshot
-its_goal j s stands = ap (λ (r : List Run). overlaid r j.board.regions (snapshot_in j s.file)) (sym stands.image) ∙ ap (λ (c : List ℕ). overlaid stands.text.image j.board.regions c) (sym stands.snapshot)
-
--- its job is done
-its_done : {B : Type 0} (G : Ghosts B) (s : BenchState) (x : Outcome) (t : BenchState) (c : Carries G s x t) → x.end ≡ ended.Done
-    → IsDone (body_of c.stands.text) (aim_of c.stands.text (board.shown c.job.board)).laid t
-its_done G s x t c is =
-    let follows : FollowsAs (job_legs c.job c.surveyed s.file) (goal_in c.job New s.file) (job_start c.job (G.state c.begun).cells) ended.Done (G.state c.begun) t =
-    subst (λ (e : TargetEnd). FollowsAs (job_legs c.job c.surveyed s.file) (goal_in c.job New s.file) (job_start c.job (G.state c.begun).cells) e (G.state c.begun) t) is c.follows in
-    let r : Reached = record {} in
-    let reached = follows r in
-    record {
-      file = subst (λ (e : TargetEnd). FileEnd (body_of c.stands.text) e t.file) is c.file;
-      idle = c.closed is;
-      cells = reached.ends.1 ∙ its_goal c.job s c.stands;
-    }
-
-abbrev KeepsFor : ℕ → BenchState → BenchState → CampaignJob → Type 0
-KeepsFor status s t aim = (turn : ℕ) × ((end : ℕ) → s.moment ≤ end → end ≤ t.moment → Keeps aim (as_resume status s t turn end))
-
--- a bench that was only looked at
-looked_keeps : (status : ℕ) (s t : BenchState) (aim : CampaignJob) → PairsLeave s t (Left s) → (status ≡ 0 → ⊥) → KeepsFor status s t aim
-looked_keeps status s t aim pairs not_zero = (
-  t.moment + 1,
-  (λ end from to. record {
-    later = from;
-    in_time = to;
-    stands = λ whole. record {
-      pairs = record {
-        started = omega (arith, pairs.files.later);
-        later = pairs.files.later;
-        before = λ k f c at_from at_to less f_at c_at. inl (pairs.each k f c at_from at_to f_at c_at);
-        from = λ k f c at_from at_to f_at c_at. absurd (omega (arith, at_from, at_to));
-      };
-    };
-    idle = λ is_free. record { never = omega arith; pairs = λ k f c at_from at_to f_at c_at. pairs.each k f c at_from at_to f_at c_at };
-    zero = λ is_zero whole. absurd (not_zero is_zero);
-    not_free = λ is_zero is_free. absurd (not_zero is_zero);
-  }),
-)
-
--- one whose job was carried
-carried_keeps : {B : Type 0} (G : Ghosts B) (status : ℕ) (s : BenchState) (x : Outcome) (t : BenchState) (c : Carries G s x t) → (status ≡ 0 → x.end ≡ ended.Done)
-    → KeepsFor status s t (aim_of c.stands.text (board.shown c.job.board))
-carried_keeps G status s x t c done = (
-  c.turn,
-  (λ end from to. record {
-    later = from;
-    in_time = to;
-    stands = λ whole. subst (λ (r : List Run). WorkStops s t c.turn (body_of c.stands.text) (overlaid r c.job.board.regions c.stands.text.snapshot)) (sym c.stands.image) c.stops;
-    idle = λ is_free. absurd (not_free c.stands.text s.file c.stands.whole is_free);
-    zero = λ is_zero whole. its_done G s x t c (done is_zero);
-    not_free = λ is_zero is_free. absurd (not_free c.stands.text s.file c.stands.whole is_free);
-  }),
-)
-
-one_keeps : {B : Type 0} (G : Ghosts B) (status : ℕ) (s : BenchState) (x : Outcome) (t : BenchState) → Carries G s x t → (status ≡ 0 → x.end ≡ ended.Done) → KeepsOn status s t
-one_keeps G status s x t c done = record {
-  keeps = λ job b algorithms is class. ⊎_elim
-      (λ (is_free : IsFree s.file). absurd (not_free c.stands.text s.file c.stands.whole is_free))
-      (λ (whole : IsWhole (body_of job) s.file).
-      let one : AreOne c.stands.text job (board.shown c.job.board) b (algorithms_shown c.job.algorithms) algorithms = one_job s.file c.stands.is is c.stands.whole whole in
-      subst (λ (k : text.Job). KeepsFor status s t (aim_of k b)) one.job
-      (subst (λ (y : board.Shown). KeepsFor status s t (aim_of c.stands.text y)) one.board (carried_keeps G status s x t c done)))
-      class;
-  idle = λ none. absurd (none (some_job G s x t c));
-}
-
-looked_on : (status : ℕ) (s t : BenchState) → PairsLeave s t (Left s) → (status ≡ 0 → ⊥) → KeepsOn status s t
-looked_on status s t pairs not_zero = record { keeps = λ job b algorithms is class. looked_keeps status s t (aim_of job b) pairs not_zero; idle = λ none. pairs }
-
-keeps_by : {B : Type 0} (G : Ghosts B) (status : ℕ) (s : BenchState) (x : Outcome) (t : BenchState) (e : TargetEnd) → x.end ≡ e → Comes G s x t e → (status ≡ 0 → x.end ≡ ended.Done) → KeepsOn status s t
-keeps_by G status s x t ended.Done is comes done = one_keeps G status s x t comes done
-keeps_by G status s x t (ended.Open fault) is comes done = looked_on status s t comes.0.pairs (λ is_zero. let no_ : ended.Open fault ≡ ended.Done = sym is ∙ done is_zero in cc)
-keeps_by G status s x t (ended.Survey fault) is comes done = looked_on status s t comes.0.pairs (λ is_zero. let no_ : ended.Survey fault ≡ ended.Done = sym is ∙ done is_zero in cc)
-keeps_by G status s x t (ended.CallFailed number call e) is comes done = one_keeps G status s x t comes done
-keeps_by G status s x t (ended.Mismatch d) is comes done = one_keeps G status s x t comes done
-keeps_by G status s x t ended.StoreFault is comes done = one_keeps G status s x t comes done
-keeps_by G status s x t ended.DeviceFault is comes done = one_keeps G status s x t comes done
 
 -- ---- where the algorithms keep their duties
 
@@ -329,12 +224,8 @@ module _ {B : Type 0} (G : Ghosts B) (words : ℕ) (benches after : List B) (out
 
     pub ended_finished : IsTrue G.tells → status ≡ 0 → AllFinished G benches after
     ended_finished told is i d less =
-        let s : BenchState = G.state (get_or benches i d) in
-        let t : BenchState = G.state (get_or after i d) in
-        let x : Outcome = get_or have.ends i none in
-        let done : x.end ≡ ended.Done = zero_done is i none less in
-        let c : Carries G s x t = subst (λ (e : TargetEnd). Comes G s x t e) done ((have.ended i d none less).comes told) in
-        record { job = c.stands.text; board = board.shown c.job.board; algorithms = algorithms_shown c.job.algorithms; is = c.stands.is; stood = c.stands.whole; done = its_done G s x t c done }
+        finished_by G (G.state (get_or benches i d)) (get_or have.ends i none) (G.state (get_or after i d)) ((have.ended i d none less).comes told)
+        (zero_done is i none less)
 
     pub ended_keeps : IsTrue G.tells → AllKeep G status benches after
     ended_keeps told i d less =

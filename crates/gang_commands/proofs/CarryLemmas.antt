@@ -69,8 +69,8 @@ sound_script : (n : ℕ) (e : TargetEnd) → IsScriptEnd e → IsSound n e
 sound_script n ended.Done is = tt
 sound_script n (ended.Open fault) is = absurd is
 sound_script n (ended.Survey fault) is = absurd is
-sound_script n (ended.CallFailed number call end) is = tt
-sound_script n (ended.Mismatch d) is = tt
+sound_script n (ended.CallFailed number call end) is = is
+sound_script n (ended.Mismatch d) is = is
 sound_script n ended.StoreFault is = tt
 sound_script n ended.DeviceFault is = tt
 

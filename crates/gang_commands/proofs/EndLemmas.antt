@@ -24,7 +24,8 @@ of_job s e is = record {
   free = λ is_free. absurd (not_free is.some.job s.file is.some.whole is_free);
   not_job = λ at no. absurd (no.none.no_job is.some.job is.some.board is.some.algorithms is.some.is is.some.whole);
   is_damaged = λ kept found damage. absurd (never_jobs s.file kept found damage is.some.job is.some.board is.some.algorithms is.some.is is.some.whole);
-  other_size = λ some unequal. absurd (unequal (ap (λ (b : board.Shown). size_of b.regions) (one_job s.file some.is is.some.is some.whole is.some.whole).board ∙ is.size));
+  other_size = λ some unequal. absurd (unequal (ap (λ (b : board.Shown). size_of b.regions) (one_job s.file some.is is.some.is some.whole is.some.whole).board
+      ∙ is.size));
 }
 
 abbrev refusal : OpenFault → TargetEnd
@@ -65,13 +66,16 @@ by_session s (session.Open (opening.CellsDiffer said found)) memory is = record 
   not_job = λ at no. absurd (no.none.no_job is.some.job is.some.board is.some.algorithms is.some.is is.some.whole);
   is_damaged = λ kept was damage. absurd (never_jobs s.file kept was damage is.some.job is.some.board is.some.algorithms is.some.is is.some.whole);
   other_size = λ some unequal.
-      let said_is : said ≡ size_of some.board.regions = is.said_is ∙ ap (λ (b : board.Shown). size_of b.regions) (one_job s.file is.some.is some.is is.some.whole some.whole).board in
-      inl (ap (λ (n : ℕ). refusal (opening.CellsDiffer n found)) said_is ∙ ap (λ (n : ℕ). refusal (opening.CellsDiffer (size_of some.board.regions) n)) is.found_is);
+      let said_is : said ≡ size_of some.board.regions = is.said_is
+      ∙ ap (λ (b : board.Shown). size_of b.regions) (one_job s.file is.some.is some.is is.some.whole some.whole).board in
+      inl (ap (λ (n : ℕ). refusal (opening.CellsDiffer n found)) said_is
+      ∙ ap (λ (n : ℕ). refusal (opening.CellsDiffer (size_of some.board.regions) n)) is.found_is);
 }
 by_session s session.DeviceFault memory is = of_job s (ended.Open session.DeviceFault) is
 
 -- it was refused, and its bench was only looked at
-pub refused_ends : {B : Type 0} (G : Ghosts B) (s t : BenchState) (e : TargetEnd) → IsLookedAt G.tells s t → IsRefused G.tells e s t → EndsOn G s (record { end = e; regions = None }) t
+pub refused_ends : {B : Type 0} (G : Ghosts B) (s t : BenchState) (e : TargetEnd) → IsLookedAt G.tells s t → IsRefused G.tells e s t
+    → EndsOn G s (record { end = e; regions = None }) t
 refused_ends G s t ended.Done looked is = absurd is
 refused_ends G s t (ended.Open fault) looked is = record {
   sound = (is.memory, is.sound);

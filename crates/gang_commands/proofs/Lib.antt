@@ -1,6 +1,7 @@
 mod LineLemmas
 mod RefusalLemmas
-mod WordLemmas
+pub mod WordLemmas
 mod EndLemmas
 mod CarryLemmas
+pub mod TargetLemmas
 mod CallLemmas

@@ -1,5 +1,6 @@
 -- The lines of targets, one after the other, and the status of the first that isn't done.
-use Rattle.std.proofs.Common.{◌≡◌, ◌<◌, ◌≤◌, ◌+◌, ◌∙◌, refl, sym, ap, arith, ℕ, zero, suc, Bool, List, [], ◌∷◌, ◌++◌, length, get_or, take, drop, append_assoc, append-nil, Option, Some, None, Result, Ok, Err, IsErr}
+use Rattle.std.proofs.Common.{◌≡◌, ◌<◌, ◌≤◌, ◌+◌, ◌∙◌, refl, sym, ap, arith, ℕ, zero, suc, Bool, List, [], ◌∷◌, ◌++◌, length, get_or, take, drop, append_assoc}
+use Rattle.std.proofs.Common.{append-nil, Option, Some, None, Result, Ok, Err, IsErr}
 use Rattle.std.proofs.lemmas.List.{take_more, take_all, take-append-drop, length-take, length-map, get_or-map}
 use Rattle.outside_io.specs.Puts.{Puts}
 use Rattle.outside_io.specs.State.{SinkState}
@@ -29,7 +30,8 @@ lines_more n (x ∷ xs) ys =
     ∙ ap (λ (k : ℕ). line ++ (lines_from (n + 1) xs ++ lines_from k ys)) next
     ∙ sym (append_assoc line (lines_from (n + 1) xs) (lines_from (n + length (x ∷ xs)) ys))
 
-one_more : (ends : List Outcome) (k : ℕ) (d : Outcome) → k < length ends → lines_of (take (k + 1) ends) ≡ lines_of (take k ends) ++ target_line (k + 1) (reason (get_or ends k d))
+one_more : (ends : List Outcome) (k : ℕ) (d : Outcome) → k < length ends
+    → lines_of (take (k + 1) ends) ≡ lines_of (take k ends) ++ target_line (k + 1) (reason (get_or ends k d))
 one_more ends k d less =
     let x : Outcome = get_or ends k d in
     let index : 1 + length (take k ends) ≡ k + 1 = omega (arith, length-take k ends, less) in
@@ -65,8 +67,10 @@ PutsUpto tells old now ends k status = Puts tells old now (lines_of (take k ends
 pub puts_first : (tells : Bool) (a : SinkState) (ends : List Outcome) → PutsUpto tells a a ends 0 0
 puts_first tells a ends = (puts_nothing tells a tt, refl)
 
-module _ (tells : Bool) (a b c : SinkState) (ends : List Outcome) (k status : ℕ) (d : Outcome) (less : k < length ends) (upto : PutsUpto tells a b ends k status) (said : Option Refusal) (is : said ≡ reason (get_or ends k d)) where
-  pub puts_one : (u : Unit {0}) (next : ℕ) → Puts tells b c (target_line (k + 1) said) (Ok u) → next ≡ status_behind status said → PutsUpto tells a c ends (k + 1) next
+module _ (tells : Bool) (a b c : SinkState) (ends : List Outcome) (k status : ℕ) (d : Outcome) (less : k < length ends)
+    (upto : PutsUpto tells a b ends k status) (said : Option Refusal) (is : said ≡ reason (get_or ends k d)) where
+  pub puts_one : (u : Unit {0}) (next : ℕ) → Puts tells b c (target_line (k + 1) said) (Ok u) → next ≡ status_behind status said
+      → PutsUpto tells a c ends (k + 1) next
   puts_one u next put next_is =
       let x : Outcome = get_or ends k d in
       let line : target_line (k + 1) said ≡ target_line (k + 1) (reason x) = ap (λ (r : Option Refusal). target_line (k + 1) r) is in (
@@ -80,11 +84,13 @@ module _ (tells : Bool) (a b c : SinkState) (ends : List Outcome) (k status : �
       let x : Outcome = get_or ends k d in
       let rest : List ℕ = lines_from (1 + length (take (k + 1) ends)) (drop (k + 1) ends) in
       let text : (lines_of (take k ends) ++ target_line (k + 1) said) ++ rest ≡ lines_of ends =
-      ap (λ (r : Option Refusal). (lines_of (take k ends) ++ target_line (k + 1) r) ++ rest) is ∙ ap (λ (l : List ℕ). l ++ rest) (sym (one_more ends k d less)) ∙ whole_lines ends (k + 1) in
+      ap (λ (r : Option Refusal). (lines_of (take k ends) ++ target_line (k + 1) r) ++ rest) is ∙ ap (λ (l : List ℕ). l ++ rest) (sym (one_more ends k d less))
+      ∙ whole_lines ends (k + 1) in
       let puts : Puts tells a c (lines_of ends) (Err e) = puts_as text (puts_stops rest (puts_then (Err e) upto.0 put)) in
       record { taken = puts.err; later = puts.cause.later; rose = puts.cause.on_fault refl }
 
-pub puts_all : (tells : Bool) (a b : SinkState) (ends : List Outcome) (k status : ℕ) → length ends ≤ k → PutsUpto tells a b ends k status → PutsEnds (sink_call tells a b) ends (Ok status)
+pub puts_all : (tells : Bool) (a b : SinkState) (ends : List Outcome) (k status : ℕ) → length ends ≤ k → PutsUpto tells a b ends k status
+    → PutsEnds (sink_call tells a b) ends (Ok status)
 puts_all tells a b ends k status most upto =
     let puts : Puts tells a b (lines_of ends) (Ok tt) = puts_as (ap lines_of (take_all k ends most)) upto.0 in
     (record { taken = puts.ok; faults = puts.cause.on_ok refl }, upto.1 ∙ ap status_in (take_all k ends most))
@@ -95,7 +101,8 @@ puts_ended out ends (Ok status) failed part = absurd (cc failed)
 puts_ended out ends (Err e) failed part = part
 
 -- the refusal of a target in its place
-pub in_place : (g : Gang) (i : ℕ) (d : Outcome) (said : Option Refusal) → i < length g.slots.items → said ≡ reason (outcome_of (slot_at g i)) → said ≡ reason (get_or (outcomes g) i d)
+pub in_place : (g : Gang) (i : ℕ) (d : Outcome) (said : Option Refusal) → i < length g.slots.items → said ≡ reason (outcome_of (slot_at g i))
+    → said ≡ reason (get_or (outcomes g) i d)
 in_place g i d said less is = is ∙ ap reason (sym (get_or-map outcome_of g.slots.items i (slot.Refused (ended.Survey survey.StoreFault)) d less))
 
 pub within : (g : Gang) (i : ℕ) → i < length g.slots.items → i < length (outcomes g)

@@ -1,5 +1,6 @@
 -- Words that are pairs for benches.
-use Rattle.std.proofs.Common.{zero, suc, ◌↔◌, ◌∙◌, sym, subst, Bool, true, false, ◌≡◌, ◌≢◌, ◌≤◌, ◌/◌, ◌%◌, arith, ℕ}
+use Rattle.std.proofs.Common.{zero, suc, ◌↔◌, ◌⊎◌, ⊎_elim, inl, inr, ◌∙◌, sym, subst, Bool, true, false, ◌≡◌, ◌≢◌, ◌<◌, ◌≤◌, ◌*◌, ◌/◌, ◌%◌, arith, ℕ}
+use Rattle.std.proofs.lemmas.Bool.{cases_eq, cases_lt}
 use Rattle.gang_commands.specs.Words.{DoFit}
 
 pub pairs_fit : (words benches : ℕ) → words ≢ 0 → words ≤ 32 → words % 2 ≡ 0 → words / 2 ≡ benches → DoFit words benches
@@ -14,6 +15,22 @@ some_benches words (suc n) fit = omega arith
 
 pub few_benches : (words benches : ℕ) → DoFit words benches → benches ≤ 16
 few_benches words benches fit = omega (arith, fit.few, fit.twice)
+
+-- they fit or don't
+pub fits_or_not : (words benches : ℕ) → DoFit words benches ⊎ (DoFit words benches → ⊥)
+fits_or_not words benches = ⊎_elim
+    (λ (none : words ≡ 0). inr (λ (fit : DoFit words benches). fit.some none))
+    (λ (some : words ≢ 0). ⊎_elim
+    (λ (even : words % 2 ≡ 0). ⊎_elim
+    (λ (twice : words ≡ 2 * benches). ⊎_elim
+    (λ (many : 32 < words). inr (λ (fit : DoFit words benches). omega (arith, many, fit.few)))
+    (λ (few : words ≤ 32). inl (record { some = some; even = even; few = few; twice = twice }))
+    (cases_lt 32 words))
+    (λ (other : words ≢ 2 * benches). inr (λ (fit : DoFit words benches). other fit.twice))
+    (cases_eq words (2 * benches)))
+    (λ (odd : words % 2 ≢ 0). inr (λ (fit : DoFit words benches). odd fit.even))
+    (cases_eq (words % 2) 0))
+    (cases_eq words 0)
 
 -- by whether they were found to fit
 

@@ -17,6 +17,7 @@ use Rattle.flash_session.specs.declared.fault.SessionFault.TheVariants as sessio
 use Rattle.flash_session.specs.declared.goal.Goal.TheVariants.{New}
 use Rattle.flash_session.specs.Goals.{goal_in}
 use Rattle.flash_session.specs.Opened.{IsJobOf, IsSessionFault, IsSoundSession}
+use Rattle.flash_session.specs.Plays.{IsNotDone}
 use Rattle.job_text.specs.Laid.{overlaid}
 use Rattle.flash_session.specs.Sessions.{job_legs}
 use Rattle.flash_session.specs.Starts.{job_start}
@@ -82,12 +83,13 @@ pub record ComesBy (s : BenchState) (e : TargetEnd) : Type 0 where
   pub other_size : (some : IsSomeJob s.file) → size_of some.board.regions ≢ s.cell_count
       → IsRefusedBy e (opening.CellsDiffer (size_of some.board.regions) s.cell_count)
 
--- what an end says for itself, on every bench: there was memory, and numbers of cells or hashes that are told differ
+-- What an end says for itself, on every bench: there was memory, and numbers of cells or hashes that are told differ; a call that failed has a
+-- number, and was neither done nor broken off by a device fault; the two bytes of a mismatch differ.
 abbrev pub IsSound : ℕ → TargetEnd → Type 0
 IsSound count ended.Done = Unit {0}
 IsSound count (ended.Open fault) = OpensWithMemory fault × IsSoundSession count fault
 IsSound count (ended.Survey fault) = HasMemory fault
-IsSound count (ended.CallFailed number call e) = Unit {0}
-IsSound count (ended.Mismatch d) = Unit {0}
+IsSound count (ended.CallFailed number call e) = IsNotDone number e
+IsSound count (ended.Mismatch d) = d.want ≢ d.got
 IsSound count ended.StoreFault = Unit {0}
 IsSound count ended.DeviceFault = Unit {0}

@@ -5,8 +5,8 @@ use Rattle.flash_session.specs.declared.goal.Goal.{Goal}
 use Rattle.flash_session.specs.declared.goal.Goal.TheVariants.{New, Old}
 use Rattle.report_text.specs.Refusal.{out_of_memory, input_fault, store_fault, device_fault, output_fault}
 use Rattle.job_text.specs.Body as written
-use Rattle.command_words.specs.Files.{FilesAsked}
-use Rattle.command_words.specs.Words.{Command, Asks, program, begin, resume, revert, plan, verify, compare, status, inspect, dump, demo}
+use Rattle.command_words.specs.Files.{FilesAsked, Command, program, begin, resume, revert, plan, verify, compare, status, inspect, dump, demo}
+use Rattle.command_words.specs.Words.{Asks}
 use Rattle.command_answers.specs.Call as answers
 use Rattle.command_answers.specs.Call.{BenchCall, SinkCall, Answer, done, refused}
 use Rattle.command_answers.specs.Said.{Says as SaysOn}

@@ -1,7 +1,11 @@
--- For each of its benches a call of a gang is a call of `resume`.
-use Rattle.std.proofs.Common.{◌≡◌, ◌≢◌, ◌⊎◌, ⊎_elim, inl, inr, ℕ, List, None}
-use Rattle.std.proofs.lemmas.Bool.{cases_eq}
+-- What a call for several benches promises: for each of them, by its own status and line, it is a call of `resume`.
+use Rattle.std.proofs.Common.{◌≡◌, ◌≢◌, ◌⊎◌, ⊎_elim, inl, inr, ◌∙◌, refl, sym, ap, subst, ◌+◌, ◌<◌, arith, cond, Bool, true, false, IsTrue}
+use Rattle.std.proofs.Common.{ℕ, zero, suc, List, [], ◌∷◌, ◌++◌, append-nil, length, get_or, map, Option, Some, None}
+use Rattle.std.proofs.lemmas.Bool.{cases_eq, ne_eqb, false≢true}
+use Rattle.std.proofs.lemmas.List.{length-map, get_or-map}
+use Rattle.bench_model.specs.declared.bench.Bench.{Ghosts}
 use Rattle.bench_model.specs.State.{BenchState}
+use Rattle.outside_io.specs.Appends.{AppendsPart}
 use Rattle.board_file.specs.Shown as board
 use Rattle.flm_descriptor.specs.Shown as flm
 use Rattle.job_text.specs.Files.{IsFree, IsWhole}
@@ -9,14 +13,29 @@ use Rattle.job_text.specs.Body.{Job, body_of}
 use Rattle.job_text.specs.Jobs.{IsJob}
 use Rattle.job_text.specs.Stands.{IsSomeJob}
 use Rattle.campaign.specs.Stops.{IsDone}
+use Rattle.report_text.specs.Refusal.{Refusal, status_of, usage, out_of_memory}
+use Rattle.report_text.specs.Target.{target_line}
+use Rattle.report_text.proofs.DoneLemmas.{only_done}
+use Rattle.report_text.proofs.PlainLemmas.{IsOfGang, is_of_gang, said_of, line_is, one_line}
+use Rattle.report_text.proofs.StatusLemmas.{some_status}
 use Rattle.command_answers.proofs.FileLemmas.{not_free}
+use Rattle.command_answers.specs.Call.{SinkCall}
+use Rattle.command_answers.specs.Said.{TookNothing}
+use Rattle.flash_session.specs.declared.target_end.TargetEnd.TheVariants as ended
 use Rattle.gang_commands.specs.Works.{aim_of}
-use Rattle.gang_commands.specs.Ends.{HasFinished, KeepsOn}
-use Rattle.command_words.specs.Words.{resume}
+use Rattle.gang_commands.specs.Ends.{HasFinished, KeepsOn, AllKeep}
+use Rattle.gang_commands.specs.Gangs.{HasNoUsage, HasNoMemory, HaveEnded, Answers}
+use Rattle.gang_commands.specs.Lines.{Outcome, reason, lines_from, status_before, status_in}
+use Rattle.gang_commands.specs.Words.{DoFit}
+use Rattle.gang_commands.proofs.TargetLemmas.{done_alone, its_reason, finished_by, keeps_by}
+use Rattle.gang_commands.proofs.WordLemmas.{fits_or_not}
+use Rattle.command_words.specs.Files.{resume}
 use Rattle.promise.specs.Job.{laid}
-use Rattle.promise.specs.Promise.{Call, IsRefused, GoesOn, Keeps, call_of}
+use Rattle.promise.specs.Promise.{Call, IsRefused, GoesOn, Keeps, call_of, Target, TargetKeeps, lines_of, first_status, GangKeeps}
 use Rattle.promise.proofs.ClassLemmas.{IsDamagedSo, IsNoJobSo, AreBytes, never_damaged, something}
 use Rattle.promise.proofs.CarryLemmas.{job_of, says}
+
+-- ---- one bench
 
 module _ (status : ℕ) (s t : BenchState) (keeps : KeepsOn status s t) where
   abbrev call : Call
@@ -55,3 +74,163 @@ module _ (status : ℕ) (s t : BenchState) (keeps : KeepsOn status s t) where
       rest)
       (something s.file bytes))
       (cases_eq status 0)
+
+-- ---- one target
+
+-- the target of this number, which is done, or isn't for this reason
+abbrev target_of : ℕ → Option Refusal → Target
+target_of number why = record { status = status_before why 0; line = target_line number why }
+
+no_status : (why : Option Refusal) → why ≡ None → status_before why 0 ≡ 0
+no_status why is = ap (λ (r : Option Refusal). status_before r 0) is
+
+no_reason : (why : Option Refusal) → status_before why 0 ≡ 0 → why ≡ None
+no_reason None is = refl
+no_reason (Some r) is = absurd (omega (arith, some_status r, is))
+
+target_keeps : (s t : BenchState) (number : ℕ) (why : Option Refusal) → IsOfGang why → AreBytes s.file → KeepsOn (status_before why 0) s t
+    → (status_before why 0 ≡ 0 → HasFinished s t) → TargetKeeps s t number (target_of number why)
+target_keeps s t number why of bytes keeps finished = record {
+  keeps = resumes (status_before why 0) s t keeps finished bytes;
+  said = said_of why;
+  line_is = line_is number why;
+  one_line = one_line why of;
+  done = (
+    (λ is. no_status why (only_done number why is)),
+    (λ is. ap (λ (r : Option Refusal). target_line number r) (no_reason why is)),
+  );
+}
+
+-- ---- all of them, counted from a number on
+
+abbrev targets_from : ℕ → List (Option Refusal) → List Target
+targets_from number [] = []
+targets_from number (why ∷ rest) = target_of number why ∷ targets_from (number + 1) rest
+
+as_many : (number : ℕ) (reasons : List (Option Refusal)) → length (targets_from number reasons) ≡ length reasons
+as_many number [] = refl
+as_many number (why ∷ rest) = omega (arith, as_many (number + 1) rest)
+
+target_at : (number place : ℕ) (reasons : List (Option Refusal)) (i : ℕ) (t : Target) (r : Option Refusal) → place ≡ number + i → i < length reasons
+    → get_or (targets_from number reasons) i t ≡ target_of place (get_or reasons i r)
+target_at number place [] i t r is less = absurd (omega (arith, less))
+target_at number place (why ∷ rest) zero t r is less = let same : number ≡ place = omega (arith, is) in ap (λ (n : ℕ). target_of n why) same
+target_at number place (why ∷ rest) (suc i) t r is less = target_at (number + 1) place rest i t r (omega (arith, is)) (omega (arith, less))
+
+same_lines : (number : ℕ) (ends : List Outcome) → lines_of (targets_from number (map reason ends)) ≡ lines_from number ends
+same_lines number [] = refl
+same_lines number (x ∷ rest) = ap (λ (l : List ℕ). target_line number (reason x) ++ l) (same_lines (number + 1) rest)
+
+first_of : (number : ℕ) (why : Option Refusal) (targets : List Target) (rest : ℕ) → first_status targets ≡ rest
+    → first_status (target_of number why ∷ targets) ≡ status_before why rest
+first_of number None targets rest is = is
+first_of number (Some r) targets rest is =
+    ap (λ (b : Bool). cond b (first_status targets) (status_of r)) (ne_eqb (status_of r) 0 (λ none. omega (arith, some_status r, none)))
+
+same_status : (number : ℕ) (ends : List Outcome) → first_status (targets_from number (map reason ends)) ≡ status_in ends
+same_status number [] = refl
+same_status number (x ∷ rest) = first_of number (reason x) (targets_from (number + 1) (map reason rest)) (status_in rest) (same_status (number + 1) rest)
+
+-- a beginning that the output took, where it tells what it took
+record IsPart (tells : Bool) (text before after : List ℕ) : Type 0 where
+  said : List ℕ
+  rest : List ℕ
+  is : text ≡ said ++ rest
+  output : IsTrue tells → after ≡ before ++ said
+
+part_of : (tells : Bool) (text before after : List ℕ) → (IsTrue tells → AppendsPart text before after) → IsPart tells text before after
+part_of true text before after took =
+    let it = took refl in
+    record { said = it.part; rest = it.rest; is = it.piece_is; output = λ told. it.appended }
+part_of false text before after took = record { said = []; rest = text; is = refl; output = λ told. absurd (false≢true told) }
+
+-- ---- the call
+
+module _ {B : Type 0} (G : Ghosts B) (told : IsTrue G.tells) (bytes : (b : B) → AreBytes (G.state b).file) (benches after : List B) (out err : SinkCall)
+    (status : ℕ) where
+  abbrev Kept : Type 0
+  Kept = GangKeeps G benches after out.tells out.before.taken out.after.taken status
+
+  -- it was refused as a whole
+  refused_call : (r : Refusal) → is_of_gang r ≡ true → status ≡ status_of r → (status ≡ 1) ⊎ (status ≡ 2) → TookNothing out
+      → AllKeep G status benches after → Kept
+  refused_call r of is which nothing keep =
+      let reasons : List (Option Refusal) = map (λ (b : B). Some r) benches in
+      let long : length reasons ≡ length benches = length-map benches (λ (b : B). Some r) in
+      record {
+        targets = targets_from 1 reasons;
+        count = as_many 1 reasons ∙ long;
+        each = λ i b t less.
+            let s = G.state (get_or benches i b) in
+            let within : i < length reasons = omega (arith, less, long) in
+            let why : get_or reasons i None ≡ Some r = get_or-map (λ (b : B). Some r) benches i b None less in
+            let keeps : KeepsOn (status_of r) s (G.state (get_or after i b)) =
+            subst (λ (n : ℕ). KeepsOn n s (G.state (get_or after i b))) is (keep i b less) in
+            subst (λ (x : Target). TargetKeeps s (G.state (get_or after i b)) (i + 1) x)
+            (sym (target_at 1 (i + 1) reasons i t None (omega arith) within ∙ ap (λ (w : Option Refusal). target_of (i + 1) w) why))
+            (target_keeps s (G.state (get_or after i b)) (i + 1) (Some r) of (bytes (get_or benches i b)) keeps
+            (λ zero. absurd (omega (arith, some_status r, zero))));
+        said = [];
+        says = inr (inr (which, refl));
+        output = λ tells. nothing.taken ∙ sym (append-nil out.before.taken);
+      }
+
+  module _ (have : HaveEnded G benches after out err status) where
+    abbrev reasons : List (Option Refusal)
+    reasons = map reason have.ends
+
+    long : length reasons ≡ length have.ends
+    long = length-map have.ends reason
+
+    each_target : (i : ℕ) (b : B) (t : Target) → i < length benches
+        → TargetKeeps (G.state (get_or benches i b)) (G.state (get_or after i b)) (i + 1) (get_or (targets_from 1 reasons) i t)
+    each_target i b t less =
+        let none : Outcome = record { end = ended.StoreFault; regions = None } in
+        let s = G.state (get_or benches i b) in
+        let now = G.state (get_or after i b) in
+        let x : Outcome = get_or have.ends i none in
+        let comes = (have.ended i b none less).comes told in
+        let inside : i < length have.ends = omega (arith, less, have.each) in
+        let within : i < length reasons = omega (arith, inside, long) in
+        let why : get_or reasons i None ≡ reason x = get_or-map reason have.ends i none None inside in
+        subst (λ (y : Target). TargetKeeps s now (i + 1) y)
+        (sym (target_at 1 (i + 1) reasons i t None (omega arith) within ∙ ap (λ (w : Option Refusal). target_of (i + 1) w) why))
+        (target_keeps s now (i + 1) (reason x) (its_reason x) (bytes (get_or benches i b))
+        (keeps_by G (status_before (reason x) 0) s x now x.end refl comes (done_alone x))
+        (λ zero. finished_by G s x now comes (done_alone x zero)))
+
+    count_is : length (targets_from 1 reasons) ≡ length benches
+    count_is = as_many 1 reasons ∙ long ∙ have.each
+
+    ended_call : Kept
+    ended_call = ⊎_elim
+        (λ whole. record {
+          targets = targets_from 1 reasons;
+          count = count_is;
+          each = each_target;
+          said = lines_from 1 have.ends;
+          says = inl (whole.1 ∙ sym (same_status 1 have.ends), sym (same_lines 1 have.ends));
+          output = λ tells. whole.0.taken tells;
+        })
+        (λ part.
+        let it = part_of out.tells (lines_from 1 have.ends) out.before.taken out.after.taken part.0.taken in
+        record {
+          targets = targets_from 1 reasons;
+          count = count_is;
+          each = each_target;
+          said = it.said;
+          says = inr (inl (it.rest, part.1.0, same_lines 1 have.ends ∙ it.is));
+          output = it.output;
+        })
+        have.says
+
+  pub gang_keeps : (words : ℕ) → Answers G words benches after out err status → AllKeep G status benches after → Kept
+  gang_keeps words answers keep = ⊎_elim
+      (λ (fit : DoFit words (length benches)). ⊎_elim
+      (λ (wants : HasNoMemory G benches after out err status). refused_call out_of_memory refl wants.says.0 (inl wants.says.0) wants.prints keep)
+      (λ (have : HaveEnded G benches after out err status). ended_call have)
+      (answers.fit fit))
+      (λ (unfit : DoFit words (length benches) → ⊥).
+      let has : HasNoUsage benches after out err status = answers.unfit unfit in
+      refused_call usage refl has.says.0 (inr has.says.0) has.prints keep)
+      (fits_or_not words (length benches))

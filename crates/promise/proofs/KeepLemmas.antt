@@ -1,7 +1,7 @@
 -- What a call answers keeps the promise.
 use Rattle.std.proofs.Common.{IsTrue, Some}
 use Rattle.flash_session.specs.declared.goal.Goal.TheVariants.{New, Old}
-use Rattle.command_words.specs.Words.{Command, program, begin, resume, revert, plan, verify, compare, status, inspect, dump, demo}
+use Rattle.command_words.specs.Files.{Command, program, begin, resume, revert, plan, verify, compare, status, inspect, dump, demo}
 use Rattle.command_answers.specs.Call as answers
 use Rattle.flm_cli.specs.Answers.{Answers}
 use Rattle.promise.specs.Promise.{Keeps}

@@ -5,8 +5,7 @@ use Rattle.job_text.specs.Files.{IsFree}
 use Rattle.campaign.specs.Stops.{IsDone, IsEntered, last_at, IsSafe}
 use Rattle.flash_session.specs.declared.goal.Goal.{Goal}
 use Rattle.flash_session.specs.declared.goal.Goal.TheVariants.{New, Old}
-use Rattle.command_words.specs.Files.{FilesAsked}
-use Rattle.command_words.specs.Words.{Command, program, begin, resume, revert}
+use Rattle.command_words.specs.Files.{FilesAsked, Command, program, begin, resume, revert}
 use Rattle.promise.specs.Job.{Job, laid, aim_of}
 use Rattle.promise.specs.Promise.{Call, IsRefused, IsBegun, Keeps}
 

@@ -5,8 +5,7 @@ use Rattle.flm_descriptor.specs.Shown as flm
 use Rattle.algo_calls.specs.Duties.{AllServe}
 use Rattle.job_text.specs.Files.{IsFree, IsWhole}
 use Rattle.job_text.specs.Jobs.{IsJob}
-use Rattle.command_words.specs.Files.{FilesAsked}
-use Rattle.command_words.specs.Words.{Command, program, begin, resume, revert}
+use Rattle.command_words.specs.Files.{FilesAsked, Command, program, begin, resume, revert}
 use Rattle.promise.specs.Job.{Job}
 use Rattle.promise.specs.Texts.{Says, IsOfFiles}
 use Rattle.promise.specs.Promise.{Call}

@@ -23,7 +23,8 @@ aim_of job = record { body = job.body; laid = laid job; snapshot = job.snapshot 
 
 -- What it is that an image is laid over cells: each becomes the image's byte at its address, and stays where the image has none.
 abbrev pub EachCellIsLaid : Type 0
-EachCellIsLaid = (image : List Run) (regions : List Region) (cells : List ℕ) (place at : ℕ) → place < length cells → address_at regions place ≡ Some at
+EachCellIsLaid = (image : List Run) (regions : List Region) (cells : List ℕ) (place at : ℕ) → place < length cells
+    → address_at regions place ≡ Some at
     → get_or (overlaid image regions cells) place 0 ≡ unwrap_or (byte_at image at) (get_or cells place 0)
 
 -- There are as many cells as before.

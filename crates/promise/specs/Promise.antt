@@ -1,11 +1,13 @@
 -- What a call of the programmer promises: what its status 0 means, and what a stop of the power leaves at any moment in it.
-use Rattle.std.specs.Prelude.{◌≡◌, ◌≢◌, ◌≤◌, ◌<◌, ◌⊎◌, ℕ, List, length, get_or, Option, None}
+use Rattle.std.specs.Prelude.{◌≡◌, ◌≢◌, ◌≤◌, ◌<◌, ◌+◌, ◌==◌, ◌⊎◌, ◌↔◌, ℕ, Bool, IsTrue, All, List, [], ◌∷◌, ◌++◌, length, get_or}
+use Rattle.std.specs.Prelude.{codes, Option, None, if◌then◌else◌}
+use Rattle.std.specs.List.{flat_map}
 use Rattle.bench_model.specs.declared.bench.Bench.{Ghosts}
 use Rattle.bench_model.specs.State.{BenchState, Left, SameOutside}
 use Rattle.job_text.specs.Files.{IsFree, IsWhole}
+use Rattle.report_text.specs.DoneLine.{target_head, done_line}
 use Rattle.campaign.specs.Stops.{IsUntouched, IsAtClose, IsDone}
-use Rattle.command_words.specs.Files.{FilesAsked}
-use Rattle.command_words.specs.Words.{Command, program, begin, resume, revert}
+use Rattle.command_words.specs.Files.{FilesAsked, Command, program, begin, resume, revert}
 use Rattle.promise.specs.Job.{Job, laid}
 use Rattle.promise.specs.Texts.{Says, IsOfFiles}
 
@@ -18,7 +20,7 @@ pub record Call : Type 1 where
   pub output_faults : ℕ × ℕ
   pub status : ℕ
 
--- This holds of each moment of the call, with each file and the cells beside it that a stop may leave then.
+-- This holds of each moment of the call, with each file, and the cells beside it, that a stop of the power may leave then.
 abbrev pub AtEachStop : Call → (ℕ → List ℕ → List ℕ → Type 0) → Type 0
 AtEachStop call Leaves = (moment : ℕ) (file cells : List ℕ) → call.old.moment ≤ moment → moment ≤ call.new.moment
     → call.new.files_at moment file → call.new.cells_at moment cells → Leaves moment file cells
@@ -29,12 +31,13 @@ pub record IsRefused (call : Call) : Type 0 where
   pub stopped : AtEachStop call (λ moment file cells. Left call.old file cells)
 
 -- A call carries a job to a goal. With status 0 the cells are the goal, no operation is open, and the file is closed behind the job. Up to
--- its close a stop leaves what has First, or the job whole in its file; from then on the cells are the goal, and the file is whole or closed.
-pub record Carries (call : Call) (job : Job) (goal : List ℕ) (First : List ℕ → List ℕ → Type 0) : Type 0 where
+-- the moment of its close a stop leaves file and cells as at the entry, in the sense of the command, or the job whole in its file; from then
+-- on the cells are the goal, and the file is whole or closed.
+pub record Carries (call : Call) (job : Job) (goal : List ℕ) (AsEntered : List ℕ → List ℕ → Type 0) : Type 0 where
   pub says : Says job
   pub done : call.status ≡ 0 → IsDone job.body goal call.new
   pub closing : ℕ
-  pub before : AtEachStop call (λ moment file cells. moment < closing → First file cells ⊎ IsWhole job.body file)
+  pub before : AtEachStop call (λ moment file cells. moment < closing → AsEntered file cells ⊎ IsWhole job.body file)
   pub from : AtEachStop call (λ moment file cells. closing ≤ moment → IsAtClose job.body goal file cells)
 
 -- A job of these files is begun over a free file. Its snapshot is the cells of the entry, but in the range of an operation that was open.
@@ -62,7 +65,7 @@ pub record GoesOn (call : Call) (goal_of : Job → List ℕ) : Type 0 where
   pub whole : IsWhole job.body call.old.file
   pub carries : Carries call job (goal_of job) (Left call.old)
 
--- What a call promises, by the command that its words ask for.
+-- What a call promises, by the command that its words ask for. A command that isn't named here works on no job.
 abbrev pub Keeps : Command → Call → Type 0
 Keeps (program asked) call = IsRefused call ⊎ Programs call asked
 Keeps (begin asked) call = IsRefused call ⊎ Begins call asked
@@ -75,7 +78,44 @@ abbrev pub call_of : (List ℕ → Option (List ℕ)) → BenchState → BenchSt
 call_of under old new input_faults output_faults status =
     record { under = under; old = old; new = new; input_faults = input_faults; output_faults = output_faults; status = status }
 
--- What a call for several benches promises, which takes no inputs: for each of them it is a call of `resume`.
-abbrev pub AllResume : {B : Type 0} → Ghosts B → ℕ → List B → List B → Type 0
-AllResume {B} G status benches benches' = (i : ℕ) (b : B) → i < length benches
-    → Keeps resume (call_of (λ name. None) (G.state (get_or benches i b)) (G.state (get_or benches' i b)) (0, 0) (0, 0) status)
+-- ---- several benches
+
+-- A target is one of several benches, by its number: the status that the call has for it alone, and the line that says what came of it.
+pub record Target : Type 0 where
+  pub status : ℕ
+  pub line : List ℕ
+
+-- For this bench alone the call is one of `resume`, which takes no inputs, with the target's status. The line is one line, begins with the
+-- target's number, and is the one that says done exactly where that status is 0.
+pub record TargetKeeps (old new : BenchState) (number : ℕ) (target : Target) : Type 0 where
+  pub keeps : Keeps resume (call_of (λ name. None) old new (0, 0) (0, 0) target.status)
+  pub said : List ℕ
+  pub line_is : target.line ≡ target_head number ++ (said ++ codes "\n")
+  pub one_line : All (λ (byte : ℕ). byte ≢ 10) said
+  pub done : (target.line ≡ done_line number) ↔ (target.status ≡ 0)
+
+-- the lines, one after the other
+abbrev pub lines_of : List Target → List ℕ
+lines_of targets = flat_map (λ (target : Target). target.line) targets
+
+-- the first status that isn't 0, and 0 where each is
+abbrev pub first_status : List Target → ℕ
+first_status [] = 0
+first_status (target ∷ rest) = if target.status == 0 then first_status rest else target.status
+
+-- A call answers the first status that isn't 0, and says all lines; or it answers 10, where the output failed, and says a beginning of them;
+-- or it answers 1, for want of memory, or 2, by its words, and says nothing.
+abbrev pub SaysLines : List Target → ℕ → List ℕ → Type 0
+SaysLines targets status said = ((status ≡ first_status targets) × (said ≡ lines_of targets))
+    ⊎ (((rest : List ℕ) × (status ≡ 10) × (lines_of targets ≡ said ++ rest))
+    ⊎ (((status ≡ 1) ⊎ (status ≡ 2)) × (said ≡ [])))
+
+-- What a call for several benches promises, of what stands on the output before and after it. Targets are counted from 1.
+pub record GangKeeps {B : Type 0} (G : Ghosts B) (benches benches' : List B) (tells : Bool) (before after : List ℕ) (status : ℕ) : Type 0 where
+  pub targets : List Target
+  pub count : length targets ≡ length benches
+  pub each : (i : ℕ) (b : B) (t : Target) → i < length benches
+      → TargetKeeps (G.state (get_or benches i b)) (G.state (get_or benches' i b)) (i + 1) (get_or targets i t)
+  pub said : List ℕ
+  pub says : SaysLines targets status said
+  pub output : IsTrue tells → after ≡ before ++ said

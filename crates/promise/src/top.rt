@@ -1,7 +1,8 @@
 //! The top call, with the promise as its contract.
 ghost use Rattle.std.specs.Prelude.{IsTrue, All};
-ghost use Rattle.command_words.specs.Words.{Command, Asks, names_asked};
-ghost use Rattle.promise.specs.Promise.{Keeps, AllResume, call_of};
+ghost use Rattle.command_words.specs.Files.{Command, names_asked};
+ghost use Rattle.command_words.specs.Words.{Asks};
+ghost use Rattle.promise.specs.Promise.{Keeps, GangKeeps, call_of};
 ghost use Rattle.promise.specs.Complete.{Completes};
 
 use bench_model::Bench;
@@ -30,7 +31,7 @@ pub fn flash<B: Bench, I: Inputs, O: Sink, E: Sink>(
     flmprog(alloc, words, bench, inputs, out, err)
 }
 
-/// Carries the job of each bench to its image, as `flmgang` does, and keeps the promise for each of them.
+/// Carries the job of each bench to its image, as `flmgang` does, and keeps the promise for each of them by its own line.
 pub fn flash_gang<B: Bench, O: Sink, E: Sink>(
     alloc: Global,
     words: &[Word],
@@ -38,7 +39,7 @@ pub fn flash_gang<B: Bench, O: Sink, E: Sink>(
     out: &mut O,
     err: &mut E,
 ) -> u8
-    ensures { IsTrue B.tells → AllResume B.Bench result benches.old benches.new }
+    ensures { IsTrue B.tells → GangKeeps B.Bench benches.old benches.new O.tells (O.state out.old).taken (O.state out.new).taken result }
 {
     flmgang(alloc, words, benches, out, err)
 }

@@ -1,3 +1,5 @@
 pub mod PlanLemmas
 pub mod StatusLemmas
+pub mod DoneLemmas
+pub mod PlainLemmas
 mod JobLemmas

@@ -9,4 +9,5 @@ pub mod Refused
 pub mod Plan
 pub mod Job
 pub mod Region
+pub mod DoneLine
 pub mod Target

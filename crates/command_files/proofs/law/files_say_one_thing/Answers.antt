@@ -1,3 +1,4 @@
+-- `files_say_one_thing`: the law.
 use Rattle.command_files.proofs.FilesLemmas.{one_aim, one_refusal, aim_or_refused}
 use Rattle.command_files.proofs.law.files_say_one_thing.Goals as goal
 

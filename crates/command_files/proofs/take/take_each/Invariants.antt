@@ -1,3 +1,4 @@
+-- `take_each`: what holds at each turn of its loop.
 use Rattle.std.proofs.Common.{◌≤◌, ℕ, All, List, length}
 use Rattle.command_words.specs.Names.{names_of}
 use Rattle.command_files.proofs.TakeLemmas.{TakenSoFar}

@@ -1,3 +1,4 @@
+-- `take_files`: its clauses `takes` and `short`, and what `take_one`, `take_optional` and `take_each` ask for.
 use Rattle.std.proofs.Common.{rules, ◌≡◌, ◌∙◌, arith, ◌∷◌, [], ◌++◌, option_to_list, Err}
 use Rattle.std.proofs.lemmas.List.Elements.{All-head, All-tail, All-weaker}
 use Rattle.report_text.specs.Shown.{shown}

@@ -1,3 +1,4 @@
+-- `take_one`: its clause `takes`.
 use Rattle.std.proofs.Common.{refl, []}
 use Rattle.std.proofs.lemmas.List.Elements.{All-nil}
 use Rattle.command_files.specs.Inputs.{inputs_call}

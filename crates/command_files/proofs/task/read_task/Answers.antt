@@ -1,3 +1,4 @@
+-- `read_task`: its clauses `reads` and `short_second`, and what `read_files` and `unwrap` ask for.
 use Rattle.std.proofs.Common.{rules, ◌≡◌, ◌-◌, ap, inl, inr, refl, arith, ℕ, length, Err}
 use Rattle.board_file.specs.Shown as board
 use Rattle.command_words.specs.Requested.{files_of}

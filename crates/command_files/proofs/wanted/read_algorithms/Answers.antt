@@ -1,3 +1,4 @@
+-- `read_algorithms`: its contract, `ReadsAlgorithms`.
 use Rattle.std.proofs.Common.{◌≡◌, ◌∙◌, sym, ap, subst, arith, ℕ, List, [], ◌∷◌, length, Option, Some, Vec, Global}
 use Rattle.board_file.specs.declared.region.Region.{Region}
 use Rattle.board_file.specs.Shown as board_shown

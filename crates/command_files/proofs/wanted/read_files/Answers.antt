@@ -1,3 +1,4 @@
+-- `read_files`: its contract, `ReadsFiles`, and what `read_algorithms`, `files_from`, `names_from` and `read_images` ask for.
 use Rattle.std.proofs.Common.{rules, ◌≡◌, ◌∙◌, sym, ap, subst, arith, ℕ, List, length, length-drop, map, take, drop, Err}
 use Rattle.std.proofs.lemmas.List.{length-take-le}
 use Rattle.board_file.specs.declared.region.Region.{Region}

@@ -1,3 +1,4 @@
+-- `read_images`: that its loop keeps what it has to.
 use Rattle.std.proofs.Common.{◌≡◌, ◌∙◌, [], arith}
 use Rattle.std.proofs.lemmas.List.{get_or_default}
 use Rattle.image_more.specs.Place.{file_at}

@@ -1,3 +1,4 @@
+-- `read_images`: what holds at each turn of its loop.
 use Rattle.image_more.specs.Files.{IsUnionBefore}
 use Rattle.command_files.proofs.wanted.read_images.Given as goal
 

@@ -1,3 +1,4 @@
+-- `read_one`: its contract, `ReadsOne`.
 use Rattle.std.proofs.Common.{rules, ◌≡◌, Err}
 use Rattle.std.proofs.lemmas.Result.{err_from_is_err_and}
 use Rattle.board_file.specs.Shown as board

@@ -1,3 +1,4 @@
+-- `read_address`: its clause `none`.
 use Rattle.command_words.proofs.AddressLemmas.{no_number}
 use Rattle.command_words.proofs.address.read_address.Goals as goal
 

@@ -1,3 +1,4 @@
+-- `board_and_images`: its clauses `none` and `some`.
 use Rattle.std.proofs.Common.{◌≡◌, ◌∙◌, ◌-◌, true, false, refl, sym, ap, subst, arith, ℕ, List, length, take, drop}
 use Rattle.command_words.specs.Lines.{Gives}
 use Rattle.command_words.proofs.FitLemmas.{board_without_address, no_board, many_images, board_fits, one_front}

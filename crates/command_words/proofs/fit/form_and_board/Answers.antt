@@ -1,3 +1,4 @@
+-- `form_and_board`: its clauses `none` and `some`.
 use Rattle.std.proofs.Common.{◌≡◌, ◌==◌, ◌-◌, ◌∙◌, true, false, refl, sym, ap, arith, ℕ, List, length, take, drop, [], ◌∷◌}
 use Rattle.std.proofs.lemmas.Bool.{eqb-true}
 use Rattle.command_words.specs.Words.{form_text}

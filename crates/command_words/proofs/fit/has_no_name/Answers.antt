@@ -1,3 +1,4 @@
+-- `has_no_name`: its contract, `Positional`.
 use Rattle.std.proofs.Common.{◌≡◌, ◌==◌, ◌∙◌, sym, ap, rules, ℕ, length, []}
 use Rattle.std.proofs.lemmas.Bool.{eqb-true}
 use Rattle.std.specs.Vec.{vec_len}

@@ -1,3 +1,4 @@
+-- `only_name`: its clauses `none` and `some`.
 use Rattle.std.proofs.Common.{◌≡◌, ◌==◌, ◌-◌, ◌∙◌, true, false, refl, sym, ap, arith, ℕ, List, length, take, drop, [], ◌∷◌}
 use Rattle.std.proofs.lemmas.Bool.{eqb-true}
 use Rattle.command_words.proofs.FitLemmas.{names_alone, no_address, as_many, one_front, nil_of}

@@ -1,3 +1,4 @@
+-- `only_number`: its clause `none`.
 use Rattle.std.proofs.Common.{sym, subst, ℕ, List, [], ◌∷◌}
 use Rattle.command_words.specs.Words.{Positional}
 use Rattle.command_words.proofs.FitLemmas.{no_one_number}

@@ -1,3 +1,4 @@
+-- `target_and_images`: its clauses `none` and `some`.
 use Rattle.std.proofs.Common.{◌≡◌, ◌∙◌, ◌-◌, true, false, refl, sym, ap, subst, arith, ℕ, List, length, take, drop}
 use Rattle.command_words.specs.Lines.{Gives}
 use Rattle.command_words.proofs.FitLemmas.{target_without_address, no_target, many_target_images, target_fits, two_fronts}

@@ -1,3 +1,4 @@
+-- `request_of`: its contract, `Asked`.
 use Rattle.command_words.proofs.LineLemmas.{AsksNothing-unnamed, Asked-line}
 use Rattle.command_words.proofs.line.request_of.Goals as goal
 

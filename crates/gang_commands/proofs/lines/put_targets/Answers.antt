@@ -1,3 +1,4 @@
+-- `put_targets`: its contract, `PutsEnds`, and that its loop keeps what it has to.
 use Rattle.std.proofs.Common.{◌<◌, ◌∙◌, sym, ap, arith, length, Option, option_map, option_copied}
 use Rattle.report_text.specs.Refusal as refusal
 use Rattle.report_text.specs.Shown.{shown}
@@ -10,16 +11,21 @@ pub returns-in_err-put_target : goal.returns-in_err-put_target
 returns-in_err-put_target g c =
     let inside : c.loop-target.target < length c.args.gang.now.slots.items = omega (arith, c.loop-target-test.true, c.requires.count) in
     puts_ended _ (outcomes c.args.gang.now) c.from_residual.result c.from_residual.ensures.0
-    (puts_cut g.O.Sink.tells (g.O.Sink.state c.args.out.now) (g.O.Sink.state c.loop-target.out) (g.O.Sink.state c.put_target.new.out) (outcomes c.args.gang.now) c.loop-target.target c.loop-target.status any_outcome
+    (puts_cut g.O.Sink.tells (g.O.Sink.state c.args.out.now) (g.O.Sink.state c.loop-target.out) (g.O.Sink.state c.put_target.new.out)
+    (outcomes c.args.gang.now) c.loop-target.target c.loop-target.status any_outcome
     (within c.args.gang.now c.loop-target.target inside) c.loop-target.invariant (option_map shown (option_copied c.as_ref.result))
-    (in_place c.args.gang.now c.loop-target.target any_outcome (option_map shown (option_copied c.as_ref.result)) inside (ap (λ (o : Option Refusal). option_map shown o) c.as_ref.ensures.value ∙ c.target_refusal-refusal.ensures))
+    (in_place c.args.gang.now c.loop-target.target any_outcome (option_map shown (option_copied c.as_ref.result)) inside
+    (ap (λ (o : Option Refusal). option_map shown o) c.as_ref.ensures.value ∙ c.target_refusal-refusal.ensures))
     _ c.in_err-put_target.ensures)
 
 pub loop-target-preserved : goal.loop-target-preserved
 loop-target-preserved g c =
     let inside : c.loop-target.target < length c.args.gang.now.slots.items = omega (arith, c.loop-target-test.true, c.requires.count) in
-    puts_one g.O.Sink.tells (g.O.Sink.state c.args.out.now) (g.O.Sink.state c.loop-target.out) (g.O.Sink.state c.put_target.new.out) (outcomes c.args.gang.now) c.loop-target.target c.loop-target.status any_outcome
+    puts_one g.O.Sink.tells (g.O.Sink.state c.args.out.now) (g.O.Sink.state c.loop-target.out) (g.O.Sink.state c.put_target.new.out)
+    (outcomes c.args.gang.now) c.loop-target.target c.loop-target.status any_outcome
     (within c.args.gang.now c.loop-target.target inside) c.loop-target.invariant (option_map shown (option_copied c.as_ref.result))
-    (in_place c.args.gang.now c.loop-target.target any_outcome (option_map shown (option_copied c.as_ref.result)) inside (ap (λ (o : Option Refusal). option_map shown o) c.as_ref.ensures.value ∙ c.target_refusal-refusal.ensures))
+    (in_place c.args.gang.now c.loop-target.target any_outcome (option_map shown (option_copied c.as_ref.result)) inside
+    (ap (λ (o : Option Refusal). option_map shown o) c.as_ref.ensures.value ∙ c.target_refusal-refusal.ensures))
     _ c.first_status-status.result c.in_ok-put_target.ensures
-    (c.first_status-status.ensures ∙ ap (λ (o : Option Refusal). status_behind c.loop-target.status (option_map shown o)) (c.as_ref-in-loop-target.ensures.value ∙ sym c.as_ref.ensures.value))
+    (c.first_status-status.ensures ∙ ap (λ (o : Option Refusal). status_behind c.loop-target.status (option_map shown o))
+    (c.as_ref-in-loop-target.ensures.value ∙ sym c.as_ref.ensures.value))

@@ -1,3 +1,4 @@
+-- `run`: its contract, `Runs`, and what `put_targets` asks for.
 use Rattle.std.proofs.Common.{◌≡◌, ◌∙◌, length, refl, sym, arith, inl, inr}
 use Rattle.gang_commands.proofs.top.run.Goals as goal
 

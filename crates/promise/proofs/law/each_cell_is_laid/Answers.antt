@@ -1,3 +1,4 @@
+-- `each_cell_is_laid`: its clauses `cells` and `size`.
 use Rattle.flash_session.proofs.JobLemmas.{overlaid_length}
 use Rattle.promise.proofs.CellLemmas.{laid_at}
 use Rattle.promise.proofs.law.each_cell_is_laid.Goals as goal

@@ -1,3 +1,4 @@
+-- `flash`: its clauses `promise` and `complete`.
 use Rattle.std.proofs.Common.{Some}
 use Rattle.command_files.specs.Inputs.{inputs_call}
 use Rattle.command_answers.specs.Call.{call_of, bench_call, sink_call}

@@ -1,7 +1,10 @@
-use Rattle.std.specs.Prelude.{get_or}
-use Rattle.promise.proofs.GangLemmas.{resumes}
+use Rattle.std.proofs.Common.{length}
+use Rattle.command_answers.specs.Call.{sink_call}
+use Rattle.promise.proofs.GangLemmas.{gang_keeps}
 use Rattle.promise.proofs.top.flash_gang.Goals as goal
 
 pub returns : goal.returns
-returns g c = λ told i b less. resumes c.flmgang.result _ _ (c.flmgang.ensures.campaigns told i b less)
-    (λ zero. c.flmgang.ensures.finished told zero i b less) (g.met.B.Bench.bytes (get_or c.args.benches.now i b) told).0
+returns g c = λ told. gang_keeps g.B.Bench told (λ b. (g.met.B.Bench.bytes b told).0) c.args.benches.now c.flmgang.new.benches
+    (sink_call g.O.Sink.tells (g.O.Sink.state c.args.out.now) (g.O.Sink.state c.flmgang.new.out))
+    (sink_call g.E.Sink.tells (g.E.Sink.state c.args.err.now) (g.E.Sink.state c.flmgang.new.err))
+    c.flmgang.result (length c.args.words.now) c.flmgang.ensures.answers (c.flmgang.ensures.campaigns told)

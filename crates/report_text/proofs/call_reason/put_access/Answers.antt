@@ -1,3 +1,4 @@
+-- `put_access`: its contract, `Puts`.
 use Rattle.report_text.specs.Calls.{access_text}
 use Rattle.report_text.proofs.call_reason.put_access.Goals as goal
 

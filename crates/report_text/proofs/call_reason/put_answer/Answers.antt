@@ -1,3 +1,4 @@
+-- `put_answer`: its contract, `Puts`.
 use Rattle.report_text.specs.Calls.{answer_text}
 use Rattle.report_text.proofs.call_reason.put_answer.Goals as goal
 

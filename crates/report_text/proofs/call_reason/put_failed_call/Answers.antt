@@ -1,3 +1,4 @@
+-- `put_failed_call`: its contract, `Puts`.
 use Rattle.report_text.specs.Calls.{end_text, failed_text}
 use Rattle.outside_io.proofs.PutTexts.{puts_then, puts_stops, puts_failed}
 use Rattle.report_text.proofs.call_reason.put_failed_call.Goals as goal

@@ -1,3 +1,4 @@
+-- `put_place`: its contract, `Puts`.
 use Rattle.report_text.specs.Calls.{place_text}
 use Rattle.report_text.proofs.call_reason.put_place.Goals as goal
 

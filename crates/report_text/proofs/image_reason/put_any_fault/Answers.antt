@@ -1,3 +1,4 @@
+-- `put_any_fault`: its contract, `Puts`.
 use Rattle.std.proofs.Common.{ap, sym}
 use Rattle.report_text.specs.Faults.{any_text}
 use Rattle.outside_io.proofs.PutTexts.{puts_as, puts_stops, puts_failed}

@@ -1,3 +1,4 @@
+-- `put_checksum`: its contract, `Puts`.
 use Rattle.report_text.specs.Faults.{checksum_text}
 use Rattle.report_text.proofs.image_reason.put_checksum.Goals as goal
 

@@ -1,3 +1,4 @@
+-- `put_conflict`: its contract, `Puts`.
 use Rattle.report_text.specs.Faults.{conflict_text}
 use Rattle.report_text.proofs.image_reason.put_conflict.Goals as goal
 

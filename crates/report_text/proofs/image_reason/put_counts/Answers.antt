@@ -1,3 +1,4 @@
+-- `put_counts`: its contract, `Puts`.
 use Rattle.report_text.specs.Faults.{counts_text}
 use Rattle.report_text.proofs.image_reason.put_counts.Goals as goal
 

@@ -1,3 +1,4 @@
+-- `put_image_fault`: its contract, `Puts`.
 use Rattle.std.proofs.Common.{ap, sym}
 use Rattle.report_text.specs.Faults.{image_text}
 use Rattle.outside_io.proofs.PutTexts.{puts_as, puts_stops, puts_failed}

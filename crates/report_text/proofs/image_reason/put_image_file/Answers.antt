@@ -1,3 +1,4 @@
+-- `put_image_file`: its contract, `Puts`.
 use Rattle.std.proofs.Common.{ap}
 use Rattle.report_text.specs.Faults.{place_text}
 use Rattle.outside_io.proofs.PutTexts.{puts_as, puts_then}

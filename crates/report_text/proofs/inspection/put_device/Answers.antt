@@ -1,3 +1,4 @@
+-- `put_device`: its contract, `Puts`.
 use Rattle.std.proofs.Common.{ap}
 use Rattle.report_text.specs.Inspection.{name_text, device_text}
 use Rattle.outside_io.proofs.PutTexts.{puts_then, puts_stops, puts_failed, puts_as}

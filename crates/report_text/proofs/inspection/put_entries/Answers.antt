@@ -1,3 +1,4 @@
+-- `put_entries`: its contract, `Puts`.
 use Rattle.report_text.specs.Inspection.{entries_text}
 use Rattle.outside_io.proofs.PutTexts.{puts_then, puts_stops, puts_failed}
 use Rattle.report_text.proofs.inspection.put_entries.Goals as goal

@@ -1,3 +1,4 @@
+-- `put_inspection`: its contract, `Puts`.
 use Rattle.std.proofs.Common.{ap}
 use Rattle.std.specs.List.{flat_map}
 use Rattle.report_text.specs.Inspection.{item_text, inspection_text}

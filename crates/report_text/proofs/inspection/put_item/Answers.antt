@@ -1,3 +1,4 @@
+-- `put_item`: its contract, `Puts`.
 use Rattle.report_text.specs.Inspection.{item_text}
 use Rattle.report_text.proofs.inspection.put_item.Goals as goal
 

@@ -1,3 +1,4 @@
+-- `put_items`: its contract, `Puts`, and that its loop keeps what it has to.
 use Rattle.report_text.specs.Inspection.{item_text}
 use Rattle.outside_io.proofs.PutTexts.{puts_nothing, puts_more, puts_breaks, puts_failed}
 use Rattle.report_text.proofs.inspection.put_items.Goals as goal

@@ -1,3 +1,4 @@
+-- `put_items`: what holds at each turn of its loop.
 use Rattle.std.proofs.Common.{take, Ok}
 use Rattle.std.specs.List.{flat_map}
 use Rattle.report_text.specs.Inspection.{item_text}

@@ -1,3 +1,4 @@
+-- `put_kind`: its contract, `Puts`.
 use Rattle.report_text.specs.Inspection.{kind_text}
 use Rattle.report_text.proofs.inspection.put_kind.Goals as goal
 

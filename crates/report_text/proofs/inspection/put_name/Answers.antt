@@ -1,3 +1,4 @@
+-- `put_name`: its contract, `Puts`.
 use Rattle.std.proofs.Common.{map}
 use Rattle.std.specs.Prelude.{codes}
 use Rattle.std.proofs.lemmas.List.Concat.{flat_map_single}

@@ -1,3 +1,4 @@
+-- `put_printable`: its contract, `Puts`, and that its loop keeps what it has to.
 use Rattle.std.proofs.Common.{[], ◌∷◌}
 use Rattle.report_text.specs.Inspection.{printable}
 use Rattle.outside_io.proofs.PutTexts.{puts_nothing, puts_more, puts_breaks, puts_failed}

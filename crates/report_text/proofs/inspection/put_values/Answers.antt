@@ -1,3 +1,4 @@
+-- `put_values`: its contract, `Puts`.
 use Rattle.report_text.specs.Inspection.{values_text}
 use Rattle.report_text.proofs.inspection.put_values.Goals as goal
 

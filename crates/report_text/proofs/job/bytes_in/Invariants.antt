@@ -1,3 +1,4 @@
+-- `bytes_in`: what holds at each turn of its loop.
 use Rattle.std.specs.Prelude.{◌≡◌, take}
 use Rattle.report_text.specs.Job.{bytes_in}
 use Rattle.report_text.proofs.job.bytes_in.Given as goal

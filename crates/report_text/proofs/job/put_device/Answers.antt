@@ -1,3 +1,4 @@
+-- `put_device`: its contract, `Puts`.
 use Rattle.report_text.specs.Job.{device_line}
 use Rattle.report_text.proofs.job.put_device.Goals as goal
 

@@ -1,3 +1,4 @@
+-- `put_devices`: its contract, `Puts`, and that its loop keeps what it has to.
 use Rattle.std.proofs.Common.{ap}
 use Rattle.flm_descriptor.specs.declared.algorithm.Algorithm.{Algorithm}
 use Rattle.report_text.specs.Job.{device_line}

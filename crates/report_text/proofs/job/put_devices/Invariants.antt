@@ -1,3 +1,4 @@
+-- `put_devices`: what holds at each turn of its loop.
 use Rattle.std.proofs.Common.{take, Ok}
 use Rattle.std.specs.List.{flat_map}
 use Rattle.flm_descriptor.specs.declared.algorithm.Algorithm.{Algorithm}

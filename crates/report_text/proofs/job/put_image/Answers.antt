@@ -1,3 +1,4 @@
+-- `put_image`: its contract, `Puts`.
 use Rattle.report_text.specs.Job.{image_line}
 use Rattle.report_text.proofs.job.put_image.Goals as goal
 

@@ -1,3 +1,4 @@
+-- `put_job`: its contract, `Puts`.
 use Rattle.report_text.proofs.job.put_job.Goals as goal
 
 pub returns-in-None : goal.returns-in-None

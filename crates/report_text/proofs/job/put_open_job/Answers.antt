@@ -1,3 +1,4 @@
+-- `put_open_job`: its contract, `Puts`.
 use Rattle.std.specs.List.{flat_map}
 use Rattle.report_text.specs.Job.{device_line, devices_of, image_line, job_text}
 use Rattle.outside_io.proofs.PutTexts.{puts_as, puts_then, puts_stops, puts_failed}

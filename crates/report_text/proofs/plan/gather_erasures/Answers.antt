@@ -1,3 +1,4 @@
+-- `gather_erasures`: its contract, `Gathers`.
 use Rattle.std.proofs.Common.{◌∙◌, sym}
 use Rattle.outside_io.proofs.GatherLemmas.{gathers_as}
 use Rattle.report_text.proofs.PlanLemmas.{erase_chip, erase_sectors}

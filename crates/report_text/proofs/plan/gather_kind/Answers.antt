@@ -1,3 +1,4 @@
+-- `gather_kind`: its contract, `Gathers`.
 use Rattle.std.proofs.Common.{◌≡◌, ◌∙◌, sym, refl, false, true}
 use Rattle.erase_planner.specs.Plans.{IsEmptyPlan}
 use Rattle.outside_io.proofs.GatherLemmas.{gathers_as}

@@ -1,3 +1,4 @@
+-- `gather_page`: its contract, `Gathers`.
 use Rattle.std.specs.Prelude.{codes}
 use Rattle.outside_io.proofs.GatherLemmas.{gathers_nothing, gathers_as}
 use Rattle.report_text.proofs.PlanLemmas.{not_in, is_in}

@@ -1,3 +1,4 @@
+-- `gather_plan`: its contract, `Gathers`.
 use Rattle.report_text.specs.Plan.{plan_text}
 use Rattle.outside_io.proofs.GatherLemmas.{gathers_then, gathers_stops, gathers_failed}
 use Rattle.report_text.proofs.plan.gather_plan.Goals as goal

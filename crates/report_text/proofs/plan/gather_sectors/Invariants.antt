@@ -1,3 +1,4 @@
+-- `gather_sectors`: what holds at each turn of its loop.
 use Rattle.std.proofs.Common.{Ok}
 use Rattle.std.specs.Prelude.{codes}
 use Rattle.report_text.specs.Plan.{texts_below, member_text}

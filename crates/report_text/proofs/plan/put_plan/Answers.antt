@@ -1,3 +1,4 @@
+-- `put_plan`: its contract, `Puts`.
 use Rattle.std.proofs.Common.{append-nil}
 use Rattle.outside_io.proofs.PutTexts.{puts_as}
 use Rattle.outside_io.proofs.GatherLemmas.{gathers_alone, gathers_then, gathers_waiting}

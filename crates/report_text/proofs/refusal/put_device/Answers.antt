@@ -1,3 +1,4 @@
+-- `put_device`: its contract, `Puts`.
 use Rattle.report_text.specs.Lines.{reason_of}
 use Rattle.report_text.proofs.refusal.put_device.Goals as goal
 

@@ -1,3 +1,4 @@
+-- `put_difference`: its contract, `Puts`.
 use Rattle.report_text.specs.Lines.{difference_text}
 use Rattle.report_text.proofs.refusal.put_difference.Goals as goal
 

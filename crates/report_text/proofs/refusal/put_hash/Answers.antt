@@ -1,3 +1,4 @@
+-- `put_hash`: its contract, `Puts`, and that its loop keeps what it has to.
 use Rattle.octets.specs.Digit.{hex_text}
 use Rattle.outside_io.proofs.PutTexts.{puts_nothing, puts_more, puts_breaks, puts_failed}
 use Rattle.report_text.proofs.refusal.put_hash.Goals as goal

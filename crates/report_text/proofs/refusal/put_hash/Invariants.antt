@@ -1,3 +1,4 @@
+-- `put_hash`: what holds at each turn of its loop.
 use Rattle.std.proofs.Common.{take, Ok}
 use Rattle.report_text.specs.Lines.{hash_text}
 use Rattle.outside_io.specs.Puts.{Puts}

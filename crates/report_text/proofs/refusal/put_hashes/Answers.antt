@@ -1,3 +1,4 @@
+-- `put_hashes`: its contract, `Puts`.
 use Rattle.std.specs.Prelude.{codes}
 use Rattle.report_text.specs.Lines.{reason_of, hash_text}
 use Rattle.outside_io.proofs.PutTexts.{puts_then, puts_stops, puts_failed}

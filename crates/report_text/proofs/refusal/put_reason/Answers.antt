@@ -1,3 +1,4 @@
+-- `put_reason`: its contract, `Puts`.
 use Rattle.std.proofs.Common.{◌≡◌, ap, sym}
 use Rattle.report_text.specs.Lines.{reason_of}
 use Rattle.report_text.specs.Shown.{shown}

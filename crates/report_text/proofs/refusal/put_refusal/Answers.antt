@@ -1,3 +1,4 @@
+-- `put_refusal`: its contract, `Puts`.
 use Rattle.std.specs.Prelude.{codes}
 use Rattle.report_text.specs.Lines.{reason_of, line_of}
 use Rattle.report_text.specs.Shown.{shown}

@@ -1,3 +1,4 @@
+-- `put_region`: its contract, `Puts`.
 use Rattle.report_text.specs.Region.{region_text}
 use Rattle.report_text.proofs.region.put_region.Goals as goal
 

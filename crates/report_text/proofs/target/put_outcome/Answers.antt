@@ -1,3 +1,4 @@
+-- `put_outcome`: its contract, `Puts`.
 use Rattle.std.specs.Prelude.{codes}
 use Rattle.outside_io.proofs.PutTexts.{puts_then, puts_stops, puts_failed}
 use Rattle.report_text.proofs.target.put_outcome.Goals as goal

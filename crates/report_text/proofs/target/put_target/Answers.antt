@@ -1,4 +1,4 @@
-use Rattle.report_text.specs.Target.{target_head}
+use Rattle.report_text.specs.DoneLine.{target_head}
 use Rattle.outside_io.proofs.PutTexts.{puts_then, puts_stops, puts_failed}
 use Rattle.report_text.proofs.target.put_target.Goals as goal
 

@@ -1,3 +1,4 @@
+-- `CommandLine::read`: its contract, `IsReadAs`.
 use Rattle.command_words.proofs.LineLemmas.{AsksNothing-unread}
 use Rattle.command_words.proofs.line.CommandLine.read.Goals as goal
 
