@@ -3,7 +3,7 @@
 mod back;
 mod texts;
 
-use armv6m_asm::{Labels, assemble};
+use armv6m_asm::{Code, Labels, assemble};
 use std::alloc::Global;
 use std::process::Abort;
 use std::test::Fail;
@@ -12,6 +12,12 @@ use texts::{algorithm, algorithm_code};
 #[test]
 fn a_flash_algorithm(rt: HostRuntime) -> Result<(), Fail> {
     let code = assemble(rt.alloc(), algorithm())?;
+    assert_algorithm(&rt, &code);
+    Ok(())
+}
+
+/// The code and the labels of the flash algorithm.
+fn assert_algorithm(rt: &impl Abort, code: &Code) {
     assert_eq!(rt; code.bytes.len(), 144);
     assert_eq!(rt; code.bytes.bytes(), algorithm_code());
     for (name, place) in [
@@ -27,7 +33,6 @@ fn a_flash_algorithm(rt: HostRuntime) -> Result<(), Fail> {
     }
     assert_eq!(rt; code.labels.get(b"init"), None);
     assert_eq!(rt; code.labels.as_slice().len(), 19);
-    Ok(())
 }
 
 /// The code of a text.
@@ -57,14 +62,24 @@ fn short_texts(rt: HostRuntime) -> Result<(), Fail> {
 #[test]
 fn labels_have_their_places(rt: HostRuntime) -> Result<(), Fail> {
     let code = assemble(rt.alloc(), b"a: DSB\nb: NOP\nc: .align\nd: .word 1\ne:")?;
+    assert_places(&rt, &code.labels);
+    assert_vector(&rt, code.labels);
+    Ok(())
+}
+
+/// The places of five labels.
+fn assert_places(rt: &impl Abort, labels: &Labels) {
     for (name, place) in [(b"a", 0), (b"b", 4), (b"c", 6), (b"d", 8), (b"e", 12)] {
-        assert_eq!(rt; code.labels.get(name), Some(place), "{place}");
+        assert_eq!(rt; labels.get(name), Some(place), "{place}");
     }
-    let labels = code.labels.into_vec();
+}
+
+/// The labels as a vector, and of one.
+fn assert_vector(rt: &impl Abort, labels: Labels) {
+    let labels = labels.into_vec();
     assert_eq!(rt; labels.len(), 5);
     assert_eq!(rt; labels[2].name.text(), "c");
     assert_eq!(rt; Labels::from_vec(labels).get(b"e"), Some(12));
-    Ok(())
 }
 
 /// Why a text is refused.

@@ -5,7 +5,7 @@ mod ends;
 mod worked;
 
 use armv6m_decode::registers::PC;
-use armv6m_step::{Core, MemoryBus};
+use armv6m_step::{Core, MemoryBus, StepEnd, step};
 use std::alloc::{AllocError, Global};
 
 const BASE: u32 = 0x2000_0000;
@@ -35,4 +35,16 @@ fn bus_with(alloc: Global, first: u16, second: u16, data: &[u8]) -> Result<Memor
     bytes.extend_from_slice(data)?;
     bytes.resize(0x400, 0)?;
     Ok(MemoryBus::new(BASE, bytes))
+}
+
+/// How a step of this code over this data ends.
+fn stepped(
+    alloc: Global,
+    core: &mut Core,
+    first: u16,
+    second: u16,
+    data: &[u8],
+) -> Result<StepEnd, AllocError> {
+    let mut bus = bus_with(alloc, first, second, data)?;
+    Ok(step(core, &mut bus))
 }

@@ -26,37 +26,85 @@ fn text(rt: &HostRuntime, names: &[String], index: usize) -> Result<String> {
     Ok(fs::read_to_string(rt, name(names, index)?)?)
 }
 
-/// What is compared with the table, with binutils and by the assembler.
-fn check_code(rt: &HostRuntime, names: &[String]) -> Result<()> {
-    let rows = table::check(text(rt, names, 0)?.as_str(), rt.alloc())?;
+/// Compares the table.
+fn check_table(rt: &HostRuntime, names: &[String]) -> Result<()> {
+    let text = text(rt, names, 0)?;
+    let rows = table::check(text.as_str(), rt.alloc())?;
     println!(rt; "{rows} rows of the table")?;
-    let codes = code::check(text(rt, names, 1)?.as_str())?;
+    Ok(())
+}
+
+/// Compares the disassembler with binutils.
+fn check_lines(rt: &HostRuntime, names: &[String]) -> Result<()> {
+    let text = text(rt, names, 1)?;
+    let codes = code::check(text.as_str())?;
     println!(rt; "{codes} instructions as binutils writes them")?;
-    let statements = statements::check(text(rt, names, 2)?.as_str(), rt.alloc())?;
+    Ok(())
+}
+
+/// Compares the assembler's texts.
+fn check_statements(rt: &HostRuntime, names: &[String]) -> Result<()> {
+    let text = text(rt, names, 2)?;
+    let statements = statements::check(text.as_str(), rt.alloc())?;
     println!(rt; "{statements} texts")?;
+    Ok(())
+}
+
+/// Compares a whole text with the code that binutils make of it.
+fn check_whole(rt: &HostRuntime, names: &[String]) -> Result<()> {
+    let text = text(rt, names, 3)?;
     let due = fs::read(rt, name(names, 4)?)?;
-    let bytes = statements::check_whole(text(rt, names, 3)?.as_str(), &due, rt.alloc())?;
+    let bytes = statements::check_whole(text.as_str(), &due, rt.alloc())?;
     println!(rt; "{bytes} bytes as binutils makes them")?;
     Ok(())
 }
 
-/// What is stepped.
-fn check_steps(rt: &HostRuntime, names: &[String]) -> Result<()> {
-    let qemu = steps::check(text(rt, names, 5)?.as_str(), rt.alloc())?;
-    println!(rt; "{qemu} steps as QEMU makes them")?;
-    let by_hand = steps::check(text(rt, names, 6)?.as_str(), rt.alloc())?;
-    println!(rt; "{by_hand} steps worked out by hand")?;
-    let ends = ends::check(text(rt, names, 7)?.as_str(), rt.alloc())?;
+/// Compares the steps of a file, and says by what they were made.
+fn check_steps(rt: &HostRuntime, names: &[String], index: usize, made: &str) -> Result<()> {
+    let text = text(rt, names, index)?;
+    let steps = steps::check(text.as_str(), rt.alloc())?;
+    println!(rt; "{steps} steps {made}")?;
+    Ok(())
+}
+
+/// Compares how steps end.
+fn check_ends(rt: &HostRuntime, names: &[String]) -> Result<()> {
+    let text = text(rt, names, 7)?;
+    let ends = ends::check(text.as_str(), rt.alloc())?;
     println!(rt; "{ends} ends")?;
-    let conditions = conditions::check(text(rt, names, 8)?.as_str(), rt.alloc())?;
+    Ok(())
+}
+
+/// Compares the conditions.
+fn check_conditions(rt: &HostRuntime, names: &[String]) -> Result<()> {
+    let text = text(rt, names, 8)?;
+    let conditions = conditions::check(text.as_str(), rt.alloc())?;
     println!(rt; "{conditions} conditions")?;
-    compiled::check(&fs::read(rt, name(names, 9)?)?, rt.alloc())?;
+    Ok(())
+}
+
+/// Runs compiled code.
+fn check_compiled(rt: &HostRuntime, names: &[String]) -> Result<()> {
+    let code = fs::read(rt, name(names, 9)?)?;
+    compiled::check(&code, rt.alloc())?;
     println!(rt; "compiled code")?;
     Ok(())
 }
 
+/// Makes all comparisons with these files.
+fn check_all(rt: &HostRuntime, names: &[String]) -> Result<()> {
+    check_table(rt, names)?;
+    check_lines(rt, names)?;
+    check_statements(rt, names)?;
+    check_whole(rt, names)?;
+    check_steps(rt, names, 5, "as QEMU makes them")?;
+    check_steps(rt, names, 6, "worked out by hand")?;
+    check_ends(rt, names)?;
+    check_conditions(rt, names)?;
+    check_compiled(rt, names)
+}
+
 fn main(rt: HostRuntime) -> Result<()> {
     let names = env::args(&rt)?.skip(1).collect::<Vec<String>>(rt.alloc())?;
-    check_code(&rt, &names)?;
-    check_steps(&rt, &names)
+    check_all(&rt, &names)
 }

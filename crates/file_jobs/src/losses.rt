@@ -80,6 +80,9 @@ impl fmt::Display for Tally {
     }
 }
 
+/// A bench over files whose changes wait.
+type CachedBench = DiskBench<WindowedDisk<CachedDisk>>;
+
 /// A file that a job's words name.
 #[derive(Drop)]
 struct Named {
@@ -128,16 +131,21 @@ impl Job {
         Ok(inputs)
     }
 
-    /// The status of a command on these files, and the files.
-    fn run(&self, words: &[&str], disk: CachedDisk) -> Result<(u8, CachedDisk)> {
+    /// The status of a command on these files over a bench.
+    fn answer(&self, words: &[&str], bench: &mut CachedBench) -> Result<u8> {
         let alloc = self.alloc;
         let given = copies(alloc, words)?;
-        let count = disk.cells().len().min(MOST_CELLS) as u32;
-        let mut bench = DiskBench::new(WindowedDisk::new(alloc, disk), count);
         let mut inputs = self.inputs()?;
         let mut out = MemorySink::new(alloc, 4096, &[])?;
         let mut err = MemorySink::new(alloc, 256, &[])?;
-        let status = flash(alloc, &given, &mut bench, &mut inputs, &mut out, &mut err);
+        Ok(flash(alloc, &given, bench, &mut inputs, &mut out, &mut err))
+    }
+
+    /// The status of a command on these files, and the files.
+    fn run(&self, words: &[&str], disk: CachedDisk) -> Result<(u8, CachedDisk)> {
+        let count = disk.cells().len().min(MOST_CELLS) as u32;
+        let mut bench = DiskBench::new(WindowedDisk::new(self.alloc, disk), count);
+        let status = self.answer(words, &mut bench)?;
         Ok((status, bench.into_disk().into_disk()))
     }
 
@@ -191,26 +199,90 @@ impl Job {
     fn begin(&self, calls: u64) -> Result<CachedDisk> {
         Ok(CachedDisk::new(self.alloc, &[], &self.old, calls)?)
     }
+
+    /// Does the job once with no loss, and keeps its file and its cells.
+    fn learn(&mut self, words: &[&str]) -> Result<()> {
+        let (status, end) = self.lose(words, self.begin(ENDLESS)?, loss_of("absent")?)?;
+        ensure!(status == 0, "not done");
+        ensure!(
+            end.job.first() == Some(&0x00),
+            "done, and not closed on the disk"
+        );
+        self.body = Vec::from_slice(self.alloc, end.job.get(1..).context("no job")?)?;
+        self.goal = end.cells;
+        Ok(())
+    }
+
+    /// Loses the power after so many calls of the job: its status, and what is left, which is carried on and back.
+    fn lose_one(&self, words: &[&str], calls: u64, loss: Loss) -> Result<(u8, Left)> {
+        let (status, left) = self.lose(words, self.begin(calls)?, loss)?;
+        Ok((status, self.carry_both(&left)?))
+    }
+
+    /// The same after so many calls of a `resume`, behind a job that was killed.
+    fn lose_resumed(
+        &self,
+        words: &[&str],
+        killed: u64,
+        calls: u64,
+        loss: Loss,
+    ) -> Result<(u8, Left)> {
+        let (_, left) = self.run(words, self.begin(killed)?)?;
+        let (status, left) = self.lose(&["resume"], left.begin_again(calls), loss)?;
+        Ok((status, self.carry_both(&left)?))
+    }
+
+    /// Loses the power after each call of the job. Prints how often which was left.
+    fn lose_each(&self, rt: &HostRuntime, name: &str, words: &[&str]) -> Result<()> {
+        let loss = loss_of(name)?;
+        let mut tally = Tally::new();
+        for calls in 0..MOST {
+            let (status, what) = self.lose_one(words, calls, loss)?;
+            if status == 0 {
+                ensure!(what == Left::Finished, "done, and not finished");
+                println!(rt; "{name}: {calls} losses, {tally}")?;
+                return Ok(());
+            }
+            tally.count(what);
+        }
+        bail!("no end");
+    }
+
+    /// Loses the power after each call of the `resume` behind a job that was killed. Prints how often which was left.
+    fn lose_each_resumed(
+        &self,
+        rt: &HostRuntime,
+        name: &str,
+        killed: u64,
+        words: &[&str],
+    ) -> Result<()> {
+        let loss = loss_of(name)?;
+        let mut tally = Tally::new();
+        for calls in 0..MOST {
+            let (status, what) = self.lose_resumed(words, killed, calls, loss)?;
+            if status == 0 || status == 7 {
+                println!(rt; "killed after {killed}, {name}: {calls} losses, {tally}")?;
+                return Ok(());
+            }
+            tally.count(what);
+        }
+        bail!("no end");
+    }
 }
 
 /// The job of these words, which is done once with no loss.
 fn job_of(rt: &HostRuntime, cells: &str, words: &[&str]) -> Result<Job> {
+    let files = files_of(rt, words)?;
+    let old = fs::read(rt, cells)?;
     let alloc = rt.alloc();
     let mut job = Job {
         alloc,
-        files: files_of(rt, words)?,
-        old: fs::read(rt, cells)?,
+        files,
+        old,
         body: Vec::new(alloc),
         goal: Vec::new(alloc),
     };
-    let (status, end) = job.lose(words, job.begin(ENDLESS)?, loss_of("absent")?)?;
-    ensure!(status == 0, "not done");
-    ensure!(
-        end.job.first() == Some(&0x00),
-        "done, and not closed on the disk"
-    );
-    job.body = Vec::from_slice(alloc, end.job.get(1..).context("no job")?)?;
-    job.goal = end.cells;
+    job.learn(words)?;
     Ok(job)
 }
 
@@ -218,19 +290,7 @@ fn job_of(rt: &HostRuntime, cells: &str, words: &[&str]) -> Result<Job> {
 /// often which was left.
 pub fn lose_all(rt: &HostRuntime, name: &str, cells: &str, words: &[&str]) -> Result<()> {
     let job = job_of(rt, cells, words)?;
-    let loss = loss_of(name)?;
-    let mut tally = Tally::new();
-    for calls in 0..MOST {
-        let (status, left) = job.lose(words, job.begin(calls)?, loss)?;
-        let what = job.carry_both(&left)?;
-        if status == 0 {
-            ensure!(what == Left::Finished, "done, and not finished");
-            println!(rt; "{name}: {calls} losses, {tally}")?;
-            return Ok(());
-        }
-        tally.count(what);
-    }
-    bail!("no end");
+    job.lose_each(rt, name, words)
 }
 
 /// Kills a job after so many calls, which loses nothing, and then loses the power after each call of a `resume` in the next run. Carries what is
@@ -243,17 +303,5 @@ pub fn lose_after_kill(
     words: &[&str],
 ) -> Result<()> {
     let job = job_of(rt, cells, words)?;
-    let loss = loss_of(name)?;
-    let mut tally = Tally::new();
-    for calls in 0..MOST {
-        let (_, left) = job.run(words, job.begin(killed)?)?;
-        let (status, left) = job.lose(&["resume"], left.begin_again(calls), loss)?;
-        let what = job.carry_both(&left)?;
-        if status == 0 || status == 7 {
-            println!(rt; "killed after {killed}, {name}: {calls} losses, {tally}")?;
-            return Ok(());
-        }
-        tally.count(what);
-    }
-    bail!("no end");
+    job.lose_each_resumed(rt, name, killed, words)
 }

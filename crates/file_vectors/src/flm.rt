@@ -6,12 +6,18 @@ use flm_descriptor::{Algorithm, Device, Entries, read_flm};
 /// Prints a copy of the algorithm of a file, or why there is none.
 pub fn answer(rt: &HostRuntime, bytes: &[u8]) -> Result<()> {
     match read_flm(rt.alloc(), bytes) {
-        Ok(algorithm) => put_algorithm(rt, &algorithm.copy(rt.alloc())?),
+        Ok(algorithm) => put_copy(rt, &algorithm),
         Err(fault) => {
             println!(rt; "{fault}")?;
             Ok(())
         }
     }
+}
+
+/// Prints a copy of an algorithm.
+fn put_copy(rt: &HostRuntime, algorithm: &Algorithm) -> Result<()> {
+    let copy = algorithm.copy(rt.alloc())?;
+    put_algorithm(rt, &copy)
 }
 
 /// Prints an algorithm, and then the line's end.

@@ -35,17 +35,28 @@ fn print_faults(rt: &HostRuntime, name: &str, table: &str) -> Result<()> {
         let (shows, text) = line.split_once("; ").context("what it shows is wanted")?;
         print!(rt; "{name}: {shows}: ")?;
         let text = text_of(rt.alloc(), text)?;
-        match read_image(rt.alloc(), name, &text) {
-            Ok(map) => println!(rt; "{} runs", map.runs())?,
-            Err(fault) => println!(rt; "{fault}")?,
-        }
+        print_answer(rt, name, &text)?;
+    }
+    Ok(())
+}
+
+/// How many runs the image of a text has.
+fn runs_of(alloc: Global, name: &str, text: &[u8]) -> Result<usize> {
+    let map = read_image(alloc, name, text)?;
+    Ok(map.runs())
+}
+
+/// Prints how many runs the image of a text has, or why there is none.
+fn print_answer(rt: &HostRuntime, name: &str, text: &[u8]) -> Result<()> {
+    match runs_of(rt.alloc(), name, text) {
+        Ok(runs) => println!(rt; "{runs} runs")?,
+        Err(fault) => println!(rt; "{fault}")?,
     }
     Ok(())
 }
 
 /// Prints an image's length and place, and whether its bytes are those that are wanted.
-fn print_image(rt: &HostRuntime, name: &str, text: &[u8], wanted: &[u8]) -> Result<()> {
-    let map = read_image(rt.alloc(), name, text)?;
+fn print_image(rt: &HostRuntime, name: &str, map: &ByteMap, wanted: &[u8]) -> Result<()> {
     if map.runs() != 1 {
         bail!("{name}: not one run");
     }
@@ -53,6 +64,19 @@ fn print_image(rt: &HostRuntime, name: &str, text: &[u8], wanted: &[u8]) -> Resu
     let same = if found == wanted { "same" } else { "other" };
     println!(rt; "{name}: {} bytes from {at:08X}, {same}", found.len())?;
     Ok(())
+}
+
+/// Compares an image's file.
+fn compare_one(rt: &HostRuntime, name: &str, wanted: &[u8]) -> Result<()> {
+    let text = fs::read(rt, name)?;
+    let map = read_image(rt.alloc(), name, &text)?;
+    print_image(rt, name, &map, wanted)
+}
+
+/// Prints the faults of a file's table.
+fn print_table(rt: &HostRuntime, name: &str) -> Result<()> {
+    let table = fs::read_to_string(rt, name)?;
+    print_faults(rt, name, table.as_str())
 }
 
 /// Reads the files of images, and compares each with the binary file that comes first.
@@ -63,11 +87,9 @@ pub fn compare(rt: &HostRuntime, names: &[&str]) -> Result<()> {
     let wanted = fs::read(rt, *binary)?;
     for name in names {
         if name.starts_with("refused") {
-            let table = fs::read_to_string(rt, *name)?;
-            print_faults(rt, name, table.as_str())?;
+            print_table(rt, name)?;
         } else {
-            let text = fs::read(rt, *name)?;
-            print_image(rt, name, &text, &wanted)?;
+            compare_one(rt, name, &wanted)?;
         }
     }
     Ok(())

@@ -102,18 +102,29 @@ fn compare_images(rt: &HostRuntime) -> Result<()> {
     images::compare(rt, &names)
 }
 
+/// Compares the images of some words.
+fn compare(rt: &HostRuntime, words: &[String]) -> Result<()> {
+    let names = words
+        .iter()
+        .map(|word| word.as_str())
+        .collect::<Vec<&str>>(rt.alloc())?;
+    images::compare(rt, &names)
+}
+
+/// Answers all questions.
+fn answer_all(rt: &HostRuntime) -> Result<()> {
+    answer_questions(rt)?;
+    answer_changes(rt)?;
+    answer_texts(rt)?;
+    compare_images(rt)?;
+    sweeps::go_through(rt)
+}
+
 fn main(rt: HostRuntime) -> Result<()> {
     let words = env::args(&rt)?.skip(1).collect::<Vec<String>>(rt.alloc())?;
-    if !words.is_empty() {
-        let names = words
-            .iter()
-            .map(|word| word.as_str())
-            .collect::<Vec<&str>>(rt.alloc())?;
-        return images::compare(&rt, &names);
+    if words.is_empty() {
+        answer_all(&rt)
+    } else {
+        compare(&rt, &words)
     }
-    answer_questions(&rt)?;
-    answer_changes(&rt)?;
-    answer_texts(&rt)?;
-    compare_images(&rt)?;
-    sweeps::go_through(&rt)
 }

@@ -109,17 +109,21 @@ fn of_flm(alloc: Global, file: &[u8]) -> Result<String> {
 }
 
 fn of_job(alloc: Global, file: &[u8]) -> Result<String> {
-    match class_of_file(alloc, file)? {
+    let class = class_of_file(alloc, file)?;
+    of_class(alloc, &class, file.len())
+}
+
+/// What a job file of so many bytes is.
+fn of_class(alloc: Global, class: &Class, len: usize) -> Result<String> {
+    match class {
         Class::Free => Ok(format!(in alloc; "Free")?),
         Class::Stands(job) => {
             let mut digest = Digest::new();
-            digest.job(&job);
+            digest.job(job);
             said(alloc, "Job", &digest)
         }
         Class::Damaged(_) => Ok(format!(in alloc; "Damaged")?),
-        Class::NotAJob { at } if at == file.len() as u64 => {
-            Ok(format!(in alloc; "NotAJob Length")?)
-        }
+        Class::NotAJob { at } if *at == len as u64 => { Ok(format!(in alloc; "NotAJob Length")?) }
         Class::NotAJob { at } => Ok(format!(in alloc; "NotAJob At{at}")?),
     }
 }

@@ -54,20 +54,32 @@ fn over(alloc: Global, cells: &[u8], at: u32, image: &[u8]) -> Result<Vec<u8>> {
     Ok(goal)
 }
 
+/// Appends the lengths and the texts of a job with one run of bytes.
+fn put_texts(file: &mut Vec<u8>, board: &[u8], flm: &[u8], cells: usize) -> Result<()> {
+    for len in [board.len(), flm.len(), 1, cells] {
+        put_length(file, len)?;
+    }
+    file.extend_from_slice(board)?;
+    file.extend_from_slice(flm)?;
+    Ok(())
+}
+
+/// Appends its run, and these cells as its snapshot.
+fn put_bytes(file: &mut Vec<u8>, at: u32, image: &[u8], cells: &[u8]) -> Result<()> {
+    file.extend_from_slice(&at.to_le_bytes())?;
+    put_length(file, image.len())?;
+    file.extend_from_slice(image)?;
+    file.extend_from_slice(cells)?;
+    Ok(())
+}
+
 /// The file of a job with one run of bytes, and with these cells as its snapshot.
 fn file_of(rt: &HostRuntime, flm: &str, at: u32, image: &[u8], cells: &[u8]) -> Result<Vec<u8>> {
     let board = fs::read(rt, "small.toml")?;
     let flm = fs::read(rt, flm)?;
     let mut file = Vec::from_slice(rt.alloc(), b"\xA5FLMJOB1")?;
-    for len in [board.len(), flm.len(), 1, cells.len()] {
-        put_length(&mut file, len)?;
-    }
-    file.extend_from_slice(&board)?;
-    file.extend_from_slice(&flm)?;
-    file.extend_from_slice(&at.to_le_bytes())?;
-    put_length(&mut file, image.len())?;
-    file.extend_from_slice(image)?;
-    file.extend_from_slice(cells)?;
+    put_texts(&mut file, &board, &flm, cells.len())?;
+    put_bytes(&mut file, at, image, cells)?;
     Ok(file)
 }
 

@@ -28,13 +28,21 @@ use anyhow::{Context, Result, bail};
 
 /// Goes through the lines of a file.
 pub fn go_through(rt: &HostRuntime, text: &str) -> Result<()> {
-    let mut team = Team::new(rt.alloc());
-    for line in text.lines() {
-        if let Some(name) = line.strip_prefix("gang ") {
-            println!(rt; "{name}")?;
-            team = Team::new(rt.alloc());
-        } else if !line.is_empty() {
-            step(rt, &mut team, line)?;
+    let gangs = text.strip_prefix("gang ").context("no gang")?;
+    for gang in gangs.split("\ngang ") {
+        let mut team = Team::new(rt.alloc());
+        go_through_one(rt, &mut team, gang)?;
+    }
+    Ok(())
+}
+
+/// Goes through the lines of a gang, of which the first is its name.
+fn go_through_one(rt: &HostRuntime, team: &mut Team, text: &str) -> Result<()> {
+    let (name, lines) = text.split_once('\n').context("no target")?;
+    println!(rt; "{name}")?;
+    for line in lines.lines() {
+        if !line.is_empty() {
+            step(rt, team, line)?;
         }
     }
     Ok(())

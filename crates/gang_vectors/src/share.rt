@@ -103,19 +103,33 @@ fn bench(alloc: Global, team: &Team) -> Result<MemoryBench> {
     team.jobs.first().context("no job")?.bench(alloc)
 }
 
-/// Calls a gang on two benches with the first job, of which each begins before either is closed.
-pub fn share_turns(rt: &HostRuntime, team: &Team) -> Result<()> {
-    let begun = Cell::new(0);
-    let mut benches = [
-        Noting::new(bench(rt.alloc(), team)?, &begun),
-        Noting::new(bench(rt.alloc(), team)?, &begun),
-    ];
+/// Calls a gang on two benches, and prints what it puts.
+fn call(rt: &HostRuntime, benches: &mut [Noting<'_, MemoryBench>]) -> Result<()> {
     let mut streams = Streams::new(rt.alloc(), 0)?;
-    let status = streams.answer(rt.alloc(), 4, &mut benches)?;
-    streams.print(rt, 4, status)?;
-    for bench in benches.iter() {
+    let status = streams.answer(rt.alloc(), 4, benches)?;
+    streams.print(rt, 4, status)
+}
+
+/// Looks whether both had begun when the last write of each file was made.
+fn have_begun(benches: &[Noting<'_, MemoryBench>]) -> Result<()> {
+    for bench in benches {
         ensure!(bench.noted == 2, "closed when {} had begun", bench.noted);
     }
+    Ok(())
+}
+
+/// Calls a gang on two benches, of which each begins before either is closed.
+fn call_two(rt: &HostRuntime, first: MemoryBench, second: MemoryBench) -> Result<()> {
+    let begun = Cell::new(0);
+    let mut benches = [Noting::new(first, &begun), Noting::new(second, &begun)];
+    call(rt, &mut benches)?;
+    have_begun(&benches)
+}
+
+/// Does so with the first job on both.
+pub fn share_turns(rt: &HostRuntime, team: &Team) -> Result<()> {
+    let first = bench(rt.alloc(), team)?;
+    call_two(rt, first, bench(rt.alloc(), team)?)?;
     println!(rt; "both have begun when either is closed")?;
     Ok(())
 }

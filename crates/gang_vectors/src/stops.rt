@@ -26,6 +26,11 @@ fn stop(alloc: Global, benches: &mut [MemoryBench], seed: u32, pick: Pick) -> Re
 fn left_after(alloc: Global, team: &Team, seed: u32, pick: Pick) -> Result<Team> {
     let mut benches = team.benches(alloc)?;
     stop(alloc, &mut benches, seed, pick)?;
+    left_of(alloc, team, &benches)
+}
+
+/// The jobs as these benches hold them.
+fn left_of(alloc: Global, team: &Team, benches: &[MemoryBench]) -> Result<Team> {
     let mut left = Team::new(alloc);
     for (job, bench) in team.jobs.iter().zip(benches.iter()) {
         left.add(job.left(alloc, bench)?)?;
@@ -43,6 +48,15 @@ struct Tally {
 /// Stops a gang, and carries on what is left.
 fn carry_on(alloc: Global, team: &Team, seed: u32, pick: Pick, tally: &mut Tally) -> Result<()> {
     let mut left = left_after(alloc, team, seed, pick)?;
+    count_closed(&left, tally)?;
+    left.learn(alloc)?;
+    left.take_turns(alloc, Order::Drawn(seed), 100)?;
+    tally.done = tally.done.saturating_add(left.done());
+    Ok(())
+}
+
+/// Counts the jobs that were closed, whose cells are their goals.
+fn count_closed(left: &Team, tally: &mut Tally) -> Result<()> {
     for job in left.jobs.iter() {
         if job.file.first() == Some(&0x00) {
             ensure!(
@@ -52,9 +66,6 @@ fn carry_on(alloc: Global, team: &Team, seed: u32, pick: Pick, tally: &mut Tally
             tally.closed = tally.closed.saturating_add(1);
         }
     }
-    left.learn(alloc)?;
-    left.take_turns(alloc, Order::Drawn(seed), 100)?;
-    tally.done = tally.done.saturating_add(left.done());
     Ok(())
 }
 

@@ -80,6 +80,14 @@ fn drive_drawn(alloc: Global, benches: &mut [MemoryBench], seed: u32) -> Result<
     Ok(gang)
 }
 
+/// The status of a call with so many words. Prints it, and what was put.
+fn call(rt: &HostRuntime, count: usize, fail: u64, benches: &mut [MemoryBench]) -> Result<u8> {
+    let mut streams = Streams::new(rt.alloc(), fail)?;
+    let status = streams.answer(rt.alloc(), count, benches)?;
+    streams.print(rt, count, status)?;
+    Ok(status)
+}
+
 impl Team {
     pub fn new(alloc: Global) -> Team {
         Team {
@@ -223,9 +231,7 @@ impl Team {
     /// Calls a gang with so many words. The put of this number on standard output fails, or none at 0. Prints what was put and the status.
     pub fn call(&self, rt: &HostRuntime, count: usize, fail: u64) -> Result<()> {
         let mut benches = self.benches(rt.alloc())?;
-        let mut streams = Streams::new(rt.alloc(), fail)?;
-        let status = streams.answer(rt.alloc(), count, &mut benches)?;
-        streams.print(rt, count, status)?;
+        let status = call(rt, count, fail, &mut benches)?;
         self.check_left(status != 2, &benches)
     }
 }

@@ -115,20 +115,52 @@ fn read_made(rt: &HostRuntime, job: &[u8], changes: &str) -> Result<()> {
     changes::read_changed(rt, job, changes)
 }
 
-fn main(rt: HostRuntime) -> Result<()> {
-    let board = fs::read(&rt, "small.toml")?;
-    let flm = fs::read(&rt, "algorithm.flm")?;
-    let job = fs::read(&rt, "job.bin")?;
-    go_through_small(&rt, &board, &flm, &job)?;
+/// Does all with the job of the small board that is in this file.
+fn do_small(rt: &HostRuntime, job: &[u8]) -> Result<()> {
+    let board = fs::read(rt, "small.toml")?;
+    let flm = fs::read(rt, "algorithm.flm")?;
+    go_through_small(rt, &board, &flm, job)
+}
+
+/// Reads files that are made of one of the first format.
+fn read_first(rt: &HostRuntime) -> Result<()> {
     println!(rt; "a job of the first format")?;
-    read_made(&rt, &fs::read(&rt, "first.bin")?, "first.txt")?;
+    let job = fs::read(rt, "first.bin")?;
+    read_made(rt, &job, "first.txt")
+}
+
+/// Reads files that are made of this one, of the second format.
+fn read_second(rt: &HostRuntime, job: &[u8]) -> Result<()> {
     println!(rt; "a job of the second format")?;
-    read_made(&rt, &job, "changes.txt")?;
-    changes::read_single_changes(&rt, &job)?;
+    read_made(rt, job, "changes.txt")?;
+    changes::read_single_changes(rt, job)
+}
+
+/// Does all with the job of two regions that is in this file.
+fn do_two(rt: &HostRuntime, flm: &[u8], job: &[u8]) -> Result<()> {
+    let board = fs::read(rt, "two.toml")?;
+    let second = fs::read(rt, "second.flm")?;
+    go_through_two(rt, &board, flm, &second, job)?;
+    read_made(rt, job, "two.txt")
+}
+
+/// The job of one region, in either format.
+fn one_region(rt: &HostRuntime) -> Result<()> {
+    let job = fs::read(rt, "job.bin")?;
+    do_small(rt, &job)?;
+    read_first(rt)?;
+    read_second(rt, &job)
+}
+
+/// The job of two regions.
+fn two_regions(rt: &HostRuntime) -> Result<()> {
     println!(rt; "a job of two regions")?;
-    let board = fs::read(&rt, "two.toml")?;
-    let second = fs::read(&rt, "second.flm")?;
-    let job = fs::read(&rt, "two.bin")?;
-    go_through_two(&rt, &board, &flm, &second, &job)?;
-    read_made(&rt, &job, "two.txt")
+    let flm = fs::read(rt, "algorithm.flm")?;
+    let job = fs::read(rt, "two.bin")?;
+    do_two(rt, &flm, &job)
+}
+
+fn main(rt: HostRuntime) -> Result<()> {
+    one_region(&rt)?;
+    two_regions(&rt)
 }

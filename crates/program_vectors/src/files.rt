@@ -44,6 +44,16 @@ impl Files {
         }
     }
 
+    /// Fills what stands under a name with a byte, up to so many.
+    pub fn pad(&mut self, name: &str, len: usize, value: u8) -> Result<()> {
+        for file in self.files.iter_mut() {
+            if file.name.text() == name {
+                file.bytes.resize(len, value)?;
+            }
+        }
+        Ok(())
+    }
+
     /// What stands under a name.
     pub fn bytes(&self, name: &str) -> Result<&[u8]> {
         match self.files.iter().find(|file| file.name.text() == name) {

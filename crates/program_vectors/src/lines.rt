@@ -2,11 +2,13 @@
 //!
 //! - `row NAME` begins with 1,024 blank cells, an empty job file and no faults; the files stay.
 //! - `text NAME LINE|LINE..`, `bytes NAME BYTES`, `empty NAME` or `file NAME PATH`: what stands under a name; `patch NAME AT BYTES` changes it.
+//!   `pad NAME LEN BYTE` fills it with a byte up to so many.
 //!   `forge NAME KIND BOARD PAGE TIME [REGION]`: the FLM file of an algorithm A1 to A7 or F1 for a region, from 0 on, of the board under a name,
 //!   with pages of so many bytes and as many milliseconds for a sector's erasure. With no REGION it is that of the first.
 //! - `cells COUNT VALUE`: so many cells of one byte. `count AT LEN` sets each of a range to its place modulo 256, `set AT BYTES` to these.
 //!   `job BYTES`: the job file. `from job NAME` and `from cells NAME`: the job file or the cells are a file. `spoil BACK` changes the byte of the
-//!   job file that stands so many places before its end. `open AT LEN`: the operation that is open when the row begins.
+//!   job file that stands so many places before its end. `room LEN`: so many bytes fit into the job file, where it isn't said 256 KiB.
+//!   `open AT LEN`: the operation that is open when the row begins.
 //! - `fail take N`, `fail file N`, `fail cells N`, `fail put N` or `fail line N`: the taking of a file, the call on the job file or on the cells,
 //!   or the put on standard output or on standard error of this number fails.
 //! - `run WORDS`: a call on the row's bench. It prints what was put, the status, the cells that aren't as the row began, and the job file.
@@ -161,6 +163,10 @@ fn change(rt: &HostRuntime, trial: &mut Trial, line: &str) -> Result<()> {
             Ok(())
         }
         ["spoil", back] => trial.spoil(back.parse::<usize>()?),
+        ["room", len] => {
+            trial.widen(len.parse::<u64>()?);
+            Ok(())
+        }
         [what, first, second] => {
             if !change_files(rt, trial, what, first, second)? {
                 change_bench(rt.alloc(), trial, what, first, second)?;
@@ -188,6 +194,7 @@ fn change_files(
             .files
             .give(rt.alloc(), name, bytes_of(rt.alloc(), text)?)?,
         "patch" => patch(rt.alloc(), trial, name, text)?,
+        "pad" => pad(trial, name, text)?,
         _ => return Ok(false),
     }
     Ok(true)
@@ -201,6 +208,15 @@ fn patch(alloc: Global, trial: &mut Trial, name: &str, place: &str) -> Result<()
     let at = at.parse::<usize>()?;
     trial.files.patch(name, at, &bytes_of(alloc, bytes)?);
     Ok(())
+}
+
+/// Fills a file up, as `LEN BYTE` says.
+fn pad(trial: &mut Trial, name: &str, text: &str) -> Result<()> {
+    let Some((len, byte)) = text.split_once(' ') else {
+        bail!("{text}: no length and byte");
+    };
+    let byte = u8::from_str_radix(byte, 16)?;
+    trial.files.pad(name, len.parse::<usize>()?, byte)
 }
 
 /// Changes the job file, the cells, and the calls that fail.

@@ -45,11 +45,12 @@ impl Fails {
     }
 }
 
-/// The files; the bytes of the job file and the cells with which a bench begins, and the operation that is open on them; and the calls that
-/// are to fail.
+/// The files; the room for the job file and for the record of the calls; the bytes of the job file and the cells with which a bench begins,
+/// and the operation that is open on them; and the calls that are to fail.
 #[derive(Drop)]
 pub struct Trial {
     pub files: Files,
+    room: u64,
     pub job: Vec<u8>,
     pub cells: Vec<u8>,
     pub open: Option<(u32, u32)>,
@@ -57,9 +58,9 @@ pub struct Trial {
 }
 
 /// The most cells.
-const MOST: usize = 1 << 20;
+const MOST: usize = 1 << 22;
 
-/// The room for the job file, and for the record of the calls.
+/// The room for the job file, and for the record of the calls, where no more is asked for.
 const ROOM: u64 = 1 << 18;
 
 impl Trial {
@@ -67,6 +68,7 @@ impl Trial {
     pub fn new(alloc: Global) -> Trial {
         Trial {
             files: Files::new(alloc),
+            room: ROOM,
             job: Vec::new(alloc),
             cells: Vec::new(alloc),
             open: None,
@@ -80,7 +82,13 @@ impl Trial {
         self.cells = vec![in alloc; 0xFF; 1024]?;
         self.open = None;
         self.fails = Fails::none();
+        self.room = ROOM;
         Ok(())
+    }
+
+    /// Takes more room for the job file, up to 16 MiB.
+    pub fn widen(&mut self, room: u64) {
+        self.room = room.min(1 << 24);
     }
 
     /// So many cells of one byte, in two digits.
@@ -131,7 +139,7 @@ impl Trial {
 
     /// A bench as the row begins.
     pub fn bench(&self, alloc: Global) -> Result<MemoryBench> {
-        let mut bench = bench_with(alloc, &self.cells, &self.job, self.fails)?;
+        let mut bench = bench_in(alloc, &self.cells, &self.job, self.room, self.fails)?;
         if let Some((at, len)) = self.open {
             let end = u64::from(at) + u64::from(len);
             if len == 0
@@ -149,13 +157,20 @@ impl Trial {
 pub fn bench_with(alloc: Global, cells: &[u8], job: &[u8], fails: Fails) -> Result<MemoryBench>
     ensures { IfOk result (λ bench. (bench_of bench).operation ≡ None) }
 {
+    bench_in(alloc, cells, job, ROOM, fails)
+}
+
+/// The same with so much room for the job file.
+fn bench_in(alloc: Global, cells: &[u8], job: &[u8], room: u64, fails: Fails) -> Result<MemoryBench>
+    ensures { IfOk result (λ bench. (bench_of bench).operation ≡ None) }
+{
     let cells = &cells[..cells.len().min(MOST)];
     Ok(MemoryBench::new(
         alloc,
         cells,
         job,
-        ROOM,
-        ROOM,
+        room,
+        room,
         &fails.files,
         &[fails.cell],
         &[0x5A],

@@ -1,8 +1,9 @@
 //! A small board, and a case for each refusal. The values at each key's ends and outside them, and the forms that people
 //! write, are in the data of the crate `file_vectors`.
 
-use board_file::{BoardFault, Key, Part, read_board};
+use board_file::{Board, BoardFault, Key, Part, read_board};
 use std::alloc::{AllocError, Global};
+use std::process::Abort;
 use std::test::Fail;
 
 /// A small board with this region, and with this line last.
@@ -24,11 +25,16 @@ fn fault_of(alloc: Global, region: &str, last: &str) -> Result<Option<BoardFault
 fn reads_a_small_board(rt: HostRuntime) -> Result<(), Fail> {
     let text = board(rt.alloc(), "{ base = 256, sectors = [[2, 64]] }", "")?;
     let board = read_board(rt.alloc(), text.as_bytes())?;
+    expect_one_region(&rt, &board);
+    Ok(())
+}
+
+/// Asserts that a board has 256 bytes of RAM and a region of 128 cells.
+fn expect_one_region(rt: &impl Abort, board: &Board) {
     assert_eq!(rt; board.ram_size, 256);
     let regions = board.regions.as_slice();
     assert!(rt; regions.len() == 1);
     assert_eq!(rt; regions[0].size, 128);
-    Ok(())
 }
 
 #[test]
@@ -65,10 +71,15 @@ fn reads_two_regions(rt: HostRuntime) -> Result<(), Fail> {
     let regions = "{ base = 1024, sectors = [[2, 64]] }, { base = 768, sectors = [[1, 256]] }";
     let text = board(rt.alloc(), regions, "")?;
     let board = read_board(rt.alloc(), text.as_bytes())?;
+    expect_two_regions(&rt, &board);
+    Ok(())
+}
+
+/// Asserts that a board has a second region, at 768.
+fn expect_two_regions(rt: &impl Abort, board: &Board) {
     let regions = board.regions.as_slice();
     assert!(rt; regions.len() == 2);
     assert_eq!(rt; regions[1].base, 768);
-    Ok(())
 }
 
 #[test]

@@ -3,21 +3,32 @@ use job_text::{Class, class_of_file};
 use std::alloc::{AllocError, Global};
 use std::test::Fail;
 
+/// Whether a file is free.
+fn is_free(alloc: Global, file: &[u8]) -> Result<bool, Fail> {
+    Ok(matches!(class_of_file(alloc, file)?, Class::Free))
+}
+
+/// The offset that shows that a file is no job.
+fn offset_of(alloc: Global, file: &[u8]) -> Result<Option<u64>, Fail> {
+    match class_of_file(alloc, file)? {
+        Class::NotAJob { at } => Ok(Some(at)),
+        _ => Ok(None),
+    }
+}
+
 #[test]
 fn short_and_closed_files_are_free(rt: HostRuntime) -> Result<(), Fail> {
     let files: [&[u8]; 4] = [&[], &[0xA5], &[0, 1], &[0xA4, 1]];
     for file in files {
-        assert!(rt; matches!(class_of_file(rt.alloc(), file)?, Class::Free));
+        assert!(rt; is_free(rt.alloc(), file)?);
     }
     Ok(())
 }
 
 #[test]
 fn an_open_gate_before_no_body_is_no_job(rt: HostRuntime) -> Result<(), Fail> {
-    let class = class_of_file(rt.alloc(), &[0xA5, 0])?;
-    assert!(rt; matches!(class, Class::NotAJob { at: 2 }));
-    let class = class_of_file(rt.alloc(), &[0xA5; 30])?;
-    assert!(rt; matches!(class, Class::NotAJob { at: 1 }));
+    assert_eq!(rt; offset_of(rt.alloc(), &[0xA5, 0])?, Some(2));
+    assert_eq!(rt; offset_of(rt.alloc(), &[0xA5; 30])?, Some(1));
     Ok(())
 }
 
@@ -34,10 +45,7 @@ fn half_a_job(alloc: Global, board: &str) -> Result<Vec<u8>, AllocError> {
 
 /// The offset that shows that it is no job.
 fn shown_at(alloc: Global, board: &str) -> Result<Option<u64>, Fail> {
-    match class_of_file(alloc, &half_a_job(alloc, board)?)? {
-        Class::NotAJob { at } => Ok(Some(at)),
-        _ => Ok(None),
-    }
+    offset_of(alloc, &half_a_job(alloc, board)?)
 }
 
 #[test]

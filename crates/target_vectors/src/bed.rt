@@ -1,4 +1,5 @@
 //! A target of a small board over a bench, which runs code.
+ghost use Rattle.std.specs.Prelude.{OnOk};
 ghost use Rattle.target_core.specs.Targets.{stands};
 ghost use Rattle.target_core.specs.Units.{UnitAgrees};
 
@@ -32,28 +33,36 @@ pub struct Bed<B: Bench + Drop> {
     ghost agrees: { UnitAgrees B.tells (stands target).unit (B.state bench) },
 }
 
+/// Resets a target over a bench of as many cells as its flash has, and puts the code into its RAM.
+fn set_up<B: Bench>(target: &mut Target, bench: &mut B, code: &[u8]) -> Result<()>
+    ensures { OnOk result (UnitAgrees B.tells (stands target.new).unit (B.state bench.new)) }
+{
+    ensure!(
+        target.machine.ram_size == 4096 && code.len() <= 2048,
+        "the code is too long"
+    );
+    let at = target.machine.ram_base.saturating_add(CODE);
+    ensure!(
+        at - target.machine.ram_base == CODE,
+        "the RAM is at the end of all addresses"
+    );
+    ensure!(
+        bench.cells_len() == target.machine.unit.cells(),
+        "the bench has other cells than the board"
+    );
+    match target.reset(bench) {
+        Ok(()) => {}
+        Err(DeviceFault) => bail!("the device failed"),
+    }
+    target.write_ram(at, code);
+    Ok(())
+}
+
 impl<B: Bench + Drop> Bed<B> {
     /// A target with this code over a bench of as many cells as the flash has.
     pub fn new(alloc: Global, code: &[u8], mut bench: B) -> Result<Bed<B>> {
         let mut target = Target::new(alloc, &read_board(alloc, BOARD.as_bytes())?)?;
-        ensure!(
-            target.machine.ram_size == 4096 && code.len() <= 2048,
-            "the code is too long"
-        );
-        let at = target.machine.ram_base.saturating_add(CODE);
-        ensure!(
-            at - target.machine.ram_base == CODE,
-            "the RAM is at the end of all addresses"
-        );
-        ensure!(
-            bench.cells_len() == target.machine.unit.cells(),
-            "the bench has other cells than the board"
-        );
-        match target.reset(&mut bench) {
-            Ok(()) => {}
-            Err(DeviceFault) => bail!("the device failed"),
-        }
-        target.write_ram(at, code);
+        set_up(&mut target, &mut bench, code)?;
         Ok(Bed { target, bench })
     }
 

@@ -35,21 +35,26 @@ use crate::measured::{measure, measure_files};
 use anyhow::Result;
 use std::{env, fs};
 
+/// Does what the words say.
+fn follow(rt: &HostRuntime, words: &[&str]) -> Result<()> {
+    match words {
+        ["measure", words @ ..] => measure(rt, words),
+        ["files", words @ ..] => measure_files(rt, words),
+        names => {
+            for name in names {
+                let text = fs::read_to_string(rt, *name)?;
+                steps::go_through(rt, text.as_str())?;
+            }
+            Ok(())
+        }
+    }
+}
+
 fn main(rt: HostRuntime) -> Result<()> {
     let words = env::args(&rt)?.skip(1).collect::<Vec<String>>(rt.alloc())?;
     let words = words
         .iter()
         .map(|word| word.as_str())
         .collect::<Vec<&str>>(rt.alloc())?;
-    if let ["measure", words @ ..] = words.as_slice() {
-        return measure(&rt, words);
-    }
-    if let ["files", words @ ..] = words.as_slice() {
-        return measure_files(&rt, words);
-    }
-    for name in words.iter() {
-        let text = fs::read_to_string(&rt, *name)?;
-        steps::go_through(&rt, text.as_str())?;
-    }
-    Ok(())
+    follow(&rt, &words)
 }

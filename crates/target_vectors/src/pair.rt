@@ -17,7 +17,7 @@ use target_core::{Frame, Machine, RunEnd, SliceEnd, Target};
 const SIZE: usize = 256;
 
 /// What a run leaves.
-#[derive(Drop)]
+#[derive(Clone, Copy)]
 pub struct Left {
     pub end: RunEnd,
     regs: [u32; 16],

@@ -79,23 +79,32 @@ fn put_turned(rt: &HostRuntime, code: &Code, fuel: u64, left: &Left) -> Result<(
     Ok(())
 }
 
+/// What two machines leave that run by turns.
+fn turned(alloc: Global, one: &Code, other: &Code, fuel: u64, steps: u64) -> Result<(Left, Left)> {
+    ensure!(
+        one.bytes.len() <= 256 && other.bytes.len() <= 256,
+        "no room"
+    );
+    let mut pair = Pair::new(alloc)?;
+    pair.start_one(one.bytes.as_slice(), &one.frame, fuel);
+    pair.start_other(other.bytes.as_slice(), &other.frame, fuel);
+    pair.by_turns(fuel, steps)
+}
+
+/// Runs two machines by turns, and prints how each ended.
+fn put_both(rt: &HostRuntime, one: &Code, other: &Code, fuel: u64, steps: u64) -> Result<()> {
+    let (first, second) = turned(rt.alloc(), one, other, fuel, steps)?;
+    put_turned(rt, one, fuel, &first)?;
+    put_turned(rt, other, fuel, &second)
+}
+
 /// Runs two machines by turns.
 fn turns(rt: &HostRuntime, fuel: &str, steps: &str, one: &[&str], other: &[&str]) -> Result<()> {
     let fuel = fuel.parse::<u64>()?;
     let steps = steps.parse::<u64>()?;
     let one = code_of(rt.alloc(), one)?;
     let other = code_of(rt.alloc(), other)?;
-    ensure!(
-        one.bytes.len() <= 256 && other.bytes.len() <= 256,
-        "no room"
-    );
-    let mut pair = Pair::new(rt.alloc())?;
-    pair.start_one(one.bytes.as_slice(), &one.frame, fuel);
-    pair.start_other(other.bytes.as_slice(), &other.frame, fuel);
-    let (first, second) = pair.by_turns(fuel, steps)?;
-    put_turned(rt, &one, fuel, &first)?;
-    put_turned(rt, &other, fuel, &second)?;
-    Ok(())
+    put_both(rt, &one, &other, fuel, steps)
 }
 
 /// Does a step on a target.
@@ -128,21 +137,31 @@ fn step(rt: &HostRuntime, trial: &mut Trial, line: &str) -> Result<()> {
     go(rt, trial, &words)
 }
 
+/// The target of CODE and FAIL.
+fn target_of(alloc: Global, code: &str, fail: &str) -> Result<Trial> {
+    let (fail, board) = match fail.strip_suffix(" fpec") {
+        Some(fail) => (fail, fpec_board(alloc)?),
+        None => (fail, board(alloc)?),
+    };
+    let fail = fail.parse::<u64>()?;
+    let code = bytes_of(alloc, code)?;
+    Trial::new(alloc, &board, &code, fail)
+}
+
+/// Does the steps of some lines.
+fn steps_of(rt: &HostRuntime, trial: &mut Trial, text: &str) -> Result<()> {
+    for line in text.lines() {
+        step(rt, trial, line)?;
+    }
+    Ok(())
+}
+
 /// Makes the target that a text names first, and goes through its other lines.
 fn go_through_one(rt: &HostRuntime, text: &str) -> Result<()> {
     let (code, text) = text.split_once(' ').context("a target is CODE FAIL")?;
     let (fail, text) = text.split_once('\n').context("a target is CODE FAIL")?;
-    let (fail, board) = match fail.strip_suffix(" fpec") {
-        Some(fail) => (fail, fpec_board(rt.alloc())?),
-        None => (fail, board(rt.alloc())?),
-    };
-    let fail = fail.parse::<u64>()?;
-    let code = bytes_of(rt.alloc(), code)?;
-    let mut trial = Trial::new(rt.alloc(), &board, &code, fail)?;
-    for line in text.lines() {
-        step(rt, &mut trial, line)?;
-    }
-    Ok(())
+    let mut trial = target_of(rt.alloc(), code, fail)?;
+    steps_of(rt, &mut trial, text)
 }
 
 /// Goes through the lines. A case has a target or more, and begins with one.

@@ -1,6 +1,6 @@
 //! Instructions that end otherwise than by going on: each leaves every register and flag as it was.
 
-use super::{BASE, HERE, bus_with, core_at};
+use super::{BASE, HERE, bus_with, core_at, stepped};
 use armv6m_decode::registers::{PC, SP};
 use armv6m_step::StepEnd::{self, BusFault, Unaligned, Undefined};
 use armv6m_step::step;
@@ -14,12 +14,11 @@ fn nothing_is_written(rt: HostRuntime) -> Result<(), AllocError> {
         (0x6808, 0x1000_0000, BusFault { at: 0x1000_0000 }),
         (0x44FF, 0, Undefined { pc: HERE }),
     ] {
-        let mut bus = bus_with(rt.alloc(), code, 0, &[])?;
         let mut core = core_at(HERE);
         core.regs[1] = r1;
         core.c = true;
         let before = core;
-        assert_eq!(rt; step(&mut core, &mut bus), end);
+        assert_eq!(rt; stepped(rt.alloc(), &mut core, code, 0, &[])?, end);
         assert_eq!(rt; core, before);
     }
     Ok(())

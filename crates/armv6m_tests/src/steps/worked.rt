@@ -1,6 +1,6 @@
 //! Examples that are worked out by hand.
 
-use super::{BASE, HERE, bus_with, core_at};
+use super::{BASE, HERE, bus_with, core_at, stepped};
 use armv6m_decode::registers::{LR, PC, SP};
 use armv6m_step::{StepEnd, step};
 use std::alloc::AllocError;
@@ -8,11 +8,11 @@ use std::alloc::AllocError;
 /// LSRS R0, R1, #32 of 0x80000000.
 #[test]
 fn right_by_32(rt: HostRuntime) -> Result<(), AllocError> {
-    let mut bus = bus_with(rt.alloc(), 0x0808, 0, &[])?;
     let mut core = core_at(HERE);
     core.regs[1] = 0x8000_0000;
     core.n = true;
-    assert_eq!(rt; step(&mut core, &mut bus), StepEnd::Went);
+    let end = stepped(rt.alloc(), &mut core, 0x0808, 0, &[])?;
+    assert_eq!(rt; end, StepEnd::Went);
     assert_eq!(rt; core.regs[0], 0);
     assert!(rt; core.c && core.z && !core.n);
     Ok(())
@@ -21,11 +21,11 @@ fn right_by_32(rt: HostRuntime) -> Result<(), AllocError> {
 /// ADCS R0, R1 of 0xFFFFFFFF, 0 and a carry.
 #[test]
 fn sum_with_a_carry(rt: HostRuntime) -> Result<(), AllocError> {
-    let mut bus = bus_with(rt.alloc(), 0x4148, 0, &[])?;
     let mut core = core_at(HERE);
     core.regs[0] = 0xFFFF_FFFF;
     core.c = true;
-    assert_eq!(rt; step(&mut core, &mut bus), StepEnd::Went);
+    let end = stepped(rt.alloc(), &mut core, 0x4148, 0, &[])?;
+    assert_eq!(rt; end, StepEnd::Went);
     assert_eq!(rt; core.regs[0], 0);
     assert!(rt; core.c && core.z && !core.v);
     Ok(())
@@ -34,9 +34,9 @@ fn sum_with_a_carry(rt: HostRuntime) -> Result<(), AllocError> {
 /// BL to the next instruction.
 #[test]
 fn long_branch(rt: HostRuntime) -> Result<(), AllocError> {
-    let mut bus = bus_with(rt.alloc(), 0xF000, 0xF800, &[])?;
     let mut core = core_at(HERE);
-    assert_eq!(rt; step(&mut core, &mut bus), StepEnd::Went);
+    let end = stepped(rt.alloc(), &mut core, 0xF000, 0xF800, &[])?;
+    assert_eq!(rt; end, StepEnd::Went);
     assert_eq!(rt; core.regs[PC as usize], HERE + 4);
     assert_eq!(rt; core.regs[LR as usize], HERE + 5);
     Ok(())
@@ -59,10 +59,10 @@ fn base_in_the_list(rt: HostRuntime) -> Result<(), AllocError> {
 /// POP {PC} of the word 0x20000040, which has bit 0 clear.
 #[test]
 fn return_to_an_even_address(rt: HostRuntime) -> Result<(), AllocError> {
-    let mut bus = bus_with(rt.alloc(), 0xBD00, 0, &[0x40, 0, 0, 0x20])?;
     let mut core = core_at(HERE);
     core.regs[SP as usize] = BASE + 0x100;
-    assert_eq!(rt; step(&mut core, &mut bus), StepEnd::BadState { pc: HERE });
+    let end = stepped(rt.alloc(), &mut core, 0xBD00, 0, &[0x40, 0, 0, 0x20])?;
+    assert_eq!(rt; end, StepEnd::BadState { pc: HERE });
     assert_eq!(rt; core.regs[SP as usize], BASE + 0x100);
     Ok(())
 }
@@ -71,10 +71,10 @@ fn return_to_an_even_address(rt: HostRuntime) -> Result<(), AllocError> {
 #[test]
 fn return_from_the_stack(rt: HostRuntime) -> Result<(), AllocError> {
     let words = [0x80, 0xF1, 0x42, 0xC3, 0x11, 0x22, 0x33, 0x44];
-    let mut bus = bus_with(rt.alloc(), 0xBD02, 0, &words)?;
     let mut core = core_at(HERE);
     core.regs[SP as usize] = BASE + 0x100;
-    assert_eq!(rt; step(&mut core, &mut bus), StepEnd::Went);
+    let end = stepped(rt.alloc(), &mut core, 0xBD02, 0, &words)?;
+    assert_eq!(rt; end, StepEnd::Went);
     assert_eq!(rt; core.regs[1], 0xC342_F180);
     assert_eq!(rt; core.regs[SP as usize], BASE + 0x108);
     assert_eq!(rt; core.regs[PC as usize], 0x4433_2210);
@@ -84,12 +84,12 @@ fn return_from_the_stack(rt: HostRuntime) -> Result<(), AllocError> {
 /// MSR APSR, R0 of 0x5FFFFFFF leaves PRIMASK.
 #[test]
 fn flags_of_a_number(rt: HostRuntime) -> Result<(), AllocError> {
-    let mut bus = bus_with(rt.alloc(), 0xF380, 0x8800, &[])?;
     let mut core = core_at(HERE);
     core.regs[0] = 0x5FFF_FFFF;
     core.n = true;
     core.primask = true;
-    assert_eq!(rt; step(&mut core, &mut bus), StepEnd::Went);
+    let end = stepped(rt.alloc(), &mut core, 0xF380, 0x8800, &[])?;
+    assert_eq!(rt; end, StepEnd::Went);
     assert!(rt; !core.n && core.z && !core.c && core.v && core.primask);
     Ok(())
 }

@@ -1,3 +1,4 @@
+-- `carry`: what `survey` and `finish` ask for.
 use Rattle.std.proofs.Common.{◌≡◌, ◌∙◌, ℕ, List, sym, subst}
 use Rattle.bench_model.specs.History.{LeftOnly}
 use Rattle.bench_model.specs.State.{file_half}

@@ -1,3 +1,4 @@
+-- `finish`: what `close` asks for.
 use Rattle.std.proofs.Common.{◌≡◌, ◌∷◌, ℕ, List, drop, Option, IsSome, refl, sym, subst}
 use Rattle.bench_model.specs.History.{LeftOnly}
 use Rattle.bench_model.specs.State.{file_half}

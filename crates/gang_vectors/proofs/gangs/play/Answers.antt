@@ -1,3 +1,4 @@
+-- `play`: that its loop keeps what it has to.
 use Rattle.std.proofs.Common.{◌∙◌, refl, sym}
 use Rattle.gang_vectors.proofs.gangs.play.Goals as goal
 

@@ -1,3 +1,4 @@
+-- `play_drawn`: that its loop keeps what it has to.
 use Rattle.std.proofs.Common.{◌∙◌, refl, sym}
 use Rattle.gang_vectors.proofs.gangs.play_drawn.Goals as goal
 

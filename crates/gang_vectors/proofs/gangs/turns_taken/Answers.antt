@@ -1,3 +1,4 @@
+-- `turns_taken`: that its loop keeps what it has to.
 use Rattle.std.proofs.Common.{◌∙◌, refl, sym}
 use Rattle.gang_vectors.proofs.gangs.turns_taken.Goals as goal
 

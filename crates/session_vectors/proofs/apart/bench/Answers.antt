@@ -1,3 +1,4 @@
+-- `bench`: its clauses `file`, `cells` and `idle`.
 use Rattle.std.proofs.Common.{ap}
 use Rattle.bench_model.specs.Shown.{Memory}
 use Rattle.session_vectors.proofs.apart.bench.Goals as goal

@@ -1,3 +1,4 @@
+-- `go_apart`: what `carry_apart` asks for.
 use Rattle.std.proofs.Common.{◌∙◌, ℕ, List, length, ap, sym}
 use Rattle.session_vectors.proofs.apart.go_apart.Goals as goal
 

@@ -1,3 +1,4 @@
+-- `Runner::put`: its clause `both`.
 use Rattle.std.proofs.Common.{ℕ, subst}
 use Rattle.target_core.specs.Windows.{IsRam}
 use Rattle.target_vectors.proofs.BothLemmas.{both_stay}
