@@ -1,7 +1,7 @@
 #!/bin/bash
-# Measures jobs of random bytes over random cells, on real files: for each size of a device a line with wall time, processor time in user mode
-# and in the system, and the most memory of `program`, and for the largest also of `status`, `resume` and `revert` of a job that was begun, and
-# of `status` when it is closed. The cells are compared byte for byte. At the end stand the least user times of all rounds.
+# Measures jobs of random bytes over random cells, on real files, and prints the table of docs/MEASURED.md: `program` of each size of a device, for the
+# largest also `status`, `resume` and `revert` of a job that was begun, and `status` when it is closed; and the demonstration. Of all rounds the least
+# times count, and the most memory. The cells are compared byte for byte.
 #   bash tests/cost.sh [PROGRAM [TIMES [OLD]]]        (from crates/flm_tool; else out/flm_tool, each size once; OLD is measured in turn with it)
 set -u
 program=$(realpath "${1:-out/flm_tool}") || exit 1
@@ -15,18 +15,19 @@ trap 'rm -rf "$folder"' EXIT
 cd "$folder" || exit 1
 . "$tests/device.sh"
 wrong=0
-declare -A least
+names=()
+declare -A found
 
-# A command, whose status must be 0, with a line of its own: NAME AT WORDS.., where AT is the program's number.
+# A command, whose status must be 0: NAME AT WORDS.., where AT is the program's number.
 timed() {
-    local name=$1 at=$2 status user
+    local name=$1 at=$2
     shift 2
-    /usr/bin/time -q -f '%e s of wall time, %U s of user time, %S s of system time, %M KiB' -o time "${programs[at]}" job cells "$@" > out 2> err
-    status=$?
-    echo "$name, ${programs[at]}: $(cat time)"
-    user=$(sed 's/.*time, \(.*\) s of user.*/\1/' time)
-    least[$name/$at]=$(awk -v t="$user" -v least="${least[$name/$at]:-999999}" 'BEGIN { print (t < least) ? t : least }')
-    right "$name" "$status" 0
+    /usr/bin/time -q -f '%U %S %e %M' -o time "${programs[at]}" job cells "$@" > out 2> err
+    right "$name" $? 0
+    [ -n "${found[$name/0]:-}" ] || names+=("$name")
+    found[$name/$at]=$(echo "$(cat time) ${found[$name/$at]:-999999 999999 999999 0}" | awk '{
+        for (k = 1; k <= 3; k++) printf "%s ", ($k < $(k + 4)) ? $k : $(k + 4)
+        print ($4 > $8) ? $4 : $8 }')
 }
 
 # Counts a status that isn't the wanted one: NAME STATUS WANTED.
@@ -43,42 +44,59 @@ same() {
     wrong=$((wrong + 1))
 }
 
+# What a device is called: SECTORS SIZE.
+device() {
+    local size=$(($1 * $2)) unit=KiB
+    [ $size -lt 1048576 ] || { size=$((size / 1024)); unit=MiB; }
+    echo "$((size / 1024)) $unit in $(echo "$1" | sed 's/\(.\)\(...\)$/\1,\2/') sectors"
+}
+
 # A size: SECTORS SIZE, with pages of 1,024 bytes. A device of one firmware, all of which is new.
 measure() {
-    local name="$1 sectors of $2" at
+    local name at
+    name="\`program\` of $(device "$1" "$2")"
     board board.toml "$1" "$2" && algorithm a1.flm "$1" "$2" 1024 || exit 1
     random_bytes $(($1 * $2)) > old
     random_bytes $(($1 * $2)) > image
     for at in "${!programs[@]}"; do
         rm -f job
         cp old cells
-        timed "program of $name" "$at" program --raw-at 0x08000000 board.toml a1.flm image
-        same "program of $name" image
+        timed "$name" "$at" program --raw-at 0x08000000 board.toml a1.flm image
+        same "$name" image
     done
 }
 
-# Begins a job, whose output can't be written: NAME AT.
+# Begins a job: AT.
 begin() {
     rm -f job
     cp old cells
-    "${programs[$2]}" job cells program --raw-at 0x08000000 board.toml a1.flm image > /dev/full 2> err
-    right "a job that is begun, $1" $? 10
+    "${programs[$1]}" job cells begin --raw-at 0x08000000 board.toml a1.flm image > out 2> err
+    right 'a job that is begun' $? 0
 }
 
 # The other commands of the device that was measured last, of SECTORS SIZE.
 others() {
-    local name="$1 sectors of $2" at
+    local name at
+    name=$(device "$1" "$2")
     for at in "${!programs[@]}"; do
-        begin "$name" "$at"
-        timed "status of $name" "$at" status
-        timed "resume of $name" "$at" resume
+        begin "$at"
+        timed "\`status\` of $name" "$at" status
+        timed "\`resume\` of $name" "$at" resume
         same "resume of $name" image
-        timed "status of a closed job of $name" "$at" status
-        begin "$name" "$at"
+        timed "\`status\` of a closed job of $name" "$at" status
+        begin "$at"
         head -c $(($1 * $2 / 2)) image > half
         lay half 0 cells
-        timed "revert of $name" "$at" revert
+        timed "\`revert\` of $name, half of the image programmed" "$at" revert
         same "revert of $name" old
+    done
+}
+
+# The rows of a program: AT.
+rows() {
+    local name
+    for name in "${names[@]}"; do
+        echo "${found[$name/$1]}" | awk -v name="$name" '{ printf "| %s | %.2f s | %.2f s | %.2f s | %.0f MB |\n", name, $1, $2, $3, $4 * 1024 / 1e6 }'
     done
 }
 
@@ -87,8 +105,11 @@ for _ in $(seq "$times"); do
     measure 1024 1024
     measure 4096 4096
     others 4096 4096
+    for at in "${!programs[@]}"; do timed '`demo 7`' "$at" demo 7; done
 done
-for name in "${!least[@]}"; do
-    echo "least user time, ${name%/*}, ${programs[${name##*/}]}: ${least[$name]} s"
-done | sort
+for at in "${!programs[@]}"; do
+    echo "| ${programs[at]##*/}, $(date '+%-d %B %Y') | User | System | Wall | Memory |"
+    echo '|---|---|---|---|---|'
+    rows "$at"
+done
 [ $wrong = 0 ]

@@ -1,7 +1,7 @@
 #!/bin/bash
 # Measures a gang of sixteen devices of 1 MiB on real files, all of which is erased and programmed, against `resume` of the same jobs one after the other:
-# wall time, processor time (in user mode and in the system together), and the most memory. The cells are compared byte for byte. At the end stand the
-# least of all rounds, and the gang's as a multiple of the sum of the sixteen alone, which may not be above 1.1.
+# wall time, processor time (in user mode and in the system together), and the most memory. The cells are compared byte for byte. At the end stands the
+# table of docs/MEASURED.md: the least of all rounds, and the gang's as a multiple of the sum of the sixteen alone, which may not be above 1.1.
 #   bash tests/cost_of_a_gang.sh [PROGRAM [TIMES [DEVICES [SECTORS]]]]
 #                                    (from crates/flm_tool; else out/flm_tool, once, 16 devices, and 1,024 sectors of 1,024 bytes)
 set -u
@@ -68,9 +68,13 @@ for round in $(seq "$times"); do
         note alone "$name" "${sum[$name]}"
     done
 done
+echo "| $devices devices, $(date '+%-d %B %Y') | By one gang | By \`resume\`, one after the other | Times |"
+echo '|---|---|---|---|'
 for name in $measures; do
     share=$(awk -v a="${least[gang/$name]}" -v b="${least[alone/$name]}" 'BEGIN { printf "%.3f", (b > 0) ? a / b : 1 }')
-    echo "least $name: the gang ${least[gang/$name]}, alone in all ${least[alone/$name]}: $share times"
+    unit=s
+    [ "$name" != memory ] || unit=KiB
+    echo "| $name | ${least[gang/$name]} $unit | ${least[alone/$name]} $unit | $share |"
     row "$name: $share times" "$(awk -v s="$share" 'BEGIN { print (s <= 1.1) ? 0 : 1 }')"
 done
 [ $wrong = 0 ]

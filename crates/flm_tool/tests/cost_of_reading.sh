@@ -1,6 +1,6 @@
 #!/bin/bash
-# Measures what reading costs: `compare` of 16 MiB beside cmp, by turns, and `plan` of 65,536 sectors; and inputs that were made to be
-# dear, none of which may take more than 1 GiB or 30 s.
+# Measures what reading costs, and prints the tables of docs/MEASURED.md: `compare` of 16 MiB beside cmp, by turns, and `plan` of 65,536 sectors, which may take 42 MiB; then
+# `verify` of 16 MiB in each form; and inputs that were made to be dear, none of which may take more than 1 GiB or 30 s.
 #   bash tests/cost_of_reading.sh [PROGRAM [OLD]]        (from crates/flm_tool; else out/flm_tool; OLD is measured beside it, by turns)
 # It ends with status 1 where a figure is past its limit.
 set -u
@@ -33,13 +33,19 @@ least() {
                 '{ t = ($1 + $2) * 1000 / runs; print (t < least) ? t : least }')
         done
     done
-    for at in "${!programs[@]}"; do echo "$name: ${least[at]} ms, ${programs[at]##*/}"; done
+    for at in "${!programs[@]}"; do
+        awk -v name="$name, ${programs[at]##*/}" -v t="${least[at]}" 'BEGIN { printf "| %s | %.1f ms |\n", name, t }'
+    done
 }
+
+today=$(date '+%-d %B %Y')
+echo "| The least of five samples, $today | User and system |"
+echo '|---|---|'
 
 random_bytes 16777216 > cells
 cp cells image
 cmp_of_both() { cmp cells image; }
-least 'compare of 16 MiB' 20 "$program" ${old:+"$old"} cmp_of_both -- job cells compare image
+least '`compare` of 16 MiB' 20 "$program" ${old:+"$old"} cmp_of_both -- job cells compare image
 
 # The file of the algorithm A1, for 65,536 sectors of 256 bytes with pages of 16: device size, page size and size of a sector in place of theirs.
 cp "$data/a1.flm" a1.flm
@@ -47,20 +53,28 @@ at=$(LC_ALL=C grep -obUaP '\x00\x00\x00\x08\x00\x04\x00\x00\x40\x00\x00\x00' a1.
 printf '\0\0\0\1\20\0\0\0' | dd status=none of=a1.flm bs=1 seek=$((at + 4)) conv=notrunc
 board board.toml 65536 256
 random_bytes 16777216 > image
-least 'plan of 65,536 sectors' 1 "$program" ${old:+"$old"} -- job cells plan --raw-at 0x08000000 board.toml a1.flm image
-printf '%s bytes of text\n' "$(wc -c < out)"
+least '`plan` of 65,536 sectors, all used' 1 "$program" ${old:+"$old"} -- job cells plan --raw-at 0x08000000 board.toml a1.flm image
+echo
+
+# Its memory is that of the image as taken and as read, 16 MiB each, and of the plan, with four bytes for a page: no list of cells is held.
+for one in "$program" ${old:+"$old"}; do
+    /usr/bin/time -q -f %M -o time "$one" job cells plan --raw-at 0x08000000 board.toml a1.flm image > out 2> err
+    most=$(cat time)
+    echo "plan of 65,536 sectors: $((most / 1024)) MiB, ${one##*/}"
+    [ "$one" != "$program" ] || [ "$most" -le 43008 ] || past=$((past + 1))
+done
 
 # So many MiB of a text over and over: MIB TEXT.
 over() { yes "$2" | tr -d '\n' | head -c $(($1 * 1048576)); }
 
-# A command on a dear input: NAME STATUS WORDS..
+# A command on an input, and a row of what it costs: NAME STATUS WORDS..
 dear() {
     local name=$1 status=$2
     shift 2
     timed "$program" job cells "$@"
     local found=$?
     read -r _ _ wall most < time
-    echo "$name: status $found, $wall s, $((most / 1024)) MiB"
+    awk -v name="$name" '{ printf "| %s | %.2f s | %.2f s | %.2f s | %.0f MB |\n", name, $1, $2, $3, $4 * 1024 / 1e6 }' time
     if [ $found != "$status" ] || [ "$most" -gt 1048576 ] || [ "${wall%.*}" -ge 30 ]; then
         echo "$name: past the limit, or not status $status: $(head -c 200 err)"
         past=$((past + 1))
@@ -105,11 +119,26 @@ elf_of_bytes() {
     }' | xxd -r -p
 }
 
+echo "| \`plan\` and \`verify\` of 16 MiB, $today | User | System | Wall | Memory |"
+echo '|---|---|---|---|---|'
+dear '`plan` of 65,536 sectors, all used' 0 plan --raw-at 0x08000000 board.toml a1.flm image
+cp image cells
+board board.toml 4096 4096
+dear 'raw bytes' 0 verify --raw-at 0x08000000 board.toml image
+"$program" job cells dump hex board.toml > input && dear "Intel HEX, $(($(wc -c < input) >> 20)) MiB of text" 0 verify board.toml input
+"$program" job cells dump srec board.toml > input && dear "S-records, $(($(wc -c < input) >> 20)) MiB of text" 0 verify board.toml input
+(grep -v '^S7' input | shuf; echo S70500000000FA) > shuffled && dear 'the same, shuffled' 0 verify board.toml shuffled
+awk 'NR % 2 == 0 || /^S7/' input > apart && dear "every second of these records" 0 verify board.toml apart
+(grep -v '^S7' apart | shuf; echo S70500000000FA) > shuffled && dear 'the same, shuffled' 0 verify board.toml shuffled
+echo
+
+echo "| Input that is dear, $today | User | System | Wall | Memory |"
+echo '|---|---|---|---|---|'
 printf '\1' > one
-over 64 '[1,1],' > input && dear 'a board of 64 MiB of [1,1],' 1 verify input one
-(awk 'BEGIN { for (n = 0; n < 6500000; n++) print "k" n "=1" }' | head -c 67108864) > input && dear 'a board of 64 MiB of kN=1' 1 verify input one
+over 64 '[1,1],' > input && dear 'a board of 64 MiB of `[1,1],`' 1 verify input one
+(awk 'BEGIN { for (n = 0; n < 6500000; n++) print "k" n "=1" }' | head -c 67108864) > input && dear 'a board of 64 MiB of `kN=1`' 1 verify input one
 (printf 'a = ['; over 1 '[1,1],' | head -c 1048560; printf ']') > input && dear 'a board with an array of 1 MiB' 6 verify input one
-(awk 'BEGIN { for (n = 0; n < 110000; n++) print "k" n "=1" }' | head -c 1048575) > input && dear 'a board of 1 MiB of kN=1' 6 verify input one
+(awk 'BEGIN { for (n = 0; n < 110000; n++) print "k" n "=1" }' | head -c 1048575) > input && dear 'a board of 1 MiB of `kN=1`' 6 verify input one
 board board.toml 65536 256
 hex_of_bytes 4700000 > input && dear 'Intel HEX of 4,700,000 bytes apart' 13 verify board.toml input
 srec_of_bytes 3900000 > input && dear 'S-records of 3,900,000 bytes apart' 13 verify board.toml input

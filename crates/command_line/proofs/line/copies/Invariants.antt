@@ -1,3 +1,4 @@
+-- `copies`: what holds at each turn of its loop.
 use Rattle.std.proofs.Common.{◌≡◌, take}
 use Rattle.command_line.specs.Texts.{texts_of}
 use Rattle.command_line.proofs.line.copies.Given as goal

@@ -1,3 +1,4 @@
+-- `know_texts`: that its loop keeps what it has to.
 use Rattle.command_line.proofs.Shorts.{AreTexts-more}
 use Rattle.command_line.proofs.line.know_texts.Goals as goal
 

@@ -1,3 +1,4 @@
+-- `read_line`: its clauses `usage` and `ok`.
 use Rattle.std.proofs.Common.{◌≤◌, ◌∙◌, option_map, length, sym, ap, rules}
 use Rattle.clap.specs.Lexer.{usize_max}
 use Rattle.command_line.specs.Rows.{asked}

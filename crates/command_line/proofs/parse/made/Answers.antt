@@ -1,3 +1,4 @@
+-- `made`: that it keeps its contract.
 use Rattle.std.proofs.Common.{◌≡◌, ◌∙◌, ap, subst, codes, IfOk}
 use Rattle.clap.specs.Simple.{App, app_of}
 use Rattle.command_line.specs.Made.{with_leaf}

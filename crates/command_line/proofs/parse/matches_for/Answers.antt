@@ -1,3 +1,4 @@
+-- `matches_for`: its clause `usage`.
 use Rattle.std.proofs.Common.{◌≢◌, refl, rules, Ok, Err}
 use Rattle.clap.specs.Values.{kind_of}
 use Rattle.clap.specs.Simple.{app_of}

@@ -1,3 +1,4 @@
+-- `survey`: its clauses `looks` and `surveyed`.
 use Rattle.std.proofs.Common.{rules, ◌≡◌, ◌∙◌, sym, Err}
 use Rattle.device_dump.proofs.LooksLemmas.{looks_dropped, looks_by, only_reads, all_read}
 use Rattle.device_dump.proofs.cell_survey.survey.Goals as goal

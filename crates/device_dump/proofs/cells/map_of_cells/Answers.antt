@@ -1,3 +1,4 @@
+-- `map_of_cells`: that its loop keeps what it has to.
 use Rattle.std.proofs.Common.{refl}
 use Rattle.device_dump.proofs.CellLemmas.{one_mapped}
 use Rattle.device_dump.proofs.cells.map_of_cells.Goals as goal

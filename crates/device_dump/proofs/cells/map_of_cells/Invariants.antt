@@ -1,3 +1,4 @@
+-- `map_of_cells`: what falls with each turn of each of its loops.
 use Rattle.device_dump.proofs.CellLemmas.{IsMapSoFar}
 use Rattle.device_dump.proofs.cells.map_of_cells.Given as given
 

@@ -1,3 +1,4 @@
+-- `dumps_are_read_as_their_cells`: its clauses `one`, `read` and `alone`.
 use Rattle.device_dump.proofs.CellLemmas.{one_map}
 use Rattle.device_dump.proofs.LawLemmas.{dump_read, dump_alone}
 use Rattle.device_dump.proofs.law.dumps_are_read_as_their_cells.Goals as goal

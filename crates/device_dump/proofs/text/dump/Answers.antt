@@ -1,3 +1,4 @@
+-- `dump`: its contract, `DumpEnds`, and what `dump_cells` asks for.
 use Rattle.std.proofs.Common.{rules, ◌≡◌, ◌∙◌, sym, subst, arith, ℕ, List, Err}
 use Rattle.board_file.specs.Limits.{size_of}
 use Rattle.board_file.specs.Shown as board

@@ -1,3 +1,4 @@
+-- `dump_cells`: its contract, `DumpsCells`.
 use Rattle.std.proofs.Common.{◌≡◌, ◌∙◌, sym, subst, arith, length, List, ℕ, IsTrue}
 use Rattle.std.proofs.lemmas.Result.{err_from_is_err_and}
 use Rattle.board_file.specs.declared.region.Region.{Region}

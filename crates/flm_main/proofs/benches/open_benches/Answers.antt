@@ -1,3 +1,4 @@
+-- `open_benches`: its clauses `jobs` and `cells`, that its loop keeps what it has to, and what `open_bench` asks for.
 use Rattle.std.proofs.Common.{◌≡◌, ◌<◌, ◌∙◌, List, length, take, map, ap, arith}
 use Rattle.host_files.specs.Bench.{job_name_of, cells_name_of}
 use Rattle.host_files.specs.declared.file_bench.FileBench.{FileBench}

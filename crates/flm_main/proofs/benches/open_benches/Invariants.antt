@@ -1,3 +1,4 @@
+-- `open_benches`: what holds at each turn of its loop.
 use Rattle.std.proofs.Common.{◌≡◌, take, map}
 use Rattle.host_files.specs.Bench.{job_name_of, cells_name_of}
 use Rattle.flm_main.specs.Line.{job_names, cells_names}

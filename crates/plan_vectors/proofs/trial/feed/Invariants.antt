@@ -1,3 +1,4 @@
+-- `feed`: what holds at each turn of its loop, and what falls with it.
 use Rattle.std.proofs.Common.{◌≡◌, ◌≤◌, ◌-◌, length}
 use Rattle.erase_planner.specs.Marks.{Covers}
 use Rattle.plan_vectors.proofs.trial.feed.Given as goal

@@ -1,3 +1,4 @@
+-- `first_difference`: its clause `ok`, and that its loop keeps what it has to.
 use Rattle.std.proofs.Common.{arith, refl, sym, ◌∙◌}
 use Rattle.readback.proofs.ReadbackLemmas.{SoFar-then, SoFar-differs}
 use Rattle.readback.proofs.compare.first_difference.Goals as goal

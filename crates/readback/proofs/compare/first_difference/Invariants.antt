@@ -1,3 +1,4 @@
+-- `first_difference`: what holds at each turn of its loop, and what falls with it.
 use Rattle.std.proofs.Common.{◌-◌, length}
 use Rattle.readback.proofs.ReadbackLemmas.{SoFar}
 use Rattle.readback.proofs.compare.first_difference.Given as goal

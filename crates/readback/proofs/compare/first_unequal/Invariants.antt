@@ -1,3 +1,4 @@
+-- `first_unequal`: what holds at each turn of its loop.
 use Rattle.std.proofs.Common.{◌≡◌, take}
 use Rattle.readback.proofs.compare.first_unequal.Given as goal
 

@@ -1,3 +1,4 @@
+-- `counted_bytes`: its contract, `IsCounted`.
 use Rattle.std.proofs.Common.{◌≡◌, ◌∙◌, ℕ, List, Ok, inr, arith, sym, ap}
 use Rattle.std.specs.List.{each_same, repeat}
 use Rattle.std.specs.Str.Parse.{digits_value, without_leading_plus}

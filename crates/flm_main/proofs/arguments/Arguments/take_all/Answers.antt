@@ -1,3 +1,4 @@
+-- `Arguments::take_all`: that it keeps its contract, and that its loop keeps what it has to.
 use Rattle.std.proofs.Common.{rules, ◌≡◌, ◌∷◌, [], ◌++◌, ◌∙◌, List, ℕ, length, map, string_bytes, refl, sym, ap, append_assoc, append-nil, arith}
 use Rattle.std.proofs.lemmas.List.{map-append}
 use Rattle.std.specs.Vec.Iter.{into_iter_items}

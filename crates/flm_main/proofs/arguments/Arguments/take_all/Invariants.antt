@@ -1,3 +1,4 @@
+-- `Arguments::take_all`: what holds at each turn of its loop.
 use Rattle.std.proofs.Common.{◌≡◌, ◌++◌, map, string_bytes}
 use Rattle.std.specs.Vec.Iter.{into_iter_items}
 use Rattle.flm_main.proofs.arguments.Arguments.take_all.Given as goal
