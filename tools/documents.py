@@ -3,13 +3,15 @@
 
 Of each code span outside a block: a path must be a file or a folder (of the repository, of crates/, of a crate's src/, specs/ or
 proofs/); 'function: clause' must be a clause of a function of that name; and a name of this project's kind (with a '_', a '::' or two
-capitals) must stand as a word in some source, script or stored run. Links must lead to a file and to a heading. Ends with 1 where one doesn't."""
+capitals) must stand as a word in some source, script or stored run. Links must lead to a file and to a heading. Each crate of crates.txt must be named in
+README.md or docs/TESTS.md, and in docs/ARCHITECTURE.md; and the documents that are to be short must be. Ends with 1 where something doesn't hold."""
 import os, re, sys
 
 ROOT = os.path.dirname(os.path.dirname(os.path.abspath(__file__)))
 DOCUMENTS = ["README.md", *sorted(f"docs/{it}" for it in os.listdir(f"{ROOT}/docs"))]
 SOURCES = (".rt", ".antt", ".sh", ".py", ".txt", ".toml", ".edit")
 ENDS = ("", ".rt", ".antt")
+MOST_LINES = {"README.md": 220, "docs/PROMISES.md": 250, "docs/GATE.md": 90, "docs/MEASURED.md": 120}
 OUTSIDE = {"toProg", "toErase"}  # fields of FlashOS.h
 
 
@@ -95,8 +97,25 @@ def is_ours(name):
     return name not in OUTSIDE and ("::" in name or "_" in name.strip("_") or re.search(r"[a-z][A-Z]", name))
 
 
+def faults_of_all():
+    """What holds of the documents as a whole: their lengths, and that each crate has its place."""
+    texts = {path: read(f"{ROOT}/{path}") for path in DOCUMENTS}
+    for path, most in MOST_LINES.items():
+        if texts[path].count("\n") > most:
+            yield f"{path}: {texts[path].count(chr(10))} lines, more than {most}"
+    words = {path: set(re.findall(r"\w+", text)) for path, text in texts.items()}
+    for crate in re.findall(r"^(\w+):", read(f"{ROOT}/crates.txt"), re.M):
+        if crate not in words["README.md"] | words["docs/TESTS.md"]:
+            yield f"README.md: {crate} isn't named there or in docs/TESTS.md"
+        if crate not in words["docs/ARCHITECTURE.md"]:
+            yield f"docs/ARCHITECTURE.md: {crate} isn't named"
+
+
 def main():
     count = 0
+    for it in faults_of_all():
+        print(it)
+        count += 1
     for path in DOCUMENTS:
         in_block = False
         for number, line in enumerate(read(f"{ROOT}/{path}").split("\n"), 1):

@@ -6,7 +6,8 @@ are made of them.
   python3 tools/job_files.py hashes NAME      prints the list of changes of that name (changes.txt, two.txt) with the hashes that its files keep
   python3 tools/job_files.py first            prints what is made of a job of the first format: in crates/job_vectors/stdout behind that line
   python3 tools/job_files.py second           the same of one of the second format
-  python3 tools/job_files.py two              the same of one of two regions, behind its line on cells
+  python3 tools/job_files.py two              the same of one of two regions
+  python3 tools/job_files.py stops            prints how the job is begun, stopped, closed and opened: the beginning of crates/job_vectors/stdout
 
 They are called from the repository's top. Each line of a list is `WHAT: CHANGE..`, a CHANGE `AT=BYTES`, `cut=LENGTH` or `more=BYTES`."""
 import hashlib
@@ -14,9 +15,8 @@ import os
 import struct
 import sys
 
+import jobs
 from formats import Damaged, Elf, Job, NotAJob, is_free, job_file
-
-
 
 FOUR = {0x08000000 + k: k + 1 for k in range(4)}
 BOTH = {**FOUR, 0x1FFFF000: 0x55}
@@ -141,6 +141,94 @@ def differences(old, new):
     return changes
 
 
+# ---- the job, begun and opened on a bench
+
+def refused(fault):
+    """A refusal of a job file by its name."""
+    words = fault.args[0]
+    if words[0] == "not a job at ":
+        return "NotAJob %s" % words[1]
+    return {"open": "JobOpen", "none": "NoJob"}.get(words[0]) or "CellsDiffer %s %s" % (words[0], words[2])
+
+
+def ended(done, act):
+    """How an act on a bench ends."""
+    try:
+        act()
+    except jobs.NotFree as fault:
+        return refused(fault)
+    except (jobs.StoreFault, jobs.DeviceFault) as fault:
+        return type(fault).__name__
+    return done
+
+
+def begin(bench, two=False):
+    if two:
+        jobs.begin(bench, read("two.toml"), [read("algorithm.flm"), read("second.flm")], BOTH, 1280)
+    else:
+        jobs.begin(bench, read("small.toml"), [read("algorithm.flm")], FOUR, 1024)
+
+
+def begin_and_close(bench):
+    begin(bench)
+    bench.write_synced(0, b"\0")
+
+
+def put_stops(job, file):
+    """Of a job that is begun over a file and closed, a line for each number of calls that go through: its end, and what each pick leaves."""
+    for calls in range(23):
+        told = []
+        for pick in ("written", "old", "5A"):
+            bench = jobs.Bench(BLANK * 1024, file)
+            bench.left = calls
+            end = ended("done", lambda: begin_and_close(bench))
+            bench.power_loss(pick)
+            told.append(kind(bytes(bench.file), job) + ("" if bytes(bench.cells) == BLANK * 1024 else ", cells changed"))
+        print("%d calls: %s" % (calls, "; ".join([end, *told])))
+
+
+def put_busy(job):
+    bench = jobs.Bench(BLANK * 1024)
+    bench.cells_open(256, 256)
+    begin(bench)
+    print("an open operation: %s, %d cells" % (kind(bytes(bench.file), job), bench.cells.count(0x5A)))
+    print("its snapshot is the cells: " + ("true" if bench.file.endswith(bench.cells) else "false"))
+
+
+def put_begun(bench, job, two=False):
+    print("%s, %s" % (ended("begun", lambda: begin(bench, two)), kind(bytes(bench.file), job)))
+
+
+def put_opened(bench):
+    found = []
+    end = ended("", lambda: found.append(jobs.open_job(bench)))
+    for job in found:
+        for it in job.algorithms:
+            byte = job.image.get(it.base)
+            print("%08X %d, %s, " % (it.base, it.size, "None" if byte is None else "Some(%d)" % byte), end="")
+        end = "%d cells" % sum(it[1] for it in job.board.regions)
+    print(end)
+
+
+def put_all_stops(job):
+    for title, file in (("an empty file", b""), ("a closed job", b"\0" + job[1:])):
+        print(title)
+        put_stops(job, file)
+    put_busy(job)
+    print("begin")
+    for cells, file in ((1024, job), (1024, b"\xa5\0"), (1024, b"\xa5"), (512, b""), (512, job)):
+        put_begun(jobs.Bench(BLANK * cells, file), job)
+    for number in range(1, 19):
+        put_begun(jobs.Bench(BLANK * 1024, b"\0\7\7", [number]), job)
+    for number in (1, 2):
+        put_begun(jobs.Bench(BLANK * 1024, b"\0\7\7", (), [number]), job)
+    print("open")
+    for cells, file in ((1024, job), (1024, b""), (1024, b"\xa5"), (1024, b"\xa5\0"), (512, b"\xa5\0"), (512, job)):
+        put_opened(jobs.Bench(BLANK * cells, file))
+    for number in range(1, 13):
+        put_opened(jobs.Bench(BLANK * 1024, job, [number]))
+
+
 def main(words):
     os.chdir(os.path.join(os.path.dirname(os.path.abspath(__file__)), ".."))
     made = files()
@@ -159,7 +247,12 @@ def main(words):
         put_prefixes(made["job.bin"])
         put_changes(made["job.bin"], "changes.txt")
         put_single_bytes(made["job.bin"])
+    elif words[0] == "stops":
+        put_all_stops(made["job.bin"])
     elif words[0] == "two":
+        bench = jobs.Bench(BLANK * 1280)
+        put_begun(bench, made["two.bin"], True)
+        put_opened(jobs.Bench(BLANK * 1280, bytes(bench.file)))
         put_prefixes(made["two.bin"])
         put_changes(made["two.bin"], "two.txt")
 

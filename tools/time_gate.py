@@ -1,5 +1,6 @@
 #!/usr/bin/env python3
 """time_gate.py [-o TABLE] -- COMMAND: runs a gate (`rt ci --anew`, say) at the top of the repository and makes a table of what each crate cost.
+time_gate.py --short TABLE: prints of such a table what docs/GATE.md shows: lines and seconds of each crate, two crates a row.
 
 Every half second it reads the processor time, user and system, of each process below the command, and the most memory that it has taken.
 A process belongs to the crate that its words or its folder name: to its proof (or that of its tests, or its build), to the check as it
@@ -170,8 +171,24 @@ def table(crates, root, whole, wall):
     return "\n".join(told)
 
 
+def short(told):
+    """The rows of a table that was made, the dearest crate first, the first half on the left and the second on the right. What no crate has is left out."""
+    rows = [[it.strip() for it in line.strip("|\n ").split("|")] for line in told if line.startswith("| `")]
+    columns = {"Crate": [it[0] for it in rows], "Lines": [it[1] for it in rows], "Proof": [it[2] for it in rows],
+               "Wrong bodies": [str(int(it[4]) + int(it[5])) for it in rows], "Runs": [it[6] for it in rows]}
+    columns = {name: its for name, its in columns.items() if any(it != "0" for it in its)}
+    half = (len(rows) + 1) // 2
+    cells = ["".join(f"| {it} " for it in row) for row in zip(*columns.values())] + ["| " * len(columns)] * (2 * half - len(rows))
+    lines = ["".join(f"| {it} " for it in columns) * 2 + "|", "|" + "---|" * 2 * len(columns)]
+    return "\n".join(lines + [f"{left}{right}|" for left, right in zip(cells[:half], cells[half:])])
+
+
 def main():
     words, file = sys.argv[1:], None
+    if words[:1] == ["--short"] and len(words) == 2:
+        with open(words[1], encoding="utf-8") as told:
+            print(short(told))
+        return
     if words[:1] == ["-o"]:
         file, words = words[1], words[2:]
     command = words[1:] if words[:1] == ["--"] else words
