@@ -47,7 +47,7 @@ pub fn slices_end_as_the_call<B: Bench>()
 pub fn calls_in_turn_compose<B: Bench>()
     ensures { (s : Setup) (w between w' : World) (p q : Request) (start turn end : B) (e f : CallEnd) → is_device_call e ≡ false
         → CallGives s w p (B.state start) e between (B.state turn) → CallGives s between q (B.state turn) f w' (B.state end)
-        → InTurn s w p q (B.state start) f w' (B.state end) }
+        → InTurn s w p q (B.state start) (B.state turn) f w' (B.state end) }
 {}
 
 /// What a reset leaves in the range of an operation that it breaks off is any bytes, and the cells outside it stay: the contents that
@@ -60,7 +60,7 @@ pub fn resets_break_off<B: Bench>()
     ensures moments { (path : Piece) (start end : B) → StandsOn path (B.state start)
         → Leaves (cells_half (B.state start)) (cells_half (B.state end)) (SameOutside (B.state start).operation (B.state start).cells)
         → Leaves (cells_half (B.state start)) (cells_half (B.state end)) (IsLeftOn path) }
-    ensures behind { (path : Piece) (now : B) → BreaksOffOn path (B.state now) → StandsOn path (B.state now) }
+    ensures behind { (path : Piece) (start now : B) → BreaksOffOn path (B.state start) (B.state now) → StandsOn path (B.state now) }
 {}
 
 /// A call that keeps its duty leaves each cell outside its sector or page as it was, wherever a stop of the power comes; one that is to

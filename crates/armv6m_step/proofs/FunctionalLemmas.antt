@@ -31,14 +31,17 @@ module _ {B W : Type 0} (acts : B → Access → Result ℕ BusEnd → B → Typ
   one_outcome (Gives o) core core' b b' e runs = inr (given_seen o core core' e (view b) (view b') runs.0 (ap view runs.1))
   one_outcome (Asks access then') core core' b b' e runs =
       let after : W = (answers (view b) access).1 in
-      (elim runs.0 as (λ answer. (mid : B) → acts b access answer mid → MatchResult answer (λ v. Runs acts (then' v) core mid e core' b') (λ x. (e ≡ access_end access x) × (core' ≡ core) × (b' ≡ mid)) → Same (Asks access then') core b e core' b') [
+      (elim runs.0 as (λ answer. (mid : B) → acts b access answer mid → MatchResult answer (λ v. Runs acts (then' v) core mid e core' b')
+      (λ x. (e ≡ access_end access x) × (core' ≡ core) × (b' ≡ mid)) → Same (Asks access then') core b e core' b') [
         | Ok v ↦ λ mid act rest. ⊎_elim
             (λ (failed : (Ok v ≡ Err bus_end.Device) × Excuse). cc)
             (λ (gave : (Ok v ≡ (answers (view b) access).0) × (view mid ≡ after)). ⊎_elim
             (λ (failed : (e ≡ end.Device) × Excuse). inl failed)
             (λ (went : seen e core' (view b') ≡ outcome answers (then' v) core (view mid)).
-            let here : seen e core' (view b') ≡ outcome answers (then' v) core after = subst (λ (w : W). seen e core' (view b') ≡ outcome answers (then' v) core w) gave.1 went in
-            inr (subst (λ (r : Result ℕ BusEnd). seen e core' (view b') ≡ follow r (λ u. outcome answers (then' u) core after) (λ x. record { ends = access_end access x; core = core; bus = after })) gave.0 here))
+            let here : seen e core' (view b') ≡ outcome answers (then' v) core after =
+            subst (λ (w : W). seen e core' (view b') ≡ outcome answers (then' v) core w) gave.1 went in
+            inr (subst (λ (r : Result ℕ BusEnd). seen e core' (view b') ≡ follow r (λ u. outcome answers (then' u) core after)
+            (λ x. record { ends = access_end access x; core = core; bus = after })) gave.0 here))
             (one_outcome (then' v) core core' mid b' e rest))
             (alone b access (Ok v) mid act)
         | Err x ↦ λ mid act rest. ⊎_elim
@@ -47,11 +50,13 @@ module _ {B W : Type 0} (acts : B → Access → Result ℕ BusEnd → B → Typ
             inl (rest.0 ∙ ap (λ (y : BusEnd). access_end access y) device, failed.1))
             (λ (gave : (Err x ≡ (answers (view b) access).0) × (view mid ≡ after)).
             let here : seen e core' (view b') ≡ seen (access_end access x) core after = same_seen _ _ _ _ _ _ rest.0 rest.1 (ap view rest.2 ∙ gave.1) in
-            inr (subst (λ (r : Result ℕ BusEnd). seen e core' (view b') ≡ follow r (λ u. outcome answers (then' u) core after) (λ y. record { ends = access_end access y; core = core; bus = after })) gave.0 here))
+            inr (subst (λ (r : Result ℕ BusEnd). seen e core' (view b') ≡ follow r (λ u. outcome answers (then' u) core after)
+            (λ y. record { ends = access_end access y; core = core; bus = after })) gave.0 here))
             (alone b access (Err x) mid act)
       ]) runs.1 runs.2 runs.3
 
   -- the same of the instruction at the PC
-  pub one_step : (core core' : Core) (b b' : B) (e : StepEnd) → Runs acts (instruction core) core b e core' b' → ((e ≡ end.Device) × Excuse) ⊎ (seen e core' (view b') ≡ step_of answers core (view b))
+  pub one_step : (core core' : Core) (b b' : B) (e : StepEnd) → Runs acts (instruction core) core b e core' b' → ((e ≡ end.Device) × Excuse) ⊎
+      (seen e core' (view b') ≡ step_of answers core (view b))
   unfolding step_of
   one_step core core' b b' e runs = one_outcome (instruction core) core core' b b' e runs

@@ -34,7 +34,8 @@ unfolding Runs
 runs_carry acts R here failed more (Gives o) core core' b b' e runs =
     subst (λ y. R b e y) (sym runs.1) (here b e (leaves_no_device o core core' e runs.0))
 runs_carry {B} acts R here failed more (Asks access then') core core' b b' e runs =
-    (elim runs.0 as (λ answer. (mid : B) → acts b access answer mid → MatchResult answer (λ v. Runs acts (then' v) core mid e core' b') (λ x. (e ≡ access_end access x) × (core' ≡ core) × (b' ≡ mid)) → R b e b') [
+    (elim runs.0 as (λ answer. (mid : B) → acts b access answer mid → MatchResult answer (λ v. Runs acts (then' v) core mid e core' b')
+    (λ x. (e ≡ access_end access x) × (core' ≡ core) × (b' ≡ mid)) → R b e b') [
       | Ok v ↦ λ mid act rest. more b mid b' access v e act (runs_carry acts R here failed more (then' v) core core' mid b' e rest)
       | Err x ↦ λ mid act rest. subst (λ y. R b e y) (sym rest.2) (subst (λ y. R b y mid) (sym rest.0) (failed b mid access x act))
     ]) runs.1 runs.2 runs.3
@@ -48,7 +49,8 @@ access_device access bus_end.Device = refl
 
 -- a bus that counts the device faults of its accesses counts that of an instruction
 pub runs_counted : {B : Type 0} (acts : B → Access → Result ℕ BusEnd → B → Type 0) (faults : B → ℕ)
-    → ((before : B) (access : Access) (answer : Result ℕ BusEnd) (after : B) → acts before access answer after → IsCounted (faults before) (faults after) (is_device answer))
+    → ((before : B) (access : Access) (answer : Result ℕ BusEnd) (after : B) → acts before access answer after →
+    IsCounted (faults before) (faults after) (is_device answer))
     → (m : Meaning) (core core' : Core) (b b' : B) (e : StepEnd) → Runs acts m core b e core' b' → IsCounted (faults b) (faults b') (is_device_end e)
 runs_counted {B} acts faults counted =
     runs_carry acts (λ b e b'. IsCounted (faults b) (faults b') (is_device_end e))
@@ -61,11 +63,13 @@ outcome_kept (Ok next) core core' e leaves = inl leaves.0
 outcome_kept (Err own) core core' e leaves = inr leaves.1
 
 -- an instruction that isn't done leaves the core as it was
-pub core_kept : {B : Type 0} (acts : B → Access → Result ℕ BusEnd → B → Type 0) (m : Meaning) (core core' : Core) (b b' : B) (e : StepEnd) → Runs acts m core b e core' b' → (e ≡ end.Went) ⊎ (core' ≡ core)
+pub core_kept : {B : Type 0} (acts : B → Access → Result ℕ BusEnd → B → Type 0) (m : Meaning) (core core' : Core) (b b' : B) (e : StepEnd) →
+    Runs acts m core b e core' b' → (e ≡ end.Went) ⊎ (core' ≡ core)
 unfolding Runs
 core_kept acts (Gives o) core core' b b' e runs = outcome_kept o core core' e runs.0
 core_kept {B} acts (Asks access then') core core' b b' e runs =
-    (elim runs.0 as (λ answer. (mid : B) → MatchResult answer (λ v. Runs acts (then' v) core mid e core' b') (λ x. (e ≡ access_end access x) × (core' ≡ core) × (b' ≡ mid)) → (e ≡ end.Went) ⊎ (core' ≡ core)) [
+    (elim runs.0 as (λ answer. (mid : B) → MatchResult answer (λ v. Runs acts (then' v) core mid e core' b')
+    (λ x. (e ≡ access_end access x) × (core' ≡ core) × (b' ≡ mid)) → (e ≡ end.Went) ⊎ (core' ≡ core)) [
       | Ok v ↦ λ mid rest. core_kept acts (then' v) core core' mid b' e rest
       | Err x ↦ λ mid rest. inr rest.1
     ]) runs.1 runs.3

@@ -2,3 +2,5 @@ pub mod RunLemmas
 pub mod ListLemmas
 pub mod InstructionLemmas
 pub mod FunctionalLemmas
+pub mod ArmLemmas
+pub mod QuickLemmas

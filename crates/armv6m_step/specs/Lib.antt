@@ -12,3 +12,5 @@ pub mod Step
 pub mod Functional
 pub mod Ram
 pub mod MemoryActs
+pub mod Arms
+pub mod Quick

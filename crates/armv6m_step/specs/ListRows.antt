@@ -83,3 +83,13 @@ LoadsEach {B} acts core at rs before (Ok filled) mid =
     (then' : Core → Meaning) (e : StepEnd) (core' : Core) (after : B) → Runs acts (then' filled) core mid e core' after
     → Runs acts (load_each core at rs then') core before e core' after
 LoadsEach acts core at rs before (Err s) after = (then' : Core → Meaning) → Runs acts (load_each core at rs then') core before (stop_end s) core after
+
+-- a core that was loaded in place, where no load stopped
+abbrev pub all_loaded : Core → Result (Unit {0}) Stop → Result Core Stop
+all_loaded core (Ok x) = Ok core
+all_loaded core (Err s) = Err s
+
+-- the core after an instruction, which is the one before it where the instruction stopped
+abbrev pub unless_stopped : Core → Core → Result (Unit {0}) Stop → Core
+unless_stopped before after (Ok x) = after
+unless_stopped before after (Err s) = before

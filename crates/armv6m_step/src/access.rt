@@ -1,7 +1,7 @@
 //! Loads and stores at any address: at one that is not a multiple of the width the instruction ends, and the bus isn't asked.
 #![tactic(auto, using(std::proofs::lemmas::Bool::Decides::nat_tests), unfolding(crate::specs::Meaning::LoadGives, crate::specs::Meaning::StoreGives))]
 
-ghost use Rattle.std.specs.Prelude.{◌≡◌, ◌<◌, ◌%◌, ◌^◌, IfOk};
+ghost use Rattle.std.specs.Prelude.{◌≡◌, ◌<◌, ◌%◌, ◌^◌, Ok, IfOk, IfSome};
 ghost use Rattle.armv6m_step.specs.Ends.{stop_end, bus_end_at};
 ghost use Rattle.armv6m_step.specs.Meaning.{LoadGives, StoreGives};
 
@@ -92,4 +92,131 @@ pub(crate) fn store32<B: Bus>(bus: &mut B, at: u32, value: u32) -> Result<(), St
         Ok(()) => Ok(()),
         Err(end) => Err(stop_at(at, end)),
     }
+}
+
+/// The halfword at an address, where the bus has it at hand.
+#[inline(always)]
+pub(crate) fn peek16<B: Bus>(bus: &B, at: u32) -> Option<u32>
+    ensures gives { IfSome result (λ v. LoadGives B.acts 2 at bus.now (Ok v) bus.now) }
+    ensures fits { IfSome result (λ v. v < 2 ^ 16) }
+{
+    bus.peek16(at)
+}
+
+/// As `load8`, out of line.
+#[inline(never)]
+fn load8_out<B: Bus>(bus: &mut B, at: u32) -> Result<u32, Stop>
+    ensures { LoadGives B.acts 1 at bus.old result bus.new }
+{
+    load8(bus, at)
+}
+
+/// As `load8`, in line where the bus has it at hand.
+#[inline(always)]
+pub(crate) fn byte_at<B: Bus>(bus: &mut B, at: u32) -> Result<u32, Stop>
+    ensures { LoadGives B.acts 1 at bus.old result bus.new }
+{
+    if let Some(value) = bus.peek8(at) {
+        return Ok(value);
+    }
+    load8_out(bus, at)
+}
+
+/// As `load16`, out of line.
+#[inline(never)]
+fn load16_out<B: Bus>(bus: &mut B, at: u32) -> Result<u32, Stop>
+    ensures { LoadGives B.acts 2 at bus.old result bus.new }
+{
+    load16(bus, at)
+}
+
+/// As `load16`, in line where the bus has it at hand.
+#[inline(always)]
+pub(crate) fn half_at<B: Bus>(bus: &mut B, at: u32) -> Result<u32, Stop>
+    ensures { LoadGives B.acts 2 at bus.old result bus.new }
+{
+    if let Some(value) = bus.peek16(at) {
+        return Ok(value);
+    }
+    load16_out(bus, at)
+}
+
+/// As `load32`, out of line.
+#[inline(never)]
+fn load32_out<B: Bus>(bus: &mut B, at: u32) -> Result<u32, Stop>
+    ensures { LoadGives B.acts 4 at bus.old result bus.new }
+{
+    load32(bus, at)
+}
+
+/// As `load32`, in line where the bus has it at hand.
+#[inline(always)]
+pub(crate) fn word_at<B: Bus>(bus: &mut B, at: u32) -> Result<u32, Stop>
+    ensures { LoadGives B.acts 4 at bus.old result bus.new }
+{
+    if let Some(value) = bus.peek32(at) {
+        return Ok(value);
+    }
+    load32_out(bus, at)
+}
+
+/// As `store8`, out of line.
+#[inline(never)]
+fn store8_out<B: Bus>(bus: &mut B, at: u32, value: u32) -> Result<(), Stop>
+    requires { value < 2 ^ 8 }
+    ensures { StoreGives B.acts 1 at value bus.old result bus.new }
+{
+    store8(bus, at, value)
+}
+
+/// As `store8`, in line where the bus has it at hand.
+#[inline(always)]
+pub(crate) fn byte_to<B: Bus>(bus: &mut B, at: u32, value: u32) -> Result<(), Stop>
+    requires { value < 2 ^ 8 }
+    ensures { StoreGives B.acts 1 at value bus.old result bus.new }
+{
+    if bus.poke8(at, value) {
+        return Ok(());
+    }
+    store8_out(bus, at, value)
+}
+
+/// As `store16`, out of line.
+#[inline(never)]
+fn store16_out<B: Bus>(bus: &mut B, at: u32, value: u32) -> Result<(), Stop>
+    requires { value < 2 ^ 16 }
+    ensures { StoreGives B.acts 2 at value bus.old result bus.new }
+{
+    store16(bus, at, value)
+}
+
+/// As `store16`, in line where the bus has it at hand.
+#[inline(always)]
+pub(crate) fn half_to<B: Bus>(bus: &mut B, at: u32, value: u32) -> Result<(), Stop>
+    requires { value < 2 ^ 16 }
+    ensures { StoreGives B.acts 2 at value bus.old result bus.new }
+{
+    if bus.poke16(at, value) {
+        return Ok(());
+    }
+    store16_out(bus, at, value)
+}
+
+/// As `store32`, out of line.
+#[inline(never)]
+fn store32_out<B: Bus>(bus: &mut B, at: u32, value: u32) -> Result<(), Stop>
+    ensures { StoreGives B.acts 4 at value bus.old result bus.new }
+{
+    store32(bus, at, value)
+}
+
+/// As `store32`, in line where the bus has it at hand.
+#[inline(always)]
+pub(crate) fn word_to<B: Bus>(bus: &mut B, at: u32, value: u32) -> Result<(), Stop>
+    ensures { StoreGives B.acts 4 at value bus.old result bus.new }
+{
+    if bus.poke32(at, value) {
+        return Ok(());
+    }
+    store32_out(bus, at, value)
 }

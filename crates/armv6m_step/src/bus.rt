@@ -1,5 +1,5 @@
 //! The bus as the core sees it.
-ghost use Rattle.std.specs.Prelude.{◌≡◌, ◌<◌, ◌^◌, ◌%◌, ℕ, Result, IfOk};
+ghost use Rattle.std.specs.Prelude.{◌≡◌, ◌<◌, ◌^◌, ◌%◌, ℕ, false, Result, Ok, IfOk, IfSome, IsTrue};
 ghost use Rattle.bench_model.specs.declared.bench_fault.BusEnd.{BusEnd};
 ghost use Rattle.bench_model.specs.Device.{is_device};
 ghost use Rattle.bench_model.specs.Counted.{IsCounted};
@@ -46,6 +46,59 @@ pub trait Bus {
     fn store32(&mut self, at: u32, value: u32) -> Result<(), BusEnd>
         requires { at % 4 ≡ 0 }
         ensures { acts self.old (Store 4 at value) (stored result) self.new };
+
+    /// The byte at an address, where the bus has it at hand: it would answer a load with it, and be as it is.
+    fn peek8(&self, at: u32) -> Option<u32>
+        ensures acts { IfSome result (λ v. acts self.now (Load 1 at) (Ok v) self.now) }
+        ensures fits { IfSome result (λ v. v < 2 ^ 8) }
+    {
+        None
+    }
+
+    /// The halfword at an even address, where the bus has it at hand.
+    fn peek16(&self, at: u32) -> Option<u32>
+        ensures even { IfSome result (λ v. at % 2 ≡ 0) }
+        ensures acts { IfSome result (λ v. acts self.now (Load 2 at) (Ok v) self.now) }
+        ensures fits { IfSome result (λ v. v < 2 ^ 16) }
+    {
+        None
+    }
+
+    /// The word at a multiple of 4, where the bus has it at hand.
+    fn peek32(&self, at: u32) -> Option<u32>
+        ensures even { IfSome result (λ v. at % 4 ≡ 0) }
+        ensures acts { IfSome result (λ v. acts self.now (Load 4 at) (Ok v) self.now) }
+    {
+        None
+    }
+
+    /// Stores a byte where the bus has the address at hand, and says so. Else it stays as it was.
+    fn poke8(&mut self, at: u32, value: u32) -> bool
+        requires { value < 2 ^ 8 }
+        ensures acts { IsTrue result → acts self.old (Store 1 at value) (Ok 0) self.new }
+        ensures kept { result ≡ false → self.new ≡ self.old }
+    {
+        false
+    }
+
+    /// Stores a halfword at an even address, where the bus has it at hand, and says so.
+    fn poke16(&mut self, at: u32, value: u32) -> bool
+        requires { value < 2 ^ 16 }
+        ensures even { IsTrue result → at % 2 ≡ 0 }
+        ensures acts { IsTrue result → acts self.old (Store 2 at value) (Ok 0) self.new }
+        ensures kept { result ≡ false → self.new ≡ self.old }
+    {
+        false
+    }
+
+    /// Stores a word at a multiple of 4, where the bus has it at hand, and says so.
+    fn poke32(&mut self, at: u32, value: u32) -> bool
+        ensures even { IsTrue result → at % 4 ≡ 0 }
+        ensures acts { IsTrue result → acts self.old (Store 4 at value) (Ok 0) self.new }
+        ensures kept { result ≡ false → self.new ≡ self.old }
+    {
+        false
+    }
 
     /// The count of device faults never falls: it rises where an access is answered `Device`, and else it stays.
     ghost counted: { (before : Self) (access : Access) (answer : Result ℕ BusEnd) (after : Self) → acts before access answer after

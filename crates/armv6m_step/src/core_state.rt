@@ -25,7 +25,7 @@ pub struct Core {
 impl Core {
     /// The address of the instruction.
     #[inline(always)]
-    pub(crate) fn pc(&self) -> u32
+    pub fn pc(&self) -> u32
         ensures { result ≡ pc_of self.now }
     {
         self.regs[PC as usize]
@@ -65,9 +65,10 @@ impl Core {
         self.regs[(n % 16) as usize] = if n % 16 == SP { value / 4 * 4 } else { value };
     }
 
+    /// Makes an address that of the next instruction.
     #[inline(always)]
     #[tactic(auto, unfolding(crate::specs::Registers::moved))]
-    pub(crate) fn go_to(&mut self, pc: u32)
+    pub fn go_to(&mut self, pc: u32)
         ensures { self.new ≡ moved self.old pc }
     {
         self.regs[PC as usize] = pc;

@@ -1,8 +1,8 @@
 //! Data processing.
 #![tactic(auto, using(std::proofs::lemmas::Bool::Decides::nat_tests))]
 
-ghost use Rattle.std.specs.Prelude.{◌≡◌, false, Result, Ok};
-ghost use Rattle.armv6m_alu.specs.Sums.{sum_with_carry};
+ghost use Rattle.std.specs.Prelude.{◌≡◌, false, not, Result, Ok};
+ghost use Rattle.armv6m_alu.specs.Sums.{sum_with_carry, is_sign_lost};
 ghost use Rattle.armv6m_alu.specs.Shifts.{shifted_left, shifted_right, shifted_right_signed, rotated_right};
 ghost use Rattle.armv6m_step.specs.Ends.{end_of};
 ghost use Rattle.armv6m_step.specs.Registers.{reg};
@@ -71,14 +71,33 @@ fn put_plain(core: &mut Core, next: u32, d: u8, value: u32)
     }
 }
 
+/// x - y. It is the sum of x, NOT y and 1.
 #[inline(always)]
-fn subtract(x: u32, y: u32) -> Sum
+#[tactic(auto, using(std::proofs::lemmas::Bool::Decides::nat_tests, std::proofs::lemmas::Int::ints), unfolding(armv6m_alu::specs::Sums::sum_with_carry))]
+pub(crate) fn subtract(x: u32, y: u32) -> Sum
     ensures { result ≡ subtraction x y }
 {
-    add_with_carry(x, !y, true)
+    let value = x.wrapping_sub(y);
+    Sum {
+        value,
+        carry: x >= y,
+        overflow: is_lost(x >= 0x8000_0000, y >= 0x8000_0000, value >= 0x8000_0000),
+    }
 }
 
-fn amount(immediate: u8) -> u32
+/// Two numbers of unlike signs have a difference without the sign of the first.
+#[inline(always)]
+fn is_lost(x_sign: bool, y_sign: bool, value_sign: bool) -> bool
+    ensures { result ≡ is_sign_lost x_sign (not y_sign) value_sign }
+{
+    if x_sign {
+        !y_sign && !value_sign
+    } else {
+        y_sign && value_sign
+    }
+}
+
+pub(crate) fn amount(immediate: u8) -> u32
     ensures { result ≡ shift_amount immediate }
 {
     if immediate == 0 {

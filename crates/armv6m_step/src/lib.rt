@@ -5,6 +5,7 @@
 #![tactic(auto)]
 
 mod access;
+mod arms;
 mod branch;
 mod bus;
 mod core_state;
@@ -15,6 +16,7 @@ mod many;
 mod memory;
 mod memory_bus;
 mod other;
+mod quick;
 pub mod ram;
 
 pub use bus::Bus;
@@ -22,3 +24,4 @@ pub use core_state::Core;
 pub use ends::{StepEnd, Stop};
 pub use instruction::step;
 pub use memory_bus::{MemoryBus, step_in_memory};
+pub use quick::step_at;

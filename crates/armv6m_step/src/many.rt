@@ -3,28 +3,21 @@
 ghost use Rattle.std.specs.Prelude.{◌≡◌, ◌≤◌};
 ghost use Rattle.armv6m_step.specs.Ends.{end_of};
 ghost use Rattle.armv6m_step.specs.Meaning.{Runs};
-ghost use Rattle.armv6m_step.specs.ListRows.{low_registers, list_bytes, StoresEach, LoadsEach, many};
+ghost use Rattle.armv6m_step.specs.ListRows.{low_registers, list_bytes, StoresEach, LoadsEach, all_loaded, unless_stopped, many};
 
-use crate::access::{load32, store32};
+use crate::access::{word_at, word_to};
 use crate::data::undefined;
 use crate::{Bus, Core, Stop};
 use armv6m_decode::Many;
 use armv6m_decode::registers::{LR, SP};
 
 /// How many bytes the registers of the list take.
-#[tactic(auto, using(crate::proofs::ListLemmas::lengths, std::proofs::lemmas::Bool::Decides::nat_tests))]
+#[tactic(auto, using(crate::proofs::ListLemmas::ones_listed))]
 fn bytes_of(list: u8) -> u32
     ensures value { result ≡ list_bytes list }
     ensures bound { result ≤ 32 }
 {
-    let mut bytes = 0;
-    for r in 0..8u8 {
-        if (list >> r) % 2 != 1 {
-            continue;
-        }
-        bytes += 4;
-    }
-    bytes
+    4 * list.count_ones()
 }
 
 #[tactic(auto, using(crate::proofs::ListLemmas::stored_so_far, std::proofs::lemmas::Bool::Decides::nat_tests))]
@@ -36,28 +29,37 @@ fn store_list<B: Bus>(core: &Core, bus: &mut B, at: u32, list: u8) -> Result<(),
         if (list >> r) % 2 != 1 {
             continue;
         }
-        store32(bus, to, core.read(r))?;
+        word_to(bus, to, core.read(r))?;
         to = to.wrapping_add(4);
     }
     Ok(())
 }
 
-/// The core with the registers loaded. The core itself stays, since a later load may fault.
+/// Makes the core what it was before an instruction that stopped.
+#[inline(always)]
+fn restore(core: &mut Core, before: Core, made: Result<(), Stop>)
+    ensures { core.new ≡ unless_stopped before core.old made }
+{
+    if made.is_err() {
+        *core = before;
+    }
+}
+
+/// Loads the registers. After a fault some are loaded.
 #[tactic(auto, using(crate::proofs::ListLemmas::loaded_so_far, std::proofs::lemmas::Bool::Decides::nat_tests))]
-fn load_list<B: Bus>(core: &Core, bus: &mut B, at: u32, list: u8) -> Result<Core, Stop>
-    ensures { LoadsEach B.acts core.now at (low_registers list) bus.old result bus.new }
+fn load_list<B: Bus>(core: &mut Core, bus: &mut B, at: u32, list: u8) -> Result<(), Stop>
+    ensures { LoadsEach B.acts core.old at (low_registers list) bus.old (all_loaded core.new result) bus.new }
 {
     let mut from = at;
-    let mut filled = *core;
     for r in 0..8u8 {
         if (list >> r) % 2 != 1 {
             continue;
         }
-        let value = load32(bus, from)?;
-        filled.write(r, value);
+        let value = word_at(bus, from)?;
+        core.write(r, value);
         from = from.wrapping_add(4);
     }
-    Ok(filled)
+    Ok(())
 }
 
 /// Does the instruction, where the next one is at `next`.
@@ -89,18 +91,24 @@ fn store_many<B: Bus>(core: &mut Core, bus: &mut B, next: u32, n: u8, list: u8) 
     Ok(())
 }
 
+/// LDM, which after a fault leaves some registers loaded.
 #[tactic(auto, using(crate::proofs::ListLemmas::each, crate::proofs::RunLemmas::asks, std::proofs::lemmas::Bool::Decides::nat_tests))]
-fn load_many<B: Bus>(core: &mut Core, bus: &mut B, next: u32, n: u8, list: u8) -> Result<(), Stop>
-    ensures { Runs B.acts (many core.old next (Many.Ldm n list)) core.old bus.old (end_of result) core.new bus.new }
+fn load_many_into<B: Bus>(
+    core: &mut Core,
+    bus: &mut B,
+    next: u32,
+    n: u8,
+    list: u8,
+) -> Result<(), Stop>
+    ensures { Runs B.acts (many core.old next (Many.Ldm n list)) core.old bus.old (end_of result) (unless_stopped core.old core.new result) bus.new }
 {
     let by = bytes_of(list);
     if by == 0 {
         return undefined(core);
     }
     let at = core.read(n);
-    let filled = load_list(core, bus, at, list)?;
+    load_list(core, bus, at, list)?;
     let is_listed = (u32::from(list) >> (n % 16)) % 2 == 1;
-    *core = filled;
     if !is_listed {
         core.write(n, at.wrapping_add(by));
     }
@@ -108,8 +116,24 @@ fn load_many<B: Bus>(core: &mut Core, bus: &mut B, next: u32, n: u8, list: u8) -
     Ok(())
 }
 
+#[tactic(auto, using(crate::proofs::RunLemmas::asks))]
+fn load_many<B: Bus>(core: &mut Core, bus: &mut B, next: u32, n: u8, list: u8) -> Result<(), Stop>
+    ensures { Runs B.acts (many core.old next (Many.Ldm n list)) core.old bus.old (end_of result) core.new bus.new }
+{
+    let before = *core;
+    let made = load_many_into(core, bus, next, n, list);
+    restore(core, before, made);
+    made
+}
+
 #[tactic(auto, using(crate::proofs::ListLemmas::each, crate::proofs::RunLemmas::asks, std::proofs::lemmas::Bool::Decides::nat_tests))]
-fn push<B: Bus>(core: &mut Core, bus: &mut B, next: u32, lr: bool, list: u8) -> Result<(), Stop>
+pub(crate) fn push<B: Bus>(
+    core: &mut Core,
+    bus: &mut B,
+    next: u32,
+    lr: bool,
+    list: u8,
+) -> Result<(), Stop>
     ensures { Runs B.acts (many core.old next (Many.Push lr list)) core.old bus.old (end_of result) core.new bus.new }
 {
     let low = bytes_of(list);
@@ -120,34 +144,51 @@ fn push<B: Bus>(core: &mut Core, bus: &mut B, next: u32, lr: bool, list: u8) -> 
     let start = core.read(SP).wrapping_sub(by);
     store_list(core, bus, start, list)?;
     if lr {
-        store32(bus, start.wrapping_add(low), core.read(LR))?;
+        word_to(bus, start.wrapping_add(low), core.read(LR))?;
     }
     core.write(SP, start);
     core.go_to(next);
     Ok(())
 }
 
+/// POP, which after a fault leaves some registers loaded.
 #[tactic(auto, using(crate::proofs::ListLemmas::each, crate::proofs::RunLemmas::asks, std::proofs::lemmas::Bool::Decides::nat_tests))]
-fn pop<B: Bus>(core: &mut Core, bus: &mut B, next: u32, pc: bool, list: u8) -> Result<(), Stop>
-    ensures { Runs B.acts (many core.old next (Many.Pop pc list)) core.old bus.old (end_of result) core.new bus.new }
+fn pop_into<B: Bus>(core: &mut Core, bus: &mut B, next: u32, pc: bool, list: u8) -> Result<(), Stop>
+    ensures { Runs B.acts (many core.old next (Many.Pop pc list)) core.old bus.old (end_of result) (unless_stopped core.old core.new result) bus.new }
 {
     let low = bytes_of(list);
     let by = low + if pc { 4 } else { 0 };
     if by == 0 {
         return undefined(core);
     }
+    let here = core.pc();
     let start = core.read(SP);
-    let mut filled = load_list(core, bus, start, list)?;
+    load_list(core, bus, start, list)?;
     let mut to = next;
     if pc {
-        let target = load32(bus, start.wrapping_add(low))?;
+        let target = word_at(bus, start.wrapping_add(low))?;
         if target % 2 != 1 {
-            return Err(Stop::BadState { pc: core.pc() });
+            return Err(Stop::BadState { pc: here });
         }
         to = target - 1;
     }
-    filled.write(SP, start.wrapping_add(by));
-    filled.go_to(to);
-    *core = filled;
+    core.write(SP, start.wrapping_add(by));
+    core.go_to(to);
     Ok(())
+}
+
+#[tactic(auto, using(crate::proofs::RunLemmas::asks))]
+pub(crate) fn pop<B: Bus>(
+    core: &mut Core,
+    bus: &mut B,
+    next: u32,
+    pc: bool,
+    list: u8,
+) -> Result<(), Stop>
+    ensures { Runs B.acts (many core.old next (Many.Pop pc list)) core.old bus.old (end_of result) core.new bus.new }
+{
+    let before = *core;
+    let made = pop_into(core, bus, next, pc, list);
+    restore(core, before, made);
+    made
 }

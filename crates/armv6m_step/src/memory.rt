@@ -22,20 +22,20 @@ pub(crate) fn words(count: u8) -> u32
     4 * u32::from(count)
 }
 
-fn halves(count: u8) -> u32
+pub(crate) fn halves(count: u8) -> u32
     ensures { result ≡ 2 * count }
 {
     2 * u32::from(count)
 }
 
-fn bytes(count: u8) -> u32
+pub(crate) fn bytes(count: u8) -> u32
     ensures { result ≡ count }
 {
     u32::from(count)
 }
 
 /// The address of a register and an offset in bytes.
-fn at_offset(core: &Core, n: u8, offset: u32) -> u32
+pub(crate) fn at_offset(core: &Core, n: u8, offset: u32) -> u32
     ensures { result ≡ sum (reg core.now n) offset }
 {
     core.read(n).wrapping_add(offset)

@@ -1,2 +1,3 @@
 pub mod TickLemmas
 pub mod TouchLemmas
+pub mod RegisterLemmas

@@ -15,15 +15,18 @@ pub idle_tick : {R : Type 0} (t : Table R) (s : State R) (cells : List ℕ) → 
 unfolding tick_row
 idle_tick t s cells none = on_idle t s cells s.operation none
 
-on_more : {R : Type 0} (t : Table R) (s : State R) (cells : List ℕ) (o : Option Operation) (p : Operation) → o ≡ Some p → 1 < p.ticks → tick_on t s cells o ≡ (record s { operation = Some (record p { ticks = p.ticks - 1 }) }, cells)
+on_more : {R : Type 0} (t : Table R) (s : State R) (cells : List ℕ) (o : Option Operation) (p : Operation) → o ≡ Some p → 1 < p.ticks →
+    tick_on t s cells o ≡ (record s { operation = Some (record p { ticks = p.ticks - 1 }) }, cells)
 on_more t s cells o p same more = ap (λ (x : Option Operation). tick_on t s cells x) same ∙ tick_more (done t s) (running s) cells p p.ticks more
 
-lower : {R : Type 0} (t : Table R) (s : State R) (cells : List ℕ) (next : Option Operation) → LowersTo s.operation next true → (record s { operation = next }, cells) ≡ tick_row t s cells
+lower : {R : Type 0} (t : Table R) (s : State R) (cells : List ℕ) (next : Option Operation) → LowersTo s.operation next true →
+    (record s { operation = next }, cells) ≡ tick_row t s cells
 unfolding tick_row
 lower {R} t s cells next (p, same, more, is) =
     ap (λ (o : Option Operation). let x : State R × List ℕ = (record s { operation = o }, cells) in x) is
     ∙ sym (on_more t s cells s.operation p same more)
 
-pub lower_tick : {R : Type 0} (t : Table R) (s : State R) (cells : List ℕ) (next : Option Operation) (b : Bool) → IsTrue b → LowersTo s.operation next b → (record s { operation = next }, cells) ≡ tick_row t s cells
+pub lower_tick : {R : Type 0} (t : Table R) (s : State R) (cells : List ℕ) (next : Option Operation) (b : Bool) → IsTrue b → LowersTo s.operation next b →
+    (record s { operation = next }, cells) ≡ tick_row t s cells
 lower_tick t s cells next true was lowers = lower t s cells next lowers
 lower_tick t s cells next false was lowers = absurd (false≢true was)

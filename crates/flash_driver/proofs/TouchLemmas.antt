@@ -1,5 +1,6 @@
 -- How accesses of a bench come one after the other.
-use Rattle.std.proofs.Common.{◌≡◌, ◌+◌, ◌↔◌, ℕ, Bool, false, IsTrue, List, length, take, drop, Option, Some, None, Result, refl, sym, ap, subst, arith, ◌∙◌, ◌⊎◌, inl, inr, ⊎_elim}
+use Rattle.std.proofs.Common.{◌≡◌, ◌+◌, ◌↔◌, ℕ, Bool, false, IsTrue, List, length, take, drop, Option, Some, None, Result, refl, sym, ap, subst, arith, ◌∙◌}
+use Rattle.std.proofs.Common.{◌⊎◌, inl, inr, ⊎_elim}
 use Rattle.faults.specs.Counts.{Rose}
 use Rattle.bench_model.specs.declared.bench_fault.BusEnd.{BusEnd}
 use Rattle.bench_model.specs.Counted.{IsCounted}
@@ -29,8 +30,10 @@ pub accesses_then : (tells : Bool) (s m t : BenchState) → Accesses tells s m �
 accesses_then tells s m t one two = record {
   cells = λ told. two.cells told ∙ one.cells told;
   operation = λ told. ⊎_elim
-      (λ (late : t.operation ≡ m.operation). ⊎_elim (λ (soon : m.operation ≡ s.operation). inl (late ∙ soon)) (λ (none : s.operation ≡ None). inr none) (one.operation told))
-      (λ (none : m.operation ≡ None). ⊎_elim (λ (soon : m.operation ≡ s.operation). inr (sym soon ∙ none)) (λ (idle : s.operation ≡ None). inr idle) (one.operation told))
+      (λ (late : t.operation ≡ m.operation). ⊎_elim (λ (soon : m.operation ≡ s.operation). inl (late ∙ soon)) (λ (none : s.operation ≡ None). inr none)
+      (one.operation told))
+      (λ (none : m.operation ≡ None). ⊎_elim (λ (soon : m.operation ≡ s.operation). inr (sym soon ∙ none)) (λ (idle : s.operation ≡ None). inr idle)
+      (one.operation told))
       (two.operation told);
   count = two.count ∙ one.count;
   moments = λ told. leaves_then (SameOutside t.operation t.cells)
@@ -40,7 +43,8 @@ accesses_then tells s m t one two = record {
   file = file_stays_then one.file two.file;
 }
 
-pub accesses_here : (tells : Bool) (s : BenchState) → ((c : List ℕ) → IsTrue tells → left (cells_half s) c ↔ SameOutside s.operation s.cells c) → Accesses tells s s
+pub accesses_here : (tells : Bool) (s : BenchState) → ((c : List ℕ) → IsTrue tells → left (cells_half s) c ↔ SameOutside s.operation s.cells c) →
+    Accesses tells s s
 accesses_here tells s law = record {
   cells = λ told. refl;
   operation = λ told. inl refl;

@@ -1,5 +1,5 @@
 //! The calls of a controller.
-ghost use Rattle.std.specs.Prelude.{◌≡◌, ◌<◌, ◌%◌, ◌^◌, ◌≤◌, ◌+◌, ◌⊎◌, ℕ, List, IsTrue, OnOk, OnErr, IfOk, Ok, Err, Some, None, true, false, []};
+ghost use Rattle.std.specs.Prelude.{◌≡◌, ◌<◌, ◌%◌, ◌^◌, ◌≤◌, ◌+◌, ◌⊎◌, ℕ, List, IsTrue, OnOk, OnErr, IfOk, IfSome, Ok, Err, Some, None, true, false, []};
 ghost use Rattle.faults.specs.Counts.{HasCause};
 ghost use Rattle.bench_model.specs.Act.{CellsDrop};
 ghost use Rattle.bench_model.specs.Device.{is_device};
@@ -247,6 +247,18 @@ impl<R: Registers> Driver<R> {
             Err(BusEnd::Fault) if self.is_quiet(at) => Ok(0),
             end => end,
         }
+    }
+
+    /// What a register answers to a load of the word at an address, which asks no bench; none where no register is there.
+    #[inline(always)]
+    pub fn peek(&self, at: u32) -> Option<u32>
+        ensures { IfSome result (λ value. (cells : List ℕ) → bus_load R.table (map_of self.now.layout) self.now.state cells at 4 ≡ Ok value) }
+    {
+        if at < self.layout.base || at - self.layout.base >= self.layout.block {
+            return None;
+        }
+        let offset = at - self.layout.base;
+        self.state.registers.load(self.state.operation, offset)
     }
 
     /// A store outside the RAM: as `store`, but nothing in a quiet range where nothing else takes it.

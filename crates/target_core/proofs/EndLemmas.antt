@@ -1,5 +1,5 @@
 -- A run is the one that its first point and its fuel give.
-use Rattle.std.proofs.Common.{◌≡◌, ◌≤◌, ◌<◌, ◌+◌, ◌-◌, ◌*◌, ℕ, Bool, true, false, nat_eq, if◌then◌else◌, Option, Some, sym, ap, subst, arith, ◌∙◌, ⊎_elim}
+use Rattle.std.proofs.Common.{◌≡◌, ◌≤◌, ◌<◌, ◌+◌, ◌-◌, ◌*◌, ◌%◌, ℕ, Bool, true, false, nat_eq, if◌then◌else◌, Option, Some, sym, ap, subst, arith, ◌∙◌, ⊎_elim}
 use Rattle.std.proofs.lemmas.Bool.{cases_lt}
 use Rattle.bench_model.specs.History.{Leaves}
 use Rattle.bench_model.specs.State.{BenchState, cells_half}
@@ -10,7 +10,8 @@ use Rattle.armv6m_step.specs.Registers.{pc_of}
 use Rattle.target_core.specs.declared.run.RunEnd.{RunEnd}
 use Rattle.target_core.specs.declared.run.RunEnd.TheVariants as run
 use Rattle.target_core.specs.declared.run.SliceEnd.TheVariants as slice
-use Rattle.target_core.specs.Path.{Point, whole, point, run_end, step_end, end_at, last_number, GoesTo, RunsTo, FailsInStep, FailsInTick, BrokeOff, EndsWith, EndIs, IsLeftOnPath}
+use Rattle.target_core.specs.Path.{Point, whole, point, run_end, step_end, end_at, last_number, GoesTo, RunsTo, FailsInStep, FailsInTick, BrokeOff, EndsWith}
+use Rattle.target_core.specs.Path.{EndIs, IsLeftOnPath}
 use Rattle.target_core.specs.Runs.{steps_made, run_end_of, run_last, run_path, IsLeftOn, BreaksOffOn, RunGives}
 use Rattle.target_core.specs.Targets.{SliceFrom}
 use Rattle.target_core.proofs.PathLemmas.{away, longer, last_fine, point_even}
@@ -21,13 +22,15 @@ use Rattle.target_core.proofs.FineLemmas.{step_fine}
 -- A device fault comes before the last point.
 
 tested_odd : (back used : Bool) (r0 at : ℕ) (e : StepEnd) (pc : ℕ) (r : RunEnd) (k : ℕ) → back ≡ false → used ≡ false
-    → ◌≡◌ {A = Option RunEnd} (if back then Some (run.Returned r0) else if used then Some (run.NoFuel at) else run_end e pc) (Some r) → is_device_step e ≡ false → last_number r k ≡ 2 * k + 1
+    → ◌≡◌ {A = Option RunEnd} (if back then Some (run.Returned r0) else if used then Some (run.NoFuel at) else run_end e pc) (Some r) →
+    is_device_step e ≡ false → last_number r k ≡ 2 * k + 1
 tested_odd true used r0 at e pc r k back left same fine = cc
 tested_odd false true r0 at e pc r k back left same fine = cc
 tested_odd false false r0 at e pc r k back left same fine = last_fine e pc r k same fine
 
 -- an end before a step that is neither the return point nor the fuel has the step's instruction
-end_odd : (return_at fuel : ℕ) (p : Point) (k : ℕ) (r : RunEnd) → nat_eq (pc_of (whole p k).core) return_at ≡ false → nat_eq k fuel ≡ false → end_at return_at fuel p k ≡ Some r → last_number r k ≡ 2 * k + 1
+end_odd : (return_at fuel : ℕ) (p : Point) (k : ℕ) (r : RunEnd) → nat_eq (pc_of (whole p k).core) return_at ≡ false → nat_eq k fuel ≡ false →
+    end_at return_at fuel p k ≡ Some r → last_number r k ≡ 2 * k + 1
 unfolding end_at
 end_odd return_at fuel p k r back left same = tested_odd _ _ _ _ (step_end (whole p k)) (pc_of (whole p k).core) r k back left same (step_fine (whole p k))
 
@@ -35,33 +38,43 @@ more_steps : (return_at fuel : ℕ) (p : Point) (made : ℕ) → made < steps_ma
 unfolding run_last
 more_steps return_at fuel p made more = omega (arith, more, last_from (run_end_of return_at fuel p) (steps_made return_at fuel p))
 
-step_before_last : (return_at fuel : ℕ) (p : Point) (made : ℕ) → made < fuel → GoesTo return_at fuel p made → nat_eq (pc_of (point p (2 * made)).core) return_at ≡ false → 2 * made < run_last return_at fuel p
+step_before_last : (return_at fuel : ℕ) (p : Point) (made : ℕ) → made < fuel → GoesTo return_at fuel p made →
+    nat_eq (pc_of (point p (2 * made)).core) return_at ≡ false → 2 * made < run_last return_at fuel p
 step_before_last return_at fuel p made left goes back = ⊎_elim
     (λ (more : made < steps_made return_at fuel p). more_steps return_at fuel p made more)
     (λ (all : steps_made return_at fuel p ≤ made).
     let within : made ≤ fuel = omega (arith, left) in
     let same : steps_made return_at fuel p ≡ made = omega (arith, all, steps_made_least return_at fuel p made within goes) in
-    let ends : end_at return_at fuel p made ≡ Some (run_end_of return_at fuel p) = subst (λ (k : ℕ). end_at return_at fuel p k ≡ Some (run_end_of return_at fuel p)) same (run_has_end return_at fuel p) in
+    let ends : end_at return_at fuel p made ≡ Some (run_end_of return_at fuel p) =
+    subst (λ (k : ℕ). end_at return_at fuel p k ≡ Some (run_end_of return_at fuel p)) same (run_has_end return_at fuel p) in
     let here : nat_eq (pc_of (whole p made).core) return_at ≡ false = subst (λ (q : Point). nat_eq (pc_of q.core) return_at ≡ false) (point_even p made) back in
-    let odd : last_number (run_end_of return_at fuel p) made ≡ 2 * made + 1 = end_odd return_at fuel p made (run_end_of return_at fuel p) here (away made fuel (λ used. omega (arith, used, left))) ends in
+    let odd : last_number (run_end_of return_at fuel p) made ≡ 2 * made + 1 = end_odd return_at fuel p made (run_end_of return_at fuel p) here
+    (away made fuel (λ used. omega (arith, used, left))) ends in
     omega (arith, odd, run_last_is return_at fuel p made (run_end_of return_at fuel p) within goes ends))
     (cases_lt made (steps_made return_at fuel p))
 
-broke_off : (return_at fuel steps : ℕ) (first : Point) (made : ℕ) (end : BenchState) → made ≤ fuel → GoesTo return_at fuel first made → BrokeOff return_at fuel steps first made end → BreaksOffOn (run_path return_at fuel first) end
-broke_off return_at fuel steps first made end within goes broke = ⊎_elim
+broke_off : (return_at fuel steps : ℕ) (first : Point) (made : ℕ) (start end : BenchState) → RunsTo return_at fuel first made (2 * made) start end →
+    BrokeOff return_at fuel steps first made end → BreaksOffOn (run_path return_at fuel first) start end
+broke_off return_at fuel steps first made start end runs broke = ⊎_elim
     (λ (step : FailsInStep return_at fuel steps first made end). record {
       number = 2 * made;
-      before = step_before_last return_at fuel first made step.left goes step.away;
+      before = step_before_last return_at fuel first made step.left runs.goes step.away;
+      moments = so_far (2 * made) (omega arith);
       stands = step.stands;
       idle = λ even. step.idle;
     })
     (λ (tick : FailsInTick first made end). record {
       number = 2 * made - 1;
-      before = omega (arith, tick.some, run_last_from return_at fuel first made within goes);
+      before = omega (arith, tick.some, run_last_from return_at fuel first made runs.within runs.goes);
+      moments = so_far (2 * made - 1) (omega (arith, tick.some));
       stands = tick.stands;
       idle = λ even. absurd (omega (arith, even, tick.some));
     })
     broke
+  where
+    so_far : (number : ℕ) → 2 * made ≤ number + number % 2 → Leaves (cells_half start) (cells_half end) (IsLeftOnPath first (number + number % 2))
+    so_far number le = leaves_as (IsLeftOnPath first (2 * made)) (IsLeftOnPath first (number + number % 2))
+        (longer first (2 * made) (number + number % 2) le) runs.moments
 
 -- an end that is no device fault
 module _ (return_at fuel : ℕ) (first : Point) (made : ℕ) (start : BenchState) (e : RunEnd) (last : Point) (end : BenchState)
@@ -75,18 +88,42 @@ module _ (return_at fuel : ℕ) (first : Point) (made : ℕ) (start : BenchState
   pub ended_as : (e ≡ run_end_of return_at fuel first) × (last ≡ point first (run_last return_at fuel first))
   ended_as = (sym (run_end_is return_at fuel first made e runs.within runs.goes ends.ends), ends.leaves ∙ ap (point first) (sym same_last))
 
-pub run_gives : (return_at fuel steps : ℕ) (first : Point) (made : ℕ) (start : BenchState) (e : RunEnd) (last : Point) (end : BenchState) → RunsTo return_at fuel first made (last_number e made) start end → EndIs return_at fuel steps first made e last end → RunGives return_at fuel first start e last end
-run_gives return_at fuel steps first made start (run.Returned r0) last end runs ends = record { moments = ended_moments return_at fuel first made start _ last end runs ends; ends = ended_as return_at fuel first made start _ last end runs ends }
-run_gives return_at fuel steps first made start (run.NoFuel pc) last end runs ends = record { moments = ended_moments return_at fuel first made start _ last end runs ends; ends = ended_as return_at fuel first made start _ last end runs ends }
-run_gives return_at fuel steps first made start (run.StrayBreak pc) last end runs ends = record { moments = ended_moments return_at fuel first made start _ last end runs ends; ends = ended_as return_at fuel first made start _ last end runs ends }
-run_gives return_at fuel steps first made start (run.Faulted kind pc) last end runs ends = record { moments = ended_moments return_at fuel first made start _ last end runs ends; ends = ended_as return_at fuel first made start _ last end runs ends }
+pub run_gives : (return_at fuel steps : ℕ) (first : Point) (made : ℕ) (start : BenchState) (e : RunEnd) (last : Point) (end : BenchState) →
+    RunsTo return_at fuel first made (last_number e made) start end → EndIs return_at fuel steps first made e last end →
+    RunGives return_at fuel first start e last end
+run_gives return_at fuel steps first made start (run.Returned r0) last end runs ends =
+    record {
+      moments = ended_moments return_at fuel first made start _ last end runs ends;
+      ends =
+          ended_as return_at fuel first made start _ last end runs ends;
+    }
+run_gives return_at fuel steps first made start (run.NoFuel pc) last end runs ends =
+    record {
+      moments = ended_moments return_at fuel first made start _ last end runs ends;
+      ends =
+          ended_as return_at fuel first made start _ last end runs ends;
+    }
+run_gives return_at fuel steps first made start (run.StrayBreak pc) last end runs ends =
+    record {
+      moments = ended_moments return_at fuel first made start _ last end runs ends;
+      ends =
+          ended_as return_at fuel first made start _ last end runs ends;
+    }
+run_gives return_at fuel steps first made start (run.Faulted kind pc) last end runs ends =
+    record {
+      moments = ended_moments return_at fuel first made start _ last end runs ends;
+      ends =
+          ended_as return_at fuel first made start _ last end runs ends;
+    }
 run_gives return_at fuel steps first made start run.DeviceFault last end runs ends =
     let le : 2 * made ≤ run_last return_at fuel first = run_last_from return_at fuel first made runs.within runs.goes in
     record {
-      moments = leaves_as (IsLeftOnPath first (2 * made)) (IsLeftOnPath first (run_last return_at fuel first)) (longer first (2 * made) (run_last return_at fuel first) le) runs.moments;
-      ends = broke_off return_at fuel steps first made end runs.within runs.goes ends;
+      moments = leaves_as (IsLeftOnPath first (2 * made)) (IsLeftOnPath first (run_last return_at fuel first))
+          (longer first (2 * made) (run_last return_at fuel first) le) runs.moments;
+      ends = broke_off return_at fuel steps first made start end runs ends;
     }
 
 -- a slice that ended, ended as the run with the fuel that was left to it
-pub run_of_slice : (return_at : ℕ) (first last : Point) (start end : BenchState) (left left' steps : ℕ) (e : RunEnd) → SliceFrom return_at first start left left' steps (slice.Ended e) last end → RunGives return_at left first start e last end
+pub run_of_slice : (return_at : ℕ) (first last : Point) (start end : BenchState) (left left' steps : ℕ) (e : RunEnd) →
+    SliceFrom return_at first start left left' steps (slice.Ended e) last end → RunGives return_at left first start e last end
 run_of_slice return_at first last start end left left' steps e is = run_gives return_at left steps first (left - left') start e last end is.runs is.ends.0

@@ -1,5 +1,6 @@
 -- The RAM as a window of an arena. All that loads, stores or clears RAM of a target in an arena goes by them.
-use Rattle.std.proofs.Common.{◌≡◌, ◌≢◌, ◌<◌, ◌+◌, ℕ, zero, suc, List, [], ◌∷◌, ◌++◌, take, drop, length, get_or, set, append-nil, drop_of_length-le, refl, sym, ap, subst, ◌∙◌, arith, length-set, get_or-set_same, get_or-set_other, set-set}
+use Rattle.std.proofs.Common.{◌≡◌, ◌≢◌, ◌<◌, ◌+◌, ℕ, zero, suc, List, [], ◌∷◌, ◌++◌, take, drop, length, get_or, set, append-nil, drop_of_length-le, refl, sym}
+use Rattle.std.proofs.Common.{ap, subst, ◌∙◌, arith, length-set, get_or-set_same, get_or-set_other, set-set}
 use lib.Seq.{set-get_or}
 use Rattle.target_core.specs.Windows.{window_of, IsRam, OnlyIn}
 
@@ -51,4 +52,5 @@ read_on (y ∷ d) (x ∷ o) (suc i) lt in' =
     rw next (ap (λ (l : List ℕ). y ∷ l) (read_on d o i (omega (arith, lt)) (omega (arith, in'))))
 
 pub read_all : (d o : List ℕ) (i : ℕ) → i ≡ length o → take i d ++ drop i o ≡ take (length o) d
-read_all d o i all = ap (λ (k : ℕ). take k d ++ drop k o) all ∙ ap (λ (l : List ℕ). take (length o) d ++ l) (drop_of_length-le o (omega arith)) ∙ append-nil (take (length o) d)
+read_all d o i all = ap (λ (k : ℕ). take k d ++ drop k o) all ∙ ap (λ (l : List ℕ). take (length o) d ++ l) (drop_of_length-le o (omega arith)) ∙
+    append-nil (take (length o) d)

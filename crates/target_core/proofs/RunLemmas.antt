@@ -14,7 +14,8 @@ some_none : (o : Option RunEnd) → is_some o ≡ true → o ≡ None → ⊥
 some_none o some none = let is : is_some o ≡ false = ap is_some none in cc
 
 -- where no end holds before `made` steps, and one does then, so many are made
-from_is : (return_at fuel : ℕ) (p : Point) (k more made : ℕ) → GoesTo return_at fuel p made → is_some (end_at return_at fuel p made) ≡ true → k ≤ made → made ≤ k + more → steps_from return_at fuel p k more ≡ made
+from_is : (return_at fuel : ℕ) (p : Point) (k more made : ℕ) → GoesTo return_at fuel p made → is_some (end_at return_at fuel p made) ≡ true → k ≤ made →
+    made ≤ k + more → steps_from return_at fuel p k more ≡ made
 unfolding steps_from
 from_is return_at fuel p k zero made goes holds from to = omega (arith, from, to)
 from_is return_at fuel p k (suc more) made goes holds from to = ⊎_elim
@@ -24,7 +25,8 @@ from_is return_at fuel p k (suc more) made goes holds from to = ⊎_elim
     (cases_lt k made)))
     (λ (none : end_at return_at fuel p k ≡ None). rw none (⊎_elim
     (λ (before : k < made). from_is return_at fuel p (suc k) more made goes holds (omega (arith, before)) (omega (arith, to)))
-    (λ (at : made ≤ k). let same : k ≡ made = omega (arith, at, from) in absurd (some_none _ holds (subst (λ (i : ℕ). end_at return_at fuel p i ≡ None) same none)))
+    (λ (at : made ≤ k). let same : k ≡ made = omega (arith, at, from) in
+    absurd (some_none _ holds (subst (λ (i : ℕ). end_at return_at fuel p i ≡ None) same none)))
     (cases_lt k made)))
     (tests (end_at return_at fuel p k))
 
@@ -33,7 +35,8 @@ unfolding steps_from
 from_later return_at fuel p k zero = omega arith
 from_later return_at fuel p k (suc more) = ⊎_elim
     (λ (now : is_some (end_at return_at fuel p k) ≡ true). rw now (omega arith))
-    (λ (none : end_at return_at fuel p k ≡ None). rw none (let rest : suc k ≤ steps_from return_at fuel p (suc k) more = from_later return_at fuel p (suc k) more in omega (arith, rest)))
+    (λ (none : end_at return_at fuel p k ≡ None). rw none (let rest : suc k ≤ steps_from return_at fuel p (suc k) more =
+    from_later return_at fuel p (suc k) more in omega (arith, rest)))
     (tests (end_at return_at fuel p k))
 
 from_within : (return_at fuel : ℕ) (p : Point) (k more : ℕ) → steps_from return_at fuel p k more ≤ k + more
@@ -41,7 +44,8 @@ unfolding steps_from
 from_within return_at fuel p k zero = omega arith
 from_within return_at fuel p k (suc more) = ⊎_elim
     (λ (now : is_some (end_at return_at fuel p k) ≡ true). rw now (omega arith))
-    (λ (none : end_at return_at fuel p k ≡ None). rw none (let rest : steps_from return_at fuel p (suc k) more ≤ suc k + more = from_within return_at fuel p (suc k) more in omega (arith, rest)))
+    (λ (none : end_at return_at fuel p k ≡ None). rw none (let rest : steps_from return_at fuel p (suc k) more ≤ suc k + more =
+    from_within return_at fuel p (suc k) more in omega (arith, rest)))
     (tests (end_at return_at fuel p k))
 
 -- where no end holds before `made` steps, at least so many are made
@@ -56,7 +60,8 @@ from_least return_at fuel p k (suc more) made goes to = ⊎_elim
     (λ (none : end_at return_at fuel p k ≡ None). rw none (from_least return_at fuel p (suc k) more made goes (omega (arith, to))))
     (tests (end_at return_at fuel p k))
 
-pub steps_made_is : (return_at fuel : ℕ) (p : Point) (made : ℕ) (e : RunEnd) → made ≤ fuel → GoesTo return_at fuel p made → end_at return_at fuel p made ≡ Some e → steps_made return_at fuel p ≡ made
+pub steps_made_is : (return_at fuel : ℕ) (p : Point) (made : ℕ) (e : RunEnd) → made ≤ fuel → GoesTo return_at fuel p made →
+    end_at return_at fuel p made ≡ Some e → steps_made return_at fuel p ≡ made
 unfolding steps_made
 steps_made_is return_at fuel p made e within goes ends = from_is return_at fuel p 0 fuel made goes (ap is_some ends) (omega arith) (omega (arith, within))
 
@@ -90,12 +95,21 @@ run_last_within return_at fuel p = omega (arith, last_to (run_end_of return_at f
 -- a path has at least the points of the steps that went
 pub run_last_from : (return_at fuel : ℕ) (p : Point) (made : ℕ) → made ≤ fuel → GoesTo return_at fuel p made → 2 * made ≤ run_last return_at fuel p
 unfolding run_last
-run_last_from return_at fuel p made within goes = omega (arith, last_from (run_end_of return_at fuel p) (steps_made return_at fuel p), steps_made_least return_at fuel p made within goes)
+run_last_from return_at fuel p made within goes = omega (
+  arith,
+  last_from (run_end_of return_at fuel p) (steps_made return_at fuel p),
+  steps_made_least return_at fuel p made within goes,
+)
 
-pub run_end_is : (return_at fuel : ℕ) (p : Point) (made : ℕ) (e : RunEnd) → made ≤ fuel → GoesTo return_at fuel p made → end_at return_at fuel p made ≡ Some e → run_end_of return_at fuel p ≡ e
+pub run_end_is : (return_at fuel : ℕ) (p : Point) (made : ℕ) (e : RunEnd) → made ≤ fuel → GoesTo return_at fuel p made → end_at return_at fuel p made ≡ Some e →
+    run_end_of return_at fuel p ≡ e
 unfolding run_end_of
 run_end_is return_at fuel p made e within goes ends = rw (steps_made_is return_at fuel p made e within goes ends, ends) refl
 
-pub run_last_is : (return_at fuel : ℕ) (p : Point) (made : ℕ) (e : RunEnd) → made ≤ fuel → GoesTo return_at fuel p made → end_at return_at fuel p made ≡ Some e → run_last return_at fuel p ≡ last_number e made
+pub run_last_is : (return_at fuel : ℕ) (p : Point) (made : ℕ) (e : RunEnd) → made ≤ fuel → GoesTo return_at fuel p made →
+    end_at return_at fuel p made ≡ Some e → run_last return_at fuel p ≡ last_number e made
 unfolding run_last
-run_last_is return_at fuel p made e within goes ends = rw (run_end_is return_at fuel p made e within goes ends, steps_made_is return_at fuel p made e within goes ends) refl
+run_last_is return_at fuel p made e within goes ends = rw (
+  run_end_is return_at fuel p made e within goes ends,
+  steps_made_is return_at fuel p made e within goes ends,
+) refl

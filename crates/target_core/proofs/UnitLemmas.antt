@@ -23,7 +23,8 @@ pub fresh_idle : (k : ControllerKind) → state_op (fresh k) ≡ None
 fresh_idle k = refl
 
 -- so a bench with as many cells, on which none is open, agrees with it
-pub fresh_agrees : (tells : Bool) (unit : Unit) (k : ControllerKind) (b : BenchState) → unit_state unit ≡ fresh k → b.cell_count ≡ unit_cells unit → b.operation ≡ None → UnitAgrees tells unit b
+pub fresh_agrees : (tells : Bool) (unit : Unit) (k : ControllerKind) (b : BenchState) → unit_state unit ≡ fresh k → b.cell_count ≡ unit_cells unit →
+    b.operation ≡ None → UnitAgrees tells unit b
 fresh_agrees tells unit k b state count idle = record {
   count = count;
   operation = λ told. idle ∙ sym (ap state_op state);

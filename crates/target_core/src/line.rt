@@ -1,5 +1,5 @@
 //! What the core sees: the RAM, and the controller with its flash.
-ghost use Rattle.std.specs.Prelude.{◌≡◌, ◌-◌, ◌^◌, min, true, IsTrue};
+ghost use Rattle.std.specs.Prelude.{◌≡◌, ◌-◌, ◌/◌, ◌%◌, ◌^◌, min, nat_eq, if◌then◌else◌, true, IsTrue};
 ghost use Rattle.ram_arena.specs.Windows.{begin_of};
 ghost use Rattle.target_core.specs.Windows.{IsRam};
 ghost use Rattle.target_core.specs.Units.{UnitAgrees, unit_state, state_runs};
@@ -17,6 +17,8 @@ pub(crate) struct Line<'a, B: Bench> {
     pub ram_base: u32,
     pub ram_size: u32,
     pub reach: u32,
+    pub halves: u32,
+    pub words: u32,
     pub from: usize,
     pub window: usize,
     pub arena: &'a mut Arena,
@@ -25,10 +27,33 @@ pub(crate) struct Line<'a, B: Bench> {
     pub runs: bool,
 
     ghost reaches: { reach ≡ min ram_size (2 ^ 32 - ram_base) },
+    ghost by_halves: { halves ≡ (if nat_eq (ram_base % 2) 0 then reach / 2 else 0) },
+    ghost by_words: { words ≡ (if nat_eq (ram_base % 4) 0 then reach / 4 else 0) },
     ghost begins: { from ≡ begin_of arena.now window },
     ghost ram: { IsRam arena.now window ram_size },
     ghost agrees: { UnitAgrees B.tells unit.now (B.state bench.now) },
     ghost running: { runs ≡ state_runs (unit_state unit.now) },
+}
+
+impl<'a, B: Bench> Line<'a, B> {
+    ghost use Rattle.std.specs.Prelude.{Ok, IfSome};
+    ghost use Rattle.armv6m_step.specs.Access.{Load};
+    ghost use Rattle.target_core.specs.Line.{line_acts};
+
+    /// The word of a register, which answers without the bench.
+    #[inline(always)]
+    fn peek_register(&self, at: u32) -> Option<u32>
+        ensures even { IfSome result (λ v. at % 4 ≡ 0) }
+        ensures acts { IfSome result (λ v. line_acts self.now (Load 4 at) (Ok v) self.now) }
+    {
+        if at % 4 != 0 {
+            return None;
+        }
+        match self.place(at, 4) {
+            Some(_) => None,
+            None => self.unit.peek(at),
+        }
+    }
 }
 
 #[tactic(auto, unfolding(crate::specs::World::world_answer))]
@@ -111,5 +136,55 @@ impl<'a, B: Bench> Bus for Line<'a, B> {
                 end
             }
         }
+    }
+
+    #[inline(always)]
+    fn peek8(&self, at: u32) -> Option<u32> {
+        let offset = self.place(at, 1)?;
+        Some(self.arena.load8_from(self.from, self.window, offset))
+    }
+
+    #[inline(always)]
+    fn peek16(&self, at: u32) -> Option<u32> {
+        let offset = self.half_place(at)?;
+        Some(self.arena.load16_from(self.from, self.window, offset))
+    }
+
+    #[inline(always)]
+    fn peek32(&self, at: u32) -> Option<u32> {
+        match self.word_place(at) {
+            Some(offset) => Some(self.arena.load32_from(self.from, self.window, offset)),
+            None => self.peek_register(at),
+        }
+    }
+
+    #[inline(always)]
+    fn poke8(&mut self, at: u32, value: u32) -> bool {
+        let Some(offset) = self.place(at, 1) else {
+            return false;
+        };
+        self.arena
+            .store8_from(self.from, self.window, offset, value);
+        true
+    }
+
+    #[inline(always)]
+    fn poke16(&mut self, at: u32, value: u32) -> bool {
+        let Some(offset) = self.half_place(at) else {
+            return false;
+        };
+        self.arena
+            .store16_from(self.from, self.window, offset, value);
+        true
+    }
+
+    #[inline(always)]
+    fn poke32(&mut self, at: u32, value: u32) -> bool {
+        let Some(offset) = self.word_place(at) else {
+            return false;
+        };
+        self.arena
+            .store32_from(self.from, self.window, offset, value);
+        true
     }
 }

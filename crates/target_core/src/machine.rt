@@ -14,7 +14,7 @@ ghost use Rattle.target_core.specs.Targets.{core_at, fresh_core, with_ram, over,
 ghost use Rattle.target_core.specs.Units.{fresh, UnitAgrees, unit_cells, unit_map, unit_state, state_reset};
 
 use crate::line::Line;
-use crate::place::reach;
+use crate::place::{reach, steps_in};
 use crate::run::{RunEnd, SliceEnd, slice};
 use crate::unit::Unit;
 use armv6m_decode::registers::PC;
@@ -227,12 +227,15 @@ impl Machine {
         ensures others { OnlyIn window arena.old arena.new }
     {
         let from = arena.begin(window);
+        let reach = reach(self.ram_base, self.ram_size);
         let runs = self.unit.is_running();
         let mut line = Line {
             from,
             ram_base: self.ram_base,
             ram_size: self.ram_size,
-            reach: reach(self.ram_base, self.ram_size),
+            reach,
+            halves: steps_in(self.ram_base, reach, 2),
+            words: steps_in(self.ram_base, reach, 4),
             runs,
             window,
             arena,

@@ -1,3 +1,4 @@
+-- `slices_end_as_the_call`: its contract, `CallGives`.
 use Rattle.algo_calls.proofs.CallLemmas.{sliced_call}
 use Rattle.algo_calls.proofs.law.slices_end_as_the_call.Goals as goal
 

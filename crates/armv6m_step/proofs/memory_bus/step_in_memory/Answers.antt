@@ -1,3 +1,4 @@
+-- `step_in_memory`: that it keeps its contract.
 use Rattle.std.proofs.Common.{◌≡◌, ◌⊎◌, ℕ, Result, Err, inr, ⊎_elim}
 use Rattle.bench_model.specs.declared.bench_fault.BusEnd.{BusEnd}
 use Rattle.bench_model.specs.declared.bench_fault.BusEnd.TheVariants as bus_end
@@ -10,7 +11,8 @@ use Rattle.armv6m_step.proofs.FunctionalLemmas.{one_step}
 use Rattle.armv6m_step.proofs.memory_bus.step_in_memory.Goals as goal
 
 -- each access is a function of the bytes, and there is no device
-alone : (b : Ram) (access : Access) (answer : Result ℕ BusEnd) (b' : Ram) → memory_acts b access answer b' → ((answer ≡ Err bus_end.Device) × ⊥) ⊎ ((answer ≡ (ram_answer b access).0) × (b' ≡ (ram_answer b access).1))
+alone : (b : Ram) (access : Access) (answer : Result ℕ BusEnd) (b' : Ram) → memory_acts b access answer b' → ((answer ≡ Err bus_end.Device) × ⊥) ⊎
+    ((answer ≡ (ram_answer b access).0) × (b' ≡ (ram_answer b access).1))
 alone b access answer b' acts = inr (acts.answered, acts.left)
 
 pub returns : goal.returns

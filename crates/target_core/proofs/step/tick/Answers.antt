@@ -1,3 +1,4 @@
+-- `tick`: its contract, `TicksOnce`.
 use Rattle.std.proofs.Common.{ap, refl, sym, ◌∙◌}
 use Rattle.target_core.specs.Units.{unit_state}
 use Rattle.target_core.proofs.RamLemmas.{only_here}
@@ -15,11 +16,31 @@ returns-then-not-runs g c =
 pub returns-then-runs_on : goal.returns-then-runs_on
 returns-then-runs_on g c =
     quiet_tick (λ b x told. g.met.B.Bench.as_told b x told) c.args.line.now _
-    (record { arena = refl; unit = refl; bench = refl; base = refl; map = ap map_of c.runs_on.ensures.layout; size = refl; window = refl; others = only_here c.args.line.now.arena.now c.args.line.now.window }) refl refl
+    (record {
+      arena = refl;
+      unit = refl;
+      bench = refl;
+      base = refl;
+      map = ap map_of c.runs_on.ensures.layout;
+      size = refl;
+      window = refl;
+      others =
+          only_here c.args.line.now.arena.now c.args.line.now.window;
+    }) refl refl
     (λ cells. c.runs_on.ensures.ticks c.if-runs_on.true cells)
 
 pub returns : goal.returns
 returns g c =
     tick_from c.args.line.now _ c.tick_at_end.new.line c.tick_at_end.result
-    (record { arena = refl; unit = refl; bench = refl; base = refl; map = ap map_of c.runs_on.ensures.layout; size = refl; window = refl; others = only_here c.args.line.now.arena.now c.args.line.now.window })
+    (record {
+      arena = refl;
+      unit = refl;
+      bench = refl;
+      base = refl;
+      map = ap map_of c.runs_on.ensures.layout;
+      size = refl;
+      window = refl;
+      others =
+          only_here c.args.line.now.arena.now c.args.line.now.window;
+    })
     (c.runs_on.ensures.else_same c.if-runs_on.false) refl refl c.tick_at_end.ensures

@@ -1,3 +1,4 @@
+-- `CallsIn::prepare`: what `hand_over` asks for.
 use Rattle.algo_calls.specs.Shows.{setup_at}
 use Rattle.algo_calls.proofs.CallLemmas.{may_bytes}
 use Rattle.algo_calls.proofs.calls_in.CallsIn.prepare.Goals as goal

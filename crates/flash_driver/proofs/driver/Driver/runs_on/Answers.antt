@@ -1,3 +1,4 @@
+-- `Driver::runs_on`: its clause `ticks`.
 use Rattle.flash_driver.proofs.TickLemmas.{lower_tick}
 use Rattle.flash_driver.proofs.driver.Driver.runs_on.Goals as goal
 

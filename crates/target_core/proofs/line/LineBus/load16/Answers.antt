@@ -1,3 +1,4 @@
+-- `LineBus::load16`: its clause `acts`.
 use Rattle.std.proofs.Common.{refl}
 use Rattle.target_core.proofs.LineLemmas.{loads}
 use Rattle.target_core.proofs.RamLemmas.{only_here}
@@ -6,5 +7,15 @@ use Rattle.target_core.proofs.line.LineBus.load16.Goals as goal
 pub returns-in-Some-clause-acts : goal.returns-in-Some-clause-acts
 returns-in-Some-clause-acts g c =
     loads {G = g.B.Bench} (λ b x told. g.met.B.Bench.as_told b x told) c.args.self.now _ 2 c.args.at c.in-Some.offset c.load16_from.result
-    (record { arena = refl; unit = refl; bench = refl; base = refl; map = refl; size = refl; window = refl; others = only_here c.args.self.now.arena.now c.args.self.now.window }) refl refl refl
+    (record {
+      arena = refl;
+      unit = refl;
+      bench = refl;
+      base = refl;
+      map = refl;
+      size = refl;
+      window = refl;
+      others =
+          only_here c.args.self.now.arena.now c.args.self.now.window;
+    }) refl refl refl
     c.in-Some.ensures.value c.load16_from.ensures.value

@@ -1,3 +1,4 @@
+-- `Machine::new`: its clause `map`.
 use Rattle.std.proofs.Common.{◌∙◌}
 use Rattle.board_file.specs.Shown.{shown}
 use Rattle.target_core.proofs.UnitLemmas.{with_same}

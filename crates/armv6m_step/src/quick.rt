@@ -1,0 +1,709 @@
+//! A step in line, for the instructions that programs are mostly made of. Each is found by one jump and has its own arm here. All others are
+//! left to `step`.
+#![tactic(auto, using(crate::proofs::RunLemmas::asks, std::proofs::lemmas::Bool::Decides::nat_tests))]
+
+ghost use Rattle.std.specs.Prelude.{◌≡◌, ◌*◌, if◌then◌else◌};
+ghost use Rattle.armv6m_alu.specs.Bits.{is_bit_set};
+ghost use Rattle.armv6m_decode.specs.Rows.{bits};
+ghost use Rattle.armv6m_decode.specs.Table.{decoded};
+ghost use Rattle.armv6m_decode.specs.Targets.{branch_target};
+ghost use Rattle.bench_model.specs.Counted.{IsCounted};
+ghost use Rattle.armv6m_step.specs.BranchRows.{branch};
+ghost use Rattle.armv6m_step.specs.DataRows.{alu};
+ghost use Rattle.armv6m_step.specs.Ends.{is_device_end, stop_end};
+ghost use Rattle.armv6m_step.specs.ListRows.{many};
+ghost use Rattle.armv6m_step.specs.Meaning.{Runs};
+ghost use Rattle.armv6m_step.specs.MemoryRows.{load_word, load_half, load_byte, store_word, store_half, store_byte, memory};
+ghost use Rattle.armv6m_step.specs.Numbers.{sum};
+ghost use Rattle.armv6m_step.specs.Quick.{Goes, Steps, Reads};
+ghost use Rattle.armv6m_step.specs.Registers.{pc_of, reg, written, moved, with_nz, with_carry, with_nzcv};
+ghost use Rattle.armv6m_step.specs.Step.{of_halfword, instruction};
+
+use crate::access::{byte_at, byte_to, half_at, half_to, peek16, word_at, word_to};
+use crate::arms::{self, arm_of};
+use crate::data::{amount, subtract};
+use crate::ends::step_end;
+use crate::many::{pop, push};
+use crate::memory::{at_offset, bytes, halves, words};
+use crate::{Bus, Core, StepEnd, Stop, step};
+use armv6m_alu::{Shifted, Sum, add_with_carry, rotate_right, shift_left, shift_right};
+use armv6m_decode::registers::{LR, PC, SP};
+use armv6m_decode::targets::{far, literal, near, short};
+use armv6m_decode::{Alu, Branch, Condition, Decoded, Instr, Many, Memory, decode32};
+
+/// What a quick step came to.
+#[derive(Clone, Copy)]
+pub(crate) enum Quick {
+    /// The instruction is done but for the PC: the next one is at this address.
+    Went { pc: u32 },
+    /// The instruction is done, and ended so.
+    Done { end: StepEnd },
+    /// Nothing is done.
+    Left,
+}
+
+/// An instruction that stopped.
+#[inline(always)]
+fn stopped(stop: Stop) -> Quick
+    ensures { result ≡ Quick.Done (stop_end stop) }
+{
+    Quick::Done {
+        end: step_end(Err(stop)),
+    }
+}
+
+/// The register in bits 2 to 0.
+#[inline(always)]
+fn low(half: u16) -> u8
+    ensures { result ≡ bits 2 0 half }
+{
+    (half % 8) as u8
+}
+
+/// The register in bits 5 to 3.
+#[inline(always)]
+fn middle(half: u16) -> u8
+    ensures { result ≡ bits 5 3 half }
+{
+    ((half >> 3) % 8) as u8
+}
+
+/// The register in bits 8 to 6.
+#[inline(always)]
+fn upper(half: u16) -> u8
+    ensures { result ≡ bits 8 6 half }
+{
+    ((half >> 6) % 8) as u8
+}
+
+/// The register in bits 10 to 8.
+#[inline(always)]
+fn top(half: u16) -> u8
+    ensures { result ≡ bits 10 8 half }
+{
+    ((half >> 8) % 8) as u8
+}
+
+/// The immediate in bits 7 to 0.
+#[inline(always)]
+fn byte(half: u16) -> u8
+    ensures { result ≡ bits 7 0 half }
+{
+    (half % 256) as u8
+}
+
+/// The immediate in bits 10 to 6.
+#[inline(always)]
+fn five(half: u16) -> u8
+    ensures { result ≡ bits 10 6 half }
+{
+    ((half >> 6) % 32) as u8
+}
+
+/// A value into a register, with N and Z.
+#[inline(always)]
+fn put_value(core: &mut Core, d: u8, value: u32)
+    ensures { core.new ≡ with_nz (written core.old d value) value }
+{
+    core.write(d, value);
+    core.set_nz(value);
+}
+
+/// A shifted value into a register, with N, Z and C.
+#[inline(always)]
+fn put_shift(core: &mut Core, d: u8, shifted: Shifted)
+    ensures { core.new ≡ with_carry (with_nz (written core.old d shifted.value) shifted.value) shifted.carry }
+{
+    core.write(d, shifted.value);
+    core.set_nz(shifted.value);
+    core.set_carry(shifted.carry);
+}
+
+/// A sum into a register, with N, Z, C and V.
+#[inline(always)]
+fn put_sum(core: &mut Core, d: u8, sum: Sum)
+    ensures { core.new ≡ with_nzcv (written core.old d sum.value) sum }
+{
+    core.write(d, sum.value);
+    core.set_nzcv(sum);
+}
+
+/// LSL (immediate).
+#[inline(always)]
+fn lsls_immediate(core: &mut Core, pc: u32, half: u16) -> Quick
+    ensures { Goes (alu core.old (sum pc 2) (Alu.LslsImmediate (bits 2 0 half) (bits 5 3 half) (bits 10 6 half))) core.new result }
+{
+    let shifted = shift_left(core.read(middle(half)), u32::from(five(half)), core.c);
+    put_shift(core, low(half), shifted);
+    let next = pc.wrapping_add(2);
+    Quick::Went { pc: next }
+}
+
+/// LSR (immediate).
+#[inline(always)]
+fn lsrs_immediate(core: &mut Core, pc: u32, half: u16) -> Quick
+    ensures { Goes (alu core.old (sum pc 2) (Alu.LsrsImmediate (bits 2 0 half) (bits 5 3 half) (bits 10 6 half))) core.new result }
+{
+    let shifted = shift_right(core.read(middle(half)), amount(five(half)), core.c);
+    put_shift(core, low(half), shifted);
+    let next = pc.wrapping_add(2);
+    Quick::Went { pc: next }
+}
+
+/// ADD of two low registers.
+#[inline(always)]
+fn adds_register(core: &mut Core, pc: u32, half: u16) -> Quick
+    ensures { Goes (alu core.old (sum pc 2) (Alu.AddsRegister (bits 2 0 half) (bits 5 3 half) (bits 8 6 half))) core.new result }
+{
+    let sum = add_with_carry(core.read(middle(half)), core.read(upper(half)), false);
+    put_sum(core, low(half), sum);
+    let next = pc.wrapping_add(2);
+    Quick::Went { pc: next }
+}
+
+/// SUB of two low registers.
+#[inline(always)]
+fn subs_register(core: &mut Core, pc: u32, half: u16) -> Quick
+    ensures { Goes (alu core.old (sum pc 2) (Alu.SubsRegister (bits 2 0 half) (bits 5 3 half) (bits 8 6 half))) core.new result }
+{
+    let sum = subtract(core.read(middle(half)), core.read(upper(half)));
+    put_sum(core, low(half), sum);
+    let next = pc.wrapping_add(2);
+    Quick::Went { pc: next }
+}
+
+/// MOV of an immediate.
+#[inline(always)]
+fn movs_immediate(core: &mut Core, pc: u32, half: u16) -> Quick
+    ensures { Goes (alu core.old (sum pc 2) (Alu.MovsImmediate (bits 10 8 half) (bits 7 0 half))) core.new result }
+{
+    put_value(core, top(half), u32::from(byte(half)));
+    let next = pc.wrapping_add(2);
+    Quick::Went { pc: next }
+}
+
+/// CMP with an immediate.
+#[inline(always)]
+fn cmp_immediate(core: &mut Core, pc: u32, half: u16) -> Quick
+    ensures { Goes (alu core.old (sum pc 2) (Alu.CmpImmediate (bits 10 8 half) (bits 7 0 half))) core.new result }
+{
+    core.set_nzcv(subtract(core.read(top(half)), u32::from(byte(half))));
+    let next = pc.wrapping_add(2);
+    Quick::Went { pc: next }
+}
+
+/// ADD of an immediate of eight bits.
+#[inline(always)]
+fn adds_immediate(core: &mut Core, pc: u32, half: u16) -> Quick
+    ensures { Goes (alu core.old (sum pc 2) (Alu.AddsImmediate8 (bits 10 8 half) (bits 7 0 half))) core.new result }
+{
+    let d = top(half);
+    let sum = add_with_carry(core.read(d), u32::from(byte(half)), false);
+    put_sum(core, d, sum);
+    let next = pc.wrapping_add(2);
+    Quick::Went { pc: next }
+}
+
+/// SUB of an immediate of eight bits.
+#[inline(always)]
+fn subs_immediate(core: &mut Core, pc: u32, half: u16) -> Quick
+    ensures { Goes (alu core.old (sum pc 2) (Alu.SubsImmediate8 (bits 10 8 half) (bits 7 0 half))) core.new result }
+{
+    let d = top(half);
+    let sum = subtract(core.read(d), u32::from(byte(half)));
+    put_sum(core, d, sum);
+    let next = pc.wrapping_add(2);
+    Quick::Went { pc: next }
+}
+
+/// AND.
+#[inline(always)]
+fn ands(core: &mut Core, pc: u32, half: u16) -> Quick
+    ensures { Goes (alu core.old (sum pc 2) (Alu.Ands (bits 2 0 half) (bits 5 3 half))) core.new result }
+{
+    let d = low(half);
+    put_value(core, d, core.read(d) & core.read(middle(half)));
+    let next = pc.wrapping_add(2);
+    Quick::Went { pc: next }
+}
+
+/// EOR.
+#[inline(always)]
+fn eors(core: &mut Core, pc: u32, half: u16) -> Quick
+    ensures { Goes (alu core.old (sum pc 2) (Alu.Eors (bits 2 0 half) (bits 5 3 half))) core.new result }
+{
+    let d = low(half);
+    put_value(core, d, core.read(d) ^ core.read(middle(half)));
+    let next = pc.wrapping_add(2);
+    Quick::Went { pc: next }
+}
+
+/// ADC.
+#[inline(always)]
+fn adcs(core: &mut Core, pc: u32, half: u16) -> Quick
+    ensures { Goes (alu core.old (sum pc 2) (Alu.Adcs (bits 2 0 half) (bits 5 3 half))) core.new result }
+{
+    let d = low(half);
+    let sum = add_with_carry(core.read(d), core.read(middle(half)), core.c);
+    put_sum(core, d, sum);
+    let next = pc.wrapping_add(2);
+    Quick::Went { pc: next }
+}
+
+/// ROR.
+#[inline(always)]
+fn rors(core: &mut Core, pc: u32, half: u16) -> Quick
+    ensures { Goes (alu core.old (sum pc 2) (Alu.Rors (bits 2 0 half) (bits 5 3 half))) core.new result }
+{
+    let d = low(half);
+    let shifted = rotate_right(core.read(d), core.low_byte(middle(half)), core.c);
+    put_shift(core, d, shifted);
+    let next = pc.wrapping_add(2);
+    Quick::Went { pc: next }
+}
+
+/// TST.
+#[inline(always)]
+fn tst(core: &mut Core, pc: u32, half: u16) -> Quick
+    ensures { Goes (alu core.old (sum pc 2) (Alu.Tst (bits 2 0 half) (bits 5 3 half))) core.new result }
+{
+    core.set_nz(core.read(low(half)) & core.read(middle(half)));
+    let next = pc.wrapping_add(2);
+    Quick::Went { pc: next }
+}
+
+/// RSB.
+#[inline(always)]
+fn rsbs(core: &mut Core, pc: u32, half: u16) -> Quick
+    ensures { Goes (alu core.old (sum pc 2) (Alu.Rsbs (bits 2 0 half) (bits 5 3 half))) core.new result }
+{
+    let sum = subtract(0, core.read(middle(half)));
+    put_sum(core, low(half), sum);
+    let next = pc.wrapping_add(2);
+    Quick::Went { pc: next }
+}
+
+/// CMP of two low registers.
+#[inline(always)]
+fn cmp_register(core: &mut Core, pc: u32, half: u16) -> Quick
+    ensures { Goes (alu core.old (sum pc 2) (Alu.CmpRegister (bits 2 0 half) (bits 5 3 half))) core.new result }
+{
+    core.set_nzcv(subtract(core.read(low(half)), core.read(middle(half))));
+    let next = pc.wrapping_add(2);
+    Quick::Went { pc: next }
+}
+
+/// ORR.
+#[inline(always)]
+fn orrs(core: &mut Core, pc: u32, half: u16) -> Quick
+    ensures { Goes (alu core.old (sum pc 2) (Alu.Orrs (bits 2 0 half) (bits 5 3 half))) core.new result }
+{
+    let d = low(half);
+    put_value(core, d, core.read(d) | core.read(middle(half)));
+    let next = pc.wrapping_add(2);
+    Quick::Went { pc: next }
+}
+
+/// MUL.
+#[inline(always)]
+fn muls(core: &mut Core, pc: u32, half: u16) -> Quick
+    ensures { Goes (alu core.old (sum pc 2) (Alu.Muls (bits 2 0 half) (bits 5 3 half))) core.new result }
+{
+    let d = low(half);
+    let value = core.read(d).wrapping_mul(core.read(middle(half)));
+    put_value(core, d, value);
+    let next = pc.wrapping_add(2);
+    Quick::Went { pc: next }
+}
+
+/// The word at an address, into a register.
+#[inline(always)]
+#[tactic(auto, using(crate::proofs::RunLemmas::asks), unfolding(crate::specs::MemoryRows::load_word))]
+fn word_into<B: Bus>(core: &mut Core, bus: &mut B, next: u32, t: u8, at: u32) -> Quick
+    ensures { Steps B.acts (load_word core.old next t at) core.old bus.old result core.new bus.new }
+{
+    match word_at(bus, at) {
+        Ok(value) => {
+            core.write(t, value);
+            Quick::Went { pc: next }
+        }
+        Err(stop) => stopped(stop),
+    }
+}
+
+/// The halfword at an address, with zeros above it.
+#[inline(always)]
+#[tactic(auto, using(crate::proofs::RunLemmas::asks), unfolding(crate::specs::MemoryRows::load_half))]
+fn half_into<B: Bus>(core: &mut Core, bus: &mut B, next: u32, t: u8, at: u32) -> Quick
+    ensures { Steps B.acts (load_half core.old next t at) core.old bus.old result core.new bus.new }
+{
+    match half_at(bus, at) {
+        Ok(value) => {
+            core.write(t, value);
+            Quick::Went { pc: next }
+        }
+        Err(stop) => stopped(stop),
+    }
+}
+
+/// The byte at an address, with zeros above it.
+#[inline(always)]
+#[tactic(auto, using(crate::proofs::RunLemmas::asks), unfolding(crate::specs::MemoryRows::load_byte))]
+fn byte_into<B: Bus>(core: &mut Core, bus: &mut B, next: u32, t: u8, at: u32) -> Quick
+    ensures { Steps B.acts (load_byte core.old next t at) core.old bus.old result core.new bus.new }
+{
+    match byte_at(bus, at) {
+        Ok(value) => {
+            core.write(t, value);
+            Quick::Went { pc: next }
+        }
+        Err(stop) => stopped(stop),
+    }
+}
+
+/// A register, to the word at an address.
+#[inline(always)]
+#[tactic(auto, using(crate::proofs::RunLemmas::asks), unfolding(crate::specs::MemoryRows::store_word))]
+fn word_from<B: Bus>(core: &Core, bus: &mut B, next: u32, t: u8, at: u32) -> Quick
+    ensures { Steps B.acts (store_word core.now next t at) core.now bus.old result core.now bus.new }
+{
+    match word_to(bus, at, core.read(t)) {
+        Ok(()) => Quick::Went { pc: next },
+        Err(stop) => stopped(stop),
+    }
+}
+
+/// The low halfword of a register, to an address.
+#[inline(always)]
+#[tactic(auto, using(crate::proofs::RunLemmas::asks), unfolding(crate::specs::MemoryRows::store_half))]
+fn half_from<B: Bus>(core: &Core, bus: &mut B, next: u32, t: u8, at: u32) -> Quick
+    ensures { Steps B.acts (store_half core.now next t at) core.now bus.old result core.now bus.new }
+{
+    match half_to(bus, at, core.low_half(t)) {
+        Ok(()) => Quick::Went { pc: next },
+        Err(stop) => stopped(stop),
+    }
+}
+
+/// The low byte of a register, to an address.
+#[inline(always)]
+#[tactic(auto, using(crate::proofs::RunLemmas::asks), unfolding(crate::specs::MemoryRows::store_byte))]
+fn byte_from<B: Bus>(core: &Core, bus: &mut B, next: u32, t: u8, at: u32) -> Quick
+    ensures { Steps B.acts (store_byte core.now next t at) core.now bus.old result core.now bus.new }
+{
+    match byte_to(bus, at, core.low_byte(t)) {
+        Ok(()) => Quick::Went { pc: next },
+        Err(stop) => stopped(stop),
+    }
+}
+
+/// LDR of a literal.
+#[inline(always)]
+fn ldr_literal<B: Bus>(core: &mut Core, bus: &mut B, pc: u32, half: u16) -> Quick
+    requires { pc ≡ pc_of core.old }
+    ensures { Steps B.acts (memory core.old (sum pc 2) (Memory.LdrLiteral (bits 10 8 half) (bits 7 0 half))) core.old bus.old result core.new bus.new }
+{
+    let at = literal(pc, byte(half));
+    word_into(core, bus, pc.wrapping_add(2), top(half), at)
+}
+
+/// LDR at a register and an immediate.
+#[inline(always)]
+fn ldr_immediate<B: Bus>(core: &mut Core, bus: &mut B, pc: u32, half: u16) -> Quick
+    ensures { Steps B.acts (memory core.old (sum pc 2) (Memory.LdrImmediate (bits 2 0 half) (bits 5 3 half) (bits 10 6 half))) core.old bus.old result core.new bus.new }
+{
+    let at = at_offset(core, middle(half), words(five(half)));
+    word_into(core, bus, pc.wrapping_add(2), low(half), at)
+}
+
+/// LDRB at a register and an immediate.
+#[inline(always)]
+fn ldrb_immediate<B: Bus>(core: &mut Core, bus: &mut B, pc: u32, half: u16) -> Quick
+    ensures { Steps B.acts (memory core.old (sum pc 2) (Memory.LdrbImmediate (bits 2 0 half) (bits 5 3 half) (bits 10 6 half))) core.old bus.old result core.new bus.new }
+{
+    let at = at_offset(core, middle(half), bytes(five(half)));
+    byte_into(core, bus, pc.wrapping_add(2), low(half), at)
+}
+
+/// LDRH at a register and an immediate.
+#[inline(always)]
+fn ldrh_immediate<B: Bus>(core: &mut Core, bus: &mut B, pc: u32, half: u16) -> Quick
+    ensures { Steps B.acts (memory core.old (sum pc 2) (Memory.LdrhImmediate (bits 2 0 half) (bits 5 3 half) (bits 10 6 half))) core.old bus.old result core.new bus.new }
+{
+    let at = at_offset(core, middle(half), halves(five(half)));
+    half_into(core, bus, pc.wrapping_add(2), low(half), at)
+}
+
+/// STR at a register and an immediate.
+#[inline(always)]
+fn str_immediate<B: Bus>(core: &Core, bus: &mut B, pc: u32, half: u16) -> Quick
+    ensures { Steps B.acts (memory core.now (sum pc 2) (Memory.StrImmediate (bits 2 0 half) (bits 5 3 half) (bits 10 6 half))) core.now bus.old result core.now bus.new }
+{
+    let at = at_offset(core, middle(half), words(five(half)));
+    word_from(core, bus, pc.wrapping_add(2), low(half), at)
+}
+
+/// STRB at a register and an immediate.
+#[inline(always)]
+fn strb_immediate<B: Bus>(core: &Core, bus: &mut B, pc: u32, half: u16) -> Quick
+    ensures { Steps B.acts (memory core.now (sum pc 2) (Memory.StrbImmediate (bits 2 0 half) (bits 5 3 half) (bits 10 6 half))) core.now bus.old result core.now bus.new }
+{
+    let at = at_offset(core, middle(half), bytes(five(half)));
+    byte_from(core, bus, pc.wrapping_add(2), low(half), at)
+}
+
+/// STRH at a register and an immediate.
+#[inline(always)]
+fn strh_immediate<B: Bus>(core: &Core, bus: &mut B, pc: u32, half: u16) -> Quick
+    ensures { Steps B.acts (memory core.now (sum pc 2) (Memory.StrhImmediate (bits 2 0 half) (bits 5 3 half) (bits 10 6 half))) core.now bus.old result core.now bus.new }
+{
+    let at = at_offset(core, middle(half), halves(five(half)));
+    half_from(core, bus, pc.wrapping_add(2), low(half), at)
+}
+
+/// The address of SP and an immediate.
+#[inline(always)]
+fn at_sp(core: &Core, half: u16) -> u32
+    ensures { result ≡ sum (reg core.now SP) (4 * bits 7 0 half) }
+{
+    at_offset(core, SP, words(byte(half)))
+}
+
+/// STR at SP and an immediate.
+#[inline(always)]
+fn str_sp<B: Bus>(core: &Core, bus: &mut B, pc: u32, half: u16) -> Quick
+    ensures { Steps B.acts (memory core.now (sum pc 2) (Memory.StrSp (bits 10 8 half) (bits 7 0 half))) core.now bus.old result core.now bus.new }
+{
+    let at = at_sp(core, half);
+    word_from(core, bus, pc.wrapping_add(2), top(half), at)
+}
+
+/// LDR at SP and an immediate.
+#[inline(always)]
+fn ldr_sp<B: Bus>(core: &mut Core, bus: &mut B, pc: u32, half: u16) -> Quick
+    ensures { Steps B.acts (memory core.old (sum pc 2) (Memory.LdrSp (bits 10 8 half) (bits 7 0 half))) core.old bus.old result core.new bus.new }
+{
+    let at = at_sp(core, half);
+    word_into(core, bus, pc.wrapping_add(2), top(half), at)
+}
+
+/// PUSH.
+#[inline(always)]
+fn push_list<B: Bus>(core: &mut Core, bus: &mut B, pc: u32, half: u16) -> Quick
+    ensures { Steps B.acts (many core.old (sum pc 2) (Many.Push (is_bit_set half 8) (bits 7 0 half))) core.old bus.old result core.new bus.new }
+{
+    let is_long = (half >> 8) % 2 == 1;
+    let made = push(core, bus, pc.wrapping_add(2), is_long, byte(half));
+    let end = step_end(made);
+    Quick::Done { end }
+}
+
+/// POP.
+#[inline(always)]
+fn pop_list<B: Bus>(core: &mut Core, bus: &mut B, pc: u32, half: u16) -> Quick
+    ensures { Steps B.acts (many core.old (sum pc 2) (Many.Pop (is_bit_set half 8) (bits 7 0 half))) core.old bus.old result core.new bus.new }
+{
+    let is_long = (half >> 8) % 2 == 1;
+    let made = pop(core, bus, pc.wrapping_add(2), is_long, byte(half));
+    let end = step_end(made);
+    Quick::Done { end }
+}
+
+/// Where a branch with a condition goes.
+#[inline(always)]
+fn branch_where(taken: bool, pc: u32, half: u16) -> u32
+    ensures { result ≡ (if taken then branch_target 8 pc (bits 7 0 half) else sum pc 2) }
+{
+    if taken {
+        short(pc, byte(half))
+    } else {
+        pc.wrapping_add(2)
+    }
+}
+
+/// B where Z is set.
+#[inline(always)]
+fn branch_equal(core: &Core, pc: u32, half: u16) -> Quick
+    requires { pc ≡ pc_of core.now }
+    ensures { Goes (branch core.now (sum pc 2) (Branch.Bcc Condition.Equal (bits 7 0 half))) core.now result }
+{
+    let to = branch_where(core.z, pc, half);
+    Quick::Went { pc: to }
+}
+
+/// B where Z is clear.
+#[inline(always)]
+fn branch_not_equal(core: &Core, pc: u32, half: u16) -> Quick
+    requires { pc ≡ pc_of core.now }
+    ensures { Goes (branch core.now (sum pc 2) (Branch.Bcc Condition.NotEqual (bits 7 0 half))) core.now result }
+{
+    let to = branch_where(!core.z, pc, half);
+    Quick::Went { pc: to }
+}
+
+/// B where C is set.
+#[inline(always)]
+fn branch_carry_set(core: &Core, pc: u32, half: u16) -> Quick
+    requires { pc ≡ pc_of core.now }
+    ensures { Goes (branch core.now (sum pc 2) (Branch.Bcc Condition.CarrySet (bits 7 0 half))) core.now result }
+{
+    let to = branch_where(core.c, pc, half);
+    Quick::Went { pc: to }
+}
+
+/// B where C is clear.
+#[inline(always)]
+fn branch_carry_clear(core: &Core, pc: u32, half: u16) -> Quick
+    requires { pc ≡ pc_of core.now }
+    ensures { Goes (branch core.now (sum pc 2) (Branch.Bcc Condition.CarryClear (bits 7 0 half))) core.now result }
+{
+    let to = branch_where(!core.c, pc, half);
+    Quick::Went { pc: to }
+}
+
+/// B where C is set and Z is clear.
+#[inline(always)]
+fn branch_higher(core: &Core, pc: u32, half: u16) -> Quick
+    requires { pc ≡ pc_of core.now }
+    ensures { Goes (branch core.now (sum pc 2) (Branch.Bcc Condition.Higher (bits 7 0 half))) core.now result }
+{
+    let to = branch_where(core.c && !core.z, pc, half);
+    Quick::Went { pc: to }
+}
+
+/// B.
+#[inline(always)]
+fn branch_always(core: &Core, pc: u32, half: u16) -> Quick
+    requires { pc ≡ pc_of core.now }
+    ensures { Goes (branch core.now (sum pc 2) (Branch.B (bits 10 0 half))) core.now result }
+{
+    let to = near(pc, half % 2048);
+    Quick::Went { pc: to }
+}
+
+/// BL, where its second halfword is at hand.
+#[inline(always)]
+fn call<B: Bus>(core: &mut Core, bus: &B, pc: u32, half: u16) -> Quick
+    requires pc { pc ≡ pc_of core.old }
+    requires pair { decoded half ≡ Decoded.NeedsSecond }
+    ensures { Steps B.acts (of_halfword core.old half (decoded half)) core.old bus.now result core.new bus.now }
+{
+    let Some(second) = peek16(bus, pc.wrapping_add(2)) else {
+        return Quick::Left;
+    };
+    match decode32(half, second as u16) {
+        Some(Instr::Branch(Branch::Bl { immediate })) => {
+            core.write(LR, pc.wrapping_add(4).wrapping_add(1));
+            let to = far(pc, immediate);
+            Quick::Went { pc: to }
+        }
+        _ => Quick::Left,
+    }
+}
+
+/// Does the instruction that a halfword at the PC begins, by its arm.
+#[inline(always)]
+fn arm<B: Bus>(core: &mut Core, bus: &mut B, pc: u32, half: u16) -> Quick
+    requires { pc ≡ pc_of core.old }
+    ensures { Steps B.acts (of_halfword core.old half (decoded half)) core.old bus.old result core.new bus.new }
+{
+    match arm_of(half) {
+        arms::NONE => Quick::Left,
+        arms::LSLS_IMMEDIATE => lsls_immediate(core, pc, half),
+        arms::LSRS_IMMEDIATE => lsrs_immediate(core, pc, half),
+        arms::ADDS_REGISTER => adds_register(core, pc, half),
+        arms::SUBS_REGISTER => subs_register(core, pc, half),
+        arms::MOVS_IMMEDIATE => movs_immediate(core, pc, half),
+        arms::CMP_IMMEDIATE => cmp_immediate(core, pc, half),
+        arms::ADDS_IMMEDIATE => adds_immediate(core, pc, half),
+        arms::SUBS_IMMEDIATE => subs_immediate(core, pc, half),
+        arms::ANDS => ands(core, pc, half),
+        arms::EORS => eors(core, pc, half),
+        arms::ADCS => adcs(core, pc, half),
+        arms::RORS => rors(core, pc, half),
+        arms::TST => tst(core, pc, half),
+        arms::RSBS => rsbs(core, pc, half),
+        arms::CMP_REGISTER => cmp_register(core, pc, half),
+        arms::ORRS => orrs(core, pc, half),
+        arms::MULS => muls(core, pc, half),
+        arms::LDR_LITERAL => ldr_literal(core, bus, pc, half),
+        arms::STR_IMMEDIATE => str_immediate(core, bus, pc, half),
+        arms::LDR_IMMEDIATE => ldr_immediate(core, bus, pc, half),
+        arms::STRB_IMMEDIATE => strb_immediate(core, bus, pc, half),
+        arms::LDRB_IMMEDIATE => ldrb_immediate(core, bus, pc, half),
+        arms::STRH_IMMEDIATE => strh_immediate(core, bus, pc, half),
+        arms::LDRH_IMMEDIATE => ldrh_immediate(core, bus, pc, half),
+        arms::STR_SP => str_sp(core, bus, pc, half),
+        arms::LDR_SP => ldr_sp(core, bus, pc, half),
+        arms::PUSH => push_list(core, bus, pc, half),
+        arms::POP => pop_list(core, bus, pc, half),
+        arms::BRANCH_EQUAL => branch_equal(core, pc, half),
+        arms::BRANCH_NOT_EQUAL => branch_not_equal(core, pc, half),
+        arms::BRANCH_CARRY_SET => branch_carry_set(core, pc, half),
+        arms::BRANCH_CARRY_CLEAR => branch_carry_clear(core, pc, half),
+        arms::BRANCH_HIGHER => branch_higher(core, pc, half),
+        arms::BRANCH => branch_always(core, pc, half),
+        arms::CALL => call(core, bus, pc, half),
+        _ => Quick::Left,
+    }
+}
+
+/// Does the instruction at the PC, where it has an arm.
+#[inline(always)]
+#[tactic(auto, using(crate::proofs::RunLemmas::asks), unfolding(crate::specs::Step::instruction))]
+fn quick_step<B: Bus>(core: &mut Core, bus: &mut B, pc: u32) -> Quick
+    requires { pc ≡ pc_of core.old }
+    ensures { Steps B.acts (instruction core.old) core.old bus.old result core.new bus.new }
+{
+    match peek16(bus, pc) {
+        Some(half) => arm(core, bus, pc, half as u16),
+        None => Quick::Left,
+    }
+}
+
+/// As `step`, out of line.
+#[inline(never)]
+fn step_out<B: Bus>(core: &mut Core, bus: &mut B) -> StepEnd
+    ensures runs { Runs B.acts (instruction core.old) core.old bus.old result core.new bus.new }
+    ensures cause { IsCounted (B.faults bus.old) (B.faults bus.new) (is_device_end result) }
+{
+    step(core, bus)
+}
+
+/// An address, as the PC of a core that need not hold it. The read shows that the core has a register for it.
+#[inline(always)]
+#[tactic(auto, unfolding(crate::specs::Registers::moved))]
+fn at_hand(core: &Core, pc: u32) -> u32
+    ensures same { result ≡ pc }
+    ensures reads { Reads core.now pc }
+{
+    let _last = core.regs[PC as usize];
+    pc
+}
+
+/// Does the instruction at an address as `step` does that at the PC, for a caller that has the PC at hand: the core need not hold it, neither
+/// before nor after.
+#[inline(always)]
+pub fn step_at<B: Bus>(core: &mut Core, bus: &mut B, pc: &mut u32) -> StepEnd
+    requires { Reads core.old pc.old }
+    ensures runs { Runs B.acts (instruction (moved core.old pc.old)) (moved core.old pc.old) bus.old result (moved core.new pc.new) bus.new }
+    ensures pc { Reads core.new pc.new }
+    ensures cause { IsCounted (B.faults bus.old) (B.faults bus.new) (is_device_end result) }
+{
+    core.go_to(*pc);
+    match quick_step(core, bus, *pc) {
+        Quick::Went { pc: to } => {
+            *pc = at_hand(core, to);
+            StepEnd::Went
+        }
+        Quick::Done { end } => {
+            *pc = at_hand(core, core.pc());
+            end
+        }
+        Quick::Left => {
+            let end = step_out(core, bus);
+            *pc = at_hand(core, core.pc());
+            end
+        }
+    }
+}

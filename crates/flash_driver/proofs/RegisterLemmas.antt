@@ -1,0 +1,31 @@
+-- A register answers a load of its word, whatever the cells are.
+use Rattle.std.proofs.Common.{◌≡◌, ◌<◌, ◌≤◌, ◌-◌, ℕ, Bool, true, false, List, Option, Some, None, IfSome, Result, Ok, refl, ap, sym, ◌∙◌}
+use Rattle.std.proofs.lemmas.Bool.{le-leb, lt-ltb}
+use Rattle.bench_model.specs.declared.bench_fault.BusEnd.{BusEnd}
+use Rattle.flash_layout.specs.Maps.{FlashMap, in_quiet}
+use Rattle.flash_driver.specs.declared.place.Place.{Place}
+use Rattle.flash_driver.specs.declared.place.Place.TheVariants as place
+use Rattle.flash_driver.specs.declared.state.State.{State}
+use Rattle.flash_driver.specs.Places.{place_of}
+use Rattle.flash_driver.specs.Table.{Table, answered, load_at, load_row, or_quiet, bus_load}
+
+at_register : (map : FlashMap) (at : ℕ) → map.base ≤ at → at - map.base < map.block → place_of map at 4 ≡ place.Register (at - map.base)
+unfolding place_of
+at_register map at above below = rw (le-leb _ _ above, lt-ltb _ _ below) refl
+
+taken : (value : ℕ) (quiet : Bool) → ◌≡◌ {A = Result ℕ BusEnd} (or_quiet 0 quiet (Ok value)) (Ok value)
+taken value true = refl
+taken value false = refl
+
+module _ {R : Type 0} (t : Table R) (map : FlashMap) (s : State R) (at : ℕ) (above : map.base ≤ at) (below : at - map.base < map.block) where
+  one_load : (value : ℕ) (cells : List ℕ) → Some value ≡ t.load s.registers s.operation (at - map.base) → bus_load t map s cells at 4 ≡ Ok value
+  unfolding load_row
+  one_load value cells is =
+      ap (λ (p : Place). or_quiet 0 (in_quiet map.quiet at) (load_at t s cells 4 p)) (at_register map at above below)
+      ∙ ap (λ (o : Option ℕ). or_quiet 0 (in_quiet map.quiet at) (answered o)) (sym is)
+      ∙ taken value (in_quiet map.quiet at)
+
+  pub register_loads : (answer : Option ℕ) → answer ≡ t.load s.registers s.operation (at - map.base) →
+      IfSome answer (λ value. (cells : List ℕ) → bus_load t map s cells at 4 ≡ Ok value)
+  register_loads None is = tt
+  register_loads (Some value) is = λ cells. one_load value cells is
