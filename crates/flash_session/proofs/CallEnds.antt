@@ -1,5 +1,5 @@
 -- What a call that has ended makes of the moves before it.
-use Rattle.std.proofs.Common.{◌≡◌, ◌≤◌, ◌<◌, ◌+◌, ◌∙◌, ℕ, false, List, [], ◌∷◌, ◌++◌, Ok, Err, refl, sym, ap, arith}
+use Rattle.std.proofs.Common.{◌≡◌, ◌+◌, ◌∙◌, ℕ, false, List, [], ◌∷◌, ◌++◌, Ok, Err, refl, sym, ap, arith}
 use Rattle.bench_model.specs.History.{Leaves}
 use Rattle.bench_model.specs.State.{BenchState, cells_half}
 use Rattle.bench_model.proofs.Moments.{leaves_as}
@@ -25,7 +25,8 @@ Came a way made call (call_end.Refused r0) w' end = run a way ≡ Err (failure (
 Came a way made call (call_end.Ended e) w' end = run a way ≡ Err (failure (made + 1) call (call_end.Ended e) w')
 Came a way made call call_end.DeviceFault w' end = BreaksOff a way end
 
-module _ (s : Setup) (a : Stand) (done : List Move) (call : Call) (bytes : List ℕ) (made : ℕ) (before : World) (ran : run a done ≡ Ok (stand_at made before)) where
+module _ (s : Setup) (a : Stand) (done : List Move) (call : Call) (bytes : List ℕ) (made : ℕ) (before : World)
+    (ran : run a done ≡ Ok (stand_at made before)) where
   abbrev made_call : List Move
   made_call = Make s call bytes ∷ []
 
@@ -35,30 +36,40 @@ module _ (s : Setup) (a : Stand) (done : List Move) (call : Call) (bytes : List 
   abbrev r : Request
   r = asked call bytes
 
-  pub call_moments : (start end : BenchState) → Leaves (cells_half start) (cells_half end) (IsLeftOn (path_of s before r)) → Leaves (cells_half start) (cells_half end) (IsLeftOnWay a (done ++ made_call))
+  pub call_moments : (start end : BenchState) → Leaves (cells_half start) (cells_half end) (IsLeftOn (path_of s before r))
+      → Leaves (cells_half start) (cells_half end) (IsLeftOnWay a (done ++ made_call))
   call_moments start end moments =
       leaves_as (IsLeftOn (path_of s before r)) (IsLeftOnWay a (done ++ made_call))
       (λ c was. let w : World = (point (path_of s before r).first was.number).world in
-      record { at = w; on = on_then a stood done made_call w ran (of_one stood (Make s call bytes) w (record { number = was.number; within = was.within; is = refl })); left = was.left }) moments
+      record {
+        at = w;
+        on = on_then a stood done made_call w ran
+            (of_one stood (Make s call bytes) w (record { number = was.number; within = was.within; is = refl }));
+        left = was.left;
+      }) moments
 
-  came_failed : (e : CallEnd) (w' : World) → is_done e ≡ false → (e ≡ end_of s before r) × (w' ≡ after s before r) → run a (done ++ made_call) ≡ Err (failure (made + 1) call e w')
+  came_failed : (e : CallEnd) (w' : World) → is_done e ≡ false → (e ≡ end_of s before r) × (w' ≡ after s before r)
+      → run a (done ++ made_call) ≡ Err (failure (made + 1) call e w')
   came_failed e w' failed ends =
       run_then a stood done made_call _ ran
       (run_one stood (Make s call bytes)
-      ∙ failed_run (is_done (end_of s before r)) _ (failure (made + 1) call (end_of s before r) (after s before r)) (failure (made + 1) call e w') (ap is_done (sym ends.0) ∙ failed)
+      ∙ failed_run (is_done (end_of s before r)) _ (failure (made + 1) call (end_of s before r) (after s before r)) (failure (made + 1) call e w')
+      (ap is_done (sym ends.0) ∙ failed)
       (ap (λ (y : CallEnd). failure (made + 1) call y (after s before r)) (sym ends.0) ∙ ap (failure (made + 1) call e) (sym ends.1)))
 
   pub came : (e : CallEnd) (w' : World) (start end : BenchState) → CallGives s before r start e w' end → Came a (done ++ made_call) made call e w' end
   came call_end.Done w' start end gives =
       run_then a stood done made_call _ ran
       (run_one stood (Make s call bytes)
-      ∙ done_run (is_done (end_of s before r)) (stand_at (made + 1) (after s before r)) (stand_at (made + 1) w') _ (ap is_done (sym gives.ends.0)) (ap (stand_at (made + 1)) (sym gives.ends.1)))
+      ∙ done_run (is_done (end_of s before r)) (stand_at (made + 1) (after s before r)) (stand_at (made + 1) w') _ (ap is_done (sym gives.ends.0))
+      (ap (stand_at (made + 1)) (sym gives.ends.1)))
   came (call_end.Refused r0) w' start end gives = came_failed (call_end.Refused r0) w' refl gives.ends
   came (call_end.Ended e) w' start end gives = came_failed (call_end.Ended e) w' refl gives.ends
   came call_end.DeviceFault w' start end gives =
       let w : World = (point (path_of s before r).first gives.ends.number).world in
       record {
         at = w;
-        on = on_then a stood done made_call w ran (of_one stood (Make s call bytes) w (record { number = gives.ends.number; within = omega (arith, gives.ends.before); is = refl }));
+        on = on_then a stood done made_call w ran (of_one stood (Make s call bytes) w
+            (record { number = gives.ends.number; within = omega (arith, gives.ends.before); is = refl }));
         shows = record { cells = gives.ends.stands.cells; operation = gives.ends.stands.operation };
       }

@@ -1,5 +1,5 @@
 -- A turn from its parts.
-use Rattle.std.proofs.Common.{◌≡◌, ◌<◌, ◌≤◌, ◌+◌, ◌^◌, ◌∙◌, ℕ, Bool, true, false, IsTrue, List, [], length, refl, sym, ap, subst, arith}
+use Rattle.std.proofs.Common.{◌≡◌, ◌<◌, ◌+◌, ◌^◌, ◌∙◌, ℕ, Bool, true, false, IsTrue, List, [], length, refl, sym, ap, subst, arith}
 use Rattle.bench_model.specs.State.{BenchState}
 use Rattle.bench_model.specs.Calls.{FileStays, FileIsRead}
 use Rattle.bench_model.specs.Counted.{is_store_fault, is_device_fault, IsCounted}
@@ -7,15 +7,12 @@ use Rattle.bench_model.proofs.Moments.{stays_adds_nothing}
 use Rattle.job_text.specs.declared.job.Job.{Job}
 use Rattle.flash_layout.specs.Areas.{cells_in}
 use Rattle.flash_layout.specs.Maps.{FlashMap}
-use Rattle.target_core.specs.Path.{Point}
 use Rattle.target_core.specs.Windows.{OnlyIn}
 use Rattle.algo_calls.specs.Setups.{Setup}
 use Rattle.algo_calls.specs.Shows.{AgreesAt, Fits}
 use Rattle.flash_session.specs.Moves.{Move, Stand}
 use Rattle.flash_session.specs.declared.phase.Phase.{Phase}
 use Rattle.flash_session.specs.declared.phase.Phase.TheVariants as stage
-use Rattle.flash_session.specs.declared.cursor.Place.{Place}
-use Rattle.flash_session.specs.declared.part.Part.{Part}
 use Rattle.flash_session.specs.declared.part.Task.{Task}
 use Rattle.flash_session.specs.declared.player.Player.{Player}
 use Rattle.flash_session.specs.declared.target_end.TargetEnd.{TargetEnd}
@@ -53,9 +50,11 @@ file_kept tells s t stays = record { file = λ told. stays.file; moments = stays
 -- ---- where it stands, by the script of before
 
 pub stands_same : (old new : Player) (a : Stand) (way : List Move) (goal : List ℕ) (arena : List (List ℕ)) (now : BenchState) → SameTarget old new
-    → Stands (legs_for old goal) goal (setup_now new) a way new.place new.made (point_for new arena now.cells) new.calls.machine.return_at now → StandsOn a way goal new arena now
+    → Stands (legs_for old goal) goal (setup_now new) a way new.place new.made (point_for new arena now.cells) new.calls.machine.return_at now
+    → StandsOn a way goal new arena now
 stands_same old new a way goal arena now same stands =
-    subst (λ (l : Legs). Stands l goal (setup_now new) a way new.place new.made (point_for new arena now.cells) new.calls.machine.return_at now) (sym (legs_same old new same goal)) stands
+    subst (λ (l : Legs). Stands l goal (setup_now new) a way new.place new.made (point_for new arena now.cells) new.calls.machine.return_at now)
+    (sym (legs_same old new same goal)) stands
 
 pub size_same : (old new : Player) → SameTarget old new → size_for new ≡ size_for old
 size_same old new same = ap (λ (m : FlashMap). cells_in m.areas) (same.maps false)
@@ -63,7 +62,8 @@ size_same old new same = ap (λ (m : FlashMap). cells_in m.areas) (same.maps fal
 pub goal_same : (j : Job) (old new : Player) (file : List ℕ) → SameTarget old new → goal_for j new file ≡ goal_for j old file
 goal_same j old new file same = ap (λ (t : Task). goal_in j t.goal file) same.task
 
-part_same : (old new : Player) (r : Bool) → SameTarget old new → length new.page.items ≡ length old.page.items → IsPartOn (setup_on old r) (size_for old) (length old.page.items) (part_in old.task r)
+part_same : (old new : Player) (r : Bool) → SameTarget old new → length new.page.items ≡ length old.page.items
+    → IsPartOn (setup_on old r) (size_for old) (length old.page.items) (part_in old.task r)
     → IsPartOn (setup_on new r) (size_for new) (length new.page.items) (part_in new.task r)
 part_same old new r same page is =
     subst (λ (s : Setup). IsPartOn s (size_for new) (length new.page.items) (part_in new.task r)) (sym (same.setups r))
@@ -79,10 +79,13 @@ scripted_same old new same page twins is = record {
 }
 
 pub turn_made : (tells : Bool) (goal : List ℕ) (old new : Player) (arena arena' : List (List ℕ)) (start end : BenchState)
-    → Fit tells old arena start → SameTarget old new → length new.page.items ≡ length old.page.items → AreTwins new → map_of new.calls ≡ map_of old.calls → OnlyIn old.window arena arena' → Fits new.calls arena' new.window
-    → AgreesAt tells new.calls end → IsPlace tells (has_second old) new.second new.place (size_for old) end → new.made + calls_ahead (legs_of old) new.place < 2 ^ 32
+    → Fit tells old arena start → SameTarget old new → length new.page.items ≡ length old.page.items → AreTwins new → map_of new.calls ≡ map_of old.calls
+    → OnlyIn old.window arena arena' → Fits new.calls arena' new.window
+    → AgreesAt tells new.calls end → IsPlace tells (has_second old) new.second new.place (size_for old) end
+    → new.made + calls_ahead (legs_of old) new.place < 2 ^ 32
     → turns_ahead (legs_of old) (size_for old) new.place < togo old → end.cell_count ≡ start.cell_count → FileTurn tells old.place new.place start end
-    → IsCounted start.device_faults end.device_faults (is_device_fault (place_fault new.place)) → IsCounted start.store_faults end.store_faults (is_store_fault (place_fault new.place))
+    → IsCounted start.device_faults end.device_faults (is_device_fault (place_fault new.place))
+    → IsCounted start.store_faults end.store_faults (is_store_fault (place_fault new.place))
     → (IsTrue tells → (a : Stand) (way : List Move) → StandsOn a way goal old arena start → GoesOn a way goal new arena' start end)
     → Turns tells goal old arena start new arena' end
 turn_made tells goal old new arena arena' start end fit same page twins map only fits agrees place room near count file device store told =

@@ -1,19 +1,14 @@
 -- An image laid over the cells of regions, part by part. `want_into` lays the image so, and each window or page of a goal is a part of what it lays.
-use Rattle.std.proofs.Common.{◌≡◌, ◌<◌, ◌≤◌, ◌+◌, ◌-◌, ◌++◌, ◌∙◌, ⊎_elim, min, ℕ, zero, suc, Bool, IsTrue, All, List, [], ◌∷◌, length, take, drop, refl, sym, ap, subst, arith, length-take, length-drop}
+use Rattle.std.proofs.Common.{◌≡◌, ◌<◌, ◌≤◌, ◌+◌, ◌-◌, ◌++◌, ◌∙◌, ⊎_elim, min, ℕ, zero, suc, All, List, [], ◌∷◌, length, take, drop, refl, sym}
+use Rattle.std.proofs.Common.{ap, subst, arith, length-take, length-drop}
 use Rattle.std.proofs.lemmas.Bool.{cases_lt}
 use Rattle.std.proofs.lemmas.List.{append-nil, drop-append-le, drop-drop, drop-take, drop_all, take-append-le, take-take, take_all}
 use Rattle.std.proofs.Math.Seq.{drop-append-add, take-append-add}
-use Rattle.bench_model.specs.State.{BenchState}
 use Rattle.board_file.specs.declared.region.Region.{Region}
 use Rattle.board_file.specs.Table.{addresses}
 use Rattle.byte_map.specs.Image.{Run, byte_at, over}
 use Rattle.byte_map.proofs.Overlays.{length-over}
 use Rattle.std.specs.Prelude.{unwrap_or}
-use Rattle.bench_model.specs.Calls.{FileIsRead}
-use Rattle.job_text.specs.Stands.{StandsFor}
-use Rattle.job_text.specs.declared.job.Job.{Job}
-use Rattle.flash_session.specs.declared.goal.Goal.{Goal}
-use Rattle.flash_session.specs.Goals.{goal_in}
 use Rattle.job_text.specs.Laid.{overlaid}
 use Rattle.flash_session.proofs.PartLemmas.{part_at}
 
@@ -25,10 +20,12 @@ over_take image base (suc n) (c ∷ cells) = ap (λ (l : List ℕ). unwrap_or (b
 over_drop : (image : List Run) (base n : ℕ) (cells : List ℕ) → drop n (over image base cells) ≡ over image (base + n) (drop n cells)
 over_drop image base zero cells = let z : base ≡ base + 0 = omega arith in ap (λ (k : ℕ). over image k cells) z
 over_drop image base (suc n) [] = refl
-over_drop image base (suc n) (c ∷ cells) = let e : base + 1 + n ≡ base + suc n = omega arith in over_drop image (base + 1) n cells ∙ ap (λ (k : ℕ). over image k (drop n cells)) e
+over_drop image base (suc n) (c ∷ cells) = let e : base + 1 + n ≡ base + suc n = omega arith in over_drop image (base + 1) n cells
+    ∙ ap (λ (k : ℕ). over image k (drop n cells)) e
 
 -- an image over cells, and over those behind them
-pub over_append : (image : List Run) (base : ℕ) (cells more : List ℕ) → over image base (cells ++ more) ≡ over image base cells ++ over image (base + length cells) more
+pub over_append : (image : List Run) (base : ℕ) (cells more : List ℕ)
+    → over image base (cells ++ more) ≡ over image base cells ++ over image (base + length cells) more
 over_append image base [] more = let z : base ≡ base + 0 = omega arith in ap (λ (k : ℕ). over image k more) z
 over_append image base (c ∷ cells) more =
     let e : base + 1 + length cells ≡ base + length (c ∷ cells) = omega arith in
@@ -38,7 +35,8 @@ over_append image base (c ∷ cells) more =
 -- ---- cells of regions, from a place on
 
 -- regions that end by the last address
-pub fit_rest : (regions : List Region) (r : Region) (rest : List Region) → regions ≡ r ∷ rest → All (λ q. q.base + q.size ≤ addresses) regions → All (λ q. q.base + q.size ≤ addresses) rest
+pub fit_rest : (regions : List Region) (r : Region) (rest : List Region) → regions ≡ r ∷ rest → All (λ q. q.base + q.size ≤ addresses) regions
+    → All (λ q. q.base + q.size ≤ addresses) rest
 fit_rest regions r rest is fit = λ k d less. (subst (λ (l : List Region). All (λ q. q.base + q.size ≤ addresses) l) is fit) (suc k) d (omega (arith, less))
 
 -- past the first region
@@ -50,7 +48,8 @@ past n at size front behind le long =
 pub lay_past : (image : List Run) (r : Region) (rest : List Region) (snapshot : List ℕ) (at n : ℕ) → r.size ≤ at → r.size ≤ length snapshot
     → take n (drop (at - r.size) (overlaid image rest (drop r.size snapshot))) ≡ take n (drop at (overlaid image (r ∷ rest) snapshot))
 lay_past image r rest snapshot at n le long =
-    past n at r.size (over image r.base (take r.size snapshot)) (overlaid image rest (drop r.size snapshot)) le (omega (arith, length-over image r.base (take r.size snapshot), length-take r.size snapshot, long))
+    past n at r.size (over image r.base (take r.size snapshot)) (overlaid image rest (drop r.size snapshot)) le
+    (omega (arith, length-over image r.base (take r.size snapshot), length-take r.size snapshot, long))
 
 pub old_past : (size at n : ℕ) (snapshot : List ℕ) → size ≤ at → take n (drop at snapshot) ≡ take n (drop (at - size) (drop size snapshot))
 old_past size at n snapshot le =
@@ -81,7 +80,8 @@ module _ (n at size here : ℕ) (front behind : List ℕ) (inside : at < size) (
       (cases_lt n (size - at))
 
 -- an image over the part of a region's cells from a place on
-pub over_from : (image : List Run) (base size at here : ℕ) (snapshot : List ℕ) → at + here ≤ size → over image (base + at) (take here (drop at snapshot)) ≡ take here (drop at (over image base (take size snapshot)))
+pub over_from : (image : List Run) (base size at here : ℕ) (snapshot : List ℕ) → at + here ≤ size
+    → over image (base + at) (take here (drop at snapshot)) ≡ take here (drop at (over image base (take size snapshot)))
 over_from image base size at here snapshot inside =
     let z : at ≡ 0 + at = omega arith in
     ap (λ (l : List ℕ). over image (base + at) l) (ap (λ (k : ℕ). take here (drop k snapshot)) z ∙ part_at 0 size at here snapshot inside)
@@ -89,11 +89,13 @@ over_from image base size at here snapshot inside =
     ∙ ap (λ (l : List ℕ). take here l) (sym (over_drop image base at (take size snapshot)))
 
 -- what lies behind the region is the front of the cells behind it
-pub old_behind : (size at here n : ℕ) (snapshot : List ℕ) → at < size → here ≡ min n (size - at) → drop here (take n (drop at snapshot)) ≡ take (n - here) (drop 0 (drop size snapshot))
+pub old_behind : (size at here n : ℕ) (snapshot : List ℕ) → at < size → here ≡ min n (size - at)
+    → drop here (take n (drop at snapshot)) ≡ take (n - here) (drop 0 (drop size snapshot))
 old_behind size at here n snapshot inside is = ⊎_elim
     (λ (less : n < size - at).
     let none : n - here ≡ 0 = omega (arith, is, less) in
-    drop_all here (take n (drop at snapshot)) (omega (arith, length-take n (drop at snapshot), is, less)) ∙ ap (λ (k : ℕ). take k (drop size snapshot)) (sym none))
+    drop_all here (take n (drop at snapshot)) (omega (arith, length-take n (drop at snapshot), is, less))
+    ∙ ap (λ (k : ℕ). take k (drop size snapshot)) (sym none))
     (λ (le : size - at ≤ n).
     let e : here + (n - here) ≡ n = omega (arith, is, le) in
     let whole : at + here ≡ size = omega (arith, is, le, inside) in
@@ -101,13 +103,16 @@ old_behind size at here n snapshot inside is = ⊎_elim
     ∙ ap (λ (l : List ℕ). take (n - here) l) (drop-drop here at snapshot ∙ ap (λ (k : ℕ). drop k snapshot) whole))
     (cases_lt n (size - at))
 
-pub lay_here : (image : List Run) (r : Region) (rest : List Region) (snapshot cells front back : List ℕ) (at here n : ℕ) → at < r.size → r.size ≤ length snapshot → here ≡ min n (r.size - at) → cells ≡ take n (drop at snapshot)
-    → front ≡ over image (r.base + at) (take here cells) → back ≡ take (n - here) (drop 0 (overlaid image rest (drop r.size snapshot))) → front ++ back ≡ take n (drop at (overlaid image (r ∷ rest) snapshot))
+pub lay_here : (image : List Run) (r : Region) (rest : List Region) (snapshot cells front back : List ℕ) (at here n : ℕ) → at < r.size
+    → r.size ≤ length snapshot → here ≡ min n (r.size - at) → cells ≡ take n (drop at snapshot)
+    → front ≡ over image (r.base + at) (take here cells) → back ≡ take (n - here) (drop 0 (overlaid image rest (drop r.size snapshot)))
+    → front ++ back ≡ take n (drop at (overlaid image (r ∷ rest) snapshot))
 lay_here image r rest snapshot cells front back at here n inside long is held front_is back_is =
     let whole = over image r.base (take r.size snapshot) in
     let behind = overlaid image rest (drop r.size snapshot) in
     let less : here ≤ n = omega (arith, is) in
     let within : at + here ≤ r.size = omega (arith, is, inside) in
-    ap (λ (l : List ℕ). l ++ back) (front_is ∙ ap (λ (l : List ℕ). over image (r.base + at) l) (ap (take here) held ∙ take-take here n (drop at snapshot) less) ∙ over_from image r.base r.size at here snapshot within)
+    ap (λ (l : List ℕ). l ++ back) (front_is ∙ ap (λ (l : List ℕ). over image (r.base + at) l) (ap (take here) held ∙ take-take here n (drop at snapshot) less)
+    ∙ over_from image r.base r.size at here snapshot within)
     ∙ ap (λ (l : List ℕ). take here (drop at whole) ++ l) back_is
     ∙ parts_of n at r.size here whole behind inside (omega (arith, length-over image r.base (take r.size snapshot), length-take r.size snapshot, long)) is

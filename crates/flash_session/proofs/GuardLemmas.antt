@@ -1,8 +1,8 @@
 -- One turn more of what a stop leaves.
-use Rattle.std.proofs.Common.{◌≡◌, ◌∙◌, ◌↔◌, ◌⊎◌, inl, inr, ℕ, Bool, IsTrue, List, ◌∷◌, ◌++◌, ◌+◌, length, drop, None, Option, refl, sym, ap, subst}
+use Rattle.std.proofs.Common.{◌≡◌, ◌∙◌, ◌↔◌, inl, ℕ, Bool, IsTrue, List, ◌∷◌, ◌++◌, ◌+◌, drop, None, Option, refl, sym, ap, subst}
 use Rattle.bench_model.specs.History.{left, Leaves, LeftOnly}
 use Rattle.bench_model.specs.State.{SameOutside, BenchState, file_half, cells_half}
-use Rattle.bench_model.specs.Pairs.{PairsLeave, PairsInTurn}
+use Rattle.bench_model.specs.Pairs.{PairsLeave}
 use Rattle.bench_model.proofs.Moments.{leaves_here, leaves_as, stays_leaves, pairs_of, pairs_then, in_turn, never}
 use Rattle.job_text.specs.Files.{IsWhole}
 use Rattle.job_file.specs.Stops.{IsWholeOrClosed}
@@ -14,7 +14,7 @@ use Rattle.flash_session.specs.declared.target_end.Turn.TheVariants as turn
 use Rattle.flash_session.specs.declared.player.Player.{Player}
 use Rattle.flash_session.specs.Fit.{Fit, IsPlace}
 use Rattle.flash_session.specs.Stands.{Stands, StandsOn}
-use Rattle.flash_session.specs.Targets.{setup_now, point_for, legs_for, has_second, size_for, goal_for}
+use Rattle.flash_session.specs.Targets.{setup_now, point_for, legs_for, has_second, size_for}
 use Rattle.flash_session.specs.Turns.{IsUnended, turn_of, ClosedFile, IsDone, KeepsFile, FileTurn, Closes, GoesOn, Turns}
 use Rattle.flash_session.specs.Guarded.{HasBody, IsAtClose, FileAt, Guarded}
 
@@ -63,19 +63,22 @@ file_closed body (place.Ended ended.StoreFault) old new same is = subst (λ (l :
 file_closed body (place.Ended ended.DeviceFault) old new same is = absurd is
 
 -- a job that is whole is whole at each moment before the first turn
-pub guarded_here : (body goal : List ℕ) (p : Place) (s : BenchState) → IsUnended p → IsWhole body s.file → LeftOnly s.file (file_half s) → Guarded body goal p s s
+pub guarded_here : (body goal : List ℕ) (p : Place) (s : BenchState) → IsUnended p → IsWhole body s.file → LeftOnly s.file (file_half s)
+    → Guarded body goal p s s
 guarded_here body goal p s going whole only = record {
   going = λ yes_. (
     whole,
     pairs_of (IsWhole body) (λ c. left (cells_half s) c) (HasBody body)
-        (leaves_here (file_half s) (IsWhole body) (λ f at. only f at ∙ whole)) (leaves_here (cells_half s) (λ c. left (cells_half s) c) (λ c at. at)) (λ f c has at. has),
+        (leaves_here (file_half s) (IsWhole body) (λ f at. only f at ∙ whole)) (leaves_here (cells_half s) (λ c. left (cells_half s) c) (λ c at. at))
+        (λ f c has at. has),
   );
   file = file_kept body p s.file (going_open p going) whole;
   idle = λ is. absurd (done_closed p (going_open p going) is);
   over = λ over. absurd (over_going p over going);
 }
 
-module _ (tells : Bool) (told : IsTrue tells) (goal : List ℕ) (a : Stand) (way : List Move) (x y : Player) (arena arena' : List (List ℕ)) (s t u : BenchState) (body : List ℕ)
+module _ (tells : Bool) (told : IsTrue tells) (goal : List ℕ) (a : Stand) (way : List Move) (x y : Player) (arena arena' : List (List ℕ)) (s t u : BenchState)
+    (body : List ℕ)
     (fit : Fit tells x arena t) (only : LeftOnly t.file (file_half t)) (law : (c : List ℕ) → left (cells_half t) c ↔ SameOutside t.operation t.cells c)
     (stands : StandsOn a way goal x arena t) (turns : Turns tells goal x arena t y arena' u) where
   goes : GoesOn a way goal y arena' t u
@@ -88,7 +91,8 @@ module _ (tells : Bool) (told : IsTrue tells) (goal : List ℕ) (a : Stand) (way
   quiet : KeepsFile tells y.place t u → IsWhole body t.file → PairsLeave s t (HasBody body) → Guarded body goal y.place s u
   quiet keeps whole before =
       let now : PairsLeave t u (HasBody body) =
-      pairs_of (IsWhole body) (IsLeftOnWay a (way ++ goes.more)) (HasBody body) (leaves_as (left (file_half t)) (IsWhole body) (λ f at. only f at ∙ whole) keeps.read.moments) goes.moments (λ f c has at. has) in
+      pairs_of (IsWhole body) (IsLeftOnWay a (way ++ goes.more)) (HasBody body)
+      (leaves_as (left (file_half t)) (IsWhole body) (λ f at. only f at ∙ whole) keeps.read.moments) goes.moments (λ f c has at. has) in
       let all : PairsLeave s u (HasBody body) = pairs_then (HasBody body) before now in
       record {
         going = λ going. (keeps.read.file told ∙ whole, all);
@@ -100,13 +104,16 @@ module _ (tells : Bool) (told : IsTrue tells) (goal : List ℕ) (a : Stand) (way
   -- the close
   at_close : x.place ≡ place.Closing → Closes tells y.place t u → IsWhole body t.file → PairsLeave s t (HasBody body) → Guarded body goal y.place s u
   at_close is closes whole before =
-      let standing = subst (λ (q : Place). Stands (legs_for x goal) goal (setup_now x) a way q x.made (point_for x arena t.cells) x.calls.machine.return_at t) is stands in
+      let standing = subst (λ (q : Place). Stands (legs_for x goal) goal (setup_now x) a way q x.made (point_for x arena t.cells) x.calls.machine.return_at t)
+      is stands in
       let idle : t.operation ≡ None = subst (λ (q : Place). IsPlace tells (has_second x) x.second q (size_for x) t) is fit.place told in
       let files : Leaves (file_half t) (file_half u) (IsWholeOrClosed body) =
       subst (λ (b : List ℕ). Leaves (file_half t) (file_half u) (IsWholeOrClosed b)) (ap (λ (f : List ℕ). drop 1 f) whole) (closes.moments told) in
       let cells : Leaves (cells_half t) (cells_half u) (λ c. c ≡ goal) =
-      stays_leaves (λ c. c ≡ goal) (λ c at. let same : SameOutside None t.cells c = subst (λ (o : Option (ℕ × ℕ)). SameOutside o t.cells c) idle ((law c).0 at) in same ∙ standing.2) closes.cells.half in
-      let now : PairsLeave t u (IsAtClose body goal) = pairs_of (IsWholeOrClosed body) (λ c. c ≡ goal) (IsAtClose body goal) files cells (λ f c has at. (has, at)) in
+      stays_leaves (λ c. c ≡ goal) (λ c at. let same : SameOutside None t.cells c =
+      subst (λ (o : Option (ℕ × ℕ)). SameOutside o t.cells c) idle ((law c).0 at) in same ∙ standing.2) closes.cells.half in
+      let now : PairsLeave t u (IsAtClose body goal) = pairs_of (IsWholeOrClosed body) (λ c. c ≡ goal) (IsAtClose body goal) files cells
+      (λ f c has at. (has, at)) in
       record {
         going = λ going. absurd (over_going y.place closes.over going);
         file = file_closed body y.place t.file u.file (ap (λ (f : List ℕ). drop 1 f) whole) (closes.file told);

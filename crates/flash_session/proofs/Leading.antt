@@ -1,5 +1,6 @@
 -- Duties as the ideal device does them: from one contents to another. `Serving` leads the cells of a region through the phases of its plan by them.
-use Rattle.std.proofs.Common.{◌≡◌, ◌<◌, ◌≤◌, ◌+◌, ◌-◌, ◌^◌, ◌∙◌, ⊎_elim, ℕ, Bool, true, false, cond, All, List, [], ◌∷◌, ◌++◌, map, length, take, drop, get_or, slice_index, Some, refl, sym, ap, subst, append_assoc, length-append, length-take, length-drop, arith}
+use Rattle.std.proofs.Common.{◌≡◌, ◌<◌, ◌≤◌, ◌+◌, ◌-◌, ◌^◌, ◌∙◌, ⊎_elim, ℕ, Bool, true, false, cond, All, List, [], ◌∷◌, ◌++◌, map, length, take, drop, get_or}
+use Rattle.std.proofs.Common.{slice_index, Some, refl, sym, ap, subst, append_assoc, length-append, length-take, length-drop, arith}
 use Rattle.std.proofs.lemmas.Grind.{get_or_default_zero}
 use Rattle.std.proofs.lemmas.List.{take_at, drop_at, get_or-take, get_or-drop}
 use Rattle.std.proofs.lemmas.Bool.{cases_lt}
@@ -40,7 +41,8 @@ put_part site x cells among long =
     ∙ take_at x rest site.layout.size long
 
 -- the cells outside the region stay
-pub put_outside : (site : Site) (x cells : List ℕ) → IsAmong site cells → length x ≡ site.layout.size → SameOutside (Some (site.start, site.layout.size)) cells (put site x cells)
+pub put_outside : (site : Site) (x cells : List ℕ) → IsAmong site cells → length x ≡ site.layout.size
+    → SameOutside (Some (site.start, site.layout.size)) cells (put site x cells)
 put_outside site x cells among long =
     let front = take site.start cells in
     let rest = drop (site.start + site.layout.size) cells in
@@ -79,7 +81,8 @@ led_ready s site (d ∷ rest) cells want led =
     (led.2, λ x does. led_ready s site rest x want (subst (λ (c : List ℕ). Led s site c rest want) (does_same s site d cells led.0 x led.1 does) led.3))
 
 -- two lists of duties, one after the other
-pub led_then : (s : Setup) (site : Site) (xs ys : List Duty) (cells mid want : List ℕ) → Led s site cells xs mid → Led s site mid ys want → Led s site cells (xs ++ ys) want
+pub led_then : (s : Setup) (site : Site) (xs ys : List Duty) (cells mid want : List ℕ) → Led s site cells xs mid → Led s site mid ys want
+    → Led s site cells (xs ++ ys) want
 unfolding Led
 led_then s site [] ys cells mid want one two = subst (λ (c : List ℕ). Led s site c ys want) (sym one) two
 led_then s site (d ∷ xs) ys cells mid want one two = (one.0, one.1, one.2, led_then s site xs ys one.0 mid want one.3 two)
@@ -90,19 +93,22 @@ unfolding Led
 led_quiet s site r cells = (cells, refl, tt, refl)
 
 -- an action that the ideal device can do has what it may count on
-ready_action : (s : Setup) (site : Site) (a : Action) (before x : List ℕ) → Acts site.layout s.algorithm.device.empty (part site before) a x → IsReady s site before (Acting a)
+ready_action : (s : Setup) (site : Site) (a : Action) (before x : List ℕ) → Acts site.layout s.algorithm.device.empty (part site before) a x
+    → IsReady s site before (Acting a)
 unfolding Acts
 ready_action s site (EraseSector k) before x acts = tt
 ready_action s site EraseChip before x acts = tt
 ready_action s site (ProgramPage k bytes) before x acts = acts.2
 
 -- a plan's actions are such, with the other regions' cells as they were
-pub led_actions : (s : Setup) (site : Site) (actions : List Action) (cells want : List ℕ) → IsAmong site cells → Leads site.layout s.algorithm.device.empty (part site cells) actions want
+pub led_actions : (s : Setup) (site : Site) (actions : List Action) (cells want : List ℕ) → IsAmong site cells
+    → Leads site.layout s.algorithm.device.empty (part site cells) actions want
     → Led s site cells (map Acting actions) (put site want cells)
 unfolding Leads Led
 led_actions s site [] cells want among leads = put_self site want cells leads
 led_actions s site (a ∷ rest) cells want among leads =
-    let long : length leads.0 ≡ site.layout.size = acts_length site.layout s.algorithm.device.empty a (part site cells) leads.0 leads.1 ∙ part_long site cells among in
+    let long : length leads.0 ≡ site.layout.size = acts_length site.layout s.algorithm.device.empty a (part site cells) leads.0 leads.1
+    ∙ part_long site cells among in
     let mid : List ℕ = put site leads.0 cells in
     let is : part site mid ≡ leads.0 = put_part site leads.0 cells among long in
     let does : Does s site cells (Acting a) mid = record {
@@ -111,8 +117,12 @@ led_actions s site (a ∷ rest) cells want among leads =
     } in
     let mid_among : IsAmong site mid = omega (arith, among, put_long site leads.0 cells among long) in
     let others : Led s site mid (map Acting rest) (put site want mid) =
-    led_actions s site rest mid want mid_among (subst (λ (y : List ℕ). Leads site.layout s.algorithm.device.empty y rest want) (sym is) leads.2) in
-    (mid, does, ready_action s site a cells leads.0 leads.1, subst (λ (c : List ℕ). Led s site mid (map Acting rest) c) (put_again site want leads.0 cells among long) others)
+    led_actions s site rest mid want mid_among (subst (λ (y : List ℕ). Leads site.layout s.algorithm.device.empty y rest want) (sym is) leads.2) in (
+      mid,
+      does,
+      ready_action s site a cells leads.0 leads.1,
+      subst (λ (c : List ℕ). Led s site mid (map Acting rest) c) (put_again site want leads.0 cells among long) others,
+    )
 
 -- checks change nothing
 led_checks : (s : Setup) (site : Site) (held cells : List ℕ) (bs : List Bool) (k : ℕ) → Led s site cells (checks s site.layout held k bs) cells
@@ -164,10 +174,12 @@ sector_bytes l empty k before x small bytes acts = bytes_from x (λ i less. ⊎_
     (cases_in i (range_at l.sectors k)))
 
 -- and so do erased sectors
-erasures_bytes : (l : Geometry) (empty : ℕ) (bs : List Bool) (k : ℕ) (cells want : List ℕ) → empty < 2 ^ 8 → AreBytes cells → Leads l empty cells (erasures k bs) want → AreBytes want
+erasures_bytes : (l : Geometry) (empty : ℕ) (bs : List Bool) (k : ℕ) (cells want : List ℕ) → empty < 2 ^ 8 → AreBytes cells
+    → Leads l empty cells (erasures k bs) want → AreBytes want
 unfolding Leads erasures
 erasures_bytes l empty [] k cells want small bytes leads = subst (λ (c : List ℕ). AreBytes c) leads bytes
-erasures_bytes l empty (true ∷ bs) k cells want small bytes leads = erasures_bytes l empty bs (k + 1) leads.0 want small (sector_bytes l empty k cells leads.0 small bytes leads.1) leads.2
+erasures_bytes l empty (true ∷ bs) k cells want small bytes leads =
+    erasures_bytes l empty bs (k + 1) leads.0 want small (sector_bytes l empty k cells leads.0 small bytes leads.1) leads.2
 erasures_bytes l empty (false ∷ bs) k cells want small bytes leads = erasures_bytes l empty bs (k + 1) cells want small bytes leads
 
 -- and an erased chip
@@ -176,7 +188,8 @@ unfolding Leads Acts
 chip_bytes l empty cells want small leads = subst (λ (c : List ℕ). AreBytes c) leads.2 (bytes_from leads.0 (λ i less. omega (arith, small, leads.1.1 i less)))
 
 -- erasures leave bytes
-pub erased_bytes : (l : Geometry) (empty : ℕ) (chip : Bool) (set : List Bool) (cells want : List ℕ) → empty < 2 ^ 8 → AreBytes cells → Leads l empty cells (cond chip (EraseChip ∷ []) (erasures 0 set)) want → AreBytes want
+pub erased_bytes : (l : Geometry) (empty : ℕ) (chip : Bool) (set : List Bool) (cells want : List ℕ) → empty < 2 ^ 8 → AreBytes cells
+    → Leads l empty cells (cond chip (EraseChip ∷ []) (erasures 0 set)) want → AreBytes want
 erased_bytes l empty true set cells want small bytes leads = chip_bytes l empty cells want small leads
 erased_bytes l empty false set cells want small bytes leads = erasures_bytes l empty set 0 cells want small bytes leads
 
@@ -201,7 +214,8 @@ put_bytes site x cells among long bytes these = bytes_from y (λ i less. ⊎_eli
     (λ (under : i < site.start + site.layout.size).
     let j : ℕ = i - site.start in
     let at : site.start + j ≡ i = omega (arith, from) in
-    let is : slice_index x j ≡ slice_index y i = ap (λ (l : List ℕ). slice_index l j) (sym (put_part site x cells among long)) ∙ part_at site y j (omega (arith, under, from)) ∙ ap (λ (k : ℕ). slice_index y k) at in
+    let is : slice_index x j ≡ slice_index y i = ap (λ (l : List ℕ). slice_index l j) (sym (put_part site x cells among long))
+    ∙ part_at site y j (omega (arith, under, from)) ∙ ap (λ (k : ℕ). slice_index y k) at in
     omega (arith, is, byte_at x j these (omega (arith, under, from, long))))
     (λ (past : site.start + site.layout.size ≤ i). omega (arith, behind i past, byte_at cells i bytes (omega (arith, less, put_long site x cells among long))))
     (cases_lt i (site.start + site.layout.size)))
@@ -212,7 +226,8 @@ put_bytes site x cells among long bytes these = bytes_from y (λ i less. ⊎_eli
 
     front : (i : ℕ) → i < site.start → slice_index y i ≡ slice_index cells i
     front i before =
-        sym (get_or-take site.start y i 0 before) ∙ ap (λ (l : List ℕ). get_or l i 0) (put_outside site x cells among long).1 ∙ get_or-take site.start cells i 0 before
+        sym (get_or-take site.start y i 0 before) ∙ ap (λ (l : List ℕ). get_or l i 0) (put_outside site x cells among long).1
+        ∙ get_or-take site.start cells i 0 before
 
     behind : (i : ℕ) → site.start + site.layout.size ≤ i → slice_index y i ≡ slice_index cells i
     behind i past =

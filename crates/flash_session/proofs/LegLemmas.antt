@@ -1,6 +1,7 @@
 -- Region after region: where each algorithm keeps its duties, the script goes to the goal of all cells, and leaves what lies outside the
 -- plans. `ServedLemmas` makes the clauses of `Session::go` of it.
-use Rattle.std.proofs.Common.{◌≡◌, ◌≤◌, ◌+◌, ◌-◌, ◌∙◌, ⊎_elim, ℕ, false, is_some, List, [], ◌∷◌, ◌++◌, length, take, drop, None, refl, sym, ap, subst, length-append, length-take, length-drop, arith}
+use Rattle.std.proofs.Common.{◌≡◌, ◌≤◌, ◌+◌, ◌-◌, ◌∙◌, ⊎_elim, ℕ, false, is_some, List, [], ◌∷◌, ◌++◌, length, take, drop, None, refl, sym, ap, subst}
+use Rattle.std.proofs.Common.{length-append, length-take, length-drop, arith}
 use Rattle.std.proofs.lemmas.List.{drop-drop, drop_all, take_all, take_at, append-nil}
 use Rattle.bench_model.specs.History.{Leaves}
 use Rattle.bench_model.specs.State.{BenchState, cells_half}
@@ -33,7 +34,8 @@ no_legs : (torn : List Torn) → legs_of [] torn ≡ []
 unfolding legs_of
 no_legs torn = refl
 
-more_legs : (l : Leg) (rest : List Leg) (torn : List Torn) → legs_of (l ∷ rest) torn ≡ phases l.setup l.errand (torn_first torn) ++ legs_of rest (torn_rest torn)
+more_legs : (l : Leg) (rest : List Leg) (torn : List Torn) → legs_of (l ∷ rest) torn ≡ phases l.setup l.errand (torn_first torn) ++ legs_of rest
+    (torn_rest torn)
 unfolding legs_of
 more_legs l rest torn = refl
 
@@ -41,7 +43,8 @@ script_is : (l : Leg) (rest : List Leg) (b : Broken) → script (l ∷ rest) b �
 unfolding script
 script_is l rest b = refl
 
-planned_is : (x : Setup) (p : Planned) (l : Geometry) (base : ℕ) (goal : List ℕ) → p.layout ≡ l → p.base ≡ base → leg x (errand l base p.plan goal) ≡ leg x (record { planned = p; goal = goal })
+planned_is : (x : Setup) (p : Planned) (l : Geometry) (base : ℕ) (goal : List ℕ) → p.layout ≡ l → p.base ≡ base
+    → leg x (errand l base p.plan goal) ≡ leg x (record { planned = p; goal = goal })
 planned_is x p l base goal one two =
     ap (λ (k : Geometry). leg x (errand k base p.plan goal)) (sym one) ∙ ap (λ (c : ℕ). leg x (errand p.layout c p.plan goal)) (sym two)
 
@@ -61,7 +64,8 @@ module _ (b : BoardShown) (goal : List ℕ) where
   abbrev pub AreServed : ℕ → List AlgorithmShown → List Planned → List ℕ → Type 0
   AreServed region [] plans cells = Unit {0}
   AreServed region (a ∷ rest) [] cells = Unit {0}
-  AreServed region (a ∷ rest) (p ∷ more) cells = IsLegServed region a p cells × AreServed (region + 1) rest more (put (site_of b a region) (part (site_of b a region) goal) cells)
+  AreServed region (a ∷ rest) (p ∷ more) cells = IsLegServed region a p cells
+      × AreServed (region + 1) rest more (put (site_of b a region) (part (site_of b a region) goal) cells)
 
   abbrev pub AllCovered : (ℕ → Type 0) → ℕ → List AlgorithmShown → List Planned → Type 0
   AllCovered P region [] plans = Unit {0}
@@ -69,11 +73,13 @@ module _ (b : BoardShown) (goal : List ℕ) where
   AllCovered P region (a ∷ rest) (p ∷ more) = Covers P (site_of b a region) p.plan × AllCovered P (region + 1) rest more
 
   module _ (P : ℕ → Type 0) (old : List ℕ) where
-    pub legs_pass : (region : ℕ) (algorithms : List AlgorithmShown) (plans : List Planned) (torn : List Torn) (cells : List ℕ) (x : Stand) → AreServed region algorithms plans cells → AllCovered P region algorithms plans → x.world.cells ≡ cells
+    pub legs_pass : (region : ℕ) (algorithms : List AlgorithmShown) (plans : List Planned) (torn : List Torn) (cells : List ℕ) (x : Stand)
+        → AreServed region algorithms plans cells → AllCovered P region algorithms plans → x.world.cells ≡ cells
         → board_in x.world ≡ (b.ram_base, board_map b) → state_op x.world.state ≡ None → SameBut P old cells
         → Passes P x (legs_of (legs_for b region algorithms goal plans) torn) (reached_by region algorithms plans cells) old
     legs_pass region [] plans torn cells x served covered same board idle start = passes_none P old x (legs_of [] torn) cells (no_legs torn) idle same start
-    legs_pass region (a ∷ rest) [] torn cells x served covered same board idle start = passes_none P old x (legs_of [] torn) cells (no_legs torn) idle same start
+    legs_pass region (a ∷ rest) [] torn cells x served covered same board idle start =
+        passes_none P old x (legs_of [] torn) cells (no_legs torn) idle same start
     legs_pass region (a ∷ rest) (p ∷ more) torn cells x served covered same board idle start =
         let site = site_of b a region in
         let mine = part site goal in
@@ -81,7 +87,8 @@ module _ (b : BoardShown) (goal : List ℕ) where
         let later = legs_for b (region + 1) rest goal more in
         let mid : List ℕ = put site mine cells in
         let one : Passes P x (phases l.setup l.errand (torn_first torn)) mid old =
-        subst (λ (k : Leg). Passes P x (phases k.setup k.errand (torn_first torn)) mid old) (planned_is (setup_of a b) p (device_of a) a.device.base mine served.0.layout served.0.base)
+        subst (λ (k : Leg). Passes P x (phases k.setup k.errand (torn_first torn)) mid old)
+        (planned_is (setup_of a b) p (device_of a) a.device.base mine served.0.layout served.0.base)
         (phases_pass P old b region a b.weights p.plan mine cells served.0.served covered.0 x (torn_first torn) same board idle start) in
         let all : Passes P x (phases l.setup l.errand (torn_first torn) ++ legs_of later (torn_rest torn)) (reached_by (region + 1) rest more mid) old =
         passes_then P old x (phases l.setup l.errand (torn_first torn)) (legs_of later (torn_rest torn)) mid (reached_by (region + 1) rest more mid) one
@@ -89,7 +96,8 @@ module _ (b : BoardShown) (goal : List ℕ) where
         subst (λ (m : List Move). Passes P x m (reached_by (region + 1) rest more mid) old) (sym (more_legs l later torn)) all
 
     -- the whole script goes to the cells that the regions reach in turn, with nothing changed outside their plans at any moment
-    module _ (a : AlgorithmShown) (rest : List AlgorithmShown) (p : Planned) (more : List Planned) (x : Stand) (served : AreServed 0 (a ∷ rest) (p ∷ more) old) (covered : AllCovered P 0 (a ∷ rest) (p ∷ more)) (same : x.world.cells ≡ old)
+    module _ (a : AlgorithmShown) (rest : List AlgorithmShown) (p : Planned) (more : List Planned) (x : Stand) (served : AreServed 0 (a ∷ rest) (p ∷ more) old)
+        (covered : AllCovered P 0 (a ∷ rest) (p ∷ more)) (same : x.world.cells ≡ old)
         (board : board_in x.world ≡ (b.ram_base, board_map b)) (idle : state_op x.world.state ≡ None) where
       abbrev legs : List Leg
       legs = legs_for b 0 (a ∷ rest) goal (p ∷ more)
@@ -100,15 +108,18 @@ module _ (b : BoardShown) (goal : List ℕ) where
       pub script_passes : (torn : Broken) → Passes P x (script legs torn) left old
       script_passes torn =
           let l = leg_for b 0 a goal p in
-          let one : Passes P x (legs_of legs torn.legs) left old = legs_pass 0 (a ∷ rest) (p ∷ more) torn.legs old x served covered same board idle (but_none P old old refl) in
+          let one : Passes P x (legs_of legs torn.legs) left old = legs_pass 0 (a ∷ rest) (p ∷ more) torn.legs old x served covered same board idle
+          (but_none P old old refl) in
           let all : Passes P x (legs_of legs torn.legs ++ (Reset l.setup torn.last ∷ [])) left old =
           passes_then P old x (legs_of legs torn.legs) (Reset l.setup torn.last ∷ []) left left one (λ y y_idle y_is y_board.
-          subst (λ (c : List ℕ). Passes P y (Reset l.setup torn.last ∷ []) c old) y_is (passes_reset P old l.setup y torn.last y_idle (subst (λ (c : List ℕ). SameBut P old c) (sym y_is) one.same))) in
+          subst (λ (c : List ℕ). Passes P y (Reset l.setup torn.last ∷ []) c old) y_is
+          (passes_reset P old l.setup y torn.last y_idle (subst (λ (c : List ℕ). SameBut P old c) (sym y_is) one.same))) in
           subst (λ (m : List Move). Passes P x m left old) (sym (script_is l (legs_for b 1 rest goal more) torn)) all
 
       module _ (start now : BenchState) where
         -- where all regions together reach the goal, a session ends so, but for a fault
-        pub follows_reaches : left ≡ goal → (e : SessionEnd) → Follows legs goal x e start now → is_device_fault (end_fault e) ≡ false → is_store_fault (end_fault e) ≡ false → IsReached e
+        pub follows_reaches : left ≡ goal → (e : SessionEnd) → Follows legs goal x e start now → is_device_fault (end_fault e) ≡ false
+            → is_store_fault (end_fault e) ≡ false → IsReached e
         follows_reaches reaches (end.Reached r) follows other stored = tt
         follows_reaches reaches (end.Mismatch d) follows other stored =
             let moves = script legs follows.broken in
@@ -147,8 +158,10 @@ part_behind first second x cells among long behind =
     ap (take second.layout.size) (cut (put first x cells) ∙ ap (drop m) same ∙ sym (cut cells))
 
 -- so it is served on them as well
-pub later_served : (b : BoardShown) (region : ℕ) (a : AlgorithmShown) (plan : Chosen) (goal cells : List ℕ) (first : Site) (x : List ℕ) → IsAmong first cells → length x ≡ first.layout.size → AreBytes x
-    → first.start + first.layout.size ≤ (site_of b a region).start → IsRegionServed b region a b.weights plan goal cells → IsRegionServed b region a b.weights plan goal (put first x cells)
+pub later_served : (b : BoardShown) (region : ℕ) (a : AlgorithmShown) (plan : Chosen) (goal cells : List ℕ) (first : Site) (x : List ℕ) → IsAmong first cells
+    → length x ≡ first.layout.size → AreBytes x
+    → first.start + first.layout.size ≤ (site_of b a region).start → IsRegionServed b region a b.weights plan goal cells
+    → IsRegionServed b region a b.weights plan goal (put first x cells)
 later_served b region a plan goal cells first x among long bytes behind is =
     let same = put_long first x cells among long in
     record {
@@ -160,7 +173,8 @@ later_served b region a plan goal cells first x among long bytes behind is =
       empty = is.empty;
       bytes = put_bytes first x cells among long is.bytes bytes;
       goal_bytes = is.goal_bytes;
-      least = subst (λ (c : List ℕ). IsLeastPlan (device_of a) b.weights (is_some a.entries.erase_chip) a.device.empty c goal plan) (sym (part_behind first (site_of b a region) x cells among long behind)) is.least;
+      least = subst (λ (c : List ℕ). IsLeastPlan (device_of a) b.weights (is_some a.entries.erase_chip) a.device.empty c goal plan)
+          (sym (part_behind first (site_of b a region) x cells among long behind)) is.least;
     }
 
 -- ---- all regions together reach the goal
@@ -171,14 +185,17 @@ put_first n x cells = let z : 0 + n ≡ n = omega arith in ap (λ (k : ℕ). x +
 -- one region, of all cells
 pub one_reached : (n : ℕ) (goal cells : List ℕ) → length goal ≡ n → length cells ≡ n → take 0 cells ++ (take n (drop 0 goal) ++ drop (0 + n) cells) ≡ goal
 one_reached n goal cells long held =
-    put_first n (take n goal) cells ∙ ap (λ (l : List ℕ). take n goal ++ l) (drop_all n cells (omega (arith, held))) ∙ append-nil (take n goal) ∙ take_all n goal (omega (arith, long))
+    put_first n (take n goal) cells ∙ ap (λ (l : List ℕ). take n goal ++ l) (drop_all n cells (omega (arith, held))) ∙ append-nil (take n goal)
+    ∙ take_all n goal (omega (arith, long))
 
 -- or two of them
-pub both_reached : (n m at : ℕ) (goal cells mid : List ℕ) → at ≡ n → length goal ≡ n + m → length cells ≡ n + m → mid ≡ take n goal ++ drop n cells → take at mid ++ (take m (drop at goal) ++ drop (at + m) mid) ≡ goal
+pub both_reached : (n m at : ℕ) (goal cells mid : List ℕ) → at ≡ n → length goal ≡ n + m → length cells ≡ n + m → mid ≡ take n goal ++ drop n cells
+    → take at mid ++ (take m (drop at goal) ++ drop (at + m) mid) ≡ goal
 both_reached n m at goal cells mid is long held mid_is =
     let front : List ℕ = take n goal in
     let front_long : length front ≡ n = omega (arith, length-take n goal, long) in
-    let mid_long : length mid ≡ n + m = ap (λ (l : List ℕ). length l) mid_is ∙ length-append front (drop n cells) ∙ (let d = length-drop n cells in omega (arith, front_long, held, d)) in
+    let mid_long : length mid ≡ n + m = ap (λ (l : List ℕ). length l) mid_is ∙ length-append front (drop n cells)
+    ∙ (let d = length-drop n cells in omega (arith, front_long, held, d)) in
     ap (λ (k : ℕ). take k mid ++ (take m (drop k goal) ++ drop (k + m) mid)) is
     ∙ ap (λ (l : List ℕ). l ++ (take m (drop n goal) ++ drop (n + m) mid)) (ap (take n) mid_is ∙ take_at front (drop n cells) n front_long)
     ∙ ap (λ (l : List ℕ). front ++ (take m (drop n goal) ++ l)) (drop_all (n + m) mid (omega (arith, mid_long)))

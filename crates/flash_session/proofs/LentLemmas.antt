@@ -12,7 +12,8 @@ use Rattle.flash_session.specs.Surveys.{planned_of, regions_of}
 use Rattle.flash_session.specs.SurveyFacts.{AreRegionSurveys, IsSurvey}
 use Rattle.flash_session.proofs.JobLemmas.{counts_are}
 
-works_count : (algorithms : List AlgorithmShown) (start : ℕ) (works : List RegionSurvey) → AreRegionSurveys algorithms start works → length works ≡ length algorithms
+works_count : (algorithms : List AlgorithmShown) (start : ℕ) (works : List RegionSurvey) → AreRegionSurveys algorithms start works
+    → length works ≡ length algorithms
 works_count [] start [] are = refl
 works_count [] start (r ∷ more) are = absurd are
 works_count (a ∷ rest) start [] are = absurd are
@@ -21,19 +22,28 @@ works_count (a ∷ rest) start (r ∷ more) are = ap suc (works_count rest (star
 -- a region of the board is one of the survey
 pub region_inside : (j : Job) (w : Survey) (region : ℕ) → IsSurvey j w → region < length j.board.regions → region < length (regions_of w)
 region_inside j w region is less =
-    omega (arith, less, works_count (algorithms_shown j.algorithms) 0 (regions_of w) is.regions, counts_are (board_of j.board) j.board.regions (algorithms_shown j.algorithms) j.fit)
+    omega (
+      arith,
+      less,
+      works_count (algorithms_shown j.algorithms) 0 (regions_of w) is.regions,
+      counts_are (board_of j.board) j.board.regions (algorithms_shown j.algorithms) j.fit,
+    )
 
-planned_at : (works : List RegionSurvey) (k : ℕ) (other : Planned) (r : RegionSurvey) → k < length works → get_or (map planned_of works) k other ≡ planned_of (get_or works k r)
+planned_at : (works : List RegionSurvey) (k : ℕ) (other : Planned) (r : RegionSurvey) → k < length works
+    → get_or (map planned_of works) k other ≡ planned_of (get_or works k r)
 planned_at [] k other r less = absurd (omega (arith, less))
 planned_at (w ∷ works) zero other r less = refl
 planned_at (w ∷ works) (suc k) other r less = planned_at works k other r (omega (arith, less))
 
-module _ (o : Option Survey) (w : Survey) (k : ℕ) (r : RegionSurvey) (is : o ≡ Some w) (less : k < length (regions_of w)) (there : (other : RegionSurvey) → r ≡ get_or (regions_of w) k other) where
+module _ (o : Option Survey) (w : Survey) (k : ℕ) (r : RegionSurvey) (is : o ≡ Some w) (less : k < length (regions_of w))
+    (there : (other : RegionSurvey) → r ≡ get_or (regions_of w) k other) where
   found : (other : Planned) → planned_of r ≡ get_or (map planned_of (regions_of w)) k other
   found other = ap planned_of (there r) ∙ sym (planned_at (regions_of w) k other r less)
 
   pub plan_from : IfSome (shown_in o) (λ v. (other : Planned) → r.plan.made ≡ (get_or v.regions k other).plan)
-  plan_from = subst (λ (x : Option Survey). IfSome (shown_in x) (λ v. (other : Planned) → r.plan.made ≡ (get_or v.regions k other).plan)) (sym is) (λ other. ap (λ (p : Planned). p.plan) (found other))
+  plan_from = subst (λ (x : Option Survey). IfSome (shown_in x) (λ v. (other : Planned) → r.plan.made ≡ (get_or v.regions k other).plan)) (sym is)
+      (λ other. ap (λ (p : Planned). p.plan) (found other))
 
   pub layout_from : IfSome (shown_in o) (λ v. (other : Planned) → r.geometry ≡ (get_or v.regions k other).layout)
-  layout_from = subst (λ (x : Option Survey). IfSome (shown_in x) (λ v. (other : Planned) → r.geometry ≡ (get_or v.regions k other).layout)) (sym is) (λ other. ap (λ (p : Planned). p.layout) (found other))
+  layout_from = subst (λ (x : Option Survey). IfSome (shown_in x) (λ v. (other : Planned) → r.geometry ≡ (get_or v.regions k other).layout)) (sym is)
+      (λ other. ap (λ (p : Planned). p.layout) (found other))

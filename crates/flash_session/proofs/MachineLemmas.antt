@@ -1,6 +1,7 @@
 -- The machines of a target's regions.
 use mathlib.Core.Bool.{beq}
-use Rattle.std.proofs.Common.{◌≡◌, ◌≢◌, ◌<◌, ◌∙◌, ℕ, Bool, true, false, not, IsTrue, is_some, List, [], length, replicate, Option, Some, None, IsSomeAnd, IfSome, refl, sym, ap, subst}
+use Rattle.std.proofs.Common.{◌≡◌, ◌≢◌, ◌∙◌, ℕ, Bool, true, false, not, IsTrue, is_some, List, [], replicate, Option, Some, None, IsSomeAnd}
+use Rattle.std.proofs.Common.{IfSome, refl, sym, ap, subst}
 use Rattle.std.proofs.lemmas.Bool.{false≢true}
 use Rattle.target_core.specs.World.{World}
 use Rattle.target_core.specs.Units.{state_reset}
@@ -28,9 +29,16 @@ pub same_here : (g : Player) → SameTarget g g
 same_here g = record { setups = λ r. refl; maps = λ r. refl; task = refl; window = refl }
 
 pub same_then : (a b c : Player) → SameTarget a b → SameTarget b c → SameTarget a c
-same_then a b c one two = record { setups = λ r. two.setups r ∙ one.setups r; maps = λ r. two.maps r ∙ one.maps r; task = two.task ∙ one.task; window = two.window ∙ one.window }
+same_then a b c one two = record {
+  setups = λ r. two.setups r ∙ one.setups r;
+  maps = λ r. two.maps r ∙ one.maps r;
+  task = two.task ∙ one.task;
+  window =
+      two.window ∙ one.window;
+}
 
-of_setup : (r moved : Bool) (here there : CallsIn) (other : Option CallsIn) → setup_at there ≡ setup_at here → setup_at (of_region r moved there other) ≡ setup_at (of_region r moved here other)
+of_setup : (r moved : Bool) (here there : CallsIn) (other : Option CallsIn) → setup_at there ≡ setup_at here
+    → setup_at (of_region r moved there other) ≡ setup_at (of_region r moved here other)
 of_setup false false here there other e = e
 of_setup true true here there other e = e
 of_setup false true here there None e = e
@@ -38,7 +46,8 @@ of_setup false true here there (Some o) e = refl
 of_setup true false here there None e = e
 of_setup true false here there (Some o) e = refl
 
-of_map : (r moved : Bool) (here there : CallsIn) (other : Option CallsIn) → map_of there ≡ map_of here → map_of (of_region r moved there other) ≡ map_of (of_region r moved here other)
+of_map : (r moved : Bool) (here there : CallsIn) (other : Option CallsIn) → map_of there ≡ map_of here
+    → map_of (of_region r moved there other) ≡ map_of (of_region r moved here other)
 of_map false false here there other e = e
 of_map true true here there other e = e
 of_map false true here there None e = e
@@ -47,12 +56,15 @@ of_map true false here there None e = e
 of_map true false here there (Some o) e = refl
 
 -- the calls at hand changed, and nothing else of its script
-pub same_by : (a b : Player) → setup_at b.calls ≡ setup_at a.calls → map_of b.calls ≡ map_of a.calls → b.second ≡ a.second → b.other ≡ a.other → b.task ≡ a.task → b.window ≡ a.window → SameTarget a b
+pub same_by : (a b : Player) → setup_at b.calls ≡ setup_at a.calls → map_of b.calls ≡ map_of a.calls → b.second ≡ a.second → b.other ≡ a.other → b.task ≡ a.task
+    → b.window ≡ a.window → SameTarget a b
 same_by a b setup map second other task window = record {
   setups = λ r.
-      ap (λ (m : Bool). setup_at (of_region r m b.calls b.other)) second ∙ ap (λ (o : Option CallsIn). setup_at (of_region r a.second b.calls o)) other ∙ of_setup r a.second a.calls b.calls a.other setup;
+      ap (λ (m : Bool). setup_at (of_region r m b.calls b.other)) second ∙ ap (λ (o : Option CallsIn). setup_at (of_region r a.second b.calls o)) other
+      ∙ of_setup r a.second a.calls b.calls a.other setup;
   maps = λ r.
-      ap (λ (m : Bool). map_of (of_region r m b.calls b.other)) second ∙ ap (λ (o : Option CallsIn). map_of (of_region r a.second b.calls o)) other ∙ of_map r a.second a.calls b.calls a.other map;
+      ap (λ (m : Bool). map_of (of_region r m b.calls b.other)) second ∙ ap (λ (o : Option CallsIn). map_of (of_region r a.second b.calls o)) other
+      ∙ of_map r a.second a.calls b.calls a.other map;
   task = task;
   window = window;
 }
@@ -71,7 +83,8 @@ twins_by a b same is there moved = record {
 
 pub twins_still : (a b : Player) → SameTarget a b → b.second ≡ a.second → b.other ≡ a.other → AreTwins a → AreTwins b
 twins_still a b same second other is =
-    twins_by a b same is (ap (λ (o : Option CallsIn). is_some o) other ∙ is.there ∙ sym (has_same a b same)) (λ moved. has_same a b same ∙ is.moved (sym second ∙ moved))
+    twins_by a b same is (ap (λ (o : Option CallsIn). is_some o) other ∙ is.there ∙ sym (has_same a b same))
+    (λ moved. has_same a b same ∙ is.moved (sym second ∙ moved))
 
 pub legs_same : (a b : Player) → SameTarget a b → (goal : List ℕ) → legs_for b goal ≡ legs_for a goal
 legs_same a b same goal =
@@ -108,13 +121,15 @@ pub size_on : (g : Player) → AreTwins g → (r : Bool) → (setup_on g r).ram_
 size_on g twins r = twin_size g twins r g.second ∙ ap (λ (s : Setup). s.ram_size) (setup_moved g g.second refl)
 
 -- a reset is the same by each setup with a RAM of one size
-pub reset_same : (x y : Setup) (w : World) (operation : Option (ℕ × ℕ)) (torn : List ℕ) → x.ram_size ≡ y.ram_size → after_reset x w operation torn ≡ after_reset y w operation torn
+pub reset_same : (x y : Setup) (w : World) (operation : Option (ℕ × ℕ)) (torn : List ℕ) → x.ram_size ≡ y.ram_size
+    → after_reset x w operation torn ≡ after_reset y w operation torn
 unfolding after_reset
 reset_same x y w operation torn same =
     ap (λ (n : ℕ). let r : World = record w { ram = replicate n 0; state = state_reset w.map; cells = broken_off operation torn w.cells } in r) same
 
 -- a machine that starts anew stands where a reset left another one of the same board, over the cells that this left
-fresh_is : (x y : Setup) (v w : World) (operation : Option (ℕ × ℕ)) (torn : List ℕ) → x.ram_size ≡ y.ram_size → v.ram_base ≡ w.ram_base → v.map ≡ w.map → v.cells ≡ (after_reset y w operation torn).cells
+fresh_is : (x y : Setup) (v w : World) (operation : Option (ℕ × ℕ)) (torn : List ℕ) → x.ram_size ≡ y.ram_size → v.ram_base ≡ w.ram_base
+    → v.map ≡ w.map → v.cells ≡ (after_reset y w operation torn).cells
     → after_reset x v None [] ≡ after_reset y w operation torn
 unfolding after_reset
 fresh_is x y v w operation torn size base map cells = rw (size, base, map, cells) refl
@@ -133,13 +148,15 @@ other_region : (moved : Bool) (here c : CallsIn) → of_region (not moved) moved
 other_region false here c = refl
 other_region true here c = refl
 
-turned_setup : (r moved : Bool) (here c new : CallsIn) → setup_at new ≡ setup_at c → setup_at (of_region r (not moved) new (Some here)) ≡ setup_at (of_region r moved here (Some c))
+turned_setup : (r moved : Bool) (here c new : CallsIn) → setup_at new ≡ setup_at c
+    → setup_at (of_region r (not moved) new (Some here)) ≡ setup_at (of_region r moved here (Some c))
 turned_setup false false here c new e = refl
 turned_setup false true here c new e = e
 turned_setup true false here c new e = e
 turned_setup true true here c new e = refl
 
-turned_map : (r moved : Bool) (here c new : CallsIn) → map_of new ≡ map_of c → map_of (of_region r (not moved) new (Some here)) ≡ map_of (of_region r moved here (Some c))
+turned_map : (r moved : Bool) (here c new : CallsIn) → map_of new ≡ map_of c
+    → map_of (of_region r (not moved) new (Some here)) ≡ map_of (of_region r moved here (Some c))
 turned_map false false here c new e = refl
 turned_map false true here c new e = e
 turned_map true false here c new e = e
@@ -161,7 +178,8 @@ the_other true true differ = absurd (differ refl)
 some_true : (o : Option CallsIn) (c : CallsIn) → o ≡ Some c → IsTrue (is_some o)
 some_true o c is = ap (λ (x : Option CallsIn). is_some x) is
 
-module _ (a : Player) (arena : List (List ℕ)) (b : Player) (arena' : List (List ℕ)) (c : CallsIn) (is : a.other ≡ Some c) (twins : AreTwins a) (turned : IsExchanged a arena b arena' c) where
+module _ (a : Player) (arena : List (List ℕ)) (b : Player) (arena' : List (List ℕ)) (c : CallsIn) (is : a.other ≡ Some c) (twins : AreTwins a)
+    (turned : IsExchanged a arena b arena' c) where
   second_is : b.second ≡ not a.second
   second_is = ap (λ (g : Player). g.second) turned.rest
 
@@ -171,10 +189,12 @@ module _ (a : Player) (arena : List (List ℕ)) (b : Player) (arena' : List (Lis
   exchanged_same : SameTarget a b
   exchanged_same = record {
     setups = λ r.
-        ap (λ (m : Bool). setup_at (of_region r m b.calls b.other)) second_is ∙ ap (λ (o : Option CallsIn). setup_at (of_region r (not a.second) b.calls o)) other_is
+        ap (λ (m : Bool). setup_at (of_region r m b.calls b.other)) second_is
+        ∙ ap (λ (o : Option CallsIn). setup_at (of_region r (not a.second) b.calls o)) other_is
         ∙ turned_setup r a.second a.calls c b.calls turned.setup ∙ sym (ap (λ (o : Option CallsIn). setup_at (of_region r a.second a.calls o)) is);
     maps = λ r.
-        ap (λ (m : Bool). map_of (of_region r m b.calls b.other)) second_is ∙ ap (λ (o : Option CallsIn). map_of (of_region r (not a.second) b.calls o)) other_is
+        ap (λ (m : Bool). map_of (of_region r m b.calls b.other)) second_is
+        ∙ ap (λ (o : Option CallsIn). map_of (of_region r (not a.second) b.calls o)) other_is
         ∙ turned_map r a.second a.calls c b.calls turned.map ∙ sym (ap (λ (o : Option CallsIn). map_of (of_region r a.second a.calls o)) is);
     task = ap (λ (g : Player). g.task) turned.rest;
     window = ap (λ (g : Player). g.window) turned.rest;
@@ -200,9 +220,11 @@ module _ (a : Player) (arena : List (List ℕ)) (b : Player) (arena' : List (Lis
   pub exchanged : (second : Bool) → second ≢ a.second → TurnsTo second a arena b arena'
   exchanged second differ = record {
     same = exchanged_same;
-    twins = twins_by a b exchanged_same twins (ap (λ (o : Option CallsIn). is_some o) other_is ∙ sym (has_same a b exchanged_same ∙ has)) (λ moved. has_same a b exchanged_same ∙ has);
+    twins = twins_by a b exchanged_same twins (ap (λ (o : Option CallsIn). is_some o) other_is ∙ sym (has_same a b exchanged_same ∙ has))
+        (λ moved. has_same a b exchanged_same ∙ has);
     moved = second_is ∙ the_other second a.second differ;
-    rest = turned.rest ∙ ap (λ (o : Option CallsIn). record a { calls = b.calls; other = o; second = not a.second }) (sym other_is) ∙ ap (λ (m : Bool). record a { calls = b.calls; other = b.other; second = m }) (sym second_is);
+    rest = turned.rest ∙ ap (λ (o : Option CallsIn). record a { calls = b.calls; other = o; second = not a.second }) (sym other_is)
+        ∙ ap (λ (m : Bool). record a { calls = b.calls; other = b.other; second = m }) (sym second_is);
     stands = λ w operation torn cells left.
         turned.starts cells
         ∙ fresh_is (setup_at c) (setup_now a) (world_at c arena a.window cells) w operation torn size_is
@@ -215,7 +237,8 @@ module _ (a : Player) (arena : List (List ℕ)) (b : Player) (arena' : List (Lis
   }
 
 -- the machine of the region that moved last is at hand
-pub stays_at : (g : Player) (arena : List (List ℕ)) (second : Bool) → second ≡ g.second → AreTwins g → Fits g.calls arena g.window → TurnsTo second g arena g arena
+pub stays_at : (g : Player) (arena : List (List ℕ)) (second : Bool) → second ≡ g.second → AreTwins g → Fits g.calls arena g.window
+    → TurnsTo second g arena g arena
 stays_at g arena second same twins fits = record {
   same = same_here g;
   twins = twins;
@@ -227,7 +250,8 @@ stays_at g arena second same twins fits = record {
   fits = fits;
 }
 
-pub turned_to : (o : Option CallsIn) (a : Player) (arena : List (List ℕ)) (b : Player) (arena' : List (List ℕ)) (second : Bool) → a.other ≡ o → IsSomeAnd o (IsExchanged a arena b arena') → AreTwins a → second ≢ a.second
+pub turned_to : (o : Option CallsIn) (a : Player) (arena : List (List ℕ)) (b : Player) (arena' : List (List ℕ)) (second : Bool) → a.other ≡ o
+    → IsSomeAnd o (IsExchanged a arena b arena') → AreTwins a → second ≢ a.second
     → TurnsTo second a arena b arena'
 turned_to None a arena b arena' second is turned twins differ = absurd turned
 turned_to (Some c) a arena b arena' second is turned twins differ = exchanged a arena b arena' c is twins turned second differ
@@ -244,7 +268,8 @@ module _ (a : Player) (mid : CallsIn) (setup : setup_at mid ≡ setup_at a.calls
   pub twins_kept : AreTwins a → AreTwins at_hand
   twins_kept twins = twins_still a at_hand hand_same refl refl twins
 
-pub restarts_by : (a : Player) (arena : List (List ℕ)) (mid : CallsIn) (arena1 : List (List ℕ)) (b : Player) (arena2 : List (List ℕ)) → setup_at mid ≡ setup_at a.calls → map_of mid ≡ map_of a.calls
+pub restarts_by : (a : Player) (arena : List (List ℕ)) (mid : CallsIn) (arena1 : List (List ℕ)) (b : Player) (arena2 : List (List ℕ))
+    → setup_at mid ≡ setup_at a.calls → map_of mid ≡ map_of a.calls
     → ((cells : List ℕ) → world_at mid arena1 a.window cells ≡ after_reset (setup_at a.calls) (world_at a.calls arena a.window cells) None [])
     → TurnsTo false (record a { calls = mid }) arena1 b arena2 → Restarts a arena (record b { made = 0; place = place.At (at.Begin false stage.Erase) }) arena2
 restarts_by a arena mid arena1 b arena2 setup map world turns =
@@ -259,13 +284,15 @@ restarts_by a arena mid arena1 b arena2 setup map world turns =
       page = ap (λ (g : Player). g.page) turns.rest;
       starts = λ cells.
           ap (λ (w : ℕ). world_at b.calls arena2 w cells) window_is
-          ∙ turns.stands (world_at a.calls arena a.window cells) None [] cells (world cells ∙ ap (λ (y : Setup). after_reset y (world_at a.calls arena a.window cells) None []) (sym setup))
+          ∙ turns.stands (world_at a.calls arena a.window cells) None [] cells
+          (world cells ∙ ap (λ (y : Setup). after_reset y (world_at a.calls arena a.window cells) None []) (sym setup))
           ∙ ap (λ (y : Setup). after_reset y (world_at a.calls arena a.window cells) None []) setup;
       fits = subst (λ (w : ℕ). Fits b.calls arena2 w) (sym window_is) turns.fits;
     }
 
 -- the other machine fits the same window
-pub other_fits : (g : Player) (arena : List (List ℕ)) (o : Option CallsIn) → g.other ≡ o → AreTwins g → Fits g.calls arena g.window → IfSome o (λ c. Fits c arena g.window)
+pub other_fits : (g : Player) (arena : List (List ℕ)) (o : Option CallsIn) → g.other ≡ o → AreTwins g → Fits g.calls arena g.window
+    → IfSome o (λ c. Fits c arena g.window)
 other_fits g arena None is twins fits = tt
 other_fits g arena (Some c) is twins fits =
     let there : calls_on g (not g.second) ≡ c = ap (λ (o : Option CallsIn). of_region (not g.second) g.second g.calls o) is ∙ other_region g.second g.calls c in

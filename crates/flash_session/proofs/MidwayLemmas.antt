@@ -1,5 +1,5 @@
 -- A run that is cut into slices.
-use Rattle.std.proofs.Common.{◌≡◌, ◌<◌, ◌≤◌, ◌+◌, ◌-◌, ◌*◌, ◌∙◌, ⊎_elim, ℕ, List, None, refl, sym, ap, subst, arith}
+use Rattle.std.proofs.Common.{◌≡◌, ◌<◌, ◌≤◌, ◌+◌, ◌-◌, ◌*◌, ◌∙◌, ⊎_elim, ℕ, List, None, sym, ap, subst, arith}
 use Rattle.std.proofs.lemmas.Bool.{cases_lt}
 use Rattle.bench_model.specs.History.{left, Leaves}
 use Rattle.bench_model.specs.State.{BenchState, cells_half}
@@ -18,10 +18,17 @@ use Rattle.flash_session.specs.Midway.{Midway}
 
 -- before the first step
 pub midway_first : (return_at fuel : ℕ) (first here : Point) → here ≡ first → Midway return_at fuel first fuel here
-midway_first return_at fuel first here same = record { made = 0; fuel_is = omega arith; goes = λ j less. absurd (omega (arith, less)); is = same ∙ sym (whole_none first) }
+midway_first return_at fuel first here same = record {
+  made = 0;
+  fuel_is = omega arith;
+  goes = λ j less. absurd (omega (arith, less));
+  is = same
+      ∙ sym (whole_none first);
+}
 
 -- no end comes before the steps of both
-goes_add : (return_at fuel : ℕ) (p : Point) (m k : ℕ) → m ≤ fuel → GoesTo return_at fuel p m → GoesTo return_at (fuel - m) (whole p m) k → GoesTo return_at fuel p (m + k)
+goes_add : (return_at fuel : ℕ) (p : Point) (m k : ℕ) → m ≤ fuel → GoesTo return_at fuel p m → GoesTo return_at (fuel - m) (whole p m) k
+    → GoesTo return_at fuel p (m + k)
 goes_add return_at fuel p m k le one two j below = ⊎_elim
     (λ (before : j < m). one j before)
     (λ (after : m ≤ j).
@@ -38,7 +45,8 @@ module _ (return_at fuel : ℕ) (first : Point) (rest : ℕ) (here : Point) (way
   le = omega (arith, way.fuel_is)
 
   -- what a slice makes of the run, that ended with more to do
-  module _ (steps less : ℕ) (last : Point) (start end : BenchState) (one : SliceFrom return_at here start rest less steps slice.More last end) (within : less ≤ rest) where
+  module _ (steps less : ℕ) (last : Point) (start end : BenchState) (one : SliceFrom return_at here start rest less steps slice.More last end)
+      (within : less ≤ rest) where
     abbrev more : ℕ
     more = rest - less
 
@@ -69,7 +77,8 @@ module _ (return_at fuel : ℕ) (first : Point) (rest : ℕ) (here : Point) (way
         }) one.runs.moments
 
   -- a slice in which the run ended
-  module _ (steps less : ℕ) (e : RunEnd) (last : Point) (start end : BenchState) (one : SliceFrom return_at here start rest less steps (slice.Ended e) last end) (now : (c : List ℕ) → left (cells_half start) c → LeftAt here c) where
+  module _ (steps less : ℕ) (e : RunEnd) (last : Point) (start end : BenchState) (one : SliceFrom return_at here start rest less steps (slice.Ended e) last end)
+      (now : (c : List ℕ) → left (cells_half start) c → LeftAt here c) where
     pub ends_slice : RunGives return_at fuel first start e last end
     ends_slice =
         rest_gives return_at fuel first way.made le way.goes here way.is rest left_is start start end e last

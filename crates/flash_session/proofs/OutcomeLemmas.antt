@@ -1,6 +1,6 @@
 -- How a script ends on a bench, and that it ends so once what broken-off operations leave is given.
 -- The law `moves_have_one_end` is the last.
-use Rattle.std.proofs.Common.{◌≡◌, ◌<◌, ◌≤◌, ◌∙◌, ⊎_elim, ℕ, Bool, IsTrue, List, get_or, Option, Result, Ok, Err, Some, None, refl, sym, ap, subst, arith}
+use Rattle.std.proofs.Common.{◌≡◌, ◌<◌, ◌≤◌, ◌∙◌, ⊎_elim, ℕ, List, get_or, Result, Ok, Err, refl, sym, ap, subst, arith}
 use Rattle.std.proofs.lemmas.List.{get_or-take}
 use Rattle.std.proofs.lemmas.Bool.{cases_lt}
 use Rattle.readback.specs.declared.compare.Difference.{Difference}
@@ -9,9 +9,9 @@ use Rattle.algo_calls.specs.declared.call.CallEnd.{CallEnd}
 use Rattle.flash_session.specs.declared.session.SessionEnd.{SessionEnd}
 use Rattle.flash_session.specs.declared.session.SessionEnd.TheVariants as end
 use Rattle.flash_session.specs.Differs.{DiffersFirst}
-use Rattle.flash_session.specs.Moves.{Move, Stand, Failure, failure, run, IsLeftOnWay}
-use Rattle.flash_session.specs.Script.{Leg, script}
-use Rattle.flash_session.specs.Outcome.{GoTo, FailAt, IsEnd, Follows}
+use Rattle.flash_session.specs.Moves.{Move, Stand, Failure, failure, run}
+use Rattle.flash_session.specs.Script.{script}
+use Rattle.flash_session.specs.Outcome.{GoTo, FailAt, IsEnd}
 
 -- ---- one outcome
 
@@ -22,7 +22,8 @@ same_ok r a b one two = cc
 one_place : (goal cells : List ℕ) (d e : Difference) → DiffersFirst goal cells d → DiffersFirst goal cells e → e.at ≤ d.at
 one_place goal cells d e one two = ⊎_elim
     (λ (less : d.at < e.at).
-    let same : get_or cells d.at 0 ≡ get_or goal d.at 0 = sym (get_or-take e.at cells d.at 0 less) ∙ ap (λ (l : List ℕ). get_or l d.at 0) two.before ∙ get_or-take e.at goal d.at 0 less in
+    let same : get_or cells d.at 0 ≡ get_or goal d.at 0 = sym (get_or-take e.at cells d.at 0 less) ∙ ap (λ (l : List ℕ). get_or l d.at 0) two.before
+    ∙ get_or-take e.at goal d.at 0 less in
     absurd (one.differ (sym one.wanted ∙ sym same ∙ one.found)))
     (λ (le : e.at ≤ d.at). le)
     (cases_lt d.at e.at)
@@ -54,9 +55,11 @@ one_failure a moves n m x y e f c d one two =
     (ap (λ (g : Failure). end.CallFailed g.number g.call g.end) same, sym one.leaves ∙ ap (λ (g : Failure). g.world.cells) same ∙ two.leaves)
 
 -- once it is given what broken-off operations leave, moves have one end and leave one contents
-pub one_outcome : (a : Stand) (moves : List Move) (goal : List ℕ) (e f : SessionEnd) (c d : List ℕ) → IsEnd a moves goal e c → IsEnd a moves goal f d → (e ≡ f) × (c ≡ d)
+pub one_outcome : (a : Stand) (moves : List Move) (goal : List ℕ) (e f : SessionEnd) (c d : List ℕ) → IsEnd a moves goal e c → IsEnd a moves goal f d → (e ≡ f)
+    × (c ≡ d)
 one_outcome a moves goal (end.Reached r) (end.Reached s) c d one two = (refl, one_cells a moves c d one.0 two.0)
-one_outcome a moves goal (end.Reached r) (end.Mismatch y) c d one two = absurd (differs_somewhere goal d y (sym (one_cells a moves c d one.0 two.0) ∙ one.1) two.1)
+one_outcome a moves goal (end.Reached r) (end.Mismatch y) c d one two =
+    absurd (differs_somewhere goal d y (sym (one_cells a moves c d one.0 two.0) ∙ one.1) two.1)
 one_outcome a moves goal (end.Reached r) (end.CallFailed number call e) c d one two = absurd (not_both (run a moves) _ _ one.0.ran two.ran)
 one_outcome a moves goal (end.Reached r) end.DeviceFault c d one two = absurd two
 one_outcome a moves goal (end.Reached r) end.StoreFault c d one two = absurd two

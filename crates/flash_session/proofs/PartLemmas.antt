@@ -1,9 +1,8 @@
 -- A region's part of all cells: bytes of it are bytes of all cells, and the parts of all regions are all of them.
 -- Surveys and errands are of regions, and the goal and the comparison of all cells: so each is a part of the other.
-use Rattle.std.proofs.Common.{◌≡◌, ◌≤◌, ◌+◌, ◌-◌, ◌++◌, ◌∙◌, ◌^◌, ◌<◌, ℕ, All, List, length, take, drop, sym, ap, subst, arith}
+use Rattle.std.proofs.Common.{◌≡◌, ◌≤◌, ◌+◌, ◌-◌, ◌++◌, ◌∙◌, ℕ, List, length, take, drop, sym, ap, arith}
 use Rattle.std.proofs.lemmas.List.{drop-drop, drop-take, take-take, take-append-drop, take_all}
-use Rattle.std.proofs.lemmas.List.Elements.{All-append}
-use Rattle.algo_calls.specs.Duties.{Site, part}
+use Rattle.algo_calls.specs.Duties.{part}
 
 pub part_at : (start size at n : ℕ) (goal : List ℕ) → at + n ≤ size → take n (drop (start + at) goal) ≡ take n (drop at (take size (drop start goal)))
 part_at start size at n goal inside =
@@ -16,4 +15,5 @@ part_at start size at n goal inside =
 -- two parts that are all of them
 pub two_parts : (first second : ℕ) (cells : List ℕ) → length cells ≡ first + second → cells ≡ take first cells ++ take second (drop first cells)
 two_parts first second cells long =
-    sym (take-append-drop first cells) ∙ ap (λ (l : List ℕ). take first cells ++ l) (sym (take_all second (drop first cells) (omega (arith, long, Rattle.std.proofs.lemmas.List.length-drop first cells))))
+    sym (take-append-drop first cells) ∙ ap (λ (l : List ℕ). take first cells ++ l)
+    (sym (take_all second (drop first cells) (omega (arith, long, Rattle.std.proofs.lemmas.List.length-drop first cells))))

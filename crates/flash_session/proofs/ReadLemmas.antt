@@ -1,5 +1,6 @@
 -- Reads one after the other, and windows of cells and goal. Surveys read cells and goal in windows, and go on by them.
-use Rattle.std.proofs.Common.{◌≡◌, ◌<◌, ◌≤◌, ◌+◌, ◌-◌, ◌++◌, ◌∙◌, ℕ, Bool, IsTrue, List, length, take, drop, get_or, Some, None, refl, sym, ap, arith, length-append}
+use Rattle.std.proofs.Common.{◌≡◌, ◌≤◌, ◌+◌, ◌-◌, ◌++◌, ◌∙◌, ℕ, Bool, List, length, take, drop, refl, arith}
+use Rattle.std.proofs.Common.{length-append}
 use Rattle.std.proofs.lemmas.List.{length-take, length-drop}
 use Rattle.bench_model.specs.State.{BenchState, file_half, cells_half}
 use Rattle.bench_model.specs.Calls.{FileStays, OnlyReads, IsRead}
@@ -27,7 +28,13 @@ read_then one two = record {
 pub read_file : (tells : Bool) (s t : BenchState) → OnlyReads tells s t → IsRead tells s t
 read_file tells s t reads = record {
   file = record { file = reads.file; moments = reads.moments };
-  cells = record { cells = λ told. reads.cells.cells; operation = λ told. reads.cells.operation; count = reads.cells.count; moments = stays_adds_nothing reads.cells.half };
+  cells = record {
+    cells = λ told. reads.cells.cells;
+    operation = λ told. reads.cells.operation;
+    count = reads.cells.count;
+    moments =
+        stays_adds_nothing reads.cells.half;
+  };
 }
 
 -- the cells were read
@@ -39,13 +46,22 @@ read_cells tells s t reads = record {
 
 -- the cells alone
 pub only_cells : {tells : Bool} {s t : BenchState} → IsRead tells s t → FileStays s t → OnlyReadsCells tells s t
-only_cells reads file = record { cells = reads.cells.cells; operation = reads.cells.operation; count = reads.cells.count; moments = reads.cells.moments; file = file }
+only_cells reads file = record {
+  cells = reads.cells.cells;
+  operation = reads.cells.operation;
+  count = reads.cells.count;
+  moments = reads.cells.moments;
+  file =
+      file;
+}
 
 -- a window whose front was filled is as long as it was
-pub kept_room : (n : ℕ) (window front : List ℕ) → length window ≡ 4096 → n ≤ 4096 → length front ≡ length (take n window) → length (front ++ drop n window) ≡ 4096
+pub kept_room : (n : ℕ) (window front : List ℕ) → length window ≡ 4096 → n ≤ 4096 → length front ≡ length (take n window)
+    → length (front ++ drop n window) ≡ 4096
 kept_room n window front room le long = omega (arith, length-append front (drop n window), length-drop n window, length-take n window, room, le, long)
 
 -- and so is a buffer that was lent as a whole
-pub kept_items : (len : ℕ) (new items : List ℕ) → len ≡ length items → length new ≡ length items → length (take len (new ++ drop (length new) items)) ≡ length items
+pub kept_items : (len : ℕ) (new items : List ℕ) → len ≡ length items → length new ≡ length items
+    → length (take len (new ++ drop (length new) items)) ≡ length items
 kept_items len new items one two =
     omega (arith, length-take len (new ++ drop (length new) items), length-append new (drop (length new) items), length-drop (length new) items, one, two)

@@ -1,15 +1,18 @@
 -- The rest of a script, move by move.
-use Rattle.std.proofs.Common.{◌≡◌, ◌<◌, ◌≤◌, ◌+◌, ◌-◌, ◌∙◌, ℕ, zero, suc, Bool, true, false, cond, nat_eq, is_some, Option, Some, None, List, [], ◌∷◌, ◌++◌, length, option_to_list, refl, sym, ap, arith, append_assoc}
+use Rattle.std.proofs.Common.{◌≡◌, ◌<◌, ◌≤◌, ◌+◌, ◌-◌, ◌∙◌, ℕ, zero, suc, Bool, true, false, cond, is_some, Option, Some, None, List, [], ◌∷◌, ◌++◌}
+use Rattle.std.proofs.Common.{length, option_to_list, refl, sym, ap, arith, append_assoc}
 use Rattle.std.proofs.lemmas.List.{append-nil}
 use Rattle.algo_calls.specs.declared.call.Call.TheVariants as call
 use Rattle.algo_calls.specs.Setups.{Setup}
 use Rattle.flash_session.specs.Moves.{Move, Reset, Load, Make}
-use Rattle.flash_session.specs.Script.{Errand, Torn, Leg, Broken, torn_first, torn_rest, each_below, sector_moves, erase_moves, page_at, page_moves, has_verify, verify_moves, phase, phases, legs_of, script, kind_of}
+use Rattle.flash_session.specs.Script.{Errand, Torn, Leg, Broken, torn_first, torn_rest, each_below, sector_moves, erase_moves, page_at, page_moves, has_verify}
+use Rattle.flash_session.specs.Script.{verify_moves, phase, phases, legs_of, script, kind_of}
 use Rattle.flash_session.proofs.Lists.{each_none, each_more, phase_none, phase_is}
 use Rattle.flash_session.specs.declared.phase.Phase.{Phase}
 use Rattle.flash_session.specs.declared.phase.Phase.TheVariants as stage
 use Rattle.flash_session.specs.declared.cursor.Cursor.TheVariants as at
-use Rattle.flash_session.specs.Rest.{each_from, from_on, chip_from, calls_from, phase_calls, torn_of, with_torn, after_phase, from_phase, closing, Legs, all_legs, leg_at, torn_at, last_reset, second_rest, later_than, rest_of, after_region, after}
+use Rattle.flash_session.specs.Rest.{each_from, from_on, calls_from, phase_calls, torn_of, with_torn, after_phase, from_phase, closing, Legs}
+use Rattle.flash_session.specs.Rest.{all_legs, leg_at, torn_at, last_reset, second_rest, later_than, rest_of, after_region, after}
 
 -- ---- numbers from one on
 
@@ -33,7 +36,8 @@ from_none f n k past = let zero_is : n - k ≡ 0 = omega arith in ap (each_from 
 from_end : (f : ℕ → List Move) (k m : ℕ) → each_from f k (suc m) ≡ each_from f k m ++ f (k + m)
 from_end f k zero =
     let same : k ≡ k + 0 = omega arith in
-    from_one f k 0 ∙ ap (λ (l : List Move). f k ++ l) (from_nothing f (k + 1)) ∙ append-nil (f k) ∙ ap f same ∙ ap (λ (l : List Move). l ++ f (k + 0)) (sym (from_nothing f k))
+    from_one f k 0 ∙ ap (λ (l : List Move). f k ++ l) (from_nothing f (k + 1)) ∙ append-nil (f k) ∙ ap f same
+    ∙ ap (λ (l : List Move). l ++ f (k + 0)) (sym (from_nothing f k))
 from_end f k (suc m) =
     let same : k + 1 + m ≡ k + suc m = omega arith in
     from_one f k (suc m)
@@ -47,7 +51,8 @@ from_all f zero = from_nothing f 0 ∙ sym (each_none f)
 from_all f (suc n) =
     let same : 0 + n ≡ n = omega arith in
     let more : n + 1 ≡ suc n = omega arith in
-    from_end f 0 n ∙ ap (λ (i : ℕ). each_from f 0 n ++ f i) same ∙ ap (λ (l : List Move). l ++ f n) (from_all f n) ∙ sym (each_more n f) ∙ ap (λ (i : ℕ). each_below i f) more
+    from_end f 0 n ∙ ap (λ (i : ℕ). each_from f 0 n ++ f i) same ∙ ap (λ (l : List Move). l ++ f n) (from_all f n) ∙ sym (each_more n f)
+    ∙ ap (λ (i : ℕ). each_below i f) more
 
 on_all : (f : ℕ → List Move) (n : ℕ) → from_on f n 0 ≡ each_below n f
 on_all f n = let same : n - 0 ≡ n = omega arith in ap (each_from f 0) same ∙ from_all f n
@@ -62,7 +67,8 @@ same_whether d x y z is = ap (λ (l : List Move). cond d l z) is
 
 pub calls_all : (s : Setup) (t : Errand) (p : Phase) → calls_from s t p 0 ≡ phase_calls s t p
 unfolding erase_moves page_moves
-calls_all s t stage.Erase = same_either t.planned.plan.chip (Make s call.EraseChip [] ∷ []) _ _ (on_all (sector_moves s t.planned) (length t.planned.layout.sectors))
+calls_all s t stage.Erase = same_either t.planned.plan.chip (Make s call.EraseChip [] ∷ []) _ _
+    (on_all (sector_moves s t.planned) (length t.planned.layout.sectors))
 calls_all s t stage.Program = on_all (page_at false s t) (length t.planned.layout.pages)
 calls_all s t stage.Verify = same_whether (has_verify s) _ _ [] (on_all (page_at true s t) (length t.planned.layout.pages))
 
@@ -78,17 +84,23 @@ opened s kind torn calls later some =
 pub begin_is : (l : Legs) (r : Bool) (p : Phase) → (phase_calls (leg_at l r).setup (leg_at l r).errand p ≡ [] → ⊥) → (b : Broken) (torn : List ℕ)
     → rest_of l (at.Begin r p) (with_torn r p torn b) ≡ Reset (leg_at l r).setup torn ∷ Load (leg_at l r).setup ∷ rest_of l (at.Init r p) b
 begin_is l false stage.Erase some b torn =
-    opened l.first.setup 1 torn (phase_calls l.first.setup l.first.errand stage.Erase) (after_phase l.first.setup l.first.errand stage.Erase (torn_at false b) (later_than l false b)) some
+    opened l.first.setup 1 torn (phase_calls l.first.setup l.first.errand stage.Erase)
+    (after_phase l.first.setup l.first.errand stage.Erase (torn_at false b) (later_than l false b)) some
 begin_is l false stage.Program some b torn =
-    opened l.first.setup 2 torn (phase_calls l.first.setup l.first.errand stage.Program) (after_phase l.first.setup l.first.errand stage.Program (torn_at false b) (later_than l false b)) some
+    opened l.first.setup 2 torn (phase_calls l.first.setup l.first.errand stage.Program)
+    (after_phase l.first.setup l.first.errand stage.Program (torn_at false b) (later_than l false b)) some
 begin_is l false stage.Verify some b torn =
-    opened l.first.setup 3 torn (phase_calls l.first.setup l.first.errand stage.Verify) (after_phase l.first.setup l.first.errand stage.Verify (torn_at false b) (later_than l false b)) some
+    opened l.first.setup 3 torn (phase_calls l.first.setup l.first.errand stage.Verify)
+    (after_phase l.first.setup l.first.errand stage.Verify (torn_at false b) (later_than l false b)) some
 begin_is l true stage.Erase some b torn =
-    opened (leg_at l true).setup 1 torn (phase_calls (leg_at l true).setup (leg_at l true).errand stage.Erase) (after_phase (leg_at l true).setup (leg_at l true).errand stage.Erase (torn_at true b) (later_than l true b)) some
+    opened (leg_at l true).setup 1 torn (phase_calls (leg_at l true).setup (leg_at l true).errand stage.Erase)
+    (after_phase (leg_at l true).setup (leg_at l true).errand stage.Erase (torn_at true b) (later_than l true b)) some
 begin_is l true stage.Program some b torn =
-    opened (leg_at l true).setup 2 torn (phase_calls (leg_at l true).setup (leg_at l true).errand stage.Program) (after_phase (leg_at l true).setup (leg_at l true).errand stage.Program (torn_at true b) (later_than l true b)) some
+    opened (leg_at l true).setup 2 torn (phase_calls (leg_at l true).setup (leg_at l true).errand stage.Program)
+    (after_phase (leg_at l true).setup (leg_at l true).errand stage.Program (torn_at true b) (later_than l true b)) some
 begin_is l true stage.Verify some b torn =
-    opened (leg_at l true).setup 3 torn (phase_calls (leg_at l true).setup (leg_at l true).errand stage.Verify) (after_phase (leg_at l true).setup (leg_at l true).errand stage.Verify (torn_at true b) (later_than l true b)) some
+    opened (leg_at l true).setup 3 torn (phase_calls (leg_at l true).setup (leg_at l true).errand stage.Verify)
+    (after_phase (leg_at l true).setup (leg_at l true).errand stage.Verify (torn_at true b) (later_than l true b)) some
 
 -- one that has none is left out
 pub skip_is : (l : Legs) (r : Bool) (p : Phase) → phase_calls (leg_at l r).setup (leg_at l r).errand p ≡ [] → (b : Broken)
@@ -98,7 +110,8 @@ skip_is l r p nothing b =
     (phase_none (leg_at l r).setup (kind_of p) (torn_of p (torn_at r b)) (phase_calls (leg_at l r).setup (leg_at l r).errand p) nothing)
 
 -- what follows the first region is the second one, where there is one
-behind_first : (first : Leg) (second : Option Leg) (b : Broken) → let l : Legs = record { first = first; second = second } in later_than l false b ≡ rest_of l (after_region (is_some second) false) b
+behind_first : (first : Leg) (second : Option Leg) (b : Broken) → let l : Legs = record { first = first; second = second } in
+    later_than l false b ≡ rest_of l (after_region (is_some second) false) b
 behind_first first None b = refl
 behind_first first (Some m) b = refl
 
@@ -106,18 +119,22 @@ pub behind_is : (l : Legs) (r : Bool) (b : Broken) → later_than l r b ≡ rest
 behind_is l false b = behind_first l.first l.second b
 behind_is l true b = refl
 
-pub after_is : (l : Legs) (r : Bool) (p : Phase) (b : Broken) → after_phase (leg_at l r).setup (leg_at l r).errand p (torn_at r b) (later_than l r b) ≡ rest_of l (after (is_some l.second) r p) b
+pub after_is : (l : Legs) (r : Bool) (p : Phase) (b : Broken)
+    → after_phase (leg_at l r).setup (leg_at l r).errand p (torn_at r b) (later_than l r b) ≡ rest_of l (after (is_some l.second) r p) b
 after_is l r stage.Erase b = refl
 after_is l r stage.Program b = refl
 after_is l r stage.Verify b = behind_is l r b
 
 -- after its Init come its calls, and after them its UnInit
-pub init_is : (l : Legs) (r : Bool) (p : Phase) (b : Broken) → rest_of l (at.Init r p) b ≡ Make (leg_at l r).setup (call.Init (kind_of p)) [] ∷ rest_of l (at.Calls r p 0) b
+pub init_is : (l : Legs) (r : Bool) (p : Phase) (b : Broken) → rest_of l (at.Init r p) b ≡ Make (leg_at l r).setup (call.Init (kind_of p)) [] ∷ rest_of l
+    (at.Calls r p 0) b
 init_is l r p b =
-    ap (λ (m : List Move). Make (leg_at l r).setup (call.Init (kind_of p)) [] ∷ (m ++ closing (leg_at l r).setup (leg_at l r).errand p (torn_at r b) (later_than l r b)))
+    ap (λ (m : List Move). Make (leg_at l r).setup (call.Init (kind_of p)) [] ∷
+    (m ++ closing (leg_at l r).setup (leg_at l r).errand p (torn_at r b) (later_than l r b)))
     (sym (calls_all (leg_at l r).setup (leg_at l r).errand p))
 
-pub call_is : (l : Legs) (r : Bool) (p : Phase) (k next : ℕ) (m : Move) → calls_from (leg_at l r).setup (leg_at l r).errand p k ≡ m ∷ calls_from (leg_at l r).setup (leg_at l r).errand p next → (b : Broken)
+pub call_is : (l : Legs) (r : Bool) (p : Phase) (k next : ℕ) (m : Move)
+    → calls_from (leg_at l r).setup (leg_at l r).errand p k ≡ m ∷ calls_from (leg_at l r).setup (leg_at l r).errand p next → (b : Broken)
     → rest_of l (at.Calls r p k) b ≡ m ∷ rest_of l (at.Calls r p next) b
 call_is l r p k next m is b = ap (λ (n : List Move). n ++ closing (leg_at l r).setup (leg_at l r).errand p (torn_at r b) (later_than l r b)) is
 
@@ -133,20 +150,24 @@ three_of : (s : Setup) (t : Errand) (b : Torn) (later : List Move) → phases s 
 unfolding phases
 three_of s t b later =
     append_assoc (phase s 1 b.erase (erase_moves s t.planned)) (phase s 2 b.program (page_moves false s t) ++ phase s 3 b.verify (verify_moves s t)) later
-    ∙ ap (λ (m : List Move). phase s 1 b.erase (erase_moves s t.planned) ++ m) (append_assoc (phase s 2 b.program (page_moves false s t)) (phase s 3 b.verify (verify_moves s t)) later)
+    ∙ ap (λ (m : List Move). phase s 1 b.erase (erase_moves s t.planned) ++ m)
+    (append_assoc (phase s 2 b.program (page_moves false s t)) (phase s 3 b.verify (verify_moves s t)) later)
 
 legs_none : (torn : List Torn) → legs_of [] torn ≡ []
 unfolding legs_of
 legs_none torn = refl
 
-legs_more : (l : Leg) (rest : List Leg) (torn : List Torn) → legs_of (l ∷ rest) torn ≡ phases l.setup l.errand (torn_first torn) ++ legs_of rest (torn_rest torn)
+legs_more : (l : Leg) (rest : List Leg) (torn : List Torn) → legs_of (l ∷ rest) torn ≡ phases l.setup l.errand (torn_first torn) ++ legs_of rest
+    (torn_rest torn)
 unfolding legs_of
 legs_more l rest torn = refl
 
-second_is : (second : Option Leg) (torn : List Torn) (later : List Move) → legs_of (option_to_list second) torn ++ later ≡ second_rest second (torn_first torn) later
+second_is : (second : Option Leg) (torn : List Torn) (later : List Move)
+    → legs_of (option_to_list second) torn ++ later ≡ second_rest second (torn_first torn) later
 second_is None torn later = ap (λ (m : List Move). m ++ later) (legs_none torn)
 second_is (Some m) torn later =
-    ap (λ (x : List Move). x ++ later) (legs_more m [] torn ∙ ap (λ (x : List Move). phases m.setup m.errand (torn_first torn) ++ x) (legs_none (torn_rest torn)) ∙ append-nil (phases m.setup m.errand (torn_first torn)))
+    ap (λ (x : List Move). x ++ later) (legs_more m [] torn ∙ ap (λ (x : List Move). phases m.setup m.errand (torn_first torn) ++ x)
+    (legs_none (torn_rest torn)) ∙ append-nil (phases m.setup m.errand (torn_first torn)))
     ∙ three_of m.setup m.errand (torn_first torn) later
 
 script_more : (l : Legs) (b : Broken) → script (all_legs l) b ≡ legs_of (all_legs l) b.legs ++ last_reset l b

@@ -1,5 +1,6 @@
 -- The next move of a script.
-use Rattle.std.proofs.Common.{◌≡◌, ◌<◌, ◌≤◌, ◌+◌, ◌^◌, ◌∙◌, ℕ, Bool, true, false, IsTrue, is_some, unwrap_or, Option, Some, None, List, [], ◌∷◌, length, take, drop, refl, sym, ap, subst, arith}
+use Rattle.std.proofs.Common.{◌≡◌, ◌+◌, ◌∙◌, ℕ, Bool, true, false, IsTrue, is_some, unwrap_or, Option, Some, None, List, [], ◌∷◌, length}
+use Rattle.std.proofs.Common.{refl, sym, ap, subst, arith}
 use Rattle.algo_calls.specs.declared.call.Call.{Call}
 use Rattle.algo_calls.specs.declared.call.Call.TheVariants as call
 use Rattle.algo_calls.specs.Setups.{Setup}
@@ -9,7 +10,6 @@ use Rattle.flash_session.specs.Moves.{Move, Reset, Load, Make}
 use Rattle.flash_session.specs.Script.{Broken, Leg, leg, kind_of}
 use Rattle.flash_session.specs.declared.phase.Phase.{Phase}
 use Rattle.flash_session.specs.declared.phase.Phase.TheVariants as stage
-use Rattle.flash_session.specs.declared.cursor.Cursor.{Cursor}
 use Rattle.flash_session.specs.declared.cursor.Cursor.TheVariants as at
 use Rattle.flash_session.specs.declared.cursor.Step.{Step}
 use Rattle.flash_session.specs.declared.cursor.Step.TheVariants as step
@@ -19,11 +19,11 @@ use Rattle.flash_session.specs.declared.player.Player.{Player}
 use Rattle.flash_session.specs.Fit.{IsPartOn, IsScripted}
 use Rattle.flash_session.specs.Items.{calls_on_phase}
 use Rattle.flash_session.specs.Rest.{calls_from, phase_calls, Legs, leg_at, later_than, rest_of, with_torn, with_last, after, after_region}
-use Rattle.flash_session.specs.Steps.{bytes_at, IsAsked, IsNext, IsItem, IsCursor, IsStepOf, IsStep, IsStepBehind, IsPhaseFrom, has_phase}
+use Rattle.flash_session.specs.Steps.{bytes_at, IsAsked, IsNext, IsItem, IsCursor, IsStep, IsStepBehind, IsPhaseFrom, has_phase}
 use Rattle.flash_session.specs.Targets.{of_region, setup_on, setup_now, part_in, errand_in, later_leg, legs_for, has_second, size_for}
 use Rattle.flash_session.proofs.ItemLemmas.{no_bytes}
 use Rattle.flash_session.proofs.PartLemmas.{part_at}
-use Rattle.flash_session.proofs.RestLemmas.{calls_all, begin_is, skip_is, behind_is, after_is, init_is, call_is, uninit_is}
+use Rattle.flash_session.proofs.RestLemmas.{calls_all, begin_is, skip_is, behind_is, init_is, call_is, uninit_is}
 
 -- ---- what is done in a region
 
@@ -35,7 +35,8 @@ moved_region true here other = refl
 pub setup_moved : (g : Player) (r : Bool) → g.second ≡ r → setup_on g r ≡ setup_now g
 setup_moved g r is = ap (λ (m : Bool). setup_at (of_region r m g.calls g.other)) is ∙ ap (λ (c : CallsIn). setup_at c) (moved_region r g.calls g.other)
 
-second_leg : (o : Option Part) (s : Setup) (goal : List ℕ) (m : Leg) (p : Part) → IsTrue (is_some o) → unwrap_or (later_leg s o goal) m ≡ leg s (errand_in (unwrap_or o p) goal)
+second_leg : (o : Option Part) (s : Setup) (goal : List ℕ) (m : Leg) (p : Part) → IsTrue (is_some o)
+    → unwrap_or (later_leg s o goal) m ≡ leg s (errand_in (unwrap_or o p) goal)
 second_leg None s goal m p there = cc
 second_leg (Some q) s goal m p there = refl
 
@@ -70,12 +71,15 @@ module _ (g : Player) where
   nonempty : (m : Move) (l : List Move) → m ∷ l ≡ [] → ⊥
   nonempty m l is = cc
 
-  pub any_item : (r : Bool) (p : Phase) → (IsTrue r → IsTrue (has_second g)) → (o : Option Item) → IsItem (setup_on g r) (part_in g.task r) (calls_on_phase p (setup_on g r) (part_in g.task r)) 0 o → has_phase g r p (is_some o)
+  pub any_item : (r : Bool) (p : Phase) → (IsTrue r → IsTrue (has_second g)) → (o : Option Item)
+      → IsItem (setup_on g r) (part_in g.task r) (calls_on_phase p (setup_on g r) (part_in g.task r)) 0 o → has_phase g r p (is_some o)
   any_item r p there None is = λ goal.
-      subst (λ (m : Leg). phase_calls m.setup m.errand p ≡ []) (sym (leg_is r there goal)) (sym (calls_all (setup_on g r) (errand_in (part_in g.task r) goal) p) ∙ is goal)
+      subst (λ (m : Leg). phase_calls m.setup m.errand p ≡ []) (sym (leg_is r there goal))
+      (sym (calls_all (setup_on g r) (errand_in (part_in g.task r) goal) p) ∙ is goal)
   any_item r p there (Some item) is = λ goal.
       subst (λ (m : Leg). phase_calls m.setup m.errand p ≡ [] → ⊥) (sym (leg_is r there goal))
-      (λ none. nonempty (Make (setup_on g r) item.call (bytes_at (errand_in (part_in g.task r) goal).goal item.from item.len)) (calls_on_phase p (setup_on g r) (part_in g.task r) goal (item.index + 1))
+      (λ none. nonempty (Make (setup_on g r) item.call (bytes_at (errand_in (part_in g.task r) goal).goal item.from item.len))
+      (calls_on_phase p (setup_on g r) (part_in g.task r) goal (item.index + 1))
       (sym (is.moves goal) ∙ calls_all (setup_on g r) (errand_in (part_in g.task r) goal) p ∙ none))
 
   -- ---- the first phase that has some
@@ -86,7 +90,8 @@ module _ (g : Player) where
   pub phase_none : (r : Bool) → has_phase g r stage.Verify false → IsPhaseFrom g r stage.Verify None
   phase_none r none = λ goal b. skip_is (legs goal) r stage.Verify (none goal) b
 
-  phase_on : (r : Bool) (p q : Phase) → ((goal : List ℕ) (b : Broken) → rest_of (legs goal) (at.Begin r p) b ≡ rest_of (legs goal) (at.Begin r q) b) → (o : Option Phase) → IsPhaseFrom g r q o → IsPhaseFrom g r p o
+  phase_on : (r : Bool) (p q : Phase) → ((goal : List ℕ) (b : Broken) → rest_of (legs goal) (at.Begin r p) b ≡ rest_of (legs goal) (at.Begin r q) b)
+      → (o : Option Phase) → IsPhaseFrom g r q o → IsPhaseFrom g r p o
   phase_on r p q same None is = λ goal b. same goal b ∙ is goal b
   phase_on r p q same (Some x) is = (λ goal b. same goal b ∙ is.0 goal b, is.1)
 
@@ -100,13 +105,18 @@ module _ (g : Player) where
 
   begins : (r : Bool) (p : Phase) → (IsTrue r → IsTrue (has_second g)) → has_phase g r p true → (goal : List ℕ) (b : Broken) (torn : List ℕ)
       → rest_of (legs goal) (at.Begin r p) (with_torn r p torn b) ≡ Reset (setup_on g r) torn ∷ Load (setup_on g r) ∷ rest_of (legs goal) (at.Init r p) b
-  begins r p there some goal b torn = begin_is (legs goal) r p (some goal) b torn ∙ ap (λ (m : Leg). Reset m.setup torn ∷ Load m.setup ∷ rest_of (legs goal) (at.Init r p) b) (leg_is r there goal)
+  begins r p there some goal b torn = begin_is (legs goal) r p (some goal) b torn
+      ∙ ap (λ (m : Leg). Reset m.setup torn ∷ Load m.setup ∷ rest_of (legs goal) (at.Init r p) b) (leg_is r there goal)
 
   second_behind : IsTrue (has_second g) → (goal : List ℕ) (b : Broken) → later_than (legs goal) false b ≡ rest_of (legs goal) (at.Begin true stage.Erase) b
   second_behind has goal b = behind_is (legs goal) false b ∙ ap (λ (h : Bool). rest_of (legs goal) (after_region h false) b) (has_is goal ∙ has)
 
   pub second_begins : (p : Phase) → IsTrue (has_second g) → IsPhaseFrom g true stage.Erase (Some p) → IsStepBehind g false (step.Begin true p)
-  second_begins p has is = (λ goal b torn. second_behind has goal (with_torn true p torn b) ∙ is.0 goal (with_torn true p torn b) ∙ begins true p (λ second. has) is.1 goal b torn, λ second. has)
+  second_begins p has is = (
+    λ goal b torn. second_behind has goal (with_torn true p torn b) ∙ is.0 goal (with_torn true p torn b)
+        ∙ begins true p (λ second. has) is.1 goal b torn,
+    λ second. has,
+  )
 
   pub second_ends : IsTrue (has_second g) → IsPhaseFrom g true stage.Erase None → IsStepBehind g false step.Last
   second_ends has is = λ goal b torn. second_behind has goal (with_last torn b) ∙ is goal (with_last torn b)
@@ -115,7 +125,8 @@ module _ (g : Player) where
   behind_second = λ goal b torn. refl
 
   pub behind_alone : has_second g ≡ false → IsStepBehind g false step.Last
-  behind_alone alone = λ goal b torn. behind_is (legs goal) false (with_last torn b) ∙ ap (λ (h : Bool). rest_of (legs goal) (after_region h false) (with_last torn b)) (has_is goal ∙ alone)
+  behind_alone alone = λ goal b torn. behind_is (legs goal) false (with_last torn b)
+      ∙ ap (λ (h : Bool). rest_of (legs goal) (after_region h false) (with_last torn b)) (has_is goal ∙ alone)
 
   pub step_begins : (r : Bool) (p q : Phase) → (IsTrue r → IsTrue (has_second g)) → IsPhaseFrom g r p (Some q) → IsStep g (at.Begin r p) (step.Begin r q)
   step_begins r p q there is = (λ goal b torn. is.0 goal (with_torn r q torn b) ∙ begins r q there is.1 goal b torn, there)
@@ -133,14 +144,17 @@ module _ (g : Player) where
   without : (c : Call) → ((bytes : List ℕ) → bytes ≡ [] → MayAsk (setup_now g) c bytes) → IsAsked g c 0 0
   without c may = record { within = omega arith; fits = omega arith; may = λ bytes none. may bytes (no_bytes bytes none) }
 
-  pub step_init : (r : Bool) (p : Phase) → IsCursor (has_second g) g.second (at.Init r p) → IsStep g (at.Init r p) (step.Call (call.Init (kind_of p)) 0 0 (at.Calls r p 0))
+  pub step_init : (r : Bool) (p : Phase) → IsCursor (has_second g) g.second (at.Init r p)
+      → IsStep g (at.Init r p) (step.Call (call.Init (kind_of p)) 0 0 (at.Calls r p 0))
   step_init r p is = (
-    λ goal b. init_is (legs goal) r p b ∙ ap (λ (s : Setup). Make s (call.Init (kind_of p)) [] ∷ rest_of (legs goal) (at.Calls r p 0) b) (setup_here r is.0 is.1 goal),
+    λ goal b. init_is (legs goal) r p b ∙ ap (λ (s : Setup). Make s (call.Init (kind_of p)) [] ∷ rest_of (legs goal) (at.Calls r p 0) b)
+        (setup_here r is.0 is.1 goal),
     without (call.Init (kind_of p)) (λ bytes none. none),
     is,
   )
 
-  pub step_uninit : (r : Bool) (p : Phase) (index : ℕ) → IsCursor (has_second g) g.second (at.Calls r p index) → ((goal : List ℕ) → calls_on_phase p (setup_on g r) (part_in g.task r) goal index ≡ [])
+  pub step_uninit : (r : Bool) (p : Phase) (index : ℕ) → IsCursor (has_second g) g.second (at.Calls r p index)
+      → ((goal : List ℕ) → calls_on_phase p (setup_on g r) (part_in g.task r) goal index ≡ [])
       → IsStep g (at.Calls r p index) (step.Call (call.UnInit (kind_of p)) 0 0 (after (has_second g) r p))
   step_uninit r p index is none = (
     λ goal b.
@@ -159,10 +173,13 @@ module _ (g : Player) where
       let there = part_in g.task r in
       let moves = λ (goal : List ℕ).
       next.moves goal
-      ∙ ap (λ (s : Setup). Make s item.call (bytes_at (errand_in there goal).goal item.from item.len) ∷ calls_on_phase p (setup_on g r) there goal (item.index + 1)) (setup_moved g r is.0)
-      ∙ ap (λ (l : List ℕ). Make (setup_now g) item.call l ∷ calls_on_phase p (setup_on g r) there goal (item.index + 1)) (sym (part_at there.start there.geometry.size item.from item.len goal next.within)) in (
+      ∙ ap (λ (s : Setup). Make s item.call (bytes_at (errand_in there goal).goal item.from item.len) ∷ calls_on_phase p (setup_on g r) there goal
+      (item.index + 1)) (setup_moved g r is.0)
+      ∙ ap (λ (l : List ℕ). Make (setup_now g) item.call l ∷ calls_on_phase p (setup_on g r) there goal (item.index + 1))
+      (sym (part_at there.start there.geometry.size item.from item.len goal next.within)) in (
         λ goal b. call_is (legs goal) r p index (item.index + 1) (Make (setup_now g) item.call (bytes_at goal (there.start + item.from) item.len))
-            (subst (λ (m : Leg). calls_from m.setup m.errand p index ≡ Make (setup_now g) item.call (bytes_at goal (there.start + item.from) item.len) ∷ calls_from m.setup m.errand p (item.index + 1)) (sym (leg_is r is.1 goal)) (moves goal)) b,
+            (subst (λ (m : Leg). calls_from m.setup m.errand p index ≡ Make (setup_now g) item.call (bytes_at goal (there.start + item.from) item.len) ∷
+            calls_from m.setup m.errand p (item.index + 1)) (sym (leg_is r is.1 goal)) (moves goal)) b,
         record {
           within = omega (arith, on.range, next.within);
           fits = omega (arith, on.buffer, next.fits);

@@ -1,5 +1,6 @@
 -- A survey of a region window by window. `survey_windows` feeds the plan window by window, and the surveys of a job and of `plan` end so.
-use Rattle.std.proofs.Common.{◌≡◌, ◌<◌, ◌≤◌, ◌+◌, ◌-◌, ◌++◌, ◌∙◌, ◌^◌, ℕ, Bool, IsTrue, is_some, All, List, [], length, take, drop, OnOk, Result, Ok, Err, refl, sym, ap, subst, arith, length-append}
+use Rattle.std.proofs.Common.{◌≡◌, ◌<◌, ◌≤◌, ◌+◌, ◌-◌, ◌++◌, ◌∙◌, ◌^◌, ℕ, Bool, IsTrue, is_some, All, List, [], length, take, drop, OnOk, Result, Ok, Err, refl}
+use Rattle.std.proofs.Common.{sym, ap, subst, arith, length-append}
 use Rattle.std.proofs.Math.Seq.{take-add}
 use Rattle.std.proofs.lemmas.List.{drop-drop}
 use Rattle.std.specs.Borrow.{Bor}
@@ -26,22 +27,26 @@ abbrev pub AreBytes : List ℕ → Type 0
 AreBytes cells = All (λ v. v < 2 ^ 8) cells
 
 -- a bench that was only read gives the goal as before
-pub source_still : (tells : Bool) (source : Source) (a b : BenchState) → (IsTrue tells → b.file ≡ a.file) → b.cell_count ≡ a.cell_count → IsSource tells source a → IsSource tells source b
+pub source_still : (tells : Bool) (source : Source) (a b : BenchState) → (IsTrue tells → b.file ≡ a.file) → b.cell_count ≡ a.cell_count
+    → IsSource tells source a → IsSource tells source b
 source_still tells (from.Job job goal) a b file count is = (is.0 ∙ sym count, λ told. subst (λ (f : List ℕ). StandsFor job.now f) (sym (file told)) (is.1 told))
 source_still tells (from.Cells image) a b file count is = tt
 
 -- bytes that are wanted of the same cells of the same file
-pub wanted_still : (tells : Bool) (source : Source) (place address : ℕ) (a b cells wanted : List ℕ) → (IsTrue tells → a ≡ b) → AreWanted tells source place address a cells wanted
+pub wanted_still : (tells : Bool) (source : Source) (place address : ℕ) (a b cells wanted : List ℕ) → (IsTrue tells → a ≡ b)
+    → AreWanted tells source place address a cells wanted
     → AreWanted tells source place address b cells wanted
 wanted_still tells (from.Job job goal) place address a b cells wanted same is = λ told.
     is told ∙ ap (λ (f : List ℕ). take (length cells) (drop place (goal_in job.now goal f))) (same told)
 wanted_still tells (from.Cells image) place address a b cells wanted same is = is
 
 -- the goal of a job that was read
-pub job_wanted : {T E : Type 0} (r : Result T E) (tells : Bool) (source : Source) (job : Bor Job) (goal : Goal) (place address n : ℕ) (file cells wanted : List ℕ) → source ≡ from.Job job goal → n ≡ length cells
+pub job_wanted : {T E : Type 0} (r : Result T E) (tells : Bool) (source : Source) (job : Bor Job) (goal : Goal) (place address n : ℕ)
+    (file cells wanted : List ℕ) → source ≡ from.Job job goal → n ≡ length cells
     → (IsTrue tells → OnOk r (wanted ≡ take n (drop place (goal_in job.now goal file)))) → OnOk r (AreWanted tells source place address file cells wanted)
 job_wanted (Ok v) tells source job goal place address n file cells wanted is same ok =
-    subst (λ (x : Source). AreWanted tells x place address file cells wanted) (sym is) (λ told. ok told ∙ ap (λ (k : ℕ). take k (drop place (goal_in job.now goal file))) same)
+    subst (λ (x : Source). AreWanted tells x place address file cells wanted) (sym is)
+    (λ told. ok told ∙ ap (λ (k : ℕ). take k (drop place (goal_in job.now goal file))) same)
 job_wanted (Err e) tells source job goal place address n file cells wanted is same ok = tt
 
 -- a place of a region is one of all cells
@@ -53,7 +58,8 @@ pub front_and : (start at n : ℕ) (xs : List ℕ) → take at (drop start xs) +
 front_and start at n xs = ap (λ (l : List ℕ). take at (drop start xs) ++ l) (shifted start at n xs) ∙ sym (take-add at n (drop start xs))
 
 -- the bytes that are wanted of cells, and of the cells behind them
-pub wanted_and : (tells : Bool) (source : Source) (place address at : ℕ) (file o w more more_wanted : List ℕ) → length o ≡ at → AreWanted tells source place address file o w
+pub wanted_and : (tells : Bool) (source : Source) (place address at : ℕ) (file o w more more_wanted : List ℕ)
+    → length o ≡ at → AreWanted tells source place address file o w
     → AreWanted tells source (place + at) (address + at) file more more_wanted → AreWanted tells source place address file (o ++ more) (w ++ more_wanted)
 wanted_and tells (from.Job job goal) place address at file o w more more_wanted long one two = λ told.
     let wanted = goal_in job.now goal file in
@@ -67,7 +73,8 @@ wanted_and tells (from.Cells image) place address at file o w more more_wanted l
     ∙ sym (over_append image.now address o more)
 
 -- the region was surveyed up to here
-pub record SurveyedTo (tells : Bool) (source : Source) (l : Geometry) (empty address start : ℕ) (before now : BenchState) (plan : PlanView) (cells wanted : List ℕ) (at : ℕ) : Type 0 where
+pub record SurveyedTo (tells : Bool) (source : Source) (l : Geometry) (empty address start : ℕ) (before now : BenchState) (plan : PlanView)
+    (cells wanted : List ℕ) (at : ℕ) : Type 0 where
   pub within : at ≤ l.size
   pub cells_room : length cells ≡ 4096
   pub wanted_room : length wanted ≡ 4096
@@ -88,7 +95,8 @@ pub record SurveyedTo (tells : Bool) (source : Source) (l : Geometry) (empty add
   pub device : now.device_faults ≡ before.device_faults
 
 -- the whole region was
-pub made_from : (tells : Bool) (source : Source) (w : Weights) (a : AlgorithmShown) (l : Geometry) (start : ℕ) (before now : BenchState) (plan : PlanView) (cells wanted : List ℕ) (at : ℕ) (made : Chosen)
+pub made_from : (tells : Bool) (source : Source) (w : Weights) (a : AlgorithmShown) (l : Geometry) (start : ℕ) (before now : BenchState) (plan : PlanView)
+    (cells wanted : List ℕ) (at : ℕ) (made : Chosen)
     → SurveyedTo tells source l a.device.empty a.device.base start before now plan cells wanted at → at ≡ a.device.size
     → ((o x : List ℕ) → Fed l a.device.empty plan o x → IsLeastPlan l w (is_some a.entries.erase_chip) a.device.empty o x made)
     → (IsTrue made.chip → IsTrue (is_some a.entries.erase_chip)) → IsMadeFrom tells source w a l start before made
@@ -113,7 +121,8 @@ none_wanted tells (from.Job job goal) place address file = λ told. refl
 none_wanted tells (from.Cells image) place address file = refl
 
 -- the work on a region whose plan was made
-pub part_after : {T E : Type 0} (r : Result T E) (a : AlgorithmShown) (old new : Part) → new.geometry ≡ old.geometry → new.base ≡ old.base → IsPartFor a old → OnOk r (Covers new.geometry new.plan)
+pub part_after : {T E : Type 0} (r : Result T E) (a : AlgorithmShown) (old new : Part) → new.geometry ≡ old.geometry → new.base ≡ old.base → IsPartFor a old
+    → OnOk r (Covers new.geometry new.plan)
     → OnOk r (IsPartFor a new)
 part_after (Ok v) a old new geometry base is room = record {
   layout = geometry ∙ is.layout;
@@ -127,7 +136,8 @@ part_after (Ok v) a old new geometry base is room = record {
 part_after (Err e) a old new geometry base is room = tt
 
 -- a plan to an image over the cells
-pub planned_over : (tells : Bool) (w : Weights) (image : Bor (List Run)) (a : AlgorithmShown) (s : BenchState) (p : Part) → IsMadeFrom tells (from.Cells image) w a p.geometry p.start s p.plan.made
+pub planned_over : (tells : Bool) (w : Weights) (image : Bor (List Run)) (a : AlgorithmShown) (s : BenchState) (p : Part)
+    → IsMadeFrom tells (from.Cells image) w a p.geometry p.start s p.plan.made
     → IsPlannedOver tells w image.now s.cells a p
 planned_over tells w image a s p made = record {
   cells = made.cells;

@@ -29,7 +29,8 @@ AreWanted tells (from.Cells image) place address file cells wanted = wanted ≡ 
 
 -- The plan is made from the cells of a region, as they were read, to what is wanted of them. Where the bench tells its cells they are these from
 -- the region's place on.
-pub record IsMadeFrom (tells : Bool) (source : Source) (w : Weights) (a : AlgorithmShown) (l : Geometry) (start : ℕ) (s : BenchState) (plan : Chosen) : Type 0 where
+pub record IsMadeFrom (tells : Bool) (source : Source) (w : Weights) (a : AlgorithmShown) (l : Geometry) (start : ℕ) (s : BenchState)
+    (plan : Chosen) : Type 0 where
   pub cells : List ℕ
   pub wanted : List ℕ
   pub long : length cells ≡ a.device.size

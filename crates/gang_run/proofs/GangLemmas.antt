@@ -1,5 +1,6 @@
 -- Turns of several targets, one after the other.
-use Rattle.std.proofs.Common.{◌≡◌, ◌≢◌, ◌<◌, ◌≤◌, ◌+◌, ◌∙◌, ◌↔◌, ◌⊎◌, inl, inr, ⊎_elim, ℕ, suc, Bool, true, false, IsTrue, List, [], ◌∷◌, ◌++◌, length, get_or, set, take, Option, Some, None, refl, sym, ap, subst, arith}
+use Rattle.std.proofs.Common.{◌≡◌, ◌≢◌, ◌<◌, ◌≤◌, ◌+◌, ◌∙◌, ◌↔◌, ◌⊎◌, inl, inr, ⊎_elim, ℕ, suc, Bool, true, false, IsTrue, List, [], ◌∷◌, ◌++◌, length, get_or}
+use Rattle.std.proofs.Common.{set, take, Option, Some, None, refl, sym, ap, subst, arith}
 use Rattle.std.specs.Borrow.{Bor}
 use Rattle.std.specs.List.{sum_by}
 use Rattle.std.proofs.lemmas.List.{get_or-set_other, get_or-set_same, length-set, get_or_read, take_more}
@@ -49,18 +50,27 @@ use Rattle.gang_run.specs.declared.gang.Gang.{Gang}
 use Rattle.gang_run.specs.declared.slot.Slot.{Slot}
 use Rattle.gang_run.specs.declared.slot.Slot.TheVariants as slot
 use Rattle.gang_run.specs.Alone.{EndsAlone}
-use Rattle.gang_run.specs.Gangs.{slot_at, OtherWindow, IsGang, gang_togo, AreReady, SameWindow, OneTurn, GivesTurn, GivesTurns, GivesRounds, one_round, rounds_of, AllSince, AllKept, Playing, Rounding}
-use Rattle.gang_run.specs.Slots.{slot_turn, slot_togo, place_end, slot_end, IsRefusal, EndsByScript, IsSlot, IsSlotJob, HasJob, Ready, IsReady, TargetTurns, SlotTurns, SlotTakes, Counts, TargetKept, SlotKept, SlotStands, TargetSince, SlotSince}
+use Rattle.gang_run.specs.Gangs.{slot_at, OtherWindow, IsGang, gang_togo, AreReady, SameWindow, OneTurn, GivesTurn, GivesTurns, GivesRounds, one_round}
+use Rattle.gang_run.specs.Gangs.{rounds_of, AllSince, AllKept, Playing, Rounding}
+use Rattle.gang_run.specs.Slots.{slot_turn, slot_togo, place_end, slot_end, IsRefusal, EndsByScript, IsSlot, IsSlotJob, HasJob, Ready, IsReady, TargetTurns}
+use Rattle.gang_run.specs.Slots.{SlotTurns, SlotTakes, Counts, TargetKept, SlotKept, SlotStands, TargetSince, SlotSince}
 
 -- ---- one target
 
 -- it stands as it did while its window is as it was
-pub stands_in : (a : Stand) (way : List Move) (goal : List ℕ) (x : Player) (arena arena' : List (List ℕ)) (b : BenchState) → window_of arena' x.window ≡ window_of arena x.window → StandsOn a way goal x arena b → StandsOn a way goal x arena' b
+pub stands_in : (a : Stand) (way : List Move) (goal : List ℕ) (x : Player) (arena arena' : List (List ℕ)) (b : BenchState)
+    → window_of arena' x.window ≡ window_of arena x.window → StandsOn a way goal x arena b → StandsOn a way goal x arena' b
 stands_in a way goal x arena arena' b same stands =
-    subst (λ (ram : List ℕ). Stands (legs_for x goal) goal (setup_now x) a way x.place x.made (point_in (with_ram x.calls.machine ram) b.cells) x.calls.machine.return_at b) (sym same) stands
+    subst (λ (ram : List ℕ). Stands (legs_for x goal) goal (setup_now x) a way x.place x.made (point_in (with_ram x.calls.machine ram) b.cells)
+    x.calls.machine.return_at b) (sym same) stands
 
-goes_in : (a : Stand) (way : List Move) (goal : List ℕ) (x : Player) (arena arena' : List (List ℕ)) (s t : BenchState) → window_of arena' x.window ≡ window_of arena x.window → GoesOn a way goal x arena s t → GoesOn a way goal x arena' s t
-goes_in a way goal x arena arena' s t same goes = record { more = goes.more; stands = stands_in a (way ++ goes.more) goal x arena arena' t same goes.stands; moments = goes.moments }
+goes_in : (a : Stand) (way : List Move) (goal : List ℕ) (x : Player) (arena arena' : List (List ℕ)) (s t : BenchState)
+    → window_of arena' x.window ≡ window_of arena x.window → GoesOn a way goal x arena s t → GoesOn a way goal x arena' s t
+goes_in a way goal x arena arena' s t same goes = record {
+  more = goes.more;
+  stands = stands_in a (way ++ goes.more) goal x arena arena' t same goes.stands;
+  moments = goes.moments;
+}
 
 -- a target has ended or not
 either_turn : (p : Place) → (turn_of p ≡ turn.Ended) ⊎ IsUnended p
@@ -92,20 +102,26 @@ no_fault (place.Ended e) going = absurd going
 
 counts_here : (p : Place) (s : BenchState) → IsUnended p → Counts p s s
 counts_here p s going = record {
-  device = subst (λ (b : Bool). IsCounted s.device_faults s.device_faults b) (sym (ap is_device_fault (no_fault p going))) (none_counted s.device_faults s.device_faults refl);
-  store = subst (λ (b : Bool). IsCounted s.store_faults s.store_faults b) (sym (ap is_store_fault (no_fault p going))) (none_counted s.store_faults s.store_faults refl);
+  device = subst (λ (b : Bool). IsCounted s.device_faults s.device_faults b) (sym (ap is_device_fault (no_fault p going)))
+      (none_counted s.device_faults s.device_faults refl);
+  store = subst (λ (b : Bool). IsCounted s.store_faults s.store_faults b) (sym (ap is_store_fault (no_fault p going)))
+      (none_counted s.store_faults s.store_faults refl);
 }
 
-counts_then : (tells : Bool) (x y : GangTarget) (arena arena' : List (List ℕ)) (s t u : BenchState) → IsUnended x.player.place → Counts x.player.place s t → TargetTurns tells x arena t y arena' u → Counts y.player.place s u
+counts_then : (tells : Bool) (x y : GangTarget) (arena arena' : List (List ℕ)) (s t u : BenchState) → IsUnended x.player.place → Counts x.player.place s t
+    → TargetTurns tells x arena t y arena' u → Counts y.player.place s u
 counts_then tells x y arena arena' s t u going was turns = record {
-  device = counted_then s.device_faults t.device_faults u.device_faults (is_device_fault (place_fault x.player.place)) (is_device_fault (place_fault y.player.place)) (ap is_device_fault (no_fault x.player.place going)) was.device turns.turns.device;
-  store = counted_then s.store_faults t.store_faults u.store_faults (is_store_fault (place_fault x.player.place)) (is_store_fault (place_fault y.player.place)) (ap is_store_fault (no_fault x.player.place going)) was.store turns.turns.store;
+  device = counted_then s.device_faults t.device_faults u.device_faults (is_device_fault (place_fault x.player.place))
+      (is_device_fault (place_fault y.player.place)) (ap is_device_fault (no_fault x.player.place going)) was.device turns.turns.device;
+  store = counted_then s.store_faults t.store_faults u.store_faults (is_store_fault (place_fault x.player.place)) (is_store_fault (place_fault y.player.place))
+      (ap is_store_fault (no_fault x.player.place going)) was.store turns.turns.store;
 }
 
 -- ---- one place, whose turn it is
 
 module _ {B : Type 0} (G : Ghosts B) (told : IsTrue G.tells) (a : Stand) (way : List Move) (s0 : BenchState) where
-  target_then : (x : GangTarget) (mid new : Slot) (arena arena' : List (List ℕ)) (bench bench' : B) → Law G → IsReady G.tells mid arena (G.state bench) → TargetSince a way x s0 mid arena (G.state bench) → SlotTurns G mid arena bench new arena' bench'
+  target_then : (x : GangTarget) (mid new : Slot) (arena arena' : List (List ℕ)) (bench bench' : B) → Law G → IsReady G.tells mid arena (G.state bench)
+      → TargetSince a way x s0 mid arena (G.state bench) → SlotTurns G mid arena bench new arena' bench'
       → TargetSince a way x s0 new arena' (G.state bench')
   target_then x mid new arena arena' bench bench' law ready since turns =
       let y : GangTarget = since.target in
@@ -119,7 +135,8 @@ module _ {B : Type 0} (G : Ghosts B) (told : IsTrue G.tells) (a : Stand) (way : 
         is = still.0;
         job = since.job;
         same = since.same;
-        goes = subst (λ (b : B). GoesOn a way goal y.player arena' s0 (G.state b)) (sym still.2) (subst (λ (l : List (List ℕ)). GoesOn a way goal y.player l s0 (G.state bench)) (sym still.1) since.goes);
+        goes = subst (λ (b : B). GoesOn a way goal y.player arena' s0 (G.state b)) (sym still.2)
+            (subst (λ (l : List (List ℕ)). GoesOn a way goal y.player l s0 (G.state bench)) (sym still.1) since.goes);
         file = λ going. absurd (over_going y.player.place ended going);
         files = subst (λ (b : B). history.GoesOn (file_half s0) (file_half (G.state b))) (sym still.2) since.files;
         guarded = λ body whole. subst (λ (b : B). Guarded body goal y.player.place s0 (G.state b)) (sym still.2) (since.guarded body whole);
@@ -129,8 +146,10 @@ module _ {B : Type 0} (G : Ghosts B) (told : IsTrue G.tells) (a : Stand) (way : 
       let went : (z : GangTarget) × (new ≡ slot.Target z) × TargetTurns G.tells y arena (G.state bench) z arena' (G.state bench') = now.goes going in
       let lawful : Ready G.tells y arena (G.state bench) = (subst (λ (m : Slot). IsReady G.tells m arena (G.state bench)) since.is ready) going in
       let same : goal_for y.job y.player (G.state bench).file ≡ goal =
-      ap (λ (j : Job). goal_for j y.player (G.state bench).file) since.job ∙ goal_same x.job x.player y.player (G.state bench).file since.same ∙ ap (λ (f : List ℕ). goal_for x.job x.player f) (since.file going) in
-      let turn = turns_to G.tells (goal_for y.job y.player (G.state bench).file) goal y.player went.0.player arena arena' (G.state bench) (G.state bench') (λ told. same) went.2.turns in
+      ap (λ (j : Job). goal_for j y.player (G.state bench).file) since.job ∙ goal_same x.job x.player y.player (G.state bench).file since.same
+      ∙ ap (λ (f : List ℕ). goal_for x.job x.player f) (since.file going) in
+      let turn = turns_to G.tells (goal_for y.job y.player (G.state bench).file) goal y.player went.0.player arena arena' (G.state bench) (G.state bench')
+      (λ told. same) went.2.turns in
       record {
         target = went.0;
         is = went.1;
@@ -138,15 +157,18 @@ module _ {B : Type 0} (G : Ghosts B) (told : IsTrue G.tells) (a : Stand) (way : 
         same = same_then x.player y.player went.0.player since.same went.2.turns.same;
         goes = goes_then G.tells told a way goal y.player went.0.player arena arena' s0 (G.state bench) (G.state bench') since.goes turn;
         file = λ still.
-            same_file G.tells told goal a (way ++ since.goes.more) y.player went.0.player arena arena' s0 (G.state bench) (G.state bench') [] lawful.fit (lawful.only told) (λ c. law bench c told) since.goes.stands turn still ∙ since.file going;
+            same_file G.tells told goal a (way ++ since.goes.more) y.player went.0.player arena arena' s0 (G.state bench) (G.state bench') [] lawful.fit
+            (lawful.only told) (λ c. law bench c told) since.goes.stands turn still ∙ since.file going;
         files = moments.goes_then since.files (files_on G.tells told y.player.place went.0.player.place (G.state bench) (G.state bench') went.2.turns.file);
         guarded = λ body whole.
-            guarded_then G.tells told goal a (way ++ since.goes.more) y.player went.0.player arena arena' s0 (G.state bench) (G.state bench') body lawful.fit (lawful.only told) (λ c. law bench c told) since.goes.stands turn going (since.guarded body whole);
+            guarded_then G.tells told goal a (way ++ since.goes.more) y.player went.0.player arena arena' s0 (G.state bench) (G.state bench') body lawful.fit
+            (lawful.only told) (λ c. law bench c told) since.goes.stands turn going (since.guarded body whole);
         counts = counts_then G.tells y went.0 arena arena' s0 (G.state bench) (G.state bench') going since.counts went.2;
       })
       (either_turn y.player.place)
 
-  pub since_then : (old mid new : Slot) (arena arena' : List (List ℕ)) (bench bench' : B) → Law G → IsReady G.tells mid arena (G.state bench) → SlotSince a way old s0 mid arena (G.state bench) → SlotTurns G mid arena bench new arena' bench'
+  pub since_then : (old mid new : Slot) (arena arena' : List (List ℕ)) (bench bench' : B) → Law G → IsReady G.tells mid arena (G.state bench)
+      → SlotSince a way old s0 mid arena (G.state bench) → SlotTurns G mid arena bench new arena' bench'
       → SlotSince a way old s0 new arena' (G.state bench')
   since_then (slot.Refused e) mid new arena arena' bench bench' law ready since turns =
       let now : SlotTurns G (slot.Refused e) arena bench new arena' bench' = subst (λ (m : Slot). SlotTurns G m arena bench new arena' bench') since turns in
@@ -155,10 +177,12 @@ module _ {B : Type 0} (G : Ghosts B) (told : IsTrue G.tells) (a : Stand) (way : 
 
   -- ---- one whose turn it is not
 
-  same_window : (y : GangTarget) (mid : Slot) (arena arena' : List (List ℕ)) → mid ≡ slot.Target y → SameWindow mid arena arena' → window_of arena' y.player.window ≡ window_of arena y.player.window
+  same_window : (y : GangTarget) (mid : Slot) (arena arena' : List (List ℕ)) → mid ≡ slot.Target y → SameWindow mid arena arena'
+      → window_of arena' y.player.window ≡ window_of arena y.player.window
   same_window y mid arena arena' is same = subst (λ (m : Slot). SameWindow m arena arena') is same
 
-  pub since_other : (old mid new : Slot) (arena arena' : List (List ℕ)) (bench bench' : B) → SlotSince a way old s0 mid arena (G.state bench) → new ≡ mid → bench' ≡ bench → SameWindow mid arena arena'
+  pub since_other : (old mid new : Slot) (arena arena' : List (List ℕ)) (bench bench' : B) → SlotSince a way old s0 mid arena (G.state bench) → new ≡ mid
+      → bench' ≡ bench → SameWindow mid arena arena'
       → SlotSince a way old s0 new arena' (G.state bench')
   since_other (slot.Refused e) mid new arena arena' bench bench' since same still window = same ∙ since
   since_other (slot.Target x) mid new arena arena' bench bench' since same still window =
@@ -169,7 +193,8 @@ module _ {B : Type 0} (G : Ghosts B) (told : IsTrue G.tells) (a : Stand) (way : 
         is = same ∙ since.is;
         job = since.job;
         same = since.same;
-        goes = subst (λ (b : B). GoesOn a way goal y.player arena' s0 (G.state b)) (sym still) (goes_in a way goal y.player arena arena' s0 (G.state bench) (same_window y mid arena arena' since.is window) since.goes);
+        goes = subst (λ (b : B). GoesOn a way goal y.player arena' s0 (G.state b)) (sym still)
+            (goes_in a way goal y.player arena arena' s0 (G.state bench) (same_window y mid arena arena' since.is window) since.goes);
         file = λ going. ap (λ (b : B). (G.state b).file) still ∙ since.file going;
         files = subst (λ (b : B). history.GoesOn (file_half s0) (file_half (G.state b))) (sym still) since.files;
         guarded = λ body whole. subst (λ (b : B). Guarded body goal y.player.place s0 (G.state b)) (sym still) (since.guarded body whole);
@@ -183,7 +208,8 @@ module _ {B : Type 0} (G : Ghosts B) where
   slot_kept (slot.Refused e) bench = (refl, refl)
   slot_kept (slot.Target x) bench = λ going. record { target = x; is = refl; job = refl; counts = counts_here x.player.place (G.state bench) going }
 
-  target_kept : (x : GangTarget) (mid new : Slot) (arena arena' : List (List ℕ)) (first bench bench' : B) → TargetKept x (G.state first) mid (G.state bench) → SlotTurns G mid arena bench new arena' bench'
+  target_kept : (x : GangTarget) (mid new : Slot) (arena arena' : List (List ℕ)) (first bench bench' : B) → TargetKept x (G.state first) mid (G.state bench)
+      → SlotTurns G mid arena bench new arena' bench'
       → TargetKept x (G.state first) new (G.state bench')
   target_kept x mid new arena arena' first bench bench' kept turns =
       let y : GangTarget = kept.target in
@@ -191,7 +217,13 @@ module _ {B : Type 0} (G : Ghosts B) where
       ⊎_elim
       (λ (ended : turn_of y.player.place ≡ turn.Ended).
       let still = now.ended ended in
-      record { target = y; is = still.0; job = kept.job; counts = subst (λ (b : B). Counts y.player.place (G.state first) (G.state b)) (sym still.2) kept.counts })
+      record {
+        target = y;
+        is = still.0;
+        job = kept.job;
+        counts = subst (λ (b : B). Counts y.player.place (G.state first) (G.state b))
+            (sym still.2) kept.counts;
+      })
       (λ (going : IsUnended y.player.place).
       let went : (z : GangTarget) × (new ≡ slot.Target z) × TargetTurns G.tells y arena (G.state bench) z arena' (G.state bench') = now.goes going in
       record {
@@ -202,12 +234,14 @@ module _ {B : Type 0} (G : Ghosts B) where
       })
       (either_turn y.player.place)
 
-  kept_then : (old mid new : Slot) (arena arena' : List (List ℕ)) (first bench bench' : B) → SlotKept G old first mid bench → SlotTurns G mid arena bench new arena' bench' → SlotKept G old first new bench'
+  kept_then : (old mid new : Slot) (arena arena' : List (List ℕ)) (first bench bench' : B) → SlotKept G old first mid bench
+      → SlotTurns G mid arena bench new arena' bench' → SlotKept G old first new bench'
   kept_then (slot.Refused e) mid new arena arena' first bench bench' kept turns =
       let now : SlotTurns G (slot.Refused e) arena bench new arena' bench' = subst (λ (m : Slot). SlotTurns G m arena bench new arena' bench') kept.0 turns in
       let still = now.ended refl in
       (still.0, still.2 ∙ kept.1)
-  kept_then (slot.Target x) mid new arena arena' first bench bench' kept turns = λ going. target_kept x mid new arena arena' first bench bench' (kept going) turns
+  kept_then (slot.Target x) mid new arena arena' first bench bench' kept turns =
+      λ going. target_kept x mid new arena arena' first bench bench' (kept going) turns
 
   kept_other : (old mid new : Slot) (first bench bench' : B) → SlotKept G old first mid bench → new ≡ mid → bench' ≡ bench → SlotKept G old first new bench'
   kept_other old mid new first bench bench' kept same still =
@@ -216,16 +250,21 @@ module _ {B : Type 0} (G : Ghosts B) where
   pub kept_here : (g : Gang) (benches : List B) → AllKept G g benches g benches
   kept_here g benches i d less = slot_kept (slot_at g i) (get_or benches i d)
 
-  pub kept_turn : (old mid new : Gang) (benches between after : List B) (target : ℕ) → AllKept G old benches mid between → OneTurn G target mid between new after → AllKept G old benches new after
+  pub kept_turn : (old mid new : Gang) (benches between after : List B) (target : ℕ) → AllKept G old benches mid between
+      → OneTurn G target mid between new after → AllKept G old benches new after
   kept_turn old mid new benches between after target kept turn i d less = ⊎_elim
-      (λ (at : i ≡ target). kept_then (slot_at old i) (slot_at mid i) (slot_at new i) mid.arena new.arena (get_or benches i d) (get_or between i d) (get_or after i d) (kept i d less)
+      (λ (at : i ≡ target). kept_then (slot_at old i) (slot_at mid i) (slot_at new i) mid.arena new.arena (get_or benches i d) (get_or between i d)
+      (get_or after i d) (kept i d less)
       (subst (λ (n : ℕ). SlotTurns G (slot_at mid n) mid.arena (get_or between n d) (slot_at new n) new.arena (get_or after n d)) (sym at) (turn.turns d)))
-      (λ (other : i ≢ target). kept_other (slot_at old i) (slot_at mid i) (slot_at new i) (get_or benches i d) (get_or between i d) (get_or after i d) (kept i d less) (turn.slots i other) (turn.others i d other))
+      (λ (other : i ≢ target). kept_other (slot_at old i) (slot_at mid i) (slot_at new i) (get_or benches i d) (get_or between i d) (get_or after i d)
+      (kept i d less) (turn.slots i other) (turn.others i d other))
       (cases_eq i target)
 
 -- a target whose turn it was
-pub slot_went : {B : Type 0} (G : Ghosts B) (self : Slot) (x y : GangTarget) (t : Turn) (arena arena' : List (List ℕ)) (bench bench' : B) → self ≡ slot.Target x → t ≡ turn_of x.player.place → t ≡ turn.More
-    → y.job ≡ x.job → Turns G.tells (goal_for x.job x.player (G.state bench).file) x.player arena (G.state bench) y.player arena' (G.state bench') → SlotTurns G self arena bench (slot.Target y) arena' bench'
+pub slot_went : {B : Type 0} (G : Ghosts B) (self : Slot) (x y : GangTarget) (t : Turn) (arena arena' : List (List ℕ)) (bench bench' : B) → self ≡ slot.Target x
+    → t ≡ turn_of x.player.place → t ≡ turn.More
+    → y.job ≡ x.job → Turns G.tells (goal_for x.job x.player (G.state bench).file) x.player arena (G.state bench) y.player arena' (G.state bench')
+    → SlotTurns G self arena bench (slot.Target y) arena' bench'
 slot_went {B} G self x y t arena arena' bench bench' is state more job went =
     let P : Slot → Type 0 = λ z. SlotTurns G z arena bench (slot.Target y) arena' bench' in
     subst P (sym is) (record {
@@ -233,13 +272,18 @@ slot_went {B} G self x y t arena arena' bench bench' is state more job went =
       goes = λ going. (y, refl, record { job = job; turns = went });
     })
 
-pub slot_took : (tells : Bool) (steps : ℕ) (self : Slot) (x y : GangTarget) (arena arena' : List (List ℕ)) (s t : BenchState) → self ≡ slot.Target x → TakesOn steps s.cell_count x.player.place y.player.place → SliceOf tells (goal_for x.job x.player s.file) steps x.player.place x.player arena s y.player arena' t
+pub slot_took : (tells : Bool) (steps : ℕ) (self : Slot) (x y : GangTarget) (arena arena' : List (List ℕ)) (s t : BenchState) → self ≡ slot.Target x
+    → TakesOn steps s.cell_count x.player.place y.player.place
+    → SliceOf tells (goal_for x.job x.player s.file) steps x.player.place x.player arena s y.player arena' t
     → SlotTakes tells steps self arena s (slot.Target y) arena' t
-slot_took tells steps self x y arena arena' s t is takes slices = subst (λ (z : Slot). SlotTakes tells steps z arena s (slot.Target y) arena' t) (sym is) (λ going. (y, refl, takes, slices))
+slot_took tells steps self x y arena arena' s t is takes slices = subst (λ (z : Slot). SlotTakes tells steps z arena s (slot.Target y) arena' t) (sym is)
+    (λ going. (y, refl, takes, slices))
 
 -- one that has ended does nothing
-pub slot_rests : (tells : Bool) (steps : ℕ) (self new : Slot) (x : GangTarget) (state : Turn) (arena arena' : List (List ℕ)) (s t : BenchState) → self ≡ slot.Target x → state ≡ turn_of x.player.place → state ≡ turn.Ended → SlotTakes tells steps self arena s new arena' t
-slot_rests tells steps self new x state arena arena' s t is shown over = subst (λ (z : Slot). SlotTakes tells steps z arena s new arena' t) (sym is) (λ going. absurd (over_going x.player.place (sym shown ∙ over) going))
+pub slot_rests : (tells : Bool) (steps : ℕ) (self new : Slot) (x : GangTarget) (state : Turn) (arena arena' : List (List ℕ)) (s t : BenchState)
+    → self ≡ slot.Target x → state ≡ turn_of x.player.place → state ≡ turn.Ended → SlotTakes tells steps self arena s new arena' t
+slot_rests tells steps self new x state arena arena' s t is shown over = subst (λ (z : Slot). SlotTakes tells steps z arena s new arena' t) (sym is)
+    (λ going. absurd (over_going x.player.place (sym shown ∙ over) going))
 
 going_of : (p : Place) → turn_of p ≡ turn.More → IsUnended p
 going_of (place.At c) more = tt
@@ -305,29 +349,34 @@ module _ {B : Type 0} (G : Ghosts B) (arena arena' : List (List ℕ)) (bench ben
   other_window (slot.Refused e) y (slot.Target z) turns other = same_ram z.player.window (turns.ended refl).1
   other_window (slot.Target x) y (slot.Target z) turns other = ⊎_elim
       (λ (over : turn_of x.player.place ≡ turn.Ended). same_ram z.player.window (turns.ended over).1)
-      (λ (going : IsUnended x.player.place). other_stays arena arena' x.player.window z.player.window (turns.goes going).2.turns.only (λ same. other (sym same)))
+      (λ (going : IsUnended x.player.place). other_stays arena arena' x.player.window z.player.window (turns.goes going).2.turns.only
+      (λ same. other (sym same)))
       (either_turn x.player.place)
 
   pub slot_nearer : (x y : Slot) → Turned x y → slot_turn x ≡ turn.More → slot_togo y < slot_togo x
   slot_nearer (slot.Refused e) y turns more = cc
-  slot_nearer (slot.Target x) y turns more = let went = turns.goes (going_of x.player.place more) in subst (λ (m : Slot). slot_togo m < togo x.player) (sym went.1) went.2.turns.nearer
+  slot_nearer (slot.Target x) y turns more = let went = turns.goes (going_of x.player.place more) in
+      subst (λ (m : Slot). slot_togo m < togo x.player) (sym went.1) went.2.turns.nearer
 
   pub slot_no_further : (x y : Slot) → Turned x y → slot_togo y ≤ slot_togo x
   slot_no_further (slot.Refused e) y turns = subst (λ (m : Slot). slot_togo m ≤ 0) (sym (turns.ended refl).0) (omega arith)
   slot_no_further (slot.Target x) y turns = ⊎_elim
       (λ (over : turn_of x.player.place ≡ turn.Ended). subst (λ (m : Slot). slot_togo m ≤ togo x.player) (sym (turns.ended over).0) (omega arith))
-      (λ (going : IsUnended x.player.place). let went = turns.goes going in subst (λ (m : Slot). slot_togo m ≤ togo x.player) (sym went.1) (omega (arith, went.2.turns.nearer)))
+      (λ (going : IsUnended x.player.place). let went = turns.goes going in
+      subst (λ (m : Slot). slot_togo m ≤ togo x.player) (sym went.1) (omega (arith, went.2.turns.nearer)))
       (either_turn x.player.place)
 
   -- a target that goes on leaves the file alone
-  still_ready : (x y : GangTarget) (s t : BenchState) → Ready G.tells x arena s → TargetTurns G.tells x arena s y arena' t → IsUnended y.player.place → Ready G.tells y arena' t
+  still_ready : (x y : GangTarget) (s t : BenchState) → Ready G.tells x arena s → TargetTurns G.tells x arena s y arena' t → IsUnended y.player.place
+      → Ready G.tells y arena' t
   still_ready x y s t ready turns going = by_place x.player.place refl
     where
       by_read : FileIsRead G.tells s t → Ready G.tells y arena' t
       by_read read = record {
         fit = turns.turns.fit;
         size = ap (λ (j : Job). size_of j.board.regions) turns.job ∙ ready.size ∙ sym (size_same x.player y.player turns.turns.same);
-        stands = λ told. subst (λ (f : List ℕ). StandsFor y.job f) (sym (read.file told)) (subst (λ (k : Job). StandsFor k s.file) (sym turns.job) (ready.stands told));
+        stands = λ told. subst (λ (f : List ℕ). StandsFor y.job f) (sym (read.file told))
+            (subst (λ (k : Job). StandsFor k s.file) (sym turns.job) (ready.stands told));
         only = λ told. subst (λ (f : List ℕ). LeftOnly f (file_half t)) (sym (read.file told)) (still_only s.file read.moments (ready.only told));
       }
 
@@ -355,20 +404,24 @@ module _ {B : Type 0} (G : Ghosts B) (arena arena' : List (List ℕ)) (bench ben
       (λ (over : turn_of x.player.place ≡ turn.Ended). subst IsSlot (sym (turns.ended over).0) is)
       (λ (going : IsUnended x.player.place).
       let went = turns.goes going in
-      subst IsSlot (sym went.1) (place_lawful (has_second went.0.player) went.0.player.second went.0.player.place (size_for went.0.player) (G.state bench') went.2.turns.fit.place))
+      subst IsSlot (sym went.1) (place_lawful (has_second went.0.player) went.0.player.second went.0.player.place (size_for went.0.player)
+      (G.state bench') went.2.turns.fit.place))
       (either_turn x.player.place)
 
   pub ready_then : (x y : Slot) → IsReady G.tells x arena (G.state bench) → Turned x y → IsReady G.tells y arena' (G.state bench')
   ready_then (slot.Refused e) y ready turns = subst (λ (m : Slot). IsReady G.tells m arena' (G.state bench')) (sym (turns.ended refl).0) tt
   ready_then (slot.Target x) y ready turns = ⊎_elim
-      (λ (over : turn_of x.player.place ≡ turn.Ended). subst (λ (m : Slot). IsReady G.tells m arena' (G.state bench')) (sym (turns.ended over).0) (λ going. absurd (over_going x.player.place over going)))
+      (λ (over : turn_of x.player.place ≡ turn.Ended). subst (λ (m : Slot). IsReady G.tells m arena' (G.state bench')) (sym (turns.ended over).0)
+      (λ going. absurd (over_going x.player.place over going)))
       (λ (going : IsUnended x.player.place).
       let went = turns.goes going in
-      subst (λ (m : Slot). IsReady G.tells m arena' (G.state bench')) (sym went.1) (λ still. still_ready x went.0 (G.state bench) (G.state bench') (ready going) went.2 still))
+      subst (λ (m : Slot). IsReady G.tells m arena' (G.state bench')) (sym went.1)
+      (λ still. still_ready x went.0 (G.state bench) (G.state bench') (ready going) went.2 still))
       (either_turn x.player.place)
 
 -- a target whose turn it isn't
-fit_in : (tells : Bool) (x : Player) (arena arena' : List (List ℕ)) (b : BenchState) → window_of arena' x.window ≡ window_of arena x.window → length arena' ≡ length arena → Fit tells x arena b → Fit tells x arena' b
+fit_in : (tells : Bool) (x : Player) (arena arena' : List (List ℕ)) (b : BenchState) → window_of arena' x.window ≡ window_of arena x.window
+    → length arena' ≡ length arena → Fit tells x arena b → Fit tells x arena' b
 fit_in tells x arena arena' b same count fit = record {
   scripted = fit.scripted;
   fits = (omega (arith, count, fit.fits.0), ap (λ (l : List ℕ). length l) same ∙ fit.fits.1);
@@ -379,13 +432,16 @@ fit_in tells x arena arena' b same count fit = record {
   room = fit.room;
 }
 
-pub ready_other : (tells : Bool) (q : Slot) (arena arena' : List (List ℕ)) (b : BenchState) → SameWindow q arena arena' → length arena' ≡ length arena → IsReady tells q arena b → IsReady tells q arena' b
+pub ready_other : (tells : Bool) (q : Slot) (arena arena' : List (List ℕ)) (b : BenchState) → SameWindow q arena arena' → length arena' ≡ length arena
+    → IsReady tells q arena b → IsReady tells q arena' b
 ready_other tells (slot.Refused e) arena arena' b same count ready = tt
-ready_other tells (slot.Target x) arena arena' b same count ready = λ going. let r = ready going in record { fit = fit_in tells x.player arena arena' b same count r.fit; size = r.size; stands = r.stands; only = r.only }
+ready_other tells (slot.Target x) arena arena' b same count ready = λ going. let r = ready going in
+    record { fit = fit_in tells x.player arena arena' b same count r.fit; size = r.size; stands = r.stands; only = r.only }
 
 -- ---- a whole gang
 
-module _ {B : Type 0} (G : Ghosts B) (old new : Gang) (benches : List B) (i : ℕ) (x y : Slot) (b b' : B) (within : i < length old.slots.items) (inside : i < length benches)
+module _ {B : Type 0} (G : Ghosts B) (old new : Gang) (benches : List B) (i : ℕ) (x y : Slot) (b b' : B) (within : i < length old.slots.items)
+    (inside : i < length benches)
     (is_slot : x ≡ get_or old.slots.items i x) (is_bench : b ≡ get_or benches i b) (slots : new.slots.items ≡ set old.slots.items i y)
     (turns : SlotTurns G x old.arena b y new.arena b') (gang : IsGang old) where
   abbrev benches' : List B
@@ -398,13 +454,15 @@ module _ {B : Type 0} (G : Ghosts B) (old new : Gang) (benches : List B) (i : �
   bench_was d = sym (get_or_read benches i b inside is_bench d)
 
   slot_is : slot_at new i ≡ y
-  slot_is = ap (λ (l : List Slot). get_or l i (slot.Refused (ended.Survey survey.StoreFault))) slots ∙ get_or-set_same old.slots.items i y (slot.Refused (ended.Survey survey.StoreFault)) within
+  slot_is = ap (λ (l : List Slot). get_or l i (slot.Refused (ended.Survey survey.StoreFault))) slots
+      ∙ get_or-set_same old.slots.items i y (slot.Refused (ended.Survey survey.StoreFault)) within
 
   bench_is : (d : B) → get_or benches' i d ≡ b'
   bench_is d = get_or-set_same benches i b' d inside
 
   slot_other : (j : ℕ) → j ≢ i → slot_at new j ≡ slot_at old j
-  slot_other j other = ap (λ (l : List Slot). get_or l j (slot.Refused (ended.Survey survey.StoreFault))) slots ∙ get_or-set_other old.slots.items i j y (slot.Refused (ended.Survey survey.StoreFault)) other
+  slot_other j other = ap (λ (l : List Slot). get_or l j (slot.Refused (ended.Survey survey.StoreFault))) slots
+      ∙ get_or-set_other old.slots.items i j y (slot.Refused (ended.Survey survey.StoreFault)) other
 
   bench_other : (j : ℕ) (d : B) → j ≢ i → get_or benches' j d ≡ get_or benches j d
   bench_other j d other = get_or-set_other benches i j b' d other
@@ -416,7 +474,8 @@ module _ {B : Type 0} (G : Ghosts B) (old new : Gang) (benches : List B) (i : �
   window_other j other = other_window G old.arena new.arena b b' x y (slot_at old j) turns (apart_was j other)
 
   sums : gang_togo new + slot_togo x ≡ gang_togo old + slot_togo y
-  sums = ap (λ (l : List Slot). sum_by slot_togo l + slot_togo x) slots ∙ ap (λ (m : Slot). sum_by slot_togo (set old.slots.items i y) + slot_togo m) (sym slot_was)
+  sums = ap (λ (l : List Slot). sum_by slot_togo l + slot_togo x) slots
+      ∙ ap (λ (m : Slot). sum_by slot_togo (set old.slots.items i y) + slot_togo m) (sym slot_was)
       ∙ sum_by-set slot_togo old.slots.items i y (slot.Refused (ended.Survey survey.StoreFault)) within
 
   turned_at : (d : B) → SlotTurns G (slot_at old i) old.arena (get_or benches i d) (slot_at new i) new.arena (get_or benches' i d)
@@ -429,7 +488,8 @@ module _ {B : Type 0} (G : Ghosts B) (old new : Gang) (benches : List B) (i : �
   pub takes_at : (steps : ℕ) → SlotTakes G.tells steps x old.arena (G.state b) y new.arena (G.state b') → (d : B)
       → SlotTakes G.tells steps (slot_at old i) old.arena (G.state (get_or benches i d)) (slot_at new i) new.arena (G.state (get_or benches' i d))
   takes_at steps takes d =
-      subst (λ (m : Slot). SlotTakes G.tells steps m old.arena (G.state (get_or benches i d)) (slot_at new i) new.arena (G.state (get_or benches' i d))) (sym slot_was)
+      subst (λ (m : Slot). SlotTakes G.tells steps m old.arena (G.state (get_or benches i d)) (slot_at new i) new.arena (G.state (get_or benches' i d)))
+      (sym slot_was)
       (subst (λ (c : B). SlotTakes G.tells steps x old.arena (G.state c) (slot_at new i) new.arena (G.state (get_or benches' i d))) (sym (bench_was d))
       (subst (λ (m : Slot). SlotTakes G.tells steps x old.arena (G.state b) m new.arena (G.state (get_or benches' i d))) (sym slot_is)
       (subst (λ (c : B). SlotTakes G.tells steps x old.arena (G.state b) y new.arena (G.state c)) (sym (bench_is d)) takes)))
@@ -461,13 +521,15 @@ module _ {B : Type 0} (G : Ghosts B) (old new : Gang) (benches : List B) (i : �
       subst (λ (m : Slot). OtherWindow (slot_at new j) m) (sym (ap (slot_at new) at_k ∙ slot_is))
       (subst (λ (m : Slot). OtherWindow m y) (sym (slot_other j not_j))
       (other_right (slot_at old j) x y kept (subst (λ (m : Slot). OtherWindow (slot_at old j) m) slot_was (gang.apart j i not_j)))))
-      (λ (not_k : k ≢ i). subst (λ (m : Slot). OtherWindow m (slot_at new k)) (sym (slot_other j not_j)) (subst (λ (m : Slot). OtherWindow (slot_at old j) m) (sym (slot_other k not_k)) (gang.apart j k other)))
+      (λ (not_k : k ≢ i). subst (λ (m : Slot). OtherWindow m (slot_at new k)) (sym (slot_other j not_j))
+      (subst (λ (m : Slot). OtherWindow (slot_at old j) m) (sym (slot_other k not_k)) (gang.apart j k other)))
       (cases_eq k i))
       (cases_eq j i)
 
   slots_now : (j : ℕ) → IsSlot (slot_at new j)
   slots_now j = ⊎_elim
-      (λ (at : j ≡ i). subst IsSlot (sym (ap (slot_at new) at ∙ slot_is)) (slot_lawful G old.arena new.arena b b' x y (subst IsSlot slot_was (gang.slots i)) turns))
+      (λ (at : j ≡ i). subst IsSlot (sym (ap (slot_at new) at ∙ slot_is))
+      (slot_lawful G old.arena new.arena b b' x y (subst IsSlot slot_was (gang.slots i)) turns))
       (λ (other : j ≢ i). subst IsSlot (sym (slot_other j other)) (gang.slots j))
       (cases_eq j i)
 
@@ -480,11 +542,13 @@ module _ {B : Type 0} (G : Ghosts B) (old new : Gang) (benches : List B) (i : �
       subst (λ (m : Slot). IsReady G.tells m new.arena (G.state (get_or benches' j d))) (sym (ap (slot_at new) at ∙ slot_is))
       (subst (λ (c : B). IsReady G.tells y new.arena (G.state c)) (sym (ap (λ (n : ℕ). get_or benches' n d) at ∙ bench_is d))
       (ready_then G old.arena new.arena b b' x y
-      (subst (λ (m : Slot). IsReady G.tells m old.arena (G.state b)) slot_was (subst (λ (c : B). IsReady G.tells (slot_at old i) old.arena (G.state c)) (bench_was d) (ready i d inside))) turns)))
+      (subst (λ (m : Slot). IsReady G.tells m old.arena (G.state b)) slot_was
+      (subst (λ (c : B). IsReady G.tells (slot_at old i) old.arena (G.state c)) (bench_was d) (ready i d inside))) turns)))
       (λ (other : j ≢ i).
       subst (λ (m : Slot). IsReady G.tells m new.arena (G.state (get_or benches' j d))) (sym (slot_other j other))
       (subst (λ (c : B). IsReady G.tells (slot_at old j) new.arena (G.state c)) (sym (bench_other j d other))
-      (ready_other G.tells (slot_at old j) old.arena new.arena (G.state (get_or benches j d)) (window_other j other) (keeps_count G old.arena new.arena b b' x y turns) (ready j d (omega (arith, less, length-set benches i b'))))))
+      (ready_other G.tells (slot_at old j) old.arena new.arena (G.state (get_or benches j d)) (window_other j other)
+      (keeps_count G old.arena new.arena b b' x y turns) (ready j d (omega (arith, less, length-set benches i b'))))))
       (cases_eq j i)
 
 -- ---- turns, one after the other
@@ -493,7 +557,8 @@ pub since_here : {B : Type 0} (G : Ghosts B) (g : Gang) (benches : List B) → L
     → AreReady G g benches → AllSince G g benches g benches
 since_here {B} G g benches law ready i d a way less told stands = first (slot_at g i) (ready i d less) stands
   where
-    first : (x : Slot) → IsReady G.tells x g.arena (G.state (get_or benches i d)) → SlotStands a way x g.arena (G.state (get_or benches i d)) → SlotSince a way x (G.state (get_or benches i d)) x g.arena (G.state (get_or benches i d))
+    first : (x : Slot) → IsReady G.tells x g.arena (G.state (get_or benches i d)) → SlotStands a way x g.arena (G.state (get_or benches i d))
+        → SlotSince a way x (G.state (get_or benches i d)) x g.arena (G.state (get_or benches i d))
     first (slot.Refused e) lawful stands = refl
     first (slot.Target x) lawful stands =
         let s = G.state (get_or benches i d) in
@@ -502,23 +567,28 @@ since_here {B} G g benches law ready i d a way less told stands = first (slot_at
           is = refl;
           job = refl;
           same = same_here x.player;
-          goes = goes_here G.tells told a way (goal_for x.job x.player s.file) x.player g.arena s stands.0 (lawful stands.0).fit (λ c. law (get_or benches i d) c told) stands.1;
+          goes = goes_here G.tells told a way (goal_for x.job x.player s.file) x.player g.arena s stands.0 (lawful stands.0).fit
+              (λ c. law (get_or benches i d) c told) stands.1;
           file = λ going. refl;
           files = moments.goes_here (file_half s);
           guarded = λ body whole. guarded_here body (goal_for x.job x.player s.file) x.player.place s stands.0 whole ((lawful stands.0).only told);
           counts = counts_here x.player.place s stands.0;
         }
 
-pub since_turn : {B : Type 0} (G : Ghosts B) (old mid new : Gang) (benches between after : List B) (target : ℕ) → length between ≡ length benches → Law G → AreReady G mid between → AllSince G old benches mid between → OneTurn G target mid between new after → AllSince G old benches new after
+pub since_turn : {B : Type 0} (G : Ghosts B) (old mid new : Gang) (benches between after : List B) (target : ℕ) → length between ≡ length benches → Law G
+    → AreReady G mid between → AllSince G old benches mid between → OneTurn G target mid between new after → AllSince G old benches new after
 since_turn {B} G old mid new benches between after target long law ready since turn i d a way less told stands =
     let was = since i d a way less told stands in
     let s0 = G.state (get_or benches i d) in ⊎_elim
-    (λ (at : i ≡ target). since_then G told a way s0 (slot_at old i) (slot_at mid i) (slot_at new i) mid.arena new.arena (get_or between i d) (get_or after i d) law (ready i d (omega (arith, less, long))) was
+    (λ (at : i ≡ target). since_then G told a way s0 (slot_at old i) (slot_at mid i) (slot_at new i) mid.arena new.arena (get_or between i d)
+    (get_or after i d) law (ready i d (omega (arith, less, long))) was
     (subst (λ (n : ℕ). SlotTurns G (slot_at mid n) mid.arena (get_or between n d) (slot_at new n) new.arena (get_or after n d)) (sym at) (turn.turns d)))
-    (λ (other : i ≢ target). since_other G told a way s0 (slot_at old i) (slot_at mid i) (slot_at new i) mid.arena new.arena (get_or between i d) (get_or after i d) was (turn.slots i other) (turn.others i d other) (turn.windows i other))
+    (λ (other : i ≢ target). since_other G told a way s0 (slot_at old i) (slot_at mid i) (slot_at new i) mid.arena new.arena (get_or between i d)
+    (get_or after i d) was (turn.slots i other) (turn.others i d other) (turn.windows i other))
     (cases_eq i target)
 
-pub playing_on : {B : Type 0} (G : Ghosts B) (old mid new : Gang) (benches between after : List B) (target : ℕ) → Law G → Playing G old benches mid between → OneTurn G target mid between new after → IsGang new → AreReady G new after
+pub playing_on : {B : Type 0} (G : Ghosts B) (old mid new : Gang) (benches between after : List B) (target : ℕ) → Law G → Playing G old benches mid between
+    → OneTurn G target mid between new after → IsGang new → AreReady G new after
     → Playing G old benches new after
 playing_on G old mid new benches between after target law was turn gang ready = record {
   gang = gang;
@@ -531,25 +601,38 @@ playing_on G old mid new benches between after target law was turn gang ready = 
 
 pub playing_here : {B : Type 0} (G : Ghosts B) (g : Gang) (benches : List B) → Law G
     → IsGang g → length benches ≡ length g.slots.items → AreReady G g benches → Playing G g benches g benches
-playing_here G g benches law gang places ready = record { gang = gang; places = places; count = refl; ready = ready; since = since_here G g benches law ready; kept = kept_here G g benches }
+playing_here G g benches law gang places ready = record {
+  gang = gang;
+  places = places;
+  count = refl;
+  ready = ready;
+  since = since_here G g benches law ready;
+  kept = kept_here G g benches;
+}
 
 -- with others behind them
-gives_both : {B : Type 0} (G : Ghosts B) (asked more : List Asked) (old mid new : Gang) (benches between after : List B) → GivesTurns G asked old benches mid between → GivesTurns G more mid between new after
+gives_both : {B : Type 0} (G : Ghosts B) (asked more : List Asked) (old mid new : Gang) (benches between after : List B)
+    → GivesTurns G asked old benches mid between → GivesTurns G more mid between new after
     → GivesTurns G (asked ++ more) old benches new after
 gives_both {B} G [] more old mid new benches between after was then =
     subst (λ (g : Gang). GivesTurns G more g benches new after) was.0 (subst (λ (b : List B). GivesTurns G more mid b new after) was.1 then)
-gives_both G (first ∷ rest) more old mid new benches between after was then = (was.0, was.1, was.2, gives_both G rest more was.0 mid new was.1 between after was.3 then)
+gives_both G (first ∷ rest) more old mid new benches between after was then =
+    (was.0, was.1, was.2, gives_both G rest more was.0 mid new was.1 between after was.3 then)
 
 -- with one turn more behind them
-gives_then : {B : Type 0} (G : Ghosts B) (asked : List Asked) (next : Asked) (old mid new : Gang) (benches between after : List B) → GivesTurns G asked old benches mid between → GivesTurn G next mid between new after
+gives_then : {B : Type 0} (G : Ghosts B) (asked : List Asked) (next : Asked) (old mid new : Gang) (benches between after : List B)
+    → GivesTurns G asked old benches mid between → GivesTurn G next mid between new after
     → GivesTurns G (asked ++ next ∷ []) old benches new after
-gives_then G asked next old mid new benches between after was one = gives_both G asked (next ∷ []) old mid new benches between after was (new, after, one, (refl, refl))
+gives_then G asked next old mid new benches between after was one = gives_both G asked (next ∷ []) old mid new benches between after was
+    (new, after, one, (refl, refl))
 
 -- with the next of those that are asked for
-pub gives_on : {B : Type 0} (G : Ghosts B) (asked : List Asked) (i : ℕ) (d : Asked) (old mid new : Gang) (benches between after : List B) → i < length asked → GivesTurns G (take i asked) old benches mid between
+pub gives_on : {B : Type 0} (G : Ghosts B) (asked : List Asked) (i : ℕ) (d : Asked) (old mid new : Gang) (benches between after : List B) → i < length asked
+    → GivesTurns G (take i asked) old benches mid between
     → GivesTurn G (get_or asked i d) mid between new after → GivesTurns G (take (i + 1) asked) old benches new after
 gives_on G asked i d old mid new benches between after less was one =
-    subst (λ (l : List Asked). GivesTurns G l old benches new after) (sym (take_more asked i d less)) (gives_then G (take i asked) (get_or asked i d) old mid new benches between after was one)
+    subst (λ (l : List Asked). GivesTurns G l old benches new after) (sym (take_more asked i d less))
+    (gives_then G (take i asked) (get_or asked i d) old mid new benches between after was one)
 
 -- ---- a round
 
@@ -557,7 +640,8 @@ more_or_ended : (t : Turn) → (t ≡ turn.More) ⊎ (t ≡ turn.Ended)
 more_or_ended turn.More = inl refl
 more_or_ended turn.Ended = inr refl
 
-pub round_here : {B : Type 0} (G : Ghosts B) (g : Gang) (benches : List B) → IsGang g → length benches ≡ length g.slots.items → AreReady G g benches → Rounding G g benches g benches 0 false
+pub round_here : {B : Type 0} (G : Ghosts B) (g : Gang) (benches : List B) → IsGang g → length benches ≡ length g.slots.items → AreReady G g benches
+    → Rounding G g benches g benches 0 false
 round_here G g benches gang places ready = record {
   gang = gang;
   places = places;
@@ -569,8 +653,10 @@ round_here G g benches gang places ready = record {
   ended = λ off i less. absurd (omega (arith, less));
 }
 
-pub round_on : {B : Type 0} (G : Ghosts B) (old mid new : Gang) (benches between after : List B) (target : ℕ) (before now : Bool) (t : Turn) → Law G → Rounding G old benches mid between target before → OneTurn G target mid between new after
-    → IsGang new → AreReady G new after → t ≡ slot_turn (slot_at new target) → (t ≡ turn.More → now ≡ true) → (t ≡ turn.Ended → now ≡ before) → Rounding G old benches new after (target + 1) now
+pub round_on : {B : Type 0} (G : Ghosts B) (old mid new : Gang) (benches between after : List B) (target : ℕ) (before now : Bool) (t : Turn) → Law G
+    → Rounding G old benches mid between target before → OneTurn G target mid between new after
+    → IsGang new → AreReady G new after → t ≡ slot_turn (slot_at new target) → (t ≡ turn.More → now ≡ true) → (t ≡ turn.Ended → now ≡ before)
+    → Rounding G old benches new after (target + 1) now
 round_on {B} G old mid new benches between after target before now t law was one gang ready is on off = record {
   gang = gang;
   places = one.count ∙ was.places ∙ sym one.places;
@@ -601,18 +687,22 @@ round_on {B} G old mid new benches between after target before now t law was one
         below i less other = ⊎_elim (λ (l : i < target). l) (λ (l : target ≤ i). absurd (other (omega (arith, l, less)))) (cases_lt i target)
 
 -- one turn more of a round
-pub round_then : {B : Type 0} (G : Ghosts B) (steps target : ℕ) (old mid new : Gang) (benches between after : List B) → GivesTurns G (one_round steps target) old benches mid between → GivesTurn G (record { target = target; steps = steps }) mid between new after
+pub round_then : {B : Type 0} (G : Ghosts B) (steps target : ℕ) (old mid new : Gang) (benches between after : List B)
+    → GivesTurns G (one_round steps target) old benches mid between → GivesTurn G (record { target = target; steps = steps }) mid between new after
     → GivesTurns G (one_round steps (target + 1)) old benches new after
 round_then G steps target old mid new benches between after was one =
     let next : suc target ≡ target + 1 = omega arith in
-    subst (λ (n : ℕ). GivesTurns G (one_round steps n) old benches new after) next (gives_then G (one_round steps target) (record { target = target; steps = steps }) old mid new benches between after was one)
+    subst (λ (n : ℕ). GivesTurns G (one_round steps n) old benches new after) next
+    (gives_then G (one_round steps target) (record { target = target; steps = steps }) old mid new benches between after was one)
 
 -- one round more
-pub round_more : {B : Type 0} (G : Ghosts B) (steps : ℕ) (old mid new : Gang) (benches between after : List B) → length between ≡ length benches → GivesRounds G steps old benches mid between
+pub round_more : {B : Type 0} (G : Ghosts B) (steps : ℕ) (old mid new : Gang) (benches between after : List B) → length between ≡ length benches
+    → GivesRounds G steps old benches mid between
     → GivesTurns G (one_round steps (length between)) mid between new after → GivesRounds G steps old benches new after
 round_more G steps old mid new benches between after count was round = (
   suc was.0,
-  gives_both G (rounds_of steps (length benches) was.0) (one_round steps (length benches)) old mid new benches between after was.1 (subst (λ (n : ℕ). GivesTurns G (one_round steps n) mid between new after) count round),
+  gives_both G (rounds_of steps (length benches) was.0) (one_round steps (length benches)) old mid new benches between after was.1
+      (subst (λ (n : ℕ). GivesTurns G (one_round steps n) mid between new after) count round),
 )
 
 -- ---- a target that has ended
@@ -624,7 +714,8 @@ ended_at (place.Comparing at) over = cc
 ended_at place.Closing over = cc
 ended_at (place.Ended e) over = (e, refl)
 
-pub alone_of : (a : Stand) (x : GangTarget) (s : BenchState) (new : Slot) (arena : List (List ℕ)) (t : BenchState) (body : List ℕ) → IsWhole body s.file → SlotSince a [] (slot.Target x) s new arena t → slot_turn new ≡ turn.Ended
+pub alone_of : (a : Stand) (x : GangTarget) (s : BenchState) (new : Slot) (arena : List (List ℕ)) (t : BenchState) (body : List ℕ) → IsWhole body s.file
+    → SlotSince a [] (slot.Target x) s new arena t → slot_turn new ≡ turn.Ended
     → EndsAlone a x s new t body
 alone_of a x s new arena t body whole since over =
     let y : GangTarget = since.target in
@@ -632,14 +723,16 @@ alone_of a x s new arena t body whole since over =
     let ends : (e : TargetEnd) × (y.player.place ≡ place.Ended e) = ended_at y.player.place (ap slot_turn (sym since.is) ∙ over) in
     let goes : GoesOn a [] goal y.player arena s t = since.goes in
     let has : HasEnded (all_legs (legs_for y.player goal)) goal a goes.more ends.0 t =
-    subst (λ (p : Place). Stands (legs_for y.player goal) goal (setup_now y.player) a goes.more p y.player.made (point_for y.player arena t.cells) y.player.calls.machine.return_at t) ends.1 goes.stands in
+    subst (λ (p : Place). Stands (legs_for y.player goal) goal (setup_now y.player) a goes.more p y.player.made (point_for y.player arena t.cells)
+    y.player.calls.machine.return_at t) ends.1 goes.stands in
     let guarded : Guarded body goal (place.Ended ends.0) s t = subst (λ (p : Place). Guarded body goal p s t) ends.1 (since.guarded body whole) in
     record {
       target = y;
       is = since.is;
       end = ends.0;
       place_is = ends.1;
-      follows = subst (λ (l : Legs). FollowsAs (all_legs l) goal a ends.0 s t) (legs_same x.player y.player since.same goal) (ends_alone (all_legs (legs_for y.player goal)) goal a goes.more s t goes.moments ends.0 has);
+      follows = subst (λ (l : Legs). FollowsAs (all_legs l) goal a ends.0 s t) (legs_same x.player y.player since.same goal)
+          (ends_alone (all_legs (legs_for y.player goal)) goal a goes.more s t goes.moments ends.0 has);
       file = guarded.file;
       idle = λ done. guarded.idle (ap (λ (e : TargetEnd). place.Ended e) done);
       pairs = guarded.over refl;

@@ -1,5 +1,6 @@
 -- The opening of one place of a gang.
-use Rattle.std.proofs.Common.{◌≡◌, ◌<◌, ◌+◌, ◌^◌, ◌∙◌, ℕ, Bool, IsTrue, All, List, [], ◌∷◌, length, replicate, Option, Some, None, IsSomeAnd, IfSome, Result, Ok, Err, IfOk, OnOk, refl, sym, ap, subst, arith}
+use Rattle.std.proofs.Common.{◌≡◌, ◌<◌, ◌+◌, ◌^◌, ◌∙◌, ℕ, Bool, IsTrue, All, List, [], ◌∷◌, length, replicate, Option, Some, None, IsSomeAnd, IfSome, Result}
+use Rattle.std.proofs.Common.{Ok, Err, IfOk, OnOk, refl, sym, ap, subst, arith}
 use Rattle.std.proofs.lemmas.List.{length-replicate}
 use Rattle.bench_model.specs.Calls.{IsRead}
 use Rattle.bench_model.specs.Counted.{is_store_fault, is_device_fault, fault_in, IsCounted}
@@ -42,7 +43,8 @@ use Rattle.flash_session.proofs.GoLemmas.{player_fit}
 
 -- ---- what was surveyed, where it is told
 
-planned_as : (tells : Bool) (b : BoardShown) (region : ℕ) (algorithms : List AlgorithmShown) (cells goal cells' goal' : List ℕ) (regions : List Planned) → (IsTrue tells → cells' ≡ cells) → (IsTrue tells → goal' ≡ goal)
+planned_as : (tells : Bool) (b : BoardShown) (region : ℕ) (algorithms : List AlgorithmShown) (cells goal cells' goal' : List ℕ) (regions : List Planned)
+    → (IsTrue tells → cells' ≡ cells) → (IsTrue tells → goal' ≡ goal)
     → ArePlannedFor tells b region algorithms cells goal regions → ArePlannedFor tells b region algorithms cells' goal' regions
 planned_as tells b region [] cells goal cells' goal' [] one two are = tt
 planned_as tells b region [] cells goal cells' goal' (p ∷ more) one two are = absurd are
@@ -54,14 +56,17 @@ planned_as tells b region (a ∷ rest) cells goal cells' goal' (p ∷ more) one 
     base = are.0.base;
     empty = are.0.empty;
     plan = λ told. rw (one told, two told) (are.0.plan told);
+    some = are.0.some;
     entry = are.0.entry;
   },
   planned_as tells b (region + 1) rest cells goal cells' goal' more one two are.1,
 )
 
-found_as : (tells : Bool) (j : Job) (g : Goal) (file cells file' cells' : List ℕ) (w : Surveyed) → (IsTrue tells → file' ≡ file) → (IsTrue tells → cells' ≡ cells) → HasSurveyed tells j g file cells w → HasSurveyed tells j g file' cells' w
+found_as : (tells : Bool) (j : Job) (g : Goal) (file cells file' cells' : List ℕ) (w : Surveyed) → (IsTrue tells → file' ≡ file)
+    → (IsTrue tells → cells' ≡ cells) → HasSurveyed tells j g file cells w → HasSurveyed tells j g file' cells' w
 found_as tells j g file cells file' cells' w one two found = record {
-  regions = planned_as tells (board_of j.board) 0 (algorithms_shown j.algorithms) cells (goal_in j g file) cells' (goal_in j g file') w.regions two (λ told. ap (λ (f : List ℕ). goal_in j g f) (one told)) found.regions;
+  regions = planned_as tells (board_of j.board) 0 (algorithms_shown j.algorithms) cells (goal_in j g file) cells' (goal_in j g file') w.regions two
+      (λ told. ap (λ (f : List ℕ). goal_in j g f) (one told)) found.regions;
   goal = found.goal;
   bytes = λ told. subst (λ (l : List ℕ). All (λ v. v < 2 ^ 8) l) (sym (two told)) (found.bytes told);
   wanted = λ told. subst (λ (f : List ℕ). All (λ v. v < 2 ^ 8) (goal_in j g f)) (sym (one told)) (found.wanted told);
@@ -70,9 +75,11 @@ found_as tells j g file cells file' cells' w one two found = record {
 -- ---- a target of a survey
 
 -- behind the survey
-module _ (tells : Bool) (j : Job) (window : ℕ) (s t : BenchState) (reads : IsRead tells s t) (count : s.cell_count ≡ size_of j.board.regions) (idle : IsTrue tells → s.operation ≡ None)
+module _ (tells : Bool) (j : Job) (window : ℕ) (s t : BenchState) (reads : IsRead tells s t) (count : s.cell_count ≡ size_of j.board.regions)
+    (idle : IsTrue tells → s.operation ≡ None)
     (stands : IsTrue tells → StandsFor j s.file) (only : IsTrue tells → LeftOnly s.file (file_half s)) where
-  module _ (store : t.store_faults ≡ s.store_faults) (device : t.device_faults ≡ s.device_faults) (w : Surveyed) (found : HasSurveyed tells j goal.New s.file s.cells w)
+  module _ (store : t.store_faults ≡ s.store_faults) (device : t.device_faults ≡ s.device_faults) (w : Surveyed)
+      (found : HasSurveyed tells j goal.New s.file s.cells w)
       (x : GangTarget) (job_is : x.job ≡ j) (window_is : x.player.window ≡ window) (is : IsPlayerOf j w x.player) where
     goal_file : goal_for x.job x.player t.file ≡ goal_in j goal.New t.file
     goal_file = ap (λ (k : Job). goal_in k x.player.task.goal t.file) job_is ∙ ap (λ (g : Goal). goal_in j g t.file) (is.goal ∙ found.goal)
@@ -92,7 +99,11 @@ module _ (tells : Bool) (j : Job) (window : ℕ) (s t : BenchState) (reads : IsR
       world cells = is.starts arena x.player.window cells blank
 
       fit : Fit tells x.player arena t
-      fit = player_fit j w x.player is tells arena t (omega (arith, window_is, inside), ap (λ (l : List ℕ). length l) blank ∙ length-replicate j.board.ram_size 0 ∙ sym is.ram) world
+      fit = player_fit j w x.player is tells arena t (
+        omega (arith, window_is, inside),
+        ap (λ (l : List ℕ). length l) blank
+            ∙ length-replicate j.board.ram_size 0 ∙ sym is.ram,
+      ) world
           (reads.cells.count ∙ count) (λ told. reads.cells.operation told ∙ idle told)
 
       begins : Begins tells x arena s t
@@ -105,24 +116,34 @@ module _ (tells : Bool) (j : Job) (window : ℕ) (s t : BenchState) (reads : IsR
         idle = λ told. reads.cells.operation told ∙ idle told;
         world = λ cells. world cells ∙ ap (λ (k : Job). start_of (board_of k.board) cells) (sym job_is);
         surveyed = w;
-        found = subst (λ (k : Job). HasSurveyed tells k goal.New t.file t.cells w) (sym job_is) (found_as tells j goal.New s.file s.cells t.file t.cells w reads.file.file reads.cells.cells found);
+        found = subst (λ (k : Job). HasSurveyed tells k goal.New t.file t.cells w) (sym job_is)
+            (found_as tells j goal.New s.file s.cells t.file t.cells w reads.file.file reads.cells.cells found);
         legs = legs_is;
         store = store;
         device = device;
       }
 
     ready_in : IsReadyIn tells window x s t
-    ready_in = record { window_is = window_is; size = ap (λ (k : Job). size_of k.board.regions) job_is ∙ is.size; begins = λ arena inside zeros. (begins arena inside zeros, fit arena inside zeros) }
+    ready_in = record {
+      window_is = window_is;
+      size = ap (λ (k : Job). size_of k.board.regions) job_is ∙ is.size;
+      begins =
+          λ arena inside zeros. (begins arena inside zeros, fit arena inside zeros);
+    }
 
-  slot_made : t.store_faults ≡ s.store_faults → t.device_faults ≡ s.device_faults → (w : Surveyed) → HasSurveyed tells j goal.New s.file s.cells w → (p : Slot) → IsTargetOf j w window p → Surveys tells j window p s t
+  slot_made : t.store_faults ≡ s.store_faults → t.device_faults ≡ s.device_faults → (w : Surveyed) → HasSurveyed tells j goal.New s.file s.cells w → (p : Slot)
+      → IsTargetOf j w window p → Surveys tells j window p s t
   slot_made store device w found (slot.Refused e) is = absurd is
   slot_made store device w found (slot.Target x) is = (ready_in store device w found x is.0 is.1 is.2, is.0)
 
-  pub surveyed_so : (o : Option Surveyed) (r : Result (Unit {0}) SurveyFault) (q : Result Slot OutOfMemory) → OnOk r (IsSomeAnd o (λ w. HasSurveyed tells j goal.New s.file s.cells w)) → GivesSlot j o window r q
-      → IsCounted s.store_faults t.store_faults (is_store_fault (fault_in survey_fault r)) → IsCounted s.device_faults t.device_faults (is_device_fault (fault_in survey_fault r)) → IfOk q (λ p. Surveys tells j window p s t)
+  pub surveyed_so : (o : Option Surveyed) (r : Result (Unit {0}) SurveyFault) (q : Result Slot OutOfMemory)
+      → OnOk r (IsSomeAnd o (λ w. HasSurveyed tells j goal.New s.file s.cells w)) → GivesSlot j o window r q
+      → IsCounted s.store_faults t.store_faults (is_store_fault (fault_in survey_fault r))
+      → IsCounted s.device_faults t.device_faults (is_device_fault (fault_in survey_fault r)) → IfOk q (λ p. Surveys tells j window p s t)
   surveyed_so None (Ok u) (Ok p) found gives store device = absurd found
   surveyed_so (Some w) (Ok u) (Ok p) found gives store device = slot_made (store.on_other refl) (device.on_other refl) w found p gives
-  surveyed_so o (Err fault) (Ok p) found gives store device = subst (λ (z : Slot). Surveys tells j window z s t) (sym gives.0) (record { memory = gives.1; store = store; device = device })
+  surveyed_so o (Err fault) (Ok p) found gives store device = subst (λ (z : Slot). Surveys tells j window z s t) (sym gives.0)
+      (record { memory = gives.1; store = store; device = device })
   surveyed_so o (Ok u) (Err e) found gives store device = tt
   surveyed_so o (Err fault) (Err e) found gives store device = tt
 
@@ -139,12 +160,15 @@ looked_then tells s m t one read pairs = record {
   file = λ told. read.file.file told ∙ one.file told;
   same = λ told. subst (λ (l : List ℕ). SameOutside s.operation s.cells l) (sym (read.cells.cells told)) (one.same told);
   count = read.cells.count ∙ one.count;
-  pairs = pairs_then (Left s) one.pairs (pairs_as (Left m) (Left s) (λ f c at. one.pairs.each m.moment f c one.pairs.files.later (omega arith) at.0 at.1) pairs);
+  pairs = pairs_then (Left s) one.pairs (pairs_as (Left m) (Left s) (λ f c at. one.pairs.each m.moment f c one.pairs.files.later (omega arith) at.0 at.1)
+      pairs);
 }
 
 -- ---- behind the opening of the job
 
-module _ (tells : Bool) (j : Job) (window : ℕ) (s m t : BenchState) (stands : IsTrue tells → StandsFor j s.file) (count : size_of j.board.regions ≡ m.cell_count) (looked : IsLookedAt tells s m) (store : m.store_faults ≡ s.store_faults) (device : m.device_faults ≡ s.device_faults) where
+module _ (tells : Bool) (j : Job) (window : ℕ) (s m t : BenchState) (stands : IsTrue tells → StandsFor j s.file)
+    (count : size_of j.board.regions ≡ m.cell_count) (looked : IsLookedAt tells s m) (store : m.store_faults ≡ s.store_faults)
+    (device : m.device_faults ≡ s.device_faults) where
   job_of : IsTrue tells → IsJobOf s.file s.cell_count
   job_of told = let is = stands told in record {
     some = record { job = is.text; board = board_of j.board; algorithms = algorithms_shown j.algorithms; is = is.is; whole = is.whole };
@@ -194,8 +218,10 @@ module _ (tells : Bool) (j : Job) (window : ℕ) (s m t : BenchState) (stands : 
   opens_then (Err e) is = tt
 
 -- a device fault in the opening of the job
-pub unopened_device : (T : Type 0) (tells : Bool) (fault : SessionFault) (s t : BenchState) → fault ≡ session.DeviceFault → (IsTrue tells → IsSessionFault s.file s.cell_count fault) → IsSoundSession s.cell_count fault
-    → IsCounted s.store_faults t.store_faults (is_store_fault (session_fault fault)) → IsCounted s.device_faults t.device_faults (is_device_fault (session_fault fault)) → IsUnopened tells session.DeviceFault s t
+pub unopened_device : (T : Type 0) (tells : Bool) (fault : SessionFault) (s t : BenchState) → fault ≡ session.DeviceFault
+    → (IsTrue tells → IsSessionFault s.file s.cell_count fault) → IsSoundSession s.cell_count fault
+    → IsCounted s.store_faults t.store_faults (is_store_fault (session_fault fault))
+    → IsCounted s.device_faults t.device_faults (is_device_fault (session_fault fault)) → IsUnopened tells session.DeviceFault s t
 unopened_device T tells fault s t is refused sound store device = record {
   memory = tt;
   reads = tt;

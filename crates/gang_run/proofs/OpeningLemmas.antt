@@ -1,6 +1,8 @@
 -- The opening of a gang, bench after bench.
-use Rattle.std.proofs.Common.{◌≡◌, ◌≢◌, ◌<◌, ◌≤◌, ◌+◌, ◌*◌, ◌^◌, ◌∙◌, ⊎_elim, ℕ, Bool, All, List, [], ◌∷◌, ◌++◌, length, get_or, set, replicate, refl, sym, ap, subst, arith}
-use Rattle.std.proofs.lemmas.List.{length-append, length-map, length-set, get_or_append_left, get_or_push, get_or_past, get_or-map, get_or-set_other, get_or-set_same, get_or_read}
+use Rattle.std.proofs.Common.{◌≡◌, ◌≢◌, ◌<◌, ◌≤◌, ◌+◌, ◌*◌, ◌^◌, ◌∙◌, ⊎_elim, ℕ, Bool, All, List, [], ◌∷◌, ◌++◌, length, get_or, set, replicate, refl, sym, ap}
+use Rattle.std.proofs.Common.{subst, arith}
+use Rattle.std.proofs.lemmas.List.{length-append, length-map, length-set, get_or_append_left, get_or_push, get_or_past, get_or-map, get_or-set_other}
+use Rattle.std.proofs.lemmas.List.{get_or-set_same, get_or_read}
 use Rattle.std.proofs.lemmas.List.Elements.{All-append, All-replicate, All-rest}
 use Rattle.std.proofs.lemmas.Bool.{cases_lt, cases_eq}
 use Rattle.bench_model.specs.declared.bench.Bench.{Ghosts}
@@ -43,7 +45,8 @@ sizes_stay (slot.Target x) sizes i less = get_or_append_left sizes (ram_for x �
 
 sizes_small : (s : Slot) (sizes : List ℕ) → All (λ n. n ≤ most_ram) sizes → All (λ n. n ≤ most_ram) (sizes_with s sizes)
 sizes_small (slot.Refused e) sizes small = small
-sizes_small (slot.Target x) sizes small = All-append (λ n. n ≤ most_ram) sizes (ram_for x ∷ []) small (All-replicate (λ n. n ≤ most_ram) 1 (ram_for x) x.job.board.ram_is_small)
+sizes_small (slot.Target x) sizes small = All-append (λ n. n ≤ most_ram) sizes (ram_for x ∷ []) small
+    (All-replicate (λ n. n ≤ most_ram) 1 (ram_for x) x.job.board.ram_is_small)
 
 still_among : (tells : Bool) (sizes : List ℕ) (new p : Slot) (s t : BenchState) → OpensAmong tells sizes p s t → OpensAmong tells (sizes_with new sizes) p s t
 still_among tells sizes new (slot.Refused e) s t is = is
@@ -58,11 +61,13 @@ now_among tells sizes (slot.Target x) s t is = (
 )
 
 -- the next window is no one of those before
-next_apart : (tells : Bool) (sizes : List ℕ) (p q : Slot) (s t u v : BenchState) → OpensAmong tells sizes p s t → Opens tells (length sizes) q u v → OtherWindow p q × OtherWindow q p
+next_apart : (tells : Bool) (sizes : List ℕ) (p q : Slot) (s t u v : BenchState) → OpensAmong tells sizes p s t → Opens tells (length sizes) q u v
+    → OtherWindow p q × OtherWindow q p
 next_apart tells sizes (slot.Refused e) (slot.Refused f) s t u v one two = (tt, tt)
 next_apart tells sizes (slot.Refused e) (slot.Target y) s t u v one two = (tt, tt)
 next_apart tells sizes (slot.Target x) (slot.Refused f) s t u v one two = (tt, tt)
-next_apart tells sizes (slot.Target x) (slot.Target y) s t u v one two = (λ same. absurd (omega (arith, same, one.0, two.window_is)), λ same. absurd (omega (arith, same, one.0, two.window_is)))
+next_apart tells sizes (slot.Target x) (slot.Target y) s t u v one two =
+    (λ same. absurd (omega (arith, same, one.0, two.window_is)), λ same. absurd (omega (arith, same, one.0, two.window_is)))
 
 none_apart : (p : Slot) → OtherWindow p none_slot
 none_apart (slot.Refused e) = tt
@@ -85,8 +90,10 @@ module _ {B : Type 0} (G : Ghosts B) where
     small = λ i d less. absurd (omega (arith, less));
   }
 
-  module _ (first now : List B) (slots : List Slot) (sizes : List ℕ) (upto : ℕ) (b b' : B) (slots' : List Slot) (sizes' : List ℕ) (was : Opening G first now slots sizes upto) (inside : upto < length now) (bench : b ≡ get_or now upto b)
-      (added : SlotAdded G.tells slots sizes (G.state b) slots' sizes' (G.state b')) (looked : IsLookedAt G.tells (G.state b) (G.state b')) (synced : SyncsFirst G.acts b) where
+  module _ (first now : List B) (slots : List Slot) (sizes : List ℕ) (upto : ℕ) (b b' : B) (slots' : List Slot) (sizes' : List ℕ)
+      (was : Opening G first now slots sizes upto) (inside : upto < length now) (bench : b ≡ get_or now upto b)
+      (added : SlotAdded G.tells slots sizes (G.state b) slots' sizes' (G.state b')) (looked : IsLookedAt G.tells (G.state b) (G.state b'))
+      (synced : SyncsFirst G.acts b) where
     abbrev after : List B
     after = set now upto b'
 
@@ -100,26 +107,32 @@ module _ {B : Type 0} (G : Ghosts B) where
     now_other i d other = get_or-set_other now upto i b' d other
 
     slot_before : (i : ℕ) → i < upto → slot_in slots' i ≡ slot_in slots i
-    slot_before i less = ap (λ (l : List Slot). slot_in l i) added.slots_are ∙ get_or_append_left slots (added.slot ∷ []) none_slot i (omega (arith, less, was.places))
+    slot_before i less = ap (λ (l : List Slot). slot_in l i) added.slots_are
+        ∙ get_or_append_left slots (added.slot ∷ []) none_slot i (omega (arith, less, was.places))
 
     slot_here : slot_in slots' upto ≡ added.slot
     slot_here = ap (λ (l : List Slot). slot_in l upto) added.slots_are ∙ get_or_push slots added.slot none_slot upto was.places
 
     slot_past : (i : ℕ) → upto < i → slot_in slots' i ≡ none_slot
-    slot_past i more = ap (λ (l : List Slot). slot_in l i) added.slots_are ∙ get_or_past (slots ++ (added.slot ∷ [])) i none_slot (omega (arith, length-append slots (added.slot ∷ []), was.places, more))
+    slot_past i more = ap (λ (l : List Slot). slot_in l i) added.slots_are
+        ∙ get_or_past (slots ++ (added.slot ∷ [])) i none_slot (omega (arith, length-append slots (added.slot ∷ []), was.places, more))
 
     opened_now : (i : ℕ) (d : B) → i < upto + 1 → OpensAmong G.tells sizes' (slot_in slots' i) (G.state (get_or first i d)) (G.state (get_or after i d))
     opened_now i d less = ⊎_elim
         (λ (before : i < upto).
         subst (λ (l : List ℕ). OpensAmong G.tells l (slot_in slots' i) (G.state (get_or first i d)) (G.state (get_or after i d))) (sym added.sizes_are)
-        (subst (λ (p : Slot). OpensAmong G.tells (sizes_with added.slot sizes) p (G.state (get_or first i d)) (G.state (get_or after i d))) (sym (slot_before i before))
-        (subst (λ (c : B). OpensAmong G.tells (sizes_with added.slot sizes) (slot_in slots i) (G.state (get_or first i d)) (G.state c)) (sym (now_other i d (λ same. omega (arith, same, before))))
+        (subst (λ (p : Slot). OpensAmong G.tells (sizes_with added.slot sizes) p (G.state (get_or first i d)) (G.state (get_or after i d)))
+        (sym (slot_before i before))
+        (subst (λ (c : B). OpensAmong G.tells (sizes_with added.slot sizes) (slot_in slots i) (G.state (get_or first i d)) (G.state c))
+        (sym (now_other i d (λ same. omega (arith, same, before))))
         (still_among G.tells sizes added.slot (slot_in slots i) (G.state (get_or first i d)) (G.state (get_or now i d)) (was.opened i d before)))))
         (λ (past : upto ≤ i).
         let here : i ≡ upto = omega (arith, past, less) in
         subst (λ (k : ℕ). OpensAmong G.tells sizes' (slot_in slots' k) (G.state (get_or first k d)) (G.state (get_or after k d))) (sym here)
-        (subst (λ (l : List ℕ). OpensAmong G.tells l (slot_in slots' upto) (G.state (get_or first upto d)) (G.state (get_or after upto d))) (sym added.sizes_are)
-        (subst (λ (p : Slot). OpensAmong G.tells (sizes_with added.slot sizes) p (G.state (get_or first upto d)) (G.state (get_or after upto d))) (sym slot_here)
+        (subst (λ (l : List ℕ). OpensAmong G.tells l (slot_in slots' upto) (G.state (get_or first upto d)) (G.state (get_or after upto d)))
+        (sym added.sizes_are)
+        (subst (λ (p : Slot). OpensAmong G.tells (sizes_with added.slot sizes) p (G.state (get_or first upto d)) (G.state (get_or after upto d)))
+        (sym slot_here)
         (subst (λ (c : B). OpensAmong G.tells (sizes_with added.slot sizes) added.slot (G.state c) (G.state (get_or after upto d))) (sym (was_here d))
         (subst (λ (c : B). OpensAmong G.tells (sizes_with added.slot sizes) added.slot (G.state b) (G.state c)) (sym (now_here d))
         (now_among G.tells sizes added.slot (G.state b) (G.state b') added.opens))))))
@@ -127,11 +140,13 @@ module _ {B : Type 0} (G : Ghosts B) where
 
     looked_now : (i : ℕ) (d : B) → i < upto + 1 → IsLookedAt G.tells (G.state (get_or first i d)) (G.state (get_or after i d))
     looked_now i d less = ⊎_elim
-        (λ (before : i < upto). subst (λ (c : B). IsLookedAt G.tells (G.state (get_or first i d)) (G.state c)) (sym (now_other i d (λ same. omega (arith, same, before)))) (was.looked i d before))
+        (λ (before : i < upto). subst (λ (c : B). IsLookedAt G.tells (G.state (get_or first i d)) (G.state c))
+        (sym (now_other i d (λ same. omega (arith, same, before)))) (was.looked i d before))
         (λ (past : upto ≤ i).
         let here : i ≡ upto = omega (arith, past, less) in
         subst (λ (k : ℕ). IsLookedAt G.tells (G.state (get_or first k d)) (G.state (get_or after k d))) (sym here)
-        (subst (λ (c : B). IsLookedAt G.tells (G.state c) (G.state (get_or after upto d))) (sym (was_here d)) (subst (λ (c : B). IsLookedAt G.tells (G.state b) (G.state c)) (sym (now_here d)) looked)))
+        (subst (λ (c : B). IsLookedAt G.tells (G.state c) (G.state (get_or after upto d))) (sym (was_here d))
+        (subst (λ (c : B). IsLookedAt G.tells (G.state b) (G.state c)) (sym (now_here d)) looked)))
         (cases_lt i upto)
 
     synced_now : (i : ℕ) (d : B) → i < upto + 1 → SyncsFirst G.acts (get_or first i d)
@@ -146,8 +161,10 @@ module _ {B : Type 0} (G : Ghosts B) where
     apart_here i other = ⊎_elim
         (λ (before : i < upto).
         subst (λ (p : Slot). OtherWindow p added.slot × OtherWindow added.slot p) (sym (slot_before i before))
-        (next_apart G.tells sizes (slot_in slots i) added.slot (G.state (get_or first i b)) (G.state (get_or now i b)) (G.state b) (G.state b') (was.opened i b before) added.opens))
-        (λ (past : upto ≤ i). subst (λ (p : Slot). OtherWindow p added.slot × OtherWindow added.slot p) (sym (slot_past i (omega (arith, past, other)))) (tt, none_apart added.slot))
+        (next_apart G.tells sizes (slot_in slots i) added.slot (G.state (get_or first i b)) (G.state (get_or now i b)) (G.state b) (G.state b')
+        (was.opened i b before) added.opens))
+        (λ (past : upto ≤ i). subst (λ (p : Slot). OtherWindow p added.slot × OtherWindow added.slot p) (sym (slot_past i (omega (arith, past, other))))
+        (tt, none_apart added.slot))
         (cases_lt i upto)
 
     -- a place other than this one is as it was
@@ -159,10 +176,12 @@ module _ {B : Type 0} (G : Ghosts B) where
 
     apart_now : (i j : ℕ) → i ≢ j → OtherWindow (slot_in slots' i) (slot_in slots' j)
     apart_now i j other = ⊎_elim
-        (λ (at_i : i ≡ upto). subst (λ (p : Slot). OtherWindow p (slot_in slots' j)) (sym (ap (slot_in slots') at_i ∙ slot_here)) (apart_here j (λ same. other (at_i ∙ sym same))).1)
+        (λ (at_i : i ≡ upto). subst (λ (p : Slot). OtherWindow p (slot_in slots' j)) (sym (ap (slot_in slots') at_i ∙ slot_here))
+        (apart_here j (λ same. other (at_i ∙ sym same))).1)
         (λ (not_i : i ≢ upto). ⊎_elim
         (λ (at_j : j ≡ upto). subst (λ (p : Slot). OtherWindow (slot_in slots' i) p) (sym (ap (slot_in slots') at_j ∙ slot_here)) (apart_here i not_i).0)
-        (λ (not_j : j ≢ upto). subst (λ (p : Slot). OtherWindow p (slot_in slots' j)) (sym (slot_other i not_i)) (subst (λ (p : Slot). OtherWindow (slot_in slots i) p) (sym (slot_other j not_j)) (was.apart i j other)))
+        (λ (not_j : j ≢ upto). subst (λ (p : Slot). OtherWindow p (slot_in slots' j)) (sym (slot_other i not_i))
+        (subst (λ (p : Slot). OtherWindow (slot_in slots i) p) (sym (slot_other j not_j)) (was.apart i j other)))
         (cases_eq j upto))
         (cases_eq i upto)
 
@@ -195,14 +214,18 @@ pub all_synced : {B : Type 0} (G : Ghosts B) (first now : List B) (slots : List 
     → length first ≤ upto → AreSynced G first
 all_synced G first now slots sizes upto was all i d less = was.synced i d (omega (arith, less, all))
 
-module _ {B : Type 0} (G : Ghosts B) (first now : List B) (g : Gang) (sizes : List ℕ) (upto : ℕ) (was : Opening G first now g.slots.items sizes upto) (all : length first ≤ upto) (arena : g.arena ≡ blank sizes) where
-  window_blank : (x : GangTarget) → x.player.window < length sizes → get_or sizes x.player.window 0 ≡ ram_for x → (x.player.window < length g.arena) × (window_of g.arena x.player.window ≡ replicate (ram_for x) 0)
+module _ {B : Type 0} (G : Ghosts B) (first now : List B) (g : Gang) (sizes : List ℕ) (upto : ℕ) (was : Opening G first now g.slots.items sizes upto)
+    (all : length first ≤ upto) (arena : g.arena ≡ blank sizes) where
+  window_blank : (x : GangTarget) → x.player.window < length sizes → get_or sizes x.player.window 0 ≡ ram_for x → (x.player.window < length g.arena)
+      × (window_of g.arena x.player.window ≡ replicate (ram_for x) 0)
   window_blank x inside size = (
     omega (arith, inside, ap (λ (l : List (List ℕ)). length l) arena, length-map sizes (λ (n : ℕ). replicate {A = ℕ} n 0)),
-    ap (λ (l : List (List ℕ)). window_of l x.player.window) arena ∙ get_or-map (λ (n : ℕ). replicate {A = ℕ} n 0) sizes x.player.window 0 [] inside ∙ ap (λ (n : ℕ). replicate {A = ℕ} n 0) size,
+    ap (λ (l : List (List ℕ)). window_of l x.player.window) arena ∙ get_or-map (λ (n : ℕ). replicate {A = ℕ} n 0) sizes x.player.window 0 [] inside
+        ∙ ap (λ (n : ℕ). replicate {A = ℕ} n 0) size,
   )
 
-  opened_by : (p : Slot) (s t : BenchState) → IsLookedAt G.tells s t → OpensAmong G.tells sizes p s t → IsOpened G.tells p g.arena s t × IsReady G.tells p g.arena t × IsSlot p
+  opened_by : (p : Slot) (s t : BenchState) → IsLookedAt G.tells s t → OpensAmong G.tells sizes p s t → IsOpened G.tells p g.arena s t
+      × IsReady G.tells p g.arena t × IsSlot p
   opened_by (slot.Refused e) s t looked is = ((looked, is), tt, refused_so e is)
     where
       refused_so : (e : TargetEnd) → IsRefused G.tells e s t → IsSlot (slot.Refused e)
@@ -227,17 +250,20 @@ module _ {B : Type 0} (G : Ghosts B) (first now : List B) (g : Gang) (sizes : Li
       )
 
   pub all_opened : AreOpened G first g now
-  all_opened i d less = (opened_by (slot_in g.slots.items i) (G.state (get_or first i d)) (G.state (get_or now i d)) (was.looked i d (omega (arith, less, all))) (was.opened i d (omega (arith, less, all)))).0
+  all_opened i d less = (opened_by (slot_in g.slots.items i) (G.state (get_or first i d)) (G.state (get_or now i d)) (was.looked i d (omega (arith, less, all)))
+      (was.opened i d (omega (arith, less, all)))).0
 
   pub all_ready : AreReady G g now
-  all_ready i d less = (opened_by (slot_in g.slots.items i) (G.state (get_or first i d)) (G.state (get_or now i d)) (was.looked i d (omega (arith, less, was.count, all))) (was.opened i d (omega (arith, less, was.count, all)))).1
+  all_ready i d less = (opened_by (slot_in g.slots.items i) (G.state (get_or first i d)) (G.state (get_or now i d))
+      (was.looked i d (omega (arith, less, was.count, all))) (was.opened i d (omega (arith, less, was.count, all)))).1
 
   slot_past_all : (i : ℕ) → upto ≤ i → IsSlot (slot_at g i)
   slot_past_all i past = subst IsSlot (sym (get_or_past g.slots.items i none_slot (omega (arith, past, was.places)))) tt
 
   slot_lawful : (d : B) (i : ℕ) → IsSlot (slot_at g i)
   slot_lawful d i = ⊎_elim
-      (λ (less : i < upto). (opened_by (slot_in g.slots.items i) (G.state (get_or first i d)) (G.state (get_or now i d)) (was.looked i d less) (was.opened i d less)).2)
+      (λ (less : i < upto). (opened_by (slot_in g.slots.items i) (G.state (get_or first i d)) (G.state (get_or now i d)) (was.looked i d less)
+      (was.opened i d less)).2)
       (λ (past : upto ≤ i). slot_past_all i past)
       (cases_lt i upto)
 
@@ -257,23 +283,29 @@ looked_here tells s = record {
   pairs = record {
     files = goes_here (file_half s);
     cells = goes_here (cells_half s);
-    each = λ k f c low high file cells. let now : k ≡ s.moment = omega (arith, low, high) in (subst (λ (m : ℕ). s.files_at m f) now file, subst (λ (m : ℕ). s.cells_at m c) now cells);
+    each = λ k f c low high file cells. let now : k ≡ s.moment = omega (arith, low, high) in
+        (subst (λ (m : ℕ). s.files_at m f) now file, subst (λ (m : ℕ). s.cells_at m c) now cells);
   };
 }
 
-pub looked_so_far : {B : Type 0} (G : Ghosts B) (first now : List B) (slots : List Slot) (sizes : List ℕ) (upto : ℕ) → Opening G first now slots sizes upto → (i : ℕ) (d : B) → IsLookedAt G.tells (G.state (get_or first i d)) (G.state (get_or now i d))
+pub looked_so_far : {B : Type 0} (G : Ghosts B) (first now : List B) (slots : List Slot) (sizes : List ℕ) (upto : ℕ) → Opening G first now slots sizes upto
+    → (i : ℕ) (d : B) → IsLookedAt G.tells (G.state (get_or first i d)) (G.state (get_or now i d))
 looked_so_far {B} G first now slots sizes upto was i d = ⊎_elim
     (λ (before : i < upto). was.looked i d before)
-    (λ (past : upto ≤ i). subst (λ (c : B). IsLookedAt G.tells (G.state (get_or first i d)) (G.state c)) (sym (was.still i d past)) (looked_here G.tells (G.state (get_or first i d))))
+    (λ (past : upto ≤ i). subst (λ (c : B). IsLookedAt G.tells (G.state (get_or first i d)) (G.state c)) (sym (was.still i d past))
+    (looked_here G.tells (G.state (get_or first i d))))
     (cases_lt i upto)
 
 -- where the memory ended at this bench
-pub looked_last : {B : Type 0} (G : Ghosts B) (first now : List B) (slots : List Slot) (sizes : List ℕ) (upto : ℕ) (b b' : B) → Opening G first now slots sizes upto → upto < length now → b ≡ get_or now upto b → IsLookedAt G.tells (G.state b) (G.state b')
+pub looked_last : {B : Type 0} (G : Ghosts B) (first now : List B) (slots : List Slot) (sizes : List ℕ) (upto : ℕ) (b b' : B)
+    → Opening G first now slots sizes upto → upto < length now → b ≡ get_or now upto b → IsLookedAt G.tells (G.state b) (G.state b')
     → (i : ℕ) (d : B) → IsLookedAt G.tells (G.state (get_or first i d)) (G.state (get_or (set now upto b') i d))
 looked_last {B} G first now slots sizes upto b b' was inside bench looked i d = ⊎_elim
     (λ (at : i ≡ upto).
     subst (λ (k : ℕ). IsLookedAt G.tells (G.state (get_or first k d)) (G.state (get_or (set now upto b') k d))) (sym at)
-    (subst (λ (c : B). IsLookedAt G.tells (G.state c) (G.state (get_or (set now upto b') upto d))) (get_or_read now upto b inside bench d ∙ was.still upto d (omega arith))
+    (subst (λ (c : B). IsLookedAt G.tells (G.state c) (G.state (get_or (set now upto b') upto d)))
+    (get_or_read now upto b inside bench d ∙ was.still upto d (omega arith))
     (subst (λ (c : B). IsLookedAt G.tells (G.state b) (G.state c)) (sym (get_or-set_same now upto b' d inside)) looked)))
-    (λ (other : i ≢ upto). subst (λ (c : B). IsLookedAt G.tells (G.state (get_or first i d)) (G.state c)) (sym (get_or-set_other now upto i b' d other)) (looked_so_far G first now slots sizes upto was i d))
+    (λ (other : i ≢ upto). subst (λ (c : B). IsLookedAt G.tells (G.state (get_or first i d)) (G.state c)) (sym (get_or-set_other now upto i b' d other))
+    (looked_so_far G first now slots sizes upto was i d))
     (cases_eq i upto)

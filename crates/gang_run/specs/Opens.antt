@@ -99,7 +99,8 @@ slot_in slots i = get_or slots i (slot.Refused (ended.Survey survey.StoreFault))
 -- it was opened on its bench, and its window will be among these
 abbrev pub OpensAmong : Bool → List ℕ → Slot → BenchState → BenchState → Type 0
 OpensAmong tells sizes (slot.Refused e) s t = IsRefused tells e s t
-OpensAmong tells sizes (slot.Target x) s t = (x.player.window < length sizes) × (get_or sizes x.player.window 0 ≡ ram_for x) × IsReadyIn tells x.player.window x s t
+OpensAmong tells sizes (slot.Target x) s t = (x.player.window < length sizes) × (get_or sizes x.player.window 0 ≡ ram_for x) ×
+    IsReadyIn tells x.player.window x s t
 
 -- the benches before this one were opened, and the others are as they were
 pub record Opening {B : Type 0} (G : Ghosts B) (first now : List B) (slots : List Slot) (sizes : List ℕ) (upto : ℕ) : Type 0 where

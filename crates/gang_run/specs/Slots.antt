@@ -115,14 +115,16 @@ IsReady tells (slot.Refused e) arena b = Unit {0}
 IsReady tells (slot.Target x) arena b = IsUnended x.player.place → Ready tells x arena b
 
 -- the player of a target went on by a turn, to the goal that the file gives
-pub record TargetTurns (tells : Bool) (x : GangTarget) (arena : List (List ℕ)) (s : BenchState) (y : GangTarget) (arena' : List (List ℕ)) (t : BenchState) : Type 0 where
+pub record TargetTurns (tells : Bool) (x : GangTarget) (arena : List (List ℕ)) (s : BenchState) (y : GangTarget) (arena' : List (List ℕ))
+    (t : BenchState) : Type 0 where
   pub job : y.job ≡ x.job
   pub turns : Turns tells (goal_for x.job x.player s.file) x.player arena s y.player arena' t
 
 -- a turn of a target that hasn't ended
 abbrev pub SlotGoes : Bool → Slot → List (List ℕ) → BenchState → Slot → List (List ℕ) → BenchState → Type 0
 SlotGoes tells (slot.Refused e) arena s new arena' t = Unit {0}
-SlotGoes tells (slot.Target x) arena s new arena' t = IsUnended x.player.place → (y : GangTarget) × (new ≡ slot.Target y) × TargetTurns tells x arena s y arena' t
+SlotGoes tells (slot.Target x) arena s new arena' t = IsUnended x.player.place → (y : GangTarget) ×
+    (new ≡ slot.Target y) × TargetTurns tells x arena s y arena' t
 
 -- a turn, which changes nothing where the target has ended
 pub record SlotTurns {B : Type 0} (G : Ghosts B) (old : Slot) (arena : List (List ℕ)) (bench : B) (new : Slot)

@@ -11,11 +11,13 @@ drop_front rs k r less is = drop_more rs k r less ∙ ap (λ (x : Region). x ∷
 abbrev pub Searches : List Region → ℕ → ℕ → ℕ → Type 0
 Searches rs place k rest = address_at rs place ≡ address_at (drop k rs) rest
 
-pub search_on : (rs : List Region) (place k rest : ℕ) (r : Region) → k < length rs → r ≡ get_or rs k r → Searches rs place k rest → r.size ≤ rest → Searches rs place (k + 1) (rest - r.size)
+pub search_on : (rs : List Region) (place k rest : ℕ) (r : Region) → k < length rs → r ≡ get_or rs k r → Searches rs place k rest → r.size ≤ rest
+    → Searches rs place (k + 1) (rest - r.size)
 search_on rs place k rest r less is so_far most =
     so_far ∙ ap (λ (l : List Region). address_at l rest) (drop_front rs k r less is) ∙ address_later r (drop (k + 1) rs) rest most
 
-pub search_ends : (rs : List Region) (place k rest : ℕ) (r : Region) → k < length rs → r ≡ get_or rs k r → Searches rs place k rest → rest < r.size → Some (r.base + rest) ≡ address_at rs place
+pub search_ends : (rs : List Region) (place k rest : ℕ) (r : Region) → k < length rs → r ≡ get_or rs k r → Searches rs place k rest → rest < r.size
+    → Some (r.base + rest) ≡ address_at rs place
 search_ends rs place k rest r less is so_far inside =
     sym (so_far ∙ ap (λ (l : List Region). address_at l rest) (drop_front rs k r less is) ∙ address_first r (drop (k + 1) rs) rest inside)
 

@@ -13,14 +13,16 @@ use Rattle.job_text.proofs.PartLemmas.{job_of_parts}
 use Rattle.campaign.specs.Stops.{IsUntouched, IsAtClose}
 use Rattle.flash_session.specs.declared.goal.Goal.TheVariants.{New}
 use Rattle.flash_session.specs.Script.{Broken}
-use Rattle.report_text.specs.Refusal.{Refusal, out_of_memory, input_fault, no_job, not_a_job, damaged, cells_differ, store_fault, device_fault, output_fault, call_failed, mismatch}
+use Rattle.report_text.specs.Refusal.{Refusal, out_of_memory, input_fault, no_job, not_a_job, damaged, cells_differ, store_fault, device_fault, output_fault}
+use Rattle.report_text.specs.Refusal.{call_failed, mismatch}
 use Rattle.command_answers.specs.Call.{BenchCall, SinkCall, Answer, done, refused, bench_call, sink_call}
 use Rattle.command_answers.specs.Said.{TookPartBehind}
 use Rattle.command_answers.specs.Answered.{yields, StandsEarly, IsOf, on_job_file}
 use Rattle.command_answers.proofs.FileLemmas.{not_free}
 use Rattle.job_commands.specs.Answers.{is_of_work}
 use Rattle.job_commands.specs.Work.{Work, body, shown_plan, Breaks, IsOnPath, IsOutsidePlanAsSurveyed}
-use Rattle.job_commands.specs.Carry.{EndsInBegin, NeverBegun, EndsBeforePlan, EndsInPlan, EndsInScript, EndsInClose, HasClosed, Comes, CellsInTurn, BrokenOff, Carries, done_text}
+use Rattle.job_commands.specs.Carry.{EndsInBegin, NeverBegun, EndsBeforePlan, EndsInPlan, EndsInScript, EndsInClose, HasClosed, Comes, CellsInTurn, BrokenOff}
+use Rattle.job_commands.specs.Carry.{Carries, done_text}
 use Rattle.job_commands.specs.GoOn.{work_to, GoesOnFrom, has_resume}
 use Rattle.job_commands.specs.Begin.{BegunComes, BeginsAlone}
 use Rattle.job_commands.specs.Steps.{has_start, begun, StartsParts, BeginsParts}
@@ -79,7 +81,8 @@ module _ (tells : Bool) (a b d : BenchState) (out : SinkCall) (w : Work) (idle :
   begun_comes k (refused other) comes = absurd comes
 
   -- what holds from its turn on, which is at b
-  from_there : {turn : ℕ} {First : List ℕ → Type 0} (P : List ℕ → Type 0) → turn ≡ b.moment → CellsInTurn b d turn First P → Leaves (cells_half b) (cells_half d) P
+  from_there : {turn : ℕ} {First : List ℕ → Type 0} (P : List ℕ → Type 0) → turn ≡ b.moment → CellsInTurn b d turn First P
+      → Leaves (cells_half b) (cells_half d) P
   from_there {turn} {First} P is one = record { goes_on = one.goes_on; each = λ k c from to at. one.from k c (omega (arith, from, is)) to at }
 
   begun_carries : (answer : Answer) → LeftOnly (165 ∷ body w) (file_half b) → w.surveyed ≡ b.cells
@@ -100,29 +103,35 @@ module _ (tells : Bool) (a b d : BenchState) (out : SinkCall) (w : Work) (idle :
           settled = λ c le at. settled_then a b d off idle (IsOnPath w rest.broken) path c at;
           ended = λ is. ended_then a b d off idle (IsOnPath w rest.broken) path;
           path = off_then a b d off idle (IsOnPath w rest.broken) path (starts_on_path w rest.broken);
-          local = λ keeps. off_then a b d off idle (IsOutsidePlanAsSurveyed w) (from_there (IsOutsidePlanAsSurveyed w) (rest.stops.at_entry idle) (rest.stops.local keeps)) (starts_outside w);
+          local = λ keeps. off_then a b d off idle (IsOutsidePlanAsSurveyed w)
+              (from_there (IsOutsidePlanAsSurveyed w) (rest.stops.at_entry idle) (rest.stops.local keeps)) (starts_outside w);
         };
         settled = inr (ended_then a b d off idle (IsOnPath w rest.broken) path);
         complete = rest.complete;
       }
 
 -- no answer of a job's work is changed once it was begun
-pub begun_is : {bench : BenchCall} {out : SinkCall} {First : List ℕ → List ℕ → Type 0} {w : Work} (answer : Answer) → Carries bench out First w answer → begun answer ≡ answer
+pub begun_is : {bench : BenchCall} {out : SinkCall} {First : List ℕ → List ℕ → Type 0} {w : Work} (answer : Answer) → Carries bench out First w answer
+    → begun answer ≡ answer
 begun_is done carries = refl
 begun_is (refused no_job) carries = absurd carries.comes
 begun_is (refused r) carries = refl
 
 -- after a job was begun its file is never refused, where the bench tells it
-pub begun_stands : (tells sinks : Bool) (a b d : BenchState) (p r : SinkState) (First : List ℕ → List ℕ → Type 0) (w : Work) (answer : Answer) → IsOf has_resume answer
+pub begun_stands : (tells sinks : Bool) (a b d : BenchState) (p r : SinkState) (First : List ℕ → List ℕ → Type 0) (w : Work) (answer : Answer)
+    → IsOf has_resume answer
     → StandsEarly on_job_file (bench_call tells b d) (sink_call sinks p r) answer
     → (IsTrue tells → Carries (bench_call tells b d) (sink_call sinks p r) First w answer)
     → StandsEarly on_job_file (bench_call tells a d) (sink_call sinks p r) (begun answer)
 begun_stands tells sinks a b d p r First w done kind early carries = tt
 begun_stands tells sinks a b d p r First w (refused out_of_memory) kind early carries = early
 begun_stands tells sinks a b d p r First w (refused no_job) kind early carries = record { reads = λ told. absurd ((carries told).comes); prints = early.prints }
-begun_stands tells sinks a b d p r First w (refused (not_a_job at)) kind early carries = record { reads = λ told. absurd ((carries told).comes); prints = early.prints }
-begun_stands tells sinks a b d p r First w (refused (damaged kept found)) kind early carries = record { reads = λ told. absurd ((carries told).comes); prints = early.prints }
-begun_stands tells sinks a b d p r First w (refused (cells_differ wanted found)) kind early carries = record { reads = λ told. absurd ((carries told).comes); prints = early.prints }
+begun_stands tells sinks a b d p r First w (refused (not_a_job at)) kind early carries =
+    record { reads = λ told. absurd ((carries told).comes); prints = early.prints }
+begun_stands tells sinks a b d p r First w (refused (damaged kept found)) kind early carries =
+    record { reads = λ told. absurd ((carries told).comes); prints = early.prints }
+begun_stands tells sinks a b d p r First w (refused (cells_differ wanted found)) kind early carries =
+    record { reads = λ told. absurd ((carries told).comes); prints = early.prints }
 begun_stands tells sinks a b d p r First w (refused store_fault) kind early carries = tt
 begun_stands tells sinks a b d p r First w (refused device_fault) kind early carries = tt
 begun_stands tells sinks a b d p r First w (refused output_fault) kind early carries = tt
@@ -160,7 +169,8 @@ begun_of tells sinks a b p parts are sized starts =
 -- A job that could not be begun was not carried.
 module _ (tells sinks : Bool) (a b : BenchState) (p : SinkState) (parts : JobParts) where
   unbegun : (w : Work) (r : Refusal) → IsTrue tells → w.surveyed ≡ w.job.snapshot → IsOf has_start (refused r)
-      → BeginsAlone (bench_call tells a b) (sink_call sinks p p) [] w.job (refused r) → Carries (bench_call tells a b) (sink_call sinks p p) (IsUntouched a) w (refused r)
+      → BeginsAlone (bench_call tells a b) (sink_call sinks p p) [] w.job (refused r)
+      → Carries (bench_call tells a b) (sink_call sinks p p) (IsUntouched a) w (refused r)
   unbegun w r told is kind alone = early r kind alone.comes where
     surveyed : SameOutside a.operation a.cells w.surveyed
     surveyed = subst (λ (s : List ℕ). SameOutside a.operation a.cells s) (sym is) alone.surveyed
@@ -202,7 +212,8 @@ module _ (tells sinks : Bool) (a b d : BenchState) (p r : SinkState) (parts : Jo
   pub carried : (are : AreParts parts) → Carries (bench_call tells b d) (sink_call sinks p r) (Left b) (works are) answer
   carried are =
       let its = from.stands (job_of parts b.cells) are.board are.algorithms (is_job are) has.whole (are.size ∙ sized ∙ sym count) in
-      subst (λ (s : List ℕ). Carries (bench_call tells b d) (sink_call sinks p r) (Left b) (work_to New (job_of parts b.cells) are.board are.algorithms s) answer)
+      subst (λ (s : List ℕ). Carries (bench_call tells b d) (sink_call sinks p r) (Left b) (work_to New (job_of parts b.cells) are.board are.algorithms s)
+      answer)
       (exactly tells a b d (sink_call sinks p r) (works are) has.idle has.same has.whole its.0 its.1.surveyed) its.1
 
   pub begins_whole : AreParts parts → GoesOn (file_half b) (file_half d) → BeginsParts (bench_call tells a d) (sink_call sinks p r) parts (begun answer)

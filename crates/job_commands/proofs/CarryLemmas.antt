@@ -1,5 +1,6 @@
 -- A job is carried: entered (a), opened (b), surveyed (m), finished (d).
-use Rattle.std.proofs.Common.{◌≡◌, ◌⊎◌, ⊎_elim, inl, inr, refl, ◌≤◌, ◌+◌, arith, ◌++◌, ◌∙◌, ℕ, Bool, true, false, List, Option, None, sym, ap, subst, append_assoc}
+use Rattle.std.proofs.Common.{◌≡◌, ◌⊎◌, ⊎_elim, inl, inr, refl, ◌≤◌, ◌+◌, arith, ◌++◌, ◌∙◌, ℕ, Bool, true, false, List, Option, None, sym, ap, subst}
+use Rattle.std.proofs.Common.{append_assoc}
 use Rattle.faults.specs.Counts.{Rose}
 use Rattle.outside_io.specs.State.{SinkState}
 use Rattle.outside_io.specs.Appends.{AppendsPart}
@@ -27,7 +28,8 @@ use Rattle.job_commands.proofs.FinishLemmas.{nothing_broken}
 abbrev pub AsEntered : BenchState → BenchState → Type 0
 AsEntered a x = Leaves (cells_half a) (cells_half x) (λ c. SameOutside a.operation a.cells c)
 
-pub entered : (a b : BenchState) → ((x : List ℕ) → left (cells_half a) x → SameOutside a.operation a.cells x) → AddsNothing (cells_half a) (cells_half b) → AsEntered a b
+pub entered : (a b : BenchState) → ((x : List ℕ) → left (cells_half a) x → SameOutside a.operation a.cells x) → AddsNothing (cells_half a) (cells_half b)
+    → AsEntered a b
 entered a b exact adds = leaves_as (left (cells_half a)) (λ c. SameOutside a.operation a.cells c) exact adds
 
 -- the script begins with the cells as surveyed
@@ -65,7 +67,8 @@ ends_early tells a x out First w answer surveyed comes yield pairs off settled =
 }
 
 -- An end before the plan, of a job that the file at entry stands for.
-module _ (tells sinks : Bool) (a x : BenchState) (p : SinkState) (w : Work) (whole : IsWhole (body w) a.file) (surveyed : SameOutside a.operation a.cells w.surveyed)
+module _ (tells sinks : Bool) (a x : BenchState) (p : SinkState) (w : Work) (whole : IsWhole (body w) a.file)
+    (surveyed : SameOutside a.operation a.cells w.surveyed)
     (same : x.file ≡ a.file) (outside : SameOutside a.operation a.cells x.cells) (pairs : PairsLeave a x (λ f c. Left a f c ⊎ IsWhole (body w) f))
     (off : BrokenOff a x w.surveyed) where
   nothing : TookNothing (sink_call sinks p p)
@@ -128,7 +131,8 @@ module _ (tells sinks : Bool) (a m d : BenchState) (p q r : SinkState) (w : Work
   comes_then b done rest = (rest.0, all_then sinks p q r (shown_plan w) plan done_text rest.1)
   comes_then b (refused store_fault) rest = inr (inr (⊎_elim
       (λ (breaks : HasJob d w × Breaks w b d). inl (record { job = breaks.0; prints = nothing_then sinks p q r (shown_plan w) plan rest.1; way = breaks.1 }))
-      (λ (closes : (HasJob d w ⊎ IsFree d.file) × HasReached d w b). inr (record { file = closes.0; reached = closes.1; prints = nothing_then sinks p q r (shown_plan w) plan rest.1 }))
+      (λ (closes : (HasJob d w ⊎ IsFree d.file) × HasReached d w b). inr
+      (record { file = closes.0; reached = closes.1; prints = nothing_then sinks p q r (shown_plan w) plan rest.1 }))
       rest.0))
   comes_then b (refused device_fault) rest = inr (inr (record { job = rest.0; prints = nothing_then sinks p q r (shown_plan w) plan rest.2; way = rest.1 }))
   comes_then b (refused output_fault) rest = inr (rest.0, part_then sinks p q r (shown_plan w) plan done_text rest.1)
@@ -138,7 +142,8 @@ module _ (tells sinks : Bool) (a m d : BenchState) (p q r : SinkState) (w : Work
       record { job = rest.0; prints = nothing_then sinks p q r (shown_plan w) plan rest.2; way = rest.1 }
   comes_then b (refused other) rest = absurd rest
 
-  pub ends_finished : (First : List ℕ → List ℕ → Type 0) (answer : Answer) → PairsLeave a m (λ f c. First f c ⊎ IsWhole (body w) f) → BrokenOff a m w.surveyed → m.operation ≡ None
+  pub ends_finished : (First : List ℕ → List ℕ → Type 0) (answer : Answer) → PairsLeave a m (λ f c. First f c ⊎ IsWhole (body w) f) → BrokenOff a m w.surveyed
+      → m.operation ≡ None
       → Finishes (bench_call tells m d) (sink_call sinks q r) w answer → Carries (bench_call tells a d) (sink_call sinks p r) First w answer
   ends_finished First answer pairs off idle rest = record {
     surveyed = surveyed;

@@ -48,7 +48,8 @@ same_fault done = refl
 same_fault (refused no_job) = refl
 same_fault (refused r) = refl
 
-counted_then : (first before after : ℕ) (fault : Fault) (answer : Answer) → before ≡ first → IsCounted before after fault answer → IsCounted first after fault (begun answer)
+counted_then : (first before after : ℕ) (fault : Fault) (answer : Answer) → before ≡ first → IsCounted before after fault answer
+    → IsCounted first after fault (begun answer)
 counted_then first before after fault answer same one = record {
   later = omega (arith, same, one.later);
   only = λ is. subst (λ (n : ℕ). Rose n after) same (one.only (sym (same_fault answer) ∙ is));
@@ -65,7 +66,8 @@ begun_counted tells a b d out answer stores devices counts = record {
 }
 
 -- a count that rose with its fault, behind calls that left it as it was
-raised_here : (first before after : ℕ) (fault : Fault) (answer : Answer) → before ≡ first → Rose before after → before ≤ after → fault_in answer ≡ Some fault → IsCounted first after fault answer
+raised_here : (first before after : ℕ) (fault : Fault) (answer : Answer) → before ≡ first → Rose before after → before ≤ after → fault_in answer ≡ Some fault
+    → IsCounted first after fault answer
 raised_here first before after fault answer same rose later is = record {
   later = omega (arith, same, later);
   only = λ its. subst (λ (n : ℕ). Rose n after) same rose;
@@ -75,19 +77,27 @@ raised_here first before after fault answer same rose later is = record {
 -- a job was begun, and no fault was counted; then a line was put, or it failed
 module _ (tells sinks : Bool) (a b : BenchState) (p r : SinkState) (one : BenchCounted (bench_call tells a b) (sink_call sinks p p) done) where
   pub put_counted : r.faults ≡ p.faults → BenchCounted (bench_call tells a b) (sink_call sinks p r) done
-  put_counted same = record { store_count = one.store_count; device_count = one.device_count; out_count = unraised p.faults r.faults output done same (λ is. cc) }
+  put_counted same = record {
+    store_count = one.store_count;
+    device_count = one.device_count;
+    out_count =
+        unraised p.faults r.faults output done same (λ is. cc);
+  }
 
   pub unput_counted : Rose p.faults r.faults → p.faults ≤ r.faults → BenchCounted (bench_call tells a b) (sink_call sinks p r) (refused output_fault)
   unput_counted rose later =
       let answer = refused output_fault in
       record {
-        store_count = unraised a.store_faults b.store_faults store answer (uncounted a.store_faults b.store_faults store one.store_count) (λ its. let same : output ≡ store = cc in cc);
-        device_count = unraised a.device_faults b.device_faults device answer (uncounted a.device_faults b.device_faults device one.device_count) (λ its. let same : output ≡ device = cc in cc);
+        store_count = unraised a.store_faults b.store_faults store answer (uncounted a.store_faults b.store_faults store one.store_count)
+            (λ its. let same : output ≡ store = cc in cc);
+        device_count = unraised a.device_faults b.device_faults device answer (uncounted a.device_faults b.device_faults device one.device_count)
+            (λ its. let same : output ≡ device = cc in cc);
         out_count = raised_here p.faults p.faults r.faults output answer refl rose later refl;
       }
 
 -- a session was opened, and no fault was counted
-pub counted_behind : (tells : Bool) (a b d : BenchState) (out : SinkCall) (answer : Answer) → b.store_faults ≡ a.store_faults → b.device_faults ≡ a.device_faults
+pub counted_behind : (tells : Bool) (a b d : BenchState) (out : SinkCall) (answer : Answer) → b.store_faults ≡ a.store_faults
+    → b.device_faults ≡ a.device_faults
     → BenchCounted (bench_call tells b d) out answer → BenchCounted (bench_call tells a d) out answer
 counted_behind tells a b d out answer stores devices counts = record {
   store_count = subst (λ (n : ℕ). IsCounted n d.store_faults store answer) stores counts.store_count;
@@ -97,7 +107,8 @@ counted_behind tells a b d out answer stores devices counts = record {
 
 -- its survey failed
 pub survey_counted : (tells sinks : Bool) (b m : BenchState) (p : SinkState) (fault : SurveyFault)
-    → bench.IsCounted b.store_faults m.store_faults (is_store_fault (survey_fault fault)) → bench.IsCounted b.device_faults m.device_faults (is_device_fault (survey_fault fault))
+    → bench.IsCounted b.store_faults m.store_faults (is_store_fault (survey_fault fault))
+    → bench.IsCounted b.device_faults m.device_faults (is_device_fault (survey_fault fault))
     → BenchCounted (bench_call tells b m) (sink_call sinks p p) (refused (of_survey fault))
 survey_counted tells sinks b m p survey.OutOfMemory counts causes =
     let answer = refused (of_survey survey.OutOfMemory) in
@@ -136,7 +147,8 @@ module _ (tells sinks : Bool) (a m : BenchState) (o p : SinkState) (text : Surve
       }
 
   pub carried_counted : (found : Option Surveyed) (u : Unit {0}) → IsSomeAnd found P → IfSome found (λ v. Puts sinks o p (text v) (Ok u))
-      → (n : BenchState) (q : SinkState) (answer : Answer) → BenchCounted (bench_call tells m n) (sink_call sinks p q) answer → BenchCounted (bench_call tells a n) (sink_call sinks o q) answer
+      → (n : BenchState) (q : SinkState) (answer : Answer) → BenchCounted (bench_call tells m n) (sink_call sinks p q) answer
+      → BenchCounted (bench_call tells a n) (sink_call sinks o q) answer
   carried_counted None u some puts n q answer counts = absurd some
   carried_counted (Some v) u some puts n q answer counts = record {
     store_count = subst (λ (k : ℕ). IsCounted k n.store_faults store answer) stores counts.store_count;

@@ -79,7 +79,8 @@ module _ (tells sinks : Bool) (b : BenchState) (o : SinkState) (many : length b.
     its_job : HasTexts files aim → size_of aim.board.regions ≡ b.cell_count → IsJob (job_for files aim b.cells) aim.board aim.algorithms
     its_job has sized = aim_job raw_at files aim has b.cells is (many ∙ sym sized)
 
-    program_begins : (answer : Answer) → yields answer ≡ true → is_of_work answer ≡ false → ((w : Work) → Comes (bench_call tells b b) (sink_call sinks o o) w nothing_broken answer)
+    program_begins : (answer : Answer) → yields answer ≡ true → is_of_work answer ≡ false
+        → ((w : Work) → Comes (bench_call tells b b) (sink_call sinks o o) w nothing_broken answer)
         → HasTexts files aim → size_of aim.board.regions ≡ b.cell_count → Begins (bench_call tells b b) (sink_call sinks o o) files aim answer
     program_begins answer yield early comes has sized =
         let w = work_to New (job_for files aim b.cells) aim.board aim.algorithms b.cells in
@@ -104,15 +105,22 @@ module _ (tells sinks : Bool) (b : BenchState) (o : SinkState) (many : length b.
     }
 
     -- `program` and `begin` before any work
-    pub program_unread : (r : Refusal) → IsEarly r → OverFile (bench_call tells b b) (sink_call sinks o o) (size_of aim.board.regions) (refused r) (HasTexts files aim)
+    pub program_unread : (r : Refusal) → IsEarly r → OverFile (bench_call tells b b) (sink_call sinks o o) (size_of aim.board.regions) (refused r)
+        (HasTexts files aim)
         (λ has. Begins (bench_call tells b b) (sink_call sinks o o) files aim (refused r))
     program_unread out_of_memory its = over_here (size_of aim.board.regions) (refused out_of_memory) refl (λ of. cc)
-        (program_begins (refused out_of_memory) refl refl (λ w. record { file = inr refl; cells = same_here b.operation refl; prints = record { taken = refl; faults = refl } }))
+        (program_begins (refused out_of_memory) refl refl (λ w. record {
+          file = inr refl;
+          cells = same_here b.operation refl;
+          prints =
+              record { taken = refl; faults = refl };
+        }))
     program_unread (input_fault name) its = over_here (size_of aim.board.regions) (refused (input_fault name)) refl (λ of. cc)
         (program_begins (refused (input_fault name)) refl refl (λ w. tt))
     program_unread r its = absurd its
 
-    pub begin_unread : (r : Refusal) → IsEarly r → OverFile (bench_call tells b b) (sink_call sinks o o) (size_of aim.board.regions) (refused r) (HasTexts files aim)
+    pub begin_unread : (r : Refusal) → IsEarly r → OverFile (bench_call tells b b) (sink_call sinks o o) (size_of aim.board.regions) (refused r)
+        (HasTexts files aim)
         (λ has. Starts (bench_call tells b b) (sink_call sinks o o) files aim (refused r))
     begin_unread out_of_memory its = over_here (size_of aim.board.regions) (refused out_of_memory) refl (λ of. cc)
         (begin_starts (refused out_of_memory) (only_looked tells sinks b o))

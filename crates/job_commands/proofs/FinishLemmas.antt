@@ -1,5 +1,6 @@
 -- A session from its script on: entered (s), gone through its script (m), closed (d).
-use Rattle.std.proofs.Common.{◌≡◌, ⊎_elim, inl, inr, refl, ◌+◌, ◌∙◌, ℕ, Bool, false, IsTrue, List, [], ◌∷◌, drop, Option, Some, None, IfSome, IsSomeAnd, is_some, sym, ap, subst}
+use Rattle.std.proofs.Common.{◌≡◌, ⊎_elim, inl, inr, refl, ◌+◌, ◌∙◌, ℕ, Bool, false, IsTrue, List, [], ◌∷◌, drop, Option, Some, None, IfSome, IsSomeAnd}
+use Rattle.std.proofs.Common.{is_some, sym, ap, subst}
 use Rattle.bench_model.specs.History.{left, GoesOn, Leaves, LeftOnly}
 use Rattle.bench_model.specs.State.{BenchState, file_half, cells_half}
 use Rattle.bench_model.specs.Calls.{CellsStay, FileIsRead}
@@ -49,14 +50,16 @@ abbrev pub ClosePairs : BenchState → BenchState → code.Job → Surveyed → 
 ClosePairs m d k v = PairsLeave m d (λ f c. IsWholeOrClosed (drop 1 m.file) f × (c ≡ goal_in k v.goal m.file))
 
 pub closed_as : (m d : BenchState) (k j : code.Job) (o q : Option Surveyed) → k ≡ j → o ≡ q → IfSome o (ClosePairs m d k) → IfSome q (ClosePairs m d j)
-closed_as m d k j o q is same close = subst (λ (i : code.Job). IfSome q (ClosePairs m d i)) is (subst (λ (x : Option Surveyed). IfSome x (ClosePairs m d k)) same close)
+closed_as m d k j o q is same close = subst (λ (i : code.Job). IfSome q (ClosePairs m d i)) is
+    (subst (λ (x : Option Surveyed). IfSome x (ClosePairs m d k)) same close)
 
 pub nothing_broken : Broken
 nothing_broken = record { legs = []; last = [] }
 
 -- Of any work: each end, by what went before.
 
-module _ (tells : Bool) (w : Work) (s m : BenchState) (out : SinkCall) (answer : Answer) (whole : IsWhole (body w) s.file) (only : LeftOnly s.file (file_half s))
+module _ (tells : Bool) (w : Work) (s m : BenchState) (out : SinkCall) (answer : Answer) (whole : IsWhole (body w) s.file)
+    (only : LeftOnly s.file (file_half s))
     (stay : FileIsRead tells s m) where
   early : GoesOn (cells_half s) (cells_half m) → PairsLeave s m (λ f c. IsWhole (body w) f)
   early goes = pairs_of (λ f. IsWhole (body w) f) (λ c. Unit {0}) (λ f c. IsWhole (body w) f)
@@ -81,7 +84,8 @@ module _ (tells : Bool) (w : Work) (s m : BenchState) (out : SinkCall) (answer :
   on_through : (d : BenchState) (P : List ℕ → Type 0) → CellsStay m d → Leaves (cells_half s) (cells_half m) P → Leaves (cells_half s) (cells_half d) P
   on_through d P cells first = leaves_then P first (stays_leaves P (leaves_left P first) cells.half)
 
-  ends_in_close : (d : BenchState) (broken : Broken) → FinishComes (bench_call tells s d) out w broken answer → Leaves (cells_half s) (cells_half m) (IsOnPath w broken)
+  ends_in_close : (d : BenchState) (broken : Broken) → FinishComes (bench_call tells s d) out w broken answer
+      → Leaves (cells_half s) (cells_half m) (IsOnPath w broken)
       → (KeepsDuties w → Leaves (cells_half s) (cells_half m) (IsOutsidePlanAsSurveyed w)) → (KeepsDuties w → IsUnless answer done)
       → CellsStay m d → PairsLeave m d (λ f c. IsWholeOrClosed (body w) f × (c ≡ w.goal)) → Finishes (bench_call tells s d) out w answer
   ends_in_close d broken comes path local complete cells close = record {
@@ -89,7 +93,8 @@ module _ (tells : Bool) (w : Work) (s m : BenchState) (out : SinkCall) (answer :
     comes = comes;
     closing = m.moment;
     pairs = in_turn (λ f c. IsWhole (body w) f) (IsAtClose (body w) w.goal) (early path.goes_on)
-        (pairs_as (λ f c. IsWholeOrClosed (body w) f × (c ≡ w.goal)) (IsAtClose (body w) w.goal) (λ f c both. record { whole_or_closed = both.0; done = both.1 }) close);
+        (pairs_as (λ f c. IsWholeOrClosed (body w) f × (c ≡ w.goal)) (IsAtClose (body w) w.goal)
+        (λ f c both. record { whole_or_closed = both.0; done = both.1 }) close);
     files_past = (goes_then stay.moments.goes_on close.files).past;
     path = on_through d (IsOnPath w broken) cells path;
     local = λ keeps. on_through d (IsOutsidePlanAsSurveyed w) cells (local keeps);
@@ -98,20 +103,24 @@ module _ (tells : Bool) (w : Work) (s m : BenchState) (out : SinkCall) (answer :
 
 -- Of the work of a session.
 
-module _ (tells : Bool) (told : IsTrue tells) (j : code.Job) (goal : Goal) (text : Job) (image : text.image ≡ j.image) (file : List ℕ) (snapshot : text.snapshot ≡ snapshot_in j file) (cells : List ℕ) where
+module _ (tells : Bool) (told : IsTrue tells) (j : code.Job) (goal : Goal) (text : Job) (image : text.image ≡ j.image) (file : List ℕ)
+    (snapshot : text.snapshot ≡ snapshot_in j file) (cells : List ℕ) where
   abbrev its_work : Work
   its_work = session_work goal j text cells
 
   pub same_goal : (g : Goal) → goal_in j g file ≡ text_goal_in g text (board.shown j.board)
-  same_goal New = ap (λ (r : List Run). overlaid r j.board.regions (snapshot_in j file)) (sym image) ∙ ap (λ (c : List ℕ). overlaid text.image j.board.regions c) (sym snapshot)
+  same_goal New = ap (λ (r : List Run). overlaid r j.board.regions (snapshot_in j file)) (sym image)
+      ∙ ap (λ (c : List ℕ). overlaid text.image j.board.regions c) (sym snapshot)
   same_goal Old = sym snapshot
 
   -- the plan that was made for a region is the chosen one
-  one_chosen : (b : board.Shown) (region : ℕ) (a : flm.Shown) (old new : List ℕ) (p : Planned) → IsPlannedFor tells b a (part (site_of b a region) old) (part (site_of b a region) new) p → p ≡ plan_in b region a old new
+  one_chosen : (b : board.Shown) (region : ℕ) (a : flm.Shown) (old new : List ℕ) (p : Planned)
+      → IsPlannedFor tells b a (part (site_of b a region) old) (part (site_of b a region) new) p → p ≡ plan_in b region a old new
   one_chosen b region a old new p is =
       ap (λ (l : Geometry). planned l p.base p.plan) is.layout ∙ ap (λ (n : ℕ). planned (device_of a) n p.plan) is.base
       ∙ ap (λ (c : Chosen). planned (device_of a) a.device.base c) ((is.plan told).chosen
-      ∙ ap (λ (l : Geometry). chosen l b.weights (is_some a.entries.erase_chip) a.device.empty (part (site_of b a region) old) (part (site_of b a region) new)) is.layout)
+      ∙ ap (λ (l : Geometry). chosen l b.weights (is_some a.entries.erase_chip) a.device.empty (part (site_of b a region) old) (part (site_of b a region) new))
+      is.layout)
 
   all_chosen : (b : board.Shown) (region : ℕ) (algorithms : List flm.Shown) (old new : List ℕ) (plans : List Planned)
       → ArePlannedFor tells b region algorithms old new plans → plans ≡ plans_in b region algorithms old new
@@ -198,18 +207,21 @@ module _ (tells sinks : Bool) (told : IsTrue tells) (j : code.Job) (goal : Goal)
         → Finishes (bench_call tells s m) (sink_call sinks p p) w (refused (call_failed number call e))
     ends_failed number call e goes fails =
         let f = followed o (end.CallFailed number call e) has goes in
-        ends_in_script tells w s m (sink_call sinks p p) (refused (call_failed number call e)) stands.whole only stay f.broken (job_stays, f.ends, nothing) f.moments its_local
+        ends_in_script tells w s m (sink_call sinks p p) (refused (call_failed number call e)) stands.whole only stay f.broken
+        (job_stays, f.ends, nothing) f.moments its_local
         (λ serves. absurd (unfailing o has (fails serves)))
 
     pub ends_at_fault : IfSome o (λ v. Goes j v end.DeviceFault s m) → Finishes (bench_call tells s m) (sink_call sinks p p) w (refused device_fault)
     ends_at_fault goes =
         let f = followed o end.DeviceFault has goes in
-        ends_in_script tells w s m (sink_call sinks p p) (refused device_fault) stands.whole only stay f.broken (job_stays, f.ends, nothing) f.moments its_local (λ serves. inr refl)
+        ends_in_script tells w s m (sink_call sinks p p) (refused device_fault) stands.whole only stay f.broken (job_stays, f.ends, nothing) f.moments its_local
+        (λ serves. inr refl)
 
     pub ends_unread : IfSome o (λ v. Goes j v end.StoreFault s m) → Finishes (bench_call tells s m) (sink_call sinks p p) w (refused store_fault)
     ends_unread goes =
         let f = followed o end.StoreFault has goes in
-        ends_in_script tells w s m (sink_call sinks p p) (refused store_fault) stands.whole only stay f.broken (inl (job_stays, f.ends), nothing) f.moments its_local (λ serves. inr refl)
+        ends_in_script tells w s m (sink_call sinks p p) (refused store_fault) stands.whole only stay f.broken (inl (job_stays, f.ends), nothing) f.moments
+        its_local (λ serves. inr refl)
 
     -- The goal is reached, and the job is closed or was to be.
     module _ (d : BenchState) (r : Reached) (goes : IfSome o (λ v. Goes j v (end.Reached r) s m)) (idle : m.operation ≡ None) (cells : CellsStay m d)
@@ -228,22 +240,28 @@ module _ (tells sinks : Bool) (told : IsTrue tells) (j : code.Job) (goal : Goal)
       behind = ap (drop 1) job_stays
 
       close_from : (q : Option Surveyed) → IsSomeAnd q (λ v. HasSurveyed tells j goal s.file s.cells v)
-          → IfSome q (λ v. PairsLeave m d (λ f c. IsWholeOrClosed (drop 1 m.file) f × (c ≡ goal_in j v.goal m.file))) → PairsLeave m d (λ f c. IsWholeOrClosed (body w) f × (c ≡ w.goal))
+          → IfSome q (λ v. PairsLeave m d (λ f c. IsWholeOrClosed (drop 1 m.file) f × (c ≡ goal_in j v.goal m.file)))
+          → PairsLeave m d (λ f c. IsWholeOrClosed (body w) f × (c ≡ w.goal))
       close_from None some pairs = absurd some
       close_from (Some v) some pairs =
-          subst (λ (g : List ℕ). PairsLeave m d (λ f c. IsWholeOrClosed (body w) f × (c ≡ g))) (goal_is tells told j goal stands.text stands.image s.file stands.snapshot s.cells v some)
+          subst (λ (g : List ℕ). PairsLeave m d (λ f c. IsWholeOrClosed (body w) f × (c ≡ g)))
+          (goal_is tells told j goal stands.text stands.image s.file stands.snapshot s.cells v some)
           (subst (λ (b : List ℕ). PairsLeave m d (λ f c. IsWholeOrClosed b f × (c ≡ goal_in j v.goal s.file))) behind
           (subst (λ (l : List ℕ). PairsLeave m d (λ f c. IsWholeOrClosed (drop 1 m.file) f × (c ≡ goal_in j v.goal l))) (stay.file told) pairs))
 
-      closes : (out : SinkCall) (answer : Answer) → IsUnless answer done → FinishComes (bench_call tells s d) out w f.broken answer → Finishes (bench_call tells s d) out w answer
-      closes out answer due comes = ends_in_close tells w s m out answer stands.whole only stay d f.broken comes f.moments its_local (λ serves. due) cells (close_from o has close)
+      closes : (out : SinkCall) (answer : Answer) → IsUnless answer done → FinishComes (bench_call tells s d) out w f.broken answer
+          → Finishes (bench_call tells s d) out w answer
+      closes out answer due comes = ends_in_close tells w s m out answer stands.whole only stay d f.broken comes f.moments its_local (λ serves. due) cells
+          (close_from o has close)
 
-      pub ends_done : (q : SinkState) → d.file ≡ 0 ∷ drop 1 m.file → TookAll (sink_call sinks p q) done_text → Finishes (bench_call tells s d) (sink_call sinks p q) w done
+      pub ends_done : (q : SinkState) → d.file ≡ 0 ∷ drop 1 m.file → TookAll (sink_call sinks p q) done_text
+          → Finishes (bench_call tells s d) (sink_call sinks p q) w done
       ends_done q file took = closes (sink_call sinks p q) done (inl refl) (record { file = file ∙ ap (λ (b : List ℕ). 0 ∷ b) behind; reached = reached }, took)
 
       pub ends_cut : (q : SinkState) → d.file ≡ 0 ∷ drop 1 m.file → TookPart (sink_call sinks p q) done_text
           → Finishes (bench_call tells s d) (sink_call sinks p q) w (refused output_fault)
-      ends_cut q file took = closes (sink_call sinks p q) (refused output_fault) (inr refl) (record { file = file ∙ ap (λ (b : List ℕ). 0 ∷ b) behind; reached = reached }, took)
+      ends_cut q file took = closes (sink_call sinks p q) (refused output_fault) (inr refl)
+          (record { file = file ∙ ap (λ (b : List ℕ). 0 ∷ b) behind; reached = reached }, took)
 
       -- after a close that failed
       pub ends_unclosed : IsWholeOrClosed (drop 1 m.file) d.file → Finishes (bench_call tells s d) (sink_call sinks p p) w (refused store_fault)

@@ -1,5 +1,5 @@
 -- How many algorithms a job has. As many as its board has regions: for the lines of plans.
-use Rattle.std.proofs.Common.{◌≡◌, ◌≤◌, ◌<◌, ◌∙◌, sym, ap, suc, arith, refl, List, [], ◌∷◌, length}
+use Rattle.std.proofs.Common.{◌≡◌, ◌≤◌, ◌<◌, ◌∙◌, ap, suc, arith, refl, List, [], ◌∷◌, length}
 use Rattle.board_file.specs.Shown as board
 use Rattle.flm_descriptor.specs.declared.algorithm.Algorithm.{Algorithm}
 use Rattle.job_text.specs.declared.job.Job.{Job}

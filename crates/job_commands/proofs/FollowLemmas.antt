@@ -26,11 +26,13 @@ record Followed (aim : stops.CampaignJob) (new : BenchState) (end : ℕ) (later 
   each : length closings ≡ length later
   go_on : AllGoOn aim new end (calls_of closings later)
 
-module _ (start : BenchState) (job : Job) (b : board.Shown) (xs : List flm.Shown) (is_job : IsJob job b xs) (free : (f : List ℕ) → left (file_half start) f → IsFree f) where
+module _ (start : BenchState) (job : Job) (b : board.Shown) (xs : List flm.Shown) (is_job : IsJob job b xs)
+    (free : (f : List ℕ) → left (file_half start) f → IsFree f) where
   abbrev its_aim : stops.CampaignJob
   its_aim = aim_of job b
 
-  follow : (last : Option (List ℕ)) (old new : BenchState) (closing : ℕ) (goal : List ℕ) (end : ℕ) (later : List FollowingCall) → old.moment ≤ end → end ≤ new.moment
+  follow : (last : Option (List ℕ)) (old new : BenchState) (closing : ℕ) (goal : List ℕ) (end : ℕ) (later : List FollowingCall) → old.moment ≤ end
+      → end ≤ new.moment
       → IsSafe start its_aim last old new closing goal → AllAnswer GoOnAnswers later → AllFollow its_aim new end later → Followed its_aim new end later
   follow last old new closing goal end [] from to safe answer all = record { closings = []; each = refl; go_on = tt }
   follow last old new closing goal end (l ∷ rest) from to safe answer all =
@@ -42,7 +44,8 @@ module _ (start : BenchState) (job : Job) (b : board.Shown) (xs : List flm.Shown
       let keeps = later_keeps l.goal l.call answer.0 job b xs all.1.tells is_job class in
       let kept = keeps.keeps l.end all.1.later all.1.in_time in
       let step = one start its_aim now (later_call l.call l.goal keeps.closing l.end) good kept class in
-      let next = follow now before l.call.bench.after keeps.closing (goal_of its_aim (asked_by l.goal)) l.end rest all.1.later all.1.in_time step.0 answer.1 all.2 in
+      let next = follow now before l.call.bench.after keeps.closing (goal_of its_aim (asked_by l.goal)) l.end rest all.1.later all.1.in_time step.0 answer.1
+      all.2 in
       record { closings = keeps.closing ∷ next.closings; each = ap suc next.each; go_on = (all.0, kept, next.go_on) }
 
 pub calls_are_safe : (asked : FilesAsked) (first : Call) (end : ℕ) (files : FilesGiven) (aim : Aim) (later : List FollowingCall) → HasTexts files aim
@@ -59,8 +62,15 @@ calls_are_safe asked first end files aim later has answers is answer =
       is_job = begins.is_job;
       closing = begins.closing;
       are_safe = λ all.
-          let followed = follow start job aim.board aim.algorithms begins.is_job is.free None start first.bench.after begins.closing its.laid end later is.later is.in_time safe answer all in
+          let followed = follow start job aim.board aim.algorithms begins.is_job is.free None start first.bench.after begins.closing its.laid end later is.later
+          is.in_time safe answer all in
           let made : IsCampaign (campaign_of its first begins.closing end followed.closings later) =
           record { told = is.told; free = is.free; later = is.later; in_time = is.in_time; first = begins.stops; calls = followed.go_on } in
-          record { closings = followed.closings; each = followed.each; is_campaign = made; safe = campaigns_are_safe (campaign_of its first begins.closing end followed.closings later) made };
+          record {
+            closings = followed.closings;
+            each = followed.each;
+            is_campaign = made;
+            safe =
+                campaigns_are_safe (campaign_of its first begins.closing end followed.closings later) made;
+          };
     }

@@ -9,7 +9,9 @@ use Rattle.flash_session.specs.declared.fault.SessionFault.{SessionFault}
 use Rattle.flash_session.specs.declared.fault.SessionFault.TheVariants as session
 use Rattle.flash_session.specs.declared.fault.SurveyFault.{SurveyFault}
 use Rattle.flash_session.specs.declared.fault.SurveyFault.TheVariants as survey
-use Rattle.report_text.specs.Refusal.{Refusal, out_of_memory, input_fault, usage, board_refused, flm_refused, other_device, no_room, image_refused, image_misplaced, job_open, no_job, not_a_job, damaged, cells_differ, store_fault, device_fault, output_fault, call_failed, mismatch}
+use Rattle.report_text.specs.Refusal.{Refusal, out_of_memory, input_fault, usage, board_refused, flm_refused, other_device, no_room, image_refused}
+use Rattle.report_text.specs.Refusal.{image_misplaced, job_open, no_job, not_a_job, damaged, cells_differ, store_fault, device_fault, output_fault, call_failed}
+use Rattle.report_text.specs.Refusal.{mismatch}
 use Rattle.command_answers.specs.Call.{BenchCall, SinkCall, Answer, done, refused}
 use Rattle.command_answers.specs.Answered.{StandsEarly, IsOf, on_job_file}
 use Rattle.job_commands.specs.Answers.{is_of_work, IsSound}

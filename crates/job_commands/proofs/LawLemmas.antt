@@ -33,7 +33,8 @@ use Rattle.job_commands.specs.Law.{aim_of, asked_by, KeepsFor, LaterKeeps, First
 use Rattle.job_commands.proofs.RegionLemmas.{aim_job}
 
 -- A refusal of a job file only looks at it, whether it is answered or yields.
-looks : (bench : BenchCall) (out : SinkCall) (answer : Answer) (refusal : Refusal) → (StandsEarly on_job_file bench out (refused refusal) → OnlyLooked bench out)
+looks : (bench : BenchCall) (out : SinkCall) (answer : Answer) (refusal : Refusal)
+    → (StandsEarly on_job_file bench out (refused refusal) → OnlyLooked bench out)
     → StandsEarly on_job_file bench out answer → Refuses (OnlyLooked bench out) answer refusal → OnlyLooked bench out
 looks bench out answer refusal early stands either = ⊎_elim
     (λ (is : answer ≡ refused refusal). early (subst (λ (a : Answer). StandsEarly on_job_file bench out a) is stands))
@@ -47,11 +48,13 @@ not_done Did answer refusal either is = ⊎_elim
     either
 
 -- where the file was only read, a stop leaves nothing new
-only_left : (tells : Bool) (a b : BenchState) → OnlyReads tells a b → (k : ℕ) (f c : List ℕ) → a.moment ≤ k → k ≤ b.moment → b.files_at k f → b.cells_at k c → Left a f c
+only_left : (tells : Bool) (a b : BenchState) → OnlyReads tells a b → (k : ℕ) (f c : List ℕ) → a.moment ≤ k → k ≤ b.moment → b.files_at k f → b.cells_at k c
+    → Left a f c
 only_left tells a b reads k f c from to f_at c_at = (reads.moments.each k f from to f_at, (reads.cells.half.same k c from to).0 c_at)
 
 -- a call that only looked, on a file that its campaign's job may have
-looked_keeps : (aim : stops.CampaignJob) (goal : Goal) (call : Call) → IsTrue call.bench.tells → OnlyLooked call.bench call.out → (call.status ≡ 0 → ⊥) → KeepsFor aim goal call
+looked_keeps : (aim : stops.CampaignJob) (goal : Goal) (call : Call) → IsTrue call.bench.tells → OnlyLooked call.bench call.out → (call.status ≡ 0 → ⊥)
+    → KeepsFor aim goal call
 looked_keeps aim goal call told looked not_zero =
     let reads = looked.reads told in
     let on : call.bench.before.moment ≤ call.bench.after.moment = reads.moments.goes_on.later in
@@ -64,7 +67,8 @@ looked_keeps aim goal call told looked not_zero =
           pairs = record {
             started = omega (arith, on);
             later = on;
-            before = λ k f c at_from at_to less f_at c_at. inl (only_left call.bench.tells call.bench.before call.bench.after reads k f c at_from at_to f_at c_at);
+            before = λ k f c at_from at_to less f_at c_at. inl
+                (only_left call.bench.tells call.bench.before call.bench.after reads k f c at_from at_to f_at c_at);
             from = λ k f c at_from at_to f_at c_at. absurd (omega (arith, at_from, at_to));
           };
         };
@@ -78,7 +82,8 @@ looked_keeps aim goal call told looked not_zero =
     }
 
 -- a call that carries the campaign's job
-carried_keeps : (call : Call) (answer : Answer) (w : Work) (aim : stops.CampaignJob) (goal : Goal) → (call.status ≡ 0 → answer ≡ done) → IsWhole (body w) call.bench.before.file
+carried_keeps : (call : Call) (answer : Answer) (w : Work) (aim : stops.CampaignJob) (goal : Goal) → (call.status ≡ 0 → answer ≡ done)
+    → IsWhole (body w) call.bench.before.file
     → aim.body ≡ body w → goal_of aim (asked_by goal) ≡ w.goal → Carries call.bench call.out (Left call.bench.before) w answer → KeepsFor aim goal call
 carried_keeps call answer w aim goal zero_is whole bodies goals carries = record {
   closing = carries.stops.closing;
@@ -86,7 +91,8 @@ carried_keeps call answer w aim goal zero_is whole bodies goals carries = record
     later = from;
     in_time = to;
     stands = λ is. subst (λ (b : List ℕ). WorkStops call.bench.before call.bench.after carries.stops.closing b (goal_of aim (asked_by goal))) (sym bodies)
-        (subst (λ (g : List ℕ). WorkStops call.bench.before call.bench.after carries.stops.closing (body w) g) (sym goals) (record { pairs = carries.stops.pairs }));
+        (subst (λ (g : List ℕ). WorkStops call.bench.before call.bench.after carries.stops.closing (body w) g) (sym goals)
+        (record { pairs = carries.stops.pairs }));
     idle = λ is_free. absurd (not_free w.job call.bench.before.file whole is_free);
     zero = λ zero is.
         let comes = subst (λ (a : Answer). Comes call.bench call.out w carries.broken a) (zero_is zero) carries.comes in
@@ -118,8 +124,10 @@ later_keeps goal call answers job b xs told is_job class =
     (λ (other : size_of b.regions ≢ call.bench.before.cell_count).
     let some : IsSomeJob call.bench.before.file = record { job = job; board = b; algorithms = xs; is = is_job; whole = whole } in
     let refuses = from.other_size some other in
-    looked_keeps (aim_of job b) goal call told (looks call.bench call.out answers.answer (cells_differ (size_of b.regions) call.bench.before.cell_count) (λ early. early) answers.ends.lawful.stands refuses)
-    (λ zero. not_done (OnlyLooked call.bench call.out) answers.answer (cells_differ (size_of b.regions) call.bench.before.cell_count) refuses (answers.zero zero)))
+    looked_keeps (aim_of job b) goal call told (looks call.bench call.out answers.answer (cells_differ (size_of b.regions) call.bench.before.cell_count)
+    (λ early. early) answers.ends.lawful.stands refuses)
+    (λ zero. not_done (OnlyLooked call.bench call.out) answers.answer (cells_differ (size_of b.regions) call.bench.before.cell_count) refuses
+    (answers.zero zero)))
     (cases_eq (size_of b.regions) call.bench.before.cell_count))
     class
 

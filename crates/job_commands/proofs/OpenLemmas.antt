@@ -19,7 +19,7 @@ use Rattle.flash_session.specs.declared.fault.SurveyFault.TheVariants as survey
 use Rattle.flash_session.specs.declared.session.Session.{Session}
 use Rattle.flash_session.specs.declared.goal.Goal.{Goal}
 use Rattle.flash_session.specs.Opened.{IsSessionFault, ReadsIfRefused}
-use Rattle.report_text.specs.Refusal.{not_a_job, damaged}
+use Rattle.report_text.specs.Refusal.{not_a_job}
 use Rattle.command_answers.specs.Call.{BenchCall, SinkCall, Answer, refused, bench_call, sink_call}
 use Rattle.command_answers.specs.Said.{TookNothing}
 use Rattle.command_answers.specs.Answered.{OnlyLooked, StandsEarly, on_job_file}
@@ -31,20 +31,23 @@ use Rattle.job_commands.specs.Refused.{of_session, of_survey}
 use Rattle.job_commands.proofs.CarryLemmas.{no_memory, no_store, no_device, opened}
 
 -- where the file stands for a job of so many cells, the work on this job is all that is to be shown
-pub only_stands : (tells : Bool) (a d : BenchState) (out : SinkCall) (goal : Goal) (answer : Answer) (some : IsSomeJob a.file) → size_of some.board.regions ≡ a.cell_count
+pub only_stands : (tells : Bool) (a d : BenchState) (out : SinkCall) (goal : Goal) (answer : Answer) (some : IsSomeJob a.file)
+    → size_of some.board.regions ≡ a.cell_count
     → (surveyed : List ℕ) → Carries (bench_call tells a d) out (Left a) (work_to goal some.job some.board some.algorithms surveyed) answer
     → GoesOnFrom goal (bench_call tells a d) out answer
 only_stands tells a d out goal answer some size surveyed carries = record {
   free = λ is_free. absurd (not_free some.job a.file some.whole is_free);
   not_job = λ at is. absurd (is.none.no_job some.job some.board some.algorithms some.is some.whole);
   is_damaged = λ kept found is. absurd (never_jobs a.file kept found is some.job some.board some.algorithms some.is some.whole);
-  other_size = λ other unequal. absurd (unequal (ap (λ (b : board.Shown). size_of b.regions) (one_job a.file other.is some.is other.whole some.whole).board ∙ size));
+  other_size = λ other unequal. absurd (unequal (ap (λ (b : board.Shown). size_of b.regions) (one_job a.file other.is some.is other.whole some.whole).board
+      ∙ size));
   stands = λ job b xs is whole same.
       let one = one_job a.file some.is is some.whole whole in (
         surveyed,
         subst (λ (k : Job). Carries (bench_call tells a d) out (Left a) (work_to goal k b xs surveyed) answer) one.job
             (subst (λ (c : board.Shown). Carries (bench_call tells a d) out (Left a) (work_to goal some.job c xs surveyed) answer) one.board
-            (subst (λ (ys : List flm.Shown). Carries (bench_call tells a d) out (Left a) (work_to goal some.job some.board ys surveyed) answer) one.algorithms carries)),
+            (subst (λ (ys : List flm.Shown). Carries (bench_call tells a d) out (Left a) (work_to goal some.job some.board ys surveyed) answer) one.algorithms
+            carries)),
       );
 }
 
@@ -75,7 +78,11 @@ module _ (tells sinks : Bool) (a b : BenchState) (p : SinkState) (goal : Goal) w
       not_job = λ at no. inr (refl, only_looked reads);
       is_damaged = λ kept found damage. inr (refl, only_looked reads);
       other_size = λ some unequal. inr (refl, only_looked reads);
-      stands = λ job c xs is_job whole size. (b.cells, no_memory tells sinks a b p (work_to goal job c xs b.cells) whole same file same (opened (body_of job) pairs) off);
+      stands = λ job c xs is_job whole size. (
+        b.cells,
+        no_memory tells sinks a b p (work_to goal job c xs b.cells) whole same file same
+            (opened (body_of job) pairs) off,
+      );
     }
     refuses_open (session.Open opening.OutOfMemory) is reads = absurd is
     refuses_open (session.Open opening.StoreFault) is reads = record {
@@ -83,7 +90,11 @@ module _ (tells sinks : Bool) (a b : BenchState) (p : SinkState) (goal : Goal) w
       not_job = λ at no. inr (refl, only_looked reads);
       is_damaged = λ kept found damage. inr (refl, only_looked reads);
       other_size = λ some unequal. inr (refl, only_looked reads);
-      stands = λ job c xs is_job whole size. (b.cells, no_store tells sinks a b p (work_to goal job c xs b.cells) whole same file same (opened (body_of job) pairs) off);
+      stands = λ job c xs is_job whole size. (
+        b.cells,
+        no_store tells sinks a b p (work_to goal job c xs b.cells) whole same file same
+            (opened (body_of job) pairs) off,
+      );
     }
     refuses_open (session.Open opening.NoJob) is reads = record {
       free = λ is_free. inl refl;
@@ -129,15 +140,22 @@ module _ (tells sinks : Bool) (a b : BenchState) (p : SinkState) (goal : Goal) w
       other_size = λ some unequal.
           let one = one_job a.file some.is is.some.is some.whole is.some.whole in
           absurd (unequal (ap (λ (y : board.Shown). size_of y.regions) one.board ∙ is.size));
-      stands = λ job c xs is_job whole size. (b.cells, no_device tells sinks a b p (work_to goal job c xs b.cells) whole same file same (opened (body_of job) pairs) off);
+      stands = λ job c xs is_job whole size. (
+        b.cells,
+        no_device tells sinks a b p (work_to goal job c xs b.cells) whole same file same
+            (opened (body_of job) pairs) off,
+      );
     }
 
 -- a survey that could not be made
-pub refuses_survey : (tells sinks : Bool) (a m : BenchState) (p : SinkState) (w : Work) → IsWhole (body w) a.file → SameOutside a.operation a.cells w.surveyed → m.file ≡ a.file
+pub refuses_survey : (tells sinks : Bool) (a m : BenchState) (p : SinkState) (w : Work) → IsWhole (body w) a.file → SameOutside a.operation a.cells w.surveyed
+    → m.file ≡ a.file
     → SameOutside a.operation a.cells m.cells → PairsLeave a m (λ f c. Left a f c ⊎ IsWhole (body w) f) → BrokenOff a m w.surveyed
     → (fault : SurveyFault) → Carries (bench_call tells a m) (sink_call sinks p p) (Left a) w (refused (of_survey fault))
-refuses_survey tells sinks a m p w whole surveyed same outside pairs off survey.OutOfMemory = no_memory tells sinks a m p w whole surveyed same outside pairs off
-refuses_survey tells sinks a m p w whole surveyed same outside pairs off survey.DeviceFault = no_device tells sinks a m p w whole surveyed same outside pairs off
+refuses_survey tells sinks a m p w whole surveyed same outside pairs off survey.OutOfMemory =
+    no_memory tells sinks a m p w whole surveyed same outside pairs off
+refuses_survey tells sinks a m p w whole surveyed same outside pairs off survey.DeviceFault =
+    no_device tells sinks a m p w whole surveyed same outside pairs off
 refuses_survey tells sinks a m p w whole surveyed same outside pairs off survey.StoreFault = no_store tells sinks a m p w whole surveyed same outside pairs off
 
 pub survey_stands : (bench : BenchCall) (out : SinkCall) (fault : SurveyFault) → TookNothing out → StandsEarly on_job_file bench out (refused (of_survey fault))

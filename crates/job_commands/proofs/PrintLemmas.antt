@@ -1,5 +1,6 @@
 -- What the work on a job prints, by its steps. What stands on `out` when a command ends, step by step.
-use Rattle.std.proofs.Common.{◌≡◌, ◌≤◌, ◌<◌, ◌+◌, ◌^◌, ◌++◌, ◌==◌, ◌∙◌, inl, inr, refl, sym, ap, subst, arith, append-nil, ℕ, zero, suc, Bool, true, false, List, [], ◌∷◌, length, get_or, sum_by, Option, Some, None, IfSome, IsSome, IsSomeAnd, Result, Ok, Err, IsErr}
+use Rattle.std.proofs.Common.{◌≡◌, ◌≤◌, ◌<◌, ◌+◌, ◌^◌, ◌++◌, ◌==◌, ◌∙◌, inl, inr, refl, sym, ap, subst, arith, append-nil, ℕ, zero, suc, Bool, true, false}
+use Rattle.std.proofs.Common.{List, [], ◌∷◌, length, get_or, sum_by, Option, Some, None, IfSome, IsSome, IsSomeAnd, Result, Ok, Err, IsErr}
 use Rattle.std.proofs.lemmas.Bool.{and_parts, eqb-true}
 use Rattle.std.proofs.lemmas.List.Sums.{sum_by-cons}
 use Rattle.outside_io.specs.State.{SinkState}
@@ -30,10 +31,10 @@ use Rattle.report_text.specs.Plan.{plan_text}
 use Rattle.report_text.specs.Region.{region_text}
 use Rattle.report_text.specs.Refusal.{Refusal, no_job, store_fault, device_fault, output_fault, call_failed, mismatch}
 use Rattle.command_answers.specs.Call.{SinkCall, sink_call, Answer, done, refused}
-use Rattle.command_answers.specs.Said.{TookNothing, TookAll, TookPart}
+use Rattle.command_answers.specs.Said.{TookNothing, TookAll}
 use Rattle.command_answers.specs.Answered.{IsOf}
 use Rattle.job_commands.specs.Work.{shown_region, plans_shown}
-use Rattle.job_commands.specs.Printed.{IsPlanFor, ArePlansFor, AreLawful, OfSomePlans, PrintsWork, PrintsEnd}
+use Rattle.job_commands.specs.Printed.{IsPlanFor, ArePlansFor, AreChosen, OfSomePlans, PrintsWork, PrintsEnd}
 use Rattle.job_commands.specs.Steps.{has_script, has_start, begun}
 use Rattle.job_commands.specs.Refused.{of_session, of_survey}
 use Rattle.job_commands.specs.Begin.{PrintsBegun}
@@ -84,10 +85,12 @@ plans_for tells b region (a ∷ rest) cells goal [] are = absurd are
 plans_for tells b region (a ∷ rest) cells goal (p ∷ more) are =
     (record { layout = are.0.layout; lawful = are.0.lawful; base = are.0.base }, plans_for tells b (region + 1) rest cells goal more are.1)
 
-pub surveyed_plans : (tells : Bool) (j : code.Job) (goal : Goal) (file cells : List ℕ) (o : Option Surveyed) → IsSomeAnd o (λ v. HasSurveyed tells j goal file cells v)
+pub surveyed_plans : (tells : Bool) (j : code.Job) (goal : Goal) (file cells : List ℕ) (o : Option Surveyed)
+    → IsSomeAnd o (λ v. HasSurveyed tells j goal file cells v)
     → IsSomeAnd o (λ v. ArePlansFor (algorithms_shown j.algorithms) v.regions)
 surveyed_plans tells j goal file cells None has = absurd has
-surveyed_plans tells j goal file cells (Some v) has = plans_for tells (board.shown j.board) 0 (algorithms_shown j.algorithms) cells (goal_in j goal file) v.regions has.regions
+surveyed_plans tells j goal file cells (Some v) has = plans_for tells (board.shown j.board) 0 (algorithms_shown j.algorithms) cells
+    (goal_in j goal file) v.regions has.regions
 
 pub as_many : (algorithms : List flm.Shown) (plans : List Planned) → ArePlansFor algorithms plans → length plans ≡ length algorithms
 as_many [] [] are = refl
@@ -95,14 +98,19 @@ as_many [] (p ∷ more) are = absurd are
 as_many (a ∷ rest) [] are = absurd are
 as_many (a ∷ rest) (p ∷ more) are = ap suc (as_many rest more are.1)
 
-are_lawful : (algorithms : List flm.Shown) (plans : List Planned) → ArePlansFor algorithms plans → AreLawful plans
-are_lawful [] [] are = tt
-are_lawful [] (p ∷ more) are = absurd are
-are_lawful (a ∷ rest) [] are = absurd are
-are_lawful (a ∷ rest) (p ∷ more) are = (are.0.lawful, are_lawful rest more are.1)
+are_chosen : (tells : Bool) (b : board.Shown) (region : ℕ) (algorithms : List flm.Shown) (cells goal : List ℕ) (plans : List Planned)
+    → ArePlannedFor tells b region algorithms cells goal plans → AreChosen b.weights algorithms plans
+are_chosen tells b region [] cells goal [] are = tt
+are_chosen tells b region [] cells goal (p ∷ more) are = absurd are
+are_chosen tells b region (a ∷ rest) cells goal [] are = absurd are
+are_chosen tells b region (a ∷ rest) cells goal (p ∷ more) are = (
+  record { device = record { layout = are.0.layout; lawful = are.0.lawful; base = are.0.base }; plan = are.0.some },
+  are_chosen tells b (region + 1) rest cells goal more are.1,
+)
 
 -- they have as many cells as the regions
-fill : (b : board.Shown) (regions : List Region) (algorithms : List flm.Shown) (plans : List Planned) → ArePlansFor algorithms plans → all_fit b regions algorithms ≡ true
+fill : (b : board.Shown) (regions : List Region) (algorithms : List flm.Shown) (plans : List Planned) → ArePlansFor algorithms plans
+    → all_fit b regions algorithms ≡ true
     → sum_by (λ (p : Planned). p.layout.size) plans ≡ size_of regions
 fill b [] [] [] are fit = refl
 fill b [] [] (p ∷ more) are fit = absurd are
@@ -123,26 +131,29 @@ fill b (r ∷ rs) (a ∷ rest) (p ∷ more) are fit =
       size,
     )
 
-record IsFor (count : ℕ) (plans : List Planned) : Type 0 where
+record IsFor (j : code.Job) (count : ℕ) (plans : List Planned) : Type 0 where
   some : 1 ≤ length plans
   few : length plans ≤ 2
-  lawful : AreLawful plans
+  chosen : AreChosen j.board.weights (algorithms_shown j.algorithms) plans
   size : sum_by (λ (p : Planned). p.layout.size) plans ≡ count
 
-is_for : (j : code.Job) (plans : List Planned) (count : ℕ) → ArePlansFor (algorithms_shown j.algorithms) plans → size_of j.board.regions ≡ count → IsFor count plans
-is_for j plans count are size =
+is_for : (tells : Bool) (j : code.Job) (goal : Goal) (file cells : List ℕ) (v : Surveyed) (count : ℕ) → HasSurveyed tells j goal file cells v
+    → size_of j.board.regions ≡ count → IsFor j count v.regions
+is_for tells j goal file cells v count has size =
+    let b = board.shown j.board in
     let algorithms = algorithms_shown j.algorithms in
-    let many = as_many algorithms plans are ∙ shown_length j.algorithms in
+    let are = plans_for tells b 0 algorithms cells (goal_in j goal file) v.regions has.regions in
+    let many = as_many algorithms v.regions are ∙ shown_length j.algorithms in
     record {
       some = omega (arith, many, some_algorithm j);
       few = omega (arith, many, few_algorithms j);
-      lawful = are_lawful algorithms plans are;
-      size = fill (board.shown j.board) j.board.regions algorithms plans are j.fit ∙ size;
+      chosen = are_chosen tells b 0 algorithms cells (goal_in j goal file) v.regions has.regions;
+      size = fill b j.board.regions algorithms v.regions are j.fit ∙ size;
     }
 
-module _ (sinks : Bool) (count : ℕ) (plans : List Planned) (fits : IsFor count plans) (p q : SinkState) where
+module _ (sinks : Bool) (j : code.Job) (count : ℕ) (plans : List Planned) (fits : IsFor j count plans) (p q : SinkState) where
   of_plans : (Printed : List ℕ → Type 0) → Printed (plans_shown plans) → OfSomePlans count Printed
-  of_plans Printed printed = record { plans = plans; some = fits.some; few = fits.few; lawful = fits.lawful; size = fits.size; printed = printed }
+  of_plans Printed printed = record { job = j; plans = plans; some = fits.some; few = fits.few; chosen = fits.chosen; size = fits.size; printed = printed }
 
   module _ (r : SinkState) (one : TookAll (sink_call sinks p q) (plans_shown plans)) where
     behind : TookNothing (sink_call sinks q r) → OfSomePlans count (λ text. TookAll (sink_call sinks p r) text)
@@ -158,19 +169,22 @@ module _ (sinks : Bool) (count : ℕ) (plans : List Planned) (fits : IsFor count
     then_prints (refused other) kind prints = absurd (cc)
 
 -- A survey of a job for so many cells, whose plans were put.
-module _ (sinks : Bool) (j : code.Job) (count : ℕ) (size : size_of j.board.regions ≡ count) (p q : SinkState) where
-  pub cut_prints : (o : Option Surveyed) (e : OutputFault) → IsSomeAnd o (λ v. ArePlansFor (algorithms_shown j.algorithms) v.regions)
+module _ (sinks tells : Bool) (j : code.Job) (goal : Goal) (file cells : List ℕ) (count : ℕ) (size : size_of j.board.regions ≡ count) (p q : SinkState) where
+  pub cut_prints : (o : Option Surveyed) (e : OutputFault) → IsSomeAnd o (λ v. HasSurveyed tells j goal file cells v)
       → IfSome o (λ v. Puts sinks p q (plans_shown v.regions) (Err e)) → PrintsWork count (sink_call sinks p q) (refused output_fault)
-  cut_prints None e are puts = absurd are
-  cut_prints (Some v) e are puts =
-      of_plans sinks count v.regions (is_for j v.regions count are size) p q _ (inl (record { taken = puts.err; later = puts.cause.later; rose = puts.cause.on_fault refl }))
+  cut_prints None e has puts = absurd has
+  cut_prints (Some v) e has puts =
+      of_plans sinks j count v.regions (is_for tells j goal file cells v count has size) p q _
+      (inl (record { taken = puts.err; later = puts.cause.later; rose = puts.cause.on_fault refl }))
 
-  pub end_prints : (o : Option Surveyed) (u : Unit {0}) → IsSomeAnd o (λ v. ArePlansFor (algorithms_shown j.algorithms) v.regions)
-      → IfSome o (λ v. Puts sinks p q (plans_shown v.regions) (Ok u)) → (r : SinkState) (answer : Answer) → IsOf has_script answer → PrintsEnd (sink_call sinks q r) answer
+  pub end_prints : (o : Option Surveyed) (u : Unit {0}) → IsSomeAnd o (λ v. HasSurveyed tells j goal file cells v)
+      → IfSome o (λ v. Puts sinks p q (plans_shown v.regions) (Ok u)) → (r : SinkState) (answer : Answer) → IsOf has_script answer
+      → PrintsEnd (sink_call sinks q r) answer
       → PrintsWork count (sink_call sinks p r) answer
-  end_prints None u are puts r answer kind prints = absurd are
-  end_prints (Some v) u are puts r answer kind prints =
-      then_prints sinks count v.regions (is_for j v.regions count are size) p q r (record { taken = puts.ok; faults = puts.cause.on_ok refl }) answer kind prints
+  end_prints None u has puts r answer kind prints = absurd has
+  end_prints (Some v) u has puts r answer kind prints =
+      then_prints sinks j count v.regions (is_for tells j goal file cells v count has size) p q r
+      (record { taken = puts.ok; faults = puts.cause.on_ok refl }) answer kind prints
 
 -- ---- how the plans are put
 
@@ -195,22 +209,27 @@ module _ (algorithms : List Algorithm) (region : ℕ) (a : Algorithm) (less : re
       omega (arith, size, a.in_memory)
 
   pub text_at : (plan : Chosen) (o : Option Surveyed) → IsSomeAnd o (λ v. ArePlansFor (algorithms_shown algorithms) v.regions)
-      → IfSome o (λ v. (other : Planned) → geometry ≡ (get_or v.regions region other).layout) → IfSome o (λ v. (other : Planned) → plan ≡ (get_or v.regions region other).plan)
+      → IfSome o (λ v. (other : Planned) → geometry ≡ (get_or v.regions region other).layout)
+      → IfSome o (λ v. (other : Planned) → plan ≡ (get_or v.regions region other).plan)
       → IfSome o (λ v. (other : Planned) → plan_text geometry a.device.base plan ≡ (shown_region (get_or v.regions region other)).1)
   text_at plan None are lays plans = tt
   text_at plan (Some v) are lays plans = λ other.
       let its = plan_at algorithms v.regions region a other are less is in
-      ap (λ (l : Geometry). plan_text l a.device.base plan) (lays other) ∙ ap (λ (n : ℕ). plan_text (get_or v.regions region other).layout n plan) (sym its.base)
+      ap (λ (l : Geometry). plan_text l a.device.base plan) (lays other)
+      ∙ ap (λ (n : ℕ). plan_text (get_or v.regions region other).layout n plan) (sym its.base)
       ∙ ap (λ (c : Chosen). plan_text (get_or v.regions region other).layout (get_or v.regions region other).base c) (plans other)
 
 -- what is put of a plan is put of each that has its text
-pub put_text : (tells : Bool) (p q : SinkState) (text : List ℕ) (result : Result (Unit {0}) OutputFault) (o : Option Surveyed) (Of : Surveyed → Planned → List ℕ)
-    → IfSome o (λ v. (other : Planned) → text ≡ Of v other) → Puts tells p q text result → IfSome o (λ v. (other : Planned) → Puts tells p q (Of v other) result)
+pub put_text : (tells : Bool) (p q : SinkState) (text : List ℕ) (result : Result (Unit {0}) OutputFault) (o : Option Surveyed)
+    (Of : Surveyed → Planned → List ℕ)
+    → IfSome o (λ v. (other : Planned) → text ≡ Of v other) → Puts tells p q text result
+    → IfSome o (λ v. (other : Planned) → Puts tells p q (Of v other) result)
 put_text tells p q text result None Of same puts = tt
 put_text tells p q text result (Some v) Of same puts = λ other. puts_as (same other) puts
 
 pub base_text : (algorithms : List Algorithm) (region : ℕ) (a : Algorithm) → region < length algorithms → a ≡ get_or algorithms region a → (o : Option Surveyed)
-    → IsSomeAnd o (λ v. ArePlansFor (algorithms_shown algorithms) v.regions) → IfSome o (λ v. (other : Planned) → region_text a.device.base ≡ region_text (get_or v.regions region other).base)
+    → IsSomeAnd o (λ v. ArePlansFor (algorithms_shown algorithms) v.regions)
+    → IfSome o (λ v. (other : Planned) → region_text a.device.base ≡ region_text (get_or v.regions region other).base)
 base_text algorithms region a less is None are = tt
 base_text algorithms region a less is (Some v) are = λ other. ap region_text (sym (plan_at algorithms v.regions region a other are less is).base)
 
@@ -233,15 +252,18 @@ pub nothing_planned : Planned
 nothing_planned = planned (record { size = 0; sectors = []; pages = [] }) 0 (record { chip = false; sectors = []; pages = []; cost = 0 })
 
 module _ (tells : Bool) (algorithms : List Algorithm) (p q r : SinkState) where
-  pub puts_one : (result : Result (Unit {0}) OutputFault) (o : Option Surveyed) → length algorithms ≡ 1 → IsSomeAnd o (λ v. ArePlansFor (algorithms_shown algorithms) v.regions)
-      → IfSome o (λ v. (other : Planned) → Puts tells p q (shown_region (get_or v.regions 0 other)).1 result) → IfSome o (λ v. Puts tells p q (plans_shown v.regions) result)
+  pub puts_one : (result : Result (Unit {0}) OutputFault) (o : Option Surveyed) → length algorithms ≡ 1
+      → IsSomeAnd o (λ v. ArePlansFor (algorithms_shown algorithms) v.regions)
+      → IfSome o (λ v. (other : Planned) → Puts tells p q (shown_region (get_or v.regions 0 other)).1 result)
+      → IfSome o (λ v. Puts tells p q (plans_shown v.regions) result)
   puts_one result None one are puts = tt
   puts_one result (Some v) one are puts =
       puts_as (one_shown v.regions nothing_planned (as_many (algorithms_shown algorithms) v.regions are ∙ shown_length algorithms ∙ one)) (puts nothing_planned)
 
   pub puts_two : (u : Unit {0}) (result : Result (Unit {0}) OutputFault) (o : Option Surveyed) → length algorithms ≡ 2
       → IsSomeAnd o (λ v. ArePlansFor (algorithms_shown algorithms) v.regions)
-      → IfSome o (λ v. (other : Planned) → Puts tells p q (told_at v.regions 0 other) (Ok u)) → IfSome o (λ v. (other : Planned) → Puts tells q r (told_at v.regions 1 other) result)
+      → IfSome o (λ v. (other : Planned) → Puts tells p q (told_at v.regions 0 other) (Ok u))
+      → IfSome o (λ v. (other : Planned) → Puts tells q r (told_at v.regions 1 other) result)
       → IfSome o (λ v. Puts tells p r (plans_shown v.regions) result)
   puts_two u result None two are first second = tt
   puts_two u result (Some v) two are first second =

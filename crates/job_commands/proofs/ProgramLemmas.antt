@@ -1,5 +1,6 @@
 -- From the steps of `program` and `begin` to their ends. Each step that may end them has its lemma.
-use Rattle.std.proofs.Common.{◌≡◌, ◌≢◌, ◌≤◌, ◌⊎◌, ⊎_elim, ◌∙◌, inl, inr, refl, sym, subst, ℕ, Bool, true, false, IsTrue, List, length, Option, option_copied, None}
+use Rattle.std.proofs.Common.{◌≡◌, ◌≢◌, ◌≤◌, ◌⊎◌, ⊎_elim, ◌∙◌, inl, inr, refl, sym, subst, ℕ, Bool, true, false, IsTrue, List, length, Option, option_copied}
+use Rattle.std.proofs.Common.{None}
 use Rattle.std.specs.Option.{ForSome}
 use Rattle.bench_model.specs.History.{left}
 use Rattle.bench_model.specs.State.{BenchState, cells_half, SameOutside}
@@ -13,7 +14,9 @@ use Rattle.job_text.specs.Parts.{job_of, flms_of, AreParts}
 use Rattle.job_text.specs.declared.parts.JobParts.{JobParts}
 use Rattle.campaign.specs.Stops.{IsUntouched}
 use Rattle.flash_session.specs.declared.goal.Goal.TheVariants.{New}
-use Rattle.report_text.specs.Refusal.{Refusal, out_of_memory, usage, input_fault, flm_refused, other_device, no_room, board_refused, image_refused, image_misplaced, job_open, not_a_job, damaged, cells_differ, store_fault, device_fault, output_fault, call_failed, mismatch}
+use Rattle.report_text.specs.Refusal.{Refusal, out_of_memory, usage, input_fault, flm_refused, other_device, no_room, board_refused, image_refused}
+use Rattle.report_text.specs.Refusal.{image_misplaced, job_open, not_a_job, damaged, cells_differ, store_fault, device_fault, output_fault, call_failed}
+use Rattle.report_text.specs.Refusal.{mismatch}
 use Rattle.command_words.specs.Files.{FilesAsked, names_in}
 use Rattle.command_files.specs.Inputs.{InputsCall, FilesGiven, AreFiles, NoneFailed}
 use Rattle.command_files.specs.Files.{flm_files, Aim, IsAim}
@@ -39,7 +42,8 @@ use Rattle.job_commands.proofs.RegionLemmas.{task_parts, flms_are}
 
 -- Before any work, of each command that has the refusals of `begin`.
 module _ (has : Refusal → Bool) (Prints : ℕ → SinkCall → Answer → Type 0) (Goes : BenchCall → SinkCall → FilesGiven → Aim → Answer → Type 0)
-    (all : (r : Refusal) → has_begin r ≡ true → has r ≡ true) (tells sinks : Bool) (b : BenchState) (o : SinkState) (inputs : InputsCall) (asked : FilesAsked) where
+    (all : (r : Refusal) → has_begin r ≡ true → has r ≡ true) (tells sinks : Bool) (b : BenchState) (o : SinkState) (inputs : InputsCall)
+    (asked : FilesAsked) where
   abbrev Bench : BenchCall
   Bench = bench_call tells b b
 
@@ -49,7 +53,8 @@ module _ (has : Refusal → Bool) (Prints : ℕ → SinkCall → Answer → Type
   abbrev Ends : Refusal → Type 0
   Ends r = EndsOnJob has Prints Goes asked Bench inputs Out (refused r)
 
-  module _ (unread : (r : Refusal) → IsEarly r → (files : FilesGiven) (aim : Aim) → IsAim asked.raw_at files aim → BeginsFor Goes Bench Out (refused r) files aim) where
+  module _ (unread : (r : Refusal) → IsEarly r → (files : FilesGiven) (aim : Aim) → IsAim asked.raw_at files aim
+      → BeginsFor Goes Bench Out (refused r) files aim) where
     ends_untaken : (r : Refusal) → IsTakeFault inputs (names_in asked) r → Ends r
     ends_untaken out_of_memory is = record {
       lawful = untaken_lawful tells sinks b o inputs on_job_file has (names_in asked) out_of_memory (only_looked tells sinks b o) (all out_of_memory refl)
@@ -96,7 +101,8 @@ module _ (has : Refusal → Bool) (Prints : ℕ → SinkCall → Answer → Type
 
     -- the files can't be taken, or are refused
     ends_early : (r : Refusal) → IsTakeFault inputs (names_in asked) r ⊎ TookFiles inputs asked (λ files. IsFilesRefusal asked files r) → Ends r
-    ends_early r is = ⊎_elim (λ untaken. ends_untaken r untaken) (λ took. ends_unread took.given.files took.given.are_files took.none_failed r took.given.holds) is
+    ends_early r is = ⊎_elim (λ untaken. ends_untaken r untaken) (λ took. ends_unread took.given.files took.given.are_files took.none_failed r took.given.holds)
+        is
 
 module _ (tells sinks : Bool) (b : BenchState) (o : SinkState) (inputs : InputsCall) (asked : FilesAsked)
     (many : IsTrue tells → length b.cells ≡ b.cell_count)
@@ -109,7 +115,8 @@ module _ (tells sinks : Bool) (b : BenchState) (o : SinkState) (inputs : InputsC
       → BeginsFor Starts (bench_call tells b b) (sink_call sinks o o) (refused r) files aim
   unread_begin r its files aim is told = begin_unread tells sinks b o (many told) (exact told) asked.raw_at files aim is r its
 
-  pub program_untaken : (r : Refusal) → IsTakeFault inputs (names_in asked) r → ProgramEnds asked (bench_call tells b b) inputs (sink_call sinks o o) (refused r)
+  pub program_untaken : (r : Refusal) → IsTakeFault inputs (names_in asked) r
+      → ProgramEnds asked (bench_call tells b b) inputs (sink_call sinks o o) (refused r)
   program_untaken r is = ends_untaken has_program PrintsWork Begins begin_of_program tells sinks b o inputs asked unread_program r is
 
   pub begin_untaken : (r : Refusal) → IsTakeFault inputs (names_in asked) r → BeginEnds asked (bench_call tells b b) inputs (sink_call sinks o o) (refused r)
@@ -148,7 +155,8 @@ module _ (bench : BenchCall) (out : SinkCall) (answer : Answer) (files : FilesGi
     begins = λ has is_free size. step (over.begins are is_free (sym size_is ∙ size));
   }
 
-  pub begins_on_parts : BeginsParts bench out parts answer → OverFile bench out (size_of aim.board.regions) answer (HasTexts files aim) (λ has. Begins bench out files aim answer)
+  pub begins_on_parts : BeginsParts bench out parts answer → OverFile bench out (size_of aim.board.regions) answer (HasTexts files aim)
+      (λ has. Begins bench out files aim answer)
   begins_on_parts over = over_parts
       (λ are. (snapshot : List ℕ) × IsJob (job_of parts snapshot) are.board are.algorithms
       × Carries bench out (IsUntouched bench.before) (work_to New (job_of parts snapshot) are.board are.algorithms snapshot) answer)
@@ -158,11 +166,13 @@ module _ (bench : BenchCall) (out : SinkCall) (answer : Answer) (files : FilesGi
         is_job = its_job of.0 of.1;
         carries = subst (λ (j : Job). Carries bench out (IsUntouched bench.before) (work_to New j aim.board aim.algorithms of.0) answer) (same_job of.0)
             (subst (λ (y : board.Shown). Carries bench out (IsUntouched bench.before) (work_to New (job_of parts of.0) y aim.algorithms of.0) answer) board_says
-            (subst (λ (xs : List flm.Shown). Carries bench out (IsUntouched bench.before) (work_to New (job_of parts of.0) are.board xs of.0) answer) algorithms_say of.2));
+            (subst (λ (xs : List flm.Shown). Carries bench out (IsUntouched bench.before) (work_to New (job_of parts of.0) are.board xs of.0) answer)
+            algorithms_say of.2));
       })
       over
 
-  pub starts_on_parts : StartsParts bench out begun_text parts answer → OverFile bench out (size_of aim.board.regions) answer (HasTexts files aim) (λ has. Starts bench out files aim answer)
+  pub starts_on_parts : StartsParts bench out begun_text parts answer
+      → OverFile bench out (size_of aim.board.regions) answer (HasTexts files aim) (λ has. Starts bench out files aim answer)
   starts_on_parts over = over_parts
       (λ are. (snapshot : List ℕ) × IsJob (job_of parts snapshot) are.board are.algorithms × BeginsAlone bench out begun_text (job_of parts snapshot) answer)
       (Starts bench out files aim answer)
@@ -180,7 +190,8 @@ module _ (bench : BenchCall) (out : SinkCall) (answer : Answer) (raw_at : Option
     (parts : JobParts) (board_is : parts.board.now ≡ task.board_text) (flm_is : parts.flm.now ≡ task.flm) (second_is : option_copied parts.second ≡ task.second)
     (image_is : parts.image.now ≡ (task_aim task).image) (size_is : parts.size ≡ size_of (task_aim task).board.regions) where
   pub task_begins : BeginsParts bench out parts answer
-      → OverFile bench out (size_of (task_aim task).board.regions) answer (HasTexts files (task_aim task)) (λ has. Begins bench out files (task_aim task) answer)
+      → OverFile bench out (size_of (task_aim task).board.regions) answer (HasTexts files (task_aim task))
+      (λ has. Begins bench out files (task_aim task) answer)
   task_begins begins =
       begins_on_parts bench out answer files (task_aim task) parts
       (task_parts raw_at files task is short_board short_flm short_second parts board_is flm_is second_is image_is size_is)
@@ -188,7 +199,8 @@ module _ (bench : BenchCall) (out : SinkCall) (answer : Answer) (raw_at : Option
       (sym image_is) (sym size_is) refl refl begins
 
   pub task_starts : StartsParts bench out begun_text parts answer
-      → OverFile bench out (size_of (task_aim task).board.regions) answer (HasTexts files (task_aim task)) (λ has. Starts bench out files (task_aim task) answer)
+      → OverFile bench out (size_of (task_aim task).board.regions) answer (HasTexts files (task_aim task))
+      (λ has. Starts bench out files (task_aim task) answer)
   task_starts starts =
       starts_on_parts bench out answer files (task_aim task) parts
       (task_parts raw_at files task is short_board short_flm short_second parts board_is flm_is second_is image_is size_is)
@@ -205,12 +217,15 @@ module _ (bench : BenchCall) (inputs : InputsCall) (out : SinkCall) (asked : Fil
     works_show (refused job_open) kind works = record { files = files; are_files = are; holds = record { aim = aim; is_aim = is; holds = works } }
     works_show (refused (not_a_job at)) kind works = record { files = files; are_files = are; holds = record { aim = aim; is_aim = is; holds = works } }
     works_show (refused (damaged kept found)) kind works = record { files = files; are_files = are; holds = record { aim = aim; is_aim = is; holds = works } }
-    works_show (refused (cells_differ wanted found)) kind works = record { files = files; are_files = are; holds = record { aim = aim; is_aim = is; holds = works } }
+    works_show (refused (cells_differ wanted found)) kind works =
+        record { files = files; are_files = are; holds = record { aim = aim; is_aim = is; holds = works } }
     works_show (refused store_fault) kind works = record { files = files; are_files = are; holds = record { aim = aim; is_aim = is; holds = works } }
     works_show (refused device_fault) kind works = record { files = files; are_files = are; holds = record { aim = aim; is_aim = is; holds = works } }
     works_show (refused output_fault) kind works = record { files = files; are_files = are; holds = record { aim = aim; is_aim = is; holds = works } }
-    works_show (refused (call_failed number call end)) kind works = record { files = files; are_files = are; holds = record { aim = aim; is_aim = is; holds = works } }
-    works_show (refused (mismatch at wanted found)) kind works = record { files = files; are_files = are; holds = record { aim = aim; is_aim = is; holds = works } }
+    works_show (refused (call_failed number call end)) kind works =
+        record { files = files; are_files = are; holds = record { aim = aim; is_aim = is; holds = works } }
+    works_show (refused (mismatch at wanted found)) kind works =
+        record { files = files; are_files = are; holds = record { aim = aim; is_aim = is; holds = works } }
     works_show (refused r) kind works = absurd (cc)
 
   module _ (has its : Refusal → Bool) (Prints : ℕ → SinkCall → Answer → Type 0) (Goes : BenchCall → SinkCall → FilesGiven → Aim → Answer → Type 0)
@@ -236,4 +251,5 @@ module _ (bench : BenchCall) (inputs : InputsCall) (out : SinkCall) (asked : Fil
   pub begin_worked : NoneFailed inputs → (answer : Answer) → IsOf has_alone answer → BenchCounted bench out answer
       → StandsEarly on_job_file bench out answer → ShowsJob PrintsBegun Starts bench out answer files aim → BeginEnds asked bench inputs out answer
   begin_worked same answer kind counts stands shows =
-      ends_worked has_begin has_alone PrintsBegun Starts (λ name. refl) same answer (begin_command answer kind) kind (alone_work answer kind) counts stands shows
+      ends_worked has_begin has_alone PrintsBegun Starts (λ name. refl) same answer (begin_command answer kind) kind (alone_work answer kind) counts stands
+      shows

@@ -1,12 +1,13 @@
 -- What a command's files want, as the parts of a job have it.
-use Rattle.std.proofs.Common.{◌≡◌, ◌≢◌, ◌⊎◌, ◌<◌, ◌≤◌, ◌+◌, ◌-◌, ◌^◌, ◌||◌, ◌∙◌, ⊎_elim, inl, inr, sym, ap, subst, refl, arith, ℕ, suc, Bool, IsTrue, IsSome, All, List, [], ◌∷◌, ◌++◌, length, take, get_or, Option, option_to_list, option_copied, Some, None}
+use Rattle.std.proofs.Common.{◌≡◌, ◌≢◌, ◌⊎◌, ◌<◌, ◌≤◌, ◌+◌, ◌-◌, ◌^◌, ◌||◌, ◌∙◌, ⊎_elim, inl, inr, sym, ap, subst, refl, arith, ℕ, suc, Bool, IsTrue, IsSome}
+use Rattle.std.proofs.Common.{All, List, [], ◌∷◌, ◌++◌, length, take, Option, option_to_list, option_copied, Some, None}
 use Rattle.std.specs.List.{list_any}
 use Rattle.std.specs.Option.{ForSome}
 use Rattle.std.proofs.lemmas.Bool.{eq-eqb, le-leb, and_from, cases_lt}
 use Rattle.std.proofs.lemmas.List.{length-take-le, get_or_past}
-use Rattle.std.proofs.lemmas.List.Elements.{All-nil, All-cons, All-head, All-tail}
+use Rattle.std.proofs.lemmas.List.Elements.{All-nil, All-cons}
 use Rattle.byte_map.specs.Image.{Run, run_at, end_of, byte_of, byte_at, AreMaximal}
-use Rattle.byte_map.proofs.Runs.{each_run, found_in, holds_between}
+use Rattle.byte_map.proofs.Runs.{found_in, holds_between}
 use Rattle.board_file.specs.declared.region.Region.{Region}
 use Rattle.board_file.specs.Limits.{size_of}
 use Rattle.board_file.specs.Text.{IsBoard}
@@ -66,10 +67,12 @@ fits_all b (r ∷ rs) [] xs are same = absurd (omega (arith, same))
 fits_all b (r ∷ rs) (f ∷ fs) [] are same = absurd are
 fits_all b (r ∷ rs) (f ∷ fs) (x ∷ xs) are same =
     let fits = are.0.fits in
-    and_from _ _ (and_from _ _ (and_from _ _ (eq-eqb r.base x.device.base (sym fits.base_is)) (eq-eqb r.size x.device.size (sym fits.size_is))) (le-leb _ _ fits.room))
+    and_from _ _ (and_from _ _ (and_from _ _ (eq-eqb r.base x.device.base (sym fits.base_is)) (eq-eqb r.size x.device.size (sym fits.size_is)))
+    (le-leb _ _ fits.room))
     (fits_all b rs fs xs are.1 (omega (arith, same)))
 
-say_all : (b : board.Shown) (regions : List Region) (files : List (List ℕ)) (algorithms : List flm.Shown) → AreFor b regions files algorithms → AreFlms files algorithms
+say_all : (b : board.Shown) (regions : List Region) (files : List (List ℕ)) (algorithms : List flm.Shown) → AreFor b regions files algorithms
+    → AreFlms files algorithms
 say_all b regions [] [] are = tt
 say_all b [] [] (x ∷ xs) are = absurd are
 say_all b (r ∷ rs) [] (x ∷ xs) are = absurd are
@@ -81,7 +84,8 @@ say_all b (r ∷ rs) (f ∷ fs) [] are = absurd are
 say_all b (r ∷ rs) (f ∷ fs) (x ∷ xs) are = (are.0.says, say_all b rs fs xs are.1)
 
 -- a board for whose regions there are files has a region
-some_region : (b : board.Shown) (regions : List Region) (file : List ℕ) (files : List (List ℕ)) (algorithms : List flm.Shown) → AreFor b regions (file ∷ files) algorithms
+some_region : (b : board.Shown) (regions : List Region) (file : List ℕ) (files : List (List ℕ)) (algorithms : List flm.Shown)
+    → AreFor b regions (file ∷ files) algorithms
     → 1 ≤ length regions
 some_region b [] file files [] are = absurd are
 some_region b [] file files (x ∷ xs) are = absurd are
@@ -175,13 +179,15 @@ module _ (raw_at : Option ℕ) (files : FilesGiven) (task : Task) (is : IsTask r
   some = some_first files.flm files.images aim.board task.flm (option_to_list task.second) aim.algorithms is.flms
 
   short_flms : All (λ (file : List ℕ). length file ≤ 67108864) (flm_files files.flm files.images aim.board)
-  short_flms = subst (λ (l : List (List ℕ)). All (λ (file : List ℕ). length file ≤ 67108864) l) (sym is.flms) (both_short task.flm task.second short_flm short_second)
+  short_flms = subst (λ (l : List (List ℕ)). All (λ (file : List ℕ). length file ≤ 67108864) l) (sym is.flms)
+      (both_short task.flm task.second short_flm short_second)
 
   -- it has the texts of a job
   pub task_texts : HasTexts files aim
   task_texts = record { has_flm = some; short_board = omega (arith, short_board, ap (λ (l : List ℕ). length l) is.board_text); short_flms = short_flms }
 
-  module _ (parts : JobParts) (board_is : parts.board.now ≡ task.board_text) (flm_is : parts.flm.now ≡ task.flm) (second_is : option_copied parts.second ≡ task.second)
+  module _ (parts : JobParts) (board_is : parts.board.now ≡ task.board_text) (flm_is : parts.flm.now ≡ task.flm)
+      (second_is : option_copied parts.second ≡ task.second)
       (image_is : parts.image.now ≡ aim.image) (size_is : parts.size ≡ size_of aim.board.regions) where
     pub flms_are : flms_of parts ≡ flm_files files.flm files.images aim.board
     flms_are = ap (λ (f : List ℕ). files_with f (option_copied parts.second)) flm_is ∙ ap (λ (o : Option (List ℕ)). files_with task.flm o) second_is

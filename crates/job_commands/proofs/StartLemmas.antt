@@ -35,7 +35,8 @@ use Rattle.job_commands.proofs.CarryLemmas.{AsEntered}
 -- the pairs of `begin`
 pub begun_pairs : {a b : BenchState} (text : List ℕ) → Leaves (file_half a) (file_half b) (IsOfBegin (file_half a) text) → AsEntered a b
     → PairsLeave a b (λ f c. IsUntouched a f c ⊎ IsWhole text f)
-begun_pairs {a} {b} text files cells = pairs_of (IsOfBegin (file_half a) text) (λ c. SameOutside a.operation a.cells c) (λ f c. IsUntouched a f c ⊎ IsWhole text f) files cells
+begun_pairs {a} {b} text files cells = pairs_of (IsOfBegin (file_half a) text) (λ c. SameOutside a.operation a.cells c)
+    (λ f c. IsUntouched a f c ⊎ IsWhole text f) files cells
     (λ f c of outside. ⊎_elim
     (λ (at : left (file_half a) f). inl (record { free = inr at; outside = outside }))
     (λ (other : IsFreeOrWhole text f). ⊎_elim
@@ -74,9 +75,11 @@ module _ (tells sinks : Bool) (a b : BenchState) (p : SinkState) (parts : JobPar
   begin_stands (beginning.NotAJob at) reads = only_looked reads
   begin_stands (beginning.Damaged kept found) reads = only_looked reads
 
-  module _ (told : IsTrue tells) (looks : (IsFree a.file × (parts.size ≡ a.cell_count) → ⊥) → OnlyReads tells a b) (same : SameOutside a.operation a.cells b.cells)
+  module _ (told : IsTrue tells) (looks : (IsFree a.file × (parts.size ≡ a.cell_count) → ⊥) → OnlyReads tells a b)
+      (same : SameOutside a.operation a.cells b.cells)
       (after : IsFree a.file → IsFreeOrWhole (body_of (job_of parts b.cells)) b.file)
-      (stops : Leaves (file_half a) (file_half b) (IsOfBegin (file_half a) (body_of (job_of parts b.cells)))) (cells : AsEntered a b) (off : BrokenOff a b b.cells)
+      (stops : Leaves (file_half a) (file_half b) (IsOfBegin (file_half a) (body_of (job_of parts b.cells)))) (cells : AsEntered a b)
+      (off : BrokenOff a b b.cells)
       (many : length b.cells ≡ a.cell_count) where
     abbrev its_job : Job
     its_job = job_of parts b.cells
@@ -175,7 +178,8 @@ module _ (tells sinks : Bool) (a b : BenchState) (p : SinkState) (parts : JobPar
       begins = λ are is_free size. absurd (is.3 (is.1 ∙ size ∙ sym is.2));
     }
 
-    pub starts_done : IsFree a.file → parts.size ≡ a.cell_count → IsWhole (body_of its_job) b.file → LeftOnly (165 ∷ body_of its_job) (file_half b) → b.operation ≡ None
+    pub starts_done : IsFree a.file → parts.size ≡ a.cell_count → IsWhole (body_of its_job) b.file → LeftOnly (165 ∷ body_of its_job) (file_half b)
+        → b.operation ≡ None
         → StartsParts (bench_call tells a b) (sink_call sinks p p) [] parts done
     starts_done is_free sized whole only idle = over_free (bench_call tells a b) (sink_call sinks p p) parts.size done is_free sized (λ are.
         comes_to done (λ free_too. (
@@ -184,7 +188,8 @@ module _ (tells sinks : Bool) (a b : BenchState) (p : SinkState) (parts : JobPar
         )) are is_free sized)
 
 -- with the same answer, by what comes of a job
-pub over_as : {Known : Type 0} {One Two : Known → Type 0} (bench : BenchCall) (out : SinkCall) (size : ℕ) (answer : Answer) → ((known : Known) → One known → Two known)
+pub over_as : {Known : Type 0} {One Two : Known → Type 0} (bench : BenchCall) (out : SinkCall) (size : ℕ) (answer : Answer)
+    → ((known : Known) → One known → Two known)
     → OverFile bench out size answer Known One → OverFile bench out size answer Known Two
 over_as bench out size answer step one = record {
   free = one.free;
@@ -196,7 +201,8 @@ over_as bench out size answer step one = record {
 }
 
 -- a refusal of the beginning is the same with another text behind
-comes_with : (bench : BenchCall) (out : SinkCall) (text : List ℕ) (job : Job) (r : Refusal) → IsOf has_start (refused r) → BegunComes bench out [] job (refused r)
+comes_with : (bench : BenchCall) (out : SinkCall) (text : List ℕ) (job : Job) (r : Refusal) → IsOf has_start (refused r)
+    → BegunComes bench out [] job (refused r)
     → BegunComes bench out text job (refused r)
 comes_with bench out text job out_of_memory kind comes = comes
 comes_with bench out text job (input_fault name) kind comes = tt
@@ -208,7 +214,16 @@ comes_with bench out text job r kind comes = absurd comes
 pub starts_with : (bench : BenchCall) (out : SinkCall) (text : List ℕ) (parts : JobParts) (r : Refusal) → IsOf has_start (refused r)
     → StartsParts bench out [] parts (refused r) → StartsParts bench out text parts (refused r)
 starts_with bench out text parts r kind starts = over_as bench out parts.size (refused r)
-    (λ are of. (of.0, of.1, record { surveyed = of.2.surveyed; comes = comes_with bench out text (job_of parts of.0) r kind of.2.comes; pairs = of.2.pairs; broken_off = of.2.broken_off })) starts
+    (λ are of. (
+      of.0,
+      of.1,
+      record {
+        surveyed = of.2.surveyed;
+        comes = comes_with bench out text (job_of parts of.0) r kind of.2.comes;
+        pairs = of.2.pairs;
+        broken_off = of.2.broken_off;
+      },
+    )) starts
 
 -- A job was begun, and then its text was put.
 module _ (tells sinks : Bool) (a b : BenchState) (p r : SinkState) (text : List ℕ) (parts : JobParts) (sized : parts.size ≡ a.cell_count)

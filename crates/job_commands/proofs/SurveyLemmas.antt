@@ -69,7 +69,8 @@ module _ (tells sinks : Bool) (told : IsTrue tells) (a b m : BenchState) (goal :
     -- the plans that were put are the chosen ones
     shown_from : (v : Surveyed) → HasSurveyed tells j goal m.file m.cells v → plans_shown v.regions ≡ shown_plan w
     shown_from v has = ap plans_shown
-        (plans_are tells told j goal was.stands.text was.stands.image m.file (was.stands.snapshot ∙ ap (λ (f : List ℕ). snapshot_in j f) (sym file_is)) m.cells v has)
+        (plans_are tells told j goal was.stands.text was.stands.image m.file (was.stands.snapshot ∙ ap (λ (f : List ℕ). snapshot_in j f) (sym file_is)) m.cells
+        v has)
 
     put_from : (q : Option Surveyed) (p r : SinkState) (result : Result (Unit {0}) OutputFault) → IsSomeAnd q (λ v. HasSurveyed tells j goal m.file m.cells v)
         → IfSome q (λ v. Puts sinks p r (plans_shown v.regions) result) → Puts sinks p r (shown_plan w) result
@@ -86,15 +87,24 @@ module _ (tells sinks : Bool) (told : IsTrue tells) (a b m : BenchState) (goal :
 
     -- what follows is of the same job
     finished_as : (k : code.Job) (d : BenchState) (out : SinkCall) (answer : Answer) → k ≡ j
-        → ((s : StandsFor k m.file) → IsSomeAnd o (λ v. HasSurveyed tells k goal m.file m.cells v) → Finishes (bench_call tells m d) out (session_work goal k s.text m.cells) answer)
+        → ((s : StandsFor k m.file) → IsSomeAnd o (λ v. HasSurveyed tells k goal m.file m.cells v)
+        → Finishes (bench_call tells m d) out (session_work goal k s.text m.cells) answer)
         → Finishes (bench_call tells m d) out w answer
     finished_as k d out answer is finishes =
         subst (λ (i : code.Job). (s : StandsFor i m.file) → IsSomeAnd o (λ v. HasSurveyed tells i goal m.file m.cells v)
         → Finishes (bench_call tells m d) out (session_work goal i s.text m.cells) answer) is finishes
-        (record { text = was.stands.text; is = was.stands.is; whole = file_is ∙ was.stands.whole; image = was.stands.image; snapshot = was.stands.snapshot ∙ ap (λ (f : List ℕ). snapshot_in j f) (sym file_is) })
+        (record {
+          text = was.stands.text;
+          is = was.stands.is;
+          whole = file_is ∙ was.stands.whole;
+          image = was.stands.image;
+          snapshot = was.stands.snapshot
+              ∙ ap (λ (f : List ℕ). snapshot_in j f) (sym file_is);
+        })
         found_here
 
-    pub finished : (k : code.Job) (d : BenchState) (p q r : SinkState) (answer : Answer) → k ≡ j → (u : Unit {0}) → IfSome o (λ v. Puts sinks p q (plans_shown v.regions) (Ok u))
+    pub finished : (k : code.Job) (d : BenchState) (p q r : SinkState) (answer : Answer) → k ≡ j → (u : Unit {0})
+        → IfSome o (λ v. Puts sinks p q (plans_shown v.regions) (Ok u))
         → ((s : StandsFor k m.file) → IsSomeAnd o (λ v. HasSurveyed tells k goal m.file m.cells v)
         → Finishes (bench_call tells m d) (sink_call sinks q r) (session_work goal k s.text m.cells) answer)
         → GoesOnFrom goal (bench_call tells a d) (sink_call sinks p r) answer

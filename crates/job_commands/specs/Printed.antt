@@ -1,8 +1,12 @@
 -- What the work on a job prints, on every bench.
-use Rattle.std.specs.Prelude.{◌≡◌, ◌≤◌, ◌⊎◌, ◌++◌, ℕ, List, [], ◌∷◌, length, sum_by}
+use Rattle.std.specs.Prelude.{◌≡◌, ◌≤◌, ◌⊎◌, ◌++◌, ℕ, List, [], ◌∷◌, length, is_some, sum_by}
+use Rattle.board_file.specs.declared.board.Weights.{Weights}
 use Rattle.flm_descriptor.specs.Shown as flm
 use Rattle.page_geometry.specs.Geometry.{IsGeometry}
+use Rattle.job_text.specs.Said.{algorithms_shown}
+use Rattle.job_text.specs.declared.job.Job.{Job}
 use Rattle.flash_session.specs.Script.{Planned}
+use Rattle.flash_session.specs.Surveys.{IsSomePlan}
 use Rattle.report_text.specs.Refusal.{store_fault, device_fault, output_fault, call_failed, mismatch}
 use Rattle.algo_calls.specs.Duties.{device_of}
 use Rattle.command_answers.specs.Call.{SinkCall, Answer, done, refused}
@@ -22,17 +26,25 @@ ArePlansFor [] [] = Unit {0}
 ArePlansFor (a ∷ rest) (p ∷ more) = IsPlanFor a p × ArePlansFor rest more
 ArePlansFor algorithms plans = ⊥
 
--- the sectors and pages of each are lawful
-abbrev pub AreLawful : List Planned → Type 0
-AreLawful [] = Unit {0}
-AreLawful (p ∷ rest) = IsGeometry p.layout × AreLawful rest
+-- it is the plan that is chosen for the device of an algorithm by these weights, from some of its cells to some goal of them
+pub record IsChosen (weights : Weights) (a : flm.Shown) (p : Planned) : Type 0 where
+  pub device : IsPlanFor a p
+  pub plan : IsSomePlan p.layout weights (is_some a.entries.erase_chip) a.device.empty p.plan
 
--- The text of the plans of one region or two, which have so many cells together; of the text this holds.
+-- each is so for the device of the algorithm in its place
+abbrev pub AreChosen : Weights → List flm.Shown → List Planned → Type 0
+AreChosen weights [] [] = Unit {0}
+AreChosen weights (a ∷ rest) (p ∷ more) = IsChosen weights a p × AreChosen weights rest more
+AreChosen weights algorithms plans = ⊥
+
+-- The text of the plans of one region or two, which are chosen by the weights and the algorithms of some job, and which have so many cells
+-- together; of the text this holds.
 pub record OfSomePlans (count : ℕ) (Printed : List ℕ → Type 0) : Type 0 where
+  pub job : Job
   pub plans : List Planned
   pub some : 1 ≤ length plans
   pub few : length plans ≤ 2
-  pub lawful : AreLawful plans
+  pub chosen : AreChosen job.board.weights (algorithms_shown job.algorithms) plans
   pub size : sum_by (λ (p : Planned). p.layout.size) plans ≡ count
   pub printed : Printed (plans_shown plans)
 

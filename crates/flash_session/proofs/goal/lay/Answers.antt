@@ -16,7 +16,8 @@ overlay-requires-clause-range c = omega (arith, c.requires, ap (λ (rs : List Re
 pub overlay-requires-clause-fit : goal.overlay-requires-clause-fit
 overlay-requires-clause-fit c =
     let j = c.args.job.now in
-    subst (λ (rs : List Region). All (λ r. r.base + r.size ≤ addresses) rs) (sym c.as_slice.ensures) (fits_end (board_of j.board) j.board.regions j.algorithms j.fit)
+    subst (λ (rs : List Region). All (λ r. r.base + r.size ≤ addresses) rs) (sym c.as_slice.ensures)
+    (fits_end (board_of j.board) j.board.regions j.algorithms j.fit)
 
 pub returns-in-New : goal.returns-in-New
 returns-in-New c = λ snapshot long is.

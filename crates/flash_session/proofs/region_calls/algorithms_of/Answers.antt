@@ -19,4 +19,5 @@ returns c =
     let count = shown_count (board_of j.board) j.board.regions j.algorithms j.fit in
     let same = ap (λ (l : List Algorithm). length l) c.as_slice.ensures in
     let cases = c.in-Some.ensures.cases in
-    split_shown j.algorithms c.in-Some.one.now c.in-Some.rest.now c.first.result (sym c.as_slice.ensures ∙ cases.0) (omega (arith, cases.1, same, count, j.board.few_regions)) (c.first.ensures.item.0, c.first.ensures.item.1)
+    split_shown j.algorithms c.in-Some.one.now c.in-Some.rest.now c.first.result (sym c.as_slice.ensures ∙ cases.0)
+    (omega (arith, cases.1, same, count, j.board.few_regions)) (c.first.ensures.item.0, c.first.ensures.item.1)

@@ -13,7 +13,8 @@ pub calls_for-requires : goal.calls_for-requires
 calls_for-requires c =
     let j = c.args.job.now in
     let a = algorithm_of c.algorithms_of.result.0.now in
-    all_room (board_of j.board) j.board.regions a (later_shown c.algorithms_of.result.1) (subst (λ (l : List AlgorithmShown). IsTrue (all_fit (board_of j.board) j.board.regions l)) c.algorithms_of.ensures j.fit)
+    all_room (board_of j.board) j.board.regions a (later_shown c.algorithms_of.result.1)
+    (subst (λ (l : List AlgorithmShown). IsTrue (all_fit (board_of j.board) j.board.regions l)) c.algorithms_of.ensures j.fit)
 
 pub calls_for-requires-in-Some : goal.calls_for-requires-in-Some
 calls_for-requires-in-Some c =
@@ -21,4 +22,5 @@ calls_for-requires-in-Some c =
     let a = algorithm_of c.algorithms_of.result.0.now in
     let b = algorithm_of c.in-Some.algorithm.now in
     later_room (board_of j.board) j.board.regions a b []
-    (subst (λ (l : List AlgorithmShown). IsTrue (all_fit (board_of j.board) j.board.regions l)) (c.algorithms_of.ensures ∙ ap (λ (o : Option (Bor Algorithm)). a ∷ later_shown o) c.in-Some.is) j.fit)
+    (subst (λ (l : List AlgorithmShown). IsTrue (all_fit (board_of j.board) j.board.regions l))
+    (c.algorithms_of.ensures ∙ ap (λ (o : Option (Bor Algorithm)). a ∷ later_shown o) c.in-Some.is) j.fit)

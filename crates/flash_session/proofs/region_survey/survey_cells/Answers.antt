@@ -1,3 +1,4 @@
+-- `survey_cells`: its clauses `plan` and `reads`, and that an arm is never reached.
 use Rattle.std.proofs.Common.{◌≡◌, false, sym, subst}
 use Rattle.std.proofs.lemmas.Bool.{false≢true}
 use Rattle.bench_model.specs.Counted.{is_store_fault}

@@ -1,4 +1,5 @@
-use Rattle.std.proofs.Common.{◌≡◌, ◌+◌, ◌∙◌, refl, ap, arith}
+-- `survey_region`: its clause `part`, and what `survey_windows` asks for.
+use Rattle.std.proofs.Common.{refl, ap, arith}
 use Rattle.page_geometry.specs.Geometry.{Geometry}
 use Rattle.flash_session.proofs.SurveyLemmas.{part_after}
 use Rattle.flash_session.proofs.region_survey.survey_region.Goals as goal

@@ -1,3 +1,4 @@
+-- `survey_window`: its clauses `spares`, `store` and `device`.
 use Rattle.std.proofs.lemmas.Result.{err_from_is_err_and}
 use Rattle.flash_session.proofs.region_survey.survey_window.Goals as goal
 

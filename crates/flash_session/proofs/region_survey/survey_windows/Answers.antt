@@ -1,3 +1,4 @@
+-- `survey_windows`: its clauses `plan`, `covers`, `spares`, `store` and `device`, that its loop keeps what it has to, and what `survey_window` asks for.
 use Rattle.std.proofs.Common.{◌≡◌, ◌≤◌, ◌<◌, ◌+◌, ◌++◌, ◌∙◌, ◌-◌, ◌^◌, ℕ, take, drop, List, [], refl, sym, ap, subst, length, arith, length-append}
 use Rattle.std.proofs.lemmas.List.{length-take}
 use Rattle.std.proofs.lemmas.List.Elements.{All-append}
@@ -43,7 +44,8 @@ survey_window-requires-clause-inside g c = omega (arith, c.loop-at.invariant.rea
 
 pub survey_window-requires-clause-source : goal.survey_window-requires-clause-source
 survey_window-requires-clause-source g c =
-    source_still g.B.Bench.tells c.args.aim.now.source (g.B.Bench.state c.args.bench.now) (g.B.Bench.state c.loop-at.bench) c.loop-at.invariant.reads.file.file c.loop-at.invariant.reads.cells.count
+    source_still g.B.Bench.tells c.args.aim.now.source (g.B.Bench.state c.args.bench.now) (g.B.Bench.state c.loop-at.bench) c.loop-at.invariant.reads.file.file
+    c.loop-at.invariant.reads.cells.count
     c.requires.source
 
 pub loop-at-preserved : goal.loop-at-preserved
@@ -70,7 +72,8 @@ loop-at-preserved g c =
       told = λ told.
           ap (λ (l : List ℕ). l ++ o) (so_far.told told)
           ∙ ap (λ (l : List ℕ). take at (drop aim.start s.cells) ++ l)
-          (e.cells told ∙ ap (λ (k : ℕ). take k (drop (aim.start + at) now.cells)) (sym c.survey_window.auto.cells) ∙ ap (λ (l : List ℕ). take (length o) (drop (aim.start + at) l)) (so_far.reads.cells.cells told))
+          (e.cells told ∙ ap (λ (k : ℕ). take k (drop (aim.start + at) now.cells)) (sym c.survey_window.auto.cells)
+          ∙ ap (λ (l : List ℕ). take (length o) (drop (aim.start + at) l)) (so_far.reads.cells.cells told))
           ∙ front_and aim.start at (length o) s.cells ∙ ap (λ (k : ℕ). take k (drop aim.start s.cells)) all;
       are = wanted_and g.B.Bench.tells aim.source aim.start aim.algorithm.now.device.base at s.file so_far.front so_far.front_wanted o w so_far.long so_far.are
           (wanted_still g.B.Bench.tells aim.source (aim.start + at) (aim.algorithm.now.device.base + at) now.file s.file o w so_far.reads.file.file e.wanted);
@@ -91,7 +94,8 @@ returns-clause-plan g c =
     let aim = c.args.aim.now in
     let a = algorithm_of aim.algorithm.now in
     let all : c.loop-at.at ≡ a.device.size = omega (arith, c.loop-at.invariant.within, c.requires.size) in
-    made_from g.B.Bench.tells aim.source aim.weights.now a aim.geometry.now aim.start (g.B.Bench.state c.args.bench.now) (g.B.Bench.state c.loop-at.bench) c.loop-at.plan c.loop-at.cells c.loop-at.wanted
+    made_from g.B.Bench.tells aim.source aim.weights.now a aim.geometry.now aim.start (g.B.Bench.state c.args.bench.now) (g.B.Bench.state c.loop-at.bench)
+    c.loop-at.plan c.loop-at.cells c.loop-at.wanted
     c.loop-at.at c.finish.new.plan.made c.loop-at.invariant all c.finish.ensures.plan c.finish.ensures.entry
 
 pub returns-clause-covers : goal.returns-clause-covers
@@ -104,14 +108,19 @@ returns-clause-spares g c = λ over. (c.loop-at.invariant.spares over, refl)
 pub returns-in_err-survey_window-clause-spares : goal.returns-in_err-survey_window-clause-spares
 returns-in_err-survey_window-clause-spares g c =
     let p = err_from_is_err_and c.from_residual.result c.from_residual.ensures.1 in
-    rw (p.1, p.2) (λ over. (file_stays_then (c.loop-at.invariant.spares over) (c.in_err-survey_window.ensures.spares over).0, (c.in_err-survey_window.ensures.spares over).1))
+    rw (p.1, p.2) (λ over. (
+      file_stays_then (c.loop-at.invariant.spares over) (c.in_err-survey_window.ensures.spares over).0,
+      (c.in_err-survey_window.ensures.spares over).1,
+    ))
 
 pub returns-in_err-survey_window-clause-store : goal.returns-in_err-survey_window-clause-store
 returns-in_err-survey_window-clause-store g c =
     let p = err_from_is_err_and c.from_residual.result c.from_residual.ensures.1 in
-    rw (p.1, p.2) (subst (λ (n : ℕ). IsCounted n (g.B.Bench.state c.survey_window.new.bench).store_faults (is_store_fault (unread_fault c.in_err-survey_window.field-0.0))) c.loop-at.invariant.store c.in_err-survey_window.ensures.store)
+    rw (p.1, p.2) (subst (λ (n : ℕ). IsCounted n (g.B.Bench.state c.survey_window.new.bench).store_faults
+    (is_store_fault (unread_fault c.in_err-survey_window.field-0.0))) c.loop-at.invariant.store c.in_err-survey_window.ensures.store)
 
 pub returns-in_err-survey_window-clause-device : goal.returns-in_err-survey_window-clause-device
 returns-in_err-survey_window-clause-device g c =
     let p = err_from_is_err_and c.from_residual.result c.from_residual.ensures.1 in
-    rw (p.1, p.2) (subst (λ (n : ℕ). IsCounted n (g.B.Bench.state c.survey_window.new.bench).device_faults (is_device_fault (unread_fault c.in_err-survey_window.field-0.0))) c.loop-at.invariant.device c.in_err-survey_window.ensures.device)
+    rw (p.1, p.2) (subst (λ (n : ℕ). IsCounted n (g.B.Bench.state c.survey_window.new.bench).device_faults
+    (is_device_fault (unread_fault c.in_err-survey_window.field-0.0))) c.loop-at.invariant.device c.in_err-survey_window.ensures.device)

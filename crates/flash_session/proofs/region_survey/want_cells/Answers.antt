@@ -1,4 +1,5 @@
-use Rattle.std.proofs.Common.{◌≡◌, ◌∙◌, ◌+◌, ℕ, List, sym, ap, subst, refl, arith}
+-- `want_cells`: its clauses `wanted` and `spares`, and what `want_into` asks for.
+use Rattle.std.proofs.Common.{◌∙◌, ◌+◌, ℕ, List, sym, ap, subst, refl, arith}
 use Rattle.bench_model.proofs.Moments.{file_stays_here}
 use Rattle.byte_map.specs.Image.{over}
 use Rattle.flash_session.specs.declared.region_survey.Source.{Source}
@@ -28,7 +29,8 @@ pub returns-in-Cells-clause-wanted : goal.returns-in-Cells-clause-wanted
 returns-in-Cells-clause-wanted g c =
     let aim = c.args.aim.now in
     let address = aim.algorithm.now.device.base + c.args.at in
-    subst (λ (x : Source). AreWanted g.B.Bench.tells x (aim.start + c.args.at) address (g.B.Bench.state c.args.bench.now).file c.args.cells.now c.overlay_into.new.old) (sym c.in-Cells.is)
+    subst (λ (x : Source). AreWanted g.B.Bench.tells x (aim.start + c.args.at) address (g.B.Bench.state c.args.bench.now).file c.args.cells.now
+    c.overlay_into.new.old) (sym c.in-Cells.is)
     (c.overlay_into.ensures ∙ ap (λ (l : List ℕ). over c.in-Cells.image.now address l) c.copy_from_slice.ensures.after)
 
 pub returns-in-Cells-clause-spares : goal.returns-in-Cells-clause-spares

@@ -7,7 +7,10 @@ use Rattle.flash_session.proofs.JobLemmas.{blank_fits}
 use Rattle.flash_session.proofs.survey.player_for.Goals as goal
 
 pub invariant_of-result : goal.invariant_of-result
-invariant_of-result c = record { ram = blank_fits c.args.job.now c.in_ok-machines.machines.0 c.in_ok-machines.machines.1 c.in_ok-arena.arena c.in_ok-machines.ensures c.in_ok-arena.ensures }
+invariant_of-result c = record {
+  ram = blank_fits c.args.job.now c.in_ok-machines.machines.0 c.in_ok-machines.machines.1 c.in_ok-arena.arena
+      c.in_ok-machines.ensures c.in_ok-arena.ensures;
+}
 
 pub returns-clause-work : goal.returns-clause-work
 returns-clause-work c = λ regions.
@@ -16,5 +19,6 @@ returns-clause-work c = λ regions.
     record {
       regions = regions;
       machines = c.in_ok-machines.ensures;
-      page = subst (λ (l : List AlgorithmShown). HasRoom l (length c.in_ok-page.page.items)) (sym c.algorithms_of.ensures) (subst (λ (n : ℕ). HasRoom (a ∷ rest) n) (sym c.in_ok-page.ensures) c.longest_page.ensures);
+      page = subst (λ (l : List AlgorithmShown). HasRoom l (length c.in_ok-page.page.items)) (sym c.algorithms_of.ensures)
+          (subst (λ (n : ℕ). HasRoom (a ∷ rest) n) (sym c.in_ok-page.ensures) c.longest_page.ensures);
     }

@@ -16,8 +16,10 @@ pub returns-in-Ok-clause-found : goal.returns-in-Ok-clause-found
 returns-in-Ok-clause-found g c =
     let j = c.args.job.now in
     let s = g.B.Bench.state c.args.bench.now in
-    subst (λ (t : Task). HasSurveyed g.B.Bench.tells j c.args.goal s.file s.cells (record { regions = map planned_of (t.first ∷ option_to_list t.second); goal = t.goal })) (sym c.in-Ok.ensures.task)
-    (surveyed_all g.B.Bench.tells j c.args.goal s.file s.cells (λ told. g.met.B.Bench.all_told c.args.bench.now told ∙ c.requires.count) (λ told. goal_length j c.args.goal s.file (c.requires.stands told))
+    subst (λ (t : Task). HasSurveyed g.B.Bench.tells j c.args.goal s.file s.cells
+    (record { regions = map planned_of (t.first ∷ option_to_list t.second); goal = t.goal })) (sym c.in-Ok.ensures.task)
+    (surveyed_all g.B.Bench.tells j c.args.goal s.file s.cells (λ told. g.met.B.Bench.all_told c.args.bench.now told ∙ c.requires.count)
+    (λ told. goal_length j c.args.goal s.file (c.requires.stands told))
     c.in_ok-task.task c.in_ok-task.ensures.goal c.in_ok-task.ensures.found)
 
 pub returns-in-Ok-clause-work : goal.returns-in-Ok-clause-work
@@ -25,7 +27,8 @@ returns-in-Ok-clause-work g c =
     let j = c.args.job.now in
     let s = g.B.Bench.state c.args.bench.now in
     let t = c.in_ok-task.task in
-    c.in-Ok.ensures.work (works_found g.B.Bench.tells j 0 (algorithms_shown j.algorithms) s.cells (goal_in j c.args.goal s.file) (t.first ∷ option_to_list t.second) c.in_ok-task.ensures.found)
+    c.in-Ok.ensures.work (works_found g.B.Bench.tells j 0 (algorithms_shown j.algorithms) s.cells (goal_in j c.args.goal s.file)
+    (t.first ∷ option_to_list t.second) c.in_ok-task.ensures.found)
 
 pub returns-in_err-task-clause-store : goal.returns-in_err-task-clause-store
 returns-in_err-task-clause-store g c =

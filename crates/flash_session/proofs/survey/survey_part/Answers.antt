@@ -1,3 +1,4 @@
+-- `survey_part`: its clauses `found`, `store` and `device`, and what `survey_region` asks for.
 use Rattle.std.proofs.Common.{◌∙◌, sym, arith}
 use Rattle.bench_model.specs.Counted.{is_store_fault, is_device_fault}
 use Rattle.flash_session.specs.declared.windows.Unread.TheVariants as unread
@@ -17,10 +18,12 @@ returns-in-Ok-clause-found g c =
     (c.survey_region.ensures.place ∙ c.in_ok-part.ensures.place) c.in-Ok.ensures.plan
 
 pub returns-in-Err-Device-clause-store : goal.returns-in-Err-Device-clause-store
-returns-in-Err-Device-clause-store g c = unread_counted is_store_fault c.in-Err-Device.field-0 unread.Device _ _ c.in-Err-Device.field-0-is c.in-Err-Device.ensures.store
+returns-in-Err-Device-clause-store g c = unread_counted is_store_fault c.in-Err-Device.field-0 unread.Device _ _ c.in-Err-Device.field-0-is
+    c.in-Err-Device.ensures.store
 
 pub returns-in-Err-Device-clause-device : goal.returns-in-Err-Device-clause-device
-returns-in-Err-Device-clause-device g c = unread_counted is_device_fault c.in-Err-Device.field-0 unread.Device _ _ c.in-Err-Device.field-0-is c.in-Err-Device.ensures.device
+returns-in-Err-Device-clause-device g c = unread_counted is_device_fault c.in-Err-Device.field-0 unread.Device _ _ c.in-Err-Device.field-0-is
+    c.in-Err-Device.ensures.device
 
 pub returns-clause-store : goal.returns-clause-store
 returns-clause-store g c = unread_counted is_store_fault c.in-Err-Store.field-0 unread.Store _ _ c.in-Err-Store.field-0-is c.in-Err-Store.ensures.store

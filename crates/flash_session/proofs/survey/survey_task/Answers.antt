@@ -1,4 +1,5 @@
-use Rattle.std.proofs.Common.{◌∙◌, IsTrue, false, List, [], ◌∷◌, Option, option_to_list, refl, sym, ap, subst, arith}
+-- `survey_task`: its clauses `found`, `reads`, `store` and `device`, and what `survey_part` asks for.
+use Rattle.std.proofs.Common.{◌∙◌, IsTrue, false, List, [], ◌∷◌, Option, refl, sym, ap, subst, arith}
 use Rattle.std.specs.Borrow.{Bor}
 use Rattle.board_file.specs.Shown.{shown as board_of}
 use Rattle.flm_descriptor.specs.declared.algorithm.Algorithm.{Algorithm}
@@ -22,7 +23,11 @@ survey_part-requires-clause-inside g c =
     let j = c.args.job.now in
     let a = algorithm_of c.algorithms_of.result.0.now in
     let rest = later_shown c.algorithms_of.result.1 in
-    omega (arith, sizes_are (board_of j.board) j.board.regions (a ∷ rest) (subst (λ (l : List AlgorithmShown). IsTrue (all_fit (board_of j.board) j.board.regions l)) c.algorithms_of.ensures j.fit))
+    omega (
+      arith,
+      sizes_are (board_of j.board) j.board.regions (a ∷ rest)
+          (subst (λ (l : List AlgorithmShown). IsTrue (all_fit (board_of j.board) j.board.regions l)) c.algorithms_of.ensures j.fit),
+    )
 
 pub survey_part-requires-2-clause-inside : goal.survey_part-requires-2-clause-inside
 survey_part-requires-2-clause-inside g c =
@@ -31,7 +36,8 @@ survey_part-requires-2-clause-inside g c =
     let both = c.algorithms_of.ensures ∙ ap (λ (o : Option (Bor Algorithm)). a ∷ later_shown o) c.in-Some.is in
     omega (
       arith,
-      sizes_are (board_of j.board) j.board.regions (a ∷ algorithm_of c.in-Some.other.now ∷ []) (subst (λ (l : List AlgorithmShown). IsTrue (all_fit (board_of j.board) j.board.regions l)) both j.fit),
+      sizes_are (board_of j.board) j.board.regions (a ∷ algorithm_of c.in-Some.other.now ∷ [])
+          (subst (λ (l : List AlgorithmShown). IsTrue (all_fit (board_of j.board) j.board.regions l)) both j.fit),
     )
 
 pub returns-clause-found : goal.returns-clause-found
@@ -46,8 +52,10 @@ returns-clause-found g c =
     let first = c.in_ok-first.first in
     let second = c.in_ok-second.second in
     let reads = c.survey_part.ensures.reads in
-    let later = later_still tells j a.device.size rest t.cells s.cells (goal_in j c.args.goal t.file) wanted (second ∷ []) (λ told. reads.cells.cells told) (λ told. ap (goal_in j c.args.goal) (reads.file.file told)) (c.in_ok-second.ensures.found, tt) in
-    let all : AreFound tells j 0 (a ∷ rest) s.cells wanted (first ∷ second ∷ []) = found_then tells j a rest s.cells wanted first (second ∷ []) c.in_ok-first.ensures.found later in
+    let later = later_still tells j a.device.size rest t.cells s.cells (goal_in j c.args.goal t.file) wanted (second ∷ []) (λ told. reads.cells.cells told)
+    (λ told. ap (goal_in j c.args.goal) (reads.file.file told)) (c.in_ok-second.ensures.found, tt) in
+    let all : AreFound tells j 0 (a ∷ rest) s.cells wanted (first ∷ second ∷ []) =
+    found_then tells j a rest s.cells wanted first (second ∷ []) c.in_ok-first.ensures.found later in
     let both = c.algorithms_of.ensures ∙ ap (λ (o : Option (Bor Algorithm)). a ∷ later_shown o) c.in-Some.is in
     subst (λ (l : List AlgorithmShown). AreFound tells j 0 l s.cells wanted (first ∷ second ∷ [])) (sym both) all
 
@@ -70,9 +78,11 @@ returns-in_err-second-clause-reads g c = read_then c.survey_part.ensures.reads c
 pub returns-in_err-second-clause-store : goal.returns-in_err-second-clause-store
 returns-in_err-second-clause-store g c =
     let p = err_from_is_err_and c.from_residual-in_err-second.result c.from_residual-in_err-second.ensures.1 in
-    handed is_store_fault Task _ _ _ c.in_err-second.field-0.0 (p.1 ∙ ap (λ (e : SurveyFault). refused Task e) p.2) (counted_then _ _ _ false _ refl c.in_ok-first.ensures.store c.in_err-second.ensures.store)
+    handed is_store_fault Task _ _ _ c.in_err-second.field-0.0 (p.1 ∙ ap (λ (e : SurveyFault). refused Task e) p.2)
+    (counted_then _ _ _ false _ refl c.in_ok-first.ensures.store c.in_err-second.ensures.store)
 
 pub returns-in_err-second-clause-device : goal.returns-in_err-second-clause-device
 returns-in_err-second-clause-device g c =
     let p = err_from_is_err_and c.from_residual-in_err-second.result c.from_residual-in_err-second.ensures.1 in
-    handed is_device_fault Task _ _ _ c.in_err-second.field-0.0 (p.1 ∙ ap (λ (e : SurveyFault). refused Task e) p.2) (counted_then _ _ _ false _ refl c.in_ok-first.ensures.device c.in_err-second.ensures.device)
+    handed is_device_fault Task _ _ _ c.in_err-second.field-0.0 (p.1 ∙ ap (λ (e : SurveyFault). refused Task e) p.2)
+    (counted_then _ _ _ false _ refl c.in_ok-first.ensures.device c.in_err-second.ensures.device)

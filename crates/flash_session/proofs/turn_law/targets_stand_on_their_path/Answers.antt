@@ -5,4 +5,5 @@ use Rattle.flash_session.proofs.turn_law.targets_stand_on_their_path.Goals as go
 
 pub returns : goal.returns
 returns g c = λ x wanted arena a way now going stands b.
-    on_script (legs_for x wanted) wanted (setup_now x) a way x.place x.made (point_for x arena (g.B.Bench.state now).cells) x.calls.machine.return_at (g.B.Bench.state now) going stands b
+    on_script (legs_for x wanted) wanted (setup_now x) a way x.place x.made (point_for x arena (g.B.Bench.state now).cells)
+    x.calls.machine.return_at (g.B.Bench.state now) going stands b

@@ -11,4 +11,5 @@ returns g c = λ old new benches after i d a x body told since less is going sta
     let s = g.B.Bench.state (get_or benches i d) in
     let t = g.B.Bench.state (get_or after i d) in
     let stood : SlotStands a [] (slot_at old i) old.arena s = subst (λ (m : Slot). SlotStands a [] m old.arena s) (sym is) (going, stands) in
-    alone_of a x s (slot_at new i) new.arena t body whole (subst (λ (m : Slot). SlotSince a [] m s (slot_at new i) new.arena t) is (since i d a [] less told stood)) over
+    alone_of a x s (slot_at new i) new.arena t body whole (subst (λ (m : Slot). SlotSince a [] m s (slot_at new i) new.arena t) is
+    (since i d a [] less told stood)) over

@@ -11,5 +11,7 @@ into_parts-parts-requires c = subst (λ (r : Result (Unit {0}) SurveyFault). OnO
 
 pub returns-in-Ok : goal.returns-in-Ok
 returns-in-Ok c =
-    subst (λ (r : Result (Unit {0}) SurveyFault). GivesSlot (job_in c.args.session) (surveyed c.args.session) c.args.window r (Ok c.make_slot.result)) (sym c.in-Ok.is)
-    (parts_to (surveyed c.args.session) (job_in c.args.session) c.args.window c.into_parts-parts.result c.make_slot.result c.into_parts-parts.ensures.job c.into_parts-parts.ensures.player c.make_slot.ensures)
+    subst (λ (r : Result (Unit {0}) SurveyFault). GivesSlot (job_in c.args.session) (surveyed c.args.session) c.args.window r (Ok c.make_slot.result))
+    (sym c.in-Ok.is)
+    (parts_to (surveyed c.args.session) (job_in c.args.session) c.args.window c.into_parts-parts.result c.make_slot.result c.into_parts-parts.ensures.job
+    c.into_parts-parts.ensures.player c.make_slot.ensures)

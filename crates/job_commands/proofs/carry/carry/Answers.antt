@@ -1,5 +1,5 @@
 -- `carry`: its clauses `told`, `early`, `kind`, `sound`, `prints` and `counts`, and what `carry_on` asks for.
-use Rattle.std.proofs.Common.{◌≡◌, ◌∙◌, refl, sym, subst, ℕ, List}
+use Rattle.std.proofs.Common.{◌∙◌, refl, sym, subst, ℕ, List}
 use Rattle.bench_model.specs.History.{LeftOnly}
 use Rattle.bench_model.specs.State.{file_half}
 use Rattle.job_text.specs.Stands.{StandsFor}
@@ -42,16 +42,19 @@ pub returns-in-Err-clause-kind : goal.returns-in-Err-clause-kind
 returns-in-Err-clause-kind g c = subst (λ (r : Refusal). IsOf has_resume (refused r)) (sym c.session_refusal.ensures) (session_kind c.in-Err.fault)
 
 pub returns-in-Err-clause-sound : goal.returns-in-Err-clause-sound
-returns-in-Err-clause-sound g c = subst (λ (r : Refusal). IsSound (refused r)) (sym c.session_refusal.ensures) (session_sound (g.B.Bench.state c.args.bench.now).cell_count c.in-Err.fault c.in-Err.ensures.sound)
+returns-in-Err-clause-sound g c = subst (λ (r : Refusal). IsSound (refused r)) (sym c.session_refusal.ensures)
+    (session_sound (g.B.Bench.state c.args.bench.now).cell_count c.in-Err.fault c.in-Err.ensures.sound)
 
 pub returns-in-Err-clause-prints : goal.returns-in-Err-clause-prints
 returns-in-Err-clause-prints g c =
     let n = (g.B.Bench.state c.args.bench.now).cell_count in
     let out = sink_call g.O.Sink.tells (g.O.Sink.state c.args.out.now) (g.O.Sink.state c.args.out.now) in
-    subst (λ (r : Refusal). PrintsWork n out (refused r)) (sym c.session_refusal.ensures) (session_prints n out c.in-Err.fault (record { taken = refl; faults = refl }))
+    subst (λ (r : Refusal). PrintsWork n out (refused r)) (sym c.session_refusal.ensures)
+    (session_prints n out c.in-Err.fault (record { taken = refl; faults = refl }))
 
 pub carry_on-requires-clause-stands : goal.carry_on-requires-clause-stands
-carry_on-requires-clause-stands g c = λ told. subst (λ (f : List ℕ). StandsFor (job_in c.in-Ok.session) f) (sym (c.open.ensures.file told)) (c.in-Ok.ensures.ok told)
+carry_on-requires-clause-stands g c = λ told. subst (λ (f : List ℕ). StandsFor (job_in c.in-Ok.session) f) (sym (c.open.ensures.file told))
+    (c.in-Ok.ensures.ok told)
 
 pub carry_on-requires-clause-only : goal.carry_on-requires-clause-only
 carry_on-requires-clause-only g c = λ told.
@@ -75,7 +78,8 @@ returns-in-Ok-clause-early g c = c.carry_on.ensures.early c.args.bench.now
 
 pub returns-in-Ok-clause-prints : goal.returns-in-Ok-clause-prints
 returns-in-Ok-clause-prints g c =
-    subst (λ (n : ℕ). PrintsWork n (sink_call g.O.Sink.tells (g.O.Sink.state c.args.out.now) (g.O.Sink.state c.carry_on.new.out)) (answer_of c.carry_on.result)) c.open.ensures.count c.carry_on.ensures.prints
+    subst (λ (n : ℕ). PrintsWork n (sink_call g.O.Sink.tells (g.O.Sink.state c.args.out.now) (g.O.Sink.state c.carry_on.new.out)) (answer_of c.carry_on.result))
+    c.open.ensures.count c.carry_on.ensures.prints
 
 pub returns-in-Ok-clause-counts : goal.returns-in-Ok-clause-counts
 returns-in-Ok-clause-counts g c =

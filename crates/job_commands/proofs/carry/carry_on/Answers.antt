@@ -1,5 +1,5 @@
 -- `carry_on`: its clauses `sound`, `told`, `early`, `counts`, `kind` and `prints`, and what `put_plans` and `finish` ask for.
-use Rattle.std.proofs.Common.{◌≡◌, ◌∙◌, refl, sym, subst, ℕ, List, IsSomeAnd}
+use Rattle.std.proofs.Common.{◌∙◌, refl, sym, subst, ℕ, List, IsSomeAnd}
 use Rattle.std.proofs.lemmas.Result.{err_from_is_err_and}
 use Rattle.bench_model.specs.History.{LeftOnly}
 use Rattle.bench_model.specs.State.{file_half}
@@ -42,7 +42,8 @@ pub returns-in-Err-clause-early : goal.returns-in-Err-clause-early
 returns-in-Err-clause-early g c = λ entry.
     let bench = bench_call g.B.Bench.tells (g.B.Bench.state entry) (g.B.Bench.state c.survey.new.bench) in
     let out = sink_call g.O.Sink.tells (g.O.Sink.state c.args.out.now) (g.O.Sink.state c.args.out.now) in
-    subst (λ (r : Refusal). StandsEarly on_job_file bench out (refused r)) (sym c.survey_refusal.ensures) (survey_stands bench out c.in-Err.fault (record { taken = refl; faults = refl }))
+    subst (λ (r : Refusal). StandsEarly on_job_file bench out (refused r)) (sym c.survey_refusal.ensures)
+    (survey_stands bench out c.in-Err.fault (record { taken = refl; faults = refl }))
 
 pub returns-in-Err-clause-counts : goal.returns-in-Err-clause-counts
 returns-in-Err-clause-counts g c =
@@ -66,7 +67,8 @@ returns-in_err-put_plans-clause-told g c =
     let b = g.B.Bench.state c.args.bench.now in
     let m = g.B.Bench.state c.survey.new.bench in
     let is = err_from_is_err_and c.from_residual.result c.from_residual.ensures.1 in
-    rw (is.1, is.2) (λ told entry was. cut_in_plan g.B.Bench.tells g.O.Sink.tells told (g.B.Bench.state entry) b m c.args.goal (job_in c.args.session.now) was (c.requires.idle told)
+    rw (is.1, is.2) (λ told entry was. cut_in_plan g.B.Bench.tells g.O.Sink.tells told (g.B.Bench.state entry) b m c.args.goal (job_in c.args.session.now) was
+    (c.requires.idle told)
     (λ x at. (g.met.B.Bench.as_told c.args.bench.now x told).0 at) c.survey.ensures.reads c.survey.ensures.pairs
     (surveyed c.survey.new.self) c.in-Ok.ensures.ok
     (g.O.Sink.state c.args.out.now) (g.O.Sink.state c.put_plans.new.out) _ c.in_err-put_plans.ensures)
@@ -79,7 +81,8 @@ returns-clause-told g c = λ told entry was.
     finished g.B.Bench.tells g.O.Sink.tells told a b m c.args.goal (job_in c.args.session.now) was (c.requires.idle told)
     (λ x at. (g.met.B.Bench.as_told c.args.bench.now x told).0 at) c.survey.ensures.reads c.survey.ensures.pairs
     (surveyed c.survey.new.self) c.in-Ok.ensures.ok
-    (job_in c.survey.new.self) (g.B.Bench.state c.finish.new.bench) (g.O.Sink.state c.args.out.now) (g.O.Sink.state c.put_plans.new.out) (g.O.Sink.state c.finish.new.out)
+    (job_in c.survey.new.self) (g.B.Bench.state c.finish.new.bench) (g.O.Sink.state c.args.out.now) (g.O.Sink.state c.put_plans.new.out)
+    (g.O.Sink.state c.finish.new.out)
     (answer_of c.finish.result) c.survey.ensures.job _ c.in_ok-put_plans.ensures
     (λ stands found. c.finish.ensures.told told c.args.goal stands found)
 
@@ -94,33 +97,32 @@ pub returns-in-Err-clause-prints : goal.returns-in-Err-clause-prints
 returns-in-Err-clause-prints g c =
     let n = (g.B.Bench.state c.args.bench.now).cell_count in
     let out = sink_call g.O.Sink.tells (g.O.Sink.state c.args.out.now) (g.O.Sink.state c.args.out.now) in
-    subst (λ (r : Refusal). PrintsWork n out (refused r)) (sym c.survey_refusal.ensures) (survey_prints n out c.in-Err.fault (record { taken = refl; faults = refl }))
+    subst (λ (r : Refusal). PrintsWork n out (refused r)) (sym c.survey_refusal.ensures)
+    (survey_prints n out c.in-Err.fault (record { taken = refl; faults = refl }))
 
 pub returns-in_err-put_plans-clause-prints : goal.returns-in_err-put_plans-clause-prints
 returns-in_err-put_plans-clause-prints g c =
     let n = (g.B.Bench.state c.args.bench.now).cell_count in
     let b = g.B.Bench.state c.args.bench.now in
     let is = err_from_is_err_and c.from_residual.result c.from_residual.ensures.1 in
-    rw (is.1, is.2) (cut_prints g.O.Sink.tells (job_in c.args.session.now) n (sym c.requires.count) (g.O.Sink.state c.args.out.now) (g.O.Sink.state c.put_plans.new.out)
-    (surveyed c.survey.new.self) _
-    (surveyed_plans g.B.Bench.tells (job_in c.args.session.now) c.args.goal b.file b.cells (surveyed c.survey.new.self) c.in-Ok.ensures.ok)
-    c.in_err-put_plans.ensures)
+    rw (is.1, is.2) (cut_prints g.O.Sink.tells g.B.Bench.tells (job_in c.args.session.now) c.args.goal b.file b.cells n (sym c.requires.count)
+    (g.O.Sink.state c.args.out.now) (g.O.Sink.state c.put_plans.new.out) (surveyed c.survey.new.self) _ c.in-Ok.ensures.ok c.in_err-put_plans.ensures)
 
 pub returns-clause-prints : goal.returns-clause-prints
 returns-clause-prints g c =
     let n = (g.B.Bench.state c.args.bench.now).cell_count in
     let b = g.B.Bench.state c.args.bench.now in
-    end_prints g.O.Sink.tells (job_in c.args.session.now) n (sym c.requires.count) (g.O.Sink.state c.args.out.now) (g.O.Sink.state c.put_plans.new.out)
-    (surveyed c.survey.new.self) _
-    (surveyed_plans g.B.Bench.tells (job_in c.args.session.now) c.args.goal b.file b.cells (surveyed c.survey.new.self) c.in-Ok.ensures.ok)
-    c.in_ok-put_plans.ensures (g.O.Sink.state c.finish.new.out) (answer_of c.finish.result) c.finish.ensures.kind c.finish.ensures.prints
+    end_prints g.O.Sink.tells g.B.Bench.tells (job_in c.args.session.now) c.args.goal b.file b.cells n (sym c.requires.count)
+    (g.O.Sink.state c.args.out.now) (g.O.Sink.state c.put_plans.new.out) (surveyed c.survey.new.self) _ c.in-Ok.ensures.ok c.in_ok-put_plans.ensures
+    (g.O.Sink.state c.finish.new.out) (answer_of c.finish.result) c.finish.ensures.kind c.finish.ensures.prints
 
 pub returns-in_err-put_plans-clause-counts : goal.returns-in_err-put_plans-clause-counts
 returns-in_err-put_plans-clause-counts g c =
     let b = g.B.Bench.state c.args.bench.now in
     let m = g.B.Bench.state c.survey.new.bench in
     let is = err_from_is_err_and c.from_residual.result c.from_residual.ensures.1 in
-    rw (is.1, is.2) (cut_counted g.B.Bench.tells g.O.Sink.tells b m (g.O.Sink.state c.args.out.now) (g.O.Sink.state c.put_plans.new.out) (λ (v : Surveyed). plans_shown v.regions)
+    rw (is.1, is.2) (cut_counted g.B.Bench.tells g.O.Sink.tells b m (g.O.Sink.state c.args.out.now) (g.O.Sink.state c.put_plans.new.out)
+    (λ (v : Surveyed). plans_shown v.regions)
     (λ (v : Surveyed). HasSurveyed g.B.Bench.tells (job_in c.args.session.now) c.args.goal b.file b.cells v)
     (c.in-Ok.ensures.store.on_other refl) (c.in-Ok.ensures.device.on_other refl)
     (surveyed c.survey.new.self) _ c.in-Ok.ensures.ok c.in_err-put_plans.ensures)
@@ -129,7 +131,8 @@ pub returns-clause-counts : goal.returns-clause-counts
 returns-clause-counts g c =
     let b = g.B.Bench.state c.args.bench.now in
     let m = g.B.Bench.state c.survey.new.bench in
-    carried_counted g.B.Bench.tells g.O.Sink.tells b m (g.O.Sink.state c.args.out.now) (g.O.Sink.state c.put_plans.new.out) (λ (v : Surveyed). plans_shown v.regions)
+    carried_counted g.B.Bench.tells g.O.Sink.tells b m (g.O.Sink.state c.args.out.now) (g.O.Sink.state c.put_plans.new.out)
+    (λ (v : Surveyed). plans_shown v.regions)
     (λ (v : Surveyed). HasSurveyed g.B.Bench.tells (job_in c.args.session.now) c.args.goal b.file b.cells v)
     (c.in-Ok.ensures.store.on_other refl) (c.in-Ok.ensures.device.on_other refl)
     (surveyed c.survey.new.self) _ c.in-Ok.ensures.ok c.in_ok-put_plans.ensures
@@ -144,7 +147,8 @@ pub finish-requires-clause-only : goal.finish-requires-clause-only
 finish-requires-clause-only g c = λ told.
     let b = g.B.Bench.state c.args.bench.now in
     let m = g.B.Bench.state c.survey.new.bench in
-    subst (λ (f : List ℕ). LeftOnly f (file_half m)) (sym (c.survey.ensures.reads.file.file told)) (still_only b.file c.survey.ensures.reads.file.moments (c.requires.only told))
+    subst (λ (f : List ℕ). LeftOnly f (file_half m)) (sym (c.survey.ensures.reads.file.file told))
+    (still_only b.file c.survey.ensures.reads.file.moments (c.requires.only told))
 
 pub finish-requires-clause-idle : goal.finish-requires-clause-idle
 finish-requires-clause-idle g c = λ told. c.survey.ensures.reads.cells.operation told ∙ c.requires.idle told

@@ -1,5 +1,5 @@
 -- `finish`: its clauses `sound` and `told`, and what `close` and `address_of` ask for.
-use Rattle.std.proofs.Common.{◌≡◌, ◌<◌, ◌∙◌, ℕ, refl, sym, ap, subst, arith, drop, List, Some}
+use Rattle.std.proofs.Common.{◌≡◌, ◌<◌, ◌∙◌, ℕ, refl, sym, ap, subst, drop, List, Some}
 use Rattle.std.proofs.lemmas.Result.{err_from_is_err_and}
 use Rattle.board_file.specs.declared.region.Region.{Region}
 use Rattle.board_file.specs.Limits.{size_of}
@@ -24,50 +24,73 @@ returns-in-CallFailed-clause-sound g c = c.in-CallFailed.ensures.sound
 pub returns-in-Mismatch-clause-told : goal.returns-in-Mismatch-clause-told
 returns-in-Mismatch-clause-told g c = λ told goal stands has.
     ends_mismatch g.B.Bench.tells g.O.Sink.tells told (job_in c.args.session.now) goal (g.B.Bench.state c.args.bench.now) (g.B.Bench.state c.go.new.bench)
-    (g.O.Sink.state c.args.out.now) stands (c.requires.only told) c.go.ensures.file (surveyed c.args.session.now) has (c.go.ensures.local told) c.in-Mismatch.difference
-    c.address_of.result (subst (λ (rs : List Region). address_at rs c.in-Mismatch.difference.at ≡ Some c.address_of.result) (c.as_slice.ensures ∙ ap (λ (k : code.Job). k.board.regions) (c.job.ensures ∙ c.go.ensures.job)) c.address_of.ensures) (c.in-Mismatch.ensures.follows told) (c.in-Mismatch.ensures.reaches told)
+    (g.O.Sink.state c.args.out.now) stands (c.requires.only told) c.go.ensures.file (surveyed c.args.session.now) has
+    (c.go.ensures.local told) c.in-Mismatch.difference
+    c.address_of.result (subst (λ (rs : List Region). address_at rs c.in-Mismatch.difference.at ≡ Some c.address_of.result)
+    (c.as_slice.ensures ∙ ap (λ (k : code.Job). k.board.regions) (c.job.ensures ∙ c.go.ensures.job)) c.address_of.ensures)
+    (c.in-Mismatch.ensures.follows told) (c.in-Mismatch.ensures.reaches told)
 
 pub returns-in-CallFailed-clause-told : goal.returns-in-CallFailed-clause-told
 returns-in-CallFailed-clause-told g c = λ told goal stands has.
     ends_failed g.B.Bench.tells g.O.Sink.tells told (job_in c.args.session.now) goal (g.B.Bench.state c.args.bench.now) (g.B.Bench.state c.go.new.bench)
-    (g.O.Sink.state c.args.out.now) stands (c.requires.only told) c.go.ensures.file (surveyed c.args.session.now) has (c.go.ensures.local told) c.in-CallFailed.number c.in-CallFailed.call c.in-CallFailed.end
+    (g.O.Sink.state c.args.out.now) stands (c.requires.only told) c.go.ensures.file (surveyed c.args.session.now) has
+    (c.go.ensures.local told) c.in-CallFailed.number c.in-CallFailed.call c.in-CallFailed.end
     (c.in-CallFailed.ensures.follows told) (c.in-CallFailed.ensures.reaches told)
 
 pub returns-in-DeviceFault-clause-told : goal.returns-in-DeviceFault-clause-told
 returns-in-DeviceFault-clause-told g c = λ told goal stands has.
     ends_at_fault g.B.Bench.tells g.O.Sink.tells told (job_in c.args.session.now) goal (g.B.Bench.state c.args.bench.now) (g.B.Bench.state c.go.new.bench)
-    (g.O.Sink.state c.args.out.now) stands (c.requires.only told) c.go.ensures.file (surveyed c.args.session.now) has (c.go.ensures.local told) (c.in-DeviceFault.ensures.follows told)
+    (g.O.Sink.state c.args.out.now) stands (c.requires.only told) c.go.ensures.file (surveyed c.args.session.now) has (c.go.ensures.local told)
+    (c.in-DeviceFault.ensures.follows told)
 
 pub returns-in-StoreFault-clause-told : goal.returns-in-StoreFault-clause-told
 returns-in-StoreFault-clause-told g c = λ told goal stands has.
     ends_unread g.B.Bench.tells g.O.Sink.tells told (job_in c.args.session.now) goal (g.B.Bench.state c.args.bench.now) (g.B.Bench.state c.go.new.bench)
-    (g.O.Sink.state c.args.out.now) stands (c.requires.only told) c.go.ensures.file (surveyed c.args.session.now) has (c.go.ensures.local told) (c.in-StoreFault.ensures.follows told)
+    (g.O.Sink.state c.args.out.now) stands (c.requires.only told) c.go.ensures.file (surveyed c.args.session.now) has (c.go.ensures.local told)
+    (c.in-StoreFault.ensures.follows told)
 
 pub returns-in_ok-put_end-in-Ok-clause-told : goal.returns-in_ok-put_end-in-Ok-clause-told
 returns-in_ok-put_end-in-Ok-clause-told g c = λ told goal stands has.
     ends_done g.B.Bench.tells g.O.Sink.tells told (job_in c.args.session.now) goal (g.B.Bench.state c.args.bench.now) (g.B.Bench.state c.go.new.bench)
-    (g.O.Sink.state c.args.out.now) stands (c.requires.only told) c.go.ensures.file (surveyed c.args.session.now) has (c.go.ensures.local told) (g.B.Bench.state c.close.new.bench) c.in-Reached.reached
-    (c.in-Reached.ensures.follows told) (c.in-Reached.ensures.idle told tt) c.close.ensures.cells (closed_as (g.B.Bench.state c.go.new.bench) (g.B.Bench.state c.close.new.bench) (job_in c.go.new.self) (job_in c.args.session.now) (surveyed c.go.new.self) (surveyed c.args.session.now) c.go.ensures.job c.go.ensures.work (c.close.ensures.pairs told))
-    (g.O.Sink.state c.put_end.new.out) (c.in-Ok.ensures.ok told).0 (record { taken = c.in_ok-put_end-in-Ok.ensures.ok; faults = c.in_ok-put_end-in-Ok.ensures.cause.on_ok refl })
+    (g.O.Sink.state c.args.out.now) stands (c.requires.only told) c.go.ensures.file (surveyed c.args.session.now) has (c.go.ensures.local told)
+    (g.B.Bench.state c.close.new.bench) c.in-Reached.reached
+    (c.in-Reached.ensures.follows told) (c.in-Reached.ensures.idle told tt) c.close.ensures.cells
+    (closed_as (g.B.Bench.state c.go.new.bench) (g.B.Bench.state c.close.new.bench) (job_in c.go.new.self) (job_in c.args.session.now)
+    (surveyed c.go.new.self) (surveyed c.args.session.now) c.go.ensures.job c.go.ensures.work (c.close.ensures.pairs told))
+    (g.O.Sink.state c.put_end.new.out) (c.in-Ok.ensures.ok told).0
+    (record { taken = c.in_ok-put_end-in-Ok.ensures.ok; faults = c.in_ok-put_end-in-Ok.ensures.cause.on_ok refl })
 
 pub returns-in_err-put_end-in-Ok-clause-told : goal.returns-in_err-put_end-in-Ok-clause-told
 returns-in_err-put_end-in-Ok-clause-told g c =
     let is = err_from_is_err_and c.from_residual.result c.from_residual.ensures.1 in
-    rw (is.1, is.2) (λ told goal stands has. ends_cut g.B.Bench.tells g.O.Sink.tells told (job_in c.args.session.now) goal (g.B.Bench.state c.args.bench.now) (g.B.Bench.state c.go.new.bench)
-    (g.O.Sink.state c.args.out.now) stands (c.requires.only told) c.go.ensures.file (surveyed c.args.session.now) has (c.go.ensures.local told) (g.B.Bench.state c.close.new.bench) c.in-Reached.reached
-    (c.in-Reached.ensures.follows told) (c.in-Reached.ensures.idle told tt) c.close.ensures.cells (closed_as (g.B.Bench.state c.go.new.bench) (g.B.Bench.state c.close.new.bench) (job_in c.go.new.self) (job_in c.args.session.now) (surveyed c.go.new.self) (surveyed c.args.session.now) c.go.ensures.job c.go.ensures.work (c.close.ensures.pairs told))
+    rw (is.1, is.2) (λ told goal stands has. ends_cut g.B.Bench.tells g.O.Sink.tells told (job_in c.args.session.now) goal (g.B.Bench.state c.args.bench.now)
+    (g.B.Bench.state c.go.new.bench)
+    (g.O.Sink.state c.args.out.now) stands (c.requires.only told) c.go.ensures.file (surveyed c.args.session.now) has (c.go.ensures.local told)
+    (g.B.Bench.state c.close.new.bench) c.in-Reached.reached
+    (c.in-Reached.ensures.follows told) (c.in-Reached.ensures.idle told tt) c.close.ensures.cells
+    (closed_as (g.B.Bench.state c.go.new.bench) (g.B.Bench.state c.close.new.bench) (job_in c.go.new.self) (job_in c.args.session.now)
+    (surveyed c.go.new.self) (surveyed c.args.session.now) c.go.ensures.job c.go.ensures.work (c.close.ensures.pairs told))
     (g.O.Sink.state c.put_end.new.out) (c.in-Ok.ensures.ok told).0
-    (record { taken = c.in_err-put_end-in-Ok.ensures.err; later = c.in_err-put_end-in-Ok.ensures.cause.later; rose = c.in_err-put_end-in-Ok.ensures.cause.on_fault refl }))
+    (record {
+      taken = c.in_err-put_end-in-Ok.ensures.err;
+      later = c.in_err-put_end-in-Ok.ensures.cause.later;
+      rose =
+          c.in_err-put_end-in-Ok.ensures.cause.on_fault refl;
+    }))
 
 pub returns-in-Err-clause-told : goal.returns-in-Err-clause-told
 returns-in-Err-clause-told g c = λ told goal stands has.
     ends_unclosed g.B.Bench.tells g.O.Sink.tells told (job_in c.args.session.now) goal (g.B.Bench.state c.args.bench.now) (g.B.Bench.state c.go.new.bench)
-    (g.O.Sink.state c.args.out.now) stands (c.requires.only told) c.go.ensures.file (surveyed c.args.session.now) has (c.go.ensures.local told) (g.B.Bench.state c.close.new.bench) c.in-Reached.reached
-    (c.in-Reached.ensures.follows told) (c.in-Reached.ensures.idle told tt) c.close.ensures.cells (closed_as (g.B.Bench.state c.go.new.bench) (g.B.Bench.state c.close.new.bench) (job_in c.go.new.self) (job_in c.args.session.now) (surveyed c.go.new.self) (surveyed c.args.session.now) c.go.ensures.job c.go.ensures.work (c.close.ensures.pairs told)) (c.in-Err.ensures.err told)
+    (g.O.Sink.state c.args.out.now) stands (c.requires.only told) c.go.ensures.file (surveyed c.args.session.now) has (c.go.ensures.local told)
+    (g.B.Bench.state c.close.new.bench) c.in-Reached.reached
+    (c.in-Reached.ensures.follows told) (c.in-Reached.ensures.idle told tt) c.close.ensures.cells
+    (closed_as (g.B.Bench.state c.go.new.bench) (g.B.Bench.state c.close.new.bench) (job_in c.go.new.self) (job_in c.args.session.now)
+    (surveyed c.go.new.self) (surveyed c.args.session.now) c.go.ensures.job c.go.ensures.work (c.close.ensures.pairs told)) (c.in-Err.ensures.err told)
 
 pub close-requires-clause-whole : goal.close-requires-clause-whole
 close-requires-clause-whole g c = λ told.
-    subst (λ (l : List ℕ). IsWhole (drop 1 l) l) (sym (c.go.ensures.file.file told)) (whole_behind _ (g.B.Bench.state c.args.bench.now).file (c.requires.stands told).whole)
+    subst (λ (l : List ℕ). IsWhole (drop 1 l) l) (sym (c.go.ensures.file.file told))
+    (whole_behind _ (g.B.Bench.state c.args.bench.now).file (c.requires.stands told).whole)
 
 pub close-requires-clause-only : goal.close-requires-clause-only
 close-requires-clause-only g c = λ told.
@@ -76,7 +99,8 @@ close-requires-clause-only g c = λ told.
 
 pub address_of-requires-clause-inside : goal.address_of-requires-clause-inside
 address_of-requires-clause-inside g c =
-    let regions : c.as_slice.result.now ≡ (job_in c.args.session.now).board.regions = c.as_slice.ensures ∙ ap (λ (k : code.Job). k.board.regions) (c.job.ensures ∙ c.go.ensures.job) in
+    let regions : c.as_slice.result.now ≡ (job_in c.args.session.now).board.regions = c.as_slice.ensures
+    ∙ ap (λ (k : code.Job). k.board.regions) (c.job.ensures ∙ c.go.ensures.job) in
     subst (λ (rs : List Region). c.in-Mismatch.difference.at < size_of rs) (sym regions) c.in-Mismatch.ensures.sound.0
 
 pub address_of-requires-clause-fit : goal.address_of-requires-clause-fit

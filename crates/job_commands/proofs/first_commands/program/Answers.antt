@@ -23,7 +23,8 @@ pub begin_job-requires : goal.begin_job-requires
 begin_job-requires g c =
     let given = c.in_ok-task.ensures.reads.given in
     task_parts c.args.names.now.raw_at given.files c.in_ok-task.task given.holds c.in_ok-task.ensures.short_board c.in_ok-task.ensures.short_flm
-    c.in_ok-task.ensures.short_second _ c.parts_of.ensures.board c.parts_of.ensures.flm c.parts_of.ensures.second c.parts_of.ensures.image c.parts_of.ensures.size
+    c.in_ok-task.ensures.short_second _ c.parts_of.ensures.board c.parts_of.ensures.flm c.parts_of.ensures.second c.parts_of.ensures.image
+    c.parts_of.ensures.size
 
 pub returns : goal.returns
 returns g c =

@@ -33,7 +33,8 @@ pub returns-in_err-start-clause-prints : goal.returns-in_err-start-clause-prints
 returns-in_err-start-clause-prints g c =
     let o = g.O.Sink.state c.args.out.now in
     let is : c.from_residual.result ≡ Err c.in_err-start.field-0.0 = search rules in
-    rw is (start_prints_begun (g.B.Bench.state c.args.bench.now).cell_count (sink_call g.O.Sink.tells o o) (shown c.in_err-start.field-0.0) c.in_err-start.ensures.kind
+    rw is (start_prints_begun (g.B.Bench.state c.args.bench.now).cell_count (sink_call g.O.Sink.tells o o) (shown c.in_err-start.field-0.0)
+    c.in_err-start.ensures.kind
     (record { taken = refl; faults = refl }))
 
 pub returns-in_err-start-clause-sized : goal.returns-in_err-start-clause-sized
@@ -59,13 +60,19 @@ returns-in_err-put_end-clause-told g c =
     let r = g.O.Sink.state c.put_end.new.out in
     let puts = c.in_err-put_end.ensures in
     let is = err_from_is_err_and c.from_residual-in_err-put_end.result c.from_residual-in_err-put_end.ensures.1 in
-    rw (is.1, is.2) (λ told. starts_cut g.B.Bench.tells g.O.Sink.tells a b p r begun_text c.args.parts.now (c.in_ok-start.ensures.sized refl) (c.in_ok-start.ensures.told told g.O.Sink.tells p)
+    rw (is.1, is.2) (λ told. starts_cut g.B.Bench.tells g.O.Sink.tells a b p r begun_text c.args.parts.now (c.in_ok-start.ensures.sized refl)
+    (c.in_ok-start.ensures.told told g.O.Sink.tells p)
     (record { taken = puts.err; later = puts.cause.later; rose = puts.cause.on_fault refl }))
 
 pub returns-in_err-put_end-clause-prints : goal.returns-in_err-put_end-clause-prints
 returns-in_err-put_end-clause-prints g c =
     let is = err_from_is_err_and c.from_residual-in_err-put_end.result c.from_residual-in_err-put_end.ensures.1 in
-    rw (is.1, is.2) (record { taken = c.in_err-put_end.ensures.err; later = c.in_err-put_end.ensures.cause.later; rose = c.in_err-put_end.ensures.cause.on_fault refl })
+    rw (is.1, is.2) (record {
+      taken = c.in_err-put_end.ensures.err;
+      later = c.in_err-put_end.ensures.cause.later;
+      rose =
+          c.in_err-put_end.ensures.cause.on_fault refl;
+    })
 
 pub returns-in_err-put_end-clause-sized : goal.returns-in_err-put_end-clause-sized
 returns-in_err-put_end-clause-sized g c =
@@ -76,7 +83,8 @@ pub returns-in_err-put_end-clause-counts : goal.returns-in_err-put_end-clause-co
 returns-in_err-put_end-clause-counts g c =
     let p = g.O.Sink.state c.args.out.now in
     let is = err_from_is_err_and c.from_residual-in_err-put_end.result c.from_residual-in_err-put_end.ensures.1 in
-    rw (is.1, is.2) (unput_counted g.B.Bench.tells g.O.Sink.tells (g.B.Bench.state c.args.bench.now) (g.B.Bench.state c.start.new.bench) p (g.O.Sink.state c.put_end.new.out)
+    rw (is.1, is.2) (unput_counted g.B.Bench.tells g.O.Sink.tells (g.B.Bench.state c.args.bench.now) (g.B.Bench.state c.start.new.bench) p
+    (g.O.Sink.state c.put_end.new.out)
     (c.in_ok-start.ensures.counts g.O.Sink.tells p) (c.in_err-put_end.ensures.cause.on_fault refl) c.in_err-put_end.ensures.cause.later)
 
 pub returns-clause-told : goal.returns-clause-told
@@ -86,7 +94,8 @@ returns-clause-told g c = λ told.
     let p = g.O.Sink.state c.args.out.now in
     let r = g.O.Sink.state c.put_end.new.out in
     let puts = c.in_ok-put_end.ensures in
-    starts_put g.B.Bench.tells g.O.Sink.tells a b p r begun_text c.args.parts.now (c.in_ok-start.ensures.sized refl) (c.in_ok-start.ensures.told told g.O.Sink.tells p)
+    starts_put g.B.Bench.tells g.O.Sink.tells a b p r begun_text c.args.parts.now (c.in_ok-start.ensures.sized refl)
+    (c.in_ok-start.ensures.told told g.O.Sink.tells p)
     (record { taken = puts.ok; faults = puts.cause.on_ok refl })
 
 pub returns-clause-prints : goal.returns-clause-prints

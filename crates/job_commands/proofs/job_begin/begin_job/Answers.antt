@@ -40,7 +40,8 @@ pub returns-in_err-start-clause-prints : goal.returns-in_err-start-clause-prints
 returns-in_err-start-clause-prints g c =
     let o = g.O.Sink.state c.args.out.now in
     let is : c.from_residual.result ≡ Err c.in_err-start.field-0.0 = search rules in
-    rw is (start_prints (g.B.Bench.state c.args.bench.now).cell_count (sink_call g.O.Sink.tells o o) (shown c.in_err-start.field-0.0) c.in_err-start.ensures.kind
+    rw is (start_prints (g.B.Bench.state c.args.bench.now).cell_count (sink_call g.O.Sink.tells o o) (shown c.in_err-start.field-0.0)
+    c.in_err-start.ensures.kind
     (record { taken = refl; faults = refl }))
 
 pub returns-in_err-start-clause-sized : goal.returns-in_err-start-clause-sized
@@ -101,7 +102,8 @@ returns-clause-prints g c =
     let n = (g.B.Bench.state c.args.bench.now).cell_count in
     let out = sink_call g.O.Sink.tells (g.O.Sink.state c.args.out.now) (g.O.Sink.state c.carry.new.out) in
     subst (λ (x : Answer). PrintsWork n out x) (sym c.after_begin.ensures)
-    (begun_prints n out (answer_of c.carry.result) (subst (λ (m : ℕ). PrintsWork m out (answer_of c.carry.result)) c.start.ensures.count c.carry.ensures.prints))
+    (begun_prints n out (answer_of c.carry.result) (subst (λ (m : ℕ). PrintsWork m out (answer_of c.carry.result)) c.start.ensures.count
+    c.carry.ensures.prints))
 
 pub returns-clause-counts : goal.returns-clause-counts
 returns-clause-counts g c =

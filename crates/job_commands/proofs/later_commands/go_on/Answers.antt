@@ -1,3 +1,4 @@
+-- `go_on`: its clause `ends`.
 use Rattle.std.proofs.Common.{refl, []}
 use Rattle.command_answers.specs.Call.{bench_call, sink_call}
 use Rattle.command_answers.specs.Shown.{answer_of}

@@ -46,4 +46,5 @@ pub returns-in-Err-clause-kind : goal.returns-in-Err-clause-kind
 returns-in-Err-clause-kind g c = subst (λ (r : Refusal). IsOf has_start (refused r)) (sym c.begin_refusal.ensures) (begin_kind c.in-Err.fault)
 
 pub returns-in-Err-clause-sound : goal.returns-in-Err-clause-sound
-returns-in-Err-clause-sound g c = subst (λ (r : Refusal). IsSound (refused r)) (sym c.begin_refusal.ensures) (begin_sound c.args.parts.now.size (g.B.Bench.state c.args.bench.now).cell_count c.in-Err.fault c.in-Err.ensures.sound)
+returns-in-Err-clause-sound g c = subst (λ (r : Refusal). IsSound (refused r)) (sym c.begin_refusal.ensures)
+    (begin_sound c.args.parts.now.size (g.B.Bench.state c.args.bench.now).cell_count c.in-Err.fault c.in-Err.ensures.sound)

@@ -14,4 +14,5 @@ loop-k-preserved c = λ v s bytes.
 
 pub returns : goal.returns
 returns c = λ v s bytes.
-    c.loop-k.invariant v s bytes ∙ from_none (page_at v s (errand_in c.args.self.now bytes)) (length c.args.self.now.geometry.pages) c.loop-k.k (omega (arith, c.pages-count.ensures.count))
+    c.loop-k.invariant v s bytes ∙ from_none (page_at v s (errand_in c.args.self.now bytes)) (length c.args.self.now.geometry.pages) c.loop-k.k
+    (omega (arith, c.pages-count.ensures.count))

@@ -9,9 +9,11 @@ use Rattle.flash_session.proofs.part.Part.find_sector.Goals as goal
 pub loop-k-preserved : goal.loop-k-preserved
 loop-k-preserved c = λ s bytes.
     c.loop-k.invariant s bytes
-    ∙ from_skip (sector_moves s (planned_in c.args.self.now)) (length c.args.self.now.geometry.sectors) c.loop-k.k (omega (arith, c.sectors-count.ensures.count))
+    ∙ from_skip (sector_moves s (planned_in c.args.self.now)) (length c.args.self.now.geometry.sectors) c.loop-k.k
+    (omega (arith, c.sectors-count.ensures.count))
     (none_of (get_or c.args.self.now.plan.made.sectors c.loop-k.k false) _ (sym c.sector_in.ensures ∙ c.if-sector_in.false))
 
 pub returns : goal.returns
 returns c = λ s bytes.
-    c.loop-k.invariant s bytes ∙ from_none (sector_moves s (planned_in c.args.self.now)) (length c.args.self.now.geometry.sectors) c.loop-k.k (omega (arith, c.sectors-count.ensures.count))
+    c.loop-k.invariant s bytes ∙ from_none (sector_moves s (planned_in c.args.self.now)) (length c.args.self.now.geometry.sectors) c.loop-k.k
+    (omega (arith, c.sectors-count.ensures.count))

@@ -1,3 +1,4 @@
+-- `Part::new`: its clause `part`.
 use Rattle.std.proofs.Common.{refl, ap, arith}
 use Rattle.page_geometry.specs.Geometry.{Geometry}
 use Rattle.flash_session.proofs.part.Part.new.Goals as goal

@@ -5,7 +5,8 @@ use Rattle.flash_session.proofs.part.Part.page_item.Goals as goal
 
 pub returns-in-Some : goal.returns-in-Some
 returns-in-Some c = λ s errand entry.
-    page_next s c.args.self.now c.args.verifies c.args.index c.in-Some.index c.page-at.result.0 c.page-at.result.1 c.call_for.result c.call_for.ensures errand entry c.pages-lawful.ensures.lawful
+    page_next s c.args.self.now c.args.verifies c.args.index c.in-Some.index c.page-at.result.0 c.page-at.result.1 c.call_for.result c.call_for.ensures errand
+    entry c.pages-lawful.ensures.lawful
     c.in-Some.ensures.0 c.in-Some.ensures.1 (λ bytes. c.in-Some.ensures.2 c.args.verifies s bytes) c.page-at.ensures.range
     (omega (arith, c.in-Some.ensures.0, c.pages-lawful.ensures.count, c.pages-lawful.ensures.limit))
 

@@ -5,5 +5,6 @@ use Rattle.flash_session.proofs.part.Part.sector_item.Goals as goal
 
 pub returns-in-Some : goal.returns-in-Some
 returns-in-Some c = λ s.
-    sector_next s c.args.self.now c.args.index c.in-Some.index c.sector-at.result.0 c.sector-at.result.1 c.in-Some.ensures.0 c.in-Some.ensures.1 (λ bytes. c.in-Some.ensures.2 s bytes) c.sector-at.ensures.range
+    sector_next s c.args.self.now c.args.index c.in-Some.index c.sector-at.result.0 c.sector-at.result.1 c.in-Some.ensures.0 c.in-Some.ensures.1
+    (λ bytes. c.in-Some.ensures.2 s bytes) c.sector-at.ensures.range
     (omega (arith, c.in-Some.ensures.0, c.sectors-lawful.ensures.count, c.sectors-lawful.ensures.limit))

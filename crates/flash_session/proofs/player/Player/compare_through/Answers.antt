@@ -1,5 +1,5 @@
 -- `Player::compare_through`: its clauses `turns`, `one` and `still`.
-use Rattle.std.proofs.Common.{◌≡◌, ◌≤◌, ◌<◌, ◌+◌, ◌-◌, ◌∙◌, min, ℕ, List, [], Option, Some, None, length, take, refl, sym, ap, subst, arith}
+use Rattle.std.proofs.Common.{◌≡◌, ◌-◌, ◌∙◌, ℕ, [], Option, Some, None, length, take, refl, sym, subst, arith}
 use Rattle.std.proofs.lemmas.List.{length-take}
 use Rattle.bench_model.specs.Counted.{is_store_fault, is_device_fault}
 use Rattle.readback.specs.declared.compare.Difference.{Difference}
@@ -15,13 +15,18 @@ use Rattle.flash_session.proofs.player.Player.compare_through.Goals as goal
 
 pub returns-in-Err-Device-clause-turns : goal.returns-in-Err-Device-clause-turns
 returns-in-Err-Device-clause-turns g c =
-    compare_unread g.B.Bench.tells (goal_for c.args.job.now c.args.self.now (g.B.Bench.state c.args.bench.now).file) c.args.self.now c.args.arena.now (g.B.Bench.state c.args.bench.now) c.requires.fit c.args.at c.requires.place (g.B.Bench.state c.compare_window.new.bench) c.compare_window.ensures.reads (λ told x. g.met.B.Bench.as_told c.args.bench.now x told)
+    compare_unread g.B.Bench.tells (goal_for c.args.job.now c.args.self.now (g.B.Bench.state c.args.bench.now).file) c.args.self.now c.args.arena.now
+    (g.B.Bench.state c.args.bench.now) c.requires.fit c.args.at c.requires.place (g.B.Bench.state c.compare_window.new.bench) c.compare_window.ensures.reads
+    (λ told x. g.met.B.Bench.as_told c.args.bench.now x told)
     ended.DeviceFault tt (unread_counted is_device_fault c.in-Err-Device.field-0 unread.Device _ _ c.in-Err-Device.field-0-is c.in-Err-Device.ensures.device)
-    (unread_counted is_store_fault c.in-Err-Device.field-0 unread.Device _ _ c.in-Err-Device.field-0-is c.in-Err-Device.ensures.store) (λ x. x) (λ moves a off. off)
+    (unread_counted is_store_fault c.in-Err-Device.field-0 unread.Device _ _ c.in-Err-Device.field-0-is c.in-Err-Device.ensures.store) (λ x. x)
+    (λ moves a off. off)
 
 pub returns-in-Err-Store-clause-turns : goal.returns-in-Err-Store-clause-turns
 returns-in-Err-Store-clause-turns g c =
-    compare_unread g.B.Bench.tells (goal_for c.args.job.now c.args.self.now (g.B.Bench.state c.args.bench.now).file) c.args.self.now c.args.arena.now (g.B.Bench.state c.args.bench.now) c.requires.fit c.args.at c.requires.place (g.B.Bench.state c.compare_window.new.bench) c.compare_window.ensures.reads (λ told x. g.met.B.Bench.as_told c.args.bench.now x told)
+    compare_unread g.B.Bench.tells (goal_for c.args.job.now c.args.self.now (g.B.Bench.state c.args.bench.now).file) c.args.self.now c.args.arena.now
+    (g.B.Bench.state c.args.bench.now) c.requires.fit c.args.at c.requires.place (g.B.Bench.state c.compare_window.new.bench) c.compare_window.ensures.reads
+    (λ told x. g.met.B.Bench.as_told c.args.bench.now x told)
     ended.StoreFault tt (unread_counted is_device_fault c.in-Err-Store.field-0 unread.Store _ _ c.in-Err-Store.field-0-is c.in-Err-Store.ensures.device)
     (unread_counted is_store_fault c.in-Err-Store.field-0 unread.Store _ _ c.in-Err-Store.field-0-is c.in-Err-Store.ensures.store) (λ x. x) (λ moves a off. off)
 
@@ -33,10 +38,14 @@ returns-in-Ok-Some-clause-turns g c =
     let count = compare_count g.B.Bench.tells [] x c.args.arena.now s c.requires.fit in
     let less = compare_at g.B.Bench.tells [] x c.args.arena.now s c.requires.fit c.args.at c.requires.place in
     let long : length (take len c.args.wanted.now) ≡ len = omega (arith, length-take len c.args.wanted.now, c.requires.wanted, c.min-len.ensures) in
-    differs_turn g.B.Bench.tells (goal_for c.args.job.now c.args.self.now (g.B.Bench.state c.args.bench.now).file) x c.args.arena.now s c.requires.fit c.args.at c.requires.place (g.B.Bench.state c.compare_window.new.bench) c.compare_window.ensures.reads (λ told y. g.met.B.Bench.as_told c.args.bench.now y told)
-    len c.in-Ok-Some.difference (omega (arith, c.min-len.ensures, c.cells_len-count.ensures, count, less)) (λ told. goal_length c.args.job.now x.task.goal s.file (c.requires.stands told) ∙ c.requires.size)
+    differs_turn g.B.Bench.tells (goal_for c.args.job.now c.args.self.now (g.B.Bench.state c.args.bench.now).file) x c.args.arena.now s c.requires.fit
+    c.args.at c.requires.place (g.B.Bench.state c.compare_window.new.bench) c.compare_window.ensures.reads
+    (λ told y. g.met.B.Bench.as_told c.args.bench.now y told)
+    len c.in-Ok-Some.difference (omega (arith, c.min-len.ensures, c.cells_len-count.ensures, count, less))
+    (λ told. goal_length c.args.job.now x.task.goal s.file (c.requires.stands told) ∙ c.requires.size)
     (subst (λ (n : ℕ). FindsIn g.B.Bench.tells s.cells (goal_for c.args.job.now x s.file) c.args.at n (Some c.in-Ok-Some.difference)) long
-    (subst (λ (o : Option Difference). FindsIn g.B.Bench.tells s.cells (goal_for c.args.job.now x s.file) c.args.at (length (take len c.args.wanted.now)) o) c.in-Ok-Some.field-0-is c.in-Ok-Some.ensures.ok))
+    (subst (λ (o : Option Difference). FindsIn g.B.Bench.tells s.cells (goal_for c.args.job.now x s.file) c.args.at (length (take len c.args.wanted.now)) o)
+    c.in-Ok-Some.field-0-is c.in-Ok-Some.ensures.ok))
     (c.in-Ok-Some.ensures.device.on_other refl) (c.in-Ok-Some.ensures.store.on_other refl)
 
 pub returns-then-at-len-clause-turns : goal.returns-then-at-len-clause-turns
@@ -47,12 +56,16 @@ returns-then-at-len-clause-turns g c =
     let count = compare_count g.B.Bench.tells [] x c.args.arena.now s c.requires.fit in
     let less = compare_at g.B.Bench.tells [] x c.args.arena.now s c.requires.fit c.args.at c.requires.place in
     let long : length (take len c.args.wanted.now) ≡ len = omega (arith, length-take len c.args.wanted.now, c.requires.wanted, c.min-len.ensures) in
-    closing_turn g.B.Bench.tells (goal_for c.args.job.now c.args.self.now (g.B.Bench.state c.args.bench.now).file) x c.args.arena.now s c.requires.fit c.args.at c.requires.place (g.B.Bench.state c.compare_window.new.bench) c.compare_window.ensures.reads (λ told y. g.met.B.Bench.as_told c.args.bench.now y told)
+    closing_turn g.B.Bench.tells (goal_for c.args.job.now c.args.self.now (g.B.Bench.state c.args.bench.now).file) x c.args.arena.now s c.requires.fit
+    c.args.at c.requires.place (g.B.Bench.state c.compare_window.new.bench) c.compare_window.ensures.reads
+    (λ told y. g.met.B.Bench.as_told c.args.bench.now y told)
     len (omega (arith, c.min-len.ensures, c.cells_len-count.ensures, count, less)) (omega (arith, c.min-len.ensures, c.cells_len-count.ensures, less))
     (subst (λ (n : ℕ). FindsIn g.B.Bench.tells s.cells (goal_for c.args.job.now x s.file) c.args.at n None) long
-    (subst (λ (o : Option Difference). FindsIn g.B.Bench.tells s.cells (goal_for c.args.job.now x s.file) c.args.at (length (take len c.args.wanted.now)) o) c.in-Ok-None.field-0-is c.in-Ok-None.ensures.ok))
+    (subst (λ (o : Option Difference). FindsIn g.B.Bench.tells s.cells (goal_for c.args.job.now x s.file) c.args.at (length (take len c.args.wanted.now)) o)
+    c.in-Ok-None.field-0-is c.in-Ok-None.ensures.ok))
     (c.in-Ok-None.ensures.device.on_other refl) (c.in-Ok-None.ensures.store.on_other refl)
-    (c.if-at-len.true ∙ c.cells_len-count.ensures ∙ count) (λ told. g.met.B.Bench.all_told c.args.bench.now told ∙ count) (λ told. goal_length c.args.job.now x.task.goal s.file (c.requires.stands told) ∙ c.requires.size)
+    (c.if-at-len.true ∙ c.cells_len-count.ensures ∙ count) (λ told. g.met.B.Bench.all_told c.args.bench.now told ∙ count)
+    (λ told. goal_length c.args.job.now x.task.goal s.file (c.requires.stands told) ∙ c.requires.size)
 
 pub returns-else-at-len-clause-turns : goal.returns-else-at-len-clause-turns
 returns-else-at-len-clause-turns g c =
@@ -62,10 +75,13 @@ returns-else-at-len-clause-turns g c =
     let count = compare_count g.B.Bench.tells [] x c.args.arena.now s c.requires.fit in
     let less = compare_at g.B.Bench.tells [] x c.args.arena.now s c.requires.fit c.args.at c.requires.place in
     let long : length (take len c.args.wanted.now) ≡ len = omega (arith, length-take len c.args.wanted.now, c.requires.wanted, c.min-len.ensures) in
-    alike_turn g.B.Bench.tells (goal_for c.args.job.now c.args.self.now (g.B.Bench.state c.args.bench.now).file) x c.args.arena.now s c.requires.fit c.args.at c.requires.place (g.B.Bench.state c.compare_window.new.bench) c.compare_window.ensures.reads (λ told y. g.met.B.Bench.as_told c.args.bench.now y told)
+    alike_turn g.B.Bench.tells (goal_for c.args.job.now c.args.self.now (g.B.Bench.state c.args.bench.now).file) x c.args.arena.now s c.requires.fit
+    c.args.at c.requires.place (g.B.Bench.state c.compare_window.new.bench) c.compare_window.ensures.reads
+    (λ told y. g.met.B.Bench.as_told c.args.bench.now y told)
     len (omega (arith, c.min-len.ensures, c.cells_len-count.ensures, count, less)) (omega (arith, c.min-len.ensures, c.cells_len-count.ensures, less))
     (subst (λ (n : ℕ). FindsIn g.B.Bench.tells s.cells (goal_for c.args.job.now x s.file) c.args.at n None) long
-    (subst (λ (o : Option Difference). FindsIn g.B.Bench.tells s.cells (goal_for c.args.job.now x s.file) c.args.at (length (take len c.args.wanted.now)) o) c.in-Ok-None.field-0-is c.in-Ok-None.ensures.ok))
+    (subst (λ (o : Option Difference). FindsIn g.B.Bench.tells s.cells (goal_for c.args.job.now x s.file) c.args.at (length (take len c.args.wanted.now)) o)
+    c.in-Ok-None.field-0-is c.in-Ok-None.ensures.ok))
     (c.in-Ok-None.ensures.device.on_other refl) (c.in-Ok-None.ensures.store.on_other refl)
     (λ same. c.if-at-len.false (same ∙ sym (c.cells_len-count.ensures ∙ count)))
 
@@ -80,22 +96,37 @@ returns-else-at-len-clause-one g c =
 pub returns-in-Ok-Some-clause-one : goal.returns-in-Ok-Some-clause-one
 returns-in-Ok-Some-clause-one g c =
     let d = c.in-Ok-Some.difference in
-    let found = subst (λ (o : Option Difference). FindsIn g.B.Bench.tells (g.B.Bench.state c.args.bench.now).cells (goal_for c.args.job.now c.args.self.now (g.B.Bench.state c.args.bench.now).file) c.args.at (length (take c.min-len.result c.args.wanted.now)) o) c.in-Ok-Some.field-0-is c.in-Ok-Some.ensures.ok in (
+    let found = subst (λ (o : Option Difference). FindsIn g.B.Bench.tells (g.B.Bench.state c.args.bench.now).cells
+    (goal_for c.args.job.now c.args.self.now (g.B.Bench.state c.args.bench.now).file) c.args.at (length (take c.min-len.result c.args.wanted.now)) o)
+    c.in-Ok-Some.field-0-is c.in-Ok-Some.ensures.ok in (
       omega (arith, found.finds.place),
-      omega (arith, found.finds.place, found.finds.first.within, found.long, length-take c.min-len.result c.args.wanted.now, c.requires.wanted, c.min-len.ensures),
+      omega (
+        arith,
+        found.finds.place,
+        found.finds.first.within,
+        found.long,
+        length-take c.min-len.result c.args.wanted.now,
+        c.requires.wanted,
+        c.min-len.ensures,
+      ),
     )
 
 pub returns-in-Err-Device-clause-still : goal.returns-in-Err-Device-clause-still
-returns-in-Err-Device-clause-still g c = read_still g.B.Bench.tells c.args.self.now _ c.args.arena.now (g.B.Bench.state c.args.bench.now) (g.B.Bench.state c.compare_window.new.bench) c.compare_window.ensures.reads.cells
+returns-in-Err-Device-clause-still g c = read_still g.B.Bench.tells c.args.self.now _ c.args.arena.now (g.B.Bench.state c.args.bench.now)
+    (g.B.Bench.state c.compare_window.new.bench) c.compare_window.ensures.reads.cells
 
 pub returns-in-Err-Store-clause-still : goal.returns-in-Err-Store-clause-still
-returns-in-Err-Store-clause-still g c = read_still g.B.Bench.tells c.args.self.now _ c.args.arena.now (g.B.Bench.state c.args.bench.now) (g.B.Bench.state c.compare_window.new.bench) c.compare_window.ensures.reads.cells
+returns-in-Err-Store-clause-still g c = read_still g.B.Bench.tells c.args.self.now _ c.args.arena.now (g.B.Bench.state c.args.bench.now)
+    (g.B.Bench.state c.compare_window.new.bench) c.compare_window.ensures.reads.cells
 
 pub returns-in-Ok-Some-clause-still : goal.returns-in-Ok-Some-clause-still
-returns-in-Ok-Some-clause-still g c = read_still g.B.Bench.tells c.args.self.now _ c.args.arena.now (g.B.Bench.state c.args.bench.now) (g.B.Bench.state c.compare_window.new.bench) c.compare_window.ensures.reads.cells
+returns-in-Ok-Some-clause-still g c = read_still g.B.Bench.tells c.args.self.now _ c.args.arena.now (g.B.Bench.state c.args.bench.now)
+    (g.B.Bench.state c.compare_window.new.bench) c.compare_window.ensures.reads.cells
 
 pub returns-then-at-len-clause-still : goal.returns-then-at-len-clause-still
-returns-then-at-len-clause-still g c = read_still g.B.Bench.tells c.args.self.now _ c.args.arena.now (g.B.Bench.state c.args.bench.now) (g.B.Bench.state c.compare_window.new.bench) c.compare_window.ensures.reads.cells
+returns-then-at-len-clause-still g c = read_still g.B.Bench.tells c.args.self.now _ c.args.arena.now (g.B.Bench.state c.args.bench.now)
+    (g.B.Bench.state c.compare_window.new.bench) c.compare_window.ensures.reads.cells
 
 pub returns-else-at-len-clause-still : goal.returns-else-at-len-clause-still
-returns-else-at-len-clause-still g c = read_still g.B.Bench.tells c.args.self.now _ c.args.arena.now (g.B.Bench.state c.args.bench.now) (g.B.Bench.state c.compare_window.new.bench) c.compare_window.ensures.reads.cells
+returns-else-at-len-clause-still g c = read_still g.B.Bench.tells c.args.self.now _ c.args.arena.now (g.B.Bench.state c.args.bench.now)
+    (g.B.Bench.state c.compare_window.new.bench) c.compare_window.ensures.reads.cells

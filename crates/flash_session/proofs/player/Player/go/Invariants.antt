@@ -6,7 +6,8 @@ use Rattle.flash_session.proofs.player.Player.go.Given as goal
 
 abbrev pub invariant-turns : goal.invariant-turns
 invariant-turns g l = record {
-  played : Played g.B.Bench.tells (goal_for l.job l.fn.self (g.B.Bench.state l.fn.bench).file) l.fn.self l.fn.arena (g.B.Bench.state l.fn.bench) l.self l.arena (g.B.Bench.state l.bench);
+  played : Played g.B.Bench.tells (goal_for l.job l.fn.self (g.B.Bench.state l.fn.bench).file) l.fn.self l.fn.arena (g.B.Bench.state l.fn.bench) l.self l.arena
+      (g.B.Bench.state l.bench);
 }
 
 abbrev pub decreases-turns : goal.decreases-turns

@@ -6,19 +6,27 @@ use Rattle.flash_session.proofs.player.Player.last_reset.Goals as goal
 
 pub returns-in-Ok-clause-turns : goal.returns-in-Ok-clause-turns
 returns-in-Ok-clause-turns g c = λ goal_now.
-    last_turn g.B.Bench.tells goal_now c.args.self.now c.args.arena.now (g.B.Bench.state c.args.bench.now) c.requires.fit c.args.cursor c.requires.place c.requires.step c.reset.new.self c.reset.new.arena (g.B.Bench.state c.reset.new.bench)
-    c.reset.ensures.setup c.reset.ensures.map c.reset.ensures.others c.reset.ensures.ram c.reset.ensures.bench (c.in-Ok.ensures.cause.on_ok refl) c.in-Ok.ensures.agrees c.in-Ok.ensures.ok
+    last_turn g.B.Bench.tells goal_now c.args.self.now c.args.arena.now (g.B.Bench.state c.args.bench.now) c.requires.fit c.args.cursor c.requires.place
+    c.requires.step c.reset.new.self c.reset.new.arena (g.B.Bench.state c.reset.new.bench)
+    c.reset.ensures.setup c.reset.ensures.map c.reset.ensures.others c.reset.ensures.ram c.reset.ensures.bench (c.in-Ok.ensures.cause.on_ok refl)
+    c.in-Ok.ensures.agrees c.in-Ok.ensures.ok
 
 pub returns-in-Err-clause-turns : goal.returns-in-Err-clause-turns
 returns-in-Err-clause-turns g c = λ goal_now.
-    reset_broken g.B.Bench.tells goal_now c.args.self.now c.args.arena.now (g.B.Bench.state c.args.bench.now) c.requires.fit c.args.cursor c.requires.place c.reset.new.self c.reset.new.arena (g.B.Bench.state c.reset.new.bench)
-    c.in-Err.ensures.err c.reset.ensures.others c.reset.ensures.ram c.reset.ensures.bench c.in-Err.ensures.cause.later (c.in-Err.ensures.cause.on_fault refl) c.in-Err.ensures.err_cells
+    reset_broken g.B.Bench.tells goal_now c.args.self.now c.args.arena.now (g.B.Bench.state c.args.bench.now) c.requires.fit c.args.cursor c.requires.place
+    c.reset.new.self c.reset.new.arena (g.B.Bench.state c.reset.new.bench)
+    c.in-Err.ensures.err c.reset.ensures.others c.reset.ensures.ram c.reset.ensures.bench c.in-Err.ensures.cause.later (c.in-Err.ensures.cause.on_fault refl)
+    c.in-Err.ensures.err_cells
 
 pub returns-in-Ok-clause-host : goal.returns-in-Ok-clause-host
 returns-in-Ok-clause-host g c = λ goal_now. record { made = refl; next = c.requires.step }
 
 pub returns-in-Err-clause-host : goal.returns-in-Err-clause-host
-returns-in-Err-clause-host g c = λ goal_now. record { made = refl; next = record { calls = c.in-Err.ensures.err.0; ram = c.in-Err.ensures.err.1; stays = c.in-Err.ensures.err_cells } }
+returns-in-Err-clause-host g c = λ goal_now. record {
+  made = refl;
+  next =
+      record { calls = c.in-Err.ensures.err.0; ram = c.in-Err.ensures.err.1; stays = c.in-Err.ensures.err_cells };
+}
 
 pub returns-in-Ok-clause-one : goal.returns-in-Ok-clause-one
 returns-in-Ok-clause-one g c = resets_so c.args.cursor c.requires.kind

@@ -11,4 +11,5 @@ returns-then-is_closing-clause-turns g c = c.close.ensures.turns (goal_for c.arg
 
 pub returns-then-is_closing-clause-slice : goal.returns-then-is_closing-clause-slice
 returns-then-is_closing-clause-slice g c =
-    slice_from g.B.Bench.tells (goal_for c.args.job.now c.args.self.now (g.B.Bench.state c.args.bench.now).file) c.args.steps c.args.self.now.place place.Closing _ _ _ _ _ _ (is_close c.args.self.now.place (sym c.is_closing.ensures ∙ c.if-is_closing.true)) c.close.ensures.still
+    slice_from g.B.Bench.tells (goal_for c.args.job.now c.args.self.now (g.B.Bench.state c.args.bench.now).file) c.args.steps c.args.self.now.place
+    place.Closing _ _ _ _ _ _ (is_close c.args.self.now.place (sym c.is_closing.ensures ∙ c.if-is_closing.true)) c.close.ensures.still

@@ -5,4 +5,5 @@ use Rattle.flash_session.proofs.player.Player.turn_to.Goals as goal
 
 pub returns-then-second-self : goal.returns-then-second-self
 returns-then-second-self c =
-    turned_to c.args.self.now.other c.args.self.now c.args.arena.now c.exchange.new.self c.exchange.new.arena c.args.second refl c.exchange.ensures c.requires.twins (differ_by c.args.second c.args.self.now.second c.if-second-self.true)
+    turned_to c.args.self.now.other c.args.self.now c.args.arena.now c.exchange.new.self c.exchange.new.arena c.args.second refl c.exchange.ensures
+    c.requires.twins (differ_by c.args.second c.args.self.now.second c.if-second-self.true)

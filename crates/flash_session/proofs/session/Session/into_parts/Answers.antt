@@ -9,7 +9,8 @@ use Rattle.flash_session.proofs.session.Session.into_parts.Goals as goal
 pub returns-clause-player : goal.returns-clause-player
 returns-clause-player c =
     let j = c.args.self.job in
-    subst (λ (o : Option Survey). IfSome (shown_in o) (λ v. IsPlayerOf j v c.into_player-player.result)) (sym c.in-Some.is) (c.into_player-player.ensures j (c.args.self.works c.in-Some.survey c.in-Some.is))
+    subst (λ (o : Option Survey). IfSome (shown_in o) (λ v. IsPlayerOf j v c.into_player-player.result)) (sym c.in-Some.is)
+    (c.into_player-player.ensures j (c.args.self.works c.in-Some.survey c.in-Some.is))
 
 pub into_player-player-requires : goal.into_player-player-requires
 into_player-player-requires c = (survey_scripted c.args.self.job c.in-Some.survey (c.args.self.works c.in-Some.survey c.in-Some.is)).twins

@@ -7,4 +7,6 @@ region-requires c = region_inside c.args.self.now.job c.in-Some.survey c.args.re
 
 pub returns : goal.returns
 returns c =
-    plan_from c.args.self.now.survey c.in-Some.survey c.args.region c.region.result.now c.in-Some.is (region_inside c.args.self.now.job c.in-Some.survey c.args.region (c.args.self.now.works c.in-Some.survey c.in-Some.is) c.requires.region) c.region.ensures
+    plan_from c.args.self.now.survey c.in-Some.survey c.args.region c.region.result.now c.in-Some.is
+    (region_inside c.args.self.now.job c.in-Some.survey c.args.region (c.args.self.now.works c.in-Some.survey c.in-Some.is) c.requires.region)
+    c.region.ensures

@@ -3,7 +3,6 @@ use Rattle.std.proofs.Common.{◌∙◌, ap}
 use Rattle.std.proofs.lemmas.Result.{err_from_is_err_and}
 use Rattle.bench_model.specs.Counted.{is_store_fault, is_device_fault}
 use Rattle.flash_session.specs.declared.fault.SurveyFault.{SurveyFault}
-use Rattle.flash_session.specs.declared.ready.Survey.{Survey}
 use Rattle.flash_session.proofs.FoundLemmas.{refused, handed}
 use Rattle.flash_session.proofs.session.Session.survey.Goals as goal
 

@@ -1,3 +1,4 @@
+-- `Gang::open`: its clauses `looked`, `opened`, `first`, `gang` and `ready`, that its loop keeps what it has to, and what `new` asks for.
 use Rattle.std.proofs.Common.{◌≤◌, ◌^◌, ◌∙◌, ℕ, List, get_or, sym, ap, subst, arith}
 use Rattle.ram_arena.specs.Windows.{total, blank}
 use Rattle.gang_run.proofs.OpeningLemmas.{opening_first, opening_on, looked_last, sizes_fit, all_opened, all_synced, all_ready, is_gang}
@@ -8,19 +9,28 @@ loop-index-init g c = rw (c.new-slots.ensures.items, c.new-sizes.ensures.items) 
 
 pub loop-index-preserved : goal.loop-index-preserved
 loop-index-preserved g c =
-    opening_on g.B.Bench c.args.benches.now c.loop-index.benches c.loop-index.slots.items c.loop-index.sizes.items c.loop-index.index (get_or c.loop-index.benches c.loop-index.index c.index-benches-index.result) c.add_slot.new.bench c.add_slot.new.slots.items c.add_slot.new.sizes.items
-    c.loop-index.invariant (omega (arith, c.loop-index.invariant.count, c.loop-index-test.true)) (ap (λ x. get_or c.loop-index.benches c.loop-index.index x) c.index-benches-index.is) c.in-Ok.ensures.added c.add_slot.ensures.looked c.add_slot.ensures.first
+    opening_on g.B.Bench c.args.benches.now c.loop-index.benches c.loop-index.slots.items c.loop-index.sizes.items c.loop-index.index
+    (get_or c.loop-index.benches c.loop-index.index c.index-benches-index.result) c.add_slot.new.bench c.add_slot.new.slots.items c.add_slot.new.sizes.items
+    c.loop-index.invariant (omega (arith, c.loop-index.invariant.count, c.loop-index-test.true))
+    (ap (λ x. get_or c.loop-index.benches c.loop-index.index x) c.index-benches-index.is) c.in-Ok.ensures.added c.add_slot.ensures.looked
+    c.add_slot.ensures.first
 
 pub returns-in-Err-clause-looked : goal.returns-in-Err-clause-looked
 returns-in-Err-clause-looked g c = λ i d less.
-    looked_last g.B.Bench c.args.benches.now c.loop-index.benches c.loop-index.slots.items c.loop-index.sizes.items c.loop-index.index (get_or c.loop-index.benches c.loop-index.index c.index-benches-index.result) c.add_slot.new.bench
-    c.loop-index.invariant (omega (arith, c.loop-index.invariant.count, c.loop-index-test.true)) (ap (λ x. get_or c.loop-index.benches c.loop-index.index x) c.index-benches-index.is) c.add_slot.ensures.looked i d
+    looked_last g.B.Bench c.args.benches.now c.loop-index.benches c.loop-index.slots.items c.loop-index.sizes.items c.loop-index.index
+    (get_or c.loop-index.benches c.loop-index.index c.index-benches-index.result) c.add_slot.new.bench
+    c.loop-index.invariant (omega (arith, c.loop-index.invariant.count, c.loop-index-test.true))
+    (ap (λ x. get_or c.loop-index.benches c.loop-index.index x) c.index-benches-index.is) c.add_slot.ensures.looked i d
 
 pub new-requires-clause-bytes : goal.new-requires-clause-bytes
-new-requires-clause-bytes g c = subst (λ (l : List ℕ). total l ≤ 2 ^ 30) (sym c.deref.ensures.value) (sizes_fit c.loop-index.sizes.items c.loop-index.index c.loop-index.invariant.small c.loop-index.invariant.few (omega (arith, c.loop-index.invariant.within, c.requires.few))).1
+new-requires-clause-bytes g c = subst (λ (l : List ℕ). total l ≤ 2 ^ 30) (sym c.deref.ensures.value)
+    (sizes_fit c.loop-index.sizes.items c.loop-index.index c.loop-index.invariant.small c.loop-index.invariant.few
+    (omega (arith, c.loop-index.invariant.within, c.requires.few))).1
 
 pub returns-clause-opened : goal.returns-clause-opened
-returns-clause-opened g c = all_opened g.B.Bench c.args.benches.now c.loop-index.benches (record { arena = c.in_ok-arena.arena; slots = c.loop-index.slots }) c.loop-index.sizes.items c.loop-index.index c.loop-index.invariant (omega (arith, c.loop-index.invariant.count, c.loop-index-test.false)) (c.in_ok-arena.ensures ∙ ap (λ (l : List ℕ). blank l) c.deref.ensures.value)
+returns-clause-opened g c = all_opened g.B.Bench c.args.benches.now c.loop-index.benches (record { arena = c.in_ok-arena.arena; slots = c.loop-index.slots })
+    c.loop-index.sizes.items c.loop-index.index c.loop-index.invariant (omega (arith, c.loop-index.invariant.count, c.loop-index-test.false))
+    (c.in_ok-arena.ensures ∙ ap (λ (l : List ℕ). blank l) c.deref.ensures.value)
 
 pub returns-clause-first : goal.returns-clause-first
 returns-clause-first g c =
@@ -28,7 +38,11 @@ returns-clause-first g c =
     c.loop-index.invariant (omega (arith, c.loop-index.invariant.count, c.loop-index-test.false))
 
 pub returns-clause-gang : goal.returns-clause-gang
-returns-clause-gang g c = is_gang g.B.Bench c.args.benches.now c.loop-index.benches (record { arena = c.in_ok-arena.arena; slots = c.loop-index.slots }) c.loop-index.sizes.items c.loop-index.index c.loop-index.invariant (omega (arith, c.loop-index.invariant.count, c.loop-index-test.false)) (c.in_ok-arena.ensures ∙ ap (λ (l : List ℕ). blank l) c.deref.ensures.value) c.loop-index.invariant.within
+returns-clause-gang g c = is_gang g.B.Bench c.args.benches.now c.loop-index.benches (record { arena = c.in_ok-arena.arena; slots = c.loop-index.slots })
+    c.loop-index.sizes.items c.loop-index.index c.loop-index.invariant (omega (arith, c.loop-index.invariant.count, c.loop-index-test.false))
+    (c.in_ok-arena.ensures ∙ ap (λ (l : List ℕ). blank l) c.deref.ensures.value) c.loop-index.invariant.within
 
 pub returns-clause-ready : goal.returns-clause-ready
-returns-clause-ready g c = all_ready g.B.Bench c.args.benches.now c.loop-index.benches (record { arena = c.in_ok-arena.arena; slots = c.loop-index.slots }) c.loop-index.sizes.items c.loop-index.index c.loop-index.invariant (omega (arith, c.loop-index.invariant.count, c.loop-index-test.false)) (c.in_ok-arena.ensures ∙ ap (λ (l : List ℕ). blank l) c.deref.ensures.value)
+returns-clause-ready g c = all_ready g.B.Bench c.args.benches.now c.loop-index.benches (record { arena = c.in_ok-arena.arena; slots = c.loop-index.slots })
+    c.loop-index.sizes.items c.loop-index.index c.loop-index.invariant (omega (arith, c.loop-index.invariant.count, c.loop-index-test.false))
+    (c.in_ok-arena.ensures ∙ ap (λ (l : List ℕ). blank l) c.deref.ensures.value)

@@ -11,7 +11,10 @@ loop-target-init g c = record {
 
 pub loop-target-preserved : goal.loop-target-preserved
 loop-target-preserved g c = record {
-  rounding = round_on g.B.Bench c.args.self.now c.loop-target.self c.turn.new.self c.args.benches.now c.loop-target.benches c.turn.new.benches c.loop-target.target c.loop-target.goes_on c.still-goes_on.result c.turn.result (λ bench x told. g.met.B.Bench.as_told bench x told) c.loop-target.invariant.rounding
+  rounding = round_on g.B.Bench c.args.self.now c.loop-target.self c.turn.new.self c.args.benches.now c.loop-target.benches c.turn.new.benches
+      c.loop-target.target c.loop-target.goes_on c.still-goes_on.result c.turn.result (λ bench x told. g.met.B.Bench.as_told bench x told)
+      c.loop-target.invariant.rounding
       c.turn.ensures.turn c.turn.ensures.gang c.turn.ensures.ready c.turn.ensures.result c.still-goes_on.ensures.more c.still-goes_on.ensures.ended;
-  gives = round_then g.B.Bench c.args.steps c.loop-target.target c.args.self.now c.loop-target.self c.turn.new.self c.args.benches.now c.loop-target.benches c.turn.new.benches c.loop-target.invariant.gives (record { turn = c.turn.ensures.turn; takes = c.turn.ensures.one });
+  gives = round_then g.B.Bench c.args.steps c.loop-target.target c.args.self.now c.loop-target.self c.turn.new.self c.args.benches.now c.loop-target.benches
+      c.turn.new.benches c.loop-target.invariant.gives (record { turn = c.turn.ensures.turn; takes = c.turn.ensures.one });
 }
