@@ -1,5 +1,6 @@
 -- Whole writes of cells, in as many calls as they take. `write_range` and `fill_range` go on by them.
-use Rattle.std.proofs.Common.{replicate, ◌≡◌, ◌≤◌, ◌+◌, ◌∙◌, ap, sym, subst, refl, ℕ, List, Bool, IsTrue, ◌++◌, length, take, drop, arith, append_assoc, append-nil, length-take, length-drop, length-append, Option, Some, None}
+use Rattle.std.proofs.Common.{replicate, ◌≡◌, ◌≤◌, ◌+◌, ◌∙◌, ap, sym, subst, refl, ℕ, List, Bool, IsTrue, ◌++◌, length, take, drop, arith, append_assoc}
+use Rattle.std.proofs.Common.{append-nil, length-take, length-drop, length-append, Option, Some, None}
 use Rattle.std.proofs.lemmas.List.{take-append-drop, take_all, take_at, drop_at, drop-drop, length-replicate, replicate-append-replicate}
 use Rattle.bench_model.specs.Calls.{written, Torn}
 use Rattle.bench_model.proofs.Moments.{adds_nothing_here, adds_nothing_then, stays_here, stays_then}
@@ -11,10 +12,23 @@ pub job_as_was_here : (d : DiskState) → JobAsWas d d
 job_as_was_here d = record { file = refl; entry = refl; whole = refl; half = stays_here (job_half d) }
 
 pub job_as_was_then : {a b c : DiskState} → JobAsWas a b → JobAsWas b c → JobAsWas a c
-job_as_was_then one two = record { file = two.file ∙ one.file; entry = two.entry ∙ one.entry; whole = two.whole ∙ one.whole; half = stays_then one.half two.half }
+job_as_was_then one two = record {
+  file = two.file ∙ one.file;
+  entry = two.entry ∙ one.entry;
+  whole = two.whole ∙ one.whole;
+  half =
+      stays_then one.half two.half;
+}
 
 pub writes_here : (tells : Bool) (d : DiskState) → WritesBytes tells d d
-writes_here tells d = record { cells = λ told. refl; operation = λ told. refl; earlier = λ told. refl; moments = adds_nothing_here (range_half d); job = job_as_was_here d }
+writes_here tells d = record {
+  cells = λ told. refl;
+  operation = λ told. refl;
+  earlier = λ told. refl;
+  moments = adds_nothing_here (range_half d);
+  job =
+      job_as_was_here d;
+}
 
 pub writes_then : {tells : Bool} {a b c : DiskState} → WritesBytes tells a b → WritesBytes tells b c → WritesBytes tells a c
 writes_then one two = record {
@@ -60,7 +74,16 @@ module _ (tells : Bool) (old mid new : DiskState) (at : ℕ) (bytes : List ℕ) 
   pub place_of : IsTrue tells → at ≤ length old.bytes → at + done ≤ length mid.bytes
   place_of told inside =
       let same = ap length (so_far.some told) in
-      omega (arith, inside, same, length-take (at + done) mid.bytes, length-append (take at old.bytes) (take done bytes), length-take at old.bytes, length-take done bytes, so_far.within)
+      omega (
+        arith,
+        inside,
+        same,
+        length-take (at + done) mid.bytes,
+        length-append (take at old.bytes) (take done bytes),
+        length-take at old.bytes,
+        length-take done bytes,
+        so_far.within,
+      )
 
   module _ (rest : List ℕ) (is_rest : rest ≡ drop done bytes) (does : WritesBytes tells mid new)
       (torn : IsTrue tells → Torn (at + done) (length rest) mid.bytes new.bytes) where
@@ -104,23 +127,33 @@ put_all tells old new at bytes done so_far is told =
     ∙ ap (λ (l : List ℕ). (take at old.bytes ++ bytes) ++ l) (so_far.torn told).after
 
 -- one more piece of a fill
-pub filled_more : (at done size value place : ℕ) (piece mid old : List ℕ) → place ≡ at + done → at + done ≤ length old → piece ≡ replicate size value → mid ≡ written at (replicate done value) old
+pub filled_more : (at done size value place : ℕ) (piece mid old : List ℕ) → place ≡ at + done → at + done ≤ length old → piece ≡ replicate size value →
+    mid ≡ written at (replicate done value) old
     → written place piece mid ≡ written at (replicate (done + size) value) old
 filled_more at done size value place piece mid old here_is inside is so_far =
     let head = take at old ++ replicate done value in
-    let here : length head ≡ at + done = omega (arith, length-append (take at old) (replicate done value), length-take at old, length-replicate done value, inside) in
+    let here : length head ≡ at + done = omega (
+      arith,
+      length-append (take at old) (replicate done value),
+      length-take at old,
+      length-replicate done value,
+      inside,
+    ) in
     let behind : length head + size ≡ at + done + length piece = omega (arith, here, ap length is, length-replicate size value) in
     let whole : mid ≡ head ++ drop (at + length (replicate done value)) old = so_far in
-    let front : take (at + done) mid ≡ head = ap (λ (l : List ℕ). take (at + done) l) whole ∙ take_at head (drop (at + length (replicate done value)) old) (at + done) here in
+    let front : take (at + done) mid ≡ head = ap (λ (l : List ℕ). take (at + done) l) whole ∙
+    take_at head (drop (at + length (replicate done value)) old) (at + done) here in
     let rest : drop (at + done) mid ≡ drop (at + done) old
     = ap (λ (l : List ℕ). drop (at + done) l) whole ∙ drop_at head (drop (at + length (replicate done value)) old) (at + done) here
     ∙ ap (λ (m : ℕ). drop (at + m) old) (length-replicate done value) in
     let back : drop (at + done + length piece) mid ≡ drop (at + length (replicate (done + size) value)) old
     = sym (drop-drop (length piece) (at + done) mid) ∙ ap (λ (l : List ℕ). drop (length piece) l) rest ∙ drop-drop (length piece) (at + done) old
-    ∙ (let e : at + done + length piece ≡ at + length (replicate (done + size) value) = omega (arith, ap length is, length-replicate size value, length-replicate (done + size) value) in ap (λ (m : ℕ). drop m old) e) in
+    ∙ (let e : at + done + length piece ≡ at + length (replicate (done + size) value) =
+    omega (arith, ap length is, length-replicate size value, length-replicate (done + size) value) in ap (λ (m : ℕ). drop m old) e) in
     ap (λ (n : ℕ). written n piece mid) here_is
     ∙ ap (λ (l : List ℕ). l ++ piece ++ drop (at + done + length piece) mid) front
     ∙ ap (λ (l : List ℕ). head ++ l ++ drop (at + done + length piece) mid) is
     ∙ ap (λ (l : List ℕ). head ++ replicate size value ++ l) back
     ∙ ap (λ (l : List ℕ). l ++ drop (at + length (replicate (done + size) value)) old)
-    (append_assoc (take at old) (replicate done value) (replicate size value) ∙ ap (λ (l : List ℕ). take at old ++ l) (replicate-append-replicate done size value))
+    (append_assoc (take at old) (replicate done value) (replicate size value) ∙
+    ap (λ (l : List ℕ). take at old ++ l) (replicate-append-replicate done size value))

@@ -1,5 +1,6 @@
 -- Writes over bytes and cells in memory. `end_range` settles a range so.
-use Rattle.std.proofs.Common.{◌≡◌, ◌≤◌, ◌+◌, ◌-◌, ◌∙◌, ap, sym, refl, ℕ, List, ◌++◌, length, take, drop, arith, append_assoc, append-nil, length-take, length-drop, length-append, Option, Some, None}
+use Rattle.std.proofs.Common.{◌≡◌, ◌≤◌, ◌+◌, ◌-◌, ◌∙◌, ap, sym, refl, ℕ, List, ◌++◌, length, take, drop, arith, append_assoc, append-nil, length-take}
+use Rattle.std.proofs.Common.{length-drop, length-append, Option, Some, None}
 use Rattle.std.proofs.lemmas.List.{take_at, drop_at, take_all, drop_all, take-take, drop-drop, take-append-drop}
 use Rattle.bench_model.specs.Calls.{written, Torn}
 use Rattle.bench_model.specs.State.{SameOutside}
@@ -54,7 +55,8 @@ outside_then (Some range) cells x y at n inside out torn long =
     )
 
 -- the bytes of a range, laid over cells that are the same outside it, are all the bytes
-pub range_written : (at n : ℕ) (cells x part : List ℕ) → SameOutside (Some (at, n)) cells x → at + n ≤ length x → part ≡ take n (drop at x) → written at part cells ≡ x
+pub range_written : (at n : ℕ) (cells x part : List ℕ) → SameOutside (Some (at, n)) cells x → at + n ≤ length x → part ≡ take n (drop at x) →
+    written at part cells ≡ x
 range_written at n cells x part out inside is =
     let long : length part ≡ n = omega (arith, ap length is, length-take n (drop at x), length-drop at x, inside) in
     ap (λ (l : List ℕ). (take at cells ++ l) ++ drop (at + length part) cells) is
@@ -67,7 +69,8 @@ range_written at n cells x part out inside is =
 -- the same of what is remembered of a disk in memory
 pub differs_then : (operation : Option (ℕ × ℕ)) (cells x y : List ℕ) (at n : ℕ) → InRange at n operation → DiffersInside operation cells x → Torn at n x y
     → length y ≡ length x → DiffersInside operation cells y
-differs_then operation cells x y at n inside out torn long = differs_inside operation cells y (outside_then operation cells x y at n inside (outside_of operation cells x out) torn long)
+differs_then operation cells x y at n inside out torn long =
+    differs_inside operation cells y (outside_then operation cells x y at n inside (outside_of operation cells x out) torn long)
 
 -- a range that is opened over cells that stand there
 pub differs_opened : (at n : ℕ) (cells bytes : List ℕ) → DiffersInside None cells bytes → DiffersInside (Some (at, n)) cells bytes

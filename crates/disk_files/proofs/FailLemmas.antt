@@ -37,7 +37,8 @@ goes_stopped so_far call syncs = record {
 }
 
 -- the same of several calls
-pub goes_whole : {T E : Type 0} {tells : Bool} {old mid new : DiskState} (result : Result T E) → GoesSo tells old mid 0 → (IsTrue tells → Fails mid new result) → IsOk result
+pub goes_whole : {T E : Type 0} {tells : Bool} {old mid new : DiskState} (result : Result T E) → GoesSo tells old mid 0 →
+    (IsTrue tells → Fails mid new result) → IsOk result
     → GoesSo tells old new 0
 goes_whole result so_far calls ok = record {
   errors = λ told. ((calls told).on_ok ok).0 ∙ so_far.errors told;
@@ -56,7 +57,8 @@ not_both (Ok x) failed went = false≢true failed
 not_both (Err e) failed went = false≢true went
 
 -- calls of which the last fails, and the answer made of that
-pub fails_then : {T E U G : Type 0} {tells : Bool} {a b c : DiskState} {count : ℕ} → IsTrue tells → GoesSo tells a b count → (result : Result T E) → Fails b c result
+pub fails_then : {T E U G : Type 0} {tells : Bool} {a b c : DiskState} {count : ℕ} → IsTrue tells → GoesSo tells a b count →
+    (result : Result T E) → Fails b c result
     → IsErr result → (answer : Result U G) → IsErr answer → Fails a c answer
 fails_then {a = a} {b = b} {c = c} told so_far result two is_err answer failed = record {
   later = omega (arith, so_far.errors told, two.later);

@@ -1,5 +1,6 @@
 -- Windows of cells. A window that was read before answers as the file does.
-use Rattle.std.proofs.Common.{◌≡◌, ◌≤◌, ◌+◌, ◌-◌, ◌∙◌, ⊎_elim, ap, sym, subst, refl, ℕ, List, ◌++◌, length, take, drop, arith, append_assoc, length-take, length-drop, length-append}
+use Rattle.std.proofs.Common.{◌≡◌, ◌≤◌, ◌+◌, ◌-◌, ◌∙◌, ⊎_elim, ap, sym, subst, refl, ℕ, List, ◌++◌, length, take, drop, arith, append_assoc, length-take}
+use Rattle.std.proofs.Common.{length-drop, length-append}
 use Rattle.std.proofs.lemmas.Bool.{cases_lt}
 use Rattle.std.proofs.lemmas.List.{take-take, drop-drop, drop-take, take-append-drop, take_all, take_at, drop_at}
 use Rattle.bench_model.specs.Calls.{written, Torn}
@@ -58,7 +59,8 @@ moved at i part held inside =
     ∙ ap (λ (l : List ℕ). (B ++ part) ++ l) (sym (drop-drop (i + length part) at held))
 
 -- a window that follows a write
-pub followed : (at len place index : ℕ) (part bytes held : List ℕ) → IsCopy at len bytes held → index + length part ≤ len → len ≤ length bytes → at + index ≡ place
+pub followed : (at len place index : ℕ) (part bytes held : List ℕ) → IsCopy at len bytes held → index + length part ≤ len → len ≤ length bytes →
+    at + index ≡ place
     → IsCopy at len (written index part bytes) (written place part held)
 followed at len place index part bytes held copy inside fits is = ⊎_elim
     (λ some.
@@ -73,9 +75,17 @@ followed at len place index part bytes held copy inside fits is = ⊎_elim
     (cases_lt 0 len)
 
 -- a window that was read
-pub filled : (at n : ℕ) (before after held : List ℕ) → after ≡ take n (drop at held) ++ drop n before → length after ≡ length before → n ≤ length before → IsCopy at n after held
+pub filled : (at n : ℕ) (before after held : List ℕ) → after ≡ take n (drop at held) ++ drop n before → length after ≡ length before → n ≤ length before →
+    IsCopy at n after held
 filled at n before after held is long fits =
-    let piece : length (take n (drop at held)) ≡ n = omega (arith, ap length is, length-append (take n (drop at held)) (drop n before), length-drop n before, long, fits) in
+    let piece : length (take n (drop at held)) ≡ n = omega (
+      arith,
+      ap length is,
+      length-append (take n (drop at held)) (drop n before),
+      length-drop n before,
+      long,
+      fits,
+    ) in
     ap (λ (l : List ℕ). take n l) is ∙ take_at (take n (drop at held)) (drop n before) n piece
 
 -- a write of all bytes
@@ -90,7 +100,8 @@ wrote at n bytes old new is some torn =
 
 -- a window that follows what a write left
 pub follows : (at len place index n : ℕ) (part bytes after old new : List ℕ) → after ≡ written index part bytes → n ≡ length part → IsCopy at len bytes old
-    → index + length part ≤ len → len ≤ length bytes → at + index ≡ place → take (place + n) new ≡ take place old ++ take n part → Torn place (length part) old new
+    → index + length part ≤ len → len ≤ length bytes → at + index ≡ place → take (place + n) new ≡ take place old ++ take n part →
+    Torn place (length part) old new
     → IsCopy at len after new
 follows at len place index n part bytes after old new laid_is is copy inside fits there some torn =
     subst (λ (l : List ℕ). IsCopy at len l new) (sym laid_is)

@@ -1,5 +1,6 @@
 -- Whole writes, in as many calls as they take. `write_all` goes on by them, and all that is written in pieces.
-use Rattle.std.proofs.Common.{◌≡◌, ◌≤◌, ◌+◌, ◌-◌, ◌∙◌, ap, sym, subst, refl, ℕ, List, Bool, IsTrue, ◌++◌, length, take, drop, arith, append-nil, append_assoc, length-take, length-drop, length-append}
+use Rattle.std.proofs.Common.{◌≡◌, ◌≤◌, ◌+◌, ◌-◌, ◌∙◌, ap, sym, subst, refl, ℕ, List, Bool, IsTrue, ◌++◌, length, take, drop, arith, append-nil, append_assoc}
+use Rattle.std.proofs.Common.{length-take, length-drop, length-append}
 use Rattle.std.proofs.lemmas.List.{take-take, drop-drop, drop-take, take-append-drop, take_all}
 use Rattle.bench_model.specs.History.{Leaves}
 use Rattle.bench_model.specs.Calls.{written, Torn, Follows}
@@ -68,7 +69,16 @@ module _ (tells : Bool) (old mid new : DiskState) (at : ℕ) (bytes : List ℕ) 
   pub place : IsTrue tells → at ≤ length old.file → at + done ≤ length mid.file
   place told inside =
       let same = ap length (so_far.some told) in
-      omega (arith, inside, same, length-take (at + done) mid.file, length-append (take at old.file) (take done bytes), length-take at old.file, length-take done bytes, so_far.within)
+      omega (
+        arith,
+        inside,
+        same,
+        length-take (at + done) mid.file,
+        length-append (take at old.file) (take done bytes),
+        length-take at old.file,
+        length-take done bytes,
+        so_far.within,
+      )
 
   module _ (rest : List ℕ) (is_rest : rest ≡ drop done bytes) (does : WritesJob tells mid new (at + done) (length rest))
       (torn : IsTrue tells → Torn (at + done) (length rest) mid.file new.file) where
@@ -78,7 +88,8 @@ module _ (tells : Bool) (old mid new : DiskState) (at : ℕ) (bytes : List ℕ) 
     to : at + done + length rest ≤ at + length bytes
     to = omega (arith, ap length is_rest, length-drop done bytes, so_far.within)
 
-    step : (x y : List ℕ) → Follows (Torn at (length bytes)) (job_half old) x → Torn (at + done) (length rest) x y → Follows (Torn at (length bytes)) (job_half old) y
+    step : (x y : List ℕ) → Follows (Torn at (length bytes)) (job_half old) x → Torn (at + done) (length rest) x y →
+        Follows (Torn at (length bytes)) (job_half old) y
     step x y (d, is, one) two = (d, is, torn_then at (length bytes) (at + done) (length rest) d x y from to one two)
 
     -- once more of the bytes are written

@@ -1,5 +1,5 @@
 //! A disk in memory, over a bench.
-ghost use Rattle.std.specs.Prelude.{◌≡◌, ◌≤◌, ◌+◌, ◌<◌, ◌^◌, length, IsTrue, vec_len, false, None};
+ghost use Rattle.std.specs.Prelude.{◌≡◌, ◌≤◌, ◌+◌, ◌<◌, ◌^◌, length, IsTrue, vec_len, false, true, None};
 ghost use Rattle.std.specs.Option.{ForSome};
 ghost use Rattle.disk_files.specs.DiskDoes.{ClosesRange};
 ghost use Rattle.disk_files.specs.DiskState.{disk_over};
@@ -41,6 +41,13 @@ impl<B: Bench> MemoryDisk<B> {
         requires cells { IsTrue B.tells → bytes.items ≡ (B.state bench).cells }
         requires idle { IsTrue B.tells → (B.state bench).operation ≡ None }
         ensures bench { result.bench ≡ bench }
+        ensures bytes { result.bytes ≡ bytes }
+        ensures operation { result.operation ≡ None }
+        ensures entry { result.entry ≡ false }
+        ensures unsynced { result.unsynced ≡ true }
+        ensures earlier { result.earlier ≡ true }
+        ensures errors { result.errors ≡ 0 }
+        ensures whole { result.file_whole ≡ true }
     {
         MemoryDisk {
             bench,

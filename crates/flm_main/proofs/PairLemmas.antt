@@ -1,5 +1,6 @@
 -- The pairs among words.
-use Rattle.std.proofs.Common.{◌≡◌, ◌≤◌, ◌<◌, ◌+◌, ◌*◌, ◌++◌, ◌∙◌, ◌⊎◌, inl, inr, ℕ, zero, suc, List, [], ◌∷◌, length, take, map, get_or, sym, ap, arith, refl, take_all, length-take-le}
+use Rattle.std.proofs.Common.{◌≡◌, ◌≤◌, ◌<◌, ◌+◌, ◌*◌, ◌++◌, ◌∙◌, ◌⊎◌, inl, inr, ℕ, zero, suc, List, [], ◌∷◌, length, take, map, get_or, sym, ap, arith, refl}
+use Rattle.std.proofs.Common.{take_all, length-take-le}
 use Rattle.std.proofs.lemmas.List.{map-append, take_more}
 use Rattle.flm_main.specs.Line.{job_names, cells_names}
 
@@ -45,9 +46,11 @@ in_whole (suc n) zero (x ∷ xs) less = omega (arith)
 in_whole (suc n) (suc i) (x ∷ xs) less = omega (arith, in_whole n i xs (omega (arith, less)))
 
 -- one more of a list of names
-pub names_on : {A : Type 0} (f : A → List ℕ) (items : List A) (b : A) (names : List (List ℕ)) (i : ℕ) → map f items ≡ take i names → i < length names → f b ≡ get_or names i []
+pub names_on : {A : Type 0} (f : A → List ℕ) (items : List A) (b : A) (names : List (List ℕ)) (i : ℕ) → map f items ≡ take i names → i < length names
+    → f b ≡ get_or names i []
     → map f (items ++ (b ∷ [])) ≡ take (i + 1) names
-names_on f items b names i e less q = map-append f items (b ∷ []) ∙ ap (λ l. l ++ (f b ∷ [])) e ∙ ap (λ x. take i names ++ (x ∷ [])) q ∙ sym (take_more names i [] less)
+names_on f items b names i e less q = map-append f items (b ∷ []) ∙ ap (λ l. l ++ (f b ∷ [])) e ∙ ap (λ x. take i names ++ (x ∷ [])) q
+    ∙ sym (take_more names i [] less)
 
 -- the same of the cells files, of which there are as many
 pub as_many : (words : List (List ℕ)) → length (cells_names words) ≡ length (job_names words)

@@ -1,15 +1,10 @@
 //! The words of the command line.
-ghost use Rattle.std.specs.Prelude.{◌≡◌, ◌++◌, ◌∷◌, [], ◌↔◌, IsTrue, IsErr, IfOk, IfErr, OnOk, drop, get_or};
+ghost use Rattle.std.specs.Prelude.{◌≡◌, ◌++◌, ◌∷◌, [], ◌↔◌, IsTrue, OnOk, drop, get_or};
 ghost use Rattle.flm_main.specs.Line.{job_name, cells_name, words_for_one, IsForGang, words_for_gang};
-ghost use Rattle.std.specs.IoError.{error_kind};
-ghost use Rattle.std.specs.declared.io.ErrorKind.TheVariants.{InvalidData};
-ghost use Rattle.flm_main.specs.Given.{texts_of};
 
 use faults::OutOfMemory;
 use octets::Word;
 use std::alloc::Global;
-use std::env::{self, Args};
-use std::io::{self, ErrorKind};
 use std::marker::Model;
 
 /// What stands in place of the job file's name where the words are for several devices.
@@ -47,14 +42,11 @@ impl Arguments {
         Ok(())
     }
 
-    /// Takes all arguments, in their order.
-    fn take_all(&mut self, alloc: Global, given: Args) -> Result<(), OutOfMemory>
-        ensures { OnOk result (self.new ≡ self.old ++ texts_of given) }
+    /// The arguments that these words are.
+    pub fn of(line: Vec<Word>) -> Arguments
+        ensures { result ≡ line.items }
     {
-        for argument in given {
-            self.take(Word::copy(alloc, argument.as_str())?)?;
-        }
-        Ok(())
+        Arguments { line }
     }
 
     /// The argument at this place. A missing one is empty.
@@ -113,24 +105,4 @@ impl Arguments {
     {
         self.words_from(2)
     }
-}
-
-/// Reads the command line.
-pub fn read_arguments(rt: HostRuntime) -> Result<Arguments, OutOfMemory> {
-    arguments_of(rt.alloc(), env::args(&rt))
-}
-
-/// The arguments of a command line that was read so. Where a word isn't UTF-8 there are none, which fits no command.
-fn arguments_of(alloc: Global, line: io::Result<Args>) -> Result<Arguments, OutOfMemory>
-    ensures taken { IfOk line (λ given. IfOk result (λ words. words ≡ texts_of given)) }
-    ensures faulty { IfErr line (λ fault. error_kind fault ≡ InvalidData → IfOk result (λ words. words ≡ [])) }
-    ensures failed { IfErr line (λ fault. (error_kind fault ≡ InvalidData → ⊥) → IsErr result) }
-{
-    let mut arguments = Arguments::new(alloc);
-    match line {
-        Ok(given) => arguments.take_all(alloc, given)?,
-        Err(fault) if fault.kind() == ErrorKind::InvalidData => {}
-        Err(_) => return Err(OutOfMemory),
-    }
-    Ok(arguments)
 }

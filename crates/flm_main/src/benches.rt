@@ -1,6 +1,6 @@
 //! The benches of several devices.
 ghost use Rattle.std.specs.Prelude.{◌≡◌, ◌<◌, ◌+◌, ◌*◌, [], length, take, map, get_or, IfOk};
-ghost use Rattle.host_files.specs.Bench.{job_name_of, cells_name_of};
+ghost use Rattle.host_files.specs.Bench.{job_name_of, cells_name_of, IsBeside, AllBeside};
 ghost use Rattle.flm_main.specs.Line.{job_name, cells_name, IsForGang, job_names, cells_names};
 
 use crate::arguments::Arguments;
@@ -35,6 +35,7 @@ fn open_bench(
     others: &[FileBench],
 ) -> Result<FileBench, OutOfMemory>
     requires { 2 * index + 1 < length words.now }
+    ensures beside { IfOk result (λ bench. IsBeside others.now bench) }
     ensures job { IfOk result (λ bench. job_name_of bench ≡ get_or words.now (2 * index) []) }
     ensures cells { IfOk result (λ bench. cells_name_of bench ≡ get_or words.now (2 * index + 1) []) }
 {
@@ -54,6 +55,7 @@ pub fn open_benches(
 ) -> Result<Vec<FileBench>, OutOfMemory>
     ensures jobs { IfOk result (λ benches. map job_name_of benches.items ≡ take 16 (job_names words.now)) }
     ensures cells { IfOk result (λ benches. map cells_name_of benches.items ≡ take 16 (cells_names words.now)) }
+    ensures beside { IfOk result (λ benches. AllBeside [] benches.items) }
 {
     let mut benches = Vec::new(rt.alloc());
     for index in 0..count_pairs(words) {

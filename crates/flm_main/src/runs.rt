@@ -3,10 +3,10 @@ ghost use Rattle.std.specs.Prelude.{◌≡◌, IfOk, IsErr};
 ghost use Rattle.std.specs.Process.{exit_status};
 ghost use Rattle.flm_main.specs.Line.{IsForGang};
 
-use crate::arguments::{Arguments, read_arguments};
+use crate::arguments::Arguments;
 use crate::benches::{open_benches, open_one};
 use faults::OutOfMemory;
-use host_files::{FileInputs, HeldStreams, ProgressLine, StdSink, hold_streams};
+use host_files::{FileInputs, HeldStreams, ProgressLine, StdSink, hold_streams, read_arguments};
 use octets::Word;
 use outside_io::Sink;
 use promise::{flash, flash_gang};
@@ -29,11 +29,11 @@ pub fn run(rt: HostRuntime) -> ExitCode {
 }
 
 /// The end with the arguments that were read: the status of the call.
-fn end(streams: HeldStreams, arguments: Result<Arguments, OutOfMemory>) -> ExitCode
+fn end(streams: HeldStreams, arguments: Result<Vec<Word>, OutOfMemory>) -> ExitCode
     ensures { IsErr arguments → exit_status result ≡ 1 }
 {
     match arguments {
-        Ok(arguments) => ExitCode::from(call(streams, arguments)),
+        Ok(line) => ExitCode::from(call(streams, Arguments::of(line))),
         Err(OutOfMemory) => ExitCode::from(NO_MEMORY),
     }
 }

@@ -1,6 +1,6 @@
 #!/bin/bash
-# The sign of life: where standard error is a terminal, a line there counts cells while a device is programmed. It is rewritten at most ten
-# times a second, and wiped before anything else is put and at the end. Where standard error is no terminal, nothing of it is put. It wants
+# The sign of life: where standard error is a terminal, a line there counts the cells that were erased and programmed so far. It is rewritten
+# at most ten times a second, and wiped before anything else is put and at the end. Where standard error is no terminal, nothing of it is put. It wants
 # `script` of the package bsdutils for the terminal.
 #   bash tests/on_a_terminal.sh [PROGRAM]        (from crates/flm_tool; else out/flm_tool)
 set -u
@@ -24,6 +24,16 @@ begin() {
     random_bytes 1048576 > image
 }
 
+# What the lines of a file count, each with the cells erased and the cells programmed.
+counts() { grep -ao '[0-9]* cells erased, [0-9]* programmed' "$1" | cut -d ' ' -f 1,4; }
+
+# Whether such lines count a device of 1 MiB that is erased in sectors of 1,024 cells, and then programmed two cells at a time.
+counts_rise() {
+    awk '$1 < erased || $2 < programmed || $1 % 1024 || $2 % 2 || $2 && $1 != 1048576 || $2 > 1048576 { wrong = 1 }
+        { erased = $1; programmed = $2 }
+        END { exit wrong || erased != 1048576 || !programmed }'
+}
+
 board board.toml 1024 1024 && algorithm a1.flm 1024 1024 1024 || exit 1
 words=(program --raw-at 0x08000000 board.toml a1.flm image)
 
@@ -45,6 +55,7 @@ row 'a terminal: standard output as on a pipe' "$(cmp -s out out_there; echo $?)
 lines=$(grep -ao 'cells erased, [0-9]* programmed' shown | wc -l)
 row 'a terminal: a line' "$([ "$lines" -gt 0 ]; echo $?)"
 row "a terminal: at most ten a second ($lines in $tenths tenths)" "$([ "$lines" -le $((tenths + 2)) ]; echo $?)"
+row 'a terminal: the counts' "$(counts shown | counts_rise; echo $?)"
 row 'a terminal: wiped at the end' "$([ "$(tail -c 4 shown)" = "$clear" ]; echo $?)"
 
 # Standard output and error on one terminal: each text stands behind a wiped line.

@@ -1,9 +1,11 @@
 -- What a bench over files tells.
-use Rattle.std.specs.Prelude.{ℕ, List}
+use Rattle.std.specs.Prelude.{◌≡◌, ◌==◌, ◌&&◌, ◌||◌, ◌++◌, ℕ, Bool, true, false, IsTrue, if◌then◌else◌, List, [], ◌∷◌, Option, Some, None}
 use Rattle.bench_model.specs.State.{BenchState}
 use Rattle.disk_files.specs.DiskState.{over}
 use Rattle.disk_files.specs.Untold.{untold_disk}
 use Rattle.host_files.specs.declared.file_bench.FileBench.{FileBench}
+use Rattle.host_files.specs.declared.file_id.FileId.{FileId}
+use Rattle.host_files.specs.declared.file_lock.Hold.TheVariants.{Lost}
 
 -- its number of cells and its counts of faults
 abbrev pub state_of : FileBench → BenchState
@@ -16,3 +18,32 @@ job_name_of b = b.bench.disk.disk.job.name
 -- and that of its cells file
 abbrev pub cells_name_of : FileBench → List ℕ
 cells_name_of b = b.bench.disk.disk.cells.name
+
+-- this file of the system was found
+abbrev pub is_file : FileId → Option FileId → Bool
+is_file file None = false
+is_file file (Some found) = (found.device == file.device) && (found.number == file.number)
+
+-- one of a bench's files is this one
+abbrev pub has_file : FileId → FileBench → Bool
+has_file file b = is_file file b.job || is_file file b.cells
+
+-- one of these benches has it
+abbrev pub has_one : FileId → List FileBench → Bool
+has_one file [] = false
+has_one file (b ∷ benches) = if has_file file b then true else has_one file benches
+
+-- the same of a file that may not be there
+abbrev pub is_taken : Option FileId → List FileBench → Bool
+is_taken None benches = false
+is_taken (Some file) benches = has_one file benches
+
+-- A bench that was opened beside others: the lock on a file that one of these has is lost, so no call on it goes through.
+pub record IsBeside (others : List FileBench) (b : FileBench) : Type 0 where
+  pub job : IsTrue (is_taken b.job others) → b.bench.disk.disk.job.lock.hold ≡ Lost
+  pub cells : IsTrue (is_taken b.cells others) → b.bench.disk.disk.cells.lock.hold ≡ Lost
+
+-- each of these benches, which come behind others, was opened beside all before it
+abbrev pub AllBeside : (before benches : List FileBench) → Type 0
+AllBeside before [] = Unit {0}
+AllBeside before (b ∷ benches) = IsBeside before b × AllBeside (before ++ b ∷ []) benches

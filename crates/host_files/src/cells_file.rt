@@ -1,5 +1,6 @@
 //! The cells of the device as a file with one byte a cell.
 ghost use Rattle.std.specs.Prelude.{◌≡◌, ◌≤◌, length, IfOk};
+ghost use Rattle.host_files.specs.declared.file_lock.Hold.TheVariants as hold;
 
 use crate::file_id::FileId;
 use crate::file_lock::FileLock;
@@ -24,7 +25,8 @@ pub struct CellsFile {
 impl CellsFile {
     /// Opens the file of this name.
     pub fn open(rt: HostRuntime, name: Word) -> CellsFile
-        ensures { result.name ≡ name }
+        ensures name { result.name ≡ name }
+        ensures lock { result.lock.hold ≡ hold.Nothing }
     {
         let (file, count, writable) = match open_file(rt, name.text()) {
             Ok((file, count, writable)) => (Some(file), count, writable),
@@ -41,7 +43,8 @@ impl CellsFile {
 
     /// Has each call fail from now on that another program's lock would have fail.
     pub fn shut(&mut self)
-        ensures { self.new.name ≡ self.old.name }
+        ensures name { self.new.name ≡ self.old.name }
+        ensures lock { self.new.lock.hold ≡ hold.Lost }
     {
         self.lock = FileLock::lost();
     }

@@ -1,5 +1,6 @@
 //! The job file and the cells file as a bench.
-ghost use Rattle.std.specs.Prelude.{◌≡◌};
+ghost use Rattle.std.specs.Prelude.{◌≡◌, List};
+ghost use Rattle.host_files.specs.Bench.{has_file, has_one, is_taken};
 
 use crate::cells_file::CellsFile;
 use crate::file_id::FileId;
@@ -23,7 +24,9 @@ pub struct FileBench {
 }
 
 /// Whether one of these benches has this file.
-fn is_taken(benches: &[FileBench], file: Option<FileId>) -> bool {
+fn has_one(file: FileId, benches: &[FileBench]) -> bool
+    ensures { result ≡ has_one file benches.now }
+{
     for bench in benches {
         if bench.has(file) {
             return true;
@@ -32,8 +35,18 @@ fn is_taken(benches: &[FileBench], file: Option<FileId>) -> bool {
     false
 }
 
+/// Whether one of these benches has the file that was found, if one was.
+fn is_taken(benches: &[FileBench], found: Option<FileId>) -> bool
+    ensures { result ≡ is_taken found benches.now }
+{
+    match found {
+        Some(file) => has_one(file, benches),
+        None => false,
+    }
+}
+
 impl FileBench {
-    ghost use Rattle.host_files.specs.Bench.{state_of, job_name_of, cells_name_of};
+    ghost use Rattle.host_files.specs.Bench.{state_of, job_name_of, cells_name_of, IsBeside};
 
     /// Opens the cells file. One that can't be opened counts as no cells, and each call on it that can fail does. The
     /// job file is opened by the first call on it.
@@ -57,6 +70,7 @@ impl FileBench {
     ) -> FileBench
         ensures job { job_name_of result ≡ job_name }
         ensures cells { cells_name_of result ≡ cells_name }
+        ensures beside { IsBeside others.now result }
         ensures store { (state_of result).store_faults ≡ 0 }
         ensures device { (state_of result).device_faults ≡ 0 }
     {
@@ -84,14 +98,17 @@ impl FileBench {
     }
 
     /// Whether one of its files is this one.
-    fn has(&self, file: Option<FileId>) -> bool {
-        file.is_some() && (self.job == file || self.cells == file)
+    fn has(&self, file: FileId) -> bool
+        ensures { result ≡ has_file file self.now }
+    {
+        file.matches(self.job) || file.matches(self.cells)
     }
 
     /// Counts from now on on this line which cells were erased and programmed.
     pub fn show_on(&mut self, line: ProgressLine)
         ensures job { job_name_of self.new ≡ job_name_of self.old }
         ensures cells { cells_name_of self.new ≡ cells_name_of self.old }
+        ensures beside { (others : List FileBench) → IsBeside others self.old → IsBeside others self.new }
         ensures count { (state_of self.new).cell_count ≡ (state_of self.old).cell_count }
         ensures store { (state_of self.new).store_faults ≡ (state_of self.old).store_faults }
         ensures device { (state_of self.new).device_faults ≡ (state_of self.old).device_faults }

@@ -1,4 +1,7 @@
 //! Which file of the system one is, whatever its name.
+ghost use Rattle.std.specs.Prelude.{◌≡◌};
+ghost use Rattle.host_files.specs.Bench.{is_file};
+
 use std::fs::{File, Metadata};
 use std::os::unix::fs::MetadataExt;
 use std::{fs, io};
@@ -21,6 +24,16 @@ impl FileId {
         match fs::metadata(&rt, name) {
             Ok(data) => Some(FileId::in_data(&data)),
             Err(_) => None,
+        }
+    }
+
+    /// Whether this is the file that was found, if one was.
+    pub fn matches(self, found: Option<FileId>) -> bool
+        ensures { result ≡ is_file self found }
+    {
+        match found {
+            Some(file) => file.device == self.device && file.number == self.number,
+            None => false,
         }
     }
 

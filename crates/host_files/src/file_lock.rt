@@ -26,7 +26,9 @@ pub struct FileLock {
 
 impl FileLock {
     /// Nothing is held yet.
-    pub fn new() -> FileLock {
+    pub fn new() -> FileLock
+        ensures { result.hold ≡ Hold.Nothing }
+    {
         FileLock {
             hold: Hold::Nothing,
         }

@@ -1,5 +1,6 @@
 //! The job file on the disk.
 ghost use Rattle.std.specs.Prelude.{◌≡◌, ◌≤◌, length, IfOk};
+ghost use Rattle.host_files.specs.declared.file_lock.Hold.TheVariants as hold;
 
 use crate::file_id::FileId;
 use crate::file_lock::FileLock;
@@ -31,7 +32,9 @@ pub struct JobFile {
 impl JobFile {
     /// The job file of this name, not opened yet. It may not be the file of the cells.
     pub fn new(rt: HostRuntime, name: Word, cells: Option<FileId>) -> JobFile
-        ensures { result.name ≡ name }
+        ensures name { result.name ≡ name }
+        ensures cells { result.cells ≡ cells }
+        ensures lock { result.lock.hold ≡ hold.Nothing }
     {
         JobFile {
             rt,
@@ -44,7 +47,8 @@ impl JobFile {
 
     /// Has each call fail from now on that another program's lock would have fail.
     pub fn shut(&mut self)
-        ensures { self.new.name ≡ self.old.name }
+        ensures name { self.new.name ≡ self.old.name }
+        ensures lock { self.new.lock.hold ≡ hold.Lost }
     {
         self.lock = FileLock::lost();
     }
@@ -139,11 +143,10 @@ fn open_or_make(rt: HostRuntime, name: &str, cells: Option<FileId>) -> io::Resul
 
 /// Answers a file that isn't the one of the cells, under whatever name.
 fn apart(file: File, cells: Option<FileId>) -> io::Result<File> {
-    let id = FileId::of(&file)?;
-    match cells {
-        Some(other) if other == id => Err(io::Error::from(ErrorKind::InvalidInput)),
-        _ => Ok(file),
+    if FileId::of(&file)?.matches(cells) {
+        return Err(io::Error::from(ErrorKind::InvalidInput));
     }
+    Ok(file)
 }
 
 /// Makes a job file where there is none. A link that leads to no file is an error, and so is a folder that can't be opened

@@ -1,6 +1,7 @@
-//! The device, the job, the inputs and the standard streams as files of the host.
+//! The device, the job, the inputs and the standard streams as files of the host, and the arguments of the program.
 #![tactic(auto)]
 
+mod arguments;
 mod cells_file;
 mod file_bench;
 mod file_id;
@@ -13,6 +14,7 @@ mod progress_line;
 mod std_sink;
 mod streams;
 
+pub use arguments::read_arguments;
 pub use cells_file::CellsFile;
 pub use file_bench::FileBench;
 pub use file_id::FileId;

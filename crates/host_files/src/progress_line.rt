@@ -1,4 +1,4 @@
-//! A line on the terminal that says how far the cells have come.
+//! A line on the terminal that says how far a call has come.
 use std::cell::Cell;
 use std::io::{IsTerminal, Print};
 use std::rc::Rc;
@@ -16,6 +16,8 @@ struct Shared {
     rt: HostRuntime,
     erased: Cell<u64>,
     programmed: Cell<u64>,
+    lists: Cell<u64>,
+    calls: Cell<u64>,
     is_shown: Cell<bool>,
     last: Cell<Option<Instant>>,
 }
@@ -35,8 +37,15 @@ impl Shared {
         true
     }
 
-    /// Rewrites the line, where it is due. An error of the terminal is passed over.
-    fn show(&self) {
+    /// Rewrites the line. An error of the terminal is passed over.
+    fn put(&self, text: &str) {
+        self.is_shown.set(true);
+        let _cleared = self.rt.stderr().write_all(CLEAR).is_ok();
+        let _shown = self.rt.stderr().write_all(text.as_bytes()).is_ok();
+    }
+
+    /// Says how far the cells have come, where the line is due.
+    fn show_cells(&self) {
         if !self.is_due() {
             return;
         }
@@ -45,9 +54,19 @@ impl Shared {
         if let Ok(text) = format!(in self.rt.alloc();
             "{erased} cells erased, {programmed} programmed"
         ) {
-            self.is_shown.set(true);
-            let _cleared = self.rt.stderr().write_all(CLEAR).is_ok();
-            let _shown = self.rt.stderr().write_all(text.as_bytes()).is_ok();
+            self.put(&text);
+        }
+    }
+
+    /// Says how far the trials have come, where the line is due.
+    fn show_trials(&self) {
+        if !self.is_due() {
+            return;
+        }
+        let lists = self.lists.get();
+        let calls = self.calls.get();
+        if let Ok(text) = format!(in self.rt.alloc(); "{lists} lists tried, {calls} calls") {
+            self.put(&text);
         }
     }
 
@@ -60,8 +79,8 @@ impl Shared {
     }
 }
 
-/// A line on standard error that counts the cells erased and programmed so far, rewritten at most ten times a second. There
-/// is one only where standard error is a terminal, so that nothing else ever gets it. Those who hold it share it.
+/// A line on standard error that counts the cells erased and programmed so far, or the lists of calls that were tried, rewritten at most ten times
+/// a second. There is one only where standard error is a terminal, so that nothing else ever gets it. Those who hold it share it.
 #[derive(Drop)]
 pub struct ProgressLine {
     shared: Option<Rc<Shared>>,
@@ -82,6 +101,8 @@ impl ProgressLine {
             rt,
             erased: Cell::new(0),
             programmed: Cell::new(0),
+            lists: Cell::new(0),
+            calls: Cell::new(0),
             is_shown: Cell::new(false),
             last: Cell::new(None),
         };
@@ -104,7 +125,7 @@ impl ProgressLine {
     pub fn erased(&self, cells: u64) {
         if let Some(shared) = &self.shared {
             shared.erased.set(shared.erased.get().saturating_add(cells));
-            shared.show();
+            shared.show_cells();
         }
     }
 
@@ -114,7 +135,16 @@ impl ProgressLine {
             shared
                 .programmed
                 .set(shared.programmed.get().saturating_add(cells));
-            shared.show();
+            shared.show_cells();
+        }
+    }
+
+    /// Counts a list that was tried, which made so many calls.
+    pub fn tried(&self, calls: u64) {
+        if let Some(shared) = &self.shared {
+            shared.lists.set(shared.lists.get().saturating_add(1));
+            shared.calls.set(shared.calls.get().saturating_add(calls));
+            shared.show_trials();
         }
     }
 

@@ -1,5 +1,6 @@
 -- Reads and writes in as many calls as they take.
-use Rattle.std.proofs.Common.{◌≡◌, ◌<◌, ◌≤◌, ◌+◌, ◌++◌, ◌∙◌, ap, sym, subst, refl, ℕ, List, [], ◌∷◌, Bool, IsTrue, Result, Ok, length, take, drop, arith, append_assoc, append-nil, length-drop, length-append}
+use Rattle.std.proofs.Common.{◌≡◌, ◌<◌, ◌≤◌, ◌+◌, ◌++◌, ◌∙◌, ap, sym, subst, refl, ℕ, List, [], ◌∷◌, Bool, IsTrue, Result, Ok, length, take, drop, arith}
+use Rattle.std.proofs.Common.{append_assoc, append-nil, length-drop, length-append}
 use Rattle.std.proofs.Common.{◌⊎◌, inl, inr}
 use Rattle.std.specs.Prelude.{IfOk}
 use Rattle.std.specs.IoError.{error_kind}

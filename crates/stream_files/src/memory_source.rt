@@ -29,6 +29,10 @@ impl MemorySource {
         requires { 0 < most }
         ensures name { result.name ≡ name }
         ensures bytes { result.bytes ≡ bytes }
+        ensures at { result.at ≡ 0 }
+        ensures most { result.most ≡ most }
+        ensures signals { result.signals ≡ signals }
+        ensures stopped { result.stopped ≡ 0 }
         ensures errors { result.errors ≡ 0 }
     {
         MemorySource {

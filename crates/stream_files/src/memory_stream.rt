@@ -22,6 +22,9 @@ impl MemoryStream {
     /// A stream that holds these bytes, takes at most so many at a time, and of which so many calls are interrupted first.
     pub fn new(held: Vec<u8>, most: usize, signals: u32) -> MemoryStream
         ensures held { result.held ≡ held }
+        ensures most { result.most ≡ most }
+        ensures signals { result.signals ≡ signals }
+        ensures stopped { result.stopped ≡ 0 }
         ensures errors { result.errors ≡ 0 }
     {
         MemoryStream {

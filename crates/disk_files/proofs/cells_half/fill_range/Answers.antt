@@ -1,3 +1,4 @@
+-- `fill_range`: its clause `fails`, and that its loop keeps what it has to.
 use Rattle.std.proofs.Common.{arith, length, refl, ◌≤◌, ◌∙◌, ◌+◌, ap, ℕ}
 use Rattle.std.proofs.lemmas.List.{take-replicate, length-replicate}
 use Rattle.disk_files.proofs.CellLemmas.{filled_more, writes_then}
@@ -9,7 +10,15 @@ returns-in_err-write_range-clause-fails g c = λ told.
     let least : c.min-size.result ≤ 4096 = omega (arith, c.min-size.ensures) in
     let long = ap length (take-replicate c.min-size.result 4096 c.args.value least) ∙ length-replicate c.min-size.result c.args.value in
     fails_then told c.loop-done.invariant.3 _
-    (c.in_err-write_range.ensures.fails told (omega (arith, long, least, c.loop-done.invariant.0, c.ranges.at.fits, c.ranges.len.fits, c.from-in-loop-done-2.ensures)))
+    (c.in_err-write_range.ensures.fails told (omega (
+      arith,
+      long,
+      least,
+      c.loop-done.invariant.0,
+      c.ranges.at.fits,
+      c.ranges.len.fits,
+      c.from-in-loop-done-2.ensures,
+    )))
     refl c.from_residual.result c.from_residual.ensures.0
 
 pub loop-done-preserved : goal.loop-done-preserved
@@ -21,9 +30,18 @@ loop-done-preserved g c =
       omega (arith, c.min-size.ensures, c.loop-done-test.true, c.from.ensures, c.from-in-loop-done.ensures),
       (λ told.
           let inside : c.args.at + c.loop-done.done ≤ length (S c.args.disk.now).bytes = omega (arith, c.requires.within told, known.0) in
-          c.in_ok-write_range.ensures.ok told ∙ filled_more c.args.at c.loop-done.done c.min-size.result c.args.value _ _ (S c.loop-done.disk).bytes (S c.args.disk.now).bytes (ap (λ (n : ℕ). n + c.loop-done.done) c.from-in-loop-done-2.ensures) inside
+          c.in_ok-write_range.ensures.ok told ∙ filled_more c.args.at c.loop-done.done c.min-size.result c.args.value _ _ (S c.loop-done.disk).bytes
+          (S c.args.disk.now).bytes (ap (λ (n : ℕ). n + c.loop-done.done) c.from-in-loop-done-2.ensures) inside
           (take-replicate c.min-size.result 4096 c.args.value least) (known.1 told)),
       writes_then known.2 c.write_range.ensures.does,
       goes_whole _ known.3
-          (λ told. c.in_ok-write_range.ensures.fails told (omega (arith, long, least, known.0, c.ranges.at.fits, c.ranges.len.fits, c.from-in-loop-done-2.ensures))) refl,
+          (λ told. c.in_ok-write_range.ensures.fails told (omega (
+            arith,
+            long,
+            least,
+            known.0,
+            c.ranges.at.fits,
+            c.ranges.len.fits,
+            c.from-in-loop-done-2.ensures,
+          ))) refl,
     )

@@ -1,3 +1,4 @@
+-- `read_all`: that its loop keeps what it has to, and `loop-done-preserved-in-Ok`.
 use Rattle.std.proofs.Common.{rules, ap, arith, length, length-drop, ◌-◌, ◌≡◌, ◌<◌, ◌∙◌}
 use Rattle.std.proofs.lemmas.List.{take_rest}
 use Rattle.std.specs.IoError.{error_kind}
@@ -13,8 +14,10 @@ loop-done-preserved-in-Ok g c =
     let long : length c.job_read_at.new.out ≡ length c.loop-done.out - c.loop-done.done = omega (arith, c.job_read_at.auto.out, rest) in
     let known = c.loop-done.invariant in
     let some : 0 < c.in-Ok.count = search rules in (
-      read_more g.F.Disk.tells (S c.args.disk.now) (S c.loop-done.disk) (S c.job_read_at.new.self) c.args.at c.args.out.now c.loop-done.out c.loop-done.done known.0
-          c.job_read_at.new.out long c.job_read_at.ensures.entry c.job_read_at.ensures.does c.in-Ok.count _ (omega (arith, c.in-Ok.ensures.reads.count, rest)) known.2 c.in-Ok.ensures.reads.ok,
+      read_more g.F.Disk.tells (S c.args.disk.now) (S c.loop-done.disk) (S c.job_read_at.new.self) c.args.at c.args.out.now c.loop-done.out c.loop-done.done
+          known.0
+          c.job_read_at.new.out long c.job_read_at.ensures.entry c.job_read_at.ensures.does c.in-Ok.count _ (omega (arith, c.in-Ok.ensures.reads.count, rest))
+          known.2 c.in-Ok.ensures.reads.ok,
       known.1,
       known.2,
       known.3,
@@ -28,7 +31,8 @@ loop-done-preserved g c =
     let long : length c.job_read_at.new.out ≡ length c.loop-done.out - c.loop-done.done = omega (arith, c.job_read_at.auto.out, rest) in
     let known = c.loop-done.invariant in
     let kind : error_kind c.in-Err.fault ≡ Interrupted = search rules in (
-      read_no_more g.F.Disk.tells (S c.args.disk.now) (S c.loop-done.disk) (S c.job_read_at.new.self) c.args.at c.args.out.now c.loop-done.out c.loop-done.done known.0
+      read_no_more g.F.Disk.tells (S c.args.disk.now) (S c.loop-done.disk) (S c.job_read_at.new.self) c.args.at c.args.out.now c.loop-done.out c.loop-done.done
+          known.0
           c.job_read_at.new.out long c.job_read_at.ensures.entry c.job_read_at.ensures.does,
       known.1,
       known.2,

@@ -1,3 +1,4 @@
+-- `write_all`: its clauses `torn` and `moments`, that its loop keeps what it has to, and `loop-done-preserved-in-Ok`.
 use Rattle.std.proofs.Common.{rules, ◌≡◌, ◌<◌}
 use Rattle.std.proofs.lemmas.List.{take_rest}
 use Rattle.std.specs.IoError.{error_kind}
@@ -9,25 +10,29 @@ use Rattle.disk_files.proofs.job_half.write_all.Goals as goal
 pub returns-in-Ok-eq0-clause-torn : goal.returns-in-Ok-eq0-clause-torn
 returns-in-Ok-eq0-clause-torn g c =
     let S = g.F.Disk.state in
-    (written_no_more g.F.Disk.tells (S c.args.disk.now) (S c.loop-done.disk) (S c.job_write_at.new.self) c.args.at c.args.bytes.now c.loop-done.done c.loop-done.invariant.0
+    (written_no_more g.F.Disk.tells (S c.args.disk.now) (S c.loop-done.disk) (S c.job_write_at.new.self) c.args.at c.args.bytes.now c.loop-done.done
+    c.loop-done.invariant.0
     _ (take_rest c.args.bytes.now c.loop-done.done) c.job_write_at.ensures.does c.job_write_at.ensures.writes.torn).torn
 
 pub returns-in-Ok-eq0-clause-moments : goal.returns-in-Ok-eq0-clause-moments
 returns-in-Ok-eq0-clause-moments g c =
     let S = g.F.Disk.state in
-    (written_no_more g.F.Disk.tells (S c.args.disk.now) (S c.loop-done.disk) (S c.job_write_at.new.self) c.args.at c.args.bytes.now c.loop-done.done c.loop-done.invariant.0
+    (written_no_more g.F.Disk.tells (S c.args.disk.now) (S c.loop-done.disk) (S c.job_write_at.new.self) c.args.at c.args.bytes.now c.loop-done.done
+    c.loop-done.invariant.0
     _ (take_rest c.args.bytes.now c.loop-done.done) c.job_write_at.ensures.does c.job_write_at.ensures.writes.torn).moments
 
 pub returns-in-Err-2-clause-torn : goal.returns-in-Err-2-clause-torn
 returns-in-Err-2-clause-torn g c =
     let S = g.F.Disk.state in
-    (written_no_more g.F.Disk.tells (S c.args.disk.now) (S c.loop-done.disk) (S c.job_write_at.new.self) c.args.at c.args.bytes.now c.loop-done.done c.loop-done.invariant.0
+    (written_no_more g.F.Disk.tells (S c.args.disk.now) (S c.loop-done.disk) (S c.job_write_at.new.self) c.args.at c.args.bytes.now c.loop-done.done
+    c.loop-done.invariant.0
     _ (take_rest c.args.bytes.now c.loop-done.done) c.job_write_at.ensures.does c.job_write_at.ensures.writes.torn).torn
 
 pub returns-in-Err-2-clause-moments : goal.returns-in-Err-2-clause-moments
 returns-in-Err-2-clause-moments g c =
     let S = g.F.Disk.state in
-    (written_no_more g.F.Disk.tells (S c.args.disk.now) (S c.loop-done.disk) (S c.job_write_at.new.self) c.args.at c.args.bytes.now c.loop-done.done c.loop-done.invariant.0
+    (written_no_more g.F.Disk.tells (S c.args.disk.now) (S c.loop-done.disk) (S c.job_write_at.new.self) c.args.at c.args.bytes.now c.loop-done.done
+    c.loop-done.invariant.0
     _ (take_rest c.args.bytes.now c.loop-done.done) c.job_write_at.ensures.does c.job_write_at.ensures.writes.torn).moments
 
 pub loop-done-preserved-in-Ok : goal.loop-done-preserved-in-Ok
@@ -36,7 +41,8 @@ loop-done-preserved-in-Ok g c =
     let known = c.loop-done.invariant in
     let some : 0 < c.in-Ok.count = search rules in (
       written_more g.F.Disk.tells (S c.args.disk.now) (S c.loop-done.disk) (S c.job_write_at.new.self) c.args.at c.args.bytes.now c.loop-done.done known.0
-          _ (take_rest c.args.bytes.now c.loop-done.done) c.job_write_at.ensures.does c.job_write_at.ensures.writes.torn c.in-Ok.count c.in-Ok.ensures.writes.count c.in-Ok.ensures.writes.some,
+          _ (take_rest c.args.bytes.now c.loop-done.done) c.job_write_at.ensures.does c.job_write_at.ensures.writes.torn c.in-Ok.count
+          c.in-Ok.ensures.writes.count c.in-Ok.ensures.writes.some,
       known.1,
       known.2,
       known.3,

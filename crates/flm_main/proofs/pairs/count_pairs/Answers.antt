@@ -1,5 +1,5 @@
 -- `count_pairs`: the value that it answers.
-use Rattle.std.proofs.Common.{rules, ◌≡◌, ◌≤◌, ◌<◌, ◌+◌, ◌*◌, ◌/◌, ◌⊎◌, length, ℕ, List, Bool, true, false}
+use Rattle.std.proofs.Common.{rules}
 use Rattle.flm_main.proofs.PairLemmas.{count_of}
 use Rattle.flm_main.proofs.pairs.count_pairs.Goals as goal
 

@@ -1,3 +1,4 @@
+-- `read_to_end`: its clauses `ok` and `err`.
 use Rattle.std.proofs.Common.{◌≡◌, ◌<◌, ◌+◌, [], arith, inr, length, vec_len}
 use Rattle.stream_files.proofs.RunLemmas.{read_all, read_nothing, at_least}
 use Rattle.stream_files.proofs.source_inputs.read_to_end.Goals as goal

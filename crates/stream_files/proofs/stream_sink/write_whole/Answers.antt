@@ -1,3 +1,4 @@
+-- `write_whole`: its clause `err`, that its loop keeps what it has to, and `loop-done-preserved-in-Ok`.
 use Rattle.std.proofs.Common.{rules, inl, arith, ◌≡◌}
 use Rattle.std.proofs.lemmas.List.{take_rest}
 use Rattle.std.specs.IoError.{error_kind}

@@ -1,3 +1,4 @@
+-- `write_whole`: what holds at each turn of its loop, and what falls with it.
 use Rattle.std.proofs.Common.{◌-◌, ◌+◌, ◌^◌, length}
 use Rattle.stream_files.proofs.RunLemmas.{IsTaken}
 use Rattle.stream_files.proofs.stream_sink.write_whole.Given as goal

@@ -1,3 +1,4 @@
+-- `DiskBenchBench::file_write`: its clause `does`.
 use Rattle.std.proofs.Common.{◌∙◌, ap, subst, refl, arith, ℕ, List, length}
 use Rattle.std.proofs.lemmas.Bool.{false≢true}
 use Rattle.bench_model.specs.Calls.{written, Torn}
@@ -13,7 +14,8 @@ returns-in-Ok-clause-does g c =
     record {
       ok = λ told. c.in-Ok.ensures.ok told ∙ ap (λ (l : List ℕ). written c.args.at c.args.bytes.now l) (ready.file told);
       err = λ told. tt;
-      moments = adds_nothing_then_follows (Torn c.args.at (length c.args.bytes.now)) (torn_here c.args.at (length c.args.bytes.now)) ready.moments wrote.moments;
+      moments = adds_nothing_then_follows (Torn c.args.at (length c.args.bytes.now)) (torn_here c.args.at (length c.args.bytes.now)) ready.moments
+          wrote.moments;
       cells = record {
         cells = wrote.cells.cells ∙ ready.cells;
         operation = wrote.cells.operation ∙ ready.operation;

@@ -1,3 +1,4 @@
+-- `MemoryDisk::end_range`: that its result is as its type asks.
 use Rattle.std.proofs.Common.{◌≡◌, ◌≤◌, ◌+◌, ◌-◌, ◌∙◌, ap, sym, subst, arith, ℕ, List, length, take, drop, Option, Some}
 use Rattle.std.specs.Prelude.{IfSome}
 use Rattle.bench_model.specs.Calls.{written}
@@ -19,13 +20,15 @@ invariant_of-self g c =
           let settled = (c.in-Ok.ensures.does.ok told).cells in
           let here = subst (λ (o : Option (ℕ × ℕ)). IfSome o (λ (r : ℕ × ℕ). new.cells ≡ written r.0 part (S m.bench).cells)) (m.same told ∙ range) settled in
           let out : SameOutside (Some (c.in-Some.at, c.in-Some.len)) (S m.bench).cells m.bytes.items
-          = subst (λ (o : Option (ℕ × ℕ)). SameOutside o (S m.bench).cells m.bytes.items) range (outside_of m.operation (S m.bench).cells m.bytes.items (m.apart told)) in
+          = subst (λ (o : Option (ℕ × ℕ)). SameOutside o (S m.bench).cells m.bytes.items) range
+          (outside_of m.operation (S m.bench).cells m.bytes.items (m.apart told)) in
           let inside : c.in-Some.at + c.in-Some.len ≤ length m.bytes.items
           = omega (arith, m.fits (c.in-Some.at, c.in-Some.len) range, c.deref.ensures.len, ap length c.deref.ensures.value) in
           let size : c.in-Some.at + c.in-Some.len - c.in-Some.at ≡ c.in-Some.len = omega arith in
           differs_closed new.cells m.bytes.items
           (sym (here ∙ range_written c.in-Some.at c.in-Some.len (S m.bench).cells m.bytes.items part out inside
-          (ap (λ (n : ℕ). take n (drop c.in-Some.at c.deref.result.now)) size ∙ ap (λ (l : List ℕ). take c.in-Some.len (drop c.in-Some.at l)) c.deref.ensures.value)));
+          (ap (λ (n : ℕ). take n (drop c.in-Some.at c.deref.result.now)) size ∙
+          ap (λ (l : List ℕ). take c.in-Some.len (drop c.in-Some.at l)) c.deref.ensures.value)));
       long = m.long ∙ sym c.cells_settle.ensures.does.count;
       fits = λ x is. cc;
     }

@@ -1,3 +1,4 @@
+-- `Window::copy`: its clause `whole`.
 use Rattle.std.proofs.Common.{arith, ap, ℕ, List, ◌∙◌, ◌≡◌, ◌+◌, ◌-◌, length, take, drop}
 use Rattle.disk_files.proofs.WindowLemmas.{copied}
 use Rattle.disk_files.proofs.window.Window.copy.Goals as goal

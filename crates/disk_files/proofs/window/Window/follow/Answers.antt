@@ -1,3 +1,4 @@
+-- `Window::follow`: its contract, `IsCopy`.
 use Rattle.std.proofs.Common.{rules, arith, ◌≡◌, length, vec_len}
 use Rattle.disk_files.proofs.WindowLemmas.{follows}
 use Rattle.disk_files.proofs.window.Window.follow.Goals as goal

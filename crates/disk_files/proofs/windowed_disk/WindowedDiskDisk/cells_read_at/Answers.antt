@@ -1,3 +1,4 @@
+-- `WindowedDiskDisk::cells_read_at`: its clause `does`.
 use Rattle.std.proofs.Common.{ap, subst}
 use Rattle.disk_files.specs.DiskState.{DiskState}
 use Rattle.disk_files.specs.DiskDoes.{ReadsBytes}
@@ -11,6 +12,7 @@ returns-in_default-clause-does g c =
     let new = S c.cells_read_at.new.self in
     let read = c.cells_read_at.ensures.does in
     elim c.if-out-len.branch [
-      | then-out-len+in_ok-fill+else-branch-eq0+else-copy-2 w ↦ looks_then w.fill.ensures.reads (subst (λ (d : DiskState). ReadsBytes g.F.Disk.tells d new) (ap (λ s. S s.disk) w.self-is) read)
+      | then-out-len+in_ok-fill+else-branch-eq0+else-copy-2 w ↦ looks_then w.fill.ensures.reads
+          (subst (λ (d : DiskState). ReadsBytes g.F.Disk.tells d new) (ap (λ s. S s.disk) w.self-is) read)
       | else-out-len w ↦ subst (λ (d : DiskState). ReadsBytes g.F.Disk.tells d new) (ap (λ s. S s.disk) w.self-is) read
     ]

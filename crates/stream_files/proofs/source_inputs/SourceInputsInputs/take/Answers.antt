@@ -1,3 +1,4 @@
+-- `SourceInputsInputs::take`: its clause `fails`.
 use Rattle.std.proofs.Common.{rules, ap, subst, ◌≡◌, ◌⊎◌, ℕ, List}
 use Rattle.std.specs.IoError.{error_kind}
 use Rattle.std.specs.declared.io.ErrorKind.TheVariants.{OutOfMemory}

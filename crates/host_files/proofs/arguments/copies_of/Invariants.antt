@@ -1,8 +1,8 @@
--- `Arguments::take_all`: what holds at each turn of its loop.
+-- `copies_of`: what holds at each turn of its loop.
 use Rattle.std.proofs.Common.{◌≡◌, ◌++◌, map, string_bytes}
 use Rattle.std.specs.Vec.Iter.{into_iter_items}
-use Rattle.flm_main.proofs.arguments.Arguments.take_all.Given as goal
+use Rattle.host_files.proofs.arguments.copies_of.Given as goal
 
 abbrev pub invariant-loop-argument : goal.invariant-loop-argument
 invariant-loop-argument l = (l.yielded ++ into_iter_items l.argument-iterator ≡ into_iter_items l.initial.argument-iterator)
-    × (l.self ≡ l.fn.self ++ map (λ argument. string_bytes argument) l.yielded)
+    × (l.words.items ≡ map (λ argument. string_bytes argument) l.yielded)
