@@ -16,7 +16,8 @@ use Rattle.command_words.specs.Files.{FilesAsked}
 use Rattle.command_files.specs.Inputs.{InputsCall, FilesGiven, AreEach, AreFiles, Given}
 use Rattle.image_more.specs.Place.{file_at}
 use Rattle.command_files.specs.Files.{flm_files, image_files, IsBoardOf, IsForBoard, IsOneFor, AreFor, Aim, ranges_of, IsUnionOf, AreRead, IsAim}
-use Rattle.command_files.specs.Refused.{LeavesNoImage, IsOtherDevice, HasNoRoom, IsUnfit, IsUnread, IsNoneFor, AreNotFor, IsImageRefused, HasNoImage, HasNoTarget, HasWrongImage, IsMisplaced, IsRefused}
+use Rattle.command_files.specs.Refused.{LeavesNoImage, IsOtherDevice, HasNoRoom, IsUnfit, IsUnread, IsNoneFor, AreNotFor, IsImageRefused, HasNoImage}
+use Rattle.command_files.specs.Refused.{HasNoTarget, HasWrongImage, IsMisplaced, IsRefused}
 use Rattle.command_files.proofs.ImageLemmas.{one_union, images_or_refused, one_image_refused, inside_or_fault, one_place_fault}
 
 -- The files that stand under the names.
@@ -62,7 +63,8 @@ module _ (board : board.Shown) (base size : ℕ) (algorithm : flm.Shown) where
       let room = fit.room in let need_is = unfit.need_is in let have_is = unfit.have_is in let more = unfit.more in omega arith
   fit_or_unfit r fit unfit = unfit
 
-  other_or_no_room : (told_base told_size need have : ℕ) → IsOtherDevice base size algorithm told_base told_size → HasNoRoom board base size algorithm need have → ⊥
+  other_or_no_room : (told_base told_size need have : ℕ) → IsOtherDevice base size algorithm told_base told_size → HasNoRoom board base size algorithm need have
+      → ⊥
   other_or_no_room told_base told_size need have one two =
       ⊎_elim (λ other. other (one.base_is ∙ two.base_is)) (λ other. other (one.size_is ∙ two.size_is)) one.other
 
@@ -119,7 +121,8 @@ module _ (board : board.Shown) (region : Region) (file : List ℕ) where
       one
 
 module _ (board : board.Shown) where
-  one_target : (regions : List Region) (files : List (List ℕ)) (xs ys : List flm.Shown) → AreFor board regions files xs → AreFor board regions files ys → xs ≡ ys
+  one_target : (regions : List Region) (files : List (List ℕ)) (xs ys : List flm.Shown) → AreFor board regions files xs → AreFor board regions files ys
+      → xs ≡ ys
   one_target [] [] [] [] one two = refl
   one_target [] [] [] (y ∷ ys) one two = absurd two
   one_target [] [] (x ∷ xs) ys one two = absurd one
@@ -223,7 +226,8 @@ module _ (asked : FilesAsked) (files : FilesGiven) where
       let mine = wrong.has_target.has_board in
       let same = one_board files.board mine.board aim.board mine.is_board.is_board are.board.is_board in
       images_or_refused asked.raw_at (image_files files.flm asked.images aim.board) (image_files files.flm files.images aim.board) name fault aim.image
-      (subst (λ (b : board.Shown). IsImageRefused asked.raw_at (image_files files.flm asked.images b) (image_files files.flm files.images b) name fault) same wrong.is_wrong)
+      (subst (λ (b : board.Shown). IsImageRefused asked.raw_at (image_files files.flm asked.images b) (image_files files.flm files.images b) name fault) same
+      wrong.is_wrong)
       are.union
 
   one_wrong : (x y : List ℕ) (a b : AnyFault) → HasWrongImage asked files x a → HasWrongImage asked files y b → image_refused x a ≡ image_refused y b
@@ -232,19 +236,22 @@ module _ (asked : FilesAsked) (files : FilesGiven) where
       let its = two.has_target.has_board in
       let same = one_board files.board mine.board its.board mine.is_board.is_board its.is_board.is_board in
       let equal = one_image_refused asked.raw_at (image_files files.flm asked.images its.board) (image_files files.flm files.images its.board) x y a b
-      (subst (λ (b : board.Shown). IsImageRefused asked.raw_at (image_files files.flm asked.images b) (image_files files.flm files.images b) x a) same one.is_wrong)
+      (subst (λ (b : board.Shown). IsImageRefused asked.raw_at (image_files files.flm asked.images b) (image_files files.flm files.images b) x a) same
+      one.is_wrong)
       two.is_wrong in
       let names_are = equal.name in
       let faults_are = equal.fault in
       cc
 
-  misplaced_again : (a b : Aim) (fault : ImageFault) → AreRead asked.raw_at files a → AreRead asked.raw_at files b → IsPlaceFault a.image (ranges_of a.board.regions) fault
+  misplaced_again : (a b : Aim) (fault : ImageFault) → AreRead asked.raw_at files a → AreRead asked.raw_at files b
+      → IsPlaceFault a.image (ranges_of a.board.regions) fault
       → IsPlaceFault b.image (ranges_of b.board.regions) fault
   misplaced_again a b fault one two is =
       subst (λ (x : Aim). IsPlaceFault x.image (ranges_of x.board.regions) fault) (one_read asked.raw_at files a b one two) is
 
   -- files that are read are refused for their place alone
-  read_or_refused : (aim : Aim) (r : Refusal) → AreRead asked.raw_at files aim → ((fault : ImageFault) → IsMisplaced asked.raw_at files fault → ⊥) → Stage asked files r → ⊥
+  read_or_refused : (aim : Aim) (r : Refusal) → AreRead asked.raw_at files aim → ((fault : ImageFault) → IsMisplaced asked.raw_at files fault → ⊥)
+      → Stage asked files r → ⊥
   read_or_refused aim r are place (at_board fault is isn't) = board_or_refused aim.board fault are.board.is_board isn't
   read_or_refused aim r are place (at_names is none) = enough_or_not aim.board are.board none
   read_or_refused aim r are place (at_algorithms none) = target_or_refused aim.board aim.algorithms r are.board are.algorithms none

@@ -28,7 +28,8 @@ one_union_of : (image other a b : List Run) → IsUnion image other a → IsUnio
 one_union_of image other a b one two = one_list 0 (2 ^ 32) a b one.maximal two.maximal (λ x. one.same x ∙ sym (two.same x))
 
 -- images with a union don't clash
-union_or_clash : (image other union : List Run) (at old new : ℕ) → AreMaximal 0 (2 ^ 32) image → IsUnion image other union → IsLeastClash image other at old new → ⊥
+union_or_clash : (image other union : List Run) (at old new : ℕ) → AreMaximal 0 (2 ^ 32) image → IsUnion image other union → IsLeastClash image other at old new
+    → ⊥
 union_or_clash image other union at old new maximal one two =
     two.unequal (one.agree at old new (below_end image at old maximal two.old_is) two.old_is two.new_is)
 
@@ -78,7 +79,8 @@ one_conflict image other p q old new old' new' one two =
     let new_is : new ≡ new' = cc in
     cc
 
-one_union_fault : (image other : List Run) (a b : ImageFault) → IsUnionFault image other a → IsUnionFault image other b → a ≢ OutOfMemory → b ≢ OutOfMemory → a ≡ b
+one_union_fault : (image other : List Run) (a b : ImageFault) → IsUnionFault image other a → IsUnionFault image other b → a ≢ OutOfMemory → b ≢ OutOfMemory
+    → a ≡ b
 one_union_fault image other a b one two no_a no_b =
     let x = union_fault image other a one no_a in
     let y = union_fault image other b two no_b in
@@ -147,7 +149,8 @@ same_fault raw_at file before a b one two no_a no_b = ⊎_elim
     (λ (two : IsAnyFault raw_at file b). absurd (any_image_or_fault raw_at file one.image b one.is_image two no_b))
     (λ (two : Clashes raw_at file before b).
     let image : one.image ≡ two.image = one_any_image raw_at file one.image two.image one.is_image two.is_image in
-    one.fault_is ∙ ap any_of (one_union_fault before two.image one.clash two.clash (subst (λ (i : List Run). IsUnionFault before i one.clash) image one.is_clash) two.is_clash
+    one.fault_is ∙ ap any_of (one_union_fault before two.image one.clash two.clash
+    (subst (λ (i : List Run). IsUnionFault before i one.clash) image one.is_clash) two.is_clash
     (no_memory_of one.clash a one.fault_is no_a) (no_memory_of two.clash b two.fault_is no_b)) ∙ sym two.fault_is) two)
     one
 

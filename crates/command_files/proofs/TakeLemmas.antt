@@ -1,5 +1,6 @@
 -- Taking the files of some names, one after the other.
-use Rattle.std.proofs.Common.{◌≡◌, ◌<◌, ◌≤◌, ◌+◌, ◌∙◌, sym, ap, subst, refl, arith, ⊎_elim, ℕ, zero, suc, Bool, IsTrue, All, List, [], ◌∷◌, ◌++◌, take, drop, length, get_or, length-append, Some}
+use Rattle.std.proofs.Common.{◌≡◌, ◌<◌, ◌≤◌, ◌+◌, ◌∙◌, sym, ap, subst, refl, arith, ⊎_elim, ℕ, zero, suc, Bool, IsTrue, All, List, [], ◌∷◌, ◌++◌, take, drop}
+use Rattle.std.proofs.Common.{length, get_or, length-append, Some}
 use Rattle.std.proofs.lemmas.Bool.{cases_lt}
 use Rattle.std.proofs.lemmas.List.{take_more, append_assoc}
 use Rattle.std.proofs.lemmas.List.Elements.{All-nil, All-cons, All-head, All-tail, All-append}
@@ -69,7 +70,8 @@ is_there {inputs} {names} {files} are = λ k d less.
 pub none_failed_here : (tells : Bool) (a : InputsState) → NoneFailed (inputs_call tells a a)
 none_failed_here tells a = record { faults = refl; failed = λ told. refl }
 
-pub none_failed_then : {tells : Bool} {a b c : InputsState} → NoneFailed (inputs_call tells a b) → NoneFailed (inputs_call tells b c) → NoneFailed (inputs_call tells a c)
+pub none_failed_then : {tells : Bool} {a b c : InputsState} → NoneFailed (inputs_call tells a b) → NoneFailed (inputs_call tells b c)
+    → NoneFailed (inputs_call tells a c)
 none_failed_then one two = record { faults = two.faults ∙ one.faults; failed = λ told. two.failed told ∙ one.failed told }
 
 -- Names that can't be taken.
@@ -122,7 +124,8 @@ taken_here tells start names = record { each = each_of_none (inputs_call tells s
 
 pub taken_then : {tells : Bool} {start mid now : InputsState} {names files : List (List ℕ)} {done : ℕ} (file : List ℕ)
     → TakenSoFar tells start mid names files done → done < length names
-    → (IsTrue tells → mid.stands (name_at names done) ≡ Some file) → ((name : List ℕ) → now.stands name ≡ mid.stands name) → NoneFailed (inputs_call tells mid now)
+    → (IsTrue tells → mid.stands (name_at names done) ≡ Some file) → ((name : List ℕ) → now.stands name ≡ mid.stands name)
+    → NoneFailed (inputs_call tells mid now)
     → TakenSoFar tells start now names (files ++ file ∷ []) (done + 1)
 taken_then {tells} {start} {mid} {now} {names} {files} {done} file so_far less taken stands none = record {
   each = subst (λ (n : List (List ℕ)). AreEach (inputs_call tells start now) n (files ++ file ∷ [])) (sym (take_more names done [] less))

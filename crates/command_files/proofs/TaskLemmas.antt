@@ -1,5 +1,6 @@
 -- The task that a command's files give.
-use Rattle.std.proofs.Common.{rules, ◌≡◌, ◌∙◌, ◌≤◌, ◌<◌, ◌-◌, ◌++◌, sym, ap, subst, arith, refl, ℕ, zero, suc, All, List, [], ◌∷◌, take, get_or, Option, option_to_list, IsSome, Some, None, length, length-append}
+use Rattle.std.proofs.Common.{rules, ◌≡◌, ◌∙◌, ◌≤◌, ◌<◌, ◌-◌, ◌++◌, sym, ap, subst, arith, ℕ, zero, suc, All, List, [], ◌∷◌, take, get_or, Option}
+use Rattle.std.proofs.Common.{option_to_list, IsSome, Some, None, length, length-append}
 use Rattle.std.specs.Option.{ForSome}
 use Rattle.std.proofs.lemmas.List.{length-take-le}
 use Rattle.std.proofs.lemmas.List.Elements.{All-head}
@@ -39,10 +40,12 @@ one_short longest images zero (Some x) all is = absurd (omega (arith, ap length 
 one_short longest [] (suc n) (Some x) all is = absurd (omega (arith, ap length is))
 one_short longest (image ∷ images) (suc n) (Some x) all is = λ bytes it.
     let same : x ≡ bytes = cc in
-    subst (λ (y : List ℕ). length y ≤ longest) same (subst (λ (bytes : List ℕ). length bytes ≤ longest) (ap (λ (l : List (List ℕ)). get_or l 0 []) is) (All-head (λ (bytes : List ℕ). length bytes ≤ longest) image images all))
+    subst (λ (y : List ℕ). length y ≤ longest) same (subst (λ (bytes : List ℕ). length bytes ≤ longest) (ap (λ (l : List (List ℕ)). get_or l 0 []) is)
+    (All-head (λ (bytes : List ℕ). length bytes ≤ longest) image images all))
 
 -- the FLM files are the first and those at the head of the others
-pub flms_are : (files : FilesGiven) (board : board.Shown) (n : ℕ) (first : List ℕ) (second : Option (List ℕ)) → files.flm ≡ Some first → n ≡ length board.regions - 1
+pub flms_are : (files : FilesGiven) (board : board.Shown) (n : ℕ) (first : List ℕ) (second : Option (List ℕ)) → files.flm ≡ Some first
+    → n ≡ length board.regions - 1
     → take n files.images ≡ option_to_list second → flm_files files.flm files.images board ≡ first ∷ option_to_list second
 flms_are files board n first second flm count taken =
     ap (λ (f : Option (List ℕ)). flm_files f files.images board) flm

@@ -1,5 +1,6 @@
 -- What the files of a command want of the cells.
-use Rattle.std.proofs.Common.{◌≡◌, ◌+◌, ◌<◌, ◌≤◌, ◌∙◌, sym, ap, subst, refl, arith, inl, inr, ⊎_elim, ℕ, List, [], ◌∷◌, ◌++◌, map, length, take, drop, get_or, slice_get, Option, option_to_list, Some, IsSome, Result, Ok, Err, IfOk, IfErr, ◌≢◌}
+use Rattle.std.proofs.Common.{◌≡◌, ◌+◌, ◌<◌, ◌≤◌, ◌∙◌, sym, ap, subst, refl, arith, inl, inr, ⊎_elim, ℕ, List, [], ◌∷◌, ◌++◌, map, length, take, drop, get_or}
+use Rattle.std.proofs.Common.{slice_get, Option, option_to_list, Some, IsSome, Result, Ok, Err, IfOk, IfErr, ◌≢◌}
 use Rattle.std.specs.Result.{result_map_both}
 use Rattle.std.proofs.Math.Numerals.{add-one}
 use Rattle.std.proofs.lemmas.List.Sums.{sum_by-cons}
@@ -48,7 +49,7 @@ board_refusal asked files (board_refused fault) is = is
 board_refusal asked files r is = absurd is
 
 -- how an FLM file is refused
-abbrev IsOfFlm : Refusal → Type 0
+abbrev pub IsOfFlm : Refusal → Type 0
 IsOfFlm (flm_refused fault) = Unit {0}
 IsOfFlm (other_device base size) = Unit {0}
 IsOfFlm (no_room need have) = Unit {0}
@@ -67,7 +68,7 @@ none_of_flm : (b : board.Shown) (region : Region) (file : List ℕ) (r : Refusal
 none_of_flm b region file r is =
     ⊎_elim (λ unread. unread_of_flm file r unread) (λ unfit. unfit_of_flm b region.base region.size unfit.algorithm r unfit.unfit) is
 
-not_of_flm : (b : board.Shown) (regions : List Region) (files : List (List ℕ)) (r : Refusal) → AreNotFor b regions files r → IsOfFlm r
+pub not_of_flm : (b : board.Shown) (regions : List Region) (files : List (List ℕ)) (r : Refusal) → AreNotFor b regions files r → IsOfFlm r
 not_of_flm b [] files r is = absurd is
 not_of_flm b (region ∷ regions) [] r is = absurd is
 not_of_flm b (region ∷ regions) (file ∷ files) r is =
@@ -112,7 +113,8 @@ module _ (asked : FilesAsked) (files : FilesGiven) (b : board.Shown) (is_board :
       are_for : AreFor b b.regions (flm_files files.flm files.images b) algorithms
       are_for = subst (λ (l : List (List ℕ)). AreFor b b.regions l algorithms) flms are
 
-      pub back_refusal : (names : List (List ℕ)) (r : Refusal) → names ≡ drop others asked.images → IsImagesRefusal asked.raw_at names back r → IsFilesRefusal asked files r
+      pub back_refusal : (names : List (List ℕ)) (r : Refusal) → names ≡ drop others asked.images → IsImagesRefusal asked.raw_at names back r
+          → IsFilesRefusal asked files r
       back_refusal names r names_are is =
           images_refusal asked files r (record { has_board = has_board; algorithms = algorithms; are_for = are_for })
           (subst (λ (l : List (List ℕ)). IsImagesRefusal asked.raw_at l (image_files files.flm files.images b) r)
@@ -166,7 +168,8 @@ second_refused b one two file other algorithm r is first refused =
 -- The algorithms of FLM files in turn.
 
 -- algorithms that were gathered, or no memory
-pub gathered : {V : Type 0} (items : V → List Algorithm) (b : board.Shown) (files : List (List ℕ)) (algorithms : List Algorithm) (result : Result V value.Refusal)
+pub gathered : {V : Type 0} (items : V → List Algorithm) (b : board.Shown) (files : List (List ℕ)) (algorithms : List Algorithm)
+    (result : Result V value.Refusal)
     → IfOk result (λ v. items v ≡ algorithms) → IfErr result (λ e. shown e ≡ out_of_memory) → AreFor b b.regions files (map flm.shown algorithms)
     → ReadsAlgorithms b files (result_map_both items (λ e. e) result)
 gathered items b files algorithms (Ok v) ok err are = subst (λ (l : List Algorithm). AreFor b b.regions files (map flm.shown l)) (sym ok) are

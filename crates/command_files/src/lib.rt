@@ -10,4 +10,4 @@ mod wanted;
 pub use law::files_say_one_thing;
 pub use take::{Files, take_files, take_one};
 pub use task::{Task, read_task};
-pub use wanted::{Wanted, cells_of, read_files, read_text};
+pub use wanted::{Wanted, cells_of, read_algorithms, read_files, read_text};

@@ -127,8 +127,8 @@ fn names_from(names: Names<'_>, from: usize) -> Names<'_>
     }
 }
 
-/// Reads the FLM files, where there is one: the first, and those for the board's further regions.
-fn read_algorithms<'a>(
+/// Reads the FLM files, where there is one: the first, and those for the board's further regions. Each has to be one for its region.
+pub fn read_algorithms<'a>(
     alloc: Global,
     board: &Board,
     first: &Option<Bytes>,

@@ -1,5 +1,6 @@
 -- What lines make of a command, by their addresses and their positional words.
-use Rattle.std.proofs.Common.{◌≡◌, ◌<◌, ◌≤◌, ◌+◌, ◌-◌, ◌^◌, ap, subst, refl, arith, rules, ℕ, List, [], ◌∷◌, ◌++◌, length, get_or, take, drop, Option, Some, None, IsSome, MatchOption, IfNone, option_to_list}
+use Rattle.std.proofs.Common.{◌≡◌, ◌<◌, ◌≤◌, ◌+◌, ◌-◌, ◌^◌, ap, subst, refl, arith, rules, ℕ, List, [], ◌∷◌, ◌++◌, length, get_or, take, drop, Option, Some}
+use Rattle.std.proofs.Common.{None, IsSome, MatchOption, IfNone, option_to_list}
 use Rattle.std.proofs.lemmas.List.{take_all}
 use Rattle.std.specs.Str.Parse.{IsNumeral, digits_value}
 use Rattle.command_line.specs.Scan.{scan}
@@ -59,7 +60,8 @@ module _ (others addresses names : Words) (spells : scan [] [] others ≡ Some (
       let given = arguments_given others addresses names spells files.raw_at (files.board ∷ files.images) has.arguments in
       omega (arith, few, ap length given.names_are)
 
-  other_images : (raw_at : Option ℕ) (images : ℕ) → Gives addresses raw_at → (AreFew raw_at images → ⊥) → (r : Option ℕ) (n : ℕ) → Gives addresses r → AreFew r n → n ≡ images → ⊥
+  other_images : (raw_at : Option ℕ) (images : ℕ) → Gives addresses raw_at → (AreFew raw_at images → ⊥) → (r : Option ℕ) (n : ℕ) → Gives addresses r
+      → AreFew r n → n ≡ images → ⊥
   other_images raw_at images gives many r n given few is =
       many (subst (λ (a : Option ℕ). AreFew a images) (one_given addresses r raw_at given gives) (subst (λ (k : ℕ). AreFew r k) is few))
 

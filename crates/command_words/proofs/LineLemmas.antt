@@ -8,7 +8,8 @@ use Rattle.command_line.specs.Scan.{Said, commands, command_of, scan, with_comma
 use Rattle.command_line.specs.declared.line.Line.{Line}
 use Rattle.command_words.specs.Fits.{Fitted}
 use Rattle.command_words.specs.Lines.{Spells, IsLineOf}
-use Rattle.command_words.specs.Words.{text_of, form_text, AreArguments, Command, program, begin, resume, revert, plan, verify, compare, status, inspect, dump, demo, AsksNothing, Asked}
+use Rattle.command_words.specs.Words.{text_of, form_text, AreArguments, Command, program, begin, resume, revert, plan, verify, compare, status, inspect, dump}
+use Rattle.command_words.specs.Words.{demo, AsksNothing, Asked}
 use Rattle.command_words.specs.declared.command.CommandName.{CommandName}
 use Rattle.command_words.specs.declared.command.CommandName.TheVariants.{Program, Begin, Resume, Revert, Plan, Verify, Compare, Status, Inspect, Dump, Demo}
 use Rattle.command_words.proofs.ScanLemmas.{arguments_read}
@@ -67,7 +68,8 @@ named_known Demo = refl
 
 -- Words that say no line ask for nothing.
 module _ (words : Words) (none : says words ≡ None) where
-  no_arguments : (name : CommandName) (others : Words) (raw_at : Option ℕ) (names : Words) → words ≡ text_of name ∷ others → AreArguments others raw_at names → ⊥
+  no_arguments : (name : CommandName) (others : Words) (raw_at : Option ℕ) (names : Words) → words ≡ text_of name ∷ others → AreArguments others raw_at names
+      → ⊥
   no_arguments name others raw_at names words_are are =
       let read = arguments_read others raw_at names are in
       let some : with_command (command_of (text_of name)) (scan [] [] others) ≡ Some (text_of name, read.addresses, names) =

@@ -1,5 +1,6 @@
 -- The words behind the name of a command, and what they were read as.
-use Rattle.std.proofs.Common.{◌≡◌, ◌∙◌, sym, ap, subst, refl, arith, inl, inr, ⊎_elim, Bool, true, false, cond, ℕ, List, [], ◌∷◌, ◌++◌, slice_index, codes, Option, Some, None}
+use Rattle.std.proofs.Common.{◌≡◌, ◌∙◌, sym, ap, subst, refl, arith, inl, inr, ⊎_elim, Bool, true, false, cond, ℕ, List, [], ◌∷◌, ◌++◌, slice_index, codes}
+use Rattle.std.proofs.Common.{Option, Some, None}
 use Rattle.std.proofs.lemmas.List.{append_assoc, append-nil}
 use Rattle.std.proofs.lemmas.Option.{same_Some}
 use Rattle.std.proofs.lemmas.Slice.Eq.{bytes_eq-Decides}
@@ -9,8 +10,10 @@ use Rattle.clap.specs.Lexer.{long_of, short_of}
 use Rattle.command_line.specs.Scan.{Said, scan, scan_address, other, address}
 use Rattle.command_line.proofs.Spelled.{IsUnflagged, unflagged, no_flag, flag_is, attached_is}
 use Rattle.command_words.specs.Lines.{Gives}
-use Rattle.command_words.specs.Words.{IsOption, HasNoOption, dashes, raw_at_name, raw_at_equals, AllPositional, EndedByDashes, Positional, IsAddress, IsHexadecimal, IsDecimal, InTwoWords, InOneWord, IsRawAt, HasRawAt, AreArguments}
-use Rattle.command_words.proofs.ArgumentLemmas.{Words, IsPlain, plain-head, plain-tail, plain-append, plain-one, positional_before, positional_behind, one_address}
+use Rattle.command_words.specs.Words.{IsOption, HasNoOption, dashes, raw_at_name, raw_at_equals, AllPositional, EndedByDashes, Positional, IsAddress}
+use Rattle.command_words.specs.Words.{IsHexadecimal, IsDecimal, InTwoWords, InOneWord, IsRawAt, HasRawAt, AreArguments}
+use Rattle.command_words.proofs.ArgumentLemmas.{Words, IsPlain, plain-head, plain-tail, plain-append, plain-one, positional_before, positional_behind}
+use Rattle.command_words.proofs.ArgumentLemmas.{one_address}
 
 -- Words that are no option.
 
@@ -170,7 +173,8 @@ read_end raws names said e =
       reads = inl (record { plain = λ k d less. absurd (omega (arith, less)); all = refl });
     }
 
-read_dashes : (raws names : Words) (w : List ℕ) (ws : Words) (said : Said) → bytes_eq w dashes ≡ true → Some (raws, names ++ ws) ≡ Some said → IsRead (w ∷ ws) raws names said
+read_dashes : (raws names : Words) (w : List ℕ) (ws : Words) (said : Said) → bytes_eq w dashes ≡ true → Some (raws, names ++ ws) ≡ Some said
+    → IsRead (w ∷ ws) raws names said
 read_dashes raws names w ws said d e =
     let same : (raws, names ++ ws) ≡ said = same_Some _ _ e in
     let is : w ≡ dashes = (bytes_eq-Decides w dashes).0 d in
@@ -221,7 +225,8 @@ read_flag raws names w nm ws said false n l sound e = let bad : None ≡ Some sa
 
 read_word : (raws names : Words) (w : List ℕ) (ws : Words) (said : Said) (d : Bool) (found : Option (List ℕ × Option (List ℕ))) (flags : Option (List ℕ))
     → d ≡ bytes_eq w dashes → found ≡ long_of w → flags ≡ short_of w → SoundAt ws → SoundBehind ws
-    → cond d (Some (raws, names ++ ws)) (other found flags (λ v. scan (raws ++ v ∷ []) names ws) (scan_address raws names ws) (scan raws (names ++ w ∷ []) ws)) ≡ Some said
+    → cond d (Some (raws, names ++ ws)) (other found flags (λ v. scan (raws ++ v ∷ []) names ws) (scan_address raws names ws)
+    (scan raws (names ++ w ∷ []) ws)) ≡ Some said
     → IsRead (w ∷ ws) raws names said
 read_word raws names w ws said true found flags d l s sound behind e = read_dashes raws names w ws said (sym d) e
 read_word raws names w ws said false (Some (nm, Some v)) flags d l s sound behind e =
@@ -251,7 +256,8 @@ read_behind raws names w ws said false None None sound e =
 mutual
   sound : (ws : Words) → SoundAt ws
   sound [] = λ raws names said e. read_end raws names said e
-  sound (w ∷ ws) = λ raws names said e. read_word raws names w ws said (bytes_eq w dashes) (long_of w) (short_of w) refl refl refl (sound ws) (sound_behind ws) e
+  sound (w ∷ ws) = λ raws names said e. read_word raws names w ws said (bytes_eq w dashes) (long_of w) (short_of w) refl refl refl (sound ws)
+      (sound_behind ws) e
 
   sound_behind : (ws : Words) → SoundBehind ws
   sound_behind [] = λ raws names said e. let bad : None ≡ Some said = e in absurd (cc)
@@ -263,7 +269,8 @@ module _ (words addresses names : Words) (scans : scan [] [] words ≡ Some (add
   read_arguments raw_at gives =
       let read = sound words [] [] (addresses, names) scans in
       let said : Reads words addresses names =
-      subst (λ (n : Words). Reads words addresses n) (sym read.names_are) (subst (λ (a : Words). Reads words a read.more) (sym read.addresses_are) read.reads) in
+      subst (λ (n : Words). Reads words addresses n) (sym read.names_are)
+      (subst (λ (a : Words). Reads words a read.more) (sym read.addresses_are) read.reads) in
       given addresses raw_at gives said where
         given : (a : Words) (r : Option ℕ) → Gives a r → Reads words a names → AreArguments words r names
         given [] None gives said = said

@@ -1,6 +1,9 @@
 -- Words and what they ask for.
-use Rattle.std.proofs.Common.{◌≡◌, ◌≢◌, ◌∙◌, sym, ap, subst, refl, ◌==◌, if◌then◌else◌, Bool, ℕ, List, [], ◌∷◌, ◌++◌, get_or, drop, Option, Some, None, IsSome, option_to_list}
-use Rattle.command_words.specs.Words.{text_of, form_text, IsDump, Begins, Positional, HasOneName, IsDemo, HasBoardAndImages, IsVerify, HasTargetAndImages, IsOnTarget, Command, program, begin, resume, revert, plan, verify, compare, status, inspect, dump, demo, Asks, AsksNothing, Asked}
+use Rattle.std.proofs.Common.{◌≡◌, ◌≢◌, ◌∙◌, sym, ap, subst, refl, ◌==◌, if◌then◌else◌, Bool, ℕ, List, [], ◌∷◌, ◌++◌, get_or, drop, Option, Some, None, IsSome}
+use Rattle.std.proofs.Common.{option_to_list}
+use Rattle.command_words.specs.Words.{text_of, form_text, IsDump, Begins, Positional, HasOneName, IsDemo, HasBoardAndImages, IsVerify, HasTargetAndImages}
+use Rattle.command_words.specs.Words.{IsOnTarget, Command, program, begin, resume, revert, plan, verify, compare, status, inspect, dump, demo, Asks}
+use Rattle.command_words.specs.Words.{AsksNothing, Asked}
 use Rattle.command_words.specs.Files.{FilesAsked, names_in}
 use Rattle.command_words.specs.Fits.{Fits, Fitted}
 use Rattle.command_words.specs.declared.command.CommandName.{CommandName}
@@ -94,7 +97,8 @@ module _ (words others : List (List ℕ)) (first : List ℕ) (is : words ≡ fir
 -- Words that begin with the name of a command ask for what the others make of it.
 module _ (name : CommandName) (words others : List (List ℕ)) (is : words ≡ text_of name ∷ others) where
   -- what holds of the name with which the words begin, and of the words behind it
-  same_beginning : (P : CommandName → List (List ℕ) → Type 0) (command : CommandName) (rest : List (List ℕ)) → words ≡ text_of command ∷ rest → P command rest → P name others
+  same_beginning : (P : CommandName → List (List ℕ) → Type 0) (command : CommandName) (rest : List (List ℕ)) → words ≡ text_of command ∷ rest → P command rest
+      → P name others
   same_beginning P command rest words_are holds =
       let name_is : command ≡ name = sym (first_is words [] command rest words_are) ∙ first_is words [] name others is in
       let rest_is : rest ≡ others = ap (λ (w : List (List ℕ)). drop 1 w) (sym words_are ∙ is) in

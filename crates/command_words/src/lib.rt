@@ -8,6 +8,7 @@ mod law;
 mod line;
 mod names;
 
+pub use address::read_number;
 pub use command::{FileNames, Request, TextForm};
 pub use law::words_ask_for_one_command;
 pub use line::CommandLine;

@@ -21,7 +21,8 @@ returns-in_err-bytes-clause-takes g c =
     let u = c.from_residual.ensures in
     let is : c.from_residual.result ≡ Err c.in_err-bytes.field-0.0 = search rules in
     let name = sym (get_or_from_slice_get (names_of c.args.names.now) c.loop-index.index c.name.result.now [] c.name.ensures) in
-    let fault = subst (λ (n : List ℕ). IsTakeFault (inputs_call g.I.Inputs.tells (g.I.Inputs.state c.loop-index.inputs) (g.I.Inputs.state c.take_one.new.inputs))
+    let fault = subst (λ (n : List ℕ). IsTakeFault (inputs_call g.I.Inputs.tells (g.I.Inputs.state c.loop-index.inputs)
+    (g.I.Inputs.state c.take_one.new.inputs))
     (n ∷ []) (shown c.in_err-bytes.field-0.0)) name c.in_err-bytes.ensures.takes in
     rw is (untaken_then (g.I.Inputs.state c.take_one.new.inputs) (shown c.in_err-bytes.field-0.0) c.loop-index.invariant.so_far (omega arith) fault)
 
@@ -37,7 +38,8 @@ loop-index-preserved g c =
     (λ told. ap (λ (n : List ℕ). (g.I.Inputs.state c.loop-index.inputs).stands n) (sym name) ∙ c.in_ok-bytes.ensures.takes.0.each 0 (omega arith) told)
     c.in_ok-bytes.ensures.stands c.in_ok-bytes.ensures.takes.1 in
     record {
-      so_far = subst (λ (f : List (List ℕ)). TakenSoFar g.I.Inputs.tells (g.I.Inputs.state c.args.inputs.now) (g.I.Inputs.state c.take_one.new.inputs) names f (index + 1))
+      so_far = subst (λ (f : List (List ℕ)). TakenSoFar g.I.Inputs.tells (g.I.Inputs.state c.args.inputs.now) (g.I.Inputs.state c.take_one.new.inputs) names f
+          (index + 1))
           (sym files) then_;
       short = subst (λ (f : List (List ℕ)). All (λ (file : List ℕ). length file ≤ 67108864) f) (sym files)
           (All-append (λ (file : List ℕ). length file ≤ 67108864) c.loop-index.files.items (bytes ∷ []) c.loop-index.invariant.short
@@ -48,7 +50,8 @@ loop-index-preserved g c =
 pub returns-clause-takes : goal.returns-clause-takes
 returns-clause-takes g c =
     let all : c.loop-index.index ≡ length (names_of c.args.names.now) = omega arith in (
-      subst (λ (n : List (List ℕ)). AreEach (inputs_call g.I.Inputs.tells (g.I.Inputs.state c.args.inputs.now) (g.I.Inputs.state c.loop-index.inputs)) n c.loop-index.files.items)
+      subst (λ (n : List (List ℕ)). AreEach (inputs_call g.I.Inputs.tells (g.I.Inputs.state c.args.inputs.now) (g.I.Inputs.state c.loop-index.inputs)) n
+          c.loop-index.files.items)
           (take_all c.loop-index.index (names_of c.args.names.now) (omega (arith, all))) c.loop-index.invariant.so_far.each,
       c.loop-index.invariant.so_far.none_failed,
     )

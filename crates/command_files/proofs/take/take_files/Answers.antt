@@ -23,7 +23,8 @@ pub take_each-requires : goal.take_each-requires
 take_each-requires g c =
     let asked = files_of c.args.names.now in
     let may = g.I.Inputs.may_take c.args.inputs.now in
-    All-weaker may (g.I.Inputs.may_take c.take_optional.new.inputs) (λ name can. (c.in_ok-flm.ensures.leave name).1 ((c.in_ok-board.ensures.leave name).1 can)) asked.images
+    All-weaker may (g.I.Inputs.may_take c.take_optional.new.inputs) (λ name can. (c.in_ok-flm.ensures.leave name).1 ((c.in_ok-board.ensures.leave name).1 can))
+    asked.images
     (all_back may (option_to_list asked.flm) asked.images (All-tail may asked.board (option_to_list asked.flm ++ asked.images) c.requires))
 
 pub returns-in_err-board-clause-takes : goal.returns-in_err-board-clause-takes
@@ -42,7 +43,8 @@ returns-in_err-flm-clause-takes g c =
     let is : c.from_residual-in_err-flm.result ≡ Err c.in_err-flm.field-0.0 = search rules in
     rw is (fault_behind (g.I.Inputs.state c.take_optional.new.inputs) (option_to_list asked.flm ++ asked.images) r c.in_ok-board.ensures.takes.0
     c.in_ok-board.ensures.stands c.in_ok-board.ensures.takes.1
-    (fault_before (inputs_call g.I.Inputs.tells (g.I.Inputs.state c.take_one.new.inputs) (g.I.Inputs.state c.take_optional.new.inputs)) (option_to_list asked.flm)
+    (fault_before (inputs_call g.I.Inputs.tells (g.I.Inputs.state c.take_one.new.inputs) (g.I.Inputs.state c.take_optional.new.inputs))
+    (option_to_list asked.flm)
     asked.images r c.in_err-flm.ensures.takes))
 
 pub returns-in_err-images-clause-takes : goal.returns-in_err-images-clause-takes
@@ -53,7 +55,8 @@ returns-in_err-images-clause-takes g c =
     let is : c.from_residual-in_err-images.result ≡ Err c.in_err-images.field-0.0 = search rules in
     rw is (fault_behind (g.I.Inputs.state c.take_each.new.inputs) (option_to_list asked.flm ++ asked.images) r c.in_ok-board.ensures.takes.0
     c.in_ok-board.ensures.stands c.in_ok-board.ensures.takes.1
-    (fault_behind (g.I.Inputs.state c.take_each.new.inputs) asked.images r c.in_ok-flm.ensures.takes.0 c.in_ok-flm.ensures.stands c.in_ok-flm.ensures.takes.1 c.in_err-images.ensures.takes))
+    (fault_behind (g.I.Inputs.state c.take_each.new.inputs) asked.images r c.in_ok-flm.ensures.takes.0 c.in_ok-flm.ensures.stands c.in_ok-flm.ensures.takes.1
+    c.in_err-images.ensures.takes))
 
 pub returns-clause-takes : goal.returns-clause-takes
 returns-clause-takes g c = (

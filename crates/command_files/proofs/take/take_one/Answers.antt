@@ -7,7 +7,8 @@ use Rattle.command_files.proofs.take.take_one.Goals as goal
 
 pub returns-in-Ok-clause-takes : goal.returns-in-Ok-clause-takes
 returns-in-Ok-clause-takes g c = (
-  each_of_one (inputs_call g.I.Inputs.tells (g.I.Inputs.state c.args.inputs.now) (g.I.Inputs.state c.take.new.self)) c.args.name.now c.in-Ok.bytes (λ told. c.in-Ok.ensures.ok told),
+  each_of_one (inputs_call g.I.Inputs.tells (g.I.Inputs.state c.args.inputs.now) (g.I.Inputs.state c.take.new.self)) c.args.name.now c.in-Ok.bytes
+      (λ told. c.in-Ok.ensures.ok told),
   record { faults = c.in-Ok.ensures.cause; failed = c.in-Ok.ensures.remembers },
 )
 

@@ -34,11 +34,14 @@ pub returns-clause-reads : goal.returns-clause-reads
 returns-clause-reads g c =
     let files = bytes_of c.in_ok-files.files in
     let regions = c.in_ok-wanted.wanted.board.regions in
-    let there = has_file (inputs_call g.I.Inputs.tells (g.I.Inputs.state c.args.inputs.now) (g.I.Inputs.state c.take_files.new.inputs)) (files_of c.args.names.now)
+    let there = has_file (inputs_call g.I.Inputs.tells (g.I.Inputs.state c.args.inputs.now) (g.I.Inputs.state c.take_files.new.inputs))
+    (files_of c.args.names.now)
     files c.requires.has_flm c.in_ok-files.ensures.takes.0 in
     let count : length c.as_slice.result.now ≡ length regions = ap length c.as_slice.ensures in
-    let taken = taken_is files.images c.truncate.new.self.items c.pop.new.self.items (length c.as_slice.result.now - 1) c.pop.result c.truncate.ensures.items c.pop.ensures.items
-    (λ less. (c.pop.ensures.variant).1 (omega (arith, less))) (omega (arith, count, c.in_ok-wanted.wanted.board.few_regions)) (omega (arith, count, c.in_ok-wanted.ensures.are_read.board.enough there)) in
+    let taken = taken_is files.images c.truncate.new.self.items c.pop.new.self.items (length c.as_slice.result.now - 1) c.pop.result c.truncate.ensures.items
+    c.pop.ensures.items
+    (λ less. (c.pop.ensures.variant).1 (omega (arith, less))) (omega (arith, count, c.in_ok-wanted.wanted.board.few_regions))
+    (omega (arith, count, c.in_ok-wanted.ensures.are_read.board.enough there)) in
     record {
       given = record {
         files = files;
@@ -56,9 +59,12 @@ returns-clause-reads g c =
 pub returns-clause-short_second : goal.returns-clause-short_second
 returns-clause-short_second g c =
     let files = bytes_of c.in_ok-files.files in
-    let there = has_file (inputs_call g.I.Inputs.tells (g.I.Inputs.state c.args.inputs.now) (g.I.Inputs.state c.take_files.new.inputs)) (files_of c.args.names.now)
+    let there = has_file (inputs_call g.I.Inputs.tells (g.I.Inputs.state c.args.inputs.now) (g.I.Inputs.state c.take_files.new.inputs))
+    (files_of c.args.names.now)
     files c.requires.has_flm c.in_ok-files.ensures.takes.0 in
     let count : length c.as_slice.result.now ≡ length c.in_ok-wanted.wanted.board.regions = ap length c.as_slice.ensures in
-    let taken = taken_is files.images c.truncate.new.self.items c.pop.new.self.items (length c.as_slice.result.now - 1) c.pop.result c.truncate.ensures.items c.pop.ensures.items
-    (λ less. (c.pop.ensures.variant).1 (omega (arith, less))) (omega (arith, count, c.in_ok-wanted.wanted.board.few_regions)) (omega (arith, count, c.in_ok-wanted.ensures.are_read.board.enough there)) in
+    let taken = taken_is files.images c.truncate.new.self.items c.pop.new.self.items (length c.as_slice.result.now - 1) c.pop.result c.truncate.ensures.items
+    c.pop.ensures.items
+    (λ less. (c.pop.ensures.variant).1 (omega (arith, less))) (omega (arith, count, c.in_ok-wanted.wanted.board.few_regions))
+    (omega (arith, count, c.in_ok-wanted.ensures.are_read.board.enough there)) in
     one_short 67108864 files.images (length c.as_slice.result.now - 1) c.pop.result c.in_ok-files.ensures.short.images taken

@@ -1,5 +1,5 @@
 -- `read_files`: its contract, `ReadsFiles`, and what `read_algorithms`, `files_from`, `names_from` and `read_images` ask for.
-use Rattle.std.proofs.Common.{rules, ◌≡◌, ◌∙◌, sym, ap, subst, arith, ℕ, List, length, length-drop, map, take, drop, Err}
+use Rattle.std.proofs.Common.{rules, ◌≡◌, ◌∙◌, ap, subst, arith, ℕ, List, length, length-drop, map, take, drop, Err}
 use Rattle.std.proofs.lemmas.List.{length-take-le}
 use Rattle.board_file.specs.declared.region.Region.{Region}
 use Rattle.board_file.specs.Shown as board
@@ -45,7 +45,8 @@ returns-in_err-others c =
     let u = c.from_residual-in_err-others.ensures in
     let is : c.from_residual-in_err-others.result ≡ Err c.in_err-others.field-0.0 = search rules in
     let read = subst (λ (text : List ℕ). IsBoard text b) c.bytes.ensures c.in_ok-board.ensures in
-    rw is (names_refusal (files_of c.args.names.now) (bytes_of c.args.files.now) b read (shown c.in_err-others.field-0.0) c.in_err-others.ensures.err c.in_err-others.ensures.none)
+    rw is (names_refusal (files_of c.args.names.now) (bytes_of c.args.files.now) b read (shown c.in_err-others.field-0.0) c.in_err-others.ensures.err
+    c.in_err-others.ensures.none)
 
 pub returns-in_err-algorithms : goal.returns-in_err-algorithms
 returns-in_err-algorithms c =
@@ -69,7 +70,8 @@ returns-in_err-image c =
     let read = subst (λ (text : List ℕ). IsBoard text b) c.bytes.ensures c.in_ok-board.ensures in
     rw is (back_refusal (files_of c.args.names.now) (bytes_of c.args.files.now) b read others (take others images) c.files_from-rest.result.now
     c.in_ok-others.ensures.enough c.in_ok-others.ensures.count (ap (λ (l : List (List ℕ)). take others l) c.as_slice-images.ensures.value)
-    (c.files_from-rest.ensures ∙ ap (λ (l : List (List ℕ)). drop others l) c.as_slice-images.ensures.value) (map flm.shown c.in_ok-algorithms.algorithms.items) c.in_ok-algorithms.ensures
+    (c.files_from-rest.ensures ∙ ap (λ (l : List (List ℕ)). drop others l) c.as_slice-images.ensures.value) (map flm.shown c.in_ok-algorithms.algorithms.items)
+    c.in_ok-algorithms.ensures
     (names_of c.names_from-image_names.result) (shown c.in_err-image.field-0.0) c.names_from-image_names.ensures c.in_err-image.ensures)
 
 pub returns-in-Ok : goal.returns-in-Ok
@@ -80,7 +82,8 @@ returns-in-Ok c =
     let read = subst (λ (text : List ℕ). IsBoard text b) c.bytes.ensures c.in_ok-board.ensures in
     is_aim (files_of c.args.names.now) (bytes_of c.args.files.now) b read others (take others images) c.files_from-rest.result.now
     c.in_ok-others.ensures.enough c.in_ok-others.ensures.count (ap (λ (l : List (List ℕ)). take others l) c.as_slice-images.ensures.value)
-    (c.files_from-rest.ensures ∙ ap (λ (l : List (List ℕ)). drop others l) c.as_slice-images.ensures.value) (map flm.shown c.in_ok-algorithms.algorithms.items) c.in_ok-algorithms.ensures
+    (c.files_from-rest.ensures ∙ ap (λ (l : List (List ℕ)). drop others l) c.as_slice-images.ensures.value) (map flm.shown c.in_ok-algorithms.algorithms.items)
+    c.in_ok-algorithms.ensures
     c.in_ok-image.image c.in_ok-image.ensures
     (subst (λ (rs : List Region). LiesInside c.in_ok-image.image (ranges_of rs)) c.as_slice.ensures c.in-Ok.ensures.ok)
 
@@ -92,6 +95,7 @@ returns c =
     let read = subst (λ (text : List ℕ). IsBoard text b) c.bytes.ensures c.in_ok-board.ensures in
     is_misplaced (files_of c.args.names.now) (bytes_of c.args.files.now) b read others (take others images) c.files_from-rest.result.now
     c.in_ok-others.ensures.enough c.in_ok-others.ensures.count (ap (λ (l : List (List ℕ)). take others l) c.as_slice-images.ensures.value)
-    (c.files_from-rest.ensures ∙ ap (λ (l : List (List ℕ)). drop others l) c.as_slice-images.ensures.value) (map flm.shown c.in_ok-algorithms.algorithms.items) c.in_ok-algorithms.ensures
+    (c.files_from-rest.ensures ∙ ap (λ (l : List (List ℕ)). drop others l) c.as_slice-images.ensures.value) (map flm.shown c.in_ok-algorithms.algorithms.items)
+    c.in_ok-algorithms.ensures
     c.in_ok-image.image c.in_ok-image.ensures c.in-Err.fault
     (subst (λ (rs : List Region). IsPlaceFault c.in_ok-image.image (ranges_of rs) c.in-Err.fault) c.as_slice.ensures c.in-Err.ensures.refused)

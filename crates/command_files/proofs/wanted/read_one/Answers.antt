@@ -16,5 +16,6 @@ pub returns-in_err-check_algorithm : goal.returns-in_err-check_algorithm
 returns-in_err-check_algorithm c =
     let u = c.from_residual-in_err-check_algorithm.ensures in
     let is : c.from_residual-in_err-check_algorithm.result ≡ Err c.in_err-check_algorithm.field-0.0 = search rules in
-    rw is (unfit_one (board.shown c.args.board.now) c.args.region.now c.args.file.now (flm.shown c.in_ok-algorithm.algorithm) (shown c.in_err-check_algorithm.field-0.0)
+    rw is (unfit_one (board.shown c.args.board.now) c.args.region.now c.args.file.now (flm.shown c.in_ok-algorithm.algorithm)
+    (shown c.in_err-check_algorithm.field-0.0)
     c.in_ok-algorithm.ensures.ok c.in_err-check_algorithm.ensures)

@@ -1,0 +1,90 @@
+//! Which sectors and pages a list works on.
+ghost use Rattle.std.specs.Prelude.{◌≡◌, length, IfOk};
+ghost use Rattle.duty_trials.specs.Lists.{count_of};
+ghost use Rattle.duty_trials.specs.Subjects.{site_in};
+
+use duty_trials::{Subject, Work, mix};
+use faults::OutOfMemory;
+use std::alloc::Global;
+
+/// Where there are at most so many all are chosen.
+const ALL_UP_TO: u32 = 64;
+
+/// How many are chosen at random besides.
+const RANDOM: u64 = 16;
+
+/// Takes a number into a set, where it is one of its.
+fn take(set: &mut [bool], number: u32) {
+    let place = number as usize;
+    if place < set.len() {
+        set[place] = true;
+    }
+}
+
+/// Takes the sector or the page that has a place of the device, where one has it.
+fn take_at(subject: &Subject<'_>, work: Work, place: u32, set: &mut [bool]) {
+    let number = match work {
+        Work::Sectors => subject.geometry.sector_at(place),
+        Work::Chip => Some(0),
+        Work::Pages | Work::Checks => subject.geometry.page_at(place),
+    };
+    if let Some(number) = number {
+        take(set, number);
+    }
+}
+
+/// Takes the sectors or pages on both sides of a place.
+fn take_around(subject: &Subject<'_>, work: Work, place: u32, set: &mut [bool]) {
+    take_at(subject, work, place.wrapping_sub(1), set);
+    take_at(subject, work, place, set);
+}
+
+/// Takes those beside the places where the algorithm's sectors have another size.
+fn take_items(subject: &Subject<'_>, work: Work, set: &mut [bool]) {
+    for item in subject.algorithm.items.as_slice() {
+        take_around(subject, work, item.offset, set);
+    }
+}
+
+/// Takes those beside the places where the board's sectors have another size.
+fn take_runs(subject: &Subject<'_>, work: Work, set: &mut [bool]) {
+    let Some(region) = subject.board.regions.as_slice().get(subject.region) else {
+        return;
+    };
+    let mut place: u32 = 0;
+    for run in region.sectors.as_slice() {
+        place = place.wrapping_add(run.count.wrapping_mul(run.size));
+        take_around(subject, work, place, set);
+    }
+}
+
+/// Takes numbers at random.
+fn take_random(set: &mut [bool], seed: u64) {
+    let count = set.len() as u64;
+    if count == 0 {
+        return;
+    }
+    for turn in 0..RANDOM {
+        set[(mix(seed ^ turn) % count) as usize] = true;
+    }
+}
+
+/// The sectors or pages that a list works on: all of them where there are at most 64. Else the first and the last, those on both sides of
+/// each place where the algorithm's or the board's sectors have another size from there on, and 16 at random.
+pub fn choose(
+    alloc: Global,
+    subject: &Subject<'_>,
+    work: Work,
+    seed: u64,
+) -> Result<Vec<bool>, OutOfMemory>
+    ensures { IfOk result (λ set. length set.items ≡ count_of (site_in subject.now).layout work) }
+{
+    let count = subject.count(work);
+    let mut set = vec![in alloc; count <= ALL_UP_TO; count as usize]?;
+    if count > ALL_UP_TO {
+        take_items(subject, work, &mut set);
+        take_runs(subject, work, &mut set);
+        take_random(&mut set, seed);
+    }
+    Ok(set)
+}

@@ -1,0 +1,10 @@
+pub mod BeginLemmas
+pub mod ListLemmas
+pub mod IdealLemmas
+pub mod LoopLemmas
+pub mod SubjectLemmas
+pub mod TallyLemmas
+pub mod MakeLemmas
+pub mod TrialLemmas
+pub mod WatchLemmas
+pub mod WorkLemmas

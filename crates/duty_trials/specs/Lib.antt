@@ -1,0 +1,9 @@
+pub mod Lists
+pub mod Trials
+pub mod Stands
+pub mod Subjects
+pub mod Ended
+pub mod Fits
+pub mod Tallies
+pub mod Tried
+pub mod Watched

@@ -1,0 +1,22 @@
+//! Lists of calls of a flash algorithm, tried on a bench in memory against the duties of the algorithm.
+//!
+//! A `Subject` is an algorithm for a region of a board. A `Stand` is a target with it, over cells that are told. `Stand::try_list` makes the calls
+//! of a list, and compares each with what the ideal device does. Where it tells a breach, the algorithm doesn't keep its duties. Where it
+//! tells none, nothing more is said.
+#![tactic(auto)]
+
+mod ideal;
+mod law;
+mod list;
+mod stand;
+mod subject;
+mod tally;
+mod watch;
+mod works;
+
+pub use ideal::{Filling, PageBytes, fill, mix, random_byte};
+pub use law::a_breach_refutes;
+pub use list::{Ended, Turn, Work};
+pub use stand::{Breach, Stand};
+pub use subject::{Span, Subject};
+pub use tally::{Count, Tally};

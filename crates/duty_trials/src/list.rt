@@ -1,0 +1,69 @@
+//! Lists of calls.
+ghost use Rattle.std.specs.Prelude.{◌≡◌};
+
+use crate::stand::{Breach, Tried};
+
+/// What the calls of a list between Init and UnInit work on.
+#[derive(Clone, Copy, Debug, PartialEq, Eq)]
+pub enum Work {
+    /// Sectors, which are erased.
+    Sectors,
+    /// All sectors, which are erased by one call.
+    Chip,
+    /// Empty pages, which are programmed.
+    Pages,
+    /// Pages, which are verified.
+    Checks,
+}
+
+/// A call of a list.
+#[derive(Clone, Copy, Debug, PartialEq, Eq)]
+pub enum Turn {
+    /// The first.
+    Init,
+    /// The one that works on the sector or page of this number.
+    Member(u32),
+    /// The last.
+    UnInit,
+}
+
+/// What the trial of a list shows.
+#[derive(Clone, Copy, Debug, PartialEq, Eq)]
+pub enum Ended {
+    /// No breach was seen.
+    Kept,
+    /// A call broke its duty.
+    Broken(Turn, Breach),
+    /// The bench failed.
+    Fault,
+}
+
+impl Work {
+    ghost use Rattle.duty_trials.specs.Lists.{kind_in};
+
+    /// What Init and UnInit are told.
+    pub fn kind(self) -> u32
+        ensures { result ≡ kind_in self }
+    {
+        match self {
+            Work::Sectors | Work::Chip => 1,
+            Work::Pages => 2,
+            Work::Checks => 3,
+        }
+    }
+}
+
+impl Ended {
+    ghost use Rattle.duty_trials.specs.Ended.{ended_at};
+
+    /// The end of a list whose call at this turn was tried last.
+    pub(crate) fn at(turn: Turn, tried: Tried) -> Ended
+        ensures { result ≡ ended_at turn tried }
+    {
+        match tried {
+            Tried::Kept => Ended::Kept,
+            Tried::Broken(breach) => Ended::Broken(turn, breach),
+            Tried::Fault => Ended::Fault,
+        }
+    }
+}

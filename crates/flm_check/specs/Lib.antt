@@ -1,0 +1,7 @@
+pub mod Words
+pub mod Requested
+pub mod Target
+pub mod Steps
+pub mod Endings
+pub mod Verdicts
+pub mod Answers
