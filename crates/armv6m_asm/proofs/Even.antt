@@ -41,7 +41,8 @@ size_even (operations.Aimed aim t) at = aim_even aim
 
 end_even : (from : ℕ) (statements : List Statement) → from % 2 ≡ 0 → place_after from statements % 2 ≡ 0
 end_even from [] even = even
-end_even from (s ∷ statements) even = end_even (from + size_of s.operation from) statements (sum_even from (size_of s.operation from) even (size_even s.operation from))
+end_even from (s ∷ statements) even = end_even (from + size_of s.operation from) statements
+    (sum_even from (size_of s.operation from) even (size_even s.operation from))
 
 pads : (at : ℕ) (b : Bool) → at % 2 ≡ 0 → (at % 4 == 0) ≡ b → (at + length (cond b [] nop)) % 4 ≡ 0
 pads at true even is = let zero : at % 4 ≡ 0 = grind (arith, nat_tests) in omega arith
@@ -66,7 +67,8 @@ end_behind : (from : ℕ) (statements : List Statement) → from ≤ place_after
 end_behind from [] = omega arith
 end_behind from (s ∷ statements) = omega (arith, end_behind (from + size_of s.operation from) statements)
 
-labels_within : (from stop : ℕ) (statements : List Statement) → place_after from statements ≤ stop → All (λ (label : Label). label.place ≤ stop) (labels_of from statements)
+labels_within : (from stop : ℕ) (statements : List Statement) → place_after from statements ≤ stop →
+    All (λ (label : Label). label.place ≤ stop) (labels_of from statements)
 labels_within from stop [] within = All-nil (λ (label : Label). label.place ≤ stop)
 labels_within from stop (s ∷ statements) within =
     labels_more (λ (label : Label). label.place ≤ stop) s.label from (labels_of (from + size_of s.operation from) statements)

@@ -1,5 +1,6 @@
 -- A line has one statement at most.
-use Rattle.std.proofs.Common.{◌≡◌, ◌<◌, ◌≤◌, ◌+◌, ◌==◌, ◌∙◌, ◌⊎◌, ⊎_elim, inl, inr, sym, ap, subst, refl, ℕ, true, false, if◌then◌else◌, List, [], ◌∷◌, ◌++◌, get_or, drop, codes, Option, Some, None, arith}
+use Rattle.std.proofs.Common.{◌≡◌, ◌<◌, ◌≤◌, ◌+◌, ◌==◌, ◌∙◌, ◌⊎◌, ⊎_elim, inl, inr, sym, ap, subst, refl, ℕ, true, false, if◌then◌else◌, List, [], ◌∷◌, ◌++◌}
+use Rattle.std.proofs.Common.{get_or, drop, codes, Option, Some, None, arith}
 use Rattle.std.specs.Borrow.{Bor}
 use Rattle.std.specs.Str.Parse.{digits_value}
 use Rattle.armv6m_decode.specs.declared.instr.Instr.{Instr}
@@ -16,7 +17,8 @@ use Rattle.armv6m_forms.specs.declared.form.Aim.TheVariants as aims
 use Rattle.armv6m_forms.specs.declared.form.Form.TheVariants as forms
 use Rattle.armv6m_forms.specs.Form.{StandsFor}
 use Rattle.armv6m_forms.specs.Text.{text_of, aim_text, condition_text}
-use Rattle.armv6m_forms.proofs.RowLemmas.{row_of, row_is, one_for_each, with_field, row_immediate, row_one_immediate, row_two_immediate, row_base_list, row_updated_list}
+use Rattle.armv6m_forms.proofs.RowLemmas.{row_of, row_is, one_for_each, with_field, row_immediate, row_one_immediate, row_two_immediate, row_base_list}
+use Rattle.armv6m_forms.proofs.RowLemmas.{row_updated_list}
 use Rattle.armv6m_forms.proofs.TextLemmas.{one_mnemonic}
 use Rattle.armv6m_asm.specs.declared.statement.Target.{Target}
 use Rattle.armv6m_asm.specs.declared.statement.Target.TheVariants as targets
@@ -299,19 +301,22 @@ one_low a b token x y =
     let low = y.1 in
     one_register a b (omega arith) (omega arith) (let p = x.0 in let q = y.0 in cc)
 
-one_pair_load : (a b : ℕ) (to too : Target) (tokens : List Token) → Are (low_register a ∷ comma ∷ target to ∷ []) tokens → Are (low_register b ∷ comma ∷ target too ∷ []) tokens
+one_pair_load : (a b : ℕ) (to too : Target) (tokens : List Token) → Are (low_register a ∷ comma ∷ target to ∷ []) tokens →
+    Are (low_register b ∷ comma ∷ target too ∷ []) tokens
     → (aims.Load a ≡ aims.Load b) × AreAlikeTargets to too
 one_pair_load a b to too [] x y = absurd x
 one_pair_load a b to too (first ∷ []) x y = absurd x.1
 one_pair_load a b to too (first ∷ then_comma ∷ rest) x y = (ap aims.Load (one_low a b first x.0 y.0), one_last_target to too rest x.1.1 y.1.1)
 
-one_pair_address : (a b : ℕ) (to too : Target) (tokens : List Token) → Are (low_register a ∷ comma ∷ target to ∷ []) tokens → Are (low_register b ∷ comma ∷ target too ∷ []) tokens
+one_pair_address : (a b : ℕ) (to too : Target) (tokens : List Token) → Are (low_register a ∷ comma ∷ target to ∷ []) tokens →
+    Are (low_register b ∷ comma ∷ target too ∷ []) tokens
     → (aims.Address a ≡ aims.Address b) × AreAlikeTargets to too
 one_pair_address a b to too [] x y = absurd x
 one_pair_address a b to too (first ∷ []) x y = absurd x.1
 one_pair_address a b to too (first ∷ then_comma ∷ rest) x y = (ap aims.Address (one_low a b first x.0 y.0), one_last_target to too rest x.1.1 y.1.1)
 
-one_aimed : (one other : Aim) (to too : Target) (bytes : List ℕ) (rest : List Token) → key one ≡ key other → AreAimed one to (word bytes ∷ rest) → AreAimed other too (word bytes ∷ rest)
+one_aimed : (one other : Aim) (to too : Target) (bytes : List ℕ) (rest : List Token) → key one ≡ key other → AreAimed one to (word bytes ∷ rest) →
+    AreAimed other too (word bytes ∷ rest)
     → (one ≡ other) × AreAlikeTargets to too
 unfolding key
 one_aimed aims.Branch aims.Branch to too bytes rest same x y = (refl, one_last_target to too rest x.1 y.1)
@@ -320,7 +325,8 @@ one_aimed aims.Branch aims.BranchLink to too bytes rest same x y = absurd (omega
 one_aimed aims.Branch (aims.Load d) to too bytes rest same x y = absurd (omega (arith, same))
 one_aimed aims.Branch (aims.Address d) to too bytes rest same x y = absurd (omega (arith, same))
 one_aimed (aims.BranchIf c) aims.Branch to too bytes rest same x y = absurd (omega (arith, same))
-one_aimed (aims.BranchIf c) (aims.BranchIf d) to too bytes rest same x y = (ap aims.BranchIf (one_condition c d (omega (arith, same))), one_last_target to too rest x.1 y.1)
+one_aimed (aims.BranchIf c) (aims.BranchIf d) to too bytes rest same x y =
+    (ap aims.BranchIf (one_condition c d (omega (arith, same))), one_last_target to too rest x.1 y.1)
 one_aimed (aims.BranchIf c) aims.BranchLink to too bytes rest same x y = absurd (omega (arith, same))
 one_aimed (aims.BranchIf c) (aims.Load d) to too bytes rest same x y = absurd (omega (arith, same))
 one_aimed (aims.BranchIf c) (aims.Address d) to too bytes rest same x y = absurd (omega (arith, same))
@@ -375,7 +381,8 @@ load_row (operands.FromSpecial d s) i is t to tokens x y = absurd (cc)
 load_row (operands.ToSpecial s n) i is t to tokens x y = absurd (cc)
 
 -- an instruction without a target is none with one
-plain_or_aimed : (instr : Instr) (aim : Aim) (to : Target) (bytes : List ℕ) (rest : List Token) → ArePlain instr (word bytes ∷ rest) → AreAimed aim to (word bytes ∷ rest) → ⊥
+plain_or_aimed : (instr : Instr) (aim : Aim) (to : Target) (bytes : List ℕ) (rest : List Token) → ArePlain instr (word bytes ∷ rest) →
+    AreAimed aim to (word bytes ∷ rest) → ⊥
 unfolding key
 plain_or_aimed instr aim to bytes rest plain aimed = ⊎_elim
     (λ (ldr : plain.mnemonic ≡ mnemonics.Ldr). is_load aim aimed ldr)
@@ -393,10 +400,16 @@ plain_or_aimed instr aim to bytes rest plain aimed = ⊎_elim
 
       is_load : (aim : Aim) → AreAimed aim to (word bytes ∷ rest) → plain.mnemonic ≡ mnemonics.Ldr → ⊥
       is_load aims.Branch aimed ldr = omega (arith, aimed_key aims.Branch to bytes rest aimed, ap key_of (text ∙ ap text_of ldr), load_key)
-      is_load (aims.BranchIf condition) aimed ldr = omega (arith, aimed_key (aims.BranchIf condition) to bytes rest aimed, ap key_of (text ∙ ap text_of ldr), load_key)
+      is_load (aims.BranchIf condition) aimed ldr = omega (
+        arith,
+        aimed_key (aims.BranchIf condition) to bytes rest aimed,
+        ap key_of (text ∙ ap text_of ldr),
+        load_key,
+      )
       is_load aims.BranchLink aimed ldr = omega (arith, aimed_key aims.BranchLink to bytes rest aimed, ap key_of (text ∙ ap text_of ldr), load_key)
       is_load (aims.Load t) aimed ldr =
-          load_row plain.operands instr (row_is instr 0 (forms.Plain mnemonics.Ldr plain.operands) (subst (λ (m : Mnemonic). StandsFor instr 0 (forms.Plain m plain.operands)) ldr (plain.stands 0)))
+          load_row plain.operands instr (row_is instr 0 (forms.Plain mnemonics.Ldr plain.operands)
+          (subst (λ (m : Mnemonic). StandsFor instr 0 (forms.Plain m plain.operands)) ldr (plain.stands 0)))
           t to rest plain.spelled.1 aimed.1
       is_load (aims.Address d) aimed ldr = omega (arith, aimed_key (aims.Address d) to bytes rest aimed, ap key_of (text ∙ ap text_of ldr), load_key)
 
@@ -405,7 +418,8 @@ one_plain one other bytes rest x y =
     let mnemonic : x.mnemonic ≡ y.mnemonic = one_mnemonic x.mnemonic y.mnemonic (let p = x.spelled.0 in let q = y.spelled.0 in cc) in
     let spelled : x.operands ≡ y.operands = one_spelling x.operands y.operands rest x.spelled.1 y.spelled.1 in
     one_for_each one other 0 (forms.Plain y.mnemonic y.operands)
-    (subst (λ (o : Operands). StandsFor one 0 (forms.Plain y.mnemonic o)) spelled (subst (λ (m : Mnemonic). StandsFor one 0 (forms.Plain m x.operands)) mnemonic (x.stands 0)))
+    (subst (λ (o : Operands). StandsFor one 0 (forms.Plain y.mnemonic o)) spelled
+    (subst (λ (m : Mnemonic). StandsFor one 0 (forms.Plain m x.operands)) mnemonic (x.stands 0)))
     (y.stands 0)
 
 one_value : (a b : ℕ) (tokens : List Token) → Are (number a ∷ []) tokens → Are (number b ∷ []) tokens → a ≡ b
@@ -414,7 +428,8 @@ one_value a b (word bytes ∷ rest) x y = let p = number_in-number bytes a x.0 i
 one_value a b (mark byte ∷ rest) x y = absurd x.0
 
 -- operations of one sort, of tokens that begin with a word
-by_word : (one other : Operation) (bytes : List ℕ) (rest : List Token) → sort_of one ≡ sort_of other → AreOperation one (word bytes ∷ rest) → AreOperation other (word bytes ∷ rest)
+by_word : (one other : Operation) (bytes : List ℕ) (rest : List Token) → sort_of one ≡ sort_of other → AreOperation one (word bytes ∷ rest) →
+    AreOperation other (word bytes ∷ rest)
     → AreAlikeOperations one other
 unfolding sort_of
 by_word operations.Nothing operations.Nothing bytes rest same x y = tt
@@ -441,7 +456,8 @@ by_word (operations.Aimed a to) operations.Nothing bytes rest same x y = absurd 
 by_word (operations.Aimed a to) (operations.Word b) bytes rest same x y = absurd (omega (arith, same))
 by_word (operations.Aimed a to) operations.Align bytes rest same x y = absurd (omega (arith, same))
 by_word (operations.Aimed a to) (operations.Plain b) bytes rest same x y = absurd (plain_or_aimed b a to bytes rest y x)
-by_word (operations.Aimed a to) (operations.Aimed b too) bytes rest same x y = one_aimed a b to too bytes rest (sym (aimed_key a to bytes rest x) ∙ aimed_key b too bytes rest y) x y
+by_word (operations.Aimed a to) (operations.Aimed b too) bytes rest same x y =
+    one_aimed a b to too bytes rest (sym (aimed_key a to bytes rest x) ∙ aimed_key b too bytes rest y) x y
 
 none_of_none : (operation : Operation) → sort_of operation ≡ 0 → operation ≡ operations.Nothing
 unfolding sort_of
@@ -478,7 +494,8 @@ no_label_too label one other (first ∷ second ∷ rest) x y =
     no_colon label.now rest one (subst (λ (t : Token). AreOperation one (word label.now ∷ t ∷ rest)) y.1.0
     (subst (λ (t : Token). AreOperation one (t ∷ second ∷ rest)) y.0.0 x))
 
-one_statement_of : (label too : Option (Bor (List ℕ))) (one other : Operation) (tokens : List Token) → AreStatement label one tokens → AreStatement too other tokens
+one_statement_of : (label too : Option (Bor (List ℕ))) (one other : Operation) (tokens : List Token) → AreStatement label one tokens →
+    AreStatement too other tokens
     → AreAlikeLabels label too × AreAlikeOperations one other
 one_statement_of None None one other tokens x y = (tt, one_operation one other tokens x y)
 one_statement_of None (Some b) one other tokens x y = absurd (no_label_too b one other tokens x y)

@@ -1,5 +1,7 @@
 -- Lemmas on lists of registers.
-use Rattle.std.proofs.Common.{◌≡◌, ◌≢◌, ◌<◌, ◌+◌, ◌*◌, ◌/◌, ◌%◌, ◌^◌, ◌==◌, ◌∙◌, ℕ, zero, suc, max, Bool, true, false, if◌then◌else◌, List, [], ◌∷◌, ◌++◌, length, map, Option, Some, None, option_and_then, ap, sym, subst, refl, arith, nat_eq, eq-eqb, ne_eqb, bit_or, All, sum_by, fold, zero-mul}
+use Rattle.std.proofs.Common.{◌≡◌, ◌≢◌, ◌<◌, ◌+◌, ◌*◌, ◌/◌, ◌%◌, ◌^◌, ◌==◌, ◌∙◌, ℕ, zero, suc, max, Bool, true, false, if◌then◌else◌, List, [], ◌∷◌, ◌++◌}
+use Rattle.std.proofs.Common.{length, map, Option, Some, None, option_and_then, ap, sym, subst, refl, arith, nat_eq, eq-eqb, ne_eqb, bit_or, All, sum_by, fold}
+use Rattle.std.proofs.Common.{zero-mul}
 use Rattle.std.specs.List.{AllByRecursion, IsDistinct, flat_map}
 use Rattle.std.specs.Int.{bit_at}
 use Rattle.std.proofs.lemmas.Nat.{or_disjoint}
@@ -7,7 +9,8 @@ use Rattle.std.proofs.lemmas.Nat.Bits.{bit_at-lt, bit_at_or, and_pow, bit_at-pow
 use Rattle.armv6m_alu.specs.Bits.{is_bit_set}
 use Rattle.armv6m_forms.specs.Text.{register_text}
 use Rattle.armv6m_asm.specs.declared.symbol.Symbol.{Symbol}
-use Rattle.armv6m_asm.specs.declared.symbol.Symbol.TheVariants.{Register, Special, Number, Interrupts, Comma, Hash, Exclamation, OpenBracket, CloseBracket, OpenBrace, CloseBrace, Other}
+use Rattle.armv6m_asm.specs.declared.symbol.Symbol.TheVariants.{Register, Special, Number, Interrupts, Comma, Hash, Exclamation, OpenBracket, CloseBracket}
+use Rattle.armv6m_asm.specs.declared.symbol.Symbol.TheVariants.{OpenBrace, CloseBrace, Other}
 use Rattle.armv6m_asm.specs.Token.{Token, word, mark}
 use Rattle.armv6m_asm.specs.Statement.{register, list_tokens, AreList}
 use Rattle.armv6m_asm.specs.Reading.{register_in, with_one_more, is_comma, ends_list, list_of, symbol_of}
@@ -20,11 +23,50 @@ Fits_more list r = list < 65536 → list / 2 ^ r % 2 ≡ 0 → list + 1 * 2 ^ r 
 -- a list keeps to sixteen bits when a register that isn't there yet comes in
 pub fits_more : (list r : ℕ) → r < 16 → list < 65536 → list / 2 ^ r % 2 ≡ 0 → list + 1 * 2 ^ r % 65536 < 65536
 unfolding Fits_more
-fits_more list = each_register (Fits_more list)
-    ((λ fits bit. omega arith), ((λ fits bit. omega arith), ((λ fits bit. omega arith), ((λ fits bit. omega arith), ((λ fits bit. omega arith), ((λ fits bit. omega arith), ((λ fits bit. omega arith), ((λ fits bit. omega arith), ((λ fits bit. omega arith), ((λ fits bit. omega arith), ((λ fits bit. omega arith), ((λ fits bit. omega arith), ((λ fits bit. omega arith), ((λ fits bit. omega arith), ((λ fits bit. omega arith), ((λ fits bit. omega arith), tt))))))))))))))))
+fits_more list = each_register (Fits_more list) (
+  (λ fits bit. omega arith),
+  (
+    (λ fits bit. omega arith),
+    (
+      (λ fits bit. omega arith),
+      (
+        (λ fits bit. omega arith),
+        (
+          (λ fits bit. omega arith),
+          (
+            (λ fits bit. omega arith),
+            (
+              (λ fits bit. omega arith),
+              (
+                (λ fits bit. omega arith),
+                (
+                  (λ fits bit. omega arith),
+                  (
+                    (λ fits bit. omega arith),
+                    (
+                      (λ fits bit. omega arith),
+                      (
+                        (λ fits bit. omega arith),
+                        (
+                          (λ fits bit. omega arith),
+                          ((λ fits bit. omega arith), ((λ fits bit. omega arith), ((λ fits bit. omega arith), tt))),
+                        ),
+                      ),
+                    ),
+                  ),
+                ),
+              ),
+            ),
+          ),
+        ),
+      ),
+    ),
+  ),
+)
 
 -- a register and a comma
-pub list_of-more : (list more : ℕ) (symbols : List Symbol) (register next : Symbol) (behind rest : List Symbol) → symbols ≡ register ∷ behind → behind ≡ next ∷ rest
+pub list_of-more : (list more : ℕ) (symbols : List Symbol) (register next : Symbol) (behind rest : List Symbol) → symbols ≡ register ∷ behind →
+    behind ≡ next ∷ rest
     → next ≡ Comma → with_one_more list (register_in register) ≡ Some more → list_of list symbols ≡ list_of more rest
 unfolding list_of
 list_of-more list more symbols register next behind rest first second comma is = rw (first, second, comma, is) refl
@@ -132,8 +174,14 @@ list_of-list list tokens is = at is.registers is.some is.each is.once is.list_is
       → tokens ≡ mark 123 ∷ (list_tokens registers ++ mark 125 ∷ [])
       → (rest : List Token) × ((tokens ≡ mark 123 ∷ rest) × (list_of 0 (map symbol_of rest) ≡ Some list))
   at [] some each once sum tokens_are = absurd (omega arith)
-  at (r ∷ registers) some each once sum tokens_are =
-      (behind_brace r registers, (tokens_are, list_of-registers registers r 0 (below_from (r ∷ registers) each) once (zero_clear (r ∷ registers)) ∙ ap Some (sym sum)))
+  at (r ∷ registers) some each once sum tokens_are = (
+    behind_brace r registers,
+    (
+      tokens_are,
+      list_of-registers registers r 0 (below_from (r ∷ registers) each) once (zero_clear (r ∷ registers)) ∙
+          ap Some (sym sum),
+    ),
+  )
 
 -- ---- from the function to the definition
 
@@ -201,7 +249,8 @@ with_bit : (v : Bool) (sum more : ℕ) → (if v then None else Some sum) ≡ So
 with_bit true sum more is = absurd (cc)
 with_bit false sum more is = (refl, (let same : more ≡ sum = cc in same))
 
-new_from : (before more : ℕ) (token : Token) (found : Option ℕ) → register_in (symbol_of token) ≡ found → with_one_more before found ≡ Some more → IsNew before more token
+new_from : (before more : ℕ) (token : Token) (found : Option ℕ) → register_in (symbol_of token) ≡ found → with_one_more before found ≡ Some more →
+    IsNew before more token
 new_from before more token None there is = absurd (cc)
 new_from before more token (Some r) there is =
     let it = with_bit (is_bit_set before r) (before + 2 ^ r) more is in
@@ -240,13 +289,15 @@ no_tokens [] is = refl
 no_tokens (token ∷ rest) is = absurd (cc)
 
 -- by what stands behind the first register
-split : (comma close : Bool) (before list : ℕ) (token next : Token) (rest : List Token) → is_comma (symbol_of next) ≡ comma → ends_list (symbol_of next ∷ map symbol_of rest) ≡ close
+split : (comma close : Bool) (before list : ℕ) (token next : Token) (rest : List Token) → is_comma (symbol_of next) ≡ comma →
+    ends_list (symbol_of next ∷ map symbol_of rest) ≡ close
     → ((more : ℕ) → list_of more (map symbol_of rest) ≡ Some list → HasRegisters more list rest)
     → (if comma then option_and_then (λ more. list_of more (map symbol_of rest)) (with_one_more before (register_in (symbol_of token)))
     else if close then with_one_more before (register_in (symbol_of token)) else None) ≡ Some list
     → HasRegisters before list (token ∷ next ∷ rest)
 split true close before list token next rest is_c is_e later is = at (with_one_more before (register_in (symbol_of token))) refl is where
-  at : (made : Option ℕ) → with_one_more before (register_in (symbol_of token)) ≡ made → option_and_then (λ more. list_of more (map symbol_of rest)) made ≡ Some list
+  at : (made : Option ℕ) → with_one_more before (register_in (symbol_of token)) ≡ made →
+      option_and_then (λ more. list_of more (map symbol_of rest)) made ≡ Some list
       → HasRegisters before list (token ∷ next ∷ rest)
   at None made is = absurd (cc)
   at (Some more) made is =
@@ -263,9 +314,11 @@ unfolding list_of
 has_registers [] before list is = absurd (cc)
 has_registers (token ∷ []) before list is = absurd (cc)
 has_registers (token ∷ next ∷ rest) before list is =
-    split (is_comma (symbol_of next)) (ends_list (symbol_of next ∷ map symbol_of rest)) before list token next rest refl refl (λ more. has_registers rest more list) is
+    split (is_comma (symbol_of next)) (ends_list (symbol_of next ∷ map symbol_of rest)) before list token next rest refl refl
+    (λ more. has_registers rest more list) is
 
-pub list_of-is : (list : ℕ) (brace : Token) (tokens : List Token) → brace ≡ mark 123 → list_of 0 (map symbol_of tokens) ≡ Some list → AreList list (brace ∷ tokens)
+pub list_of-is : (list : ℕ) (brace : Token) (tokens : List Token) → brace ≡ mark 123 → list_of 0 (map symbol_of tokens) ≡ Some list →
+    AreList list (brace ∷ tokens)
 list_of-is list brace tokens begins is =
     let has = has_registers tokens 0 list is in
     record {

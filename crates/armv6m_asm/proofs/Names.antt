@@ -22,17 +22,21 @@ once_more names name once new =
     (λ k d lt same. new (k, lt, (let at : get_or names k name ≡ get_or names k d = get_or_default names k name d lt in at) ∙ same))
 
 -- one label more that has another name
-pub not_yet : (labels : List Label) (k : ℕ) (d : Label) (name : List ℕ) → k < length labels → (Contains (names_of (take k labels)) name → ⊥) → (get_or labels k d).name ≢ name → Contains (names_of (take (k + 1) labels)) name → ⊥
+pub not_yet : (labels : List Label) (k : ℕ) (d : Label) (name : List ℕ) → k < length labels → (Contains (names_of (take k labels)) name → ⊥) →
+    (get_or labels k d).name ≢ name → Contains (names_of (take (k + 1) labels)) name → ⊥
 not_yet labels k d name lt before other here =
     let more : names_of (take (k + 1) labels) ≡ names_of (take k labels) ++ (get_or labels k d).name ∷ [] = map_more (λ (l : Label). l.name) labels k d lt in
-    elim (Contains-push_cases (names_of (take k labels)) (get_or labels k d).name name (subst (λ (ns : List (List ℕ)). Contains ns name) more here)) [ inl b ↦ before b | inr e ↦ other e ]
+    elim (Contains-push_cases (names_of (take k labels)) (get_or labels k d).name name (subst (λ (ns : List (List ℕ)). Contains ns name) more here))
+    [ inl b ↦ before b | inr e ↦ other e ]
 
 -- a label with the name, and none before it
-pub first_named : (labels : List Label) (k : ℕ) (d : Label) (name : List ℕ) → k < length labels → (Contains (names_of (take k labels)) name → ⊥) → d ≡ get_or labels k d → d.name ≡ name → IsFirstNamed labels name d.place
+pub first_named : (labels : List Label) (k : ℕ) (d : Label) (name : List ℕ) → k < length labels → (Contains (names_of (take k labels)) name → ⊥) →
+    d ≡ get_or labels k d → d.name ≡ name → IsFirstNamed labels name d.place
 first_named labels k d name lt none here same =
     record {
       before = take k labels;
       after = drop (k + 1) labels;
-      labels_are = split_at labels k d lt ∙ ap (λ (l : Label). take k labels ++ l ∷ drop (k + 1) labels) (sym here ∙ ap (λ (n : List ℕ). record { name = n; place = d.place }) same);
+      labels_are = split_at labels k d lt ∙ ap (λ (l : Label). take k labels ++ l ∷ drop (k + 1) labels)
+          (sym here ∙ ap (λ (n : List ℕ). record { name = n; place = d.place }) same);
       first = none;
     }

@@ -7,7 +7,8 @@ use Rattle.armv6m_asm.specs.declared.symbol.Symbol.TheVariants.{OpenBrace}
 use Rattle.armv6m_asm.specs.Token.{Token, mark, tokens_of}
 use Rattle.armv6m_asm.specs.Statement.{Begin, Are, AreNone, AreList, Spell}
 use Rattle.armv6m_asm.specs.Reading.{list_of, operands_of, symbol_of, symbols_of}
-use Rattle.armv6m_asm.proofs.SymbolLemmas.{Stands, Stands-register, Stands-special, Stands-number, Stands-interrupts, Stands-comma, Stands-hash, Stands-exclamation, Stands-open_bracket, Stands-close_bracket, Stands-open_brace}
+use Rattle.armv6m_asm.proofs.SymbolLemmas.{Stands, Stands-register, Stands-special, Stands-number, Stands-interrupts, Stands-comma, Stands-hash}
+use Rattle.armv6m_asm.proofs.SymbolLemmas.{Stands-exclamation, Stands-open_bracket, Stands-close_bracket, Stands-open_brace}
 use Rattle.armv6m_asm.proofs.SpelledLemmas.{Spelled, operands_of-spelled, operands_of-is}
 use Rattle.armv6m_asm.proofs.ListLemmas.{list_of-list, list_of-is}
 
@@ -55,10 +56,17 @@ list_is : {kinds : List (Token → Type 0)} {symbols : List Symbol} (list : ℕ)
     → Begin kinds (AreList list) tokens → (rest : List Symbol) × ((map symbol_of tokens ≡ symbols ++ OpenBrace ∷ rest) × (list_of 0 rest ≡ Some list))
 list_is {symbols = symbols} list tokens fit is =
     let (rest, (listed, all)) = begin_is (AreList list) tokens fit is in
-    let (behind, (brace, made)) = list_of-list list rest listed in
-    (map symbol_of behind, (all ∙ ap (λ (r : List Symbol). symbols ++ r) (ap (map symbol_of) brace ∙ ap (λ (s : Symbol). s ∷ map symbol_of behind) (Stands-open_brace.is (mark 123) refl)), made))
+    let (behind, (brace, made)) = list_of-list list rest listed in (
+      map symbol_of behind,
+      (
+        all ∙ ap (λ (r : List Symbol). symbols ++ r)
+            (ap (map symbol_of) brace ∙ ap (λ (s : Symbol). s ∷ map symbol_of behind) (Stands-open_brace.is (mark 123) refl)),
+        made,
+      ),
+    )
 
-listed_tokens : (list : ℕ) (tokens : List Token) (rest : List Symbol) → list_of 0 rest ≡ Some list → map symbol_of tokens ≡ OpenBrace ∷ rest → AreList list tokens
+listed_tokens : (list : ℕ) (tokens : List Token) (rest : List Symbol) → list_of 0 rest ≡ Some list → map symbol_of tokens ≡ OpenBrace ∷ rest →
+    AreList list tokens
 listed_tokens list [] rest listed is = absurd (cc)
 listed_tokens list (brace ∷ tokens) rest listed is =
     let same : map symbol_of tokens ≡ rest = cc in
@@ -73,15 +81,26 @@ unfolding Spelled
 spelled_is operands.None tokens is = are_is tokens done is
 spelled_is (operands.One m) tokens is = are_is tokens (then_one (Stands-register m) done) is
 spelled_is (operands.Two d m) tokens is = are_is tokens (then_one (Stands-register d) (then_one Stands-comma (then_one (Stands-register m) done))) is
-spelled_is (operands.Three d n m) tokens is = are_is tokens (then_one (Stands-register d) (then_one Stands-comma (then_one (Stands-register n) (then_one Stands-comma (then_one (Stands-register m) done))))) is
+spelled_is (operands.Three d n m) tokens is = are_is tokens (then_one (Stands-register d)
+    (then_one Stands-comma (then_one (Stands-register n) (then_one Stands-comma (then_one (Stands-register m) done))))) is
 spelled_is (operands.Immediate v) tokens is = are_is tokens (then_one Stands-hash (then_one (Stands-number v) done)) is
-spelled_is (operands.OneImmediate d v) tokens is = are_is tokens (then_one (Stands-register d) (then_one Stands-comma (then_one Stands-hash (then_one (Stands-number v) done)))) is
-spelled_is (operands.TwoImmediate d n v) tokens is = are_is tokens (then_one (Stands-register d) (then_one Stands-comma (then_one (Stands-register n) (then_one Stands-comma (then_one Stands-hash (then_one (Stands-number v) done)))))) is
-spelled_is (operands.ByRegister t n m) tokens is = are_is tokens (then_one (Stands-register t) (then_one Stands-comma (then_one Stands-open_bracket (then_one (Stands-register n) (then_one Stands-comma (then_one (Stands-register m) (then_one Stands-close_bracket done))))))) is
-spelled_is (operands.ByOffset t n v) tokens is = are_is tokens (then_one (Stands-register t) (then_one Stands-comma (then_one Stands-open_bracket (then_one (Stands-register n) (then_one Stands-comma (then_one Stands-hash (then_one (Stands-number v) (then_one Stands-close_bracket done)))))))) is
+spelled_is (operands.OneImmediate d v) tokens is = are_is tokens
+    (then_one (Stands-register d) (then_one Stands-comma (then_one Stands-hash (then_one (Stands-number v) done)))) is
+spelled_is (operands.TwoImmediate d n v) tokens is = are_is tokens
+    (then_one (Stands-register d) (then_one Stands-comma (then_one (Stands-register n)
+    (then_one Stands-comma (then_one Stands-hash (then_one (Stands-number v) done)))))) is
+spelled_is (operands.ByRegister t n m) tokens is = are_is tokens
+    (then_one (Stands-register t) (then_one Stands-comma (then_one Stands-open_bracket
+    (then_one (Stands-register n) (then_one Stands-comma (then_one (Stands-register m) (then_one Stands-close_bracket done))))))) is
+spelled_is (operands.ByOffset t n v) tokens is = are_is tokens
+    (then_one (Stands-register t) (then_one Stands-comma (then_one Stands-open_bracket
+    (then_one (Stands-register n) (then_one Stands-comma (then_one Stands-hash (then_one (Stands-number v) (then_one Stands-close_bracket done)))))))) is
 spelled_is (operands.List list) tokens is = let it = list_is list tokens done is in record { rest = it.0; symbols_are = it.1.0; listed = it.1.1 }
-spelled_is (operands.BaseList n list) tokens is = let it = list_is list tokens (then_one (Stands-register n) (then_one Stands-comma done)) is in record { rest = it.0; symbols_are = it.1.0; listed = it.1.1 }
-spelled_is (operands.UpdatedList n list) tokens is = let it = list_is list tokens (then_one (Stands-register n) (then_one Stands-exclamation (then_one Stands-comma done))) is in record { rest = it.0; symbols_are = it.1.0; listed = it.1.1 }
+spelled_is (operands.BaseList n list) tokens is = let it = list_is list tokens (then_one (Stands-register n) (then_one Stands-comma done)) is in
+    record { rest = it.0; symbols_are = it.1.0; listed = it.1.1 }
+spelled_is (operands.UpdatedList n list) tokens is = let it =
+    list_is list tokens (then_one (Stands-register n) (then_one Stands-exclamation (then_one Stands-comma done))) is in
+    record { rest = it.0; symbols_are = it.1.0; listed = it.1.1 }
 spelled_is operands.Interrupts tokens is = are_is tokens (then_one Stands-interrupts done) is
 spelled_is (operands.FromSpecial d s) tokens is = are_is tokens (then_one (Stands-register d) (then_one Stands-comma (then_one (Stands-special s) done))) is
 spelled_is (operands.ToSpecial s n) tokens is = are_is tokens (then_one (Stands-special s) (then_one Stands-comma (then_one (Stands-register n) done))) is
@@ -91,15 +110,25 @@ unfolding Spelled
 is_spelled operands.None tokens is = is_are tokens done is
 is_spelled (operands.One m) tokens is = is_are tokens (then_one (Stands-register m) done) is
 is_spelled (operands.Two d m) tokens is = is_are tokens (then_one (Stands-register d) (then_one Stands-comma (then_one (Stands-register m) done))) is
-is_spelled (operands.Three d n m) tokens is = is_are tokens (then_one (Stands-register d) (then_one Stands-comma (then_one (Stands-register n) (then_one Stands-comma (then_one (Stands-register m) done))))) is
+is_spelled (operands.Three d n m) tokens is = is_are tokens (then_one (Stands-register d)
+    (then_one Stands-comma (then_one (Stands-register n) (then_one Stands-comma (then_one (Stands-register m) done))))) is
 is_spelled (operands.Immediate v) tokens is = is_are tokens (then_one Stands-hash (then_one (Stands-number v) done)) is
-is_spelled (operands.OneImmediate d v) tokens is = is_are tokens (then_one (Stands-register d) (then_one Stands-comma (then_one Stands-hash (then_one (Stands-number v) done)))) is
-is_spelled (operands.TwoImmediate d n v) tokens is = is_are tokens (then_one (Stands-register d) (then_one Stands-comma (then_one (Stands-register n) (then_one Stands-comma (then_one Stands-hash (then_one (Stands-number v) done)))))) is
-is_spelled (operands.ByRegister t n m) tokens is = is_are tokens (then_one (Stands-register t) (then_one Stands-comma (then_one Stands-open_bracket (then_one (Stands-register n) (then_one Stands-comma (then_one (Stands-register m) (then_one Stands-close_bracket done))))))) is
-is_spelled (operands.ByOffset t n v) tokens is = is_are tokens (then_one (Stands-register t) (then_one Stands-comma (then_one Stands-open_bracket (then_one (Stands-register n) (then_one Stands-comma (then_one Stands-hash (then_one (Stands-number v) (then_one Stands-close_bracket done)))))))) is
+is_spelled (operands.OneImmediate d v) tokens is = is_are tokens
+    (then_one (Stands-register d) (then_one Stands-comma (then_one Stands-hash (then_one (Stands-number v) done)))) is
+is_spelled (operands.TwoImmediate d n v) tokens is = is_are tokens
+    (then_one (Stands-register d) (then_one Stands-comma (then_one (Stands-register n)
+    (then_one Stands-comma (then_one Stands-hash (then_one (Stands-number v) done)))))) is
+is_spelled (operands.ByRegister t n m) tokens is = is_are tokens
+    (then_one (Stands-register t) (then_one Stands-comma (then_one Stands-open_bracket
+    (then_one (Stands-register n) (then_one Stands-comma (then_one (Stands-register m) (then_one Stands-close_bracket done))))))) is
+is_spelled (operands.ByOffset t n v) tokens is = is_are tokens
+    (then_one (Stands-register t) (then_one Stands-comma (then_one Stands-open_bracket
+    (then_one (Stands-register n) (then_one Stands-comma (then_one Stands-hash (then_one (Stands-number v) (then_one Stands-close_bracket done)))))))) is
 is_spelled (operands.List list) tokens is = is_list list tokens is.rest done is.symbols_are is.listed
-is_spelled (operands.BaseList n list) tokens is = is_list list tokens is.rest (then_one (Stands-register n) (then_one Stands-comma done)) is.symbols_are is.listed
-is_spelled (operands.UpdatedList n list) tokens is = is_list list tokens is.rest (then_one (Stands-register n) (then_one Stands-exclamation (then_one Stands-comma done))) is.symbols_are is.listed
+is_spelled (operands.BaseList n list) tokens is = is_list list tokens is.rest (then_one (Stands-register n) (then_one Stands-comma done)) is.symbols_are
+    is.listed
+is_spelled (operands.UpdatedList n list) tokens is = is_list list tokens is.rest
+    (then_one (Stands-register n) (then_one Stands-exclamation (then_one Stands-comma done))) is.symbols_are is.listed
 is_spelled operands.Interrupts tokens is = is_are tokens (then_one Stands-interrupts done) is
 is_spelled (operands.FromSpecial d s) tokens is = is_are tokens (then_one (Stands-register d) (then_one Stands-comma (then_one (Stands-special s) done))) is
 is_spelled (operands.ToSpecial s n) tokens is = is_are tokens (then_one (Stands-special s) (then_one Stands-comma (then_one (Stands-register n) done))) is

@@ -19,7 +19,9 @@ use Rattle.armv6m_asm.specs.declared.fault.AsmFault.TheVariants.{BadWord, TwiceL
 use Rattle.armv6m_asm.specs.Label.{names_of}
 use Rattle.armv6m_asm.specs.Statement.{IsStatement}
 use Rattle.armv6m_asm.specs.Alike.{AreAlikeTargets, AreAlikeOperations, AreAlikeLabels}
-use Rattle.armv6m_asm.specs.Assembly.{width, aim_width, size_of, place_after, label_at, labels_of, AreOnce, name_in, named_by, targets_of, LeadsTo, AreBytesOf, AreBytes, GoesBeyond, IsAligned, IsRight, IsBad, AreRead, IsFirstBad, IsFirstTwice, IsFirstMissing, IsFirstBeyond, AreOfText, HasLabelsOnce, HasTargets, IsAssembled, HasTwiceLabel, HasNoLabel, HasOutOfReach}
+use Rattle.armv6m_asm.specs.Assembly.{width, aim_width, size_of, place_after, label_at, labels_of, AreOnce, name_in, named_by, targets_of, LeadsTo, AreBytesOf}
+use Rattle.armv6m_asm.specs.Assembly.{AreBytes, GoesBeyond, IsAligned, IsRight, IsBad, AreRead, IsFirstBad, IsFirstTwice, IsFirstMissing, IsFirstBeyond}
+use Rattle.armv6m_asm.specs.Assembly.{AreOfText, HasLabelsOnce, HasTargets, IsAssembled, HasTwiceLabel, HasNoLabel, HasOutOfReach}
 use Rattle.armv6m_asm.specs.Outcome.{RefusedOrAssembled, OneRefusal}
 use Rattle.armv6m_asm.proofs.LawLemmas.{one_statement}
 use Rattle.armv6m_asm.proofs.Places.{read_long}
@@ -89,11 +91,14 @@ record IsFirst {X : Type 0} (Goes : List X → Type 0) (Stops : List X → X →
 abbrev GoesNoFurther : {X : Type 0} → (List X → Type 0) → (List X → X → Type 0) → Type 0
 GoesNoFurther {X} Goes Stops = (before : List X) (here : X) (after : List X) → Stops before here → Goes (before ++ here ∷ after) → ⊥
 
-no_first : {X : Type 0} {Goes : List X → Type 0} {Stops : List X → X → Type 0} {whole : List X} → IsFirst Goes Stops whole → GoesNoFurther Goes Stops → Goes whole → ⊥
+no_first : {X : Type 0} {Goes : List X → Type 0} {Stops : List X → X → Type 0} {whole : List X} → IsFirst Goes Stops whole → GoesNoFurther Goes Stops →
+    Goes whole → ⊥
 no_first {X} {Goes} first never goes = never first.before first.here first.after first.stops (subst Goes first.whole_is goes)
 
-one_split : {X : Type 0} (Goes : List X → Type 0) (Stops : List X → X → Type 0) → GoesNoFurther Goes Stops → (before : List X) (here : X) (after others : List X) (other : X) (behind : List X)
-    → before ++ here ∷ after ≡ others ++ other ∷ behind → Goes before → Goes others → Stops before here → Stops others other → (length before ≡ length others) × (here ≡ other)
+one_split : {X : Type 0} (Goes : List X → Type 0) (Stops : List X → X → Type 0) → GoesNoFurther Goes Stops →
+    (before : List X) (here : X) (after others : List X) (other : X) (behind : List X)
+    → before ++ here ∷ after ≡ others ++ other ∷ behind → Goes before → Goes others → Stops before here → Stops others other → (length before ≡ length others) ×
+    (here ≡ other)
 one_split Goes Stops never [] here after [] other behind same goes too stops and = (refl, (let e : here ≡ other = cc in e))
 one_split Goes Stops never [] here after (x ∷ others) other behind same goes too stops and =
     let e : x ≡ here = cc in absurd (never [] here others stops (subst (λ y. Goes (y ∷ others)) e too))
@@ -121,7 +126,8 @@ record StandsAt (labels : List Label) (line : List ℕ) (from at : ℕ) (stateme
   code : (bytes : List ℕ) → AreBytes labels from statements bytes → (own : List ℕ) × AreBytesOf labels here.operation at own
 
 -- behind the lines before it, however those are read
-stands_behind : (labels : List Label) (from : ℕ) (before : List (List ℕ)) (line : List ℕ) (after : List (List ℕ)) (ss ts : List Statement) → AreRead from before ss
+stands_behind : (labels : List Label) (from : ℕ) (before : List (List ℕ)) (line : List ℕ) (after : List (List ℕ)) (ss ts : List Statement) →
+    AreRead from before ss
     → AreRead from (before ++ line ∷ after) ts → StandsAt labels line from (place_after from ss) ts
 stands_behind labels from [] line after [] [] read whole = absurd whole
 stands_behind labels from [] line after (s ∷ ss) ts read whole = absurd read
@@ -129,7 +135,8 @@ stands_behind labels from (l ∷ before) line after [] ts read whole = absurd re
 stands_behind labels from (l ∷ before) line after (s ∷ ss) [] read whole = absurd whole
 stands_behind labels from [] line after [] (t ∷ ts) read whole = record { here = t; right = whole.0; code = λ bytes are. (are.0, are.4) }
 stands_behind labels from (l ∷ before) line after (s ∷ ss) (t ∷ ts) read whole =
-    let same : size_of t.operation from ≡ size_of s.operation from = size_alike t.operation s.operation from (one_statement l t s whole.0.statement read.0.statement).1 in
+    let same : size_of t.operation from ≡ size_of s.operation from =
+    size_alike t.operation s.operation from (one_statement l t s whole.0.statement read.0.statement).1 in
     let it = stands_behind labels (from + size_of s.operation from) before line after ss ts read.1
     (subst (λ (n : ℕ). AreRead (from + n) (before ++ line ∷ after) ts) same whole.1) in
     record { here = it.here; right = it.right; code = λ bytes are. it.code are.1 (subst (λ (n : ℕ). AreBytes labels (from + n) ts are.1) same are.5) }
@@ -150,7 +157,15 @@ line_of from [] (s ∷ before) here after read = absurd read
 line_of from (line ∷ lines) [] here after read = record { earlier = []; line = line; later = lines; lines_are = refl; read = tt; right = read.0 }
 line_of from (line ∷ lines) (s ∷ before) here after read =
     let it = line_of (from + size_of s.operation from) lines before here after read.1 in
-    record { earlier = line ∷ it.earlier; line = it.line; later = it.later; lines_are = ap (λ (ls : List (List ℕ)). line ∷ ls) it.lines_are; read = (read.0, it.read); right = it.right }
+    record {
+      earlier = line ∷ it.earlier;
+      line = it.line;
+      later = it.later;
+      lines_are = ap (λ (ls : List (List ℕ)). line ∷ ls) it.lines_are;
+      read =
+          (read.0, it.read);
+      right = it.right;
+    }
 
 -- ---- the first check: lines that are read, up to a bad one
 
@@ -168,7 +183,8 @@ bad_or_read before line after stops goes =
     let it = stands_behind [] 0 before line after stops.statements goes.statements stops.read goes.read in
     elim stops.bad [
       | inl none ↦ none it.here it.right.statement
-      | inr other ↦ other.askew (aligned_alike it.here.operation other.here.operation (place_after 0 stops.statements) (one_statement line it.here other.here it.right.statement other.statement).1 it.right.aligned)
+      | inr other ↦ other.askew (aligned_alike it.here.operation other.here.operation (place_after 0 stops.statements)
+          (one_statement line it.here other.here it.right.statement other.statement).1 it.right.aligned)
     ]
 
 -- ---- the second: names, up to one that stands among those before it
@@ -185,7 +201,8 @@ stands_there : {X : Type 0} (earlier : List X) (x : X) (later : List X) → Cont
 stands_there earlier x later = Contains-append_right earlier (x ∷ later) x (0, omega arith, refl)
 
 missing_or_there : (names : List (List ℕ)) → GoesNoFurther (All (Contains names)) (λ earlier name. Contains names name → ⊥)
-missing_or_there names earlier name later missing there = missing (All-contains (Contains names) (earlier ++ name ∷ later) name there (stands_there earlier name later))
+missing_or_there names earlier name later missing there = missing
+    (All-contains (Contains names) (earlier ++ name ∷ later) name there (stands_there earlier name later))
 
 -- ---- the fourth: lines that have their bytes, up to one that is out of reach
 
@@ -193,23 +210,29 @@ missing_or_there names earlier name later missing there = missing (All-contains 
 apart : (labels : List Label) (one other : Label) (i j : ℕ) → AreOnce (names_of labels) → one.name ≡ other.name → i < j → j < length labels
     → get_or labels i one ≡ one → get_or labels j other ≡ other → ⊥
 apart labels one other i j once same before within x y =
-    let first : get_or (names_of labels) i one.name ≡ one.name = get_or-map (λ (l : Label). l.name) labels i one one.name (omega arith) ∙ ap (λ (l : Label). l.name) x in
-    let second : get_or (names_of labels) j one.name ≡ other.name = get_or-map (λ (l : Label). l.name) labels j other one.name within ∙ ap (λ (l : Label). l.name) y in
+    let first : get_or (names_of labels) i one.name ≡ one.name = get_or-map (λ (l : Label). l.name) labels i one one.name (omega arith) ∙
+    ap (λ (l : Label). l.name) x in
+    let second : get_or (names_of labels) j one.name ≡ other.name = get_or-map (λ (l : Label). l.name) labels j other one.name within ∙
+    ap (λ (l : Label). l.name) y in
     once i j one.name before (rw length-map within) (first ∙ same ∙ sym second)
 
-one_place : (labels : List Label) (one other : Label) → AreOnce (names_of labels) → one.name ≡ other.name → Contains labels one → Contains labels other → one.place ≡ other.place
+one_place : (labels : List Label) (one other : Label) → AreOnce (names_of labels) → one.name ≡ other.name → Contains labels one → Contains labels other →
+    one.place ≡ other.place
 one_place labels one other once same (i, inside, x) (j, within, y) =
     let not_before : i < j → ⊥ = λ lt. apart labels one other i j once same lt within x y in
     let not_behind : j < i → ⊥ = λ lt. apart labels other one j i once (sym same) lt inside y x in
     let at : i ≡ j = omega arith in
     ap (λ (l : Label). l.place) (sym x ∙ get_or_default labels i one other inside ∙ ap (λ (n : ℕ). get_or labels n other) at ∙ y)
 
-one_address : (labels : List Label) (to too : Target) (a b : ℕ) → AreOnce (names_of labels) → AreAlikeTargets to too → LeadsTo labels to a → LeadsTo labels too b → a ≡ b
-one_address labels (targets.Label name) (targets.Label other) a b once same x y = one_place labels (record { name = name.now; place = a }) (record { name = other.now; place = b }) once same x y
+one_address : (labels : List Label) (to too : Target) (a b : ℕ) → AreOnce (names_of labels) → AreAlikeTargets to too → LeadsTo labels to a →
+    LeadsTo labels too b → a ≡ b
+one_address labels (targets.Label name) (targets.Label other) a b once same x y =
+    one_place labels (record { name = name.now; place = a }) (record { name = other.now; place = b }) once same x y
 one_address labels (targets.Address one) (targets.Address other) a b once same x y = x ∙ same ∙ sym y
 one_address labels to too a b once same x y = absurd same
 
-beyond_or_code : (labels : List Label) (one other : Operation) (at : ℕ) (bytes : List ℕ) → AreOnce (names_of labels) → AreAlikeOperations one other → GoesBeyond labels one at
+beyond_or_code : (labels : List Label) (one other : Operation) (at : ℕ) (bytes : List ℕ) → AreOnce (names_of labels) → AreAlikeOperations one other →
+    GoesBeyond labels one at
     → AreBytesOf labels other at bytes → ⊥
 beyond_or_code labels (Aimed aim to) (Aimed other too) at bytes once same beyond code =
     let address : beyond.address ≡ code.address = one_address labels to too beyond.address code.address once same.1 beyond.leads code.leads in
@@ -240,7 +263,8 @@ beyond_or_bytes : (labels : List Label) → AreOnce (names_of labels) → GoesNo
 beyond_or_bytes labels once before line after stops goes =
     let it = stands_behind labels 0 before line after stops.statements goes.statements stops.read goes.read in
     let own = it.code goes.bytes goes.are in
-    beyond_or_code labels stops.here.operation it.here.operation (place_after 0 stops.statements) own.0 once (one_statement line stops.here it.here stops.statement it.right.statement).1 stops.beyond own.1
+    beyond_or_code labels stops.here.operation it.here.operation (place_after 0 stops.statements) own.0 once
+    (one_statement line stops.here it.here stops.statement it.right.statement).1 stops.beyond own.1
 
 -- ---- texts
 
@@ -270,7 +294,8 @@ first_missing {targets} {names} {name} is =
     record { before = is.earlier; here = name; after = is.later; whole_is = is.targets_are; goes = is.there; stops = is.missing }
 
 -- the same in lines
-first_beyond : {lines : List (List ℕ)} {statements : List Statement} {labels : List Label} {line : ℕ} → AreRead 0 lines statements → IsFirstBeyond labels statements line
+first_beyond : {lines : List (List ℕ)} {statements : List Statement} {labels : List Label} {line : ℕ} → AreRead 0 lines statements →
+    IsFirstBeyond labels statements line
     → IsFirstBeyondLine labels lines line
 first_beyond {lines} {statements} {labels} read is =
     let at = line_of 0 lines is.before is.here is.after (subst (λ (ss : List Statement). AreRead 0 lines ss) is.statements_are read) in
@@ -295,7 +320,8 @@ no_twice is has = no_first (first_twice is.twice) twice_or_once (subst (λ (ls :
 
 no_missing : {text name : List ℕ} {ss : List Statement} {ls : List Label} → HasNoLabel text name → HasTargets text ss ls → ⊥
 no_missing {text} {name} {ss} is has =
-    let there : All (Contains (names_of is.labels)) (targets_of ss) = subst (λ (ls : List Label). All (Contains (names_of ls)) (targets_of ss)) (one_labels has.read.read is.read.read) has.there in
+    let there : All (Contains (names_of is.labels)) (targets_of ss) = subst (λ (ls : List Label). All (Contains (names_of ls)) (targets_of ss))
+    (one_labels has.read.read is.read.read) has.there in
     no_first (first_missing is.missing) (missing_or_there (names_of is.labels))
     (subst (λ (ns : List (List ℕ)). All (Contains (names_of is.labels)) ns) (one_targets has.read.read is.read.read) there)
 

@@ -13,17 +13,21 @@ pub end_above : (from : ℕ) (statements : List Statement) → from ≤ place_af
 end_above from [] = omega arith
 end_above from (s ∷ statements) = let later = end_above (from + size_of s.operation from) statements in omega (arith, later)
 
-pub labels_of-append : (from : ℕ) (first second : List Statement) → labels_of from (first ++ second) ≡ labels_of from first ++ labels_of (place_after from first) second
+pub labels_of-append : (from : ℕ) (first second : List Statement) →
+    labels_of from (first ++ second) ≡ labels_of from first ++ labels_of (place_after from first) second
 labels_of-append from [] second = refl
 labels_of-append from (s ∷ first) second =
     let next = from + size_of s.operation from in
-    ap (λ (ls : List Label). label_at s.label from ++ ls) (labels_of-append next first second) ∙ sym (append_assoc (label_at s.label from) (labels_of next first) (labels_of (place_after next first) second))
+    ap (λ (ls : List Label). label_at s.label from ++ ls) (labels_of-append next first second) ∙
+    sym (append_assoc (label_at s.label from) (labels_of next first) (labels_of (place_after next first) second))
 
 pub targets_of-append : (first second : List Statement) → targets_of (first ++ second) ≡ targets_of first ++ targets_of second
 targets_of-append [] second = refl
-targets_of-append (s ∷ first) second = ap (λ (ns : List (List ℕ)). named_by s.operation ++ ns) (targets_of-append first second) ∙ sym (append_assoc (named_by s.operation) (targets_of first) (targets_of second))
+targets_of-append (s ∷ first) second = ap (λ (ns : List (List ℕ)). named_by s.operation ++ ns) (targets_of-append first second) ∙
+    sym (append_assoc (named_by s.operation) (targets_of first) (targets_of second))
 
-pub read_append : (from : ℕ) (lines : List (List ℕ)) (statements : List Statement) (line : List ℕ) (s : Statement) → AreRead from lines statements → IsRight line (place_after from statements) s → AreRead from (lines ++ line ∷ []) (statements ++ s ∷ [])
+pub read_append : (from : ℕ) (lines : List (List ℕ)) (statements : List Statement) (line : List ℕ) (s : Statement) → AreRead from lines statements →
+    IsRight line (place_after from statements) s → AreRead from (lines ++ line ∷ []) (statements ++ s ∷ [])
 read_append from [] [] line s read right = (right, tt)
 read_append from [] (t ∷ statements) line s read right = absurd read
 read_append from (l ∷ lines) [] line s read right = absurd read
@@ -35,23 +39,33 @@ read_long from [] (t ∷ statements) read = absurd read
 read_long from (l ∷ lines) [] read = absurd read
 read_long from (l ∷ lines) (t ∷ statements) read = ap suc (read_long (from + size_of t.operation from) lines statements read.1)
 
-pub bytes_append : (labels : List Label) (from : ℕ) (statements : List Statement) (bytes : List ℕ) (s : Statement) (own : List ℕ) → AreBytes labels from statements bytes → length own ≡ size_of s.operation (place_after from statements) → AreBytesOf labels s.operation (place_after from statements) own
+pub bytes_append : (labels : List Label) (from : ℕ) (statements : List Statement) (bytes : List ℕ) (s : Statement) (own : List ℕ) →
+    AreBytes labels from statements bytes → length own ≡ size_of s.operation (place_after from statements) →
+    AreBytesOf labels s.operation (place_after from statements) own
     → AreBytes labels from (statements ++ s ∷ []) (bytes ++ own)
 bytes_append labels from [] bytes s own before long are = (own, [], ap (λ (bs : List ℕ). bs ++ own) before ∙ sym (append-nil own), long, are, refl)
-bytes_append labels from (t ∷ statements) bytes s own before long are =
-    (before.0, before.1 ++ own, ap (λ (bs : List ℕ). bs ++ own) before.2 ∙ append_assoc before.0 before.1 own, before.3, before.4, bytes_append labels (from + size_of t.operation from) statements before.1 s own before.5 long are)
+bytes_append labels from (t ∷ statements) bytes s own before long are = (
+  before.0,
+  before.1 ++ own,
+  ap (λ (bs : List ℕ). bs ++ own) before.2 ∙ append_assoc before.0 before.1 own,
+  before.3,
+  before.4,
+  bytes_append labels (from + size_of t.operation from) statements before.1 s own before.5 long are,
+)
 
 -- a list about a place
 pub split_at : {X : Type 0} (xs : List X) (k : ℕ) (d : X) → k < length xs → xs ≡ take k xs ++ get_or xs k d ∷ drop (k + 1) xs
 split_at xs k d lt = sym (take-append-drop k xs) ∙ ap (λ ys. take k xs ++ ys) (drop_more xs k d lt)
 
 -- the place behind one statement more
-pub end_more : (statements : List Statement) (k : ℕ) (d : Statement) → k < length statements → place_after 0 (take (k + 1) statements) ≡ place_after 0 (take k statements) + size_of (get_or statements k d).operation (place_after 0 (take k statements))
+pub end_more : (statements : List Statement) (k : ℕ) (d : Statement) → k < length statements →
+    place_after 0 (take (k + 1) statements) ≡ place_after 0 (take k statements) + size_of (get_or statements k d).operation (place_after 0 (take k statements))
 end_more statements k d lt = ap (place_after 0) (take_more statements k d lt) ∙ place_after-append 0 (take k statements) (get_or statements k d ∷ [])
 
 -- is no higher than the end
 pub place_after-take : (statements : List Statement) (k : ℕ) → place_after 0 (take k statements) ≤ place_after 0 statements
 place_after-take statements k =
-    let whole : place_after 0 statements ≡ place_after (place_after 0 (take k statements)) (drop k statements) = ap (place_after 0) (sym (take-append-drop k statements)) ∙ place_after-append 0 (take k statements) (drop k statements) in
+    let whole : place_after 0 statements ≡ place_after (place_after 0 (take k statements)) (drop k statements) =
+    ap (place_after 0) (sym (take-append-drop k statements)) ∙ place_after-append 0 (take k statements) (drop k statements) in
     let above = end_above (place_after 0 (take k statements)) (drop k statements) in
     omega (arith, whole, above)

@@ -3,8 +3,10 @@ use Rattle.std.proofs.Common.{◌≡◌, ◌∙◌, sym, ap, subst, refl, ℕ, L
 use Rattle.armv6m_forms.specs.declared.form.Operands.{Operands}
 use Rattle.armv6m_forms.specs.declared.form.Operands.TheVariants as operands
 use Rattle.armv6m_asm.specs.declared.symbol.Symbol.{Symbol}
-use Rattle.armv6m_asm.specs.declared.symbol.Symbol.TheVariants.{Register, Special, Number, Interrupts, Comma, Hash, Exclamation, OpenBracket, CloseBracket, OpenBrace, CloseBrace, Other}
-use Rattle.armv6m_asm.specs.Reading.{list_of, behind_comma, behind_open_brace, behind_close_bracket, register_first, number_first, at_end, closed, to_special, indexed, in_brackets, immediate, third, after_two, second, updated, after_one, operands_of}
+use Rattle.armv6m_asm.specs.declared.symbol.Symbol.TheVariants.{Register, Special, Number, Interrupts, Comma, Hash, Exclamation, OpenBracket, CloseBracket}
+use Rattle.armv6m_asm.specs.declared.symbol.Symbol.TheVariants.{OpenBrace, CloseBrace, Other}
+use Rattle.armv6m_asm.specs.Reading.{list_of, behind_comma, behind_open_brace, behind_close_bracket, register_first, number_first, at_end, closed, to_special}
+use Rattle.armv6m_asm.specs.Reading.{indexed, in_brackets, immediate, third, after_two, second, updated, after_one, operands_of}
 
 -- the symbols of the registers of a list and of its closing brace
 pub record EndsList (list : ℕ) (start symbols : List Symbol) : Type 0 where
@@ -107,7 +109,8 @@ behind_close_bracket_is (Other ∷ rest) more is = absurd (cc)
 
 register_first_is : (symbols : List Symbol) (n : ℕ) (more : List Symbol) → register_first symbols ≡ Some (n, more) → symbols ≡ Register n ∷ more
 register_first_is [] n more is = absurd (cc)
-register_first_is (Register x ∷ rest) n more is = let pair : ◌≡◌ {A = ℕ × List Symbol} (x, rest) (n, more) = cc in ap (λ (p : ℕ × List Symbol). Register p.0 ∷ p.1) pair
+register_first_is (Register x ∷ rest) n more is = let pair : ◌≡◌ {A = ℕ × List Symbol} (x, rest) (n, more) = cc in
+    ap (λ (p : ℕ × List Symbol). Register p.0 ∷ p.1) pair
 register_first_is (Special x ∷ rest) n more is = absurd (cc)
 register_first_is (Number x ∷ rest) n more is = absurd (cc)
 register_first_is (Interrupts ∷ rest) n more is = absurd (cc)
@@ -124,7 +127,8 @@ number_first_is : (symbols : List Symbol) (n : ℕ) (more : List Symbol) → num
 number_first_is [] n more is = absurd (cc)
 number_first_is (Register x ∷ rest) n more is = absurd (cc)
 number_first_is (Special x ∷ rest) n more is = absurd (cc)
-number_first_is (Number x ∷ rest) n more is = let pair : ◌≡◌ {A = ℕ × List Symbol} (x, rest) (n, more) = cc in ap (λ (p : ℕ × List Symbol). Number p.0 ∷ p.1) pair
+number_first_is (Number x ∷ rest) n more is = let pair : ◌≡◌ {A = ℕ × List Symbol} (x, rest) (n, more) = cc in
+    ap (λ (p : ℕ × List Symbol). Number p.0 ∷ p.1) pair
 number_first_is (Interrupts ∷ rest) n more is = absurd (cc)
 number_first_is (Comma ∷ rest) n more is = absurd (cc)
 number_first_is (Hash ∷ rest) n more is = absurd (cc)
@@ -159,18 +163,23 @@ replaced made o symbols same is = subst (λ (x : Operands). Spelled x symbols) s
 to_special_is : (special : ℕ) (o : Operands) (symbols : List Symbol) → to_special special symbols ≡ Some o → Spelled o (Special special ∷ symbols)
 unfolding Spelled
 to_special_is special o symbols is =
-    let (rest, (comma, after)) = and_then_is (λ (rest : List Symbol). option_and_then (λ (n : ℕ × List Symbol). at_end (operands.ToSpecial special n.0) n.1) (register_first rest)) (behind_comma symbols) o is in
+    let (rest, (comma, after)) = and_then_is (λ (rest : List Symbol). option_and_then (λ (n : ℕ × List Symbol). at_end (operands.ToSpecial special n.0) n.1)
+    (register_first rest)) (behind_comma symbols) o is in
     let (n, (first, end)) = and_then_is (λ (n : ℕ × List Symbol). at_end (operands.ToSpecial special n.0) n.1) (register_first rest) o after in
     let it = at_end_is (operands.ToSpecial special n.0) o n.1 end in
     let begins = behind_comma_is symbols rest comma in
     let register = register_first_is rest n.0 n.1 first in
     let nothing = it.0 in
-    replaced (operands.ToSpecial special n.0) o (Special special ∷ symbols) it.1 (ap (λ (r : List Symbol). Special special ∷ r) (begins ∙ ap (λ (r : List Symbol). Comma ∷ r) (register ∙ ap (λ (r : List Symbol). Register n.0 ∷ r) nothing)))
+    replaced (operands.ToSpecial special n.0) o (Special special ∷ symbols) it.1
+    (ap (λ (r : List Symbol). Special special ∷ r) (begins ∙
+    ap (λ (r : List Symbol). Comma ∷ r) (register ∙ ap (λ (r : List Symbol). Register n.0 ∷ r) nothing)))
 
-indexed_is : (t n : ℕ) (o : Operands) (symbols : List Symbol) → indexed t n symbols ≡ Some o → Spelled o (Register t ∷ Comma ∷ OpenBracket ∷ Register n ∷ Comma ∷ symbols)
+indexed_is : (t n : ℕ) (o : Operands) (symbols : List Symbol) → indexed t n symbols ≡ Some o →
+    Spelled o (Register t ∷ Comma ∷ OpenBracket ∷ Register n ∷ Comma ∷ symbols)
 unfolding Spelled
 indexed_is t n o [] is = absurd (cc)
-indexed_is t n o (Register x ∷ rest) is = let it = closed_is (operands.ByRegister t n x) o rest is in let end = it.0 in replaced (operands.ByRegister t n x) o _ it.1 (rw end refl)
+indexed_is t n o (Register x ∷ rest) is = let it = closed_is (operands.ByRegister t n x) o rest is in
+    let end = it.0 in replaced (operands.ByRegister t n x) o _ it.1 (rw end refl)
 indexed_is t n o (Special x ∷ rest) is = absurd (cc)
 indexed_is t n o (Number x ∷ rest) is = absurd (cc)
 indexed_is t n o (Interrupts ∷ rest) is = absurd (cc)
@@ -180,7 +189,8 @@ indexed_is t n o (Hash ∷ rest) is =
     let it = closed_is (operands.ByOffset t n value.0) o value.1 end in
     let begins = number_first_is rest value.0 value.1 first in
     let bracket = it.0 in
-    replaced (operands.ByOffset t n value.0) o _ it.1 (ap (λ (r : List Symbol). Register t ∷ Comma ∷ OpenBracket ∷ Register n ∷ Comma ∷ Hash ∷ r) (begins ∙ ap (λ (r : List Symbol). Number value.0 ∷ r) bracket))
+    replaced (operands.ByOffset t n value.0) o _ it.1 (ap (λ (r : List Symbol). Register t ∷ Comma ∷ OpenBracket ∷ Register n ∷ Comma ∷ Hash ∷ r)
+    (begins ∙ ap (λ (r : List Symbol). Number value.0 ∷ r) bracket))
 indexed_is t n o (Exclamation ∷ rest) is = absurd (cc)
 indexed_is t n o (OpenBracket ∷ rest) is = absurd (cc)
 indexed_is t n o (CloseBracket ∷ rest) is = absurd (cc)
@@ -194,17 +204,20 @@ in_brackets_is t o symbols is =
     let (rest, (comma, end)) = and_then_is (indexed t n.0) (behind_comma n.1) o after in
     let begins = register_first_is symbols n.0 n.1 first in
     let then_comma = behind_comma_is n.1 rest comma in
-    subst (λ (s : List Symbol). Spelled o (Register t ∷ Comma ∷ OpenBracket ∷ s)) (sym (begins ∙ ap (λ (r : List Symbol). Register n.0 ∷ r) then_comma)) (indexed_is t n.0 o rest end)
+    subst (λ (s : List Symbol). Spelled o (Register t ∷ Comma ∷ OpenBracket ∷ s)) (sym (begins ∙ ap (λ (r : List Symbol). Register n.0 ∷ r) then_comma))
+    (indexed_is t n.0 o rest end)
 
 third_is : (d n : ℕ) (o : Operands) (symbols : List Symbol) → third d n symbols ≡ Some o → Spelled o (Register d ∷ Comma ∷ Register n ∷ Comma ∷ symbols)
 unfolding Spelled
 third_is d n o [] is = absurd (cc)
-third_is d n o (Register x ∷ rest) is = let it = at_end_is (operands.Three d n x) o rest is in let end = it.0 in replaced (operands.Three d n x) o _ it.1 (rw end refl)
+third_is d n o (Register x ∷ rest) is = let it = at_end_is (operands.Three d n x) o rest is in
+    let end = it.0 in replaced (operands.Three d n x) o _ it.1 (rw end refl)
 third_is d n o (Special x ∷ rest) is = absurd (cc)
 third_is d n o (Number x ∷ rest) is = absurd (cc)
 third_is d n o (Interrupts ∷ rest) is = absurd (cc)
 third_is d n o (Comma ∷ rest) is = absurd (cc)
-third_is d n o (Hash ∷ rest) is = let (value, (end, same)) = immediate_is (operands.TwoImmediate d n) o rest is in replaced (operands.TwoImmediate d n value) o _ same (ap (λ (r : List Symbol). Register d ∷ Comma ∷ Register n ∷ Comma ∷ Hash ∷ r) end)
+third_is d n o (Hash ∷ rest) is = let (value, (end, same)) = immediate_is (operands.TwoImmediate d n) o rest is in
+    replaced (operands.TwoImmediate d n value) o _ same (ap (λ (r : List Symbol). Register d ∷ Comma ∷ Register n ∷ Comma ∷ Hash ∷ r) end)
 third_is d n o (Exclamation ∷ rest) is = absurd (cc)
 third_is d n o (OpenBracket ∷ rest) is = absurd (cc)
 third_is d n o (CloseBracket ∷ rest) is = absurd (cc)
@@ -224,27 +237,36 @@ second_is : (d : ℕ) (o : Operands) (symbols : List Symbol) → second d symbol
 unfolding Spelled
 second_is d o [] is = absurd (cc)
 second_is d o (Register x ∷ rest) is = after_two_is d x o rest is
-second_is d o (Special x ∷ rest) is = let it = at_end_is (operands.FromSpecial d x) o rest is in let end = it.0 in replaced (operands.FromSpecial d x) o _ it.1 (rw end refl)
+second_is d o (Special x ∷ rest) is = let it = at_end_is (operands.FromSpecial d x) o rest is in
+    let end = it.0 in replaced (operands.FromSpecial d x) o _ it.1 (rw end refl)
 second_is d o (Number x ∷ rest) is = absurd (cc)
 second_is d o (Interrupts ∷ rest) is = absurd (cc)
 second_is d o (Comma ∷ rest) is = absurd (cc)
-second_is d o (Hash ∷ rest) is = let (value, (end, same)) = immediate_is (operands.OneImmediate d) o rest is in replaced (operands.OneImmediate d value) o _ same (ap (λ (r : List Symbol). Register d ∷ Comma ∷ Hash ∷ r) end)
+second_is d o (Hash ∷ rest) is = let (value, (end, same)) = immediate_is (operands.OneImmediate d) o rest is in
+    replaced (operands.OneImmediate d value) o _ same (ap (λ (r : List Symbol). Register d ∷ Comma ∷ Hash ∷ r) end)
 second_is d o (Exclamation ∷ rest) is = absurd (cc)
 second_is d o (OpenBracket ∷ rest) is = in_brackets_is d o rest is
 second_is d o (CloseBracket ∷ rest) is = absurd (cc)
-second_is d o (OpenBrace ∷ rest) is = let (list, (listed, same)) = map_is (operands.BaseList d) (list_of 0 rest) o is in replaced (operands.BaseList d list) o _ same (record { rest = rest; symbols_are = refl; listed = listed })
+second_is d o (OpenBrace ∷ rest) is = let (list, (listed, same)) = map_is (operands.BaseList d) (list_of 0 rest) o is in
+    replaced (operands.BaseList d list) o _ same (record { rest = rest; symbols_are = refl; listed = listed })
 second_is d o (CloseBrace ∷ rest) is = absurd (cc)
 second_is d o (Other ∷ rest) is = absurd (cc)
 
 updated_is : (n : ℕ) (o : Operands) (symbols : List Symbol) → updated n symbols ≡ Some o → Spelled o (Register n ∷ Exclamation ∷ symbols)
 unfolding Spelled
 updated_is n o symbols is =
-    let (rest, (comma, after)) = and_then_is (λ (rest : List Symbol). option_map (operands.UpdatedList n) (option_and_then (list_of 0) (behind_open_brace rest))) (behind_comma symbols) o is in
+    let (rest, (comma, after)) = and_then_is (λ (rest : List Symbol). option_map (operands.UpdatedList n)
+    (option_and_then (list_of 0) (behind_open_brace rest))) (behind_comma symbols) o is in
     let (list, (made, same)) = map_is (operands.UpdatedList n) (option_and_then (list_of 0) (behind_open_brace rest)) o after in
     let (more, (brace, listed)) = and_then_is (list_of 0) (behind_open_brace rest) list made in
     let begins = behind_comma_is symbols rest comma in
     let then_brace = behind_open_brace_is rest more brace in
-    replaced (operands.UpdatedList n list) o _ same (record { rest = more; symbols_are = ap (λ (r : List Symbol). Register n ∷ Exclamation ∷ r) (begins ∙ ap (λ (r : List Symbol). Comma ∷ r) then_brace); listed = listed })
+    replaced (operands.UpdatedList n list) o _ same (record {
+      rest = more;
+      symbols_are =
+          ap (λ (r : List Symbol). Register n ∷ Exclamation ∷ r) (begins ∙ ap (λ (r : List Symbol). Comma ∷ r) then_brace);
+      listed = listed;
+    })
 
 after_one_is : (d : ℕ) (o : Operands) (symbols : List Symbol) → after_one d symbols ≡ Some o → Spelled o (Register d ∷ symbols)
 unfolding Spelled
@@ -268,12 +290,15 @@ operands_of-is o [] is = replaced operands.None o _ (let same : operands.None �
 operands_of-is o (Register x ∷ rest) is = after_one_is x o rest is
 operands_of-is o (Special x ∷ rest) is = to_special_is x o rest is
 operands_of-is o (Number x ∷ rest) is = absurd (cc)
-operands_of-is o (Interrupts ∷ rest) is = let it = at_end_is operands.Interrupts o rest is in let end = it.0 in replaced operands.Interrupts o _ it.1 (rw end refl)
+operands_of-is o (Interrupts ∷ rest) is = let it = at_end_is operands.Interrupts o rest is in
+    let end = it.0 in replaced operands.Interrupts o _ it.1 (rw end refl)
 operands_of-is o (Comma ∷ rest) is = absurd (cc)
-operands_of-is o (Hash ∷ rest) is = let (value, (end, same)) = immediate_is operands.Immediate o rest is in replaced (operands.Immediate value) o _ same (ap (λ (r : List Symbol). Hash ∷ r) end)
+operands_of-is o (Hash ∷ rest) is = let (value, (end, same)) = immediate_is operands.Immediate o rest is in
+    replaced (operands.Immediate value) o _ same (ap (λ (r : List Symbol). Hash ∷ r) end)
 operands_of-is o (Exclamation ∷ rest) is = absurd (cc)
 operands_of-is o (OpenBracket ∷ rest) is = absurd (cc)
 operands_of-is o (CloseBracket ∷ rest) is = absurd (cc)
-operands_of-is o (OpenBrace ∷ rest) is = let (list, (listed, same)) = map_is operands.List (list_of 0 rest) o is in replaced (operands.List list) o _ same (record { rest = rest; symbols_are = refl; listed = listed })
+operands_of-is o (OpenBrace ∷ rest) is = let (list, (listed, same)) = map_is operands.List (list_of 0 rest) o is in
+    replaced (operands.List list) o _ same (record { rest = rest; symbols_are = refl; listed = listed })
 operands_of-is o (CloseBrace ∷ rest) is = absurd (cc)
 operands_of-is o (Other ∷ rest) is = absurd (cc)

@@ -1,5 +1,6 @@
 -- Lemmas on names, targets, operations and statements.
-use Rattle.std.proofs.Common.{◌≡◌, ◌≢◌, ◌<◌, ◌≤◌, ◌-◌, ◌&&◌, ◌||◌, ◌∙◌, sym, ap, subst, refl, ℕ, true, false, List, [], ◌∷◌, length, get_or, take, drop, map, codes, Option, Some, None, MatchOption, arith}
+use Rattle.std.proofs.Common.{◌≡◌, ◌≢◌, ◌<◌, ◌≤◌, ◌-◌, ◌&&◌, ◌||◌, ◌∙◌, sym, ap, subst, refl, ℕ, true, false, List, [], ◌∷◌, length, get_or, take, drop, map}
+use Rattle.std.proofs.Common.{codes, Option, Some, None, MatchOption, arith}
 use Rattle.std.specs.List.{list_all}
 use Rattle.std.specs.Borrow.{Bor}
 use Rattle.armv6m_decode.specs.declared.instr.Instr.{Instr}
@@ -16,7 +17,8 @@ use Rattle.armv6m_asm.specs.declared.statement.Target.TheVariants as targets
 use Rattle.armv6m_asm.specs.declared.statement.Operation.{Operation}
 use Rattle.armv6m_asm.specs.declared.statement.Operation.TheVariants as operations
 use Rattle.armv6m_asm.specs.Token.{Token, word, mark, is_letter, is_digit}
-use Rattle.armv6m_asm.specs.Statement.{is_name, IsNumber, IsAddress, Are, exactly, number, low_register, comma, target, Spell, ArePlain, AreAimed, AreOperation, AreStatement}
+use Rattle.armv6m_asm.specs.Statement.{is_name, IsNumber, IsAddress, Are, exactly, number, low_register, comma, target, Spell, ArePlain, AreAimed, AreOperation}
+use Rattle.armv6m_asm.specs.Statement.{AreStatement}
 use Rattle.armv6m_asm.specs.Reading.{register_of, operands_of, symbol_of}
 use Rattle.armv6m_asm.proofs.WordLemmas.{register_of-text}
 use Rattle.armv6m_asm.proofs.TokenLemmas.{lent_rest}
@@ -54,14 +56,16 @@ no_low tokens rest bytes r begins is below high t first others low again =
     let same = one_register t r (omega arith) below text in
     omega arith
 
-pub no_pair : (tokens behind rest : List Token) (first : Token) → tokens ≡ first ∷ behind → behind ≡ mark 44 ∷ rest → ((to : Target) → Are (target to ∷ []) rest → ⊥)
+pub no_pair : (tokens behind rest : List Token) (first : Token) → tokens ≡ first ∷ behind → behind ≡ mark 44 ∷ rest →
+    ((to : Target) → Are (target to ∷ []) rest → ⊥)
     → (t : ℕ) (to : Target) → Are (low_register t ∷ comma ∷ target to ∷ []) tokens → ⊥
 no_pair tokens behind rest first begins then_comma none t to are =
     none to (subst (λ (all : List Token). Are (low_register t ∷ comma ∷ target to ∷ []) all) (begins ∙ ap (λ (r : List Token). first ∷ r) then_comma) are).1.1
 
 -- ---- words of data
 
-pub value_exact : (bytes number_bytes : List ℕ) (tokens : List Token) (behind : List Token) (found : Option ℕ) → bytes ≡ codes ".word" → tokens ≡ word number_bytes ∷ behind → behind ≡ []
+pub value_exact : (bytes number_bytes : List ℕ) (tokens : List Token) (behind : List Token) (found : Option ℕ) → bytes ≡ codes ".word" →
+    tokens ≡ word number_bytes ∷ behind → behind ≡ []
     → MatchOption found ((value : ℕ) → IsNumber number_bytes value → ⊥) (λ value. IsNumber number_bytes value)
     → MatchOption found ((value : ℕ) → Are (exactly (codes ".word") ∷ number value ∷ []) (word bytes ∷ tokens) → ⊥)
     (λ value. Are (exactly (codes ".word") ∷ number value ∷ []) (word bytes ∷ tokens))
@@ -143,7 +147,8 @@ no_load bytes tokens is none =
     no_aimed bytes tokens (λ _. none) (λ other. absurd (load_is_no_address bytes is other))
     (λ aim branch same to aimed. no_branch bytes 76 (ap (λ (b : List ℕ). get_or b 0 0) is) (λ e. omega (arith, e)) aim branch same)
 
-pub no_address : (bytes : List ℕ) (tokens : List Token) → bytes ≡ codes "ADR" → ((d : ℕ) (to : Target) → Are (low_register d ∷ comma ∷ target to ∷ []) tokens → ⊥)
+pub no_address : (bytes : List ℕ) (tokens : List Token) → bytes ≡ codes "ADR" →
+    ((d : ℕ) (to : Target) → Are (low_register d ∷ comma ∷ target to ∷ []) tokens → ⊥)
     → (aim : Aim) (to : Target) → AreAimed aim to (word bytes ∷ tokens) → ⊥
 no_address bytes tokens is none =
     no_aimed bytes tokens (λ other. absurd (load_is_no_address bytes other is)) (λ _. none)

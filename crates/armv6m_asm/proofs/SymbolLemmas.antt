@@ -5,8 +5,10 @@ use Rattle.armv6m_asm.specs.Token.{Token, word, mark}
 use Rattle.armv6m_asm.specs.Statement.{register, special_register, number, comma, hash, exclamation, open_bracket, close_bracket, exactly}
 use Rattle.armv6m_asm.specs.Reading.{is_text, number_in, register_of, special_of, word_symbol, mark_symbol, symbol_of}
 use Rattle.armv6m_asm.specs.declared.symbol.Symbol.{Symbol}
-use Rattle.armv6m_asm.specs.declared.symbol.Symbol.TheVariants.{Register, Special, Number, Interrupts, Comma, Hash, Exclamation, OpenBracket, CloseBracket, OpenBrace, CloseBrace, Other}
-use Rattle.armv6m_asm.proofs.WordLemmas.{same_text, register_of-is, register_of-text, number_in-register, special_of-is, special_of-text, number_in-special, register_of-special, number_in-i, register_of-i, special_of-i, number_in-number, number_in-is}
+use Rattle.armv6m_asm.specs.declared.symbol.Symbol.TheVariants.{Register, Special, Number, Interrupts, Comma, Hash, Exclamation, OpenBracket, CloseBracket}
+use Rattle.armv6m_asm.specs.declared.symbol.Symbol.TheVariants.{OpenBrace, CloseBrace, Other}
+use Rattle.armv6m_asm.proofs.WordLemmas.{same_text, register_of-is, register_of-text, number_in-register, special_of-is, special_of-text, number_in-special}
+use Rattle.armv6m_asm.proofs.WordLemmas.{register_of-special, number_in-i, register_of-i, special_of-i, number_in-number, number_in-is}
 
 -- ---- words
 
@@ -83,19 +85,24 @@ each_mark byte P a b c d e f g o =
 mark_is : (byte other : ℕ) → byte_of (mark_symbol byte) ≡ Some other → byte ≡ other
 unfolding byte_of
 mark_is byte other is =
-    each_mark byte (λ s. byte_of s ≡ Some other → byte ≡ other) (λ h e. cc) (λ h e. cc) (λ h e. cc) (λ h e. cc) (λ h e. cc) (λ h e. cc) (λ h e. cc) (λ e. absurd (cc)) is
+    each_mark byte (λ s. byte_of s ≡ Some other → byte ≡ other) (λ h e. cc) (λ h e. cc) (λ h e. cc) (λ h e. cc) (λ h e. cc) (λ h e. cc) (λ h e. cc)
+    (λ e. absurd (cc)) is
 
 mark_is_no_register : (byte r : ℕ) → mark_symbol byte ≡ Register r → ⊥
-mark_is_no_register byte r is = each_mark byte (λ s. s ≡ Register r → ⊥) (λ h e. cc) (λ h e. cc) (λ h e. cc) (λ h e. cc) (λ h e. cc) (λ h e. cc) (λ h e. cc) (λ e. cc) is
+mark_is_no_register byte r is = each_mark byte (λ s. s ≡ Register r → ⊥) (λ h e. cc) (λ h e. cc) (λ h e. cc) (λ h e. cc) (λ h e. cc) (λ h e. cc) (λ h e. cc)
+    (λ e. cc) is
 
 mark_is_no_special : (byte r : ℕ) → mark_symbol byte ≡ Special r → ⊥
-mark_is_no_special byte r is = each_mark byte (λ s. s ≡ Special r → ⊥) (λ h e. cc) (λ h e. cc) (λ h e. cc) (λ h e. cc) (λ h e. cc) (λ h e. cc) (λ h e. cc) (λ e. cc) is
+mark_is_no_special byte r is = each_mark byte (λ s. s ≡ Special r → ⊥) (λ h e. cc) (λ h e. cc) (λ h e. cc) (λ h e. cc) (λ h e. cc) (λ h e. cc) (λ h e. cc)
+    (λ e. cc) is
 
 mark_is_no_number : (byte r : ℕ) → mark_symbol byte ≡ Number r → ⊥
-mark_is_no_number byte r is = each_mark byte (λ s. s ≡ Number r → ⊥) (λ h e. cc) (λ h e. cc) (λ h e. cc) (λ h e. cc) (λ h e. cc) (λ h e. cc) (λ h e. cc) (λ e. cc) is
+mark_is_no_number byte r is = each_mark byte (λ s. s ≡ Number r → ⊥) (λ h e. cc) (λ h e. cc) (λ h e. cc) (λ h e. cc) (λ h e. cc) (λ h e. cc) (λ h e. cc)
+    (λ e. cc) is
 
 mark_is_no_interrupts : (byte : ℕ) → mark_symbol byte ≡ Interrupts → ⊥
-mark_is_no_interrupts byte is = each_mark byte (λ s. s ≡ Interrupts → ⊥) (λ h e. cc) (λ h e. cc) (λ h e. cc) (λ h e. cc) (λ h e. cc) (λ h e. cc) (λ h e. cc) (λ e. cc) is
+mark_is_no_interrupts byte is = each_mark byte (λ s. s ≡ Interrupts → ⊥) (λ h e. cc) (λ h e. cc) (λ h e. cc) (λ h e. cc) (λ h e. cc) (λ h e. cc) (λ h e. cc)
+    (λ e. cc) is
 
 -- ---- tokens
 

@@ -1,5 +1,6 @@
 -- Lemmas on the tokens of a line.
-use Rattle.std.proofs.Common.{◌≡◌, ◌≢◌, ◌∙◌, sym, ap, refl, ℕ, ◌+◌, ◌-◌, ◌<◌, length, get_or, ◌==◌, Bool, true, false, List, [], ◌∷◌, take, drop, arith, one-add, ne_eqb, eq-eqb}
+use Rattle.std.proofs.Common.{◌≡◌, ◌≢◌, ◌∙◌, sym, ap, refl, ℕ, ◌+◌, ◌-◌, ◌<◌, length, get_or, ◌==◌, Bool, true, false, List, [], ◌∷◌, take, drop, arith}
+use Rattle.std.proofs.Common.{one-add, ne_eqb, eq-eqb}
 use Rattle.std.proofs.lemmas.List.{take_all, length-drop}
 use Rattle.std.specs.List.{prefix_len}
 use Rattle.armv6m_asm.specs.Token.{Token, word, mark, is_blank, is_of_word, before_tokens, tokens_of}
@@ -59,7 +60,8 @@ last_of_word byte next rest (mark other ∷ tokens) h = refl
 BeginsWithWord : List ℕ → Type 0
 BeginsWithWord text = tokens_of text ≡ word (take (prefix_len is_of_word text) text) ∷ tokens_of (drop (prefix_len is_of_word text) text)
 
-longer : (v : Bool) (byte next : ℕ) (rest : List ℕ) → is_of_word byte ≡ true → is_of_word next ≡ v → (v ≡ true → BeginsWithWord (next ∷ rest)) → BeginsWithWord (byte ∷ next ∷ rest)
+longer : (v : Bool) (byte next : ℕ) (rest : List ℕ) → is_of_word byte ≡ true → is_of_word next ≡ v → (v ≡ true → BeginsWithWord (next ∷ rest)) →
+    BeginsWithWord (byte ∷ next ∷ rest)
 unfolding BeginsWithWord
 longer true byte next rest h n later =
     in_word byte (next ∷ rest) h ∙ ap (before_tokens byte (next ∷ rest)) (later refl)

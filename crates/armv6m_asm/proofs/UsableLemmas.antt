@@ -12,7 +12,8 @@ use Rattle.armv6m_asm.specs.declared.statement.Operation.{Operation}
 use Rattle.armv6m_asm.specs.declared.statement.Operation.TheVariants as operations
 use Rattle.armv6m_asm.specs.declared.statement.Statement.{Statement}
 use Rattle.armv6m_asm.specs.Token.{Token, is_letter, is_digit, tokens_of}
-use Rattle.armv6m_asm.specs.Statement.{is_name, exactly, low_register, name, target, comma, colon, Are, Begin, AreAimed, AreOperation, AreStatement, IsStatement}
+use Rattle.armv6m_asm.specs.Statement.{is_name, exactly, low_register, name, target, comma, colon, Are, Begin, AreAimed, AreOperation, AreStatement}
+use Rattle.armv6m_asm.specs.Statement.{IsStatement}
 use Rattle.armv6m_asm.specs.Usable.{IsUsableOperation, IsUsable}
 
 -- ---- names
@@ -49,7 +50,8 @@ branch_name text label [] are = absurd are
 branch_name text label (t ∷ []) are = absurd are.1
 branch_name text label (t ∷ u ∷ tokens) are = name_ascii label.now are.1.0.1
 
-load_name : (text : List ℕ) (r : ℕ) (label : Bor (List ℕ)) (tokens : List Token) → Are (exactly text ∷ low_register r ∷ comma ∷ target (targets.Label label) ∷ []) tokens → IsAscii label.now
+load_name : (text : List ℕ) (r : ℕ) (label : Bor (List ℕ)) (tokens : List Token) →
+    Are (exactly text ∷ low_register r ∷ comma ∷ target (targets.Label label) ∷ []) tokens → IsAscii label.now
 load_name text r label [] are = absurd are
 load_name text r label (t ∷ []) are = absurd are.1
 load_name text r label (t ∷ u ∷ []) are = absurd are.1.1
@@ -73,12 +75,14 @@ operation_usable (operations.Plain instr) tokens are = (are.stands 0).fields
 operation_usable (operations.Aimed aim (targets.Label label)) tokens are = aimed_name aim label tokens are
 operation_usable (operations.Aimed aim (targets.Address address)) tokens are = tt
 
-labelled : (label : Bor (List ℕ)) (operation : Operation) (tokens : List Token) → Begin (name label.now ∷ colon ∷ []) (AreOperation operation) tokens → IsAscii label.now × IsUsableOperation operation
+labelled : (label : Bor (List ℕ)) (operation : Operation) (tokens : List Token) → Begin (name label.now ∷ colon ∷ []) (AreOperation operation) tokens →
+    IsAscii label.now × IsUsableOperation operation
 labelled label operation [] are = absurd are
 labelled label operation (t ∷ []) are = absurd are.1
 labelled label operation (t ∷ u ∷ tokens) are = (name_ascii label.now are.0.1, operation_usable operation tokens are.1.1)
 
-usable : (label : Option (Bor (List ℕ))) (operation : Operation) (tokens : List Token) → AreStatement label operation tokens → IsUsable (record { label = label; operation = operation })
+usable : (label : Option (Bor (List ℕ))) (operation : Operation) (tokens : List Token) → AreStatement label operation tokens →
+    IsUsable (record { label = label; operation = operation })
 usable None operation tokens are = record { label = tt; operation = operation_usable operation tokens are }
 usable (Some label) operation tokens are = let both = labelled label operation tokens are in record { label = both.0; operation = both.1 }
 

@@ -1,5 +1,7 @@
 -- Lemmas on what words are.
-use Rattle.std.proofs.Common.{◌≡◌, ◌≢◌, ◌≤◌, ◌<◌, ◌+◌, ◌^◌, ◌∙◌, ◌⊎◌, inl, inr, ⊎_elim, sym, ap, subst, refl, ℕ, suc, zero, ◌==◌, ◌&&◌, if◌then◌else◌, Bool, true, false, List, [], ◌∷◌, ◌++◌, codes, length, take, drop, arith, lit<, Option, Some, None, MatchOption, eqb, eqb-true, eq-eqb, ne_eqb, ltb-true, lt-ltb, nat_lt}
+use Rattle.std.proofs.Common.{◌≡◌, ◌≢◌, ◌≤◌, ◌<◌, ◌+◌, ◌^◌, ◌∙◌, ◌⊎◌, inl, inr, ⊎_elim, sym, ap, subst, refl, ℕ, suc, zero, ◌==◌, ◌&&◌, if◌then◌else◌, Bool}
+use Rattle.std.proofs.Common.{true, false, List, [], ◌∷◌, ◌++◌, codes, length, take, drop, arith, lit<, Option, Some, None, MatchOption, eqb, eqb-true, eq-eqb}
+use Rattle.std.proofs.Common.{ne_eqb, ltb-true, lt-ltb, nat_lt}
 use Rattle.std.proofs.lemmas.Bool.Decides.{eqb_tells}
 use Rattle.std.specs.List.{list_all, find, range_with_len}
 use Rattle.std.specs.Fmt.{digits}
@@ -50,8 +52,25 @@ found P test (m ∷ numbers) n each is = found_at P test m n (find test numbers)
 -- ---- registers
 
 numbers_below : Each (λ r. r < 16) (range_with_len 0 16)
-numbers_below =
-    (lit< tt, (lit< tt, (lit< tt, (lit< tt, (lit< tt, (lit< tt, (lit< tt, (lit< tt, (lit< tt, (lit< tt, (lit< tt, (lit< tt, (lit< tt, (lit< tt, (lit< tt, (lit< tt, tt))))))))))))))))
+numbers_below = (
+  lit< tt,
+  (
+    lit< tt,
+    (
+      lit< tt,
+      (
+        lit< tt,
+        (
+          lit< tt,
+          (
+            lit< tt,
+            (lit< tt, (lit< tt, (lit< tt, (lit< tt, (lit< tt, (lit< tt, (lit< tt, (lit< tt, (lit< tt, (lit< tt, tt)))))))))),
+          ),
+        ),
+      ),
+    ),
+  ),
+)
 
 pub register_of-is : (bytes : List ℕ) (r : ℕ) → register_of bytes ≡ Some r → (register_text r ≡ bytes) × (r < 16)
 unfolding register_of
@@ -93,7 +112,8 @@ special_of-is bytes s is =
 
 each_special : (P : ℕ → Type 0) → P 0 → P 8 → P 16 → (s : ℕ) → IsSpecial s → P s
 each_special P a b c s known =
-    ⊎_elim (λ (is : s ≡ 0). subst P (sym is) a) (λ (known : (s ≡ 8) ⊎ (s ≡ 16)). ⊎_elim (λ (is : s ≡ 8). subst P (sym is) b) (λ (is : s ≡ 16). subst P (sym is) c) known) known
+    ⊎_elim (λ (is : s ≡ 0). subst P (sym is) a) (λ (known : (s ≡ 8) ⊎ (s ≡ 16)). ⊎_elim (λ (is : s ≡ 8). subst P (sym is) b)
+    (λ (is : s ≡ 16). subst P (sym is) c) known) known
 
 pub special_of-text : (s : ℕ) → IsSpecial s → special_of (special_text s) ≡ Some s
 unfolding special_of special_text digits
@@ -203,7 +223,8 @@ none_found : (found : Option ℕ) → ((n : ℕ) → found ≡ Some n → ⊥) �
 none_found None never = refl
 none_found (Some n) never = absurd (never n refl)
 
-pub number_in-answer : (bytes : List ℕ) (r : Option ℕ) → MatchOption r ((value : ℕ) → IsNumber bytes value → ⊥) (λ value. IsNumber bytes value) → number_in bytes ≡ r
+pub number_in-answer : (bytes : List ℕ) (r : Option ℕ) → MatchOption r ((value : ℕ) → IsNumber bytes value → ⊥) (λ value. IsNumber bytes value) →
+    number_in bytes ≡ r
 number_in-answer bytes None none = none_found (number_in bytes) (λ n is. none n (number_in-is bytes n is))
 number_in-answer bytes (Some value) is = number_in-number bytes value is
 

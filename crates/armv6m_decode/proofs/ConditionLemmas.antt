@@ -1,7 +1,8 @@
 -- The conditions and their codes.
 use Rattle.std.proofs.Common.{◌≡◌, ◌∙◌, ◌<◌, ℕ, refl, sym, ap, get_or, lit<}
 use Rattle.armv6m_decode.specs.declared.condition.Condition.{Condition}
-use Rattle.armv6m_decode.specs.declared.condition.Condition.TheVariants.{Equal, NotEqual, CarrySet, CarryClear, Minus, Plus, Overflow, NoOverflow, Higher, LowerOrSame, GreaterOrEqual, LessThan, GreaterThan, LessOrEqual}
+use Rattle.armv6m_decode.specs.declared.condition.Condition.TheVariants.{Equal, NotEqual, CarrySet, CarryClear, Minus, Plus, Overflow, NoOverflow, Higher}
+use Rattle.armv6m_decode.specs.declared.condition.Condition.TheVariants.{LowerOrSame, GreaterOrEqual, LessThan, GreaterThan, LessOrEqual}
 use Rattle.armv6m_decode.specs.declared.condition.TheConstants.Condition.{ALL}
 use Rattle.armv6m_decode.specs.Conditions.{condition_code, condition_of}
 

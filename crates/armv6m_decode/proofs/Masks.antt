@@ -33,7 +33,8 @@ under_ff87 half h =
     let split : half ≡ half / 128 * 2 ^ 7 + half % 128 = omega arith in
     let low : bit_and (half % 128) 7 ≡ half % 8 = (let e : half % 128 % 8 ≡ half % 8 = omega arith in and_mask (half % 128) 3 ∙ e) in
     let high : bit_and (half / 128) 0x1FF ≡ half / 128 = (let e : half / 128 % 512 ≡ half / 128 = omega arith in and_mask (half / 128) 9 ∙ e) in
-    ap (λ (x : ℕ). bit_and x 0xFF87) split ∙ and_block 7 (half / 128) 0x1FF (half % 128) 7 (omega arith) (omega arith) ∙ ap (λ (x : ℕ). x * 128 + bit_and (half % 128) 7) high ∙ ap (λ (x : ℕ). half / 128 * 128 + x) low
+    ap (λ (x : ℕ). bit_and x 0xFF87) split ∙ and_block 7 (half / 128) 0x1FF (half % 128) 7 (omega arith) (omega arith) ∙
+    ap (λ (x : ℕ). x * 128 + bit_and (half % 128) 7) high ∙ ap (λ (x : ℕ). half / 128 * 128 + x) low
 
 -- what the masks of the rows and of the pair rows need, with the tests of numbers
 pub ruleset masks = (nat_tests, under_ff87, under_f000, under_f800, under_fc00, under_fe00, under_ff00, under_ff80, under_ffc0, under_ffff)

@@ -1,5 +1,6 @@
 -- Rows that can't fit any halfword of a range are left out of a scan, and no halfword fits two rows that differ on a bit of both masks.
-use Rattle.std.proofs.Common.{◌≡◌, ℕ, zero, suc, ◌+◌, ◌^◌, ◌<◌, ◌≤◌, Bool, true, false, cond, not, ◌&&◌, ◌||◌, eqb, ltb, List, [], ◌∷◌, Option, Some, slice_get, bit_and, bit_or, refl, sym, ap, ◌∙◌, arith, ltb-true, eqb-true}
+use Rattle.std.proofs.Common.{◌≡◌, ℕ, zero, suc, ◌+◌, ◌^◌, ◌<◌, ◌≤◌, Bool, true, false, cond, not, ◌&&◌, ◌||◌, eqb, ltb, List, [], ◌∷◌, Option, Some, slice_get}
+use Rattle.std.proofs.Common.{bit_and, bit_or, refl, sym, ap, ◌∙◌, arith, ltb-true, eqb-true}
 use Rattle.std.proofs.lemmas.Bool.Decides.{nat_tests}
 use Rattle.std.proofs.lemmas.Nat.{and_assoc}
 use Rattle.std.specs.Int.Bits.{and_comm, or_add_and, or_lt, and_le_l}
@@ -41,22 +42,27 @@ not_true true n = absurd (n refl)
 not_true false n = refl
 
 -- a row that is outside the range does not fit
-outside_unfit : (low high half value mask : ℕ) → low ≤ half → half ≤ high → half < 2 ^ 16 → mask < 2 ^ 16 → (ltb high value || ltb (value + 65535) (low + mask)) ≡ true → eqb (bit_and half mask) value ≡ true → ⊥
+outside_unfit : (low high half value mask : ℕ) → low ≤ half → half ≤ high → half < 2 ^ 16 → mask < 2 ^ 16 →
+    (ltb high value || ltb (value + 65535) (low + mask)) ≡ true → eqb (bit_and half mask) value ≡ true → ⊥
 outside_unfit low high half value mask l h w m out fit =
     let r : (value ≤ half) × (half + mask ≤ value + 65535) = fits_range half mask value w m (eqb-true _ _ fit) in
     let above : value + 65535 < low + mask = ltb-true _ _ (either_true _ _ out (λ e. let x : high < value = ltb-true _ _ e in omega arith)) in
     omega arith
 
 -- in the range, the first row that fits is the first of the rows near it
-pub narrow : (low high : ℕ) (rs : List Row) (half : ℕ) → masks_fit rs ≡ true → half < 2 ^ 16 → low ≤ half → half ≤ high → first_fit rs half ≡ first_fit (near low high rs) half
+pub narrow : (low high : ℕ) (rs : List Row) (half : ℕ) → masks_fit rs ≡ true → half < 2 ^ 16 → low ≤ half → half ≤ high →
+    first_fit rs half ≡ first_fit (near low high rs) half
 narrow low high [] half m w l h = refl
 narrow low high (r ∷ rs) half m w l h =
     let masks = both (ltb r.mask 65536) (masks_fit rs) m in
     let rest : first_fit rs half ≡ first_fit (near low high rs) half = narrow low high rs half masks.1 w l h in
     let out : outside low high r ≡ true → first_fit (r ∷ rs) half ≡ first_fit (near low high rs) half = λ e.
-    ap (λ (b : Bool). cond b (Some (r.form half)) (first_fit rs half)) (not_true (fits r half) (outside_unfit low high half r.value r.mask l h w (ltb-true _ _ masks.0) e)) ∙ rest in
-    let step : (b : Bool) → (b ≡ true → first_fit (r ∷ rs) half ≡ first_fit (near low high rs) half) → first_fit (r ∷ rs) half ≡ first_fit (cond b (near low high rs) (r ∷ near low high rs)) half = λ b.
-    elim b as (λ (b : Bool). (b ≡ true → first_fit (r ∷ rs) half ≡ first_fit (near low high rs) half) → first_fit (r ∷ rs) half ≡ first_fit (cond b (near low high rs) (r ∷ near low high rs)) half) [
+    ap (λ (b : Bool). cond b (Some (r.form half)) (first_fit rs half))
+    (not_true (fits r half) (outside_unfit low high half r.value r.mask l h w (ltb-true _ _ masks.0) e)) ∙ rest in
+    let step : (b : Bool) → (b ≡ true → first_fit (r ∷ rs) half ≡ first_fit (near low high rs) half) →
+    first_fit (r ∷ rs) half ≡ first_fit (cond b (near low high rs) (r ∷ near low high rs)) half = λ b.
+    elim b as (λ (b : Bool). (b ≡ true → first_fit (r ∷ rs) half ≡ first_fit (near low high rs) half) →
+    first_fit (r ∷ rs) half ≡ first_fit (cond b (near low high rs) (r ∷ near low high rs)) half) [
       | true ↦ λ t. t refl
       | false ↦ λ _. ap (λ (x : Option Instr). cond (fits r half) (Some (r.form half)) x) rest
     ] in
@@ -81,7 +87,8 @@ all_apart (r ∷ rs) = apart_from r rs && all_apart rs
 -- two rows that fit one halfword agree on the bits of both masks
 same_shared : (half v m w n : ℕ) → bit_and half m ≡ v → bit_and half n ≡ w → bit_and v n ≡ bit_and w m
 same_shared half v m w n p q =
-    ap (λ (x : ℕ). bit_and x n) (sym p) ∙ and_assoc n half m ∙ ap (λ (x : ℕ). bit_and half x) (and_comm m n) ∙ sym (and_assoc m half n) ∙ ap (λ (x : ℕ). bit_and x m) q
+    ap (λ (x : ℕ). bit_and x n) (sym p) ∙ and_assoc n half m ∙ ap (λ (x : ℕ). bit_and half x) (and_comm m n) ∙ sym (and_assoc m half n) ∙
+    ap (λ (x : ℕ). bit_and x m) q
 
 not_both : (r s : Row) (half : ℕ) → apart r s ≡ true → fits r half ≡ true → fits s half ≡ true → ⊥
 not_both r s half a f g =
@@ -89,7 +96,8 @@ not_both r s half a f g =
     grind (arith, nat_tests)
 
 -- a row that is apart from each of a list fits no halfword with one of them
-first_only : (r : Row) (rs : List Row) (half : ℕ) → apart_from r rs ≡ true → (j : ℕ) (s : Row) → slice_get rs j ≡ Some s → fits r half ≡ true → fits s half ≡ true → ⊥
+first_only : (r : Row) (rs : List Row) (half : ℕ) → apart_from r rs ≡ true → (j : ℕ) (s : Row) → slice_get rs j ≡ Some s → fits r half ≡ true →
+    fits s half ≡ true → ⊥
 first_only r [] half a j s e f g = cc
 first_only r (t ∷ ts) half a zero s e f g =
     let same : t ≡ s = cc in
@@ -111,7 +119,8 @@ one_fits (t ∷ ts) a (suc i) (suc j) half r s e d f g = ap (λ (k : ℕ). suc k
 -- ---- the same for pairs
 
 abbrev pub pair_apart : PairRow → PairRow → Bool
-pair_apart r s = not (eqb (bit_and r.value s.mask) (bit_and s.value r.mask)) || not (eqb (bit_and r.second_value s.second_mask) (bit_and s.second_value r.second_mask))
+pair_apart r s = not (eqb (bit_and r.value s.mask) (bit_and s.value r.mask)) || not
+    (eqb (bit_and r.second_value s.second_mask) (bit_and s.second_value r.second_mask))
 
 abbrev pub pair_apart_from : PairRow → List PairRow → Bool
 pair_apart_from r [] = true
@@ -126,10 +135,12 @@ not_both_pairs r s first second a f g =
     let fr = both (eqb (bit_and first r.mask) r.value) _ f in
     let fs = both (eqb (bit_and first s.mask) s.value) _ g in
     let e : bit_and r.value s.mask ≡ bit_and s.value r.mask = same_shared first r.value r.mask s.value s.mask (eqb-true _ _ fr.0) (eqb-true _ _ fs.0) in
-    let e2 : bit_and r.second_value s.second_mask ≡ bit_and s.second_value r.second_mask = same_shared second r.second_value r.second_mask s.second_value s.second_mask (eqb-true _ _ fr.1) (eqb-true _ _ fs.1) in
+    let e2 : bit_and r.second_value s.second_mask ≡ bit_and s.second_value r.second_mask =
+    same_shared second r.second_value r.second_mask s.second_value s.second_mask (eqb-true _ _ fr.1) (eqb-true _ _ fs.1) in
     grind (arith, nat_tests)
 
-first_pair_only : (r : PairRow) (rs : List PairRow) (first second : ℕ) → pair_apart_from r rs ≡ true → (j : ℕ) (s : PairRow) → slice_get rs j ≡ Some s → fits_pair r first second ≡ true → fits_pair s first second ≡ true → ⊥
+first_pair_only : (r : PairRow) (rs : List PairRow) (first second : ℕ) → pair_apart_from r rs ≡ true → (j : ℕ) (s : PairRow) → slice_get rs j ≡ Some s →
+    fits_pair r first second ≡ true → fits_pair s first second ≡ true → ⊥
 first_pair_only r [] first second a j s e f g = cc
 first_pair_only r (t ∷ ts) first second a zero s e f g =
     let same : t ≡ s = cc in

@@ -35,7 +35,8 @@ none_near_pairs half = refl
 pub no_row_begins_pair : NoRowBeginsPair
 no_row_begins_pair half within first = row_near 0xE800 0xFFFF half within (omega arith) (omega arith) ∙ none_near_pairs half
 
-pub decoded_near : (low high half : ℕ) → half < 2 ^ 16 → low ≤ half → half ≤ high → high < 0xE800 → decoded half ≡ op_or_undefined (first_fit (near low high rows) half)
+pub decoded_near : (low high half : ℕ) → half < 2 ^ 16 → low ≤ half → half ≤ high → high < 0xE800 →
+    decoded half ≡ op_or_undefined (first_fit (near low high rows) half)
 unfolding decoded
 decoded_near low high half within above below short =
     let no_pair : leb 29 (half / 2048) ≡ false = grind (arith, nat_tests) in

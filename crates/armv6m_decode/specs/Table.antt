@@ -41,7 +41,7 @@ branch_offset g h =
 unfoldable pub rows : List Row
 rows =
     -- A5.2.1 Shift (immediate), add, subtract, move, and compare
-    row 0x0000 0xF800 (λ h. instr.Alu (LslsImmediate (bits 2 0 h) (bits 5 3 h) (bits 10 6 h))) ∷  -- LSL (immediate) T1; with immediate 0 it is MOV (register) T2
+    row 0x0000 0xF800 (λ h. instr.Alu (LslsImmediate (bits 2 0 h) (bits 5 3 h) (bits 10 6 h))) ∷  -- LSL (immediate) T1; immediate 0: MOV (register) T2
     row 0x0800 0xF800 (λ h. instr.Alu (LsrsImmediate (bits 2 0 h) (bits 5 3 h) (bits 10 6 h))) ∷  -- LSR (immediate) T1
     row 0x1000 0xF800 (λ h. instr.Alu (AsrsImmediate (bits 2 0 h) (bits 5 3 h) (bits 10 6 h))) ∷  -- ASR (immediate) T1
     row 0x1800 0xFE00 (λ h. instr.Alu (AddsRegister (bits 2 0 h) (bits 5 3 h) (bits 8 6 h))) ∷  -- ADD (register) T1

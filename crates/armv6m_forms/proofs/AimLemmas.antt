@@ -76,8 +76,10 @@ pub unread_near : (at target by : ℕ) (result : Option Instr) → by ≡ distan
 unread_near at target by result is h none =
     no_reading at (Aimed Branch target) result (ap (with_field (λ i. Some (instr.Branch (B i)))) (h ∙ ap (λ (x : ℕ). halved 2048 x) is)) none
 
-pub read_short : (condition : Condition) (at target by a : ℕ) (result : Option Instr) → target < 2 ^ 32 → by ≡ distance (pc_read at) target → Some a ≡ halved 256 by
-    → result ≡ (if fields_fit (instr.Branch (Bcc condition a)) then Some (instr.Branch (Bcc condition a)) else None) → IsReadAt at (Aimed (BranchIf condition) target) result
+pub read_short : (condition : Condition) (at target by a : ℕ) (result : Option Instr) → target < 2 ^ 32 → by ≡ distance (pc_read at) target →
+    Some a ≡ halved 256 by
+    → result ≡ (if fields_fit (instr.Branch (Bcc condition a)) then Some (instr.Branch (Bcc condition a)) else None) →
+    IsReadAt at (Aimed (BranchIf condition) target) result
 unfolding form_of
 read_short condition at target by a result within is h fits =
     let there : branch_target 8 at a ≡ target = short_target at target by a within is h in
@@ -88,7 +90,8 @@ read_short condition at target by a result within is h fits =
 pub unread_short : (condition : Condition) (at target by : ℕ) (result : Option Instr) → by ≡ distance (pc_read at) target → None ≡ halved 256 by → result ≡ None
     → IsReadAt at (Aimed (BranchIf condition) target) result
 unread_short condition at target by result is h none =
-    no_reading at (Aimed (BranchIf condition) target) result (ap (with_field (λ i. Some (instr.Branch (Bcc condition i)))) (h ∙ ap (λ (x : ℕ). halved 256 x) is)) none
+    no_reading at (Aimed (BranchIf condition) target) result
+    (ap (with_field (λ i. Some (instr.Branch (Bcc condition i)))) (h ∙ ap (λ (x : ℕ). halved 256 x) is)) none
 
 pub read_far : (at target by a : ℕ) (result : Option Instr) → target < 2 ^ 32 → by ≡ distance (pc_read at) target → Some a ≡ halved 16777216 by
     → result ≡ (if fields_fit (instr.Branch (Bl a)) then Some (instr.Branch (Bl a)) else None) → IsReadAt at (Aimed BranchLink target) result
@@ -132,5 +135,6 @@ pub unread_address : (d at target by : ℕ) (result : Option Instr) → by ≡ d
 unread_address d at target by result is h none =
     no_reading at (Aimed (Address d) target) result (ap (with_field (λ i. Some (instr.Other (Adr d i)))) (h ∙ ap (λ (x : ℕ). counted 4 x) is)) none
 
-pub as_aimed : (at target : ℕ) (aim other : Aim) (result : Option Instr) → aim ≡ other → IsReadAt at (Aimed other target) result → IsReadAt at (Aimed aim target) result
+pub as_aimed : (at target : ℕ) (aim other : Aim) (result : Option Instr) → aim ≡ other → IsReadAt at (Aimed other target) result →
+    IsReadAt at (Aimed aim target) result
 as_aimed at target aim other result is h = subst (λ (a : Aim). IsReadAt at (Aimed a target) result) (sym is) h

@@ -1,14 +1,21 @@
 -- The row that a form names, and that no other instruction stands for the form.
 use Rattle.std.proofs.Common.{refl, ap, ◌∙◌, sym, arith, ⊎_elim}
 use Rattle.std.proofs.lemmas.Bool.Decides.{nat_tests}
-use Rattle.std.specs.Prelude.{◌≡◌, ℕ, ◌+◌, ◌-◌, ◌*◌, ◌/◌, ◌%◌, ◌^◌, ◌<◌, ◌&&◌, Bool, true, false, not, IsTrue, nat_eq, nat_lt, if◌then◌else◌, Option, Some, None}
+use Rattle.std.specs.Prelude.{◌≡◌, ℕ, ◌+◌, ◌-◌, ◌*◌, ◌/◌, ◌%◌, ◌^◌, ◌<◌, ◌&&◌, Bool, true, false, not, IsTrue, nat_eq, nat_lt, if◌then◌else◌, Option, Some}
+use Rattle.std.specs.Prelude.{None}
 use Rattle.armv6m_decode.specs.declared.instr.Instr.{Instr}
 use Rattle.armv6m_decode.specs.declared.instr.Instr.TheVariants as instr
-use Rattle.armv6m_decode.specs.declared.instr.Alu.TheVariants.{LslsImmediate, LsrsImmediate, AsrsImmediate, AddsRegister, SubsRegister, AddsImmediate3, SubsImmediate3, MovsImmediate, CmpImmediate, AddsImmediate8, SubsImmediate8, Ands, Eors, LslsRegister, LsrsRegister, AsrsRegister, Adcs, Sbcs, Rors, Tst, Rsbs, CmpRegister, Cmn, Orrs, Muls, Bics, Mvns, AddHigh, CmpHigh, MovHigh}
-use Rattle.armv6m_decode.specs.declared.instr.Memory.TheVariants.{LdrLiteral, StrRegister, StrhRegister, StrbRegister, LdrsbRegister, LdrRegister, LdrhRegister, LdrbRegister, LdrshRegister, StrImmediate, LdrImmediate, StrbImmediate, LdrbImmediate, StrhImmediate, LdrhImmediate, StrSp, LdrSp}
+use Rattle.armv6m_decode.specs.declared.instr.Alu.TheVariants.{LslsImmediate, LsrsImmediate, AsrsImmediate, AddsRegister, SubsRegister, AddsImmediate3}
+use Rattle.armv6m_decode.specs.declared.instr.Alu.TheVariants.{SubsImmediate3, MovsImmediate, CmpImmediate, AddsImmediate8, SubsImmediate8, Ands, Eors}
+use Rattle.armv6m_decode.specs.declared.instr.Alu.TheVariants.{LslsRegister, LsrsRegister, AsrsRegister, Adcs, Sbcs, Rors, Tst, Rsbs, CmpRegister, Cmn, Orrs}
+use Rattle.armv6m_decode.specs.declared.instr.Alu.TheVariants.{Muls, Bics, Mvns, AddHigh, CmpHigh, MovHigh}
+use Rattle.armv6m_decode.specs.declared.instr.Memory.TheVariants.{LdrLiteral, StrRegister, StrhRegister, StrbRegister, LdrsbRegister, LdrRegister, LdrhRegister}
+use Rattle.armv6m_decode.specs.declared.instr.Memory.TheVariants.{LdrbRegister, LdrshRegister, StrImmediate, LdrImmediate, StrbImmediate, LdrbImmediate}
+use Rattle.armv6m_decode.specs.declared.instr.Memory.TheVariants.{StrhImmediate, LdrhImmediate, StrSp, LdrSp}
 use Rattle.armv6m_decode.specs.declared.instr.Many.TheVariants.{Push, Pop, Stm, Ldm}
 use Rattle.armv6m_decode.specs.declared.instr.Branch.TheVariants.{Bx, Blx, Bcc, B, Bl}
-use Rattle.armv6m_decode.specs.declared.instr.Other.TheVariants.{Adr, AddFromSp, AddToSp, SubFromSp, Sxth, Sxtb, Uxth, Uxtb, Cpsie, Cpsid, Rev, Rev16, Revsh, Bkpt, Nop, Yield, Wfe, Wfi, Sev, Udf, Svc, Mrs, Msr, Dsb, Dmb, Isb}
+use Rattle.armv6m_decode.specs.declared.instr.Other.TheVariants.{Adr, AddFromSp, AddToSp, SubFromSp, Sxth, Sxtb, Uxth, Uxtb, Cpsie, Cpsid, Rev, Rev16, Revsh}
+use Rattle.armv6m_decode.specs.declared.instr.Other.TheVariants.{Bkpt, Nop, Yield, Wfe, Wfi, Sev, Udf, Svc, Mrs, Msr, Dsb, Dmb, Isb}
 use Rattle.armv6m_encode.specs.Encoding.{fields_fit}
 use Rattle.armv6m_decode.specs.declared.registers.TheConstants.{SP, LR, PC}
 use Rattle.armv6m_forms.specs.declared.mnemonic.Mnemonic.{Mnemonic}
@@ -129,8 +136,10 @@ row_by_offset mnemonic.Ldrb t n field = Some (instr.Memory (LdrbImmediate t n fi
 row_by_offset _ t n field = None
 
 abbrev pub row_list : Mnemonic → ℕ → Option Instr
-row_list mnemonic.Push list = if nat_eq (list / 256) 0 then Some (instr.Many (Push false (list % 256))) else if nat_eq (list / 256) 64 then Some (instr.Many (Push true (list % 256))) else None
-row_list mnemonic.Pop list = if nat_eq (list / 256) 0 then Some (instr.Many (Pop false (list % 256))) else if nat_eq (list / 256) 128 then Some (instr.Many (Pop true (list % 256))) else None
+row_list mnemonic.Push list = if nat_eq (list / 256) 0 then Some (instr.Many (Push false (list % 256))) else if nat_eq (list / 256) 64 then Some
+    (instr.Many (Push true (list % 256))) else None
+row_list mnemonic.Pop list = if nat_eq (list / 256) 0 then Some (instr.Many (Pop false (list % 256))) else if nat_eq (list / 256) 128 then Some
+    (instr.Many (Pop true (list % 256))) else None
 row_list _ list = None
 
 abbrev pub row_base_list : Mnemonic → ℕ → ℕ → Option Instr
@@ -292,17 +301,24 @@ aimed_far at a h =
 
 found : (i : Instr) (at : ℕ) → IsTrue (fields_fit i) → IsTrue (is_made i) → row_of (form_of i at) at ≡ Some i
 unfolding form_of
-found (instr.Alu (LslsImmediate d m immediate)) at fields made = moved_by (nat_eq immediate 0) d m immediate at refl (third_of_three d m immediate 8 8 32 fields)
+found (instr.Alu (LslsImmediate d m immediate)) at fields made =
+    moved_by (nat_eq immediate 0) d m immediate at refl (third_of_three d m immediate 8 8 32 fields)
 found (instr.Alu (LsrsImmediate d m immediate)) at fields made = shifted_right d m immediate (third_of_three d m immediate 8 8 32 fields)
 found (instr.Alu (AsrsImmediate d m immediate)) at fields made = shifted_right_signed d m immediate (third_of_three d m immediate 8 8 32 fields)
 found (instr.Alu (AddsRegister d n m)) at fields made = refl
 found (instr.Alu (SubsRegister d n m)) at fields made = refl
-found (instr.Alu (AddsImmediate3 d n immediate)) at fields made = ap (with_field (λ i. Some (instr.Alu (AddsImmediate3 d n i)))) (counted_1 immediate (omega (arith, third_of_three d n immediate 8 8 8 fields)))
-found (instr.Alu (SubsImmediate3 d n immediate)) at fields made = ap (with_field (λ i. Some (instr.Alu (SubsImmediate3 d n i)))) (counted_1 immediate (omega (arith, third_of_three d n immediate 8 8 8 fields)))
-found (instr.Alu (MovsImmediate d immediate)) at fields made = ap (with_field (λ i. Some (instr.Alu (MovsImmediate d i)))) (counted_1 immediate (second_of_two d immediate 8 256 fields))
-found (instr.Alu (CmpImmediate n immediate)) at fields made = ap (with_field (λ i. Some (instr.Alu (CmpImmediate n i)))) (counted_1 immediate (second_of_two n immediate 8 256 fields))
-found (instr.Alu (AddsImmediate8 d immediate)) at fields made = ap (with_field (λ i. Some (instr.Alu (AddsImmediate8 d i)))) (counted_1 immediate (second_of_two d immediate 8 256 fields))
-found (instr.Alu (SubsImmediate8 d immediate)) at fields made = ap (with_field (λ i. Some (instr.Alu (SubsImmediate8 d i)))) (counted_1 immediate (second_of_two d immediate 8 256 fields))
+found (instr.Alu (AddsImmediate3 d n immediate)) at fields made =
+    ap (with_field (λ i. Some (instr.Alu (AddsImmediate3 d n i)))) (counted_1 immediate (omega (arith, third_of_three d n immediate 8 8 8 fields)))
+found (instr.Alu (SubsImmediate3 d n immediate)) at fields made =
+    ap (with_field (λ i. Some (instr.Alu (SubsImmediate3 d n i)))) (counted_1 immediate (omega (arith, third_of_three d n immediate 8 8 8 fields)))
+found (instr.Alu (MovsImmediate d immediate)) at fields made =
+    ap (with_field (λ i. Some (instr.Alu (MovsImmediate d i)))) (counted_1 immediate (second_of_two d immediate 8 256 fields))
+found (instr.Alu (CmpImmediate n immediate)) at fields made =
+    ap (with_field (λ i. Some (instr.Alu (CmpImmediate n i)))) (counted_1 immediate (second_of_two n immediate 8 256 fields))
+found (instr.Alu (AddsImmediate8 d immediate)) at fields made =
+    ap (with_field (λ i. Some (instr.Alu (AddsImmediate8 d i)))) (counted_1 immediate (second_of_two d immediate 8 256 fields))
+found (instr.Alu (SubsImmediate8 d immediate)) at fields made =
+    ap (with_field (λ i. Some (instr.Alu (SubsImmediate8 d i)))) (counted_1 immediate (second_of_two d immediate 8 256 fields))
 found (instr.Alu (Ands d m)) at fields made = refl
 found (instr.Alu (Eors d m)) at fields made = refl
 found (instr.Alu (LslsRegister d m)) at fields made = refl
@@ -324,7 +340,8 @@ found (instr.Alu (CmpHigh n m)) at fields made = compared n m made
 found (instr.Alu (MovHigh d m)) at fields made = refl
 found (instr.Branch (Bx m)) at fields made = refl
 found (instr.Branch (Blx m)) at fields made = refl
-found (instr.Memory (LdrLiteral t immediate)) at fields made = aimed_literal (λ i. instr.Memory (LdrLiteral t i)) at immediate (second_of_two t immediate 8 256 fields)
+found (instr.Memory (LdrLiteral t immediate)) at fields made = aimed_literal (λ i. instr.Memory (LdrLiteral t i)) at immediate
+    (second_of_two t immediate 8 256 fields)
 found (instr.Memory (StrRegister t n m)) at fields made = refl
 found (instr.Memory (StrhRegister t n m)) at fields made = refl
 found (instr.Memory (StrbRegister t n m)) at fields made = refl
@@ -335,16 +352,25 @@ found (instr.Memory (LdrbRegister t n m)) at fields made = refl
 found (instr.Memory (LdrshRegister t n m)) at fields made = refl
 found (instr.Memory (StrImmediate t n immediate)) at fields made = stored_low t n immediate fields
 found (instr.Memory (LdrImmediate t n immediate)) at fields made = loaded_low t n immediate fields
-found (instr.Memory (StrbImmediate t n immediate)) at fields made = ap (with_field (λ i. Some (instr.Memory (StrbImmediate t n i)))) (counted_1 immediate (omega (arith, third_of_three t n immediate 8 8 32 fields)))
-found (instr.Memory (LdrbImmediate t n immediate)) at fields made = ap (with_field (λ i. Some (instr.Memory (LdrbImmediate t n i)))) (counted_1 immediate (omega (arith, third_of_three t n immediate 8 8 32 fields)))
-found (instr.Memory (StrhImmediate t n immediate)) at fields made = ap (with_field (λ i. Some (instr.Memory (StrhImmediate t n i)))) (counted_2 immediate (omega (arith, third_of_three t n immediate 8 8 32 fields)))
-found (instr.Memory (LdrhImmediate t n immediate)) at fields made = ap (with_field (λ i. Some (instr.Memory (LdrhImmediate t n i)))) (counted_2 immediate (omega (arith, third_of_three t n immediate 8 8 32 fields)))
-found (instr.Memory (StrSp t immediate)) at fields made = ap (with_field (λ i. Some (instr.Memory (StrSp t i)))) (counted_4 immediate (second_of_two t immediate 8 256 fields))
-found (instr.Memory (LdrSp t immediate)) at fields made = ap (with_field (λ i. Some (instr.Memory (LdrSp t i)))) (counted_4 immediate (second_of_two t immediate 8 256 fields))
+found (instr.Memory (StrbImmediate t n immediate)) at fields made = ap (with_field (λ i. Some (instr.Memory (StrbImmediate t n i))))
+    (counted_1 immediate (omega (arith, third_of_three t n immediate 8 8 32 fields)))
+found (instr.Memory (LdrbImmediate t n immediate)) at fields made = ap (with_field (λ i. Some (instr.Memory (LdrbImmediate t n i))))
+    (counted_1 immediate (omega (arith, third_of_three t n immediate 8 8 32 fields)))
+found (instr.Memory (StrhImmediate t n immediate)) at fields made = ap (with_field (λ i. Some (instr.Memory (StrhImmediate t n i))))
+    (counted_2 immediate (omega (arith, third_of_three t n immediate 8 8 32 fields)))
+found (instr.Memory (LdrhImmediate t n immediate)) at fields made = ap (with_field (λ i. Some (instr.Memory (LdrhImmediate t n i))))
+    (counted_2 immediate (omega (arith, third_of_three t n immediate 8 8 32 fields)))
+found (instr.Memory (StrSp t immediate)) at fields made = ap (with_field (λ i. Some (instr.Memory (StrSp t i))))
+    (counted_4 immediate (second_of_two t immediate 8 256 fields))
+found (instr.Memory (LdrSp t immediate)) at fields made = ap (with_field (λ i. Some (instr.Memory (LdrSp t i))))
+    (counted_4 immediate (second_of_two t immediate 8 256 fields))
 found (instr.Other (Adr d immediate)) at fields made = aimed_literal (λ i. instr.Other (Adr d i)) at immediate (second_of_two d immediate 8 256 fields)
-found (instr.Other (AddFromSp d immediate)) at fields made = ap (with_field (λ i. Some (instr.Other (AddFromSp d i)))) (counted_4 immediate (second_of_two d immediate 8 256 fields))
-found (instr.Other (AddToSp immediate)) at fields made = ap (with_field (λ i. Some (instr.Other (AddToSp i)))) (counted_4 immediate (omega (arith, one_below immediate 128 fields)))
-found (instr.Other (SubFromSp immediate)) at fields made = ap (with_field (λ i. Some (instr.Other (SubFromSp i)))) (counted_4 immediate (omega (arith, one_below immediate 128 fields)))
+found (instr.Other (AddFromSp d immediate)) at fields made =
+    ap (with_field (λ i. Some (instr.Other (AddFromSp d i)))) (counted_4 immediate (second_of_two d immediate 8 256 fields))
+found (instr.Other (AddToSp immediate)) at fields made = ap (with_field (λ i. Some (instr.Other (AddToSp i))))
+    (counted_4 immediate (omega (arith, one_below immediate 128 fields)))
+found (instr.Other (SubFromSp immediate)) at fields made = ap (with_field (λ i. Some (instr.Other (SubFromSp i))))
+    (counted_4 immediate (omega (arith, one_below immediate 128 fields)))
 found (instr.Other (Sxth d m)) at fields made = refl
 found (instr.Other (Sxtb d m)) at fields made = refl
 found (instr.Other (Uxth d m)) at fields made = refl

@@ -1,5 +1,6 @@
 -- Laws of the texts of operands.
-use Rattle.std.proofs.Common.{◌≡◌, ◌≢◌, ◌≤◌, ◌+◌, ◌-◌, ℕ, zero, suc, Bool, true, false, List, [], ◌∷◌, ◌++◌, length, codes, decimal, refl, rules, arith, ap, ◌∙◌, add-zero, append_assoc, append-nil, length-append, if◌then◌else◌}
+use Rattle.std.proofs.Common.{◌≡◌, ◌≢◌, ◌≤◌, ◌+◌, ◌-◌, ℕ, zero, suc, Bool, true, false, List, [], ◌∷◌, ◌++◌, length, codes, decimal, refl, rules, arith, ap}
+use Rattle.std.proofs.Common.{◌∙◌, add-zero, append_assoc, append-nil, length-append, if◌then◌else◌}
 use Rattle.std.proofs.lemmas.Grind.{common_steps}
 use Rattle.std.proofs.lemmas.List.Elements.{filter-append}
 use Rattle.std.specs.List.{filter, range_with_len, join_by}
@@ -8,7 +9,8 @@ use Rattle.armv6m_forms.specs.Room.{IsShort}
 use Rattle.armv6m_forms.specs.Text.{text_of, register_text, comma_text, listed_below, list_text, operands_text, form_text}
 use Rattle.armv6m_forms.specs.declared.mnemonic.Mnemonic.{Mnemonic}
 use Rattle.armv6m_forms.specs.declared.form.Operands.{Operands}
-use Rattle.armv6m_forms.specs.declared.form.Operands.TheVariants.{None, One, Two, Three, Immediate, OneImmediate, TwoImmediate, ByRegister, ByOffset, List as RegisterList, BaseList, UpdatedList, Interrupts, FromSpecial, ToSpecial}
+use Rattle.armv6m_forms.specs.declared.form.Operands.TheVariants.{None, One, Two, Three, Immediate, OneImmediate, TwoImmediate, ByRegister, ByOffset}
+use Rattle.armv6m_forms.specs.declared.form.Operands.TheVariants.{List as RegisterList, BaseList, UpdatedList, Interrupts, FromSpecial, ToSpecial}
 use Rattle.armv6m_forms.specs.declared.form.Form.TheVariants.{Plain}
 
 -- a number that no register has

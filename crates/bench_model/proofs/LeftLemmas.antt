@@ -1,5 +1,6 @@
 -- What a write, a cut and a sync do to the files that a stop may leave.
-use Rattle.std.proofs.Common.{◌≡◌, ◌⊎◌, ⊎_elim, inl, inr, ◌<◌, ◌≤◌, ◌+◌, ◌-◌, ◌∙◌, ap, sym, refl, ℕ, List, ◌∷◌, ◌++◌, length, get_or, take, drop, max, replicate, arith, length-append, length-take, length-drop, append_assoc}
+use Rattle.std.proofs.Common.{◌≡◌, ◌⊎◌, ⊎_elim, inl, inr, ◌<◌, ◌≤◌, ◌+◌, ◌-◌, ◌∙◌, ap, sym, refl, ℕ, List, ◌∷◌, ◌++◌, length, get_or, take, drop, max}
+use Rattle.std.proofs.Common.{replicate, arith, length-append, length-take, length-drop, append_assoc}
 use Rattle.std.proofs.lemmas.List.{take_at, drop_at, drop_all, get_or-take, get_or-drop, get_or_append_left, get_or-append_right, length-replicate}
 use Rattle.std.proofs.lemmas.Grind.{same_number_lists}
 use Rattle.std.proofs.lemmas.Bool.{cases_lt}
@@ -13,7 +14,13 @@ stretch from n xs = take n (drop from (xs ++ replicate (from + n) 0))
 length-stretch : (from n : ℕ) (xs : List ℕ) → length (stretch from n xs) ≡ n
 unfolding stretch
 length-stretch from n xs =
-    omega (arith, length-take n (drop from (xs ++ replicate (from + n) 0)), length-drop from (xs ++ replicate (from + n) 0), length-append xs (replicate (from + n) 0), length-replicate {A = ℕ} (from + n) 0)
+    omega (
+      arith,
+      length-take n (drop from (xs ++ replicate (from + n) 0)),
+      length-drop from (xs ++ replicate (from + n) 0),
+      length-append xs (replicate (from + n) 0),
+      length-replicate {A = ℕ} (from + n) 0,
+    )
 
 get_or-stretch : (from n : ℕ) (xs : List ℕ) (i : ℕ) → i < n → from + i < length xs → get_or (stretch from n xs) i 0 ≡ get_or xs (from + i) 0
 unfolding stretch
@@ -56,7 +63,8 @@ module _ (at n : ℕ) (f xs : List ℕ) (le : at ≤ length f) where
       ∙ (let e : at + (i - at) ≡ i = omega (arith, from) in ap (λ (j : ℕ). get_or xs j 0) e)
 
 in_range : (at n : ℕ) (ranges : List (ℕ × ℕ)) (i : ℕ) → (i < at) ⊎ (at + n ≤ i) → (IsWritten ranges i → ⊥) → IsWritten ((at, n) ∷ ranges) i → ⊥
-in_range at n ranges i out none (inl range) = ⊎_elim (λ (b : i < at). absurd (omega (arith, b, range.0))) (λ (a : at + n ≤ i). absurd (omega (arith, a, range.1))) out
+in_range at n ranges i out none (inl range) = ⊎_elim (λ (b : i < at). absurd (omega (arith, b, range.0)))
+    (λ (a : at + n ≤ i). absurd (omega (arith, a, range.1))) out
 in_range at n ranges i out none (inr there) = none there
 
 module _ (k : Kept) (read : IsLeft k k.file) (enough : k.least ≤ length k.synced) where
@@ -93,7 +101,8 @@ module _ (k : Kept) (read : IsLeft k k.file) (enough : k.least ≤ length k.sync
           },
           record {
             before = sym (take-joined at m f k.synced inside);
-            after = drop_all (at + length bytes) f to ∙ sym (drop_all (at + length bytes) (joined at m f k.synced inside) (omega (arith, long, left.no_shorter, to)));
+            after = drop_all (at + length bytes) f to ∙ sym (drop_all (at + length bytes) (joined at m f k.synced inside)
+                (omega (arith, long, left.no_shorter, to)));
             no_shorter = omega (arith, long, left.no_shorter, from);
             no_longer = omega (arith, to);
           },
@@ -179,7 +188,13 @@ module _ (k : Kept) (read : IsLeft k k.file) (enough : k.least ≤ length k.sync
 
   pub length-written : (at : ℕ) (bytes old : List ℕ) → at ≤ length old → length (written at bytes old) ≡ max (length old) (at + length bytes)
   length-written at bytes old le =
-      omega (arith, length-append (take at old ++ bytes) (drop (at + length bytes) old), length-append (take at old) bytes, length-front at old le, length-drop (at + length bytes) old)
+      omega (
+        arith,
+        length-append (take at old ++ bytes) (drop (at + length bytes) old),
+        length-append (take at old) bytes,
+        length-front at old le,
+        length-drop (at + length bytes) old,
+      )
 
   pub read_write : (at : ℕ) (bytes : List ℕ) → at ≤ length k.file → IsLeft (after_write at bytes k) (written at bytes k.file)
   read_write at bytes le =
@@ -209,7 +224,8 @@ pub read_synced : (file : List ℕ) → IsLeft (all_synced file) file
 read_synced file = record { no_shorter = omega arith; no_longer = omega arith; same = λ i below none. refl }
 
 pub synced_only : (file f : List ℕ) → IsLeft (all_synced file) f → f ≡ file
-synced_only file f left = same_number_lists f file (omega (arith, left.no_shorter, left.no_longer)) (λ i below. left.same i (omega (arith, below, left.no_longer)) (λ none. none))
+synced_only file f left = same_number_lists f file (omega (arith, left.no_shorter, left.no_longer))
+    (λ i below. left.same i (omega (arith, below, left.no_longer)) (λ none. none))
 
 -- and back: each file that came by the step is one that the rule allows, so that the two say the same
 module _ (k : Kept) where
@@ -219,7 +235,8 @@ module _ (k : Kept) where
   same_behind : (n : ℕ) (d f : List ℕ) → drop n f ≡ drop n d → (i : ℕ) → n ≤ i → get_or f i 0 ≡ get_or d i 0
   same_behind n d f same i from =
       let e : n + (i - n) ≡ i = omega (arith, from) in
-      ap (λ (j : ℕ). get_or f j 0) (sym e) ∙ sym (get_or-drop n f (i - n) 0) ∙ ap (λ (l : List ℕ). get_or l (i - n) 0) same ∙ get_or-drop n d (i - n) 0 ∙ ap (λ (j : ℕ). get_or d j 0) e
+      ap (λ (j : ℕ). get_or f j 0) (sym e) ∙ sym (get_or-drop n f (i - n) 0) ∙ ap (λ (l : List ℕ). get_or l (i - n) 0) same ∙ get_or-drop n d (i - n) 0 ∙
+      ap (λ (j : ℕ). get_or d j 0) e
 
   pub torn_on : (at : ℕ) (bytes d f : List ℕ) → IsLeft k d → Torn at (length bytes) d f → IsLeft (after_write at bytes k) f
   torn_on at bytes d f left step = record {

@@ -1,5 +1,6 @@
 -- Marks of the bytes that are pending. A record knows by them which bytes a stop may lose.
-use Rattle.std.proofs.Common.{◌≡◌, ◌⊎◌, ⊎_elim, inl, inr, ◌<◌, ◌≤◌, ◌+◌, ◌-◌, ◌∙◌, ap, subst, sym, refl, ℕ, List, ◌∷◌, ◌++◌, Bool, true, false, length, get_or, take, drop, max, replicate, arith, length-append, length-take, length-drop}
+use Rattle.std.proofs.Common.{◌≡◌, ◌⊎◌, ⊎_elim, inl, inr, ◌<◌, ◌≤◌, ◌+◌, ◌-◌, ◌∙◌, ap, subst, sym, refl, ℕ, List, ◌∷◌, ◌++◌, Bool, true, false, length, get_or}
+use Rattle.std.proofs.Common.{take, drop, max, replicate, arith, length-append, length-take, length-drop}
 use Rattle.std.proofs.lemmas.List.{get_or-take, get_or-drop, get_or_append_left, get_or-append_right, get_or-replicate, length-replicate}
 use Rattle.std.proofs.lemmas.Bool.{cases_lt}
 use Rattle.bench_model.specs.Kept.{Kept, IsWritten, IsPending, all_synced, after_write, after_cut}
@@ -37,7 +38,8 @@ module _ (from to : ℕ) (old : List Bool) (order : from ≤ to) (inside : from 
       ∙ ap (λ (j : ℕ). get_or old j true) e
 
 out_of_range : (at n : ℕ) (k : Kept) (i : ℕ) → (i < at) ⊎ (at + n ≤ i) → IsWritten ((at, n) ∷ k.ranges) i ⊎ (k.least ≤ i) → IsPending k i
-out_of_range at n k i out (inl (inl range)) = ⊎_elim (λ (b : i < at). absurd (omega (arith, b, range.0))) (λ (a : at + n ≤ i). absurd (omega (arith, a, range.1))) out
+out_of_range at n k i out (inl (inl range)) = ⊎_elim (λ (b : i < at). absurd (omega (arith, b, range.0)))
+    (λ (a : at + n ≤ i). absurd (omega (arith, a, range.1))) out
 out_of_range at n k i out (inl (inr there)) = inl there
 out_of_range at n k i out (inr late) = inr late
 
@@ -50,10 +52,12 @@ module _ (k : Kept) (synced : List ℕ) (marks : List Bool) (is : IsMarked k syn
         long = omega (arith, length-marked at (at + n) marks order le, is.long);
         enough = is.enough;
         set = λ i below pending. ⊎_elim
-            (λ (front : i < at). marked-front at (at + n) marks order le i front ∙ is.set i (omega (arith, front, le, is.long)) (out_of_range at n k i (inl front) pending))
+            (λ (front : i < at). marked-front at (at + n) marks order le i front ∙
+            is.set i (omega (arith, front, le, is.long)) (out_of_range at n k i (inl front) pending))
             (λ (later : at ≤ i). ⊎_elim
             (λ (within : i < at + n). marked-within at (at + n) marks order le i later within)
-            (λ (back : at + n ≤ i). marked-behind at (at + n) marks order le i back ∙ is.set i (omega (arith, back, below)) (out_of_range at n k i (inr back) pending))
+            (λ (back : at + n ≤ i). marked-behind at (at + n) marks order le i back ∙
+            is.set i (omega (arith, back, below)) (out_of_range at n k i (inr back) pending))
             (cases_lt i (at + n)))
             (cases_lt i at);
         clear = λ i below none. ⊎_elim

@@ -1,5 +1,6 @@
 -- What each recorded call does to a bench in memory. Each call of `MemoryBench` keeps what the trait asks of it by its lemma here.
-use Rattle.std.proofs.Common.{◌≡◌, ◌↔◌, ◌<◌, ◌≤◌, ◌+◌, ◌∙◌, ap, subst, sym, refl, ℕ, List, ◌++◌, length, take, drop, replicate, Option, Some, None, arith, append_assoc, length-append, length-take, length-drop}
+use Rattle.std.proofs.Common.{◌≡◌, ◌↔◌, ◌<◌, ◌≤◌, ◌+◌, ◌∙◌, ap, subst, sym, refl, ℕ, List, ◌++◌, length, take, drop, replicate, Option, Some, None, arith}
+use Rattle.std.proofs.Common.{append_assoc, length-append, length-take, length-drop}
 use Rattle.std.proofs.lemmas.List.{take_at, drop_at, length-replicate}
 use Rattle.std.proofs.lemmas.Bool.{false≢true}
 use Rattle.std.specs.Prelude.{IfSome, Ok}
@@ -10,7 +11,8 @@ use Rattle.bench_model.specs.History.{left, Leaves, AddsNothing, Stays, LeftOnly
 use Rattle.bench_model.specs.Calls.{written, Torn, Cut, Follows, IsOpen}
 use Rattle.bench_model.specs.State.{SameOutside}
 use Rattle.bench_model.specs.Kept.{Kept, IsLeft, all_synced, after_write, after_cut}
-use Rattle.bench_model.specs.Record.{Held, Event, Recorded, FileOf, CellsOf, wrote, cut, synced, opened, settled, filled, broken_off, after, broken, in_range, held_now, half_of, noted}
+use Rattle.bench_model.specs.Record.{Held, Event, Recorded, FileOf, CellsOf, wrote, cut, synced, opened, settled, filled, broken_off, after, broken, in_range}
+use Rattle.bench_model.specs.Record.{held_now, half_of, noted}
 use Rattle.bench_model.specs.Memory.{InStep}
 use Rattle.bench_model.proofs.RecordLemmas.{replay-push, half_now, noted_leaves, noted_stays}
 use Rattle.bench_model.proofs.LeftLemmas.{torn, cut_back, read_write, read_cut, read_synced, synced_only}
@@ -83,7 +85,8 @@ module _ (h : Held) (file cells : List ℕ) (op : Option (ℕ × ℕ)) (s : InSt
 
   module _ (at len : ℕ) (is : op ≡ Some (at, len)) where
     ended_cells : (bytes : ℕ → List ℕ) → in_range bytes h.operation h.cells ≡ written at (bytes len) cells
-    ended_cells bytes = ap (λ (o : Option (ℕ × ℕ)). in_range bytes o h.cells) (s.same_operation ∙ is) ∙ ap (λ (c : List ℕ). written at (bytes len) c) s.same_cells
+    ended_cells bytes = ap (λ (o : Option (ℕ × ℕ)). in_range bytes o h.cells) (s.same_operation ∙ is) ∙
+        ap (λ (c : List ℕ). written at (bytes len) c) s.same_cells
 
     pub within : at + len ≤ length cells
     within = (s.in_range (at, len) is).1
@@ -96,12 +99,14 @@ module _ (h : Held) (file cells : List ℕ) (op : Option (ℕ × ℕ)) (s : InSt
 
     pub step_broken : (byte : Option ℕ) → InStep (after (broken_off byte) h) file (broken byte (Some (at, len)) cells) None
     step_broken None = step_ended (after (broken_off None) h) cells refl s.same_cells refl
-    step_broken (Some value) = step_ended (after (broken_off (Some value)) h) (written at (replicate len value) cells) refl (ended_cells (λ n. replicate n value)) refl
+    step_broken (Some value) = step_ended (after (broken_off (Some value)) h) (written at (replicate len value) cells) refl
+        (ended_cells (λ n. replicate n value)) refl
 
   pub told : (x : List ℕ) → CellsOf h x ↔ SameOutside op cells x
   told x = (
     (λ at. subst (λ (o : Option (ℕ × ℕ)). SameOutside o cells x) s.same_operation (subst (λ (c : List ℕ). SameOutside h.operation c x) s.same_cells at)),
-    (λ at. subst (λ (c : List ℕ). SameOutside h.operation c x) (sym s.same_cells) (subst (λ (o : Option (ℕ × ℕ)). SameOutside o cells x) (sym s.same_operation) at)),
+    (λ at. subst (λ (c : List ℕ). SameOutside h.operation c x) (sym s.same_cells)
+        (subst (λ (o : Option (ℕ × ℕ)). SameOutside o cells x) (sym s.same_operation) at)),
   )
 
 -- The cells with other bytes in a range.
@@ -113,12 +118,20 @@ module _ (cells : List ℕ) (at len : ℕ) (within : at + len ≤ length cells) 
   head-long = omega (arith, length-append (take at cells) bytes, front-long, long)
 
   pub length-in_range : length (written at bytes cells) ≡ length cells
-  length-in_range = omega (arith, length-append (take at cells ++ bytes) (drop (at + length bytes) cells), head-long, length-drop (at + length bytes) cells, within, long)
+  length-in_range = omega (
+    arith,
+    length-append (take at cells ++ bytes) (drop (at + length bytes) cells),
+    head-long,
+    length-drop (at + length bytes) cells,
+    within,
+    long,
+  )
 
   pub only_in_range : SameOutside (Some (at, len)) cells (written at bytes cells)
   only_in_range = (
     length-in_range,
-    (ap (λ (l : List ℕ). take at l) (append_assoc (take at cells) bytes (drop (at + length bytes) cells)) ∙ take_at (take at cells) (bytes ++ drop (at + length bytes) cells) at front-long),
+    (ap (λ (l : List ℕ). take at l) (append_assoc (take at cells) bytes (drop (at + length bytes) cells)) ∙
+        take_at (take at cells) (bytes ++ drop (at + length bytes) cells) at front-long),
     (drop_at (take at cells ++ bytes) (drop (at + length bytes) cells) (at + len) head-long ∙ ap (λ (n : ℕ). drop (at + n) cells) long),
   )
 
@@ -127,7 +140,8 @@ same_outside_all None cells x is = is
 same_outside_all (Some range) cells x is = (ap length is, ap (λ (l : List ℕ). take range.0 l) is, ap (λ (l : List ℕ). drop (range.0 + range.1) l) is)
 
 -- the cells once an operation is broken off
-pub only_broken : (byte : Option ℕ) (at len : ℕ) (cells : List ℕ) → at + len ≤ length cells → SameOutside (Some (at, len)) cells (broken byte (Some (at, len)) cells)
+pub only_broken : (byte : Option ℕ) (at len : ℕ) (cells : List ℕ) → at + len ≤ length cells →
+    SameOutside (Some (at, len)) cells (broken byte (Some (at, len)) cells)
 only_broken None at len cells inside = same_outside_all (Some (at, len)) cells cells refl
 only_broken (Some value) at len cells inside = only_in_range cells at len inside (replicate len value) (length-replicate len value)
 
@@ -144,7 +158,8 @@ went_cause value n new is =
 -- the bytes in the range of the open operation
 pub in_open : (bytes : ℕ → List ℕ) (op : Option (ℕ × ℕ)) (at len : ℕ) → op ≡ Some (at, len) → (cells new : List ℕ) → new ≡ written at (bytes len) cells
     → IfSome op (λ (range : ℕ × ℕ). new ≡ written range.0 (bytes range.1) cells)
-in_open bytes op at len is cells new items = subst (λ (o : Option (ℕ × ℕ)). IfSome o (λ (range : ℕ × ℕ). new ≡ written range.0 (bytes range.1) cells)) (sym is) items
+in_open bytes op at len is cells new items = subst (λ (o : Option (ℕ × ℕ)). IfSome o (λ (range : ℕ × ℕ). new ≡ written range.0 (bytes range.1) cells))
+    (sym is) items
 
 -- the length of the open operation
 pub length-open : (n : ℕ) (op : Option (ℕ × ℕ)) (at len : ℕ) → IsOpen n op → op ≡ Some (at, len) → n ≡ len
@@ -167,7 +182,8 @@ module _ (r r' : Recorded) (e : Event) (is : r' ≡ noted e r) where
   pub greatest-after : (held_now r').kept.greatest ≡ (after e (held_now r)).kept.greatest
   greatest-after = ap (λ (h : Held). h.kept.greatest) held-after
 
-  pub leaves_after : (L : Held → List ℕ → Type 0) (P : List ℕ → Type 0) → ((x : List ℕ) → L (held_now r) x → P x) → ((x : List ℕ) → L (after e (held_now r)) x → P x)
+  pub leaves_after : (L : Held → List ℕ → Type 0) (P : List ℕ → Type 0) → ((x : List ℕ) → L (held_now r) x → P x) →
+      ((x : List ℕ) → L (after e (held_now r)) x → P x)
       → Leaves (half_of L r) (half_of L r') P
   leaves_after L P before next = subst (λ (q : Recorded). Leaves (half_of L r) (half_of L q) P) (sym is) (noted_leaves L r e P before next)
 
@@ -195,34 +211,41 @@ module _ (r r' : Recorded) (e : Event) (is : r' ≡ noted e r) where
         (λ x at. next x ((told (after e (held_now r)) file' cells' op' s' x).0 at))
 
     -- an operation opens
-    pub opened_leaves : (at len : ℕ) → op ≡ None → 0 < len → at + len ≤ length cells → e ≡ opened at len → Leaves (half_of CellsOf r) (half_of CellsOf r') (left (half_of CellsOf r'))
+    pub opened_leaves : (at len : ℕ) → op ≡ None → 0 < len → at + len ≤ length cells → e ≡ opened at len →
+        Leaves (half_of CellsOf r) (half_of CellsOf r') (left (half_of CellsOf r'))
     opened_leaves at len none some within same =
         let s' : InStep (after e (held_now r)) file cells (Some (at, len)) =
-        subst (λ (d : Event). InStep (after d (held_now r)) file cells (Some (at, len))) (sym same) (step_opened (held_now r) file cells op s at len some within) in
+        subst (λ (d : Event). InStep (after d (held_now r)) file cells (Some (at, len))) (sym same)
+        (step_opened (held_now r) file cells op s at len some within) in
         let s'' = in_step_after file cells (Some (at, len)) s' in
-        let back = λ (x : List ℕ) (at_end : SameOutside (Some (at, len)) cells x). (half_now CellsOf r' x).1 ((told (held_now r') file cells (Some (at, len)) s'' x).1 at_end) in
+        let back = λ (x : List ℕ) (at_end : SameOutside (Some (at, len)) cells x). (half_now CellsOf r' x).1
+        ((told (held_now r') file cells (Some (at, len)) s'' x).1 at_end) in
         told_leaves file cells (Some (at, len)) s' (left (half_of CellsOf r'))
         (λ x before. back x (same_outside_all (Some (at, len)) cells x (subst (λ (o : Option (ℕ × ℕ)). SameOutside o cells x) none before)))
         (λ x next. back x next)
 
     -- an operation ends within its range
-    pub ended_adds_nothing : (cells' : List ℕ) → InStep (after e (held_now r)) file cells' None → SameOutside op cells cells' → AddsNothing (half_of CellsOf r) (half_of CellsOf r')
+    pub ended_adds_nothing : (cells' : List ℕ) → InStep (after e (held_now r)) file cells' None → SameOutside op cells cells' →
+        AddsNothing (half_of CellsOf r) (half_of CellsOf r')
     ended_adds_nothing cells' s' only = told_leaves file cells' None s' (left (half_of CellsOf r))
         (λ x at. (half_now CellsOf r x).1 ((told (held_now r) file cells op s x).1 at))
         (λ x at. (half_now CellsOf r x).1 ((told (held_now r) file cells op s x).1 (subst (λ (l : List ℕ). SameOutside op cells l) (sym at) only)))
 
-    pub wrote_leaves : (at : ℕ) (bytes : List ℕ) → at ≤ length file → e ≡ wrote at bytes → Leaves (half_of FileOf r) (half_of FileOf r') (Follows (Torn at (length bytes)) (half_of FileOf r))
+    pub wrote_leaves : (at : ℕ) (bytes : List ℕ) → at ≤ length file → e ≡ wrote at bytes →
+        Leaves (half_of FileOf r) (half_of FileOf r') (Follows (Torn at (length bytes)) (half_of FileOf r))
     wrote_leaves at bytes le same = leaves_after FileOf (Follows (Torn at (length bytes)) (half_of FileOf r))
         (λ f now. (f, now_left f now, record { before = refl; after = refl; no_shorter = omega arith; no_longer = omega arith }))
         (λ f next.
-        let from = torn (held_now r).kept now_read s.enough at bytes (omega (arith, ap length s.same_file, le)) f (subst (λ (d : Event). IsLeft (after d (held_now r)).kept f) same next) in
+        let from = torn (held_now r).kept now_read s.enough at bytes (omega (arith, ap length s.same_file, le)) f
+        (subst (λ (d : Event). IsLeft (after d (held_now r)).kept f) same next) in
         (from.0, now_left from.0 from.1, from.2))
 
     pub cut_leaves : (len : ℕ) → len ≤ length file → e ≡ cut len → Leaves (half_of FileOf r) (half_of FileOf r') (Follows (Cut len) (half_of FileOf r))
     cut_leaves len le same = leaves_after FileOf (Follows (Cut len) (half_of FileOf r))
         (λ f now. (f, now_left f now, record { front = refl; no_longer = omega arith }))
         (λ f next.
-        let from = cut_back (held_now r).kept now_read s.enough len (omega (arith, ap length s.same_file, le)) f (subst (λ (d : Event). IsLeft (after d (held_now r)).kept f) same next) in
+        let from = cut_back (held_now r).kept now_read s.enough len (omega (arith, ap length s.same_file, le)) f
+        (subst (λ (d : Event). IsLeft (after d (held_now r)).kept f) same next) in
         (from.0, now_left from.0 from.1, from.2))
 
     pub synced_adds_nothing : e ≡ synced → AddsNothing (half_of FileOf r) (half_of FileOf r')

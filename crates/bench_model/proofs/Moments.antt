@@ -165,7 +165,8 @@ pairs_where_file_stays a b stay f c = (
 )
 
 -- a piece of a run in which each half is known by itself
-pub pairs_of : {a b : BenchState} (P Q : List ℕ → Type 0) (R : List ℕ → List ℕ → Type 0) → Leaves (file_half a) (file_half b) P → Leaves (cells_half a) (cells_half b) Q
+pub pairs_of : {a b : BenchState} (P Q : List ℕ → Type 0) (R : List ℕ → List ℕ → Type 0) → Leaves (file_half a) (file_half b) P →
+    Leaves (cells_half a) (cells_half b) Q
     → ((f c : List ℕ) → P f → Q c → R f c) → PairsLeave a b R
 pairs_of P Q R files cells both = record {
   files = files.goes_on;
@@ -179,7 +180,8 @@ pairs_then {a} {b} {c} R one two = record {
   files = goes_then one.files two.files;
   cells = goes_then one.cells two.cells;
   each = λ k f x from to f_at x_at. ⊎_elim
-      (λ (before : k < b.moment). one.each k f x from (omega (arith, before)) ((two.files.past k f (omega (arith, before))).0 f_at) ((two.cells.past k x (omega (arith, before))).0 x_at))
+      (λ (before : k < b.moment). one.each k f x from (omega (arith, before)) ((two.files.past k f (omega (arith, before))).0 f_at)
+      ((two.cells.past k x (omega (arith, before))).0 x_at))
       (λ (after : b.moment ≤ k). two.each k f x after to f_at x_at)
       (cases_lt k b.moment);
 }
@@ -196,11 +198,13 @@ pub pairs_left : {a b : BenchState} (R : List ℕ → List ℕ → Type 0) → P
 pairs_left R one f c (k, from, to, f_at, c_at) = one.each k f c from to f_at c_at
 
 -- Two pieces of a run, of which the second begins at the turn.
-pub in_turn : {a b c : BenchState} (First Second : List ℕ → List ℕ → Type 0) → PairsLeave a b First → PairsLeave b c Second → PairsInTurn a c b.moment First Second
+pub in_turn : {a b c : BenchState} (First Second : List ℕ → List ℕ → Type 0) → PairsLeave a b First → PairsLeave b c Second →
+    PairsInTurn a c b.moment First Second
 in_turn First Second one two = record {
   started = one.files.later;
   later = omega (arith, one.files.later, two.files.later);
-  before = λ k f x from to less f_at x_at. one.each k f x from (omega (arith, less)) ((two.files.past k f (omega (arith, less))).0 f_at) ((two.cells.past k x (omega (arith, less))).0 x_at);
+  before = λ k f x from to less f_at x_at. one.each k f x from (omega (arith, less)) ((two.files.past k f (omega (arith, less))).0 f_at)
+      ((two.cells.past k x (omega (arith, less))).0 x_at);
   from = λ k f x from to f_at x_at. two.each k f x from to f_at x_at;
 }
 

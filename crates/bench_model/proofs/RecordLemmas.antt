@@ -1,9 +1,11 @@
 -- What one call more does to a record. `MemoryLemmas` has them of each kind of call.
-use Rattle.std.proofs.Common.{◌≡◌, ◌↔◌, ⊎_elim, ◌<◌, ◌≤◌, ◌+◌, ◌∙◌, ap, subst, sym, refl, ℕ, List, [], ◌∷◌, ◌++◌, length, take, drop, arith, length-append, length-drop}
+use Rattle.std.proofs.Common.{◌≡◌, ◌↔◌, ⊎_elim, ◌<◌, ◌≤◌, ◌+◌, ◌∙◌, ap, subst, sym, refl, ℕ, List, [], ◌∷◌, ◌++◌, length, take, drop, arith, length-append}
+use Rattle.std.proofs.Common.{length-drop}
 use Rattle.std.proofs.lemmas.List.{take-append-le, drop-append-le, take_all}
 use Rattle.std.proofs.lemmas.Bool.{cases_lt}
 use Rattle.bench_model.specs.History.{GoesOn, Leaves, Stays}
-use Rattle.bench_model.specs.Record.{Event, Held, Recorded, after, replay, held_now, held_at, noted, half_of, handed, handed_all, handed_of, event_of, events_of}
+use Rattle.bench_model.specs.Record.{Event, Held, Recorded, after, replay, held_now, held_at, noted, half_of, handed, handed_all, handed_of, event_of}
+use Rattle.bench_model.specs.Record.{events_of}
 use Rattle.bench_model.specs.declared.change.Change.{Change}
 use Rattle.bench_model.specs.declared.change.Change.TheVariants.{Wrote, Cut, Synced, Opened, Settled, Filled, BrokenOff}
 
@@ -45,7 +47,8 @@ replay-push (d ∷ es) e h = replay-push es e (after d h)
 module _ (cs cs' : List Change) (c : Change) (bytes bytes' bs : List ℕ) (used : handed_all cs ≡ length bytes) (is : handed c ≡ length bs)
     (cs-is : cs' ≡ cs ++ c ∷ []) (bytes-is : bytes' ≡ bytes ++ bs) where
   pub events-after : events_of cs' bytes' ≡ events_of cs bytes ++ event_of c bs ∷ []
-  events-after = ap (λ (l : List Change). events_of l bytes') cs-is ∙ ap (λ (l : List ℕ). events_of (cs ++ c ∷ []) l) bytes-is ∙ events_of-push cs c bytes bs used is
+  events-after = ap (λ (l : List Change). events_of l bytes') cs-is ∙ ap (λ (l : List ℕ). events_of (cs ++ c ∷ []) l) bytes-is ∙
+      events_of-push cs c bytes bs used is
 
   pub replay-after : (h : Held) → replay (events_of cs' bytes') h ≡ after (event_of c bs) (replay (events_of cs bytes) h)
   replay-after h = ap (λ (es : List Event). replay es h) events-after ∙ replay-push (events_of cs bytes) (event_of c bs) h

@@ -27,7 +27,8 @@ or_none false b is = (refl, is)
 and_both : (a b : Bool) → a ≡ true → b ≡ true → (a && b) ≡ true
 and_both a b one two = rw (one, two) refl
 
-one_short : (p : Placed) (q : QuietRange) → 0 < p.size → p.base + p.size ≤ addresses → ends_late q ≡ false → share p (placed part.Quiet q.base q.size) ≡ false → is_short q ≡ true
+one_short : (p : Placed) (q : QuietRange) → 0 < p.size → p.base + p.size ≤ addresses → ends_late q ≡ false → share p (placed part.Quiet q.base q.size) ≡ false →
+    is_short q ≡ true
 one_short p q some ends early apart = by_size (nat_lt q.size addresses) refl
   where
     by_size : (b : Bool) → nat_lt q.size addresses ≡ b → is_short q ≡ true
@@ -40,7 +41,8 @@ one_short p q some ends early apart = by_size (nat_lt q.size addresses) refl
         let both : share p (placed part.Quiet q.base q.size) ≡ true = and_both _ _ left right in
         absurd (cc)
 
-all_short : (p : Placed) (qs : List QuietRange) → 0 < p.size → p.base + p.size ≤ addresses → list_any ends_late qs ≡ false → shared_with p (quiet_parts qs) ≡ None → list_all is_short qs ≡ true
+all_short : (p : Placed) (qs : List QuietRange) → 0 < p.size → p.base + p.size ≤ addresses → list_any ends_late qs ≡ false →
+    shared_with p (quiet_parts qs) ≡ None → list_all is_short qs ≡ true
 all_short p [] some ends early e = refl
 all_short p (q ∷ qs) some ends early e =
     let now = neither (share p (placed part.Quiet q.base q.size)) part.Quiet (shared_with p (quiet_parts qs)) e in
@@ -52,11 +54,13 @@ first_none p None later e = refl
 first_none p (Some q) later e = absurd cc
 
 -- the quiet ranges of parts that have no address in common
-pub quiet_short : (ram_base ram_size : ℕ) (regions : List Region) (k : ControllerKind) (base : ℕ) (quiet : List QuietRange) → 0 < ram_size → ram_base + ram_size ≤ addresses
+pub quiet_short : (ram_base ram_size : ℕ) (regions : List Region) (k : ControllerKind) (base : ℕ) (quiet : List QuietRange) → 0 < ram_size →
+    ram_base + ram_size ≤ addresses
     → list_any ends_late quiet ≡ false → overlap (parts_of ram_base ram_size regions k base quiet) ≡ None → list_all is_short quiet ≡ true
 quiet_short ram_base ram_size regions k base quiet some ends early e =
     let ram : Placed = placed part.Ram ram_base ram_size in
     let unit : Placed = placed part.Controller base (block_of k) in
     let fixed : List Placed = region_parts part.Region regions ++ unit ∷ [] in
-    let none : shared_with ram (fixed ++ quiet_parts quiet) ≡ None = first_none part.Ram (shared_with ram (fixed ++ quiet_parts quiet)) (overlap (fixed ++ quiet_parts quiet)) e in
+    let none : shared_with ram (fixed ++ quiet_parts quiet) ≡ None = first_none part.Ram (shared_with ram (fixed ++ quiet_parts quiet))
+    (overlap (fixed ++ quiet_parts quiet)) e in
     all_short ram quiet some ends early (shared_later ram fixed (quiet_parts quiet) none)

@@ -53,9 +53,11 @@ few cells sectors a b = none_or _ _ (le-ltb _ _ a) (le-ltb _ _ b)
 abbrev far : Region → Bool
 far r = nat_lt addresses (r.base + r.size)
 
-counted : (cells sectors : ℕ) (rs : List Region) → cells ≤ most_cells → sectors ≤ most_sectors → small_regions cells sectors rs ≡ said (big_behind cells sectors rs) rs
+counted : (cells sectors : ℕ) (rs : List Region) → cells ≤ most_cells → sectors ≤ most_sectors →
+    small_regions cells sectors rs ≡ said (big_behind cells sectors rs) rs
 counted cells sectors [] a b = rw (few (cells + 0) (sectors + 0) (omega (arith, a)) (omega (arith, b))) refl
-counted cells sectors (r ∷ rs) a b = by_test (are_many (cells + r.size) (sectors + sectors_of r.sectors) || far r) refl (counted (cells + r.size) (sectors + sectors_of r.sectors) rs)
+counted cells sectors (r ∷ rs) a b = by_test (are_many (cells + r.size) (sectors + sectors_of r.sectors) || far r) refl
+    (counted (cells + r.size) (sectors + sectors_of r.sectors) rs)
   where
     sizes : size_of (r ∷ rs) ≡ r.size + size_of rs
     sizes = sum_by-cons (λ (q : Region). q.size) r rs
@@ -63,7 +65,8 @@ counted cells sectors (r ∷ rs) a b = by_test (are_many (cells + r.size) (secto
     counts : sectors_in (r ∷ rs) ≡ sectors_of r.sectors + sectors_in rs
     counts = sum_by-cons (λ (q : Region). sectors_of q.sectors) r rs
 
-    all : are_many (cells + size_of (r ∷ rs)) (sectors + sectors_in (r ∷ rs)) ≡ are_many (cells + r.size + size_of rs) (sectors + sectors_of r.sectors + sectors_in rs)
+    all : are_many (cells + size_of (r ∷ rs)) (sectors + sectors_in (r ∷ rs)) ≡ are_many (cells + r.size + size_of rs)
+        (sectors + sectors_of r.sectors + sectors_in rs)
     all =
         let x : cells + size_of (r ∷ rs) ≡ cells + r.size + size_of rs = omega (arith, sizes) in
         let y : sectors + sectors_in (r ∷ rs) ≡ sectors + sectors_of r.sectors + sectors_in rs = omega (arith, counts) in
@@ -81,12 +84,14 @@ counted cells sectors (r ∷ rs) a b = by_test (are_many (cells + r.size) (secto
             let one : is_too_big r ≡ true = or_right (nat_lt most_cells r.size || nat_lt most_sectors (sectors_of r.sectors)) (far r) past in
             rw one refl
 
-    fits : are_many (cells + r.size) (sectors + sectors_of r.sectors) || far r ≡ false → big_behind cells sectors (r ∷ rs) ≡ big_behind (cells + r.size) (sectors + sectors_of r.sectors) rs
+    fits : are_many (cells + r.size) (sectors + sectors_of r.sectors) || far r ≡ false → big_behind cells sectors (r ∷ rs) ≡ big_behind (cells + r.size)
+        (sectors + sectors_of r.sectors) rs
     fits is =
         let p = or_none (are_many (cells + r.size) (sectors + sectors_of r.sectors)) (far r) is in
         let f = few_of (cells + r.size) (sectors + sectors_of r.sectors) p.0 in
         let one : is_too_big r ≡ false = none_or (nat_lt most_cells r.size || nat_lt most_sectors (sectors_of r.sectors)) (far r)
-        (none_or (nat_lt most_cells r.size) (nat_lt most_sectors (sectors_of r.sectors)) (le-ltb _ _ (omega (arith, f.0))) (le-ltb _ _ (omega (arith, f.1)))) p.1 in
+        (none_or (nat_lt most_cells r.size) (nat_lt most_sectors (sectors_of r.sectors)) (le-ltb _ _ (omega (arith, f.0))) (le-ltb _ _ (omega (arith, f.1))))
+        p.1 in
         ap (λ (b : Bool). (b || list_any is_too_big rs) || are_many (cells + size_of (r ∷ rs)) (sectors + sectors_in (r ∷ rs))) one
         ∙ ap (λ (b : Bool). list_any is_too_big rs || b) all
 
@@ -95,7 +100,8 @@ counted cells sectors (r ∷ rs) a b = by_test (are_many (cells + r.size) (secto
     joined false = refl
 
     by_test : (b : Bool) → (are_many (cells + r.size) (sectors + sectors_of r.sectors) || far r) ≡ b
-        → (cells + r.size ≤ most_cells → sectors + sectors_of r.sectors ≤ most_sectors → small_regions (cells + r.size) (sectors + sectors_of r.sectors) rs ≡ said (big_behind (cells + r.size) (sectors + sectors_of r.sectors) rs) rs)
+        → (cells + r.size ≤ most_cells → sectors + sectors_of r.sectors ≤ most_sectors →
+        small_regions (cells + r.size) (sectors + sectors_of r.sectors) rs ≡ said (big_behind (cells + r.size) (sectors + sectors_of r.sectors) rs) rs)
         → small_regions cells sectors (r ∷ rs) ≡ said (big_behind cells sectors (r ∷ rs)) (r ∷ rs)
     by_test true is others = rw (is, too_big is) refl
     by_test false is others =

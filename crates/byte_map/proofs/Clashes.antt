@@ -11,7 +11,8 @@ pub agrees_all : (piece : Run) (runs : List Run) → ((k : ℕ) → k < length r
 agrees_all piece runs each a byte lt held is =
     let (k, within, in_run, byte_is) = holder runs a byte is in byte_is ∙ each k within a lt held in_run
 
-earlier_agrees : (piece : Run) (runs : List Run) (k at old new : ℕ) → AreMaximal 0 (2 ^ 32) runs → end_of piece ≤ 2 ^ 32 → k < length runs → ((j : ℕ) → j < k → AgreesWithRun piece (run_at runs j) (2 ^ 32)) → ClashesWithRun piece (run_at runs k) at old new
+earlier_agrees : (piece : Run) (runs : List Run) (k at old new : ℕ) → AreMaximal 0 (2 ^ 32) runs → end_of piece ≤ 2 ^ 32 → k < length runs →
+    ((j : ℕ) → j < k → AgreesWithRun piece (run_at runs j) (2 ^ 32)) → ClashesWithRun piece (run_at runs k) at old new
     → (a j : ℕ) → a < at → IsTrue (holds piece a) → j < length runs → holds (run_at runs j) a ≡ true → byte_of (run_at runs j) a ≡ byte_of piece a
 earlier_agrees piece runs k at old new m fits lt earlier clash a j below held within in_run =
     let from = held_from (run_at runs j) a in_run in
@@ -20,12 +21,14 @@ earlier_agrees piece runs k at old new m fits lt earlier clash a j below held wi
     ⊎_elim (λ (less : j < k). earlier j less a (omega arith) held in_run)
     (λ (ge : k ≤ j). ⊎_elim
     (λ (more : k < j). let up = rising 0 (2 ^ 32) runs k j m more within in absurd (omega (arith, up)))
-    (λ (le : j ≤ k). let is : k ≡ j = omega arith in subst (λ (n : ℕ). holds (run_at runs n) a ≡ true → byte_of (run_at runs n) a ≡ byte_of piece a) is (clash.first a below held) in_run)
+    (λ (le : j ≤ k). let is : k ≡ j = omega arith in subst (λ (n : ℕ). holds (run_at runs n) a ≡ true → byte_of (run_at runs n) a ≡ byte_of piece a) is
+    (clash.first a below held) in_run)
     (cases_lt k j))
     (cases_lt j k)
 
 -- the first clash with a run is the first with the map, where the piece agrees with all earlier runs
-pub first_of : (piece : Run) (runs : List Run) (k at old new : ℕ) → AreMaximal 0 (2 ^ 32) runs → end_of piece ≤ 2 ^ 32 → k < length runs → ((j : ℕ) → j < k → AgreesWithRun piece (run_at runs j) (2 ^ 32)) → ClashesWithRun piece (run_at runs k) at old new → IsFirstClash piece runs at old new
+pub first_of : (piece : Run) (runs : List Run) (k at old new : ℕ) → AreMaximal 0 (2 ^ 32) runs → end_of piece ≤ 2 ^ 32 → k < length runs →
+    ((j : ℕ) → j < k → AgreesWithRun piece (run_at runs j) (2 ^ 32)) → ClashesWithRun piece (run_at runs k) at old new → IsFirstClash piece runs at old new
 first_of piece runs k at old new m fits lt earlier clash =
     record {
       held = clash.held;
@@ -38,9 +41,11 @@ first_of piece runs k at old new m fits lt earlier clash =
     }
 
 -- the map has no byte between two runs
-pub none_between : (runs : List Run) (index a : ℕ) → ((k : ℕ) → k < index → end_of (run_at runs k) ≤ a) → ((k : ℕ) → index ≤ k → k < length runs → a < (run_at runs k).at) → byte_at runs a ≡ None
+pub none_between : (runs : List Run) (index a : ℕ) → ((k : ℕ) → k < index → end_of (run_at runs k) ≤ a) →
+    ((k : ℕ) → index ≤ k → k < length runs → a < (run_at runs k).at) → byte_at runs a ≡ None
 none_between runs index a low high =
-    none_of runs a (λ k lt. ⊎_elim (λ (less : k < index). holds_no_higher (run_at runs k) a (low k less)) (λ (ge : index ≤ k). holds_no_lower (run_at runs k) a (high k ge lt)) (cases_lt k index))
+    none_of runs a (λ k lt. ⊎_elim (λ (less : k < index). holds_no_higher (run_at runs k) a (low k less))
+    (λ (ge : index ≤ k). holds_no_lower (run_at runs k) a (high k ge lt)) (cases_lt k index))
 
 -- a piece has no address in common with a run that ends below it, or begins above it
 pub agrees_above : (piece run : Run) (limit : ℕ) → end_of run < piece.at → AgreesWithRun piece run limit

@@ -53,7 +53,8 @@ no_higher f xs ys i j rises lt within =
     omega (arith, up, at_i, at_j, is_j)
 
 -- a number that no run of the second part is below, and one that each of the first is below
-pub cut_left : (f : Run → ℕ) (xs ys : List Run) (limit count : ℕ) → ((k : ℕ) → k < length ys → limit ≤ f (run_at ys k)) → IsCut f xs limit count → IsCut f (xs ++ ys) limit count
+pub cut_left : (f : Run → ℕ) (xs ys : List Run) (limit count : ℕ) → ((k : ℕ) → k < length ys → limit ≤ f (run_at ys k)) → IsCut f xs limit count →
+    IsCut f (xs ++ ys) limit count
 cut_left f xs ys limit count high cut =
     let long = length-append xs ys in
     record {
@@ -61,11 +62,13 @@ cut_left f xs ys limit count high cut =
       below = λ k lt. let first = cut.below k lt in let same = ap f (at_left xs ys k (omega (arith, cut.within))) in omega (arith, first, same);
       others = λ k from within. ⊎_elim
           (λ (before : k < length xs). let later = cut.others k from before in let same = ap f (at_left xs ys k before) in omega (arith, later, same))
-          (λ (ge : length xs ≤ k). let later = high (k - length xs) (omega (arith, long)) in let same = ap f (at_right xs ys k ge) in omega (arith, later, same))
+          (λ (ge : length xs ≤ k). let later = high (k - length xs) (omega (arith, long)) in let same = ap f (at_right xs ys k ge) in
+          omega (arith, later, same))
           (cases_lt k (length xs));
     }
 
-pub cut_right : (f : Run → ℕ) (xs ys : List Run) (limit count : ℕ) → ((k : ℕ) → k < length xs → f (run_at xs k) < limit) → IsCut f ys limit count → IsCut f (xs ++ ys) limit (length xs + count)
+pub cut_right : (f : Run → ℕ) (xs ys : List Run) (limit count : ℕ) → ((k : ℕ) → k < length xs → f (run_at xs k) < limit) → IsCut f ys limit count →
+    IsCut f (xs ++ ys) limit (length xs + count)
 cut_right f xs ys limit count low cut =
     let long = length-append xs ys in
     record {
@@ -74,11 +77,13 @@ cut_right f xs ys limit count low cut =
           (λ (before : k < length xs). let first = low k before in let same = ap f (at_left xs ys k before) in omega (arith, first, same))
           (λ (ge : length xs ≤ k). let first = cut.below (k - length xs) (omega arith) in let same = ap f (at_right xs ys k ge) in omega (arith, first, same))
           (cases_lt k (length xs));
-      others = λ k from within. let later = cut.others (k - length xs) (omega arith) (omega (arith, long)) in let same = ap f (at_right xs ys k (omega arith)) in omega (arith, later, same);
+      others = λ k from within. let later = cut.others (k - length xs) (omega arith) (omega (arith, long)) in
+          let same = ap f (at_right xs ys k (omega arith)) in omega (arith, later, same);
     }
 
 -- a number in two parts
-pub cut_both : (f : Run → ℕ) (xs ys : List Run) (limit count count' : ℕ) → Rises f (xs ++ ys) → IsCut f xs limit count → IsCut f ys limit count' → IsCut f (xs ++ ys) limit (count + count')
+pub cut_both : (f : Run → ℕ) (xs ys : List Run) (limit count count' : ℕ) → Rises f (xs ++ ys) → IsCut f xs limit count → IsCut f ys limit count' →
+    IsCut f (xs ++ ys) limit (count + count')
 cut_both f xs ys limit count count' rises cut cut' =
     let long = length-append xs ys in
     record {
@@ -86,21 +91,25 @@ cut_both f xs ys limit count count' rises cut cut' =
       below = λ k less. ⊎_elim
           (λ (before : k < length xs). let same = ap f (at_left xs ys k before) in ⊎_elim
           (λ (lt : k < count). let first = cut.below k lt in omega (arith, first, same))
-          (λ (ge : count ≤ k). let first = cut'.below 0 (omega arith) in let up = no_higher f xs ys k 0 rises before (omega (arith, cut'.within)) in omega (arith, first, up, same))
+          (λ (ge : count ≤ k). let first = cut'.below 0 (omega arith) in let up = no_higher f xs ys k 0 rises before (omega (arith, cut'.within)) in
+          omega (arith, first, up, same))
           (cases_lt k count))
-          (λ (ge : length xs ≤ k). let first = cut'.below (k - length xs) (omega (arith, cut.within)) in let same = ap f (at_right xs ys k ge) in omega (arith, first, same))
+          (λ (ge : length xs ≤ k). let first = cut'.below (k - length xs) (omega (arith, cut.within)) in let same = ap f (at_right xs ys k ge) in
+          omega (arith, first, same))
           (cases_lt k (length xs));
       others = λ k from within. ⊎_elim
           (λ (before : k < length xs). let later = cut.others k (omega arith) before in let same = ap f (at_left xs ys k before) in omega (arith, later, same))
           (λ (ge : length xs ≤ k). let same = ap f (at_right xs ys k ge) in ⊎_elim
-          (λ (lt : k - length xs < count'). let later = cut.others count (omega arith) (omega arith) in let up = no_higher f xs ys count (k - length xs) rises (omega arith) (omega (arith, long)) in omega (arith, later, up, same))
+          (λ (lt : k - length xs < count'). let later = cut.others count (omega arith) (omega arith) in
+          let up = no_higher f xs ys count (k - length xs) rises (omega arith) (omega (arith, long)) in omega (arith, later, up, same))
           (λ (past : count' ≤ k - length xs). let later = cut'.others (k - length xs) past (omega (arith, long)) in omega (arith, later, same))
           (cases_lt (k - length xs) count'))
           (cases_lt k (length xs));
     }
 
 -- a number behind the runs of a node, before them, and among them
-pub cut_behind : (f : Run → ℕ) (left chunk right : List Run) (limit count : ℕ) → Rises f (left ++ (chunk ++ right)) → 1 ≤ length chunk → f (run_at chunk (length chunk - 1)) < limit → IsCut f right limit count → IsCut f (left ++ (chunk ++ right)) limit (length left + (length chunk + count))
+pub cut_behind : (f : Run → ℕ) (left chunk right : List Run) (limit count : ℕ) → Rises f (left ++ (chunk ++ right)) → 1 ≤ length chunk →
+    f (run_at chunk (length chunk - 1)) < limit → IsCut f right limit count → IsCut f (left ++ (chunk ++ right)) limit (length left + (length chunk + count))
 cut_behind f left chunk right limit count rises some lt cut =
     let rest = rises_right f left (chunk ++ right) rises in
     let long = length-append chunk right in
@@ -108,16 +117,20 @@ cut_behind f left chunk right limit count rises some lt cut =
     cut_right f left (chunk ++ right) limit (length chunk + count)
     (λ k before. let up = no_higher f left (chunk ++ right) k (length chunk - 1) rises before (omega (arith, long)) in omega (arith, up, last))
     (cut_right f chunk right limit count
-    (λ k before. let up = rest k (length chunk - 1) (omega arith) (omega (arith, long)) in let same = ap f (at_left chunk right k before) in omega (arith, up, same, last))
+    (λ k before. let up = rest k (length chunk - 1) (omega arith) (omega (arith, long)) in let same = ap f (at_left chunk right k before) in
+    omega (arith, up, same, last))
     cut)
 
-pub cut_before : (f : Run → ℕ) (left chunk right : List Run) (limit count : ℕ) → Rises f (left ++ (chunk ++ right)) → 1 ≤ length chunk → limit ≤ f (run_at chunk 0) → IsCut f left limit count → IsCut f (left ++ (chunk ++ right)) limit count
+pub cut_before : (f : Run → ℕ) (left chunk right : List Run) (limit count : ℕ) → Rises f (left ++ (chunk ++ right)) → 1 ≤ length chunk →
+    limit ≤ f (run_at chunk 0) → IsCut f left limit count → IsCut f (left ++ (chunk ++ right)) limit count
 cut_before f left chunk right limit count rises some le cut =
     let rest = rises_right f left (chunk ++ right) rises in
     let first = ap f (at_left chunk right 0 (omega arith)) in
     cut_left f left (chunk ++ right) limit count (λ k lt. let up = rest 0 k (omega arith) lt in omega (arith, up, first)) cut
 
-pub cut_within : (f : Run → ℕ) (left chunk right : List Run) (limit count : ℕ) → Rises f (left ++ (chunk ++ right)) → 1 ≤ length chunk → f (run_at chunk 0) < limit → limit ≤ f (run_at chunk (length chunk - 1)) → IsCut f chunk limit count → IsCut f (left ++ (chunk ++ right)) limit (length left + count)
+pub cut_within : (f : Run → ℕ) (left chunk right : List Run) (limit count : ℕ) → Rises f (left ++ (chunk ++ right)) → 1 ≤ length chunk →
+    f (run_at chunk 0) < limit → limit ≤ f (run_at chunk (length chunk - 1)) → IsCut f chunk limit count →
+    IsCut f (left ++ (chunk ++ right)) limit (length left + count)
 cut_within f left chunk right limit count rises some lt le cut =
     let rest = rises_right f left (chunk ++ right) rises in
     let first = ap f (at_left chunk right 0 (omega arith)) in
@@ -126,15 +139,20 @@ cut_within f left chunk right limit count rises some lt le cut =
     (cut_left f chunk right limit count (λ k within. let up = no_higher f chunk right (length chunk - 1) k rest (omega arith) within in omega (arith, up)) cut)
 
 -- a number in the sides of a node that has no runs of its own
-pub cut_empty : (f : Run → ℕ) (left chunk right : List Run) (limit count count' : ℕ) → Rises f (left ++ (chunk ++ right)) → length chunk ≡ 0 → IsCut f left limit count → IsCut f right limit count' → IsCut f (left ++ (chunk ++ right)) limit (count + count')
+pub cut_empty : (f : Run → ℕ) (left chunk right : List Run) (limit count count' : ℕ) → Rises f (left ++ (chunk ++ right)) → length chunk ≡ 0 →
+    IsCut f left limit count → IsCut f right limit count' → IsCut f (left ++ (chunk ++ right)) limit (count + count')
 cut_empty f left [] right limit count count' rises none cut cut' = cut_both f left right limit count count' rises cut cut'
 cut_empty f left (r ∷ chunk) right limit count count' rises none cut cut' = absurd (omega arith)
 
 -- a number among the runs of a list, by what a binary search says
-pub cut_of : (f : Run → ℕ) (runs runs' : List Run) (limit count : ℕ) → runs' ≡ runs → count ≤ length runs' → ((k : ℕ) → k < count → f (run_at runs' k) < limit) → ((k : ℕ) → count ≤ k → k < length runs' → limit ≤ f (run_at runs' k)) → IsCut f runs limit count
-cut_of f runs runs' limit count is within below others = subst (λ (rs : List Run). IsCut f rs limit count) is (record { within = within; below = below; others = others })
+pub cut_of : (f : Run → ℕ) (runs runs' : List Run) (limit count : ℕ) → runs' ≡ runs → count ≤ length runs' →
+    ((k : ℕ) → k < count → f (run_at runs' k) < limit) → ((k : ℕ) → count ≤ k → k < length runs' → limit ≤ f (run_at runs' k)) → IsCut f runs limit count
+cut_of f runs runs' limit count is within below others = subst (λ (rs : List Run). IsCut f rs limit count) is
+    (record { within = within; below = below; others = others })
 
-pub recut : (f : Run → ℕ) (runs runs' : List Run) (limit count count' : ℕ) → runs' ≡ runs → count' ≡ count → IsCut f runs limit count → IsCut f runs' limit count'
-recut f runs runs' limit count count' same is cut = subst (λ (rs : List Run). IsCut f rs limit count') (sym same) (subst (λ (n : ℕ). IsCut f runs limit n) (sym is) cut)
+pub recut : (f : Run → ℕ) (runs runs' : List Run) (limit count count' : ℕ) → runs' ≡ runs → count' ≡ count → IsCut f runs limit count →
+    IsCut f runs' limit count'
+recut f runs runs' limit count count' same is cut = subst (λ (rs : List Run). IsCut f rs limit count') (sym same)
+    (subst (λ (n : ℕ). IsCut f runs limit n) (sym is) cut)
 
 pub ruleset cuts = (maximal_left, maximal_right, maximal_middle, maximal_last, length-append)

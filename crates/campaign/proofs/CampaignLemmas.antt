@@ -21,18 +21,24 @@ at_close start aim goal f c at = ⊎_elim
     at.whole_or_closed
 
 -- a run that begins with good pairs
-pub in_turn : (start : BenchState) (aim : CampaignJob) (last : Option (List ℕ)) (old new : BenchState) (closing : ℕ) (goal : List ℕ) (First : List ℕ → List ℕ → Type 0)
-    → ((f c : List ℕ) → First f c → IsSafePair start aim last f c) → PairsInTurn old new closing First (IsAtClose aim.body goal) → IsSafe start aim last old new closing goal
+pub in_turn : (start : BenchState) (aim : CampaignJob) (last : Option (List ℕ)) (old new : BenchState) (closing : ℕ) (goal : List ℕ)
+    (First : List ℕ → List ℕ → Type 0)
+    → ((f c : List ℕ) → First f c → IsSafePair start aim last f c) → PairsInTurn old new closing First (IsAtClose aim.body goal) →
+    IsSafe start aim last old new closing goal
 in_turn start aim last old new closing goal First good run k f c from to f_at c_at = ⊎_elim
-    (λ (early : k < closing). subst (λ (l : Option (List ℕ)). IsSafePair start aim l f c) (sym (not_yet last closing goal k early)) (good f c (run.before k f c from to early f_at c_at)))
-    (λ (late : closing ≤ k). subst (λ (l : Option (List ℕ)). IsSafePair start aim l f c) (sym (reached last closing goal k late)) (at_close start aim goal f c (run.from k f c late to f_at c_at)))
+    (λ (early : k < closing). subst (λ (l : Option (List ℕ)). IsSafePair start aim l f c) (sym (not_yet last closing goal k early))
+    (good f c (run.before k f c from to early f_at c_at)))
+    (λ (late : closing ≤ k). subst (λ (l : Option (List ℕ)). IsSafePair start aim l f c) (sym (reached last closing goal k late))
+    (at_close start aim goal f c (run.from k f c late to f_at c_at)))
     (cases_lt k closing)
 
 -- the file as read is free or stands for the job
-pub reads : (start : BenchState) (aim : CampaignJob) (last : Option (List ℕ)) (f c : List ℕ) → ((g : List ℕ) → left (file_half start) g → IsFree g) → IsSafePair start aim last f c → IsFree f ⊎ IsWhole aim.body f
+pub reads : (start : BenchState) (aim : CampaignJob) (last : Option (List ℕ)) (f c : List ℕ) → ((g : List ℕ) → left (file_half start) g → IsFree g) →
+    IsSafePair start aim last f c → IsFree f ⊎ IsWhole aim.body f
 reads start aim last f c free good = ⊎_elim
     (λ (u : IsUntouched start f c). inl (⊎_elim (λ (is : IsFree f). is) (λ (at : left (file_half start) f). free f at) u.free))
-    (λ (rest : IsWhole aim.body f ⊎ IsFinished aim.body last f c). ⊎_elim (λ (w : IsWhole aim.body f). inr w) (λ (d : IsFinished aim.body last f c). inl d.closed.free) rest)
+    (λ (rest : IsWhole aim.body f ⊎ IsFinished aim.body last f c). ⊎_elim (λ (w : IsWhole aim.body f). inr w)
+    (λ (d : IsFinished aim.body last f c). inl d.closed.free) rest)
     good
 
 -- one later call
@@ -57,7 +63,8 @@ one start aim last call good keeps class = ⊎_elim
     class
 
 -- what the next call is entered with
-pub enters : (start : BenchState) (aim : CampaignJob) (last : Option (List ℕ)) (old new : BenchState) (closing : ℕ) (goal : List ℕ) (end : ℕ) (next : BenchState)
+pub enters : (start : BenchState) (aim : CampaignJob) (last : Option (List ℕ)) (old new : BenchState) (closing : ℕ) (goal : List ℕ) (end : ℕ)
+    (next : BenchState)
     → old.moment ≤ end → end ≤ new.moment → IsSafe start aim last old new closing goal → IsEntered aim new end next
     → (f c : List ℕ) → left (file_half next) f → left (cells_half next) c → IsSafePair start aim (last_at last closing goal end) f c
 enters start aim last old new closing goal end next later in_time safe goes f c f_at c_at = ⊎_elim
@@ -74,7 +81,8 @@ all start aim last old new closing goal end (call ∷ rest) free later in_time s
     let now = last_at last closing goal end in
     let good = enters start aim last old new closing goal end call.old later in_time safe go.0 in
     let told = go.0.told in
-    let step = one start aim now call good go.1 (reads start aim now call.old.file call.old.cells free (good call.old.file call.old.cells told.as_read told.as_told)) in
+    let step = one start aim now call good go.1 (reads start aim now call.old.file call.old.cells free
+    (good call.old.file call.old.cells told.as_read told.as_told)) in
     (step.0, step.1, all start aim now call.old call.new call.closing (goal_of aim call.goal) call.end rest free go.1.later go.1.in_time step.0 go.2)
 
 pub campaigns_are_safe : (c : Campaign) → IsCampaign c → IsSafeCampaign c

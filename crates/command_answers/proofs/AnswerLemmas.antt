@@ -3,13 +3,16 @@ use Rattle.std.proofs.Common.{◌≡◌, ◌∙◌, sym, ap, subst, refl, arith,
 use Rattle.bench_model.specs.State.{BenchState}
 use Rattle.bench_model.proofs.Moments.{only_reads_here, file_stays_here, cells_stay_here}
 use Rattle.outside_io.specs.State.{SinkState}
-use Rattle.report_text.specs.Refusal.{Refusal, out_of_memory, usage, input_fault, image_too_long, flm_refused, other_device, no_room, board_refused, image_refused, image_misplaced, job_open, no_job, not_a_job, damaged, cells_differ, store_fault, device_fault, output_fault}
+use Rattle.report_text.specs.Refusal.{Refusal, out_of_memory, usage, input_fault, image_too_long, flm_refused, other_device, no_room, board_refused}
+use Rattle.report_text.specs.Refusal.{image_refused, image_misplaced, job_open, no_job, not_a_job, damaged, cells_differ, store_fault, device_fault}
+use Rattle.report_text.specs.Refusal.{output_fault}
 use Rattle.report_text.proofs.StatusLemmas.{some_status}
 use Rattle.command_files.specs.Inputs.{InputsCall, IsFile, IsUntaken, NoneFailed, TakesNothing}
 use Rattle.command_files.specs.Steps.{IsTakeFault}
 use Rattle.command_answers.specs.Call.{BenchCall, SinkCall, Answer, done, refused, bench_call, sink_call, IsUntouched}
 use Rattle.command_answers.specs.Said.{Says}
-use Rattle.command_answers.specs.Answered.{Fault, input, store, device, output, fault_in, IsCounted, AreCounted, DidNothing, OnlyLooked, Scope, on_files, on_job_file, on_own_bench, AtSeven, AtOne, StandsEarly, IsOf, EndsLawfully}
+use Rattle.command_answers.specs.Answered.{Fault, input, store, device, output, fault_in, IsCounted, AreCounted, DidNothing, OnlyLooked, Scope, on_files}
+use Rattle.command_answers.specs.Answered.{on_job_file, on_own_bench, AtSeven, AtOne, StandsEarly, IsOf, EndsLawfully}
 
 -- The status.
 
@@ -41,7 +44,8 @@ never_store has none (refused output_fault) kind is = let same : output ≡ stor
 never_store has none (refused r) kind is = cc
 
 -- nor does one that takes no files answer a fault of the inputs
-pub never_input : (has : Refusal → Bool) → ((name : List ℕ) → has (input_fault name) ≡ false) → (answer : Answer) → IsOf has answer → fault_in answer ≡ Some input → ⊥
+pub never_input : (has : Refusal → Bool) → ((name : List ℕ) → has (input_fault name) ≡ false) → (answer : Answer) → IsOf has answer
+    → fault_in answer ≡ Some input → ⊥
 never_input has none done kind is = cc
 never_input has none (refused (input_fault name)) kind is = let same : true ≡ false = sym kind ∙ none name in cc
 never_input has none (refused store_fault) kind is = let same : store ≡ input = cc in cc

@@ -1,9 +1,8 @@
 -- What a job file is, it is alone: free, whole for one job, damaged, or no job for one reason.
-use Rattle.std.proofs.Common.{◌≡◌, ◌≢◌, ◌≤◌, ◌+◌, ◌∙◌, refl, sym, ap, subst, arith, ℕ, List, [], ◌∷◌, length, Ok}
+use Rattle.std.proofs.Common.{◌≡◌, ◌≤◌, ◌∙◌, refl, sym, ap, subst, arith, ℕ, List, [], ◌∷◌, length, Ok}
 use Rattle.board_file.specs.Shown as board
 use Rattle.board_file.specs.Text.{reading}
 use Rattle.flm_descriptor.specs.Shown as flm
-use Rattle.flm_descriptor.specs.Flm.{flm_of}
 use Rattle.job_text.specs.declared.format.Format.{Format}
 use Rattle.job_text.specs.declared.format.Format.TheVariants.{First, Second}
 use Rattle.job_text.specs.Reading.{places_of}
@@ -64,7 +63,8 @@ pub record AreOne (j k : Job) (b c : board.Shown) (xs ys : List flm.Shown) : Typ
   pub board : b ≡ c
   pub algorithms : xs ≡ ys
 
-pub one_job : {j k : Job} {b c : board.Shown} {xs ys : List flm.Shown} (file : List ℕ) → IsJob j b xs → IsJob k c ys → IsWhole (body_of j) file → IsWhole (body_of k) file
+pub one_job : {j k : Job} {b c : board.Shown} {xs ys : List flm.Shown} (file : List ℕ) → IsJob j b xs → IsJob k c ys → IsWhole (body_of j) file
+    → IsWhole (body_of k) file
     → AreOne j k b c xs ys
 one_job {j} {k} {b} {c} {xs} {ys} file is other whole too =
     let bodies : body_of j ≡ body_of k = let e : 165 ∷ body_of j ≡ 165 ∷ body_of k = sym whole ∙ too in cc in

@@ -1,5 +1,6 @@
 -- A command's words, walked by `clap` and scanned by the rule on words.
-use Rattle.std.proofs.Common.{◌≡◌, ◌≤◌, ◌+◌, ℕ, Bool, true, false, List, [], ◌∷◌, ◌++◌, codes, length, Option, Some, None, refl, ap, sym, append_assoc, length-append, ◌<◌, arith, inl, inr, slice_get, nat_lt, ◌==◌}
+use Rattle.std.proofs.Common.{◌≡◌, ◌≤◌, ◌+◌, ℕ, Bool, true, false, List, [], ◌∷◌, ◌++◌, codes, length, Option, Some, None, refl, ap, sym, append_assoc}
+use Rattle.std.proofs.Common.{length-append, ◌<◌, arith, inl, inr, slice_get, nat_lt, ◌==◌}
 use Rattle.std.proofs.lemmas.Bool.{cases_Bool}
 use Rattle.std.proofs.lemmas.Bool.Decides.{nat_tests}
 use Rattle.clap.specs.declared.error.kind.ErrorKind.TheVariants as kind
@@ -220,14 +221,16 @@ dashes_fault (name vs v) rows w d = rw d refl
 dashes_fault (raw v) rows w d = rw d refl
 
 -- `--raw-at=ADDR`
-pub attached_step : (st : Stage) (rows : List Row) (w nm v : Text) → bytes_eq w dashes ≡ false → long_of w ≡ Some (nm, Some v) → bytes_eq (codes "raw-at") nm ≡ true
+pub attached_step : (st : Stage) (rows : List Row) (w nm v : Text) → bytes_eq w dashes ≡ false → long_of w ≡ Some (nm, Some v)
+    → bytes_eq (codes "raw-at") nm ≡ true
     → walked rules [] (walk_at false st rows) w ≡ walk_at false none (settled_at (raw v) (settled_at st rows))
 unfolding walked
 attached_step none rows w nm v d l n = rw (d, l, n) refl
 attached_step (name vs u) rows w nm v d l n = rw (d, l, n) refl
 attached_step (raw u) rows w nm v d l n = rw (d, l, n) refl
 
-pub attached_fault : (st : Stage) (rows : List Row) (w nm v : Text) → width st ≤ usize_max → bytes_eq w dashes ≡ false → long_of w ≡ Some (nm, Some v) → bytes_eq (codes "raw-at") nm ≡ true
+pub attached_fault : (st : Stage) (rows : List Row) (w nm v : Text) → width st ≤ usize_max → bytes_eq w dashes ≡ false → long_of w ≡ Some (nm, Some v)
+    → bytes_eq (codes "raw-at") nm ≡ true
     → turn_fault sample [] (walk_at false st rows) w ≡ []
 attached_fault none rows w nm v fits d l n = rw (d, l, n) refl
 attached_fault (name vs u) rows w nm v fits d l n = rw (d, l, n, settles (name vs u) rows fits) refl
@@ -241,7 +244,8 @@ wants_step none rows w nm d l n = rw (d, l, n) refl
 wants_step (name vs u) rows w nm d l n = rw (d, l, n) refl
 wants_step (raw u) rows w nm d l n = rw (d, l, n) refl
 
-pub wants_fault : (st : Stage) (rows : List Row) (w nm : Text) → width st ≤ usize_max → bytes_eq w dashes ≡ false → long_of w ≡ Some (nm, None) → bytes_eq (codes "raw-at") nm ≡ true
+pub wants_fault : (st : Stage) (rows : List Row) (w nm : Text) → width st ≤ usize_max → bytes_eq w dashes ≡ false → long_of w ≡ Some (nm, None)
+    → bytes_eq (codes "raw-at") nm ≡ true
     → turn_fault sample [] (walk_at false st rows) w ≡ []
 wants_fault none rows w nm fits d l n = rw (d, l, n) refl
 wants_fault (name vs u) rows w nm fits d l n = rw (d, l, n, settles (name vs u) rows fits) refl
@@ -255,13 +259,15 @@ unfolding flags_fault chars
 bundle_unknown [] x rows pending first = cc
 bundle_unknown (y ∷ ys) x rows pending first = rw first refl
 
-pub short_fault_at : (st : Stage) (rows : List Row) (w flags : Text) (x : ℕ) → bytes_eq w dashes ≡ false → long_of w ≡ None → short_of w ≡ Some flags → slice_get (chars flags) 0 ≡ Some x
+pub short_fault_at : (st : Stage) (rows : List Row) (w flags : Text) (x : ℕ) → bytes_eq w dashes ≡ false → long_of w ≡ None → short_of w ≡ Some flags
+    → slice_get (chars flags) 0 ≡ Some x
     → turn_fault sample [] (walk_at false st rows) w ≡ kind.UnknownArgument ∷ []
 short_fault_at none rows w flags x d l s first = rw (d, l, s, bundle_unknown flags x rows None first) refl
 short_fault_at (name vs v) rows w flags x d l s first = rw (d, l, s, bundle_unknown flags x rows (pending_at (name vs v)) first) refl
 short_fault_at (raw v) rows w flags x d l s first = rw (d, l, s, bundle_unknown flags x rows (pending_at (raw v)) first) refl
 
-pub long_fault_at : (st : Stage) (rows : List Row) (w nm : Text) (v : Option Text) → bytes_eq w dashes ≡ false → long_of w ≡ Some (nm, v) → bytes_eq (codes "raw-at") nm ≡ false
+pub long_fault_at : (st : Stage) (rows : List Row) (w nm : Text) (v : Option Text) → bytes_eq w dashes ≡ false → long_of w ≡ Some (nm, v)
+    → bytes_eq (codes "raw-at") nm ≡ false
     → turn_fault sample [] (walk_at false st rows) w ≡ kind.UnknownArgument ∷ []
 long_fault_at none rows w nm v d l n = rw (d, l, n) refl
 long_fault_at (name vs u) rows w nm v d l n = rw (d, l, n) refl
@@ -288,15 +294,18 @@ wants_dashes_fault rows w d = rw d refl
 pub wants_trailing_fault : (rows : List Row) (w : Text) → turn_fault sample [] (wants_at true rows) w ≡ kind.InvalidValue ∷ []
 wants_trailing_fault rows w = refl
 
-pub wants_short_fault : (rows : List Row) (w flags : Text) (x : ℕ) → bytes_eq w dashes ≡ false → long_of w ≡ None → short_of w ≡ Some flags → slice_get (chars flags) 0 ≡ Some x
+pub wants_short_fault : (rows : List Row) (w flags : Text) (x : ℕ) → bytes_eq w dashes ≡ false → long_of w ≡ None → short_of w ≡ Some flags
+    → slice_get (chars flags) 0 ≡ Some x
     → turn_fault sample [] (wants_at false rows) w ≡ kind.UnknownArgument ∷ []
 wants_short_fault rows w flags x d l s first = rw (d, l, s, bundle_unknown flags x rows (Some (codes "raw-at", [])) first) refl
 
-pub wants_long_other : (rows : List Row) (w nm : Text) (v : Option Text) → bytes_eq w dashes ≡ false → long_of w ≡ Some (nm, v) → bytes_eq (codes "raw-at") nm ≡ false
+pub wants_long_other : (rows : List Row) (w nm : Text) (v : Option Text) → bytes_eq w dashes ≡ false → long_of w ≡ Some (nm, v)
+    → bytes_eq (codes "raw-at") nm ≡ false
     → turn_fault sample [] (wants_at false rows) w ≡ kind.UnknownArgument ∷ []
 wants_long_other rows w nm v d l n = rw (d, l, n) refl
 
-pub wants_long_raw : (rows : List Row) (w nm : Text) (v : Option Text) → bytes_eq w dashes ≡ false → long_of w ≡ Some (nm, v) → bytes_eq (codes "raw-at") nm ≡ true
+pub wants_long_raw : (rows : List Row) (w nm : Text) (v : Option Text) → bytes_eq w dashes ≡ false → long_of w ≡ Some (nm, v)
+    → bytes_eq (codes "raw-at") nm ≡ true
     → turn_fault sample [] (wants_at false rows) w ≡ kind.InvalidValue ∷ []
 wants_long_raw rows w nm None d l n = rw (d, l, n) refl
 wants_long_raw rows w nm (Some v) d l n = rw (d, l, n) refl

@@ -1,5 +1,6 @@
 -- The walk over all the words of a command that takes an address.
-use Rattle.std.proofs.Common.{◌≡◌, ◌≢◌, ◌≤◌, ◌+◌, ℕ, Bool, true, false, List, [], ◌∷◌, ◌++◌, subst, codes, length, Option, Some, None, refl, ap, ap₂, ◌∙◌, sym, cond, fold, append_assoc, length-append, arith, inl, inr, slice_get}
+use Rattle.std.proofs.Common.{◌≡◌, ◌≢◌, ◌≤◌, ◌+◌, ℕ, Bool, true, false, List, [], ◌∷◌, ◌++◌, subst, codes, length, Option, Some, None, refl, ap, ap₂, ◌∙◌, sym}
+use Rattle.std.proofs.Common.{cond, fold, append_assoc, length-append, arith, inl, inr, slice_get}
 use Rattle.std.proofs.lemmas.Bool.{cases_Bool}
 use Rattle.std.proofs.lemmas.List.{append-nil}
 use Rattle.std.specs.Str.{bytes_eq, chars}
@@ -11,9 +12,12 @@ use Rattle.clap.specs.declared.error.kind.ErrorKind.{ErrorKind}
 use Rattle.clap.specs.declared.error.kind.ErrorKind.TheVariants as kind
 use Rattle.command_line.specs.Rows.{told}
 use Rattle.command_line.specs.Scan.{Text, Said, dashes, scan, scan_address, other, address}
-use Rattle.command_line.proofs.Leaf.{rules, sample, Stage, none, name, raw, walk_at, wants_at, settled_at, raws_at, names_at, next_stage, next_rows, width, raw_built, names_built}
-use Rattle.command_line.proofs.Leaf.{told-raws, told-names, raws-next, names-next, settles, plain_step, plain_fault, trailing_step, trailing_fault, dashes_step, dashes_fault, attached_step, attached_fault, wants_step, wants_fault}
-use Rattle.command_line.proofs.Leaf.{short_fault_at, long_fault_at, wants_plain_step, wants_plain_fault, wants_dashes_step, wants_dashes_fault, wants_trailing_fault, wants_short_fault, wants_long_other, wants_long_raw}
+use Rattle.command_line.proofs.Leaf.{rules, sample, Stage, none, name, raw, walk_at, wants_at, settled_at, raws_at, names_at, next_stage, next_rows, width}
+use Rattle.command_line.proofs.Leaf.{raw_built, names_built}
+use Rattle.command_line.proofs.Leaf.{told-raws, told-names, raws-next, names-next, settles, plain_step, plain_fault, trailing_step, trailing_fault, dashes_step}
+use Rattle.command_line.proofs.Leaf.{dashes_fault, attached_step, attached_fault, wants_step, wants_fault}
+use Rattle.command_line.proofs.Leaf.{short_fault_at, long_fault_at, wants_plain_step, wants_plain_fault, wants_dashes_step, wants_dashes_fault}
+use Rattle.command_line.proofs.Leaf.{wants_trailing_fault, wants_short_fault, wants_long_other, wants_long_raw}
 
 -- After the walk.
 
@@ -86,7 +90,8 @@ say raws names = let both : Said = (raws, names) in Some both
 said : (a b c d : List Text) → a ≡ b → c ≡ d → say a c ≡ say b d
 said a b c d e f = ap (λ (x : List Text). say x c) e ∙ ap (λ (y : List Text). say b y) f
 
-told_so : (now : Walk) (ws : List Text) (o p : Option Said) → o ≡ p → Tells o (faults_from now ws) (rows_from now ws) → Tells p (faults_from now ws) (rows_from now ws)
+told_so : (now : Walk) (ws : List Text) (o p : Option Said) → o ≡ p → Tells o (faults_from now ws) (rows_from now ws)
+    → Tells p (faults_from now ws) (rows_from now ws)
 told_so now ws o p e h = subst (λ x. Tells x (faults_from now ws) (rows_from now ws)) e h
 
 -- after `--`
@@ -100,7 +105,8 @@ trail (w ∷ ws) st rows fits =
     ap (λ (ns : List Text). ns ++ ws) (names-next st rows w) ∙ append_assoc (names_at st rows) (w ∷ []) ws in
     let raws : raws_at (next_stage st w) (next_rows st rows) ≡ raws_at st rows = raws-next st rows w in
     let same = said _ _ _ _ raws names in
-    moves (say (raws_at st rows) (names_at st rows ++ (w ∷ ws))) (walk_at true st rows) (walk_at true (next_stage st w) (next_rows st rows)) w ws (trailing_fault st rows w) (trailing_step st rows w)
+    moves (say (raws_at st rows) (names_at st rows ++ (w ∷ ws))) (walk_at true st rows) (walk_at true (next_stage st w) (next_rows st rows)) w ws
+    (trailing_fault st rows w) (trailing_step st rows w)
     (told_so (walk_at true (next_stage st w) (next_rows st rows)) ws _ _ same more)
 
 -- a word before `--`, by what it begins with
@@ -118,15 +124,19 @@ FreeAfter ws = (st : Stage) (rows : List Row) → width st + length ws ≤ usize
 
 abbrev pub WantsAfter : List Text → Type 0
 WantsAfter ws = (rows : List Row) → length ws ≤ usize_max
-    → Tells (scan_address (told (codes "raw-at") rows) (told (codes "names") rows) ws) (faults_from (wants_at false rows) ws) (rows_from (wants_at false rows) ws)
+    → Tells (scan_address (told (codes "raw-at") rows) (told (codes "names") rows) ws) (faults_from (wants_at false rows) ws)
+    (rows_from (wants_at false rows) ws)
 
 -- one word from where nothing or a finished value waits
-free_attached : (st : Stage) (rows : List Row) (w nm v : Text) (ws : List Text) (b : Bool) → b ≡ bytes_eq (codes "raw-at") nm → bytes_eq w dashes ≡ false → long_of w ≡ Some (nm, Some v)
+free_attached : (st : Stage) (rows : List Row) (w nm v : Text) (ws : List Text) (b : Bool) → b ≡ bytes_eq (codes "raw-at") nm → bytes_eq w dashes ≡ false
+    → long_of w ≡ Some (nm, Some v)
     → width st + length (w ∷ ws) ≤ usize_max → FreeAfter ws
-    → Tells (cond b (scan (raws_at st rows ++ v ∷ []) (names_at st rows) ws) None) (faults_from (walk_at false st rows) (w ∷ ws)) (rows_from (walk_at false st rows) (w ∷ ws))
+    → Tells (cond b (scan (raws_at st rows ++ v ∷ []) (names_at st rows) ws) None) (faults_from (walk_at false st rows) (w ∷ ws))
+    (rows_from (walk_at false st rows) (w ∷ ws))
 free_attached st rows w nm v ws true n d l fits more =
     let there = settled_at (raw v) (settled_at st rows) in
-    let raws : told (codes "raw-at") there ≡ raws_at st rows ++ v ∷ [] = told-raws (raw v) (settled_at st rows) ∙ ap (λ (rs : List Text). rs ++ v ∷ []) (told-raws st rows) in
+    let raws : told (codes "raw-at") there ≡ raws_at st rows ++ v ∷ [] = told-raws (raw v) (settled_at st rows)
+    ∙ ap (λ (rs : List Text). rs ++ v ∷ []) (told-raws st rows) in
     let names : told (codes "names") there ≡ names_at st rows = told-names (raw v) (settled_at st rows) ∙ told-names st rows in
     moves (scan (raws_at st rows ++ v ∷ []) (names_at st rows) ws) (walk_at false st rows) (walk_at false none there) w ws
     (attached_fault st rows w nm v (omega arith) d l (sym n)) (attached_step st rows w nm v d l (sym n))
@@ -134,23 +144,29 @@ free_attached st rows w nm v ws true n d l fits more =
 free_attached st rows w nm v ws false n d l fits more =
     fails kind.UnknownArgument (walk_at false st rows) w ws (long_fault_at st rows w nm (Some v) d l (sym n))
 
-free_wants : (st : Stage) (rows : List Row) (w nm : Text) (ws : List Text) (b : Bool) → b ≡ bytes_eq (codes "raw-at") nm → bytes_eq w dashes ≡ false → long_of w ≡ Some (nm, None)
+free_wants : (st : Stage) (rows : List Row) (w nm : Text) (ws : List Text) (b : Bool) → b ≡ bytes_eq (codes "raw-at") nm → bytes_eq w dashes ≡ false
+    → long_of w ≡ Some (nm, None)
     → width st + length (w ∷ ws) ≤ usize_max → WantsAfter ws
-    → Tells (cond b (scan_address (raws_at st rows) (names_at st rows) ws) None) (faults_from (walk_at false st rows) (w ∷ ws)) (rows_from (walk_at false st rows) (w ∷ ws))
+    → Tells (cond b (scan_address (raws_at st rows) (names_at st rows) ws) None) (faults_from (walk_at false st rows) (w ∷ ws))
+    (rows_from (walk_at false st rows) (w ∷ ws))
 free_wants st rows w nm ws true n d l fits more =
     let there = settled_at st rows in
     moves (scan_address (raws_at st rows) (names_at st rows) ws) (walk_at false st rows) (wants_at false there) w ws
     (wants_fault st rows w nm (omega arith) d l (sym n)) (wants_step st rows w nm d l (sym n))
-    (told_so (wants_at false there) ws _ _ (ap₂ (λ (rs ns : List Text). scan_address rs ns ws) (told-raws st rows) (told-names st rows)) (more there (omega arith)))
+    (told_so (wants_at false there) ws _ _ (ap₂ (λ (rs ns : List Text). scan_address rs ns ws) (told-raws st rows) (told-names st rows))
+    (more there (omega arith)))
 free_wants st rows w nm ws false n d l fits more =
     fails kind.UnknownArgument (walk_at false st rows) w ws (long_fault_at st rows w nm None d l (sym n))
 
 free_word : (st : Stage) (rows : List Row) (w : Text) (ws : List Text) (b : Bool) (found : Option (Text × Option Text)) (flags : Option Text)
     → b ≡ bytes_eq w dashes → found ≡ long_of w → flags ≡ short_of w → Short w → width st + length (w ∷ ws) ≤ usize_max → FreeAfter ws → WantsAfter ws
-    → Tells (cond b (say (raws_at st rows) (names_at st rows ++ ws)) (other found flags (λ v. scan (raws_at st rows ++ v ∷ []) (names_at st rows) ws) (scan_address (raws_at st rows) (names_at st rows) ws) (scan (raws_at st rows) (names_at st rows ++ w ∷ []) ws)))
+    → Tells (cond b (say (raws_at st rows) (names_at st rows ++ ws))
+    (other found flags (λ v. scan (raws_at st rows ++ v ∷ []) (names_at st rows) ws) (scan_address (raws_at st rows) (names_at st rows) ws)
+    (scan (raws_at st rows) (names_at st rows ++ w ∷ []) ws)))
     (faults_from (walk_at false st rows) (w ∷ ws)) (rows_from (walk_at false st rows) (w ∷ ws))
 free_word st rows w ws true found flags d l s short fits more wants =
-    moves (say (raws_at st rows) (names_at st rows ++ ws)) (walk_at false st rows) (walk_at true st rows) w ws (dashes_fault st rows w (sym d)) (dashes_step st rows w (sym d)) (trail ws st rows (omega arith))
+    moves (say (raws_at st rows) (names_at st rows ++ ws)) (walk_at false st rows) (walk_at true st rows) w ws (dashes_fault st rows w (sym d))
+    (dashes_step st rows w (sym d)) (trail ws st rows (omega arith))
 free_word st rows w ws false (Some (nm, Some v)) flags d l s short fits more wants =
     free_attached st rows w nm v ws (bytes_eq (codes "raw-at") nm) refl (sym d) (sym l) fits more
 free_word st rows w ws false (Some (nm, None)) flags d l s short fits more wants =
@@ -162,7 +178,8 @@ free_word st rows w ws false None None d l s short fits more wants =
     let bound : width (next_stage st w) + length ws ≤ usize_max = omega (arith, width-next st w) in
     moves (scan (raws_at st rows) (names_at st rows ++ w ∷ []) ws) (walk_at false st rows) (walk_at false (next_stage st w) (next_rows st rows)) w ws
     (plain_fault st rows w (sym d) (sym l) (sym s)) (plain_step st rows w (sym d) (sym l) (sym s))
-    (told_so (walk_at false (next_stage st w) (next_rows st rows)) ws _ _ (ap₂ (λ (rs ns : List Text). scan rs ns ws) (raws-next st rows w) (names-next st rows w)) (more (next_stage st w) (next_rows st rows) bound))
+    (told_so (walk_at false (next_stage st w) (next_rows st rows)) ws _ _
+    (ap₂ (λ (rs ns : List Text). scan rs ns ws) (raws-next st rows w) (names-next st rows w)) (more (next_stage st w) (next_rows st rows) bound))
 
 -- one word after `--raw-at`
 wants_trail : (rows : List Row) (ws : List Text) → Tells None (faults_from (wants_at true rows) ws) (rows_from (wants_at true rows) ws)
@@ -170,14 +187,16 @@ unfolding walk_fault
 wants_trail rows [] = λ e. cc
 wants_trail rows (w ∷ ws) = fails kind.InvalidValue (wants_at true rows) w ws (wants_trailing_fault rows w)
 
-wants_long : (rows : List Row) (w nm : Text) (v : Option Text) (ws : List Text) (b : Bool) → b ≡ bytes_eq (codes "raw-at") nm → bytes_eq w dashes ≡ false → long_of w ≡ Some (nm, v)
+wants_long : (rows : List Row) (w nm : Text) (v : Option Text) (ws : List Text) (b : Bool) → b ≡ bytes_eq (codes "raw-at") nm → bytes_eq w dashes ≡ false
+    → long_of w ≡ Some (nm, v)
     → Tells None (faults_from (wants_at false rows) (w ∷ ws)) (rows_from (wants_at false rows) (w ∷ ws))
 wants_long rows w nm v ws true n d l = fails kind.InvalidValue (wants_at false rows) w ws (wants_long_raw rows w nm v d l (sym n))
 wants_long rows w nm v ws false n d l = fails kind.UnknownArgument (wants_at false rows) w ws (wants_long_other rows w nm v d l (sym n))
 
 wants_word : (rows : List Row) (w : Text) (ws : List Text) (b : Bool) (found : Option (Text × Option Text)) (flags : Option Text)
     → b ≡ bytes_eq w dashes → found ≡ long_of w → flags ≡ short_of w → Short w → length (w ∷ ws) ≤ usize_max → FreeAfter ws
-    → Tells (cond b None (address found flags (scan (told (codes "raw-at") rows ++ w ∷ []) (told (codes "names") rows) ws))) (faults_from (wants_at false rows) (w ∷ ws)) (rows_from (wants_at false rows) (w ∷ ws))
+    → Tells (cond b None (address found flags (scan (told (codes "raw-at") rows ++ w ∷ []) (told (codes "names") rows) ws)))
+    (faults_from (wants_at false rows) (w ∷ ws)) (rows_from (wants_at false rows) (w ∷ ws))
 wants_word rows w ws true found flags d l s short fits more =
     moves None (wants_at false rows) (wants_at true rows) w ws (wants_dashes_fault rows w (sym d)) (wants_dashes_step rows w (sym d)) (wants_trail rows ws)
 wants_word rows w ws false (Some (nm, v)) flags d l s short fits more =
@@ -197,7 +216,8 @@ wants_none rows = λ e. cc
 mutual
   pub free : (ws : List Text) → Shorts ws → FreeAfter ws
   free [] shorts = λ st rows fits. at_end false st rows (omega arith)
-  free (w ∷ ws) shorts = λ st rows fits. free_word st rows w ws (bytes_eq w dashes) (long_of w) (short_of w) refl refl refl shorts.0 fits (free ws shorts.1) (wants ws shorts.1)
+  free (w ∷ ws) shorts = λ st rows fits. free_word st rows w ws (bytes_eq w dashes) (long_of w) (short_of w) refl refl refl shorts.0 fits (free ws shorts.1)
+      (wants ws shorts.1)
 
   pub wants : (ws : List Text) → Shorts ws → WantsAfter ws
   wants [] shorts = λ rows fits. wants_none rows

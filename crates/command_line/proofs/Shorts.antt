@@ -1,5 +1,6 @@
 -- A word that is text and begins with one hyphen has a character behind it.
-use Rattle.std.proofs.Common.{◌≡◌, ◌==◌, ℕ, true, List, [], ◌∷◌, Some, None, refl, ap, ◌∙◌, sym, slice_get, inl, inr, zero, suc, ◌<◌, ◌+◌, length, get_or, take, subst, arith}
+use Rattle.std.proofs.Common.{◌≡◌, ◌==◌, ℕ, true, List, [], ◌∷◌, Some, None, refl, ap, ◌∙◌, sym, slice_get, inl, inr, zero, suc, ◌<◌, ◌+◌, length, get_or, take}
+use Rattle.std.proofs.Common.{subst, arith}
 use Rattle.std.proofs.lemmas.Bool.{cases_Bool, eqb-true}
 use Rattle.std.proofs.lemmas.Option.{same_Some}
 use Rattle.std.proofs.lemmas.Str.{chars-encodes, cons_from_encodes}

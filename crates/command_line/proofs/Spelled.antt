@@ -1,5 +1,6 @@
 -- How words are spelled that are an option, and those that are none.
-use Rattle.std.proofs.Common.{◌≡◌, ◌==◌, ◌++◌, ◌∷◌, ◌<◌, [], ℕ, true, false, codes, length, slice_index, Option, Some, None, refl, ap, sym, ◌∙◌, suc, ◌+◌, arith, inl, inr}
+use Rattle.std.proofs.Common.{◌≡◌, ◌==◌, ◌++◌, ◌∷◌, ◌<◌, [], ℕ, true, false, codes, length, slice_index, Option, Some, None, refl, ap, sym, ◌∙◌, suc, ◌+◌}
+use Rattle.std.proofs.Common.{arith, inl, inr}
 use Rattle.std.proofs.lemmas.Bool.{cases_Bool, eqb-true}
 use Rattle.std.proofs.lemmas.Option.{same_Some}
 use Rattle.std.proofs.lemmas.Slice.Eq.{bytes_eq-Decides}

@@ -1,5 +1,6 @@
 -- The walk over all the words of the program.
-use Rattle.std.proofs.Common.{◌≡◌, ◌≢◌, ◌≤◌, ℕ, Bool, true, false, List, [], ◌∷◌, ◌++◌, codes, length, Option, Some, None, refl, ap, append_assoc, ◌∙◌, sym, cond, fold, arith, slice_get, is_some, inl, inr, find, map, subst}
+use Rattle.std.proofs.Common.{◌≡◌, ◌≢◌, ◌≤◌, ℕ, true, false, List, [], ◌∷◌, ◌++◌, codes, length, Option, Some, None, refl, ap, append_assoc, ◌∙◌, sym}
+use Rattle.std.proofs.Common.{fold, arith, slice_get, is_some, inl, inr, find, map, subst}
 use Rattle.std.proofs.lemmas.Bool.{cases_Bool}
 use Rattle.std.proofs.lemmas.List.{append-nil}
 use Rattle.std.proofs.lemmas.Option.{same_Some}
@@ -21,7 +22,8 @@ use Rattle.command_line.proofs.LeafWalk.{Tells, Short, Shorts, free, faults_from
 -- a command with its rows
 abbrev pub TellsAll : Option (Text × List Text × List Text) → Kinds → Option (Text × List Row) → Type 0
 TellsAll None faults sub = faults ≢ []
-TellsAll (Some p) faults sub = (faults ≡ []) × (rows : List Row) × (sub ≡ Some (p.0, rows)) × (told (codes "raw-at") rows ≡ p.1) × (told (codes "names") rows ≡ p.2)
+TellsAll (Some p) faults sub = (faults ≡ []) × (rows : List Row) × (sub ≡ Some (p.0, rows)) × (told (codes "raw-at") rows ≡ p.1)
+    × (told (codes "names") rows ≡ p.2)
 
 abbrev top : Shape
 top = (built tool).top
@@ -63,7 +65,8 @@ found_turn ns w c e = elim (cases_Bool (bytes_eq c (codes "help"))) [
   | inr miss ↦ rw (e, miss) refl
 ]
 
-dashes_step : (ns : Names) (w : Text) → subcommand_met ns idle w ≡ None → bytes_eq w dashes ≡ true → walked [] ns (walk_from nothing_held) w ≡ record (walk_from nothing_held) { is_trailing = true }
+dashes_step : (ns : Names) (w : Text) → subcommand_met ns idle w ≡ None → bytes_eq w dashes ≡ true
+    → walked [] ns (walk_from nothing_held) w ≡ record (walk_from nothing_held) { is_trailing = true }
 unfolding walked
 dashes_step ns w e d = rw (e, d) refl
 
@@ -151,7 +154,19 @@ Each P [] = Unit {0}
 Each P (n ∷ ns) = P n × Each P ns
 
 all_known : Each IsKnown commands
-all_known = (known_program, (known_begin, (known_resume, (known_revert, (known_plan, (known_verify, (known_compare, (known_status, (known_inspect, (known_dump, (known_demo, tt)))))))))))
+all_known = (
+  known_program,
+  (
+    known_begin,
+    (
+      known_resume,
+      (
+        known_revert,
+        (known_plan, (known_verify, (known_compare, (known_status, (known_inspect, (known_dump, (known_demo, tt))))))),
+      ),
+    ),
+  ),
+)
 
 -- and so of the one that was found
 found_one : (P : Text → Type 0) (w c : Text) (ns : List Text) → Each P ns → find (λ n. bytes_eq n w) ns ≡ Some c → P c
@@ -211,7 +226,8 @@ trailing_refused (w ∷ ws) = λ e. cc
 dashes_refused : (w : Text) (ws : List Text) → subcommand_met names idle w ≡ None → bytes_eq w dashes ≡ true → fault_of tool (w ∷ ws) ≢ []
 dashes_refused w ws e d = rw (split w ws, dashes_turn names w e d, dashes_step names w e d) (trailing_refused ws)
 
-unknown_turn : (ns : Names) (w : Text) (found : Option (Text × Option Text)) (flags : Option Text) → bytes_eq w dashes ≡ false → found ≡ long_of w → flags ≡ short_of w
+unknown_turn : (ns : Names) (w : Text) (found : Option (Text × Option Text)) (flags : Option Text) → bytes_eq w dashes ≡ false → found ≡ long_of w
+    → flags ≡ short_of w
     → subcommand_met ns idle w ≡ None → Short w → (k : ErrorKind) × (ks : Kinds) × (turn_fault top ns (walk_from nothing_held) w ≡ k ∷ ks)
 unknown_turn ns w (Some (nm, v)) flags d l s e short = (kind.UnknownArgument, [], rw (e, d, sym l) refl)
 unknown_turn ns w None (Some fs) d l s e short =

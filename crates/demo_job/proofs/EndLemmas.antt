@@ -1,11 +1,11 @@
 -- The rows of the answers of a demonstration. The top call tells by them what `demo` answers.
-use Rattle.std.proofs.Common.{◌≡◌, ◌∙◌, sym, subst, refl, arith, inl, inr, ◌⊎◌, ◌<◌, ◌≤◌, ⊎_elim, ℕ, true, List, [], Some, ◌^◌, ◌-◌}
+use Rattle.std.proofs.Common.{◌≡◌, sym, subst, refl, arith, inl, inr, ◌⊎◌, ◌<◌, ◌≤◌, ⊎_elim, ℕ, List, [], ◌^◌, ◌-◌}
 use Rattle.faults.specs.Counts.{Rose}
 use Rattle.report_text.specs.Refusal.{out_of_memory, no_job, not_a_job, damaged, cells_differ, store_fault, device_fault, output_fault, call_failed, mismatch}
 use Rattle.command_files.specs.Inputs.{InputsCall, TakesNothing}
 use Rattle.command_answers.specs.Call.{BenchCall, SinkCall, IsUntouched, Answer, done, refused}
 use Rattle.command_answers.specs.Said.{TookPart}
-use Rattle.command_answers.specs.Answered.{input, store, device, output, fault_in, on_job_file, on_own_bench, IsCounted, IsOf, StandsEarly, EndsLawfully}
+use Rattle.command_answers.specs.Answered.{input, store, device, output, on_job_file, on_own_bench, IsOf, StandsEarly, EndsLawfully}
 use Rattle.command_answers.proofs.AnswerLemmas.{unraised}
 use Rattle.demo_job.specs.Run.{silence}
 use Rattle.demo_job.specs.Command.{Prints, Tells, resumed_in, TellsLawfully, DemoSays, SaysLawfully, DemoEnds}
@@ -13,7 +13,8 @@ use Rattle.job_commands.specs.GoOn.{has_resume}
 
 -- An end of a resume whose lines all went out.
 
-own_stands : (own : BenchCall) (out : SinkCall) (answer : Answer) → IsOf has_resume answer → StandsEarly on_job_file own silence answer → StandsEarly on_own_bench own out answer
+own_stands : (own : BenchCall) (out : SinkCall) (answer : Answer) → IsOf has_resume answer → StandsEarly on_job_file own silence answer
+    → StandsEarly on_own_bench own out answer
 own_stands own out done kind stands = tt
 own_stands own out (refused out_of_memory) kind stands = tt
 own_stands own out (refused no_job) kind stands = stands.reads
@@ -66,8 +67,10 @@ module _ (bench : BenchCall) (inputs : InputsCall) (out : SinkCall) (untouched :
     kind = refl;
     counts = record {
       inputs_count = unraised inputs.before.faults inputs.after.faults input (refused output_fault) takes.faults (λ its. let wrong : output ≡ input = cc in cc);
-      store_count = unraised bench.before.store_faults bench.after.store_faults store (refused output_fault) untouched.file.faults (λ its. let wrong : output ≡ store = cc in cc);
-      device_count = unraised bench.before.device_faults bench.after.device_faults device (refused output_fault) untouched.cells.faults (λ its. let wrong : output ≡ device = cc in cc);
+      store_count = unraised bench.before.store_faults bench.after.store_faults store (refused output_fault) untouched.file.faults
+          (λ its. let wrong : output ≡ store = cc in cc);
+      device_count = unraised bench.before.device_faults bench.after.device_faults device (refused output_fault) untouched.cells.faults
+          (λ its. let wrong : output ≡ device = cc in cc);
       out_count = record { later = part.later; only = λ its. part.rose; answered = λ more. refl };
     };
     stands = tt;
@@ -75,14 +78,18 @@ module _ (bench : BenchCall) (inputs : InputsCall) (out : SinkCall) (untouched :
     none_failed = λ told no. takes.failed;
   }
 
-  tells_lawfully : (seed : ℕ) (answer : Answer) (tells : Tells seed out answer) (prints : Prints out tells.demo answer) → TellsLawfully seed bench inputs out answer tells prints
+  tells_lawfully : (seed : ℕ) (answer : Answer) (tells : Tells seed out answer) (prints : Prints out tells.demo answer)
+      → TellsLawfully seed bench inputs out answer tells prints
   tells_lawfully seed answer tells (inl whole) =
       own_lawful (resumed_in tells) inputs out answer
-      (subst (λ (a : Answer). EndsLawfully on_job_file (resumed_in tells) inputs silence has_resume [] a) (sym whole.0) (tells.is_shown.shows.resumes inputs takes).lawful) whole.1.faults
-  tells_lawfully seed answer tells (inr cut) = subst (λ (a : Answer). EndsLawfully on_own_bench bench inputs out has_resume [] a) (sym cut.0) (cut_lawful _ cut.1)
+      (subst (λ (a : Answer). EndsLawfully on_job_file (resumed_in tells) inputs silence has_resume [] a) (sym whole.0)
+      (tells.is_shown.shows.resumes inputs takes).lawful) whole.1.faults
+  tells_lawfully seed answer tells (inr cut) = subst (λ (a : Answer). EndsLawfully on_own_bench bench inputs out has_resume [] a) (sym cut.0)
+      (cut_lawful _ cut.1)
 
   says_lawfully : (seed : ℕ) (answer : Answer) (says : DemoSays seed out answer) → SaysLawfully seed bench inputs out answer says
-  says_lawfully seed answer (inl unbegun) = subst (λ (a : Answer). EndsLawfully on_own_bench bench inputs out has_resume [] a) (sym unbegun.answer_is) (unbegun_lawful unbegun.prints.faults)
+  says_lawfully seed answer (inl unbegun) = subst (λ (a : Answer). EndsLawfully on_own_bench bench inputs out has_resume [] a) (sym unbegun.answer_is)
+      (unbegun_lawful unbegun.prints.faults)
   says_lawfully seed answer (inr tells) = tells_lawfully seed answer tells tells.prints
 
   pub demo_ends : (seed : ℕ) (answer : Answer) → DemoSays seed out answer → DemoEnds seed bench inputs out answer

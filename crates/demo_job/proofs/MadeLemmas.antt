@@ -1,5 +1,6 @@
 -- One sector more, and how long the cells are. The geometry of a made device and its cells grow so.
-use Rattle.std.proofs.Common.{◌≡◌, refl, sym, ap, arith, ◌∙◌, ◌+◌, ◌*◌, ◌%◌, ◌^◌, ◌≤◌, subst, ◌==◌, ℕ, zero, suc, Bool, true, false, cond, List, [], ◌∷◌, ◌++◌, length, append_assoc, append-nil, length-append}
+use Rattle.std.proofs.Common.{◌≡◌, refl, sym, ap, arith, ◌∙◌, ◌+◌, ◌*◌, ◌%◌, ◌^◌, ◌≤◌, subst, ◌==◌, ℕ, zero, suc, Bool, true, false, cond, List, [], ◌∷◌, ◌++◌}
+use Rattle.std.proofs.Common.{length, append_assoc, append-nil, length-append}
 use Rattle.std.specs.Prelude.{replicate}
 use Rattle.std.proofs.lemmas.List.{length-replicate}
 use Rattle.byte_map.specs.Image.{Run, IsSameMap}
@@ -35,7 +36,8 @@ length_either false a b n first second = second
 
 length-sector : (state : ℕ) → length (sector_of state) ≡ 1024
 unfolding sector_of
-length-sector state = length_either (byte_of state % 2 == 0) (replicate 1024 255) (draws 1024 (next state)) 1024 (length-replicate {A = ℕ} 1024 255) (length-draws 1024 (next state))
+length-sector state = length_either (byte_of state % 2 == 0) (replicate 1024 255) (draws 1024 (next state)) 1024 (length-replicate {A = ℕ} 1024 255)
+    (length-draws 1024 (next state))
 
 pub length-sectors : (n state : ℕ) → length (sectors n state) ≡ n * 1024
 unfolding sectors

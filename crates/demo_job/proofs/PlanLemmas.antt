@@ -1,5 +1,5 @@
 -- The plan that is chosen, in other words: of the one region, whose cells are all.
-use Rattle.std.proofs.Common.{◌≡◌, ◌++◌, ◌∙◌, ◌==◌, sym, ap, subst, refl, arith, append-nil, ℕ, Bool, true, List, [], ◌∷◌, length, take, drop}
+use Rattle.std.proofs.Common.{◌≡◌, ◌++◌, ◌∙◌, ◌==◌, sym, ap, refl, arith, append-nil, ℕ, Bool, true, List, [], ◌∷◌, length, drop}
 use Rattle.std.proofs.lemmas.Bool.{and_parts, eqb-true}
 use Rattle.std.proofs.lemmas.List.{take_all, drop_all}
 use Rattle.std.proofs.lemmas.List.Sums.{sum_by-cons}
@@ -56,7 +56,8 @@ board_size b a fit =
     let only = only_of b b.regions a fit in
     ap size_of only.only ∙ omega (arith, sum_by-cons (λ (r : Region). r.size) only.region []) ∙ only.size_is
 
-one_overlaid : (image : List Run) (region : Region) (cells : List ℕ) → length cells ≡ region.size → overlaid image (region ∷ []) cells ≡ over image region.base cells
+one_overlaid : (image : List Run) (region : Region) (cells : List ℕ) → length cells ≡ region.size
+    → overlaid image (region ∷ []) cells ≡ over image region.base cells
 one_overlaid image region cells long =
     ap (λ (l : List ℕ). over image region.base l ++ drop region.size cells) (take_all region.size cells (omega (arith, long)))
     ∙ ap (λ (l : List ℕ). over image region.base cells ++ l) (drop_all region.size cells (omega (arith, long)))

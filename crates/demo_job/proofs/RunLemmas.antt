@@ -1,5 +1,6 @@
 -- What the loss of the power leaves, and what a resume of it leaves that is done.
-use Rattle.std.proofs.Common.{◌≡◌, ◌≢◌, ◌⊎◌, ⊎_elim, inl, inr, refl, sym, ap, subst, arith, ◌∙◌, ◌≤◌, ◌<◌, ℕ, true, List, [], ◌∷◌, option_copied, Option, Some, None}
+use Rattle.std.proofs.Common.{◌≡◌, ◌≢◌, ◌⊎◌, ⊎_elim, inl, inr, refl, sym, ap, subst, arith, ◌∙◌, ◌≤◌, ◌<◌, ℕ, true, List, [], ◌∷◌, option_copied, Option, Some}
+use Rattle.std.proofs.Common.{None}
 use Rattle.std.specs.Prelude.{length, ◌^◌}
 use Rattle.std.proofs.lemmas.Bool.{cases_lt, cases_eq}
 use Rattle.bench_model.specs.State.{SameOutside, BenchState, file_half}
@@ -35,7 +36,8 @@ use Rattle.demo_job.proofs.PlanLemmas.{laid_over}
 
 -- the pair that is left: untouched, whole, or at the close
 pub LeftPair : (seed : ℕ) (t : Target) (old : BenchState) (file cells : List ℕ) → Type 0
-LeftPair seed t old file cells = (IsUntouched old file cells ⊎ IsWhole (body_of (job_of seed t)) file) ⊎ IsAtClose (body_of (job_of seed t)) (work_of seed t).goal file cells
+LeftPair seed t old file cells = (IsUntouched old file cells ⊎ IsWhole (body_of (job_of seed t)) file)
+    ⊎ IsAtClose (body_of (job_of seed t)) (work_of seed t).goal file cells
 
 pub left_pair : (seed : ℕ) (t : Target) (fresh lost : MemoryBench) (is : IsLost seed t fresh lost)
     → LeftPair seed t (stopping_of is.first) (bench_of lost).file (bench_of lost).cells
@@ -44,7 +46,8 @@ left_pair seed t fresh lost is =
     let pairs = is.carries.stops.pairs in
     let now = (stopping_of is.begun).moment in
     ⊎_elim
-    (λ (less : now < is.carries.stops.closing). inl (pairs.before now (bench_of lost).file (bench_of lost).cells pairs.later (omega arith) less is.left.0 is.left.1))
+    (λ (less : now < is.carries.stops.closing). inl (pairs.before now (bench_of lost).file (bench_of lost).cells pairs.later
+    (omega arith) less is.left.0 is.left.1))
     (λ (past : is.carries.stops.closing ≤ now). inr (pairs.from now (bench_of lost).file (bench_of lost).cells past (omega arith) is.left.0 is.left.1))
     (cases_lt now is.carries.stops.closing)
 
@@ -83,7 +86,8 @@ done_laid seed t fresh lost after is_fresh is base cells from =
     (cases_eq (size_of t.board.regions) (bench_of lost).cell_count) in
     ⊎_elim
     (λ (before : IsUntouched (stopping_of is.first) file (bench_of lost).cells ⊎ IsWhole (body_of (job_of seed t)) file). ⊎_elim
-    (λ (untouched : IsUntouched (stopping_of is.first) file (bench_of lost).cells). of_free (untouched_free seed is.first fresh is.inner is_fresh file (bench_of lost).cells untouched))
+    (λ (untouched : IsUntouched (stopping_of is.first) file (bench_of lost).cells). of_free
+    (untouched_free seed is.first fresh is.inner is_fresh file (bench_of lost).cells untouched))
     of_whole
     before)
     (λ (at_close : IsAtClose (body_of (job_of seed t)) (work_of seed t).goal file (bench_of lost).cells). ⊎_elim
@@ -120,7 +124,8 @@ short_text : length board_text < 2 ^ 32
 unfolding board_text
 short_text = omega arith
 
-pub parts_of : (t : Target) (parts : JobParts) → IsTarget t → Suits t.board (t.algorithm ∷ []) parts.image.now → parts.board.now ≡ board_text → parts.flm.now ≡ t.file
+pub parts_of : (t : Target) (parts : JobParts) → IsTarget t → Suits t.board (t.algorithm ∷ []) parts.image.now → parts.board.now ≡ board_text
+    → parts.flm.now ≡ t.file
     → parts.second ≡ None → size_of t.board.regions ≡ parts.size → AreParts parts
 parts_of t parts is suits board_is flm_is second_is size =
     let flms : flms_of parts ≡ t.file ∷ [] =
@@ -138,7 +143,8 @@ parts_of t parts is suits board_is flm_is second_is size =
     }
 
 one_job : {a b : List ℕ} {c d : List (List ℕ)} {i j : List Run} {s u : List ℕ} → a ≡ b → c ≡ d → i ≡ j → s ≡ u
-    → (let x : Job = record { format = Second; board = a; flms = c; image = i; snapshot = s } in x) ≡ record { format = Second; board = b; flms = d; image = j; snapshot = u }
+    → (let x : Job = record { format = Second; board = a; flms = c; image = i; snapshot = s } in x) ≡ record
+    { format = Second; board = b; flms = d; image = j; snapshot = u }
 one_job {a} {b} {c} {d} {i} {j} {s} {u} boards flms images snapshots =
     ap (λ (x : List ℕ). let k : Job = record { format = Second; board = x; flms = c; image = i; snapshot = s } in k) boards
     ∙ ap (λ (x : List (List ℕ)). let k : Job = record { format = Second; board = b; flms = x; image = i; snapshot = s } in k) flms
@@ -150,7 +156,8 @@ pub record Begun (seed : ℕ) (t : Target) (first begun : StopBench MemoryBench)
   pub carries : Carries (bench_call true (stopping_of first) (stopping_of begun)) silence (IsUntouched (stopping_of first)) (work_of seed t) answer
 
 pub begun_of : (seed : ℕ) (t : Target) (first begun : StopBench MemoryBench) (fresh : MemoryBench) (answer : Answer) (parts : JobParts)
-    → first.inner ≡ fresh → IsFresh seed (bench_of fresh) → (is : IsTarget t) → (suits : Suits t.board (t.algorithm ∷ []) parts.image.now) → (board_is : parts.board.now ≡ board_text)
+    → first.inner ≡ fresh → IsFresh seed (bench_of fresh) → (is : IsTarget t) → (suits : Suits t.board (t.algorithm ∷ []) parts.image.now)
+    → (board_is : parts.board.now ≡ board_text)
     → (flm_is : parts.flm.now ≡ t.file) → (second_is : parts.second ≡ None) → parts.image.now ≡ image_of seed → (size : size_of t.board.regions ≡ parts.size)
     → parts.size ≡ 65536 → length (cells_of seed) ≡ 65536
     → BeginsParts (bench_call true (stopping_of first) (stopping_of begun)) silence parts answer → Begun seed t first begun answer
@@ -171,6 +178,8 @@ begun_of seed t first begun fresh answer parts inner is_fresh is suits board_is 
     record {
       is_job = subst (λ (j : Job). IsJob j t.board (t.algorithm ∷ [])) same of.1;
       carries =
-          let one = subst (λ (j : Job). Carries (bench_call true (stopping_of first) (stopping_of begun)) silence (IsUntouched (stopping_of first)) (work_to New j t.board (t.algorithm ∷ []) of.0) answer) same of.2 in
-          subst (λ (s : List ℕ). Carries (bench_call true (stopping_of first) (stopping_of begun)) silence (IsUntouched (stopping_of first)) (work_to New (job_of seed t) t.board (t.algorithm ∷ []) s) answer) snapshot one;
+          let one = subst (λ (j : Job). Carries (bench_call true (stopping_of first) (stopping_of begun)) silence (IsUntouched (stopping_of first))
+          (work_to New j t.board (t.algorithm ∷ []) of.0) answer) same of.2 in
+          subst (λ (s : List ℕ). Carries (bench_call true (stopping_of first) (stopping_of begun)) silence (IsUntouched (stopping_of first))
+          (work_to New (job_of seed t) t.board (t.algorithm ∷ []) s) answer) snapshot one;
     }

@@ -1,5 +1,6 @@
 -- Cells as a map, region after region. For `map_of_cells`, and for the law that a dump is read as its cells.
-use Rattle.std.proofs.Common.{◌≡◌, ◌<◌, ◌≤◌, ◌+◌, ◌-◌, ◌∙◌, sym, ap, refl, arith, ℕ, Bool, true, false, cond, List, [], ◌∷◌, length, get_or, take, drop, Option, Some, None}
+use Rattle.std.proofs.Common.{◌≡◌, ◌<◌, ◌≤◌, ◌+◌, ◌-◌, ◌∙◌, sym, ap, refl, arith, ℕ, Bool, true, false, cond, List, [], ◌∷◌, length, get_or, take, drop, Option}
+use Rattle.std.proofs.Common.{Some, None}
 use Rattle.std.specs.Prelude.{slice_range}
 use Rattle.std.proofs.lemmas.List.{drop_all, drop_more, drop-drop}
 use Rattle.std.proofs.lemmas.List.Sums.{sum_by-drop_more}
@@ -16,7 +17,8 @@ pub one_map : (regions : List Region) (cells : List ℕ) (a b : List Run) → Is
 one_map regions cells a b one two = one_list 0 addresses a b one.maximal two.maximal (λ x. one.same x ∙ sym (two.same x))
 
 -- the cells of a region, and those of the regions behind it
-pub cells_more : (regions : List Region) (i : ℕ) (d : Region) → i < length regions → size_of (drop i regions) ≡ (get_or regions i d).size + size_of (drop (i + 1) regions)
+pub cells_more : (regions : List Region) (i : ℕ) (d : Region) → i < length regions
+    → size_of (drop i regions) ≡ (get_or regions i d).size + size_of (drop (i + 1) regions)
 cells_more regions i d less = sum_by-drop_more (λ (r : Region). r.size) regions i d less
 
 -- Of the cells, those of the first regions are in the map, and those from a place on are left for the others.
@@ -44,7 +46,8 @@ laid_byte piece map new rest a lays =
     (λ byte held is. let to = held_to piece a held in lays.agrees a byte (omega (arith, to, lays.fits)) held is)
 
 -- one region more
-pub one_mapped : (regions : List Region) (cells : List ℕ) (i place end : ℕ) (region d : Region) (map new : List Run) → i < length regions → region ≡ get_or regions i d
+pub one_mapped : (regions : List Region) (cells : List ℕ) (i place end : ℕ) (region d : Region) (map new : List Run) → i < length regions
+    → region ≡ get_or regions i d
     → end ≡ place + region.size → IsMapSoFar regions cells i place map → Lays (record { at = region.base; bytes = slice_range cells place end }) map new
     → IsMapSoFar regions cells (i + 1) end new
 one_mapped regions cells i place end region d map new less here is so_far lays =
@@ -55,7 +58,8 @@ one_mapped regions cells i place end region d map new less here is so_far lays =
     let behind : drop region.size (drop place cells) ≡ drop end cells = drop-drop region.size place cells ∙ ap (λ (n : ℕ). drop n cells) (sym is) in
     let runs : cell_runs (drop i regions) (drop place cells) ≡ piece ∷ later =
     ap (λ (rs : List Region). cell_runs rs (drop place cells)) (drop_more regions i d less ∙ ap (λ (r : Region). r ∷ drop (i + 1) regions) (sym here))
-    ∙ ap (λ (n : ℕ). record { at = region.base; bytes = take n (drop place cells) } ∷ cell_runs (drop (i + 1) regions) (drop region.size (drop place cells))) (sym size)
+    ∙ ap (λ (n : ℕ). record { at = region.base; bytes = take n (drop place cells) } ∷ cell_runs (drop (i + 1) regions) (drop region.size (drop place cells)))
+    (sym size)
     ∙ ap (λ (cs : List ℕ). piece ∷ cell_runs (drop (i + 1) regions) cs) behind in
     record {
       maximal = lays.maximal;
@@ -65,7 +69,8 @@ one_mapped regions cells i place end region d map new less here is so_far lays =
     }
 
 -- its cells are there
-pub mapped_within : (regions : List Region) (cells : List ℕ) (i place : ℕ) (d : Region) (map : List Run) → i < length regions → IsMapSoFar regions cells i place map
+pub mapped_within : (regions : List Region) (cells : List ℕ) (i place : ℕ) (d : Region) (map : List Run) → i < length regions
+    → IsMapSoFar regions cells i place map
     → place + (get_or regions i d).size ≤ length cells
 mapped_within regions cells i place d map less so_far = omega (arith, so_far.left, cells_more regions i d less)
 
@@ -74,9 +79,11 @@ or_none None = refl
 or_none (Some byte) = refl
 
 -- no region is left
-pub all_mapped : (regions : List Region) (cells : List ℕ) (i place : ℕ) (map : List Run) → length regions ≤ i → IsMapSoFar regions cells i place map → IsMapOfCells regions cells map
+pub all_mapped : (regions : List Region) (cells : List ℕ) (i place : ℕ) (map : List Run) → length regions ≤ i
+    → IsMapSoFar regions cells i place map → IsMapOfCells regions cells map
 all_mapped regions cells i place map past so_far = record {
   maximal = so_far.maximal;
-  same = λ a. sym (or_none (byte_at map a)) ∙ ap (λ (rs : List Region). or_else (byte_at map a) (byte_at (cell_runs rs (drop place cells)) a)) (sym (drop_all i regions past))
+  same = λ a. sym (or_none (byte_at map a)) ∙ ap (λ (rs : List Region). or_else (byte_at map a) (byte_at (cell_runs rs (drop place cells)) a))
+      (sym (drop_all i regions past))
       ∙ so_far.rest a;
 }

@@ -1,5 +1,6 @@
 -- From the steps of `dump` to its end. Each step that may end `dump` has its lemma.
-use Rattle.std.proofs.Common.{◌≡◌, ◌≢◌, ◌≤◌, ◌<◌, ◌∙◌, ⊎_elim, ◌⊎◌, sym, ap, subst, refl, arith, inl, inr, ℕ, Bool, true, IsTrue, List, [], ◌∷◌, ◌++◌, length, take, drop, Option, Some, None, Ok, Err}
+use Rattle.std.proofs.Common.{◌≡◌, ◌≢◌, ◌<◌, ◌∙◌, sym, ap, subst, refl, arith, inl, inr, ℕ, Bool, true, IsTrue, List, [], ◌∷◌, ◌++◌, length}
+use Rattle.std.proofs.Common.{take, drop, Some, Ok, Err}
 use Rattle.std.proofs.lemmas.List.{take_all, take-append-le}
 use Rattle.std.specs.List.{All}
 use Rattle.bench_model.specs.State.{BenchState, cells_half}
@@ -20,10 +21,10 @@ use Rattle.command_files.specs.Inputs.{InputsCall, IsFile, NoneFailed}
 use Rattle.command_files.specs.Steps.{IsTakeFault, IsBoardRefusal}
 use Rattle.command_answers.specs.Call.{BenchCall, SinkCall, Answer, done, refused, bench_call, sink_call}
 use Rattle.command_answers.specs.Said.{PrintsText}
-use Rattle.command_answers.specs.Answered.{input, store, device, output, fault_in, yields, IsUnless, DidNothing, StandsEarly, IsOf, EndsLawfully, on_files}
+use Rattle.command_answers.specs.Answered.{input, store, device, output, fault_in, yields, IsUnless, StandsEarly, IsOf, EndsLawfully, on_files}
 use Rattle.command_answers.proofs.AnswerLemmas.{unraised, never_store, did_nothing, plain_lawful, untaken_lawful, one_file}
 use Rattle.device_dump.specs.CellMaps.{IsMapOfCells}
-use Rattle.device_dump.specs.Dump.{text_in, StandsBehind, DumpLeaves, ShowsDump, ComesOfBoard, IsDueForBoard, DumpEnds, has_dump}
+use Rattle.device_dump.specs.Dump.{text_in, StandsBehind, DumpLeaves, ComesOfBoard, IsDueForBoard, DumpEnds, has_dump}
 use Rattle.device_dump.specs.Looks.{LooksAtCells, PrintsNothing}
 use Rattle.device_dump.specs.Steps.{Dumped, DumpsCells, IsPut, PutsCells}
 use Rattle.device_dump.proofs.CellLemmas.{one_map}
@@ -55,7 +56,8 @@ module _ (form : TextForm) (regions : List Region) where
         device_count = dumps.device_count;
         out_count = dumps.out_count;
       };
-      stands = dump_cases (λ a. PrintsNothing out a → StandsEarly on_files bench out a) (λ nothing. tt) (λ nothing. nothing) (λ nothing. tt) (λ nothing. tt) answer
+      stands = dump_cases (λ a. PrintsNothing out a → StandsEarly on_files bench out a) (λ nothing. tt) (λ nothing. nothing) (λ nothing. tt)
+          (λ nothing. tt) answer
           dumps.dumped dumps.leaves.prints;
       untaken = λ name is. absurd (never_input answer dumps.dumped (ap fault_in is));
       none_failed = λ told no. same.failed told;
@@ -77,7 +79,8 @@ module _ (form : TextForm) (regions : List Region) where
     prints_due (refused r) map nothing dumped told is = absurd dumped
 
   -- no memory, before the cells are looked at
-  pub dumps_nothing : (tells told : Bool) (b : BenchState) (o : SinkState) → DumpsCells form regions (bench_call tells b b) (sink_call told o o) (refused out_of_memory)
+  pub dumps_nothing : (tells told : Bool) (b : BenchState) (o : SinkState)
+      → DumpsCells form regions (bench_call tells b b) (sink_call told o o) (refused out_of_memory)
   dumps_nothing tells told b o = record {
     leaves = record {
       prints = record { taken = refl; faults = refl };
@@ -149,7 +152,8 @@ module _ (form : TextForm) (regions : List Region) where
     dumps_put u looks surveyed (refused r) puts = absurd puts
 
 -- The text of the map is put whole, or in part.
-module _ (form : TextForm) (regions : List Region) (cells : List ℕ) (map : List Run) (told : Bool) (o after : SinkState) (bytes : All (λ byte. byte < 256) cells)
+module _ (form : TextForm) (regions : List Region) (cells : List ℕ) (map : List Run) (told : Bool) (o after : SinkState)
+    (bytes : All (λ byte. byte < 256) cells)
     (all : length cells ≡ size_of regions) (is_map : IsMapOfCells regions cells map) where
   pub put_done : (u : Unit {0}) → Puts told o after (text_in form map) (Ok u) → IsPut form regions cells (sink_call told o after) done
   put_done u puts = record { bytes = bytes; all = all; map = map; is_map = is_map; prints = record { taken = puts.ok; faults = puts.cause.on_ok refl } }
@@ -185,7 +189,8 @@ module _ (form : TextForm) (name : List ℕ) (tells told : Bool) (b : BenchState
     stops = adds_nothing_here (cells_half b);
   }
 
-  due_yielding : (answer : Answer) → yields answer ≡ true → ((text : List ℕ) → PrintsText Out text answer) → (text : List ℕ) → IsDueForBoard form Bench Out answer text
+  due_yielding : (answer : Answer) → yields answer ≡ true → ((text : List ℕ) → PrintsText Out text answer) → (text : List ℕ)
+      → IsDueForBoard form Bench Out answer text
   due_yielding answer its prints text = record {
     refuses = λ fault is. inr (its, did_nothing tells told b o);
     other_count = λ board is other. inr (its, did_nothing tells told b o);
@@ -246,7 +251,8 @@ module _ (form : TextForm) (name : List ℕ) (tells told : Bool) (b : BenchState
             absurd (unequal (ap (λ (s : board.Shown). size_of s.regions) both ∙ equal));
       }
 
-      pub ends_other_count : size_of its.regions ≢ b.cell_count → DumpEnds form name Bench inputs Out (refused (cells_differ (size_of its.regions) b.cell_count))
+      pub ends_other_count : size_of its.regions ≢ b.cell_count
+          → DumpEnds form name Bench inputs Out (refused (cells_differ (size_of its.regions) b.cell_count))
       ends_other_count unequal =
           let r = cells_differ (size_of its.regions) b.cell_count in
           record {

@@ -1,10 +1,11 @@
 -- What a dump is read as. For the law `dumps_are_read_as_their_cells`.
-use Rattle.std.proofs.Common.{◌≡◌, ◌<◌, ◌+◌, ◌-◌, ◌∙◌, sym, subst, refl, arith, ℕ, Bool, true, false, cond, List, [], ◌∷◌, length, slice_index, take, drop, Option, Some, None}
+use Rattle.std.proofs.Common.{◌≡◌, ◌<◌, ◌+◌, ◌-◌, ◌∙◌, sym, subst, refl, arith, ℕ, Bool, true, false, cond, List, [], ◌∷◌, length, slice_index, take, drop}
+use Rattle.std.proofs.Common.{Some, None}
 use Rattle.std.specs.List.{All}
 use Rattle.std.proofs.lemmas.Option.{same_Some}
 use Rattle.std.proofs.lemmas.List.Elements.{All-take, All-drop, All-from_get_or}
 use Rattle.board_file.specs.declared.region.Region.{Region}
-use Rattle.byte_map.specs.Image.{addresses, Run, run_at, end_of, holds, byte_of, byte_at}
+use Rattle.byte_map.specs.Image.{addresses, Run, run_at, holds, byte_of, byte_at}
 use Rattle.byte_map.proofs.Runs.{holds_between, held_from, held_to, found_in}
 use Rattle.image_more.specs.Any.{IsAnyImage}
 use Rattle.image_more.specs.Maps.{IsByteMap}

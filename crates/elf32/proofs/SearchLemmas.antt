@@ -1,5 +1,6 @@
 -- Laws of the least number that passes a test. Sections and symbols are the first that fit.
-use Rattle.std.proofs.Common.{◌≡◌, ℕ, ◌+◌, ◌-◌, ◌<◌, ◌≤◌, Bool, true, false, List, [], ◌∷◌, ◌++◌, cond, Option, Some, None, refl, sym, ap, ◌∙◌, arith, suc, zero, zero-add, add-zero, inl, inr, ◌⊎◌, ⊎_elim}
+use Rattle.std.proofs.Common.{◌≡◌, ℕ, ◌+◌, ◌-◌, ◌<◌, ◌≤◌, Bool, true, false, List, [], ◌∷◌, ◌++◌, cond, Option, Some, None, refl, sym, ap, ◌∙◌, arith, suc}
+use Rattle.std.proofs.Common.{zero, zero-add, add-zero, inl, inr, ◌⊎◌, ⊎_elim}
 use Rattle.std.specs.Option.{option_or}
 use Rattle.std.specs.Prelude.{map}
 use Rattle.std.specs.List.{range_with_len}

@@ -1,5 +1,6 @@
 -- Laws of strings in tables. A name is the bytes up to the first zero.
-use Rattle.std.proofs.Common.{◌≡◌, ℕ, ◌+◌, ◌-◌, ◌<◌, ◌≤◌, Bool, true, false, List, length, take, drop, get_or, Option, Some, None, refl, sym, ap, ◌∙◌, arith, cond, min, ltb, ⊎_elim}
+use Rattle.std.proofs.Common.{◌≡◌, ℕ, ◌+◌, ◌-◌, ◌<◌, ◌≤◌, Bool, true, false, List, length, take, drop, get_or, Option, Some, None, refl, sym, ap, ◌∙◌, arith}
+use Rattle.std.proofs.Common.{cond, min, ltb, ⊎_elim}
 use Rattle.std.specs.Prelude.{position, MatchOption}
 use Rattle.std.specs.Borrow.{Bor}
 use Rattle.std.specs.List.{before_first, position_or_len}
@@ -91,7 +92,12 @@ pub lent_within : (table rest : List ℕ) (at limit : ℕ) (lent : Option (Bor (
     → MatchOption lent (limit < position_or_len is_zero rest) (λ text. (text.now ≡ before_first is_zero rest) × (position_or_len is_zero rest ≤ limit))
     → IsWithin limit (string_at table at) lent
 lent_within table rest at limit None from inside lent =
-    rw (string_at-some table at (rw from at inside)) (omega (arith, length-take (position_or_len is_zero (drop at table)) (drop at table), rw from at inside, rw from at lent))
+    rw (string_at-some table at (rw from at inside)) (omega (
+      arith,
+      length-take (position_or_len is_zero (drop at table)) (drop at table),
+      rw from at inside,
+      rw from at lent,
+    ))
 lent_within table rest at limit (Some text) from inside lent = (
   string_at-some table at (rw from at inside) ∙ ap Some (rw (← from) (sym lent.0)),
   rw lent.0 (omega (arith, length-take (position_or_len is_zero rest) rest, lent.1)),

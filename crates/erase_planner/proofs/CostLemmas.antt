@@ -1,5 +1,6 @@
 -- What the chosen plan costs as a list. `LawLemmas` compares it with any other list.
-use Rattle.std.proofs.Common.{◌≡◌, ℕ, zero, suc, ◌+◌, ◌*◌, Bool, true, false, nat_lt, cond, refl, ap, subst, arith, ◌∙◌, List, [], ◌∷◌, ◌++◌, map, length, inl, inr, zero-add}
+use Rattle.std.proofs.Common.{◌≡◌, ℕ, zero, suc, ◌+◌, ◌*◌, Bool, true, false, nat_lt, cond, refl, ap, subst, arith, ◌∙◌, List, [], ◌∷◌, ◌++◌, map, length, inl}
+use Rattle.std.proofs.Common.{inr, zero-add}
 use Rattle.std.proofs.lemmas.Bool.{cases_Bool, and_parts}
 use Rattle.std.proofs.lemmas.List.FromFn.{map-range_with_len_more}
 use Rattle.std.specs.List.{range_with_len}
@@ -7,7 +8,8 @@ use Rattle.page_geometry.specs.Geometry.{Geometry}
 use Rattle.page_geometry.specs.Cells.{count_below}
 use Rattle.page_geometry.specs.Ideal.{Action, EraseChip, erasures, writes}
 use Rattle.board_file.specs.declared.board.Weights.{Weights}
-use Rattle.erase_planner.specs.Plans.{price, cost, must_erase, must_program, is_wanted, sectors_cost, chip_cost, takes_chip, by_sectors, by_chip, chosen, tests, actions_of}
+use Rattle.erase_planner.specs.Plans.{price, cost, must_erase, must_program, is_wanted, sectors_cost, chip_cost, takes_chip, by_sectors, by_chip, chosen, tests}
+use Rattle.erase_planner.specs.Plans.{actions_of}
 
 cost_append : (w : Weights) (xs ys : List Action) → cost w (xs ++ ys) ≡ cost w xs + cost w ys
 unfolding cost
@@ -56,7 +58,8 @@ unfolding cost price
 chip_alone w = omega arith
 
 -- what the chosen plan costs as a list
-pub chosen_cost : (l : Geometry) (w : Weights) (has_chip : Bool) (empty : ℕ) (cells want : List ℕ) → cost w (actions_of l want (chosen l w has_chip empty cells want)) ≡ (chosen l w has_chip empty cells want).cost
+pub chosen_cost : (l : Geometry) (w : Weights) (has_chip : Bool) (empty : ℕ) (cells want : List ℕ) →
+    cost w (actions_of l want (chosen l w has_chip empty cells want)) ≡ (chosen l w has_chip empty cells want).cost
 unfolding chosen takes_chip by_chip by_sectors actions_of sectors_cost chip_cost
 chosen_cost l w has_chip empty cells want =
     elim (cases_Bool (takes_chip l w has_chip empty cells want)) [
@@ -69,7 +72,8 @@ chosen_cost l w has_chip empty cells want =
           let c = ap (λ (n : ℕ). w.page * n) (count_tests (length l.pages) (is_wanted l empty want)) in omega (arith, a, b, c))))
       | inr not_chip ↦
           rw not_chip
-          (cost_append w (erasures 0 (tests (length l.sectors) (must_erase l empty cells want))) (writes l want 0 (tests (length l.pages) (must_program l empty cells want)))
+          (cost_append w (erasures 0 (tests (length l.sectors) (must_erase l empty cells want)))
+          (writes l want 0 (tests (length l.pages) (must_program l empty cells want)))
           ∙ (let a = erasures_cost w (tests (length l.sectors) (must_erase l empty cells want)) 0 in
           let b = writes_cost l w want (tests (length l.pages) (must_program l empty cells want)) 0 in
           let c = ap (λ (n : ℕ). w.sector * n) (count_tests (length l.sectors) (must_erase l empty cells want)) in

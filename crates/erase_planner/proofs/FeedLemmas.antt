@@ -1,5 +1,6 @@
 -- What one more byte does to the marks. `feed_marks` goes on by them.
-use Rattle.std.proofs.Common.{get_or-set_same, get_or-set_other, ◌≡◌, ℕ, ◌+◌, ◌-◌, ◌<◌, Bool, true, false, not, ◌||◌, nat_eq, refl, sym, ap, subst, arith, slice_index, ◌∙◌, List, [], ◌∷◌, ◌++◌, length, get_or, set, inl, inr}
+use Rattle.std.proofs.Common.{get_or-set_same, get_or-set_other, ◌≡◌, ℕ, ◌+◌, ◌-◌, ◌<◌, Bool, true, false, not, ◌||◌, nat_eq, refl, sym, ap, subst, arith}
+use Rattle.std.proofs.Common.{slice_index, ◌∙◌, List, [], ◌∷◌, ◌++◌, length, get_or, set, inl, inr}
 use Rattle.std.proofs.Math.ListN.{length-set}
 use Rattle.std.proofs.lemmas.Bool.{or_cases, or_left, or_right, cases_lt, cases_eq, false_from_ne_true}
 use Rattle.std.proofs.lemmas.List.{get_or_append_left, get_or-append_right}
@@ -45,7 +46,8 @@ pushed_last : (xs : List ℕ) (x n : ℕ) → length xs ≡ n → slice_index (x
 pushed_last xs x n e = get_or-append_right xs (x ∷ []) n n 0 e (omega arith) ∙ (let z : n - n ≡ 0 = omega arith in ap (λ (i : ℕ). get_or (x ∷ []) i 0) z)
 
 module _ (l : Geometry) (empty : ℕ) (old want : List ℕ) (n x y : ℕ) (old_long : length old ≡ n) (want_long : length want ≡ n) where
-  same_differs : (i : ℕ) → i < n → not (nat_eq (slice_index (old ++ x ∷ []) i) (slice_index (want ++ y ∷ []) i)) ≡ not (nat_eq (slice_index old i) (slice_index want i))
+  same_differs : (i : ℕ) → i < n → not (nat_eq (slice_index (old ++ x ∷ []) i) (slice_index (want ++ y ∷ []) i)) ≡ not
+      (nat_eq (slice_index old i) (slice_index want i))
   same_differs i h = cc (pushed_same old x n i old_long h, pushed_same want y n i want_long h)
 
   same_old : (i : ℕ) → i < n → not (nat_eq (slice_index (old ++ x ∷ []) i) empty) ≡ not (nat_eq (slice_index old i) empty)
@@ -61,16 +63,28 @@ module _ (l : Geometry) (empty : ℕ) (old want : List ℕ) (n x y : ℕ) (old_l
   unfolding mark_of differs is_used
   mark_inside p h =
       let r = range_at l.pages p in
-      let a = more_inside r n (λ i. not (nat_eq (slice_index old i) (slice_index want i))) (λ i. not (nat_eq (slice_index (old ++ x ∷ []) i) (slice_index (want ++ y ∷ []) i))) h same_differs in
+      let a = more_inside r n (λ i. not (nat_eq (slice_index old i) (slice_index want i)))
+      (λ i. not (nat_eq (slice_index (old ++ x ∷ []) i) (slice_index (want ++ y ∷ []) i))) h same_differs in
       let b = more_inside r n (λ i. not (nat_eq (slice_index old i) empty)) (λ i. not (nat_eq (slice_index (old ++ x ∷ []) i) empty)) h same_old in
       let c = more_inside r n (λ i. not (nat_eq (slice_index want i) empty)) (λ i. not (nat_eq (slice_index (want ++ y ∷ []) i) empty)) h same_want in
-      rw (pushed_long old n x old_long, pushed_long want n y want_long, old_long, want_long, a, b, c, pushed_last old x n old_long, pushed_last want y n want_long) refl
+      rw (
+        pushed_long old n x old_long,
+        pushed_long want n y want_long,
+        old_long,
+        want_long,
+        a,
+        b,
+        c,
+        pushed_last old x n old_long,
+        pushed_last want y n want_long,
+      ) refl
 
   mark_outside : (p : ℕ) → (In n (range_at l.pages p) → ⊥) → mark_of l empty (old ++ x ∷ []) (want ++ y ∷ []) p ≡ mark_of l empty old want p
   unfolding mark_of differs is_used
   mark_outside p h =
       let r = range_at l.pages p in
-      let a = more_outside r n (λ i. not (nat_eq (slice_index old i) (slice_index want i))) (λ i. not (nat_eq (slice_index (old ++ x ∷ []) i) (slice_index (want ++ y ∷ []) i))) h same_differs in
+      let a = more_outside r n (λ i. not (nat_eq (slice_index old i) (slice_index want i)))
+      (λ i. not (nat_eq (slice_index (old ++ x ∷ []) i) (slice_index (want ++ y ∷ []) i))) h same_differs in
       let b = more_outside r n (λ i. not (nat_eq (slice_index old i) empty)) (λ i. not (nat_eq (slice_index (old ++ x ∷ []) i) empty)) h same_old in
       let c = more_outside r n (λ i. not (nat_eq (slice_index want i) empty)) (λ i. not (nat_eq (slice_index (want ++ y ∷ []) i) empty)) h same_want in
       rw (pushed_long old n x old_long, pushed_long want n y want_long, old_long, want_long, a, b, c) refl

@@ -1,5 +1,6 @@
 -- The sets that are filled from the marks, element by element.
-use Rattle.std.proofs.Common.{◌≡◌, ℕ, zero, suc, ◌+◌, ◌<◌, ◌≤◌, Bool, true, false, ◌&&◌, cond, refl, sym, ap, subst, arith, ◌∙◌, List, [], ◌∷◌, ◌++◌, map, length, get_or, zero-add}
+use Rattle.std.proofs.Common.{◌≡◌, ℕ, zero, suc, ◌+◌, ◌<◌, ◌≤◌, Bool, true, false, ◌&&◌, cond, refl, sym, ap, subst, arith, ◌∙◌, List, [], ◌∷◌, ◌++◌, map}
+use Rattle.std.proofs.Common.{length, get_or, zero-add}
 use Rattle.std.proofs.lemmas.Bool.{and_from, and_parts, both_ways, false_from_ne_true, cond-true, cond-false}
 use Rattle.std.proofs.lemmas.List.FromFn.{map-range_with_len_more, get_or-map-range_with_len, length-map-range_with_len}
 use Rattle.std.specs.List.{range_with_len}
@@ -40,13 +41,15 @@ tests_at n t k h = get_or-map-range_with_len t 0 n k k false h (zero-add k)
 
 -- ---- a sector by the marks of its pages
 
-pub erases_found : (l : Geometry) (marks : List Mark) (s first count p : ℕ) → ArePagesOf l s first count → first ≤ p → p < first + count → needs_erasure (mark_at marks p) ≡ true → true ≡ erases_by l marks s
+pub erases_found : (l : Geometry) (marks : List Mark) (s first count p : ℕ) → ArePagesOf l s first count → first ≤ p → p < first + count →
+    needs_erasure (mark_at marks p) ≡ true → true ≡ erases_by l marks s
 unfolding erases_by
 erases_found l marks s first count p are from under needs =
     sym (some_below_from (length l.pages) (λ q. has_page (range_at l.sectors s) (range_at l.pages q) && needs_erasure (mark_at marks q)) p
     (omega (arith, are.in_all, under)) (and_from _ _ (has_page_from _ _ (are.within p from under)) needs))
 
-pub erases_none : (l : Geometry) (marks : List Mark) (s first count : ℕ) → ArePagesOf l s first count → ((p : ℕ) → first ≤ p → p < first + count → needs_erasure (mark_at marks p) ≡ false) → false ≡ erases_by l marks s
+pub erases_none : (l : Geometry) (marks : List Mark) (s first count : ℕ) → ArePagesOf l s first count →
+    ((p : ℕ) → first ≤ p → p < first + count → needs_erasure (mark_at marks p) ≡ false) → false ≡ erases_by l marks s
 unfolding erases_by
 erases_none l marks s first count are none =
     sym (false_from_ne_true _ (λ e.
@@ -58,7 +61,8 @@ erases_none l marks s first count are none =
 
 -- ---- a page by its sector
 
-module _ (l : Geometry) (good : IsGeometry l) (sectors : List Bool) (p s i : ℕ) (hp : p < length l.pages) (hs : s < length l.sectors) (in_page : In i (range_at l.pages p)) (in_sector : In i (range_at l.sectors s)) where
+module _ (l : Geometry) (good : IsGeometry l) (sectors : List Bool) (p s i : ℕ) (hp : p < length l.pages) (hs : s < length l.sectors)
+    (in_page : In i (range_at l.pages p)) (in_sector : In i (range_at l.sectors s)) where
   pub lies_is : lies_in l sectors p ≡ get_or sectors s false
   unfolding lies_in
   lies_is = same_tests _ _
@@ -68,7 +72,8 @@ module _ (l : Geometry) (good : IsGeometry l) (sectors : List Bool) (p s i : ℕ
       let w : Within (range_at l.pages p) (range_at l.sectors x.0) = within_from (range_at l.sectors x.0) (range_at l.pages p) a.1 in
       let same : x.0 ≡ s = good.sectors_part.apart x.0 s i (omega (arith, w.0, in_page.0), omega (arith, w.1, in_page.1)) in_sector in
       subst (λ (n : ℕ). get_or sectors n false ≡ true) same a.0)
-      (λ e. some_below_from (length l.sectors) (λ q. get_or sectors q false && has_page (range_at l.sectors q) (range_at l.pages p)) s hs (and_from _ _ e (has_page_from _ _ (page_within l good s p i hp in_page in_sector))))
+      (λ e. some_below_from (length l.sectors) (λ q. get_or sectors q false && has_page (range_at l.sectors q) (range_at l.pages p)) s hs
+      (and_from _ _ e (has_page_from _ _ (page_within l good s p i hp in_page in_sector))))
 
   pub programs_is : (marks : List Mark) → programs_by l marks sectors p ≡ cond (get_or sectors s false) (mark_at marks p).want_used (mark_at marks p).differs
   unfolding programs_by

@@ -1,5 +1,6 @@
 -- From the marks of the whole contents to the chosen plan.
-use Rattle.std.proofs.Common.{◌≡◌, ℕ, ◌+◌, ◌*◌, ◌<◌, min, Bool, true, false, ◌&&◌, nat_lt, cond, refl, sym, ap, subst, arith, slice_index, ◌∙◌, List, length, inl, inr}
+use Rattle.std.proofs.Common.{◌≡◌, ℕ, ◌+◌, ◌*◌, ◌<◌, min, Bool, true, false, ◌&&◌, nat_lt, cond, refl, sym, ap, subst, arith, slice_index, ◌∙◌, List, length}
+use Rattle.std.proofs.Common.{inl, inr}
 use Rattle.std.proofs.lemmas.Bool.{cases_Bool, both_ways, false_from_ne_true, cond-true, cond-false}
 use Rattle.erase_planner.specs.declared.marks.Mark.{Mark}
 use Rattle.board_file.specs.declared.board.Weights.{Weights}
@@ -7,12 +8,14 @@ use Rattle.flm_descriptor.specs.Shape.{Range, range, range_at}
 use Rattle.page_geometry.specs.Geometry.{In, Geometry, IsGeometry}
 use Rattle.page_geometry.specs.Cells.{count_below, is_used, differs}
 use Rattle.page_geometry.proofs.TestLemmas.{same_tests, some_below_same, count_below_same, differs_from, differs_at, used_from, used_at}
-use Rattle.erase_planner.specs.Plans.{has_page, tests, must_erase, must_program, is_wanted, is_erased, once_erased, sectors_cost, chip_cost, takes_chip, by_sectors, by_chip, chosen, Chosen}
+use Rattle.erase_planner.specs.Plans.{has_page, tests, must_erase, must_program, is_wanted, is_erased, once_erased, sectors_cost, chip_cost, takes_chip}
+use Rattle.erase_planner.specs.Plans.{by_sectors, by_chip, chosen, Chosen}
 use Rattle.erase_planner.specs.Marks.{seen, mark_of, mark_at, AreMarks, erases_by, programs_by, wanted_by}
 use Rattle.erase_planner.proofs.SetLemmas.{once_at, is_erased_from, is_erased_at}
 use Rattle.erase_planner.proofs.FillLemmas.{tests_same, tests_at, programs_is}
 
-module _ (l : Geometry) (good : IsGeometry l) (empty : ℕ) (old want : List ℕ) (old_long : length old ≡ l.size) (want_long : length want ≡ l.size) (marks : List Mark) (m : AreMarks l empty old want marks) where
+module _ (l : Geometry) (good : IsGeometry l) (empty : ℕ) (old want : List ℕ) (old_long : length old ≡ l.size) (want_long : length want ≡ l.size)
+    (marks : List Mark) (m : AreMarks l empty old want marks) where
   whole : (p n : ℕ) → p < length l.pages → n ≡ l.size → seen (range_at l.pages p) n ≡ range_at l.pages p
   whole p n hp e =
       let below = good.pages_part.below p hp in
@@ -20,13 +23,27 @@ module _ (l : Geometry) (good : IsGeometry l) (empty : ℕ) (old want : List ℕ
       ap (λ (b : ℕ). range (range_at l.pages p).start b) same
 
   abbrev full_mark : ℕ → Mark
-  full_mark p = record { differs = differs (range_at l.pages p) old want; old_used = is_used empty (range_at l.pages p) old; want_used = is_used empty (range_at l.pages p) want }
+  full_mark p = record {
+    differs = differs (range_at l.pages p) old want;
+    old_used = is_used empty (range_at l.pages p) old;
+    want_used =
+        is_used empty (range_at l.pages p) want;
+  }
 
   mark_full : (p : ℕ) → p < length l.pages → mark_at marks p ≡ full_mark p
   unfolding mark_of
   mark_full p hp = let e = m.each p hp in let a = whole p (length old) hp old_long in let b = whole p (length want) hp want_long in
-      e ∙ ap (λ (r : Range). let k : Mark = record { differs = differs r old want; old_used = is_used empty r old; want_used = is_used empty (seen (range_at l.pages p) (length want)) want } in k) a
-      ∙ ap (λ (r : Range). let k : Mark = record { differs = differs (range_at l.pages p) old want; old_used = is_used empty (range_at l.pages p) old; want_used = is_used empty r want } in k) b
+      e ∙ ap (λ (r : Range). let k : Mark = record {
+        differs = differs r old want;
+        old_used = is_used empty r old;
+        want_used =
+            is_used empty (seen (range_at l.pages p) (length want)) want;
+      } in k) a
+      ∙ ap (λ (r : Range). let k : Mark = record {
+        differs = differs (range_at l.pages p) old want;
+        old_used = is_used empty (range_at l.pages p) old;
+        want_used = is_used empty r want;
+      } in k) b
 
   erases_is : (s : ℕ) → erases_by l marks s ≡ must_erase l empty old want s
   unfolding erases_by must_erase
@@ -87,12 +104,14 @@ module _ (l : Geometry) (good : IsGeometry l) (empty : ℕ) (old want : List ℕ
   pages_is : (p : ℕ) → p < length l.pages → programs_by l marks given_sectors p ≡ must_program l empty old want p
   pages_is p hp = ap (λ (bs : List Bool). programs_by l marks bs p) sectors_are ∙ program_is p hp
 
-  sectors_cost_is : (w : Weights) → w.sector * count_below (length l.sectors) (erases_by l marks) + w.page * count_below (length l.pages) (programs_by l marks given_sectors) ≡ sectors_cost l w empty old want
+  sectors_cost_is : (w : Weights) → w.sector * count_below (length l.sectors) (erases_by l marks) + w.page * count_below (length l.pages)
+      (programs_by l marks given_sectors) ≡ sectors_cost l w empty old want
   unfolding sectors_cost
   sectors_cost_is w =
       let a = count_below_same (length l.sectors) (erases_by l marks) (must_erase l empty old want) (λ s h. erases_is s) in
       let b = count_below_same (length l.pages) (programs_by l marks given_sectors) (must_program l empty old want) pages_is in
-      ap (λ (n : ℕ). w.sector * n + w.page * count_below (length l.pages) (programs_by l marks given_sectors)) a ∙ ap (λ (n : ℕ). w.sector * count_below (length l.sectors) (must_erase l empty old want) + w.page * n) b
+      ap (λ (n : ℕ). w.sector * n + w.page * count_below (length l.pages) (programs_by l marks given_sectors)) a ∙
+      ap (λ (n : ℕ). w.sector * count_below (length l.sectors) (must_erase l empty old want) + w.page * n) b
 
   chip_cost_is : (w : Weights) → w.chip + w.page * count_below (length l.pages) (wanted_by marks) ≡ chip_cost l w empty want
   unfolding chip_cost
@@ -108,7 +127,8 @@ module _ (l : Geometry) (good : IsGeometry l) (empty : ℕ) (old want : List ℕ
       let a = sectors_cost_is w in
       let b = chip_cost_is w in
       let total_is : total ≡ sectors_cost l w empty old want = e3 ∙ a in
-      let pages_are : pages ≡ tests (length l.pages) (must_program l empty old want) = e2 ∙ tests_same (length l.pages) (programs_by l marks given_sectors) (must_program l empty old want) pages_is in
+      let pages_are : pages ≡ tests (length l.pages) (must_program l empty old want) = e2 ∙ tests_same (length l.pages) (programs_by l marks given_sectors)
+      (must_program l empty old want) pages_is in
       let sectors_is : sectors ≡ sector_set = e1 ∙ sectors_are in
       let no_chip : (has_chip && nat_lt (chip_cost l w empty want) (sectors_cost l w empty old want)) ≡ false =
       ap (λ (n : ℕ). has_chip && nat_lt n (sectors_cost l w empty old want)) (sym b)
@@ -118,14 +138,16 @@ module _ (l : Geometry) (good : IsGeometry l) (empty : ℕ) (old want : List ℕ
   pub finish_chip : (w : Weights) (has_chip : Bool) (sectors pages : List Bool) (total : ℕ)
       → sectors ≡ tests (length l.sectors) (λ s. false) → pages ≡ tests (length l.pages) (wanted_by marks)
       → total ≡ w.chip + w.page * count_below (length l.pages) (wanted_by marks)
-      → (has_chip && nat_lt total (w.sector * count_below (length l.sectors) (erases_by l marks) + w.page * count_below (length l.pages) (programs_by l marks given_sectors))) ≡ true
+      → (has_chip && nat_lt total (w.sector * count_below (length l.sectors) (erases_by l marks) + w.page * count_below (length l.pages)
+      (programs_by l marks given_sectors))) ≡ true
       → (let x : Chosen = record { chip = true; sectors = sectors; pages = pages; cost = total } in x) ≡ chosen l w has_chip empty old want
   unfolding chosen takes_chip by_chip
   finish_chip w has_chip sectors pages total e1 e2 e3 less =
       let a = sectors_cost_is w in
       let b = chip_cost_is w in
       let total_is : total ≡ chip_cost l w empty want = e3 ∙ b in
-      let pages_are : pages ≡ tests (length l.pages) (is_wanted l empty want) = e2 ∙ tests_same (length l.pages) (wanted_by marks) (is_wanted l empty want) wanted_is in
+      let pages_are : pages ≡ tests (length l.pages) (is_wanted l empty want) = e2 ∙
+      tests_same (length l.pages) (wanted_by marks) (is_wanted l empty want) wanted_is in
       let cheap : (has_chip && nat_lt (chip_cost l w empty want) (sectors_cost l w empty old want)) ≡ true =
       ap (λ (n : ℕ). has_chip && nat_lt n (sectors_cost l w empty old want)) (sym total_is)
       ∙ ap (λ (n : ℕ). has_chip && nat_lt total n) (sym a) ∙ less in

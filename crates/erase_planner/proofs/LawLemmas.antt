@@ -8,7 +8,8 @@ use Rattle.erase_planner.proofs.ReachLemmas.{chosen_reach}
 use Rattle.erase_planner.proofs.CostLemmas.{chosen_cost}
 
 -- the chosen plan is a plan, and none costs less
-pub least_plan : (l : Geometry) → IsGeometry l → (w : Weights) (has_chip : Bool) (empty : ℕ) (old want : List ℕ) → length old ≡ l.size → length want ≡ l.size → (plan : Chosen) → plan ≡ chosen l w has_chip empty old want → IsLeastPlan l w has_chip empty old want plan
+pub least_plan : (l : Geometry) → IsGeometry l → (w : Weights) (has_chip : Bool) (empty : ℕ) (old want : List ℕ) → length old ≡ l.size → length want ≡ l.size →
+    (plan : Chosen) → plan ≡ chosen l w has_chip empty old want → IsLeastPlan l w has_chip empty old want plan
 least_plan l good w has_chip empty old want lo lw plan e =
     subst (λ (p : Chosen). IsLeastPlan l w has_chip empty old want p) (sym e) (record {
       chosen = refl;

@@ -1,5 +1,6 @@
 -- No list of actions costs less than the chosen plan. It is the second half of `LawLemmas`: `ReachLemmas` has the first.
-use Rattle.std.proofs.Common.{◌≡◌, ℕ, ◌+◌, ◌*◌, ◌<◌, ◌≤◌, Bool, true, false, nat_eq, nat_lt, refl, sym, arith, slice_index, ◌∙◌, List, [], ◌∷◌, length, inl, inr}
+use Rattle.std.proofs.Common.{◌≡◌, ℕ, ◌+◌, ◌*◌, ◌<◌, ◌≤◌, Bool, true, false, nat_eq, nat_lt, refl, sym, arith, slice_index, ◌∙◌, List, [], ◌∷◌, length, inl}
+use Rattle.std.proofs.Common.{inr}
 use Rattle.std.proofs.lemmas.Bool.{false≢true, cases_Bool, both_ways, ltb-true, ltb-false, cond-true, cond-false, and_parts}
 use Rattle.std.proofs.Math.Nat.{mul-le-mul_left}
 use Rattle.flm_descriptor.specs.Shape.{range_at}
@@ -8,7 +9,8 @@ use Rattle.page_geometry.specs.Cells.{count_below, is_used, differs, IsEmpty}
 use Rattle.page_geometry.specs.Ideal.{Action, EraseSector, EraseChip, ProgramPage}
 use Rattle.page_geometry.proofs.TestLemmas.{differs_at, differs_from, used_at, unused, count_below_le, count_below_or, count_below_one, count_below_none}
 use Rattle.board_file.specs.declared.board.Weights.{Weights}
-use Rattle.erase_planner.specs.Plans.{Leads, erases_chip, price, cost, must_erase, is_erased, once_erased, must_program, is_wanted, sectors_cost, chip_cost, takes_chip, by_sectors, by_chip, chosen, IsLeast}
+use Rattle.erase_planner.specs.Plans.{Leads, erases_chip, price, cost, must_erase, is_erased, once_erased, must_program, is_wanted, sectors_cost, chip_cost}
+use Rattle.erase_planner.specs.Plans.{takes_chip, by_sectors, by_chip, chosen, IsLeast}
 use Rattle.page_geometry.proofs.GeometryLemmas.{page_within}
 use Rattle.erase_planner.proofs.NeedLemmas.{erases, programs, kept, stays_empty, erased_empty, chip_empty}
 use Rattle.erase_planner.proofs.SetLemmas.{must_erase_at, must_erase_from, is_erased_at, is_erased_from, once_at}
@@ -33,7 +35,8 @@ chip_erasures (EraseSector s ∷ rest) = chip_erasures rest
 chip_erasures (EraseChip ∷ rest) = 1 + chip_erasures rest
 chip_erasures (ProgramPage p bytes ∷ rest) = chip_erasures rest
 
-cost_by_kind : (w : Weights) (actions : List Action) → cost w actions ≡ w.sector * sector_erasures actions + w.page * page_writes actions + w.chip * chip_erasures actions
+cost_by_kind : (w : Weights) (actions : List Action) → cost w actions ≡ w.sector * sector_erasures actions + w.page * page_writes actions + w.chip *
+    chip_erasures actions
 unfolding cost price sector_erasures page_writes chip_erasures
 cost_by_kind w [] = omega arith
 cost_by_kind w (EraseSector s ∷ rest) = let before = cost_by_kind w rest in omega (arith, before)
@@ -65,7 +68,8 @@ chip_once (EraseSector s ∷ rest) e = chip_once rest e
 chip_once (ProgramPage p bytes ∷ rest) e = chip_once rest e
 
 module _ (l : Geometry) (good : IsGeometry l) (w : Weights) (empty : ℕ) (cells want : List ℕ) (long : length cells ≡ l.size) where
-  needs_erasure : (actions : List Action) → Leads l empty cells actions want → erases_chip actions ≡ false → (s : ℕ) → must_erase l empty cells want s ≡ true → erases s actions ≡ true
+  needs_erasure : (actions : List Action) → Leads l empty cells actions want → erases_chip actions ≡ false → (s : ℕ) → must_erase l empty cells want s ≡ true →
+      erases s actions ≡ true
   needs_erasure actions leads nc s m =
       elim (cases_Bool (erases s actions)) [
         | inl is ↦ is
@@ -76,7 +80,8 @@ module _ (l : Geometry) (good : IsGeometry l) (w : Weights) (empty : ℕ) (cells
             absurd (d.2 (kept l good empty want actions cells s x.0 u.0 leads nc isnt x.2 u.1 u.2 d.0 d.1)))
       ]
 
-  needs_program : (actions : List Action) → Leads l empty cells actions want → erases_chip actions ≡ false → (p : ℕ) → p < length l.pages → must_program l empty cells want p ≡ true → programs p actions ≡ true
+  needs_program : (actions : List Action) → Leads l empty cells actions want → erases_chip actions ≡ false →
+      (p : ℕ) → p < length l.pages → must_program l empty cells want p ≡ true → programs p actions ≡ true
   unfolding must_program
   needs_program actions leads nc p hp m =
       elim (cases_Bool (programs p actions)) [
@@ -98,7 +103,8 @@ module _ (l : Geometry) (good : IsGeometry l) (w : Weights) (empty : ℕ) (cells
                   let in_sector : In i (range_at l.sectors x.0) = (omega (arith, x.2.0, d.1.0), omega (arith, x.2.1, d.1.1)) in
                   let changes : differs (range_at l.pages p) cells want ≡ true = differs_from _ cells want i d.1 (λ e. d.2 (same ∙ e)) in
                   elim (cases_Bool (is_used empty (range_at l.pages p) cells)) [
-                    | inl used ↦ absurd (both_ways _ wasnt (is_erased_from l empty cells want x.0 i x.1 (must_erase_from l empty cells want x.0 p hp x.2 changes used) in_sector))
+                    | inl used ↦ absurd (both_ways _ wasnt (is_erased_from l empty cells want x.0 i x.1
+                        (must_erase_from l empty cells want x.0 p hp x.2 changes used) in_sector))
                     | inr blank ↦
                         (let before : IsEmpty empty (range_at l.pages p) cells = unused _ _ _ blank in
                         let after = stays_empty l good empty want actions cells p leads long hp isnt before in
@@ -107,7 +113,8 @@ module _ (l : Geometry) (good : IsGeometry l) (w : Weights) (empty : ℕ) (cells
             ])
       ]
 
-  needs_write : (actions : List Action) → Leads l empty cells actions want → erases_chip actions ≡ true → (p : ℕ) → p < length l.pages → is_wanted l empty want p ≡ true → programs p actions ≡ true
+  needs_write : (actions : List Action) → Leads l empty cells actions want → erases_chip actions ≡ true →
+      (p : ℕ) → p < length l.pages → is_wanted l empty want p ≡ true → programs p actions ≡ true
   unfolding is_wanted
   needs_write actions leads yc p hp m =
       elim (cases_Bool (programs p actions)) [
@@ -117,20 +124,33 @@ module _ (l : Geometry) (good : IsGeometry l) (w : Weights) (empty : ℕ) (cells
             absurd (u.2 (chip_empty l good empty want actions cells p leads long hp yc isnt u.0 u.1)))
       ]
 
-  pub sectors_least : (actions : List Action) → Leads l empty cells actions want → erases_chip actions ≡ false → sectors_cost l w empty cells want ≤ cost w actions
+  pub sectors_least : (actions : List Action) → Leads l empty cells actions want → erases_chip actions ≡ false →
+      sectors_cost l w empty cells want ≤ cost w actions
   unfolding sectors_cost
   sectors_least actions leads nc =
       let first : count_below (length l.sectors) (must_erase l empty cells want) ≤ sector_erasures actions =
-      omega (arith, count_below_le (length l.sectors) (must_erase l empty cells want) (λ s. erases s actions) (λ s h m. needs_erasure actions leads nc s m), erases_few (length l.sectors) actions) in
+      omega (
+        arith,
+        count_below_le (length l.sectors) (must_erase l empty cells want) (λ s. erases s actions) (λ s h m. needs_erasure actions leads nc s m),
+        erases_few (length l.sectors) actions,
+      ) in
       let second : count_below (length l.pages) (must_program l empty cells want) ≤ page_writes actions =
-      omega (arith, count_below_le (length l.pages) (must_program l empty cells want) (λ p. programs p actions) (λ p h m. needs_program actions leads nc p h m), programs_few (length l.pages) actions) in
+      omega (
+        arith,
+        count_below_le (length l.pages) (must_program l empty cells want) (λ p. programs p actions) (λ p h m. needs_program actions leads nc p h m),
+        programs_few (length l.pages) actions,
+      ) in
       omega (arith, cost_by_kind w actions, mul-le-mul_left w.sector first, mul-le-mul_left w.page second)
 
   pub chip_least : (actions : List Action) → Leads l empty cells actions want → erases_chip actions ≡ true → chip_cost l w empty want ≤ cost w actions
   unfolding chip_cost
   chip_least actions leads yc =
       let second : count_below (length l.pages) (is_wanted l empty want) ≤ page_writes actions =
-      omega (arith, count_below_le (length l.pages) (is_wanted l empty want) (λ p. programs p actions) (λ p h m. needs_write actions leads yc p h m), programs_few (length l.pages) actions) in
+      omega (
+        arith,
+        count_below_le (length l.pages) (is_wanted l empty want) (λ p. programs p actions) (λ p h m. needs_write actions leads yc p h m),
+        programs_few (length l.pages) actions,
+      ) in
       omega (arith, cost_by_kind w actions, mul-le-mul_left w.page second, mul-le-mul_left w.chip (chip_once actions yc))
 
   -- no plan costs less than the chosen one

@@ -44,7 +44,8 @@ module _ (l : Geometry) (good : IsGeometry l) (empty : ℕ) (want : List ℕ) wh
       sym (stays j hj) ∙ kept rest x.0 s p i x.2 nc ne w hi (λ e. used (sym (stays i hi) ∙ e)) j hj
 
   -- a page that is empty and isn't programmed is empty in the end
-  pub stays_empty : (actions : List Action) (cells : List ℕ) (p : ℕ) → Leads l empty cells actions want → length cells ≡ l.size → p < length l.pages → programs p actions ≡ false
+  pub stays_empty : (actions : List Action) (cells : List ℕ) (p : ℕ) → Leads l empty cells actions want → length cells ≡ l.size → p < length l.pages →
+      programs p actions ≡ false
       → IsEmpty empty (range_at l.pages p) cells → IsEmpty empty (range_at l.pages p) want
   unfolding Leads Acts programs
   stays_empty [] cells p x n hp np blank = λ i hi. sym (ap (λ (c : List ℕ). slice_index c i) x) ∙ blank i hi
@@ -61,7 +62,8 @@ module _ (l : Geometry) (good : IsGeometry l) (empty : ℕ) (want : List ℕ) wh
       (λ k hk. x.1.4.1 k (λ in_q. eqb-false p q parts.0 (good.pages_part.apart p q k hk in_q)) ∙ blank k hk)
 
   -- a page whose sector is erased and that isn't programmed is empty in the end
-  pub erased_empty : (actions : List Action) (cells : List ℕ) (s p : ℕ) → Leads l empty cells actions want → length cells ≡ l.size → p < length l.pages → erases s actions ≡ true → programs p actions ≡ false
+  pub erased_empty : (actions : List Action) (cells : List ℕ) (s p : ℕ) → Leads l empty cells actions want → length cells ≡ l.size → p < length l.pages →
+      erases s actions ≡ true → programs p actions ≡ false
       → Within (range_at l.pages p) (range_at l.sectors s) → IsEmpty empty (range_at l.pages p) want
   unfolding Leads Acts programs erases
   erased_empty [] cells s p x n hp ye np w = absurd (false≢true ye)
@@ -79,7 +81,8 @@ module _ (l : Geometry) (good : IsGeometry l) (empty : ℕ) (want : List ℕ) wh
       erased_empty rest x.0 s p x.2 (x.1.4.0 ∙ n) hp ye parts.1 w
 
   -- where the chip is erased, a page that isn't programmed is empty in the end
-  pub chip_empty : (actions : List Action) (cells : List ℕ) (p : ℕ) → Leads l empty cells actions want → length cells ≡ l.size → p < length l.pages → erases_chip actions ≡ true → programs p actions ≡ false
+  pub chip_empty : (actions : List Action) (cells : List ℕ) (p : ℕ) → Leads l empty cells actions want → length cells ≡ l.size → p < length l.pages →
+      erases_chip actions ≡ true → programs p actions ≡ false
       → IsEmpty empty (range_at l.pages p) want
   unfolding Leads Acts programs erases_chip
   chip_empty [] cells p x n hp ye np = absurd (false≢true ye)

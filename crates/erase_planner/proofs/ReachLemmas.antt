@@ -1,6 +1,8 @@
 -- The chosen plan, as a list, leads from the old contents to the wanted ones.
-use Rattle.std.proofs.Common.{◌≡◌, ℕ, zero, suc, ◌+◌, ◌-◌, ◌<◌, ◌≤◌, Bool, true, false, ◌&&◌, nat_le, nat_lt, cond, refl, sym, subst, arith, slice_index, ◌∙◌, List, [], ◌∷◌, ◌++◌, map, length, inl, inr, zero-add}
-use Rattle.std.proofs.lemmas.Bool.{false≢true, cases_Bool, cases_lt, cases_eq, both_ways, cond-true, cond-false, and_from, and_parts, le-leb, leb-true, lt-ltb, ltb-true, false_from_ne_true}
+use Rattle.std.proofs.Common.{◌≡◌, ℕ, zero, suc, ◌+◌, ◌-◌, ◌<◌, ◌≤◌, Bool, true, false, ◌&&◌, nat_le, nat_lt, cond, refl, sym, subst, arith, slice_index, ◌∙◌}
+use Rattle.std.proofs.Common.{List, [], ◌∷◌, ◌++◌, map, length, inl, inr, zero-add}
+use Rattle.std.proofs.lemmas.Bool.{false≢true, cases_Bool, cases_lt, cases_eq, both_ways, cond-true, cond-false, and_from, and_parts, le-leb, leb-true, lt-ltb}
+use Rattle.std.proofs.lemmas.Bool.{ltb-true, false_from_ne_true}
 use Rattle.std.proofs.lemmas.List.{same_lists, get_or_past, get_or_default}
 use Rattle.std.proofs.lemmas.List.FromFn.{get_or-map-range_with_len, length-map-range_with_len}
 use Rattle.std.specs.List.{range_with_len}
@@ -10,7 +12,8 @@ use Rattle.page_geometry.specs.Cells.{is_used, differs, IsEmpty, Holds}
 use Rattle.page_geometry.specs.Ideal.{Action, EraseChip, Acts, erasures, bytes_in, writes}
 use Rattle.page_geometry.proofs.TestLemmas.{cases_in, differs_at, differs_from, same_in, unused}
 use Rattle.board_file.specs.declared.board.Weights.{Weights}
-use Rattle.erase_planner.specs.Plans.{Leads, erases_chip, IsPlan, must_erase, is_erased, once_erased, must_program, is_wanted, sectors_cost, chip_cost, takes_chip, by_sectors, by_chip, chosen, tests, actions_of}
+use Rattle.erase_planner.specs.Plans.{Leads, erases_chip, IsPlan, must_erase, is_erased, once_erased, must_program, is_wanted, sectors_cost, chip_cost}
+use Rattle.erase_planner.specs.Plans.{takes_chip, by_sectors, by_chip, chosen, tests, actions_of}
 use Rattle.erase_planner.proofs.SetLemmas.{must_erase_from, is_erased_at, is_erased_from, once_at}
 
 -- ---- a list with a range replaced
@@ -36,7 +39,8 @@ unfolding replaced in_range
 replaced_out r f cells i outside =
     elim (cases_lt i (length cells)) [
       | inl h ↦
-          (let isnt : in_range i r ≡ false = false_from_ne_true _ (λ e. let both = and_parts (nat_le r.start i) (nat_lt i r.stop) e in outside (leb-true _ _ both.0, ltb-true _ _ both.1)) in
+          (let isnt : in_range i r ≡ false = false_from_ne_true _
+          (λ e. let both = and_parts (nat_le r.start i) (nat_lt i r.stop) e in outside (leb-true _ _ both.0, ltb-true _ _ both.1)) in
           get_or-map-range_with_len (λ (k : ℕ). cond (in_range k r) (f k) (slice_index cells k)) 0 (length cells) i i 0 h (zero-add i)
           ∙ cond-false (in_range i r) _ _ isnt)
       | inr past ↦ get_or_past (replaced r f cells) i 0 (omega (arith, past, replaced_length r f cells)) ∙ sym (get_or_past cells i 0 past)
@@ -55,7 +59,8 @@ bytes_at r cells i h =
 
 -- ---- actions one after another
 
-Leads_then : (l : Geometry) (empty : ℕ) (xs ys : List Action) (cells mid want : List ℕ) → Leads l empty cells xs mid → Leads l empty mid ys want → Leads l empty cells (xs ++ ys) want
+Leads_then : (l : Geometry) (empty : ℕ) (xs ys : List Action) (cells mid want : List ℕ) → Leads l empty cells xs mid → Leads l empty mid ys want →
+    Leads l empty cells (xs ++ ys) want
 unfolding Leads
 Leads_then l empty [] ys cells mid want first second = subst (λ (c : List ℕ). Leads l empty c ys want) (sym first) second
 Leads_then l empty (a ∷ xs) ys cells mid want first second =
@@ -139,7 +144,8 @@ module _ (l : Geometry) (good : IsGeometry l) (empty : ℕ) where
             (let next : List ℕ = replaced r (λ i. slice_index want i) cells in
             let next_long : length next ≡ length cells = replaced_length r (λ i. slice_index want i) cells in
             let below = good.pages_part.below k here in
-            let value : (i : ℕ) → In i r → slice_index next i ≡ slice_index want i = λ i hi. replaced_in r (λ j. slice_index want j) cells i (omega (arith, long, below, hi.1)) hi in
+            let value : (i : ℕ) → In i r → slice_index next i ≡ slice_index want i =
+            λ i hi. replaced_in r (λ j. slice_index want j) cells i (omega (arith, long, below, hi.1)) hi in
             let kept : (i : ℕ) → (In i r → ⊥) → slice_index next i ≡ slice_index cells i = λ i h. replaced_out r (λ j. slice_index want j) cells i h in
             let away : (p i : ℕ) → k + 1 ≤ p → In i (range_at l.pages p) → In i r → ⊥ = λ p i a hp hk. omega (arith, a, good.pages_part.apart p k i hp hk) in
             let held : Holds r (bytes_in r want) next = λ i hi. value i hi ∙ sym (bytes_at r want i hi) in
@@ -175,80 +181,88 @@ erases_no_chip l want [] (false ∷ pages) s p = erases_no_chip l want [] pages 
 erases_no_chip l want (true ∷ sectors) pages s p = erases_no_chip l want sectors pages (s + 1) p
 erases_no_chip l want (false ∷ sectors) pages s p = erases_no_chip l want sectors pages (s + 1) p
 
-module _ (l : Geometry) (good : IsGeometry l) (w : Weights) (empty : ℕ) (cells want : List ℕ) (long : length cells ≡ l.size) (want_long : length want ≡ l.size) where
-  -- a page to program is empty once the sectors are erased
-  program_blank : (p i : ℕ) → p < length l.pages → must_program l empty cells want p ≡ true → In i (range_at l.pages p) → slice_index (once_erased l empty cells want) i ≡ empty
-  unfolding must_program
-  program_blank p i hp m hi =
-      let below = good.pages_part.below p hp in
-      let value : (j : ℕ) → In j (range_at l.pages p) → slice_index (once_erased l empty cells want) j ≡ cond (is_erased l empty cells want j) empty (slice_index cells j) =
-      λ j hj. once_at l empty cells want j (omega (arith, long, hj.1, below)) in
-      let x = good.nested p hp in
-      let in_sector : (j : ℕ) → In j (range_at l.pages p) → In j (range_at l.sectors x.0) = λ j hj. (omega (arith, x.2.0, hj.0), omega (arith, x.2.1, hj.1)) in
-      elim (cases_Bool (must_erase l empty cells want x.0)) [
-        | inl is ↦ value i hi ∙ cond-true _ _ _ (is_erased_from l empty cells want x.0 i x.1 is (in_sector i hi))
-        | inr isnt ↦
-            (let not_erased : (j : ℕ) → In j (range_at l.pages p) → is_erased l empty cells want j ≡ false =
-            λ j hj. false_from_ne_true _ (λ e.
-            let y = is_erased_at l empty cells want j e in
-            let e2 : y.0 ≡ x.0 = good.sectors_part.apart y.0 x.0 j y.3 (in_sector j hj) in
-            both_ways (must_erase l empty cells want x.0) isnt (subst (λ (s : ℕ). must_erase l empty cells want s ≡ true) e2 y.2)) in
-            let stay : (j : ℕ) → In j (range_at l.pages p) → slice_index (once_erased l empty cells want) j ≡ slice_index cells j =
-            λ j hj. value j hj ∙ cond-false _ _ _ (not_erased j hj) in
-            let d = differs_at _ _ _ m in
-            let changes : differs (range_at l.pages p) cells want ≡ true = differs_from _ cells want d.0 d.1 (λ e. d.2 (stay d.0 d.1 ∙ e)) in
-            elim (cases_Bool (is_used empty (range_at l.pages p) cells)) [
-              | inl used ↦ absurd (both_ways _ isnt (must_erase_from l empty cells want x.0 p hp x.2 changes used))
-              | inr blank ↦ stay i hi ∙ unused _ _ _ blank i hi
-            ])
-      ]
+module _ (l : Geometry) (good : IsGeometry l) (w : Weights) (empty : ℕ) (cells want : List ℕ) (long : length cells ≡ l.size) (want_long : length want ≡ l.size)
+  where
+    -- a page to program is empty once the sectors are erased
+    program_blank : (p i : ℕ) → p < length l.pages → must_program l empty cells want p ≡ true → In i (range_at l.pages p) →
+        slice_index (once_erased l empty cells want) i ≡ empty
+    unfolding must_program
+    program_blank p i hp m hi =
+        let below = good.pages_part.below p hp in
+        let value : (j : ℕ) → In j (range_at l.pages p) → slice_index (once_erased l empty cells want) j ≡ cond (is_erased l empty cells want j) empty
+        (slice_index cells j) =
+        λ j hj. once_at l empty cells want j (omega (arith, long, hj.1, below)) in
+        let x = good.nested p hp in
+        let in_sector : (j : ℕ) → In j (range_at l.pages p) → In j (range_at l.sectors x.0) = λ j hj. (omega (arith, x.2.0, hj.0), omega (arith, x.2.1, hj.1)) in
+        elim (cases_Bool (must_erase l empty cells want x.0)) [
+          | inl is ↦ value i hi ∙ cond-true _ _ _ (is_erased_from l empty cells want x.0 i x.1 is (in_sector i hi))
+          | inr isnt ↦
+              (let not_erased : (j : ℕ) → In j (range_at l.pages p) → is_erased l empty cells want j ≡ false =
+              λ j hj. false_from_ne_true _ (λ e.
+              let y = is_erased_at l empty cells want j e in
+              let e2 : y.0 ≡ x.0 = good.sectors_part.apart y.0 x.0 j y.3 (in_sector j hj) in
+              both_ways (must_erase l empty cells want x.0) isnt (subst (λ (s : ℕ). must_erase l empty cells want s ≡ true) e2 y.2)) in
+              let stay : (j : ℕ) → In j (range_at l.pages p) → slice_index (once_erased l empty cells want) j ≡ slice_index cells j =
+              λ j hj. value j hj ∙ cond-false _ _ _ (not_erased j hj) in
+              let d = differs_at _ _ _ m in
+              let changes : differs (range_at l.pages p) cells want ≡ true = differs_from _ cells want d.0 d.1 (λ e. d.2 (stay d.0 d.1 ∙ e)) in
+              elim (cases_Bool (is_used empty (range_at l.pages p) cells)) [
+                | inl used ↦ absurd (both_ways _ isnt (must_erase_from l empty cells want x.0 p hp x.2 changes used))
+                | inr blank ↦ stay i hi ∙ unused _ _ _ blank i hi
+              ])
+        ]
 
-  pub sectors_reach : IsPlan l empty false cells (erasures 0 (tests (length l.sectors) (must_erase l empty cells want)) ++ writes l want 0 (tests (length l.pages) (must_program l empty cells want))) want
-  unfolding must_program
-  sectors_reach =
-      let t = must_erase l empty cells want in
-      let first = erase_all l good empty t (length l.sectors) 0 cells long (omega arith) in
-      let mid : List ℕ = first.0 in
-      let once : (i : ℕ) → i < length cells → slice_index mid i ≡ slice_index (once_erased l empty cells want) i =
-      λ i h. elim (cases_Bool (is_erased l empty cells want i)) [
-        | inl is ↦ (let y = is_erased_at l empty cells want i is in
-            first.1.inside y.0 i (omega arith) (omega (arith, y.1)) y.2 y.3 ∙ sym (once_at l empty cells want i h ∙ cond-true _ _ _ is))
-        | inr isnt ↦
-            first.1.outside i (λ s a b yes' hs. both_ways _ isnt (is_erased_from l empty cells want s i (omega (arith, b)) yes' hs))
-            ∙ sym (once_at l empty cells want i h ∙ cond-false _ _ _ isnt)
-      ] in
-      let second = program_all l good empty want want_long (must_program l empty cells want) (length l.pages) 0 mid (first.1.long ∙ long) (zero-add (length l.pages))
-      (λ p i a b yes' hi. once i (omega (arith, long, hi.1, good.pages_part.below p b)) ∙ program_blank p i b yes' hi)
-      (λ p i a b no' hi. once i (omega (arith, long, hi.1, good.pages_part.below p b)) ∙ same_in _ _ _ no' i hi)
-      (λ p i a hi. absurd (omega (arith, a))) in
-      record {
-        leads = Leads_then l empty _ _ cells mid want first.1.leads second;
-        lawful = λ e. absurd (both_ways _ (erases_no_chip l want (tests (length l.sectors) t) (tests (length l.pages) (must_program l empty cells want)) 0 0) e);
-      }
+    pub sectors_reach : IsPlan l empty false cells (erasures 0 (tests (length l.sectors) (must_erase l empty cells want)) ++ writes l want 0
+        (tests (length l.pages) (must_program l empty cells want))) want
+    unfolding must_program
+    sectors_reach =
+        let t = must_erase l empty cells want in
+        let first = erase_all l good empty t (length l.sectors) 0 cells long (omega arith) in
+        let mid : List ℕ = first.0 in
+        let once : (i : ℕ) → i < length cells → slice_index mid i ≡ slice_index (once_erased l empty cells want) i =
+        λ i h. elim (cases_Bool (is_erased l empty cells want i)) [
+          | inl is ↦ (let y = is_erased_at l empty cells want i is in
+              first.1.inside y.0 i (omega arith) (omega (arith, y.1)) y.2 y.3 ∙ sym (once_at l empty cells want i h ∙ cond-true _ _ _ is))
+          | inr isnt ↦
+              first.1.outside i (λ s a b yes' hs. both_ways _ isnt (is_erased_from l empty cells want s i (omega (arith, b)) yes' hs))
+              ∙ sym (once_at l empty cells want i h ∙ cond-false _ _ _ isnt)
+        ] in
+        let second = program_all l good empty want want_long (must_program l empty cells want) (length l.pages) 0 mid (first.1.long ∙ long)
+        (zero-add (length l.pages))
+        (λ p i a b yes' hi. once i (omega (arith, long, hi.1, good.pages_part.below p b)) ∙ program_blank p i b yes' hi)
+        (λ p i a b no' hi. once i (omega (arith, long, hi.1, good.pages_part.below p b)) ∙ same_in _ _ _ no' i hi)
+        (λ p i a hi. absurd (omega (arith, a))) in
+        record {
+          leads = Leads_then l empty _ _ cells mid want first.1.leads second;
+          lawful = λ e. absurd (both_ways _ (erases_no_chip l want (tests (length l.sectors) t) (tests (length l.pages) (must_program l empty cells want)) 0 0)
+              e);
+        }
 
-  pub chip_reach : IsPlan l empty true cells ((EraseChip ∷ []) ++ writes l want 0 (tests (length l.pages) (is_wanted l empty want))) want
-  unfolding Leads Acts is_wanted
-  chip_reach =
-      let whole : List ℕ = replaced (record { start = 0; stop = l.size }) (λ _. empty) cells in
-      let whole_long : length whole ≡ length cells = replaced_length _ (λ _. empty) cells in
-      let blank : (i : ℕ) → i < length whole → slice_index whole i ≡ empty = λ i h. replaced_in (record { start = 0; stop = l.size }) (λ _. empty) cells i (omega (arith, h, whole_long)) (omega arith, omega (arith, h, whole_long, long)) in
-      let within : (p i : ℕ) → p < length l.pages → In i (range_at l.pages p) → i < length whole = λ p i hp hi. omega (arith, hi.1, good.pages_part.below p hp, whole_long, long) in
-      let second = program_all l good empty want want_long (is_wanted l empty want) (length l.pages) 0 whole (whole_long ∙ long) (zero-add (length l.pages))
-      (λ p i a b yes' hi. blank i (within p i b hi))
-      (λ p i a b no' hi. blank i (within p i b hi) ∙ sym (unused _ _ _ no' i hi))
-      (λ p i a hi. absurd (omega (arith, a))) in
-      record {
-        leads = (whole, (whole_long, blank), second);
-        lawful = λ e. refl;
-      }
+    pub chip_reach : IsPlan l empty true cells ((EraseChip ∷ []) ++ writes l want 0 (tests (length l.pages) (is_wanted l empty want))) want
+    unfolding Leads Acts is_wanted
+    chip_reach =
+        let whole : List ℕ = replaced (record { start = 0; stop = l.size }) (λ _. empty) cells in
+        let whole_long : length whole ≡ length cells = replaced_length _ (λ _. empty) cells in
+        let blank : (i : ℕ) → i < length whole → slice_index whole i ≡ empty = λ i h. replaced_in (record { start = 0; stop = l.size }) (λ _. empty) cells i
+        (omega (arith, h, whole_long)) (omega arith, omega (arith, h, whole_long, long)) in
+        let within : (p i : ℕ) → p < length l.pages → In i (range_at l.pages p) → i < length whole =
+        λ p i hp hi. omega (arith, hi.1, good.pages_part.below p hp, whole_long, long) in
+        let second = program_all l good empty want want_long (is_wanted l empty want) (length l.pages) 0 whole (whole_long ∙ long) (zero-add (length l.pages))
+        (λ p i a b yes' hi. blank i (within p i b hi))
+        (λ p i a b no' hi. blank i (within p i b hi) ∙ sym (unused _ _ _ no' i hi))
+        (λ p i a hi. absurd (omega (arith, a))) in
+        record {
+          leads = (whole, (whole_long, blank), second);
+          lawful = λ e. refl;
+        }
 
-  -- the chosen plan, as a list, is a plan
-  pub chosen_reach : (has_chip : Bool) → IsPlan l empty has_chip cells (actions_of l want (chosen l w has_chip empty cells want)) want
-  unfolding chosen takes_chip by_chip by_sectors actions_of
-  chosen_reach has_chip =
-      elim (cases_Bool (takes_chip l w has_chip empty cells want)) [
-        | inl takes ↦
-            (let both = and_parts has_chip (nat_lt (chip_cost l w empty want) (sectors_cost l w empty cells want)) takes in
-            rw (both.0, both.1) chip_reach)
-        | inr not_chip ↦ rw not_chip (record { leads = sectors_reach.leads; lawful = λ e. absurd (false≢true (sectors_reach.lawful e)) })
-      ]
+    -- the chosen plan, as a list, is a plan
+    pub chosen_reach : (has_chip : Bool) → IsPlan l empty has_chip cells (actions_of l want (chosen l w has_chip empty cells want)) want
+    unfolding chosen takes_chip by_chip by_sectors actions_of
+    chosen_reach has_chip =
+        elim (cases_Bool (takes_chip l w has_chip empty cells want)) [
+          | inl takes ↦
+              (let both = and_parts has_chip (nat_lt (chip_cost l w empty want) (sectors_cost l w empty cells want)) takes in
+              rw (both.0, both.1) chip_reach)
+          | inr not_chip ↦ rw not_chip (record { leads = sectors_reach.leads; lawful = λ e. absurd (false≢true (sectors_reach.lawful e)) })
+        ]

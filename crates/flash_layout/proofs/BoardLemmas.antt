@@ -1,5 +1,6 @@
 -- The areas and the sectors of a board's regions keep what a layout asks of them, and how they grow by one region.
-use Rattle.std.proofs.Common.{◌≡◌, ◌<◌, ◌≤◌, ◌+◌, ◌*◌, ◌%◌, ◌^◌, ◌⊎◌, ℕ, zero, suc, true, List, [], ◌∷◌, ◌++◌, length, drop, get_or, IsTrue, refl, sym, ap, subst, ◌∙◌, append_assoc, arith}
+use Rattle.std.proofs.Common.{◌≡◌, ◌<◌, ◌≤◌, ◌+◌, ◌*◌, ◌%◌, ◌^◌, ◌⊎◌, ℕ, zero, suc, true, List, [], ◌∷◌, ◌++◌, length, drop, get_or, IsTrue, refl, sym, ap}
+use Rattle.std.proofs.Common.{subst, ◌∙◌, append_assoc, arith}
 use Rattle.std.specs.Prelude.{sum_by}
 use Rattle.std.specs.List.{list_all}
 use Rattle.std.proofs.lemmas.Bool.{and_parts}
@@ -25,8 +26,10 @@ pub taken_on : (regions : List Region) (i : ℕ) (areas : List Area) (runs : Lis
 taken_on regions i areas runs d inside so_far =
     let more : drop i regions ≡ get_or regions i d ∷ drop (i + 1) regions = drop_more regions i d inside in
     record {
-      areas_so_far = append_assoc areas (area_of (get_or regions i d) ∷ []) (areas_of (drop (i + 1) regions)) ∙ ap (λ (l : List Region). areas ++ areas_of l) (sym more) ∙ so_far.areas_so_far;
-      runs_so_far = append_assoc runs (get_or regions i d).sectors (runs_of (drop (i + 1) regions)) ∙ ap (λ (l : List Region). runs ++ runs_of l) (sym more) ∙ so_far.runs_so_far;
+      areas_so_far = append_assoc areas (area_of (get_or regions i d) ∷ []) (areas_of (drop (i + 1) regions)) ∙
+          ap (λ (l : List Region). areas ++ areas_of l) (sym more) ∙ so_far.areas_so_far;
+      runs_so_far = append_assoc runs (get_or regions i d).sectors (runs_of (drop (i + 1) regions)) ∙ ap (λ (l : List Region). runs ++ runs_of l) (sym more) ∙
+          so_far.runs_so_far;
     }
 
 cells_append : (a b : List SectorRun) → cells_of (a ++ b) ≡ cells_of a + cells_of b

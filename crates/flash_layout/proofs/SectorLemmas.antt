@@ -1,5 +1,6 @@
 -- Looking a sector up by a cell of it: how the look-up goes on by one run, and where what it finds lies.
-use Rattle.std.proofs.Common.{◌≡◌, ◌<◌, ◌≤◌, ℕ, ◌+◌, ◌-◌, ◌*◌, ◌/◌, true, false, IsTrue, nat_lt, List, [], ◌∷◌, length, drop, get_or, Option, Some, None, option_map, IfSome, if◌then◌else◌, refl, sym, ap, subst, ◌∙◌, arith}
+use Rattle.std.proofs.Common.{◌≡◌, ◌<◌, ◌≤◌, ℕ, ◌+◌, ◌-◌, ◌*◌, ◌/◌, true, false, IsTrue, nat_lt, List, [], ◌∷◌, length, drop, get_or, Option, Some, None}
+use Rattle.std.proofs.Common.{option_map, IfSome, if◌then◌else◌, refl, sym, ap, subst, ◌∙◌, arith}
 use Rattle.std.specs.List.{list_all}
 use Rattle.std.proofs.lemmas.Bool.{and_parts}
 use Rattle.std.proofs.lemmas.List.{drop_more}
@@ -58,7 +59,8 @@ sector_on : (r : SectorRun) (rest : List SectorRun) (from place : ℕ) → from 
 sector_on r rest from place miss =
     let test : nat_lt (place - from) (r.count * r.size) ≡ false = test_false _ _ (omega (arith, miss)) in
     let less : place - from - r.count * r.size ≡ place - (from + r.count * r.size) = omega (arith, miss) in
-    ap (λ b. option_map (moved from) (if b then Some (record { start = (place - from) / r.size * r.size; size = r.size }) else option_map (moved (r.count * r.size)) (sector_at rest (place - from - r.count * r.size)))) test
+    ap (λ b. option_map (moved from) (if b then Some (record { start = (place - from) / r.size * r.size; size = r.size })
+    else option_map (moved (r.count * r.size)) (sector_at rest (place - from - r.count * r.size)))) test
     ∙ moved_twice from (r.count * r.size) (sector_at rest (place - from - r.count * r.size))
     ∙ ap (λ n. option_map (moved (from + r.count * r.size)) (sector_at rest n)) less
 
@@ -66,7 +68,8 @@ sector_first : (r : SectorRun) (rest : List SectorRun) (from place : ℕ) → fr
     → left_sector (r ∷ rest) from place ≡ Some (record { start = from + (place - from) / r.size * r.size; size = r.size })
 sector_first r rest from place below hit =
     let test : nat_lt (place - from) (r.count * r.size) ≡ true = test_true _ _ (omega (arith, hit, below)) in
-    ap (λ b. option_map (moved from) (if b then Some (record { start = (place - from) / r.size * r.size; size = r.size }) else option_map (moved (r.count * r.size)) (sector_at rest (place - from - r.count * r.size)))) test
+    ap (λ b. option_map (moved from) (if b then Some (record { start = (place - from) / r.size * r.size; size = r.size })
+    else option_map (moved (r.count * r.size)) (sector_at rest (place - from - r.count * r.size)))) test
 
 run_size : (r : SectorRun) → IsTrue (run_fits r) → 0 < r.size
 run_size r fits = grind (arith, nat_tests)
@@ -76,7 +79,8 @@ fit_at r rest fit = and_parts (run_fits r) (list_all run_fits rest) fit
 
 pub passed_size : (runs : List SectorRun) (place i from : ℕ) (d : SectorRun) → i < length runs → Passed runs place i from → 0 < (get_or runs i d).size
 passed_size runs place i from d inside so_far =
-    run_size (get_or runs i d) (fit_at (get_or runs i d) (drop (i + 1) runs) (subst (λ (l : List SectorRun). IsTrue (list_all run_fits l)) (drop_more runs i d inside) so_far.fit)).0
+    run_size (get_or runs i d) (fit_at (get_or runs i d) (drop (i + 1) runs)
+    (subst (λ (l : List SectorRun). IsTrue (list_all run_fits l)) (drop_more runs i d inside) so_far.fit)).0
 
 pub passed_cells : (runs : List SectorRun) (place i from : ℕ) (d : SectorRun) → i < length runs → Passed runs place i from
     → from + (get_or runs i d).count * (get_or runs i d).size ≤ cells_of runs

@@ -1,5 +1,6 @@
 -- From the steps of `compare` to its end. Each step that may end `compare` has its lemma.
-use Rattle.std.proofs.Common.{◌≡◌, ◌<◌, ◌≤◌, ◌+◌, ◌∙◌, ⊎_elim, sym, ap, subst, refl, arith, inl, inr, ℕ, Bool, true, IsTrue, List, [], ◌∷◌, length, take, get_or, zero-add}
+use Rattle.std.proofs.Common.{◌≡◌, ◌<◌, ◌≤◌, ◌+◌, ◌∙◌, ⊎_elim, sym, ap, subst, refl, arith, inl, inr, ℕ, Bool, true, IsTrue, List, [], ◌∷◌, length, take}
+use Rattle.std.proofs.Common.{get_or, zero-add}
 use Rattle.std.proofs.Math.Seq.{take-length}
 use Rattle.std.proofs.lemmas.List.{get_or-take}
 use Rattle.std.proofs.lemmas.Bool.{cases_lt}
@@ -51,7 +52,8 @@ module _ (bench : BenchCall) (bytes : List ℕ) where
 
   agree_or_differ : IsTrue bench.tells → (place wanted found : ℕ) → CellsAre bench bytes → DiffersFrom bench bytes place wanted found → ⊥
   agree_or_differ told place wanted found agree differ =
-      never_both bench.after.cells bytes place wanted found (as_told place wanted found told differ) (length bytes) differ.within (agree told ∙ sym (take-length bytes))
+      never_both bench.after.cells bytes place wanted found (as_told place wanted found told differ)
+      (length bytes) differ.within (agree told ∙ sym (take-length bytes))
 
   differ_once : IsTrue bench.tells → (p w f q x g : ℕ) → DiffersFrom bench bytes p w f → DiffersFrom bench bytes q x g → differs p w f ≡ differs q x g
   differ_once told p w f q x g one two = one_difference bench.after.cells bytes p w f q x g (as_told p w f told one) (as_told q x g told two)
@@ -88,7 +90,8 @@ module _ (tells told : Bool) (b : BenchState) (o : SinkState) (inputs : InputsCa
   pub ends_too_long : (bytes : List ℕ) → IsFile inputs image bytes → NoneFailed inputs → b.cell_count < length bytes
       → CompareEnds image (bench_call tells b b) inputs (sink_call told o o) (refused (image_too_long (length bytes) b.cell_count))
   ends_too_long bytes file same more = record {
-    lawful = plain_lawful tells told b o inputs on_files has_compare (image ∷ []) (image_too_long (length bytes) b.cell_count) (did_nothing tells told b o) refl same refl;
+    lawful = plain_lawful tells told b o inputs on_files has_compare (image ∷ []) (image_too_long (length bytes) b.cell_count) (did_nothing tells told b o) refl
+        same refl;
     leaves = leaves_early tells told b o (image_too_long (length bytes) b.cell_count) refl;
     comes = record { bytes = bytes; file = file; holds = record { count_is = refl; cells_are = refl; more = more } };
     due = λ other tells' stands.
@@ -99,7 +102,8 @@ module _ (tells told : Bool) (b : BenchState) (o : SinkState) (inputs : InputsCa
         };
   }
 
-comes_compared : (bench : BenchCall) (inputs : InputsCall) (image : List ℕ) (answer : Answer) → OfFile inputs image (λ bytes. IsComparedWithFile bench bytes answer)
+comes_compared : (bench : BenchCall) (inputs : InputsCall) (image : List ℕ) (answer : Answer)
+    → OfFile inputs image (λ bytes. IsComparedWithFile bench bytes answer)
     → ComesOfFile bench inputs image answer
 comes_compared bench inputs image (refused out_of_memory) given = tt
 comes_compared bench inputs image (refused (input_fault name)) given = tt
@@ -111,13 +115,15 @@ pub ends_compared : (bench : BenchCall) (inputs : InputsCall) (out : SinkCall) (
     → Compares bench out (CellsAre bench bytes) (DiffersFrom bench bytes) answer → CompareEnds image bench inputs out answer
 ends_compared bench inputs out image bytes file same fits answer compares = record {
   lawful = compared_lawful bench inputs out has_compare (image ∷ []) (CellsAre bench bytes) (DiffersFrom bench bytes) answer refl
-      (found_cases (CellsAre bench bytes) (DiffersFrom bench bytes) (λ a. IsOf has_compare a) tt refl refl (λ at wanted byte. refl) answer compares.found) same compares;
+      (found_cases (CellsAre bench bytes) (DiffersFrom bench bytes) (λ a. IsOf has_compare a) tt refl refl (λ at wanted byte. refl) answer compares.found) same
+      compares;
   leaves = compares.leaves;
   comes = comes_compared bench inputs image answer (record { bytes = bytes; file = file; holds = record { fits = fits; found = compares.found } });
   due = λ other told stands.
       let is = one_file inputs image other bytes told stands file in
       subst (λ (n : List ℕ). IsDueForFile bench out answer n) is (record {
         too_long = λ more. absurd (omega (arith, more, fits));
-        compared = λ fits'. is_due bench (CellsAre bench bytes) (DiffersFrom bench bytes) (agree_or_differ bench bytes) (differ_once bench bytes) answer compares.found;
+        compared = λ fits'. is_due bench (CellsAre bench bytes) (DiffersFrom bench bytes) (agree_or_differ bench bytes) (differ_once bench bytes) answer
+            compares.found;
       });
 }

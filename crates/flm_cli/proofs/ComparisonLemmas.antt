@@ -38,12 +38,14 @@ module _ (bench : BenchCall) (out : SinkCall) (base : ℕ) (Agrees : Type 0) (Di
   compares_by (Ok (Some d)) answer looks holds tells = subst (λ (a : Answer). Compares bench out Agrees Differs a) (sym tells.answer_is) (record {
     found = holds;
     leaves = record { prints = tells.prints; stands = looks.ok; file = looks.file; count = looks.count; stops = looks.stops };
-    device_count = unraised bench.before.device_faults bench.after.device_faults device (refused (differs (base + d.at) d.want d.got)) (looks.cause.on_ok refl) (λ is. cc);
+    device_count = unraised bench.before.device_faults bench.after.device_faults device (refused (differs (base + d.at) d.want d.got)) (looks.cause.on_ok refl)
+        (λ is. cc);
     out_count = unraised out.before.faults out.after.faults output (refused (differs (base + d.at) d.want d.got)) tells.prints.faults (λ is. cc);
   })
 
 -- the address of a difference is a word, where that of each difference is
-pub told_fits : (base : ℕ) (Agrees : Type 0) (Differs : ℕ → ℕ → ℕ → Type 0) (found : Result (Option Difference) DeviceFault) → IfOk found (FoundBy base Agrees Differs)
+pub told_fits : (base : ℕ) (Agrees : Type 0) (Differs : ℕ → ℕ → ℕ → Type 0) (found : Result (Option Difference) DeviceFault)
+    → IfOk found (FoundBy base Agrees Differs)
     → ((at wanted byte : ℕ) → Differs at wanted byte → at < 2 ^ 32) → ForOk found (λ difference. ForSome difference (λ d. base + d.at < 2 ^ 32))
 told_fits base A D found holds fits = λ difference is d is'.
     let of = subst (λ (r : Result (Option Difference) DeviceFault). IfOk r (FoundBy base A D)) is holds in

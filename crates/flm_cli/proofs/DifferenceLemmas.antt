@@ -1,11 +1,11 @@
 -- The cells of a region against an image, run by run. `find_in_region` and `find_in_run` go on by them.
-use Rattle.std.proofs.Common.{◌≡◌, ◌≢◌, ◌<◌, ◌≤◌, ◌+◌, ◌^◌, ◌++◌, ◌∙◌, sym, ap, subst, refl, arith, inl, inr, ◌⊎◌, ⊎_elim, ℕ, Bool, true, false, IsTrue, List, [], ◌∷◌, ◌-◌, max, min, length, length-drop, take, drop, get_or, slice_get, slice_index, Option, Some, None, is_some, IfOk, Result, Ok, Err}
+use Rattle.std.proofs.Common.{◌≡◌, ◌≢◌, ◌<◌, ◌≤◌, ◌+◌, ◌^◌, ◌++◌, ◌∙◌, sym, ap, subst, refl, arith, inl, inr, ◌⊎◌, ⊎_elim, ℕ, Bool, true, false, IsTrue, List}
+use Rattle.std.proofs.Common.{[], ◌∷◌, ◌-◌, max, min, length, length-drop, take, drop, get_or, slice_get, slice_index, Option, Some, None, is_some}
 use Rattle.std.proofs.lemmas.List.{take_more, take_all, length-take-le, length-take, get_or-take, get_or-drop}
 use Rattle.std.proofs.Math.Seq.{take-length}
 use Rattle.std.proofs.lemmas.Option.{get_or_from_slice_get}
 use Rattle.std.proofs.lemmas.Bool.{cases_lt}
 use Rattle.bench_model.specs.State.{BenchState}
-use Rattle.bench_model.specs.declared.bench_fault.DeviceFault.{DeviceFault}
 use Rattle.byte_map.specs.Image.{Run, run_at, end_of, holds, byte_of, byte_at, AreMaximal}
 use Rattle.byte_map.proofs.Runs.{each_run, rising, held_from, held_to, holds_between, found_in, holder, byte_at-append, or_else, maximal_take}
 use Rattle.byte_map.proofs.Joined.{one_run, run_at-take}
@@ -96,7 +96,8 @@ module _ (tells : Bool) (cells : List ℕ) (start base size at : ℕ) (bytes : L
 
 -- a run that has no address of a region
 pub apart_same : (tells : Bool) (cells : List ℕ) (start base size at : ℕ) (bytes : List ℕ)
-    → ((a : ℕ) → at ≤ a → a < at + length bytes → base ≤ a → a < base + size → ⊥) → FindsInRegion tells cells start base size (record { at = at; bytes = bytes } ∷ []) None
+    → ((a : ℕ) → at ≤ a → a < at + length bytes → base ≤ a → a < base + size → ⊥)
+    → FindsInRegion tells cells start base size (record { at = at; bytes = bytes } ∷ []) None
 apart_same tells cells start base size at bytes apart = λ told offset byte inside held.
     let in_it = in_run (record { at = at; bytes = bytes }) (base + offset) byte held in
     absurd (apart (base + offset) in_it.from in_it.to (omega arith) (omega (arith, inside)))
@@ -116,21 +117,33 @@ module _ (tells : Bool) (cells : List ℕ) (start base size at : ℕ) (bytes : L
     up_from = omega (arith, from_is)
 
     many : length part ≡ (end - at) - (from - at)
-    many = omega (arith, ap length part_is, length-take ((end - at) - (from - at)) (drop (from - at) bytes), length-drop (from - at) bytes, from_is, end_is, some)
+    many = omega (
+      arith,
+      ap length part_is,
+      length-take ((end - at) - (from - at)) (drop (from - at) bytes),
+      length-drop (from - at) bytes,
+      from_is,
+      end_is,
+      some,
+    )
 
     its_place : start + (from - base) ≡ start + ((at + (from - at)) - base)
     its_place = ap (λ (n : ℕ). start + (n - base)) (sym up_from)
 
-    pub clip_same : Finds tells cells (start + (from - base)) part None → FindsInRegion tells cells start base size (record { at = at; bytes = bytes } ∷ []) None
+    pub clip_same : Finds tells cells (start + (from - base)) part None
+        → FindsInRegion tells cells start base size (record { at = at; bytes = bytes } ∷ []) None
     clip_same finds = part_same tells cells start base size at bytes (from - at) (end - at) part part_is many (omega (arith, from_is, end_is, some))
-        (omega (arith, end_is, some, from_is)) (omega (arith, from_is)) (omega (arith, up_to, end_is)) (λ a low high. omega (arith, up_from, from_is, low, high))
+        (omega (arith, end_is, some, from_is)) (omega (arith, from_is)) (omega (arith, up_to, end_is))
+        (λ a low high. omega (arith, up_from, from_is, low, high))
         (λ a low high. omega (arith, up_to, end_is, low, high)) (subst (λ (n : ℕ). Finds tells cells n part None) its_place finds)
 
-    pub clip_differs : (d e : Difference) → Finds tells cells (start + (from - base)) part (Some d) → e.at ≡ (d.at - start) + base → e.want ≡ d.want → e.got ≡ d.got
+    pub clip_differs : (d e : Difference) → Finds tells cells (start + (from - base)) part (Some d) → e.at ≡ (d.at - start) + base → e.want ≡ d.want
+        → e.got ≡ d.got
         → FindsInRegion tells cells start base size (record { at = at; bytes = bytes } ∷ []) (Some e)
     clip_differs d e finds at_is want_is got_is =
         part_differs tells cells start base size at bytes (from - at) (end - at) part part_is many (omega (arith, from_is, end_is, some))
-        (omega (arith, end_is, some, from_is)) (omega (arith, from_is)) (omega (arith, up_to, end_is)) (λ a low high. omega (arith, up_from, from_is, low, high))
+        (omega (arith, end_is, some, from_is)) (omega (arith, from_is)) (omega (arith, up_to, end_is))
+        (λ a low high. omega (arith, up_from, from_is, low, high))
         (λ a low high. omega (arith, up_to, end_is, low, high)) d e (subst (λ (n : ℕ). Finds tells cells n part (Some d)) its_place finds) at_is want_is got_is
 
 -- Runs in turn.
@@ -224,7 +237,8 @@ module _ (tells : Bool) (start mid : BenchState) (first base size : ℕ) (image 
       }
 
 -- all runs agree
-pub all_agree : (tells : Bool) (start now : BenchState) (first base size : ℕ) (image : List Run) (done : ℕ) → RunsSoFar tells start now first base size image done
+pub all_agree : (tells : Bool) (start now : BenchState) (first base size : ℕ) (image : List Run) (done : ℕ)
+    → RunsSoFar tells start now first base size image done
     → length image ≤ done → IsTrue tells → RegionAgreesBelow start.cells first base image size
 all_agree tells start now first base size image done so_far all told =
     subst (λ (rs : List Run). RegionAgreesBelow start.cells first base rs size) (take_all done image all) (so_far.agree told)

@@ -17,7 +17,8 @@ use Rattle.command_answers.specs.Answered.{input, store, device, output, yields,
 use Rattle.flm_cli.specs.Inspect.{IsDueForFlm, InspectEnds, has_inspect}
 use Rattle.command_answers.proofs.AnswerLemmas.{did_nothing, untouched_here, plain_lawful, untaken_lawful, unraised, one_file}
 
-due_yielding : (bench : BenchCall) (out : SinkCall) (answer : Answer) (bytes : List ℕ) → yields answer ≡ true → DidNothing bench out → IsDueForFlm bench out answer bytes
+due_yielding : (bench : BenchCall) (out : SinkCall) (answer : Answer) (bytes : List ℕ) → yields answer ≡ true → DidNothing bench out
+    → IsDueForFlm bench out answer bytes
 due_yielding bench out answer bytes yields did = record { inspected = λ algorithm is. inr yields; refuses = λ fault is. inr (yields, did) }
 
 module _ (tells told : Bool) (b : BenchState) (o : SinkState) (inputs : InputsCall) (flm : List ℕ) where
@@ -37,7 +38,8 @@ module _ (tells told : Bool) (b : BenchState) (o : SinkState) (inputs : InputsCa
   ends_untaken r is = absurd is
 
   module _ (bytes : List ℕ) (file : IsFile inputs flm bytes) (same : NoneFailed inputs) where
-    ends_refused : (fault : FlmFault) → flm_of bytes ≡ Err fault → InspectEnds flm (bench_call tells b b) inputs (sink_call told o o) (refused (flm_refused fault))
+    ends_refused : (fault : FlmFault) → flm_of bytes ≡ Err fault
+        → InspectEnds flm (bench_call tells b b) inputs (sink_call told o o) (refused (flm_refused fault))
     ends_refused fault is = record {
       lawful = plain_lawful tells told b o inputs on_files has_inspect (flm ∷ []) (flm_refused fault) (did_nothing tells told b o) refl same refl;
       untouched = untouched_here tells b;
@@ -94,7 +96,8 @@ module _ (tells : Bool) (b : BenchState) (inputs : InputsCall) (out : SinkCall) 
     lawful = record {
       kind = refl;
       counts = record {
-        inputs_count = unraised inputs.before.faults inputs.after.faults input (refused output_fault) same.faults (λ its. let wrong : output ≡ input = cc in cc);
+        inputs_count = unraised inputs.before.faults inputs.after.faults input (refused output_fault) same.faults
+            (λ its. let wrong : output ≡ input = cc in cc);
         store_count = unraised b.store_faults b.store_faults store (refused output_fault) refl (λ its. let wrong : output ≡ store = cc in cc);
         device_count = unraised b.device_faults b.device_faults device (refused output_fault) refl (λ its. let wrong : output ≡ device = cc in cc);
         out_count = record { later = prints.later; only = λ its. prints.rose; answered = λ more. refl };

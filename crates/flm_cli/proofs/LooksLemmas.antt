@@ -48,7 +48,8 @@ module _ (tells : Bool) (a b c : BenchState) (reads : OnlyReadsCells tells b c) 
         };
       })
 
-  pub found_in_image : (regions : List Region) (image : List Run) (result : Result (Option Difference) DeviceFault) → IfOk result (FindsInImage tells b.cells regions image)
+  pub found_in_image : (regions : List Region) (image : List Run) (result : Result (Option Difference) DeviceFault)
+      → IfOk result (FindsInImage tells b.cells regions image)
       → IfOk result (FoundBy 0 (AgreesWith (bench_call tells a c) regions image) (DiffersAt (bench_call tells a c) regions image))
   found_in_image regions image (Ok found) finds = in_image regions image found finds
   found_in_image regions image (Err e) finds = tt

@@ -1,5 +1,6 @@
 -- From the regions one by one to all cells. `find_in_regions` counts places over all of them by these.
-use Rattle.std.proofs.Common.{◌≡◌, ◌≢◌, ◌<◌, ◌≤◌, ◌+◌, ◌-◌, ◌∙◌, sym, ap, subst, refl, arith, ⊎_elim, ℕ, Bool, true, false, IsTrue, List, [], ◌∷◌, length, get_or, drop, slice_index, Option, Some, None, is_some}
+use Rattle.std.proofs.Common.{◌≡◌, ◌≢◌, ◌<◌, ◌≤◌, ◌+◌, ◌-◌, ◌∙◌, sym, ap, subst, refl, arith, ⊎_elim, ℕ, Bool, true, false, IsTrue, List, [], ◌∷◌, length}
+use Rattle.std.proofs.Common.{get_or, drop, slice_index, Option, Some, None, is_some}
 use Rattle.std.proofs.lemmas.List.{drop_more, drop_all}
 use Rattle.std.proofs.lemmas.List.Sums.{sum_by-cons}
 use Rattle.std.proofs.lemmas.Bool.{cases_lt}
@@ -45,7 +46,8 @@ no_region : (cells : List ℕ) (start : ℕ) (image : List Run) → AgreeFrom ce
 no_region cells start image place byte is = absurd (cc)
 
 module _ (cells : List ℕ) (start : ℕ) (region : Region) (rest : List Region) (image : List Run) where
-  agree_then : RegionAgreesBelow cells start region.base image region.size → AgreeFrom cells (start + region.size) rest image → AgreeFrom cells start (region ∷ rest) image
+  agree_then : RegionAgreesBelow cells start region.base image region.size → AgreeFrom cells (start + region.size) rest image
+      → AgreeFrom cells start (region ∷ rest) image
   agree_then one others place byte is = ⊎_elim
       (λ (less : place < region.size). one place byte less (sym (wanted_first region rest image place less) ∙ is))
       (λ (most : region.size ≤ place).
@@ -116,7 +118,8 @@ from_zero tells cells regions image (Some d) finds =
     )
 
 -- the byte that is wanted at a place is the image's byte at its address
-pub wanted_address : (regions : List Region) (image : List Run) (place at byte : ℕ) → address_at regions place ≡ Some at → wanted_at regions image place ≡ Some byte
+pub wanted_address : (regions : List Region) (image : List Run) (place at byte : ℕ)
+    → address_at regions place ≡ Some at → wanted_at regions image place ≡ Some byte
     → byte_at image at ≡ Some byte
 wanted_address [] image place at byte address wanted = absurd (cc)
 wanted_address (region ∷ rest) image place at byte address wanted = ⊎_elim
@@ -159,7 +162,8 @@ pub record RegionsSoFar (tells : Bool) (old now : BenchState) (regions : List Re
 pub none_so_far : (tells : Bool) (s : BenchState) (regions : List Region) (image : List Run) → RegionsSoFar tells s s regions image 0 0
 none_so_far tells s regions image = record { bench = only_reads_cells_here tells s; faults = refl; places = omega arith; rest = λ found finds. finds }
 
-module _ (tells : Bool) (old now : BenchState) (regions : List Region) (image : List Run) (index start : ℕ) (so_far : RegionsSoFar tells old now regions image index start)
+module _ (tells : Bool) (old now : BenchState) (regions : List Region) (image : List Run) (index start : ℕ)
+    (so_far : RegionsSoFar tells old now regions image index start)
     (region : Region) (less : index < length regions) (is : region ≡ get_or regions index region) where
   front : drop index regions ≡ region ∷ drop (index + 1) regions
   front = drop_more regions index region less ∙ ap (λ (x : Region). x ∷ drop (index + 1) regions) (sym is)
@@ -172,7 +176,8 @@ module _ (tells : Bool) (old now : BenchState) (regions : List Region) (image : 
     here : FindsInRegion tells old.cells start region.base region.size image found
     here = same_cells tells old.cells now.cells start region.base region.size image found (λ told. so_far.bench.cells told) finds
 
-    from_here : (o : Option Difference) → FindsFrom tells old.cells start (region ∷ drop (index + 1) regions) image o → FindsFrom tells old.cells 0 regions image o
+    from_here : (o : Option Difference) → FindsFrom tells old.cells start (region ∷ drop (index + 1) regions) image o
+        → FindsFrom tells old.cells 0 regions image o
     from_here o one = so_far.rest o (subst (λ (rs : List Region). FindsFrom tells old.cells start rs image o) (sym front) one)
 
     -- it differs
@@ -201,7 +206,8 @@ module _ (tells : Bool) (old now : BenchState) (regions : List Region) (image : 
     }
 
 -- all regions agree
-pub all_regions : (tells : Bool) (old now : BenchState) (regions : List Region) (image : List Run) (index start : ℕ) → RegionsSoFar tells old now regions image index start
+pub all_regions : (tells : Bool) (old now : BenchState) (regions : List Region) (image : List Run) (index start : ℕ)
+    → RegionsSoFar tells old now regions image index start
     → length regions ≤ index → FindsInImage tells old.cells regions image None
 all_regions tells old now regions image index start so_far all =
     from_zero tells old.cells regions image None (so_far.rest None

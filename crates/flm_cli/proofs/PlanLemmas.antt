@@ -1,5 +1,7 @@
 -- From the steps of `plan` to its end. Each step that may end `plan` has its lemma.
-use Rattle.std.proofs.Common.{◌≡◌, ◌≢◌, ◌<◌, ◌≤◌, ◌+◌, ◌-◌, ◌^◌, ◌∙◌, sym, ap, subst, refl, arith, inl, inr, ℕ, zero, suc, Bool, true, false, nat_lt, IsTrue, IsSome, is_some, All, List, [], ◌∷◌, ◌++◌, map, length, take, drop, set, get_or, append-nil, Option, option_to_list, Some, None, Result, OnOk, Ok, Err}
+use Rattle.std.proofs.Common.{◌≡◌, ◌≢◌, ◌<◌, ◌≤◌, ◌+◌, ◌-◌, ◌^◌, ◌∙◌, sym, ap, subst, refl, arith, inl, inr, ℕ, zero, suc, Bool, true, false, nat_lt, IsTrue}
+use Rattle.std.proofs.Common.{IsSome, is_some, All, List, [], ◌∷◌, ◌++◌, map, length, take, drop, set, get_or, append-nil, Option, option_to_list, Some, None}
+use Rattle.std.proofs.Common.{Result, OnOk, Ok, Err}
 use Rattle.std.specs.List.{flat_map}
 use Rattle.std.proofs.Math.Seq.{take-add}
 use Rattle.std.proofs.lemmas.Bool.{lt-ltb}
@@ -27,7 +29,8 @@ use Rattle.flash_session.proofs.JobLemmas.{size_of-cons}
 use Rattle.report_text.specs.Plan.{plan_text}
 use Rattle.report_text.specs.Region.{region_text, plans_text}
 use Rattle.outside_io.specs.Puts.{Puts}
-use Rattle.report_text.specs.Refusal.{Refusal, out_of_memory, usage, input_fault, flm_refused, other_device, no_room, board_refused, image_refused, image_misplaced, cells_differ, device_fault, output_fault, differs}
+use Rattle.report_text.specs.Refusal.{Refusal, out_of_memory, usage, input_fault, flm_refused, other_device, no_room, board_refused, image_refused}
+use Rattle.report_text.specs.Refusal.{image_misplaced, cells_differ, device_fault, output_fault, differs}
 use Rattle.algo_calls.specs.Duties.{device_of}
 use Rattle.command_words.specs.Files.{FilesAsked, names_in}
 use Rattle.command_files.specs.Inputs.{InputsCall, FilesGiven, AreFiles, NoneFailed}
@@ -67,17 +70,20 @@ module _ (bench : BenchCall) (out : SinkCall) (text : List ℕ → List ℕ) whe
     kind = plan_cases (λ a. IsOf has_plan a) tt refl refl refl answer plans.printed;
     counts = record {
       inputs_count = unraised inputs.before.faults inputs.after.faults input answer same.faults (never_input answer plans.printed);
-      store_count = unraised bench.before.store_faults bench.after.store_faults store answer plans.leaves.file.faults (never_store has_plan refl answer (plan_cases (λ a. IsOf has_plan a) tt refl refl refl answer plans.printed));
+      store_count = unraised bench.before.store_faults bench.after.store_faults store answer plans.leaves.file.faults
+          (never_store has_plan refl answer (plan_cases (λ a. IsOf has_plan a) tt refl refl refl answer plans.printed));
       device_count = plans.device_count;
       out_count = plans.out_count;
     };
-    stands = plan_cases (λ a. PrintsNothing out a → StandsEarly on_files bench out a) (λ nothing. tt) (λ nothing. nothing) (λ nothing. tt) (λ nothing. tt) answer plans.printed plans.leaves.prints;
+    stands = plan_cases (λ a. PrintsNothing out a → StandsEarly on_files bench out a) (λ nothing. tt) (λ nothing. nothing) (λ nothing. tt)
+        (λ nothing. tt) answer plans.printed plans.leaves.prints;
     untaken = λ name is. absurd (never_input answer plans.printed (ap fault_in is));
     none_failed = λ told no. same.failed told;
   }
 
   -- with every answer that which is to be printed is
-  prints_due : (answer : Answer) → PrintsNothing out answer → Printed bench out text answer → IsTrue bench.tells → PrintsText out (text bench.after.cells) answer
+  prints_due : (answer : Answer) → PrintsNothing out answer → Printed bench out text answer → IsTrue bench.tells
+      → PrintsText out (text bench.after.cells) answer
   prints_due done nothing printed told = subst (λ (c : List ℕ). PrintsText out (text c) done) (sym (printed.surveyed told)) printed.prints
   prints_due (refused output_fault) nothing printed told =
       subst (λ (c : List ℕ). PrintsText out (text c) (refused output_fault)) (sym (printed.surveyed told)) printed.prints
@@ -288,7 +294,8 @@ device_cells (r ∷ rs) (a ∷ more) devices = omega (arith, size_of-cons r rs, 
 
 -- The end of the work on the cells.
 
-module _ (bench : BenchCall) (inputs : InputsCall) (out : SinkCall) (asked : FilesAsked) (files : FilesGiven) (are : AreFiles inputs asked files) (wanted : Wanted)
+module _ (bench : BenchCall) (inputs : InputsCall) (out : SinkCall) (asked : FilesAsked) (files : FilesGiven) (are : AreFiles inputs asked files)
+    (wanted : Wanted)
     (is : IsAim asked.raw_at files (aim_of wanted)) (devices : AreDevices wanted.board.regions (map flm.shown wanted.algorithms.items))
     (cells : size_of wanted.board.regions ≡ bench.before.cell_count) where
   abbrev aim : Aim
@@ -334,7 +341,8 @@ module _ (bench : BenchCall) (inputs : InputsCall) (out : SinkCall) (asked : Fil
 
 -- The memory.
 
-parts_more : (algorithms : List flm.Shown) (start : ℕ) (parts : List Part) (a : flm.Shown) (p : Part) → AreParts algorithms start parts → IsPartFor a p → p.start ≡ start + cells_on algorithms
+parts_more : (algorithms : List flm.Shown) (start : ℕ) (parts : List Part) (a : flm.Shown) (p : Part) → AreParts algorithms start parts → IsPartFor a p
+    → p.start ≡ start + cells_on algorithms
     → AreParts (algorithms ++ a ∷ []) start (parts ++ p ∷ [])
 parts_more [] start [] a p are is at = let here : p.start ≡ start = omega (arith, at) in (is, here, tt)
 parts_more [] start (q ∷ parts) a p are is at = absurd are
@@ -363,26 +371,36 @@ pub record TakenTo (algorithms : List Algorithm) (parts : List Part) (start i : 
   pub are : AreParts (map flm.shown (take i algorithms)) 0 parts
   pub start_is : start ≡ cells_on (map flm.shown (take i algorithms))
 
-module _ (algorithms : List Algorithm) (parts : List Part) (start i : ℕ) (a : Algorithm) (so_far : TakenTo algorithms parts start i) (less : i < length algorithms) (is : a ≡ get_or algorithms i a) where
+module _ (algorithms : List Algorithm) (parts : List Part) (start i : ℕ) (a : Algorithm) (so_far : TakenTo algorithms parts start i)
+    (less : i < length algorithms) (is : a ≡ get_or algorithms i a) where
   pub taken_more : (p : Part) → IsPartFor (flm.shown a) p → p.start ≡ start → TakenTo algorithms (parts ++ p ∷ []) (start + a.device.size) (i + 1)
   taken_more p for_it at =
       let before = map flm.shown (take i algorithms) in
       let here : p.start ≡ 0 + cells_on before = omega (arith, at, so_far.start_is) in
       record {
-        are = subst (λ (l : List flm.Shown). AreParts l 0 (parts ++ p ∷ [])) (sym (one_more algorithms i a less is)) (parts_more before 0 parts (flm.shown a) p so_far.are for_it here);
+        are = subst (λ (l : List flm.Shown). AreParts l 0 (parts ++ p ∷ [])) (sym (one_more algorithms i a less is))
+            (parts_more before 0 parts (flm.shown a) p so_far.are for_it here);
         start_is = omega (arith, so_far.start_is, ap cells_on (one_more algorithms i a less is), cells_more before (flm.shown a));
       }
 
   -- a region ends within all cells
   pub ends_within : start + a.device.size ≤ cells_on (map flm.shown algorithms)
-  ends_within = omega (arith, so_far.start_is, ap cells_on (one_more algorithms i a less is), cells_more (map flm.shown (take i algorithms)) (flm.shown a), cells_within (i + 1) algorithms)
+  ends_within = omega (
+    arith,
+    so_far.start_is,
+    ap cells_on (one_more algorithms i a less is),
+    cells_more (map flm.shown (take i algorithms)) (flm.shown a),
+    cells_within (i + 1) algorithms,
+  )
 
-pub taken_all : (algorithms : List Algorithm) (parts : List Part) (start i : ℕ) → TakenTo algorithms parts start i → length algorithms ≤ i → AreParts (map flm.shown algorithms) 0 parts
+pub taken_all : (algorithms : List Algorithm) (parts : List Part) (start i : ℕ) → TakenTo algorithms parts start i → length algorithms ≤ i
+    → AreParts (map flm.shown algorithms) 0 parts
 taken_all algorithms parts start i so_far past = subst (λ (l : List Algorithm). AreParts (map flm.shown l) 0 parts) (take_all i algorithms past) so_far.are
 
 -- The survey.
 
-pub many_parts : (algorithms : List Algorithm) (start : ℕ) (parts : List Part) → AreParts (map flm.shown algorithms) start parts → length parts ≡ length algorithms
+pub many_parts : (algorithms : List Algorithm) (start : ℕ) (parts : List Part) → AreParts (map flm.shown algorithms) start parts
+    → length parts ≡ length algorithms
 many_parts [] start [] are = refl
 many_parts [] start (p ∷ parts) are = absurd are
 many_parts (a ∷ algorithms) start [] are = absurd are
@@ -393,7 +411,8 @@ pub record IsOneOf (a : flm.Shown) (p : Part) (end : ℕ) : Type 0 where
   pub is : IsPartFor a p
   pub inside : p.start + a.device.size ≤ end
 
-pub part_at : (algorithms : List Algorithm) (start : ℕ) (parts : List Part) (i : ℕ) (d : Algorithm) (e : Part) → i < length parts → AreParts (map flm.shown algorithms) start parts
+pub part_at : (algorithms : List Algorithm) (start : ℕ) (parts : List Part) (i : ℕ) (d : Algorithm) (e : Part) → i < length parts
+    → AreParts (map flm.shown algorithms) start parts
     → IsOneOf (flm.shown (get_or algorithms i d)) (get_or parts i e) (start + cells_on (map flm.shown algorithms))
 part_at [] start [] i d e less are = absurd (omega (arith, less))
 part_at [] start (p ∷ parts) i d e less are = absurd are
@@ -403,7 +422,8 @@ part_at (a ∷ algorithms) start (p ∷ parts) (suc i) d e less are =
     let rest = part_at algorithms (start + a.device.size) parts i d e (omega (arith, less)) are.2 in
     record { is = rest.is; inside = omega (arith, rest.inside) }
 
-parts_set : (algorithms : List Algorithm) (start : ℕ) (parts : List Part) (i : ℕ) (d : Algorithm) (e p : Part) → i < length parts → AreParts (map flm.shown algorithms) start parts
+parts_set : (algorithms : List Algorithm) (start : ℕ) (parts : List Part) (i : ℕ) (d : Algorithm) (e p : Part) → i < length parts
+    → AreParts (map flm.shown algorithms) start parts
     → IsPartFor (flm.shown (get_or algorithms i d)) p → p.start ≡ (get_or parts i e).start → AreParts (map flm.shown algorithms) start (set parts i p)
 parts_set [] start [] i d e p less are is at = absurd (omega (arith, less))
 parts_set [] start (q ∷ parts) i d e p less are is at = absurd are
@@ -413,7 +433,8 @@ parts_set (a ∷ algorithms) start (q ∷ parts) (suc i) d e p less are is at =
     (are.0, are.1, parts_set algorithms (start + a.device.size) parts i d e p (omega (arith, less)) are.2 is at)
 
 module _ (tells : Bool) (weights : Weights) (image : List Run) where
-  plan_still : (all cells : List ℕ) (a : flm.Shown) (p : Part) → (IsTrue tells → all ≡ cells) → IsPlannedOver tells weights image all a p → IsPlannedOver tells weights image cells a p
+  plan_still : (all cells : List ℕ) (a : flm.Shown) (p : Part) → (IsTrue tells → all ≡ cells) → IsPlannedOver tells weights image all a p
+      → IsPlannedOver tells weights image cells a p
   plan_still all cells a p same is = record {
     cells = is.cells;
     long = is.long;
@@ -421,7 +442,8 @@ module _ (tells : Bool) (weights : Weights) (image : List Run) where
     plan = is.plan;
   }
 
-  plans_still : (all cells : List ℕ) (algorithms : List flm.Shown) (parts : List Part) → (IsTrue tells → all ≡ cells) → ArePlanned tells weights image all algorithms parts
+  plans_still : (all cells : List ℕ) (algorithms : List flm.Shown) (parts : List Part) → (IsTrue tells → all ≡ cells)
+      → ArePlanned tells weights image all algorithms parts
       → ArePlanned tells weights image cells algorithms parts
   plans_still all cells [] [] same are = tt
   plans_still all cells [] (p ∷ parts) same are = absurd are
@@ -448,20 +470,27 @@ module _ (tells : Bool) (weights : Weights) (image : List Run) where
     pub reads : OnlyReadsCells tells before now
     pub faults : now.device_faults ≡ before.device_faults
 
-  pub surveyed_none : (algorithms : List Algorithm) (s : BenchState) (parts : List Part) → AreParts (map flm.shown algorithms) 0 parts → SurveyedTo algorithms s s parts 0
+  pub surveyed_none : (algorithms : List Algorithm) (s : BenchState) (parts : List Part) → AreParts (map flm.shown algorithms) 0 parts
+      → SurveyedTo algorithms s s parts 0
   surveyed_none algorithms s parts are = record { are = are; plans = tt; reads = only_reads_cells_here tells s; faults = refl }
 
-  module _ (algorithms : List Algorithm) (before now later : BenchState) (parts : List Part) (i : ℕ) (a : Algorithm) (old new : Part) (so_far : SurveyedTo algorithms before now parts i) (less : i < length parts)
+  module _ (algorithms : List Algorithm) (before now later : BenchState) (parts : List Part) (i : ℕ) (a : Algorithm) (old new : Part)
+      (so_far : SurveyedTo algorithms before now parts i) (less : i < length parts)
       (is : a ≡ get_or algorithms i a) (was : old ≡ get_or parts i old) where
-    pub surveyed_more : IsPartFor (flm.shown a) new → new.start ≡ old.start → IsPlannedOver tells weights image now.cells (flm.shown a) new → OnlyReadsCells tells now later
+    pub surveyed_more : IsPartFor (flm.shown a) new → new.start ≡ old.start → IsPlannedOver tells weights image now.cells (flm.shown a) new
+        → OnlyReadsCells tells now later
         → later.device_faults ≡ now.device_faults → SurveyedTo algorithms before later (set parts i new) (i + 1)
     surveyed_more for_it at plan reads faults =
         let within : i < length algorithms = omega (arith, less, many_parts algorithms 0 parts so_far.are) in
-        let more = plans_more before.cells (map flm.shown (take i algorithms)) (take i parts) (flm.shown a) new so_far.plans (plan_still now.cells before.cells (flm.shown a) new so_far.reads.cells plan) in
+        let more = plans_more before.cells (map flm.shown (take i algorithms)) (take i parts) (flm.shown a) new so_far.plans
+        (plan_still now.cells before.cells (flm.shown a) new so_far.reads.cells plan) in
         record {
-          are = parts_set algorithms 0 parts i a old new less so_far.are (subst (λ (x : Algorithm). IsPartFor (flm.shown x) new) is for_it) (at ∙ ap (λ (p : Part). p.start) was);
-          plans = subst (λ (l : List flm.Shown). ArePlanned tells weights image before.cells l (take (i + 1) (set parts i new))) (sym (one_more algorithms i a within is))
-              (subst (λ (l : List Part). ArePlanned tells weights image before.cells (map flm.shown (take i algorithms) ++ flm.shown a ∷ []) l) (sym (take_more_set parts i new less)) more);
+          are = parts_set algorithms 0 parts i a old new less so_far.are (subst (λ (x : Algorithm). IsPartFor (flm.shown x) new) is for_it)
+              (at ∙ ap (λ (p : Part). p.start) was);
+          plans = subst (λ (l : List flm.Shown). ArePlanned tells weights image before.cells l (take (i + 1) (set parts i new)))
+              (sym (one_more algorithms i a within is))
+              (subst (λ (l : List Part). ArePlanned tells weights image before.cells (map flm.shown (take i algorithms) ++ flm.shown a ∷ []) l)
+              (sym (take_more_set parts i new less)) more);
           reads = only_reads_cells_then so_far.reads reads;
           faults = faults ∙ so_far.faults;
         }
@@ -470,13 +499,16 @@ module _ (tells : Bool) (weights : Weights) (image : List Run) where
     one_of =
         let end = cells_on (map flm.shown algorithms) in
         let one = part_at algorithms 0 parts i a old less so_far.are in
-        let its = subst (λ (x : Algorithm). IsOneOf (flm.shown x) old (0 + end)) (sym is) (subst (λ (p : Part). IsOneOf (flm.shown (get_or algorithms i a)) p (0 + end)) (sym was) one) in
+        let its = subst (λ (x : Algorithm). IsOneOf (flm.shown x) old (0 + end)) (sym is)
+        (subst (λ (p : Part). IsOneOf (flm.shown (get_or algorithms i a)) p (0 + end)) (sym was) one) in
         record { is = its.is; inside = omega (arith, its.inside) }
 
-  pub surveyed_all : (algorithms : List Algorithm) (before now : BenchState) (parts : List Part) (i : ℕ) → SurveyedTo algorithms before now parts i → length parts ≤ i
+  pub surveyed_all : (algorithms : List Algorithm) (before now : BenchState) (parts : List Part) (i : ℕ) → SurveyedTo algorithms before now parts i
+      → length parts ≤ i
       → ArePlanned tells weights image before.cells (map flm.shown algorithms) parts
   surveyed_all algorithms before now parts i so_far past =
-      subst (λ (l : List Algorithm). ArePlanned tells weights image before.cells (map flm.shown l) parts) (take_all i algorithms (omega (arith, past, many_parts algorithms 0 parts so_far.are)))
+      subst (λ (l : List Algorithm). ArePlanned tells weights image before.cells (map flm.shown l) parts)
+      (take_all i algorithms (omega (arith, past, many_parts algorithms 0 parts so_far.are)))
       (subst (λ (l : List Part). ArePlanned tells weights image before.cells (map flm.shown (take i algorithms)) l) (take_all i parts past) so_far.plans)
 
 -- What is printed.
@@ -506,7 +538,8 @@ module _ (tells : Bool) (weights : Weights) (image : List Run) (all : List ℕ) 
     pub told : IsTrue tells → cells ≡ take (size_of regions) (drop start all)
     pub texts : map told_of parts ≡ plans_for weights image regions algorithms cells
 
-  are_of : (regions : List Region) (algorithms : List flm.Shown) (start : ℕ) (parts : List Part) → AreDevices regions algorithms → AreParts algorithms start parts
+  are_of : (regions : List Region) (algorithms : List flm.Shown) (start : ℕ) (parts : List Part) → AreDevices regions algorithms
+      → AreParts algorithms start parts
       → ArePlanned tells weights image all algorithms parts → AreOf regions algorithms start parts
   are_of [] [] start [] devices are plans = record { cells = []; long = refl; told = λ told. refl; texts = refl }
   are_of [] [] start (p ∷ parts) devices are plans = absurd are
@@ -536,7 +569,8 @@ module _ (tells : Bool) (weights : Weights) (image : List Run) (all : List ℕ) 
             (rest.texts ∙ ap (λ (l : List ℕ). plans_for weights image regions algorithms l) (sym (drop_at one.cells rest.cells r.size (one.long ∙ size))));
       }
 
-module _ (tells : Bool) (wanted : Wanted) (s : BenchState) (parts : List Part) (devices : AreDevices wanted.board.regions (map flm.shown wanted.algorithms.items))
+module _ (tells : Bool) (wanted : Wanted) (s : BenchState) (parts : List Part)
+    (devices : AreDevices wanted.board.regions (map flm.shown wanted.algorithms.items))
     (are : AreParts (map flm.shown wanted.algorithms.items) 0 parts)
     (plans : ArePlanned tells wanted.board.weights wanted.image s.cells (map flm.shown wanted.algorithms.items) parts) where
   -- the cells, as they were read
@@ -550,14 +584,16 @@ module _ (tells : Bool) (wanted : Wanted) (s : BenchState) (parts : List Part) (
   pub read_text : parts_text parts ≡ text_of (aim_of wanted) read_of.cells
   read_text = ap (λ (l : List (ℕ × List ℕ)). plans_text l) read_of.texts
 
-pub parts_end : (algorithms : List flm.Shown) (start : ℕ) (parts : List Part) → AreParts algorithms start parts → All (λ p. p.base + p.geometry.size ≤ 2 ^ 32) parts
+pub parts_end : (algorithms : List flm.Shown) (start : ℕ) (parts : List Part) → AreParts algorithms start parts
+    → All (λ p. p.base + p.geometry.size ≤ 2 ^ 32) parts
 parts_end [] start [] are = All-nil (λ (p : Part). p.base + p.geometry.size ≤ 2 ^ 32)
 parts_end [] start (p ∷ parts) are = absurd are
 parts_end (a ∷ algorithms) start [] are = absurd are
 parts_end (a ∷ algorithms) start (p ∷ parts) are =
     All-cons (λ (p : Part). p.base + p.geometry.size ≤ 2 ^ 32) p parts are.0.end (parts_end algorithms (start + a.device.size) parts are.2)
 
-named_texts : (parts : List Part) → flat_map (λ (p : Part). part_text true p) parts ≡ flat_map (λ (plan : ℕ × List ℕ). region_text plan.0 ++ plan.1) (map told_of parts)
+named_texts : (parts : List Part) → flat_map (λ (p : Part). part_text true p) parts ≡ flat_map (λ (plan : ℕ × List ℕ). region_text plan.0 ++ plan.1)
+    (map told_of parts)
 named_texts [] = refl
 named_texts (p ∷ parts) = ap (λ (l : List ℕ). part_text true p ++ l) (named_texts parts)
 

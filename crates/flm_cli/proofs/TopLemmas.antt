@@ -5,7 +5,7 @@ use Rattle.bench_model.specs.State.{BenchState, cells_half, SameOutside}
 use Rattle.bench_model.proofs.Moments.{only_reads_here}
 use Rattle.outside_io.specs.State.{InputsState, SinkState}
 use Rattle.flash_session.specs.declared.goal.Goal.TheVariants.{New, Old}
-use Rattle.report_text.specs.Refusal.{Refusal, out_of_memory}
+use Rattle.report_text.specs.Refusal.{out_of_memory}
 use Rattle.report_text.specs.Refusal as refusal
 use Rattle.command_words.specs.Words.{Command, program, begin, resume, revert, plan, verify, compare, status, inspect, dump, demo, Asked}
 use Rattle.command_words.proofs.WordsLemmas.{one_asked}

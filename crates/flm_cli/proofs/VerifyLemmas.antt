@@ -1,5 +1,6 @@
 -- From the steps of `verify` to its end. Each step that may end `verify` has its lemma.
-use Rattle.std.proofs.Common.{◌≡◌, ◌≢◌, ◌<◌, ◌≤◌, ◌^◌, ◌∙◌, ⊎_elim, sym, ap, subst, refl, arith, inl, inr, ℕ, Bool, true, IsTrue, IsSome, List, [], ◌∷◌, length, slice_index, option_to_list, Option, Some, None}
+use Rattle.std.proofs.Common.{◌≡◌, ◌≢◌, ◌<◌, ◌^◌, ◌∙◌, ⊎_elim, sym, ap, subst, refl, arith, inl, inr, ℕ, Bool, true, IsTrue, IsSome, List, [], ◌∷◌, length}
+use Rattle.std.proofs.Common.{slice_index, option_to_list, Option, Some, None}
 use Rattle.std.proofs.lemmas.Bool.{cases_lt}
 use Rattle.bench_model.specs.State.{BenchState}
 use Rattle.outside_io.specs.State.{SinkState}
@@ -7,7 +8,8 @@ use Rattle.byte_map.specs.Image.{Run}
 use Rattle.board_file.specs.declared.region.Region.{Region}
 use Rattle.board_file.specs.Limits.{size_of}
 use Rattle.board_file.specs.Shown as board
-use Rattle.report_text.specs.Refusal.{Refusal, out_of_memory, usage, input_fault, flm_refused, other_device, no_room, board_refused, image_refused, image_misplaced, cells_differ, device_fault, output_fault, differs}
+use Rattle.report_text.specs.Refusal.{Refusal, out_of_memory, usage, input_fault, flm_refused, other_device, no_room, board_refused, image_refused}
+use Rattle.report_text.specs.Refusal.{image_misplaced, cells_differ, device_fault, output_fault, differs}
 use Rattle.command_words.specs.Files.{FilesAsked, names_in}
 use Rattle.command_files.specs.Inputs.{InputsCall, FilesGiven, AreFiles, NoneFailed}
 use Rattle.command_files.specs.Files.{flm_files, image_files, Aim, IsAim}
@@ -22,7 +24,8 @@ use Rattle.flm_cli.specs.Comparison as comparison
 use Rattle.flm_cli.specs.Comparison.{Compares}
 use Rattle.command_answers.specs.Reading.{ShowsFiles, AnswersFiles}
 use Rattle.job_text.specs.Laid.{address_at}
-use Rattle.flm_cli.specs.Verify.{wanted_at, CellsAgree, IsLeastDifference, DiffersAt, AgreesWith, IsComparedWithImage, Shows, IsDueForImage, VerifyEnds, has_verify}
+use Rattle.flm_cli.specs.Verify.{wanted_at, CellsAgree, IsLeastDifference, DiffersAt, AgreesWith, IsComparedWithImage, Shows, IsDueForImage, VerifyEnds}
+use Rattle.flm_cli.specs.Verify.{has_verify}
 use Rattle.command_answers.proofs.ReadingLemmas.{answers_yielding, answers_refused, answers_worked}
 use Rattle.command_answers.proofs.AnswerLemmas.{did_nothing, plain_lawful, untaken_lawful}
 use Rattle.flm_cli.proofs.FoundLemmas.{leaves_early, found_cases, compared_lawful, is_due, due_yielding}
@@ -47,7 +50,8 @@ module _ (bench : BenchCall) (regions : List Region) (image : List Run) where
   agree_or_differ told at wanted found agree differ =
       agree_or_differ_told bench.after.cells regions image differ.place wanted found (agree told) (as_told differ.place wanted found told differ.first)
 
-  differ_once : IsTrue bench.tells → (p w f q x g : ℕ) → DiffersAt bench regions image p w f → DiffersAt bench regions image q x g → differs p w f ≡ differs q x g
+  differ_once : IsTrue bench.tells → (p w f q x g : ℕ) → DiffersAt bench regions image p w f → DiffersAt bench regions image q x g
+      → differs p w f ≡ differs q x g
   differ_once told p w f q x g one two =
       let a = as_told one.place w f told one.first in
       let b = as_told two.place x g told two.first in
@@ -87,7 +91,8 @@ no_files : (b : board.Shown) (regions : List Region) (r : Refusal) → AreNotFor
 no_files b [] r is = is
 no_files b (region ∷ rest) r is = is
 
-no_flm_refused : (b : board.Shown) (file : Option (List ℕ)) (others : List (List ℕ)) (r : Refusal) → file ≡ None → AreNotFor b b.regions (flm_files file others b) r → ⊥
+no_flm_refused : (b : board.Shown) (file : Option (List ℕ)) (others : List (List ℕ)) (r : Refusal) → file ≡ None
+    → AreNotFor b b.regions (flm_files file others b) r → ⊥
 no_flm_refused b None others r none is = no_files b b.regions r is
 no_flm_refused b (Some x) others r none is = cc
 
@@ -97,7 +102,8 @@ no_flm_short None none some = cc
 no_flm_short (Some x) none some = cc
 
 module _ (bench : BenchCall) (inputs : InputsCall) (out : SinkCall) (asked : FilesAsked) where
-  due_yielding_for : (answer : Answer) (aim : Aim) → yields answer ≡ true → DidNothing bench out → comparison.IsCompared answer → IsDueForImage bench out answer aim
+  due_yielding_for : (answer : Answer) (aim : Aim) → yields answer ≡ true → DidNothing bench out → comparison.IsCompared answer
+      → IsDueForImage bench out answer aim
   due_yielding_for answer aim yields did complete = record {
     other_size = λ other. inr (yields, did);
     compared = λ same. due_yielding bench (AgreesWith bench aim.board.regions aim.image) (DiffersAt bench aim.board.regions aim.image) answer yields complete;
@@ -191,7 +197,8 @@ module _ (tells told : Bool) (b : BenchState) (o : SinkState) (inputs : InputsCa
 
 worked_shows : (bench : BenchCall) (inputs : InputsCall) (asked : FilesAsked) (files : FilesGiven) (aim : Aim) → AreFiles inputs asked files
     → IsAim asked.raw_at files aim → (answer : Answer) → IsComparedWithImage bench aim answer → ShowsFiles inputs asked (λ files. Shows bench answer) answer
-worked_shows bench inputs asked files aim are is done compared = record { files = files; are_files = are; holds = record { aim = aim; is_aim = is; holds = compared } }
+worked_shows bench inputs asked files aim are is done compared =
+    record { files = files; are_files = are; holds = record { aim = aim; is_aim = is; holds = compared } }
 worked_shows bench inputs asked files aim are is (refused device_fault) compared =
     record { files = files; are_files = are; holds = record { aim = aim; is_aim = is; holds = compared } }
 worked_shows bench inputs asked files aim are is (refused output_fault) compared =
@@ -200,7 +207,8 @@ worked_shows bench inputs asked files aim are is (refused (differs at wanted fou
     record { files = files; are_files = are; holds = record { aim = aim; is_aim = is; holds = compared } }
 worked_shows bench inputs asked files aim are is (refused r) compared = absurd compared.found
 
-pub ends_compared : (bench : BenchCall) (inputs : InputsCall) (out : SinkCall) (asked : FilesAsked) (files : FilesGiven) (wanted : Wanted) → AreFiles inputs asked files
+pub ends_compared : (bench : BenchCall) (inputs : InputsCall) (out : SinkCall) (asked : FilesAsked) (files : FilesGiven) (wanted : Wanted)
+    → AreFiles inputs asked files
     → NoneFailed inputs → IsAim asked.raw_at files (aim_of wanted) → size_of wanted.board.regions ≡ bench.before.cell_count → (answer : Answer)
     → Compares bench out (AgreesWith bench wanted.board.regions wanted.image) (DiffersAt bench wanted.board.regions wanted.image) answer
     → VerifyEnds asked bench inputs out answer
@@ -208,8 +216,10 @@ ends_compared bench inputs out asked files wanted are same is size answer compar
     let aim = aim_of wanted in
     let regions = wanted.board.regions in
     record {
-      lawful = compared_lawful bench inputs out has_verify (names_in asked) (AgreesWith bench regions wanted.image) (DiffersAt bench regions wanted.image) answer refl
-          (found_cases (AgreesWith bench regions wanted.image) (DiffersAt bench regions wanted.image) (λ a. IsOf has_verify a) tt refl refl (λ at byte cell. refl)
+      lawful = compared_lawful bench inputs out has_verify (names_in asked) (AgreesWith bench regions wanted.image) (DiffersAt bench regions wanted.image)
+          answer refl
+          (found_cases (AgreesWith bench regions wanted.image) (DiffersAt bench regions wanted.image) (λ a. IsOf has_verify a) tt refl refl
+          (λ at byte cell. refl)
           answer compares.found) same compares;
       leaves = compares.leaves;
       files = files_worked bench inputs out asked answer files aim are is

@@ -1,5 +1,6 @@
 -- What the steps of the commands answer.
-use Rattle.std.specs.Prelude.{◌≡◌, ◌≢◌, ◌<◌, ◌+◌, ℕ, Bool, true, false, IsTrue, List, [], ◌∷◌, ◌++◌, map, length, slice_index, Option, Some, None, Result, Ok, Err}
+use Rattle.std.specs.Prelude.{◌≡◌, ◌≢◌, ◌<◌, ◌+◌, ℕ, Bool, true, false, IsTrue, List, [], ◌∷◌, ◌++◌, map, length, slice_index, Option, Some, None, Result, Ok}
+use Rattle.std.specs.Prelude.{Err}
 use Rattle.bench_model.specs.declared.bench_fault.DeviceFault.{DeviceFault}
 use Rattle.byte_map.specs.Image.{Run, byte_at}
 use Rattle.board_file.specs.declared.region.Region.{Region}
@@ -81,7 +82,8 @@ cells_on (algorithm ∷ algorithms) = algorithm.device.size + cells_on algorithm
 -- memory for a plan by each algorithm, for cells that follow those of the one before it, the first of them at this place
 abbrev pub AreParts : List flm.Shown → ℕ → List Part → Type 0
 AreParts [] start [] = Unit {0}
-AreParts (algorithm ∷ algorithms) start (part ∷ parts) = IsPartFor algorithm part × (part.start ≡ start) × AreParts algorithms (start + algorithm.device.size) parts
+AreParts (algorithm ∷ algorithms) start (part ∷ parts) = IsPartFor algorithm part ×
+    (part.start ≡ start) × AreParts algorithms (start + algorithm.device.size) parts
 AreParts algorithms start parts = ⊥
 
 -- each has the plan from its own of all cells to an image laid over them

@@ -1,5 +1,6 @@
 -- Laws of the sections of an FLM file.
-use Rattle.std.proofs.Common.{◌≡◌, ℕ, ◌+◌, ◌==◌, Bool, true, false, List, Option, Some, None, Ok, Err, length, take, drop, cond, refl, sym, ap, ◌∙◌, arith, zero, suc, ltb}
+use Rattle.std.proofs.Common.{◌≡◌, ℕ, ◌+◌, ◌==◌, Bool, true, false, List, Option, Some, None, Ok, Err, length, take, drop, cond, refl, sym, ap, ◌∙◌, arith}
+use Rattle.std.proofs.Common.{zero, suc, ltb}
 use Rattle.std.specs.Option.{option_or, option_map}
 use Rattle.std.proofs.lemmas.Bool.{and_parts, eqb-true, ltb-false}
 use Rattle.std.proofs.lemmas.List.{length-take, length-drop}
@@ -32,7 +33,8 @@ kind_step : (bytes name : List ℕ) (kind : ℕ) (s : Section) (found : Option �
     → option_map (section_at bytes) found ≡ Some s → s.kind ≡ kind
 kind_step bytes name kind s None none found = cc
 kind_step bytes name kind s (Some i) some found =
-    let parts = and_parts (is_name name (section_name bytes i)) (kind == (section_at bytes i).kind) (first_below-passes (is_section bytes name kind) (e_shnum bytes) i some) in
+    let parts = and_parts (is_name name (section_name bytes i)) (kind == (section_at bytes i).kind)
+    (first_below-passes (is_section bytes name kind) (e_shnum bytes) i some) in
     let e : section_at bytes i ≡ s = cc in
     sym (eqb-true kind (section_at bytes i).kind parts.1 ∙ ap (λ (x : Section). x.kind) e)
 

@@ -1,9 +1,11 @@
 -- Laws of pieces, of the pages of a run of sectors, and of sectors and pages run by run.
-use Rattle.std.proofs.Common.{◌≡◌, ℕ, zero, suc, ◌+◌, ◌-◌, ◌*◌, ◌/◌, ◌%◌, ◌<◌, ◌≤◌, min, refl, sym, ap, subst, arith, ◌∙◌, List, [], ◌∷◌, ◌++◌, map, take, drop, length, inl, inr, zero-add, append-nil}
+use Rattle.std.proofs.Common.{◌≡◌, ℕ, zero, suc, ◌+◌, ◌-◌, ◌*◌, ◌/◌, ◌%◌, ◌<◌, ◌≤◌, min, refl, sym, ap, subst, arith, ◌∙◌, List, [], ◌∷◌, ◌++◌, map, take, drop}
+use Rattle.std.proofs.Common.{length, inl, inr, zero-add, append-nil}
 use Rattle.std.proofs.Math.Nat.{add-div_right}
 use Rattle.std.proofs.lemmas.Bool.{cases_lt}
 use Rattle.std.proofs.lemmas.Nat.{div-mul-add, mod-mul-add}
-use Rattle.std.proofs.lemmas.List.{get_or_append_left, get_or-append-add, length-append, append_assoc, take-append-drop, drop_more, take_more, take_all, take-take}
+use Rattle.std.proofs.lemmas.List.{get_or_append_left, get_or-append-add, length-append, append_assoc, take-append-drop, drop_more, take_more, take_all}
+use Rattle.std.proofs.lemmas.List.{take-take}
 use Rattle.std.specs.List.{range_with_len}
 use Rattle.flm_descriptor.specs.declared.geometry.Run.{Run}
 use Rattle.flm_descriptor.specs.Shape.{Range, range, pieces, piece, cut, sectors_of, pages_of}
@@ -58,7 +60,8 @@ module _ (page step start stop : ℕ) (page_some : 1 ≤ page) (step_some : 1 �
 
   page_in : (n k j m : ℕ) → k + n ≡ pieces step start stop → j < n → m < pieces page (piece step start stop (k + j)).start (piece step start stop (k + j)).stop
       → (j * pieces page 0 step + m < length (pages_of page (sectors_from k n)))
-      × (range_at (pages_of page (sectors_from k n)) (j * pieces page 0 step + m) ≡ piece page (piece step start stop (k + j)).start (piece step start stop (k + j)).stop m)
+      × (range_at (pages_of page (sectors_from k n)) (j * pieces page 0 step + m) ≡ piece page (piece step start stop (k + j)).start
+      (piece step start stop (k + j)).stop m)
   unfolding pages_of
   page_in zero k j m e lj lm = absurd (omega (arith, lj))
   page_in (suc n) k zero m e lj lm =
@@ -68,7 +71,9 @@ module _ (page step start stop : ℕ) (page_some : 1 ≤ page) (step_some : 1 �
       let long = length-cut page s.start s.stop in
       let inside : m < length (cut page s.start s.stop) = omega (arith, lm', long) in
       let first : 0 * pieces page 0 step + m ≡ m = omega arith in
-      let goal = λ (i : ℕ) (q : ℕ). (q < length (cut page s.start s.stop ++ pages_of page (sectors_from (k + 1) n))) × (range_at (cut page s.start s.stop ++ pages_of page (sectors_from (k + 1) n)) q ≡ piece page (piece step start stop i).start (piece step start stop i).stop m) in
+      let goal = λ (i : ℕ) (q : ℕ). (q < length (cut page s.start s.stop ++ pages_of page (sectors_from (k + 1) n))) ×
+      (range_at (cut page s.start s.stop ++ pages_of page (sectors_from (k + 1) n)) q ≡ piece page (piece step start stop i).start
+      (piece step start stop i).stop m) in
       subst (λ (i : ℕ). goal i (0 * pieces page 0 step + m)) (sym same) (subst (λ (q : ℕ). goal k q) (sym first) (
         omega (arith, inside, length-append (cut page s.start s.stop) (pages_of page (sectors_from (k + 1) n))),
         get_or_append_left (cut page s.start s.stop) (pages_of page (sectors_from (k + 1) n)) (range 0 0) m inside ∙ cut_at page s.start s.stop m lm',
@@ -83,7 +88,8 @@ module _ (page step start stop : ℕ) (page_some : 1 ≤ page) (step_some : 1 �
       let rest = page_in n (k + 1) j m (omega (arith, e)) (omega (arith, lj)) lm' in
       let place : suc j * each + m ≡ length (cut page s.start s.stop) + (j * each + m) = omega (arith, long) in
       let tail : List Range = pages_of page (sectors_from (k + 1) n) in
-      let goal = λ (i : ℕ) (q : ℕ). (q < length (cut page s.start s.stop ++ tail)) × (range_at (cut page s.start s.stop ++ tail) q ≡ piece page (piece step start stop i).start (piece step start stop i).stop m) in
+      let goal = λ (i : ℕ) (q : ℕ). (q < length (cut page s.start s.stop ++ tail)) ×
+      (range_at (cut page s.start s.stop ++ tail) q ≡ piece page (piece step start stop i).start (piece step start stop i).stop m) in
       subst (λ (i : ℕ). goal i (suc j * each + m)) (sym same) (subst (λ (q : ℕ). goal (k + 1 + j) q) (sym place) (
         omega (arith, rest.0, length-append (cut page s.start s.stop) tail),
         get_or-append-add (cut page s.start s.stop) tail (j * each + m) (range 0 0) ∙ rest.1,
@@ -91,7 +97,8 @@ module _ (page step start stop : ℕ) (page_some : 1 ≤ page) (step_some : 1 �
 
   -- a page of the run is page `m` of sector `j`
   find_page : (n k q : ℕ) → k + n ≡ pieces step start stop → q < length (pages_of page (sectors_from k n))
-      → (j : ℕ) × (m : ℕ) × (j < n) × (m < pieces page (piece step start stop (k + j)).start (piece step start stop (k + j)).stop) × (q ≡ j * pieces page 0 step + m)
+      → (j : ℕ) × (m : ℕ) × (j < n) × (m < pieces page (piece step start stop (k + j)).start (piece step start stop (k + j)).stop) ×
+      (q ≡ j * pieces page 0 step + m)
   unfolding pages_of
   find_page zero k q e lq = absurd (omega (arith, lq))
   find_page (suc n) k q e lq =
@@ -119,11 +126,14 @@ module _ (page step start stop : ℕ) (page_some : 1 ≤ page) (step_some : 1 �
 
   pub run_page_in : (j m : ℕ) → j < pieces step start stop → m < pieces page (piece step start stop j).start (piece step start stop j).stop
       → (j * pieces page 0 step + m < length (pages_of page (cut step start stop)))
-      × (range_at (pages_of page (cut step start stop)) (j * pieces page 0 step + m) ≡ piece page (piece step start stop j).start (piece step start stop j).stop m)
+      × (range_at (pages_of page (cut step start stop)) (j * pieces page 0 step + m) ≡ piece page (piece step start stop j).start
+      (piece step start stop j).stop m)
   unfolding cut
   run_page_in j m lj lm =
       let z : j ≡ 0 + j = sym (zero-add j) in
-      let goal = λ (i : ℕ). (j * pieces page 0 step + m < length (pages_of page (sectors_from 0 (pieces step start stop)))) × (range_at (pages_of page (sectors_from 0 (pieces step start stop))) (j * pieces page 0 step + m) ≡ piece page (piece step start stop i).start (piece step start stop i).stop m) in
+      let goal = λ (i : ℕ). (j * pieces page 0 step + m < length (pages_of page (sectors_from 0 (pieces step start stop)))) ×
+      (range_at (pages_of page (sectors_from 0 (pieces step start stop))) (j * pieces page 0 step + m) ≡ piece page (piece step start stop i).start
+      (piece step start stop i).stop m) in
       subst (λ (i : ℕ). goal i) (sym z)
       (page_in (pieces step start stop) 0 j m (zero-add (pieces step start stop)) lj
       (subst (λ (i : ℕ). m < pieces page (piece step start stop i).start (piece step start stop i).stop) z lm))
@@ -146,7 +156,8 @@ module _ (page step start stop : ℕ) (page_some : 1 ≤ page) (step_some : 1 �
             (subst (λ (m : ℕ). m < pieces page (piece step start stop x.0).start (piece step start stop x.0).stop) (sym column) lm),
       )
 
-  length_from : (n k : ℕ) → k + suc n ≡ pieces step start stop → length (pages_of page (sectors_from k (suc n))) ≡ n * pieces page 0 step + pieces page (start + (k + n) * step) stop
+  length_from : (n k : ℕ) → k + suc n ≡ pieces step start stop → length (pages_of page (sectors_from k (suc n))) ≡ n * pieces page 0 step + pieces page
+      (start + (k + n) * step) stop
   unfolding pages_of
   length_from zero k e =
       let s = piece step start stop k in
@@ -164,10 +175,12 @@ module _ (page step start stop : ℕ) (page_some : 1 ≤ page) (step_some : 1 �
       let count = length-cut page s.start s.stop in
       let rest = length_from n (k + 1) (omega (arith, e)) in
       let same : k + 1 + n ≡ k + suc n = omega arith in
-      let rest' = subst (λ (i : ℕ). length (pages_of page (sectors_from (k + 1) (suc n))) ≡ n * pieces page 0 step + pieces page (start + i * step) stop) same rest in
+      let rest' = subst (λ (i : ℕ). length (pages_of page (sectors_from (k + 1) (suc n))) ≡ n * pieces page 0 step + pieces page (start + i * step) stop) same
+      rest in
       length-append (cut page s.start s.stop) (pages_of page (sectors_from (k + 1) (suc n))) ∙ omega (arith, count, all, rest')
 
-  pub run_pages : 0 < pieces step start stop → length (pages_of page (cut step start stop)) ≡ (pieces step start stop - 1) * pieces page 0 step + pieces page (start + (pieces step start stop - 1) * step) stop
+  pub run_pages : 0 < pieces step start stop → length (pages_of page (cut step start stop)) ≡ (pieces step start stop - 1) * pieces page 0 step + pieces page
+      (start + (pieces step start stop - 1) * step) stop
   unfolding cut
   run_pages some =
       let n : ℕ = pieces step start stop - 1 in
@@ -175,9 +188,11 @@ module _ (page step start stop : ℕ) (page_some : 1 ≤ page) (step_some : 1 �
       let z : 0 + n ≡ n = zero-add n in
       let first = length_from n 0 (zero-add (suc n) ∙ e) in
       let second = subst (λ (c : ℕ). length (pages_of page (sectors_from 0 c)) ≡ n * pieces page 0 step + pieces page (start + (0 + n) * step) stop) e first in
-      subst (λ (i : ℕ). length (pages_of page (sectors_from 0 (pieces step start stop))) ≡ n * pieces page 0 step + pieces page (start + i * step) stop) z second
+      subst (λ (i : ℕ). length (pages_of page (sectors_from 0 (pieces step start stop))) ≡ n * pieces page 0 step + pieces page (start + i * step) stop) z
+      second
 
-  pub run_counted : (count each last : ℕ) → (count ≡ 0 → ⊥) → count ≡ pieces step start stop → each ≡ pieces page 0 step → last ≡ pieces page (start + (count - 1) * step) stop
+  pub run_counted : (count each last : ℕ) → (count ≡ 0 → ⊥) → count ≡ pieces step start stop → each ≡ pieces page 0 step →
+      last ≡ pieces page (start + (count - 1) * step) stop
       → (count - 1) * each + last ≡ length (pages_of page (cut step start stop))
   run_counted count each last some e1 e2 e3 =
       let all = run_pages (omega (arith, some, e1)) in cc (all, e1, e2, e3)
@@ -196,12 +211,14 @@ module _ (page step start stop : ℕ) (page_some : 1 ≤ page) (step_some : 1 �
 pub sectors_append : (xs ys : List Run) → sectors_of (xs ++ ys) ≡ sectors_of xs ++ sectors_of ys
 unfolding sectors_of
 sectors_append [] ys = refl
-sectors_append (r ∷ xs) ys = ap (λ (s : List Range). cut r.step r.start r.stop ++ s) (sectors_append xs ys) ∙ sym (append_assoc (cut r.step r.start r.stop) (sectors_of xs) (sectors_of ys))
+sectors_append (r ∷ xs) ys = ap (λ (s : List Range). cut r.step r.start r.stop ++ s) (sectors_append xs ys) ∙
+    sym (append_assoc (cut r.step r.start r.stop) (sectors_of xs) (sectors_of ys))
 
 pub pages_append : (page : ℕ) (xs ys : List Range) → pages_of page (xs ++ ys) ≡ pages_of page xs ++ pages_of page ys
 unfolding pages_of
 pages_append page [] ys = refl
-pages_append page (r ∷ xs) ys = ap (λ (s : List Range). cut page r.start r.stop ++ s) (pages_append page xs ys) ∙ sym (append_assoc (cut page r.start r.stop) (pages_of page xs) (pages_of page ys))
+pages_append page (r ∷ xs) ys = ap (λ (s : List Range). cut page r.start r.stop ++ s) (pages_append page xs ys) ∙
+    sym (append_assoc (cut page r.start r.stop) (pages_of page xs) (pages_of page ys))
 
 abbrev none : Run
 none = record { start = 0; stop = 0; step = 0 }
@@ -221,7 +238,8 @@ module _ (page : ℕ) (runs : List Run) (k : ℕ) (here : k < length runs) where
   unfolding sectors_of cut_run
   sectors_split = ap sectors_of split ∙ sectors_append (take k runs) (run_at runs k ∷ drop (k + 1) runs)
 
-  pages_split : pages_of page (sectors_of runs) ≡ pages_of page (sectors_of (take k runs)) ++ (pages_of page (cut_run (run_at runs k)) ++ pages_of page (sectors_of (drop (k + 1) runs)))
+  pages_split : pages_of page (sectors_of runs) ≡ pages_of page (sectors_of (take k runs)) ++
+      (pages_of page (cut_run (run_at runs k)) ++ pages_of page (sectors_of (drop (k + 1) runs)))
   pages_split =
       ap (pages_of page) sectors_split ∙ pages_append page (sectors_of (take k runs)) (cut_run (run_at runs k) ++ sectors_of (drop (k + 1) runs))
       ∙ ap (λ (t : List Range). pages_of page (sectors_of (take k runs)) ++ t) (pages_append page (cut_run (run_at runs k)) (sectors_of (drop (k + 1) runs)))
@@ -230,20 +248,24 @@ module _ (page : ℕ) (runs : List Run) (k : ℕ) (here : k < length runs) where
   unfolding sectors_before cut_run
   sectors_next =
       ap (λ (rs : List Run). length (sectors_of rs)) (take_more runs k none here)
-      ∙ ap (λ (rs : List Range). length rs) (sectors_append (take k runs) (run_at runs k ∷ []) ∙ ap (λ (rs : List Range). sectors_of (take k runs) ++ rs) (one_run (run_at runs k)))
+      ∙ ap (λ (rs : List Range). length rs) (sectors_append (take k runs) (run_at runs k ∷ []) ∙
+      ap (λ (rs : List Range). sectors_of (take k runs) ++ rs) (one_run (run_at runs k)))
       ∙ length-append (sectors_of (take k runs)) (cut_run (run_at runs k))
       ∙ ap (λ (n : ℕ). length (sectors_of (take k runs)) + n) (length-cut (run_at runs k).step (run_at runs k).start (run_at runs k).stop)
 
-  pub pages_next : pages_before page runs (k + 1) ≡ pages_before page runs k + length (pages_of page (cut (run_at runs k).step (run_at runs k).start (run_at runs k).stop))
+  pub pages_next : pages_before page runs (k + 1) ≡ pages_before page runs k + length
+      (pages_of page (cut (run_at runs k).step (run_at runs k).start (run_at runs k).stop))
   unfolding pages_before cut_run
   pages_next =
       ap (λ (rs : List Run). length (pages_of page (sectors_of rs))) (take_more runs k none here)
-      ∙ ap (λ (rs : List Range). length (pages_of page rs)) (sectors_append (take k runs) (run_at runs k ∷ []) ∙ ap (λ (rs : List Range). sectors_of (take k runs) ++ rs) (one_run (run_at runs k)))
+      ∙ ap (λ (rs : List Range). length (pages_of page rs)) (sectors_append (take k runs) (run_at runs k ∷ []) ∙
+      ap (λ (rs : List Range). sectors_of (take k runs) ++ rs) (one_run (run_at runs k)))
       ∙ ap (λ (rs : List Range). length rs) (pages_append page (sectors_of (take k runs)) (cut_run (run_at runs k)))
       ∙ length-append (pages_of page (sectors_of (take k runs))) (pages_of page (cut_run (run_at runs k)))
 
   pub sector_here : (j : ℕ) → j < pieces (run_at runs k).step (run_at runs k).start (run_at runs k).stop
-      → (sectors_before runs k + j < length (sectors_of runs)) × (range_at (sectors_of runs) (sectors_before runs k + j) ≡ piece (run_at runs k).step (run_at runs k).start (run_at runs k).stop j)
+      → (sectors_before runs k + j < length (sectors_of runs)) ×
+      (range_at (sectors_of runs) (sectors_before runs k + j) ≡ piece (run_at runs k).step (run_at runs k).start (run_at runs k).stop j)
   unfolding sectors_before cut_run
   sector_here j h =
       let r = run_at runs k in
@@ -251,7 +273,8 @@ module _ (page : ℕ) (runs : List Run) (k : ℕ) (here : k < length runs) where
       let after : List Range = sectors_of (drop (k + 1) runs) in
       let long = length-cut r.step r.start r.stop in
       let all : length (sectors_of runs) ≡ length before + (pieces r.step r.start r.stop + length after) =
-      ap (λ (rs : List Range). length rs) sectors_split ∙ length-append before (cut_run r ++ after) ∙ ap (λ (n : ℕ). length before + n) (length-append (cut_run r) after ∙ ap (λ (n : ℕ). n + length after) long) in (
+      ap (λ (rs : List Range). length rs) sectors_split ∙ length-append before (cut_run r ++ after) ∙
+      ap (λ (n : ℕ). length before + n) (length-append (cut_run r) after ∙ ap (λ (n : ℕ). n + length after) long) in (
         omega (arith, h, all),
         ap (λ (rs : List Range). range_at rs (length before + j)) sectors_split
             ∙ get_or-append-add before (cut_run r ++ after) j (range 0 0)
@@ -261,7 +284,8 @@ module _ (page : ℕ) (runs : List Run) (k : ℕ) (here : k < length runs) where
 
   pub page_here : (q : ℕ) → q < length (pages_of page (cut (run_at runs k).step (run_at runs k).start (run_at runs k).stop))
       → (pages_before page runs k + q < length (pages_of page (sectors_of runs)))
-      × (range_at (pages_of page (sectors_of runs)) (pages_before page runs k + q) ≡ range_at (pages_of page (cut (run_at runs k).step (run_at runs k).start (run_at runs k).stop)) q)
+      × (range_at (pages_of page (sectors_of runs)) (pages_before page runs k + q) ≡ range_at
+      (pages_of page (cut (run_at runs k).step (run_at runs k).start (run_at runs k).stop)) q)
   unfolding pages_before cut_run
   page_here q h =
       let r = run_at runs k in
@@ -298,12 +322,16 @@ parts i j runs h = sym (take-append-drop i (take j runs)) ∙ ap (λ (rs : List 
 pub sectors_rise : (runs : List Run) (i j : ℕ) → i ≤ j → sectors_before runs i ≤ sectors_before runs j
 unfolding sectors_before
 sectors_rise runs i j h =
-    let e = ap (λ (rs : List Run). length (sectors_of rs)) (parts i j runs h) ∙ ap (λ (rs : List Range). length rs) (sectors_append (take i runs) (drop i (take j runs))) ∙ length-append (sectors_of (take i runs)) (sectors_of (drop i (take j runs))) in
+    let e = ap (λ (rs : List Run). length (sectors_of rs)) (parts i j runs h) ∙
+    ap (λ (rs : List Range). length rs) (sectors_append (take i runs) (drop i (take j runs))) ∙
+    length-append (sectors_of (take i runs)) (sectors_of (drop i (take j runs))) in
     omega (arith, e)
 
 pub pages_rise : (page : ℕ) (runs : List Run) (i j : ℕ) → i ≤ j → pages_before page runs i ≤ pages_before page runs j
 unfolding pages_before
 pages_rise page runs i j h =
-    let e = ap (λ (rs : List Run). length (pages_of page (sectors_of rs))) (parts i j runs h) ∙ ap (λ (rs : List Range). length (pages_of page rs)) (sectors_append (take i runs) (drop i (take j runs)))
-    ∙ ap (λ (rs : List Range). length rs) (pages_append page (sectors_of (take i runs)) (sectors_of (drop i (take j runs)))) ∙ length-append (pages_of page (sectors_of (take i runs))) (pages_of page (sectors_of (drop i (take j runs)))) in
+    let e = ap (λ (rs : List Run). length (pages_of page (sectors_of rs))) (parts i j runs h) ∙
+    ap (λ (rs : List Range). length (pages_of page rs)) (sectors_append (take i runs) (drop i (take j runs)))
+    ∙ ap (λ (rs : List Range). length rs) (pages_append page (sectors_of (take i runs)) (sectors_of (drop i (take j runs)))) ∙
+    length-append (pages_of page (sectors_of (take i runs))) (pages_of page (sectors_of (drop i (take j runs)))) in
     omega (arith, e)

@@ -1,5 +1,6 @@
 -- What is read of the description of a device.
-use Rattle.std.proofs.Common.{◌≡◌, ◌≢◌, ℕ, zero, suc, ◌+◌, ◌-◌, ◌*◌, ◌<◌, ◌≤◌, Bool, true, false, List, [], ◌∷◌, ◌++◌, length, take, drop, get_or, Some, None, Ok, refl, sym, ap, ◌∙◌, arith}
+use Rattle.std.proofs.Common.{◌≡◌, ◌≢◌, ℕ, zero, suc, ◌+◌, ◌-◌, ◌*◌, ◌<◌, ◌≤◌, Bool, true, false, List, [], ◌∷◌, ◌++◌, length, take, drop, get_or, Some, None}
+use Rattle.std.proofs.Common.{Ok, refl, sym, ap, ◌∙◌, arith}
 use Rattle.std.specs.Prelude.{◌==◌, ◌&&◌, All, map, replicate, slice_index}
 use Rattle.std.specs.List.{before_first, flat_map, position_or_len, range_with_len}
 use Rattle.std.specs.Int.{w16, w32, from_le_bytes}
@@ -22,7 +23,8 @@ use Rattle.flm_forge.specs.declared.source.Listing.{Listing}
 use Rattle.flm_forge.specs.Device.{ItemFits, ListingFits, device_bytes, descriptor_bytes, end_pair, item_bytes, name_field, on_chip, version}
 use Rattle.flm_forge.specs.Fields.{half_bytes}
 use Rattle.flm_forge.specs.Read.{device_of, HasName}
-use Rattle.flm_forge.proofs.PlaceLemmas.{Stands, stands_whole, stands_moved, stands_left, stands_right, stands_drop, stands_drop_more, stands_part, stands_item, length-items}
+use Rattle.flm_forge.proofs.PlaceLemmas.{Stands, stands_whole, stands_moved, stands_left, stands_right, stands_drop, stands_drop_more, stands_part, stands_item}
+use Rattle.flm_forge.proofs.PlaceLemmas.{length-items}
 use Rattle.flm_forge.proofs.HeaderLemmas.{not_below}
 use Rattle.flm_forge.proofs.LayoutLemmas.{behind_name, item_wide, length-name_field, length-device_bytes, length-descriptor}
 
@@ -85,7 +87,8 @@ rest_stands l = stands_moved (descriptor_bytes l) (behind_name l) (2 + length (n
 name_is : (l : Listing) → HasName l → before_first is_zero (take 128 (drop 2 (descriptor_bytes l))) ≡ l.name
 name_is l named =
     let whole : take 128 (drop 2 (descriptor_bytes l)) ≡ name_field l.name =
-    ap (λ (n : ℕ). take n (drop 2 (descriptor_bytes l))) (sym (length-name_field l.name)) ∙ stands_part (descriptor_bytes l) (name_field l.name) 2 (name_stands l) in
+    ap (λ (n : ℕ). take n (drop 2 (descriptor_bytes l))) (sym (length-name_field l.name)) ∙
+    stands_part (descriptor_bytes l) (name_field l.name) 2 (name_stands l) in
     ap (before_first is_zero) whole ∙ name_read l.name named.fits named.no_zero
 
 fields_are : (l : Listing) → ListingFits l → HasName l → described.fields_at (descriptor_bytes l) 0 ≡ device_of l
@@ -160,7 +163,8 @@ no_end_before : (l : Listing) → ListingFits l → All (λ item. item ≢ end_p
 unfolding described.is_end
 no_end_before l fits others k less =
     let item = get_or l.items k end_pair in
-    rw (item_is l k fits less) (both_end item (item.size == 0xFFFF_FFFF) (item.offset == 0xFFFF_FFFF) refl refl (All-get_or (λ i. i ≢ end_pair) l.items k end_pair less others))
+    rw (item_is l k fits less) (both_end item (item.size == 0xFFFF_FFFF) (item.offset == 0xFFFF_FFFF) refl refl
+    (All-get_or (λ i. i ≢ end_pair) l.items k end_pair less others))
 
 end_here : (l : Listing) → described.is_end (descriptor_bytes l) 0 (length l.items) ≡ true
 unfolding described.is_end

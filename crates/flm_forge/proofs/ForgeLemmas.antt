@@ -38,10 +38,14 @@ answer refusal = Err (fault.Asm refusal)
 -- the assembler's fault is the one that refuses the text, or want of memory
 pub refusal_answered : (l : Listing) (answered : AsmFault) → IsRefused l.text answered → AnswersRefusal l (Err (outer answered))
 refusal_answered l asm.OutOfMemory is other memory refused = inr refl
-refusal_answered l (asm.BadWord line) is other memory refused = inl (ap answer (one_refusal l.text (asm.BadWord line) other (λ e. absurd (cc)) memory is refused))
-refusal_answered l (asm.TwiceLabel name) is other memory refused = inl (ap answer (one_refusal l.text (asm.TwiceLabel name) other (λ e. absurd (cc)) memory is refused))
-refusal_answered l (asm.NoLabel name) is other memory refused = inl (ap answer (one_refusal l.text (asm.NoLabel name) other (λ e. absurd (cc)) memory is refused))
-refusal_answered l (asm.OutOfReach line) is other memory refused = inl (ap answer (one_refusal l.text (asm.OutOfReach line) other (λ e. absurd (cc)) memory is refused))
+refusal_answered l (asm.BadWord line) is other memory refused =
+    inl (ap answer (one_refusal l.text (asm.BadWord line) other (λ e. absurd (cc)) memory is refused))
+refusal_answered l (asm.TwiceLabel name) is other memory refused =
+    inl (ap answer (one_refusal l.text (asm.TwiceLabel name) other (λ e. absurd (cc)) memory is refused))
+refusal_answered l (asm.NoLabel name) is other memory refused =
+    inl (ap answer (one_refusal l.text (asm.NoLabel name) other (λ e. absurd (cc)) memory is refused))
+refusal_answered l (asm.OutOfReach line) is other memory refused =
+    inl (ap answer (one_refusal l.text (asm.OutOfReach line) other (λ e. absurd (cc)) memory is refused))
 
 -- a text that is assembled isn't refused
 pub no_refusal : (l : Listing) (code : Code) (file : List ℕ) → IsAssembled l.text code → AnswersRefusal l (Ok file)

@@ -104,15 +104,18 @@ laid_out l code =
     let p1 = symbol_names ++ p2 in
     let header = elf_header (headers_at s) in
     let file = header ++ p1 in
-    let s1 = stands_moved file p1 (0 + length header) 52 (stands_right file header p1 0 (stands_whole file)) (omega (arith, length-elf_header (headers_at s))) in
+    let s1 = stands_moved file p1 (0 + length header) 52 (stands_right file header p1 0 (stands_whole file))
+    (omega (arith, length-elf_header (headers_at s))) in
     let s2 = stands_moved file p2 (52 + length symbol_names) 120 (stands_right file symbol_names p2 52 s1) (omega (arith, length-symbol_names)) in
     let s3 = stands_moved file p3 (120 + length section_names) 172 (stands_right file section_names p3 120 s2) (omega (arith, length-section_names)) in
     let wide : length (flat_map symbol_bytes all) ≡ 16 * length all = length-items symbol_bytes 16 symbol_wide all in
     let counted : s.symbols ≡ 16 * length all = omega arith in
-    let s4 = stands_moved file p4 (172 + length (flat_map symbol_bytes all)) (code_at s) (stands_right file (flat_map symbol_bytes all) p4 172 s3) (omega (arith, wide, counted)) in
+    let s4 = stands_moved file p4 (172 + length (flat_map symbol_bytes all)) (code_at s) (stands_right file (flat_map symbol_bytes all) p4 172 s3)
+    (omega (arith, wide, counted)) in
     let s5 = stands_right file code.bytes p5 (code_at s) s4 in
     let s6 = stands_right file l.init_data p6 (init_data_at s) s5 in
-    let s7 = stands_moved file p7 (descriptor_at s + length (descriptor_bytes l)) (headers_at s) (stands_right file (descriptor_bytes l) p7 (descriptor_at s) s6) (omega (arith, length-descriptor l)) in
+    let s7 = stands_moved file p7 (descriptor_at s + length (descriptor_bytes l)) (headers_at s)
+    (stands_right file (descriptor_bytes l) p7 (descriptor_at s) s6) (omega (arith, length-descriptor l)) in
     record {
       rest = p1;
       header = refl;

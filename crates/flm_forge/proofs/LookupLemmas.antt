@@ -32,19 +32,23 @@ un_init_found : (address size a b c d : ℕ) (e f : Option ℕ) → found_among 
 unfolding string_at symbol_names text_of
 un_init_found address size a b c d e f = refl
 
-erase_sector_found : (address size a b c d : ℕ) (e f : Option ℕ) → found_among (text_of name.EraseSector) (listed address size a b c d e f) ≡ Ok (Some (function c))
+erase_sector_found : (address size a b c d : ℕ) (e f : Option ℕ) → found_among (text_of name.EraseSector) (listed address size a b c d e f) ≡ Ok
+    (Some (function c))
 unfolding string_at symbol_names text_of
 erase_sector_found address size a b c d e f = refl
 
-program_page_found : (address size a b c d : ℕ) (e f : Option ℕ) → found_among (text_of name.ProgramPage) (listed address size a b c d e f) ≡ Ok (Some (function d))
+program_page_found : (address size a b c d : ℕ) (e f : Option ℕ) → found_among (text_of name.ProgramPage) (listed address size a b c d e f) ≡ Ok
+    (Some (function d))
 unfolding string_at symbol_names text_of
 program_page_found address size a b c d e f = refl
 
-device_found : (address size a b c d : ℕ) (e f : Option ℕ) → found_among (text_of name.FlashDevice) (listed address size a b c d e f) ≡ Ok (Some (record { value = address; size = size }))
+device_found : (address size a b c d : ℕ) (e f : Option ℕ) → found_among (text_of name.FlashDevice) (listed address size a b c d e f) ≡ Ok
+    (Some (record { value = address; size = size }))
 unfolding string_at symbol_names text_of
 device_found address size a b c d e f = refl
 
-erase_chip_found : (address size a b c d : ℕ) (e f : Option ℕ) → found_among (text_of name.EraseChip) (listed address size a b c d e f) ≡ Ok (option_map function e)
+erase_chip_found : (address size a b c d : ℕ) (e f : Option ℕ) → found_among (text_of name.EraseChip) (listed address size a b c d e f) ≡ Ok
+    (option_map function e)
 unfolding string_at symbol_names text_of
 erase_chip_found address size a b c d None None = refl
 erase_chip_found address size a b c d None (Some g) = refl

@@ -15,7 +15,8 @@ use Rattle.flm_descriptor.specs.declared.fault.Name.{Name}
 use Rattle.flm_descriptor.specs.declared.fault.Name.TheVariants as name
 use Rattle.flm_descriptor.specs.declared.parts.Sections.{Sections}
 use Rattle.flm_descriptor.specs.Lawful.{addresses, AreInside}
-use Rattle.flm_descriptor.specs.Parts.{text_of, sections_of, present, contents_of, optional_part, data_places, end_after, start_or, size_or_none, place_of, entry_of, entries_of, optional_entry}
+use Rattle.flm_descriptor.specs.Parts.{text_of, sections_of, present, contents_of, optional_part, data_places, end_after, start_or, size_or_none, place_of}
+use Rattle.flm_descriptor.specs.Parts.{entry_of, entries_of, optional_entry}
 use Rattle.flm_descriptor.specs.Results.{from_elf}
 use Rattle.flm_forge.specs.declared.sizes.Sizes.{Sizes}
 use Rattle.flm_forge.specs.Places.{code_at, init_data_at, descriptor_at, descriptor_addr}

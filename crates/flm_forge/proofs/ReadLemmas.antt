@@ -44,7 +44,8 @@ entries_shown l code e are =
     rw (are.init, are.uninit, are.erase_sector, are.program_page, are.erase_chip, are.verify) refl
 
 symbols_listed : (l : Listing) (code : Code) (e : Entries) → AreEntries code.labels l.hidden e
-    → symbols l code ≡ listed (descriptor_addr (sizes_of l code)) (sizes_of l code).descriptor e.init e.uninit e.erase_sector e.program_page e.erase_chip e.verify
+    → symbols l code ≡ listed (descriptor_addr (sizes_of l code)) (sizes_of l code).descriptor e.init e.uninit e.erase_sector e.program_page e.erase_chip
+    e.verify
 symbols_listed l code e are =
     ap (λ (es : List SymbolEntry). no_symbol ∷ device_symbol (descriptor_addr (sizes_of l code)) (sizes_of l code).descriptor ∷ es) (entries_shown l code e are)
 

@@ -13,7 +13,8 @@ few_cells q r same fit =
     let few : cells_of q.sectors ≤ most_cells = omega (arith, f.size, f.few_cells) in
     subst (λ (x : Region). cells_of x.sectors ≤ most_cells) is few
 
-pub sectors_small : (regions : List Region) (i : ℕ) (r : Region) → IsTrue (list_all region_fits regions) → slice_get regions i ≡ Some r → cells_of r.sectors ≤ most_cells
+pub sectors_small : (regions : List Region) (i : ℕ) (r : Region) → IsTrue (list_all region_fits regions) → slice_get regions i ≡ Some r →
+    cells_of r.sectors ≤ most_cells
 sectors_small [] i r fit is = absurd cc
 sectors_small (q ∷ qs) zero r fit is = few_cells q r is (and_parts (region_fits q) (list_all region_fits qs) fit).0
 sectors_small (q ∷ qs) (suc i) r fit is = sectors_small qs i r (and_parts (region_fits q) (list_all region_fits qs) fit).1 is

@@ -15,7 +15,8 @@ use Rattle.flm_forge.specs.declared.section.SectionHeader.{SectionHeader}
 use Rattle.flm_forge.specs.declared.sizes.Sizes.{Sizes}
 use Rattle.flm_forge.specs.declared.symbol.SymbolEntry.{SymbolEntry}
 use Rattle.flm_forge.specs.Places.{headers_at, descriptor_addr, end_of}
-use Rattle.flm_forge.specs.Sections.{header_bytes, headers, section_names, no_section, code_header, init_data_header, zeroed_header, descriptor_header, symbols_header, symbol_names_header, section_names_header}
+use Rattle.flm_forge.specs.Sections.{header_bytes, headers, section_names, no_section, code_header, init_data_header, zeroed_header, descriptor_header}
+use Rattle.flm_forge.specs.Sections.{symbols_header, symbol_names_header, section_names_header}
 use Rattle.flm_forge.proofs.PlaceLemmas.{Stands, stands_item, stands_moved}
 use Rattle.flm_forge.proofs.SearchLemmas.{first_below-same}
 use Rattle.flm_forge.proofs.StringLemmas.{places, kinds, has_name_and_kind, finds_no_bad_name}
@@ -54,12 +55,16 @@ fixed_fits h name kind link addr offset size =
 
 eight : {X : Type 0} (P : X → Type 0) (a b c d e f g h : X) → P a → P b → P c → P d → P e → P f → P g → P h
     → All P (a ∷ b ∷ c ∷ d ∷ e ∷ f ∷ g ∷ h ∷ [])
-eight P a b c d e f g h pa pb pc pd pe pf pg ph = All-cons P a (b ∷ c ∷ d ∷ e ∷ f ∷ g ∷ h ∷ []) pa (All-cons P b (c ∷ d ∷ e ∷ f ∷ g ∷ h ∷ []) pb (All-cons P c (d ∷ e ∷ f ∷ g ∷ h ∷ []) pc (All-cons P d (e ∷ f ∷ g ∷ h ∷ []) pd (All-cons P e (f ∷ g ∷ h ∷ []) pe (All-cons P f (g ∷ h ∷ []) pf (All-cons P g (h ∷ []) pg (All-cons P h ([]) ph (All-nil P))))))))
+eight P a b c d e f g h pa pb pc pd pe pf pg ph = All-cons P a (b ∷ c ∷ d ∷ e ∷ f ∷ g ∷ h ∷ []) pa
+    (All-cons P b (c ∷ d ∷ e ∷ f ∷ g ∷ h ∷ []) pb (All-cons P c (d ∷ e ∷ f ∷ g ∷ h ∷ []) pc
+    (All-cons P d (e ∷ f ∷ g ∷ h ∷ []) pd (All-cons P e (f ∷ g ∷ h ∷ []) pe
+    (All-cons P f (g ∷ h ∷ []) pf (All-cons P g (h ∷ []) pg (All-cons P h ([]) ph (All-nil P))))))))
 
 headers_fit : (s : Sizes) → end_of s < 2 ^ 32 → s.zero_len < 2 ^ 32 → All HeaderFits (headers s)
 unfolding headers
 headers_fit s fits zero =
-    eight HeaderFits no_section (code_header s) (init_data_header s) (zeroed_header s) (descriptor_header s) (symbols_header s) symbol_names_header section_names_header
+    eight HeaderFits no_section (code_header s) (init_data_header s) (zeroed_header s) (descriptor_header s) (symbols_header s) symbol_names_header
+    section_names_header
     (fixed_fits no_section (omega arith) (omega arith) (omega arith) (omega arith) (omega arith) (omega arith))
     (fixed_fits (code_header s) (omega arith) (omega arith) (omega arith) (omega arith) (omega arith) (omega arith))
     (fixed_fits (init_data_header s) (omega arith) (omega arith) (omega arith) (omega arith) (omega arith) (omega arith))
@@ -83,7 +88,8 @@ header_fits m k less =
 header_stands : (m : Made) (k : ℕ) → k < 8 → Stands m.file (header_bytes (header_at m k)) (e_shoff m.file + 40 * k)
 header_stands m k less =
     stands_moved m.file (header_bytes (header_at m k)) (headers_at m.sizes + 40 * k) (e_shoff m.file + 40 * k)
-    (stands_item header_bytes 40 header_wide m.file (headers_at m.sizes) (headers m.sizes) k no_section m.laid.at_headers (omega (arith, length-headers m.sizes)))
+    (stands_item header_bytes 40 header_wide m.file (headers_at m.sizes) (headers m.sizes) k no_section m.laid.at_headers
+    (omega (arith, length-headers m.sizes)))
     (ap (λ (n : ℕ). n + 40 * k) (sym (facts_of m).shoff))
 
 -- section header `k`

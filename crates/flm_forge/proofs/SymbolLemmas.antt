@@ -1,5 +1,6 @@
 -- What is read of the symbols of a file that was made.
-use Rattle.std.proofs.Common.{◌≡◌, ℕ, suc, ◌+◌, ◌*◌, ◌/◌, ◌<◌, ◌≤◌, ◌^◌, Bool, true, false, cond, List, [], ◌∷◌, ◌++◌, length, get_or, Option, Some, None, Result, Ok, Err, refl, sym, ap, ◌∙◌, arith}
+use Rattle.std.proofs.Common.{◌≡◌, ℕ, suc, ◌+◌, ◌*◌, ◌/◌, ◌<◌, ◌≤◌, ◌^◌, Bool, true, false, cond, List, [], ◌∷◌, ◌++◌, length, get_or, Option, Some, None}
+use Rattle.std.proofs.Common.{Result, Ok, Err, refl, sym, ap, ◌∙◌, arith}
 use Rattle.std.specs.Prelude.{◌==◌, ◌&&◌, ◌||◌, not, All, is_none}
 use Rattle.std.specs.Option.{option_map}
 use Rattle.std.specs.List.{flat_map}
@@ -158,7 +159,12 @@ in_table m text =
     let names = names_part m in
     let names_end : 52 + 68 ≤ length m.file = omega (arith, stands_inside m.file symbol_names 52 m.laid.at_symbol_names, length-names) in
     let symbols_end : 172 + m.sizes.symbols ≤ length m.file =
-    omega (arith, stands_inside m.file (flat_map symbol_bytes m.all) 172 m.laid.at_symbols, length-items symbol_bytes 16 symbol_wide m.all, m.laid.symbols_len) in
+    omega (
+      arith,
+      stands_inside m.file (flat_map symbol_bytes m.all) 172 m.laid.at_symbols,
+      length-items symbol_bytes 16 symbol_wide m.all,
+      m.laid.symbols_len,
+    ) in
     rw (not_below (length m.file) (172 + m.sizes.symbols) symbols_end, (facts_of m).shnum, six, not_below (length m.file) (52 + 68) names_end, names)
     (among_all m text)
 

@@ -8,7 +8,8 @@ use Rattle.board_file.specs.Limits.{cells_of}
 use Rattle.flm_descriptor.specs.declared.items.SectorItem.{SectorItem}
 use Rattle.flm_forge.specs.declared.kind.Kind.{Kind}
 use Rattle.flm_forge.specs.Listed.{items_from}
-use Rattle.flm_forge.specs.Texts.{constant_lines, erase_chip_lines, erase_lines, erase_sector_lines, init_lines, lie_lines, lines, program_page_first, program_page_lines, text_of, un_init_first, un_init_lines, verify_lines}
+use Rattle.flm_forge.specs.Texts.{constant_lines, erase_chip_lines, erase_lines, erase_sector_lines, init_lines, lie_lines, lines, program_page_first}
+use Rattle.flm_forge.specs.Texts.{program_page_lines, text_of, un_init_first, un_init_lines, verify_lines}
 
 -- the text of some lines and of others behind them
 text_then : (a b : List (List ℕ)) (t : List ℕ) → text_of b ≡ t → text_of (a ++ b) ≡ text_of a ++ t
@@ -48,7 +49,8 @@ text_split kind base =
 
 -- the item of one run more
 pub items_more : (runs : List SectorRun) (i offset : ℕ) (d : SectorRun) (made : List SectorItem) → i < length runs
-    → (made ++ record { size = (get_or runs i d).size; offset = offset } ∷ []) ++ items_from (offset + (get_or runs i d).count * (get_or runs i d).size) (drop (i + 1) runs)
+    → (made ++ record { size = (get_or runs i d).size; offset = offset } ∷ []) ++ items_from (offset + (get_or runs i d).count * (get_or runs i d).size)
+    (drop (i + 1) runs)
     ≡ made ++ items_from offset (drop i runs)
 unfolding items_from
 items_more runs i offset d made less =

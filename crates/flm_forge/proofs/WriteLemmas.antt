@@ -26,7 +26,8 @@ six_parts start p1 p2 p3 p4 p5 p6 o1 o2 o3 o4 o5 o6 e1 e2 e3 e4 e5 e6 =
     rw (e6, e5, e4, e3, e2, e1) (simp append_assoc)
 
 pub eleven_parts : (start p1 p2 p3 p4 p5 p6 p7 p8 p9 p10 p11 o1 o2 o3 o4 o5 o6 o7 o8 o9 o10 o11 : List ℕ)
-    → o1 ≡ start ++ p1 → o2 ≡ o1 ++ p2 → o3 ≡ o2 ++ p3 → o4 ≡ o3 ++ p4 → o5 ≡ o4 ++ p5 → o6 ≡ o5 ++ p6 → o7 ≡ o6 ++ p7 → o8 ≡ o7 ++ p8 → o9 ≡ o8 ++ p9 → o10 ≡ o9 ++ p10 → o11 ≡ o10 ++ p11
+    → o1 ≡ start ++ p1 → o2 ≡ o1 ++ p2 → o3 ≡ o2 ++ p3 → o4 ≡ o3 ++ p4 → o5 ≡ o4 ++ p5 → o6 ≡ o5 ++ p6 → o7 ≡ o6 ++ p7 → o8 ≡ o7 ++ p8 → o9 ≡ o8 ++ p9 →
+    o10 ≡ o9 ++ p10 → o11 ≡ o10 ++ p11
     → o11 ≡ start ++ (p1 ++ (p2 ++ (p3 ++ (p4 ++ (p5 ++ (p6 ++ (p7 ++ (p8 ++ (p9 ++ (p10 ++ (p11)))))))))))
 eleven_parts start p1 p2 p3 p4 p5 p6 p7 p8 p9 p10 p11 o1 o2 o3 o4 o5 o6 o7 o8 o9 o10 o11 e1 e2 e3 e4 e5 e6 e7 e8 e9 e10 e11 =
     rw (e11, e10, e9, e8, e7, e6, e5, e4, e3, e2, e1) (simp append_assoc)

@@ -113,7 +113,8 @@ unfoldable pub program : FlashMap → State → Found → ℕ → ℕ → List �
 program map s found width value seen =
     if not (nat_eq width 2) then (effect.Fault, s)
     else if not (may_program s) then becomes s
-    else if nat_eq (half_of value) 0 || all_are 0xFF seen then (effect.Begins (record { work = work.Half value; place = found.place; ticks = map.program_ticks }), s)
+    else if nat_eq (half_of value) 0 || all_are 0xFF seen then
+    (effect.Begins (record { work = work.Half value; place = found.place; ticks = map.program_ticks }), s)
     else becomes (record s { program_error = true })
 
 -- a store looks at the cells that may program, and not with 0

@@ -90,69 +90,85 @@ all_done (y ∷ ys) (suc i) x less is = all_done ys i x (omega (arith, less)) (d
 none_left : (ends : List Outcome) → ((i : ℕ) (x : Outcome) → i < length ends → (get_or ends i x).end ≡ ended.Done) → status_in ends ≡ 0
 none_left [] each = refl
 none_left (y ∷ ys) each =
-    ap (λ (e : TargetEnd). status_before (reason_in y.regions e) (status_in ys)) (each 0 y (omega arith)) ∙ none_left ys (λ i x less. each (suc i) x (omega (arith, less)))
+    ap (λ (e : TargetEnd). status_before (reason_in y.regions e) (status_in ys)) (each 0 y (omega arith))
+    ∙ none_left ys (λ i x less. each (suc i) x (omega (arith, less)))
 
 -- ---- where the algorithms keep their duties
 
 abbrev pub Reaches : {B : Type 0} → Ghosts B → Type 0
-Reaches {B} G = (j : Job) (w : Surveyed) (e : SessionEnd) (start now : B) → IsTrue G.tells → StandsFor j (G.state start).file → (G.state start).cell_count ≡ size_of j.board.regions
-    → JobServes j → IsAsSurveyed G.tells j (G.state start) w → Goes j w e (G.state start) (G.state now) → is_device_fault (end_fault e) ≡ false → is_store_fault (end_fault e) ≡ false → IsReached e
+Reaches {B} G = (j : Job) (w : Surveyed) (e : SessionEnd) (start now : B) → IsTrue G.tells → StandsFor j (G.state start).file
+    → (G.state start).cell_count ≡ size_of j.board.regions
+    → JobServes j → IsAsSurveyed G.tells j (G.state start) w → Goes j w e (G.state start) (G.state now) → is_device_fault (end_fault e) ≡ false
+    → is_store_fault (end_fault e) ≡ false → IsReached e
 
-module _ {B : Type 0} (G : Ghosts B) (told : IsTrue G.tells) (law : Reaches G) (s : BenchState) (x : Outcome) (after : B) (served : IsServed s) (none_rose : NoneRose s (G.state after)) where
+module _ {B : Type 0} (G : Ghosts B) (told : IsTrue G.tells) (law : Reaches G) (s : BenchState) (x : Outcome) (after : B) (served : IsServed s)
+    (none_rose : NoneRose s (G.state after)) where
   reached_by : (c : Carries G s x (G.state after)) (e : SessionEnd)
-      → Follows (job_legs c.job c.surveyed s.file) (goal_in c.job New s.file) (job_start c.job (G.state c.begun).cells) e (G.state c.begun) (G.state after) → is_device_fault (end_fault e) ≡ false → is_store_fault (end_fault e) ≡ false → IsReached e
+      → Follows (job_legs c.job c.surveyed s.file) (goal_in c.job New s.file) (job_start c.job (G.state c.begun).cells) e (G.state c.begun) (G.state after)
+      → is_device_fault (end_fault e) ≡ false → is_store_fault (end_fault e) ≡ false → IsReached e
   reached_by c e follows device store =
       let begun = G.state c.begun in
       let file : begun.file ≡ s.file = c.looked.file told in
       let one : AreOne served.some.job c.stands.text served.some.board (board.shown c.job.board) served.some.algorithms (algorithms_shown c.job.algorithms) =
       one_job s.file served.some.is c.stands.is served.some.whole c.stands.whole in
-      let serves : JobServes c.job = subst (λ (b : board.Shown). AllServe b (algorithms_shown c.job.algorithms)) one.board (subst (λ (xs : List flm.Shown). AllServe served.some.board xs) one.algorithms served.serves) in
+      let serves : JobServes c.job = subst (λ (b : board.Shown). AllServe b (algorithms_shown c.job.algorithms)) one.board
+      (subst (λ (xs : List flm.Shown). AllServe served.some.board xs) one.algorithms served.serves) in
       let found : HasSurveyed G.tells c.job c.surveyed.goal begun.file begun.cells c.surveyed =
       subst (λ (g : Goal). HasSurveyed G.tells c.job g begun.file begun.cells c.surveyed) (sym c.found.goal)
       (subst (λ (f : List ℕ). HasSurveyed G.tells c.job New f begun.cells c.surveyed) (sym file) c.found) in
       let goes : Goes c.job c.surveyed e begun (G.state after) =
-      subst (λ (l : List Leg). Follows l (goal_in c.job c.surveyed.goal begun.file) (job_start c.job begun.cells) e begun (G.state after)) (ap (λ (f : List ℕ). job_legs c.job c.surveyed f) (sym file))
+      subst (λ (l : List Leg). Follows l (goal_in c.job c.surveyed.goal begun.file) (job_start c.job begun.cells) e begun (G.state after))
+      (ap (λ (f : List ℕ). job_legs c.job c.surveyed f) (sym file))
       (subst (λ (g : List ℕ). Follows (job_legs c.job c.surveyed s.file) g (job_start c.job begun.cells) e begun (G.state after))
       (ap (λ (g : Goal). goal_in c.job g s.file) (sym c.found.goal) ∙ ap (λ (f : List ℕ). goal_in c.job c.surveyed.goal f) (sym file)) follows) in
-      law c.job c.surveyed e c.begun after told (subst (λ (f : List ℕ). StandsFor c.job f) (sym file) c.stands) (c.looked.count ∙ sym c.sized) serves found goes device store
+      law c.job c.surveyed e c.begun after told (subst (λ (f : List ℕ). StandsFor c.job f) (sym file) c.stands) (c.looked.count ∙ sym c.sized) serves found goes
+      device store
 
-  opened_by : (fault : SessionFault) → OpensWithMemory fault → IsSessionFault s.file s.cell_count fault → IsCounted s.store_faults (G.state after).store_faults (is_store_fault (target_fault (ended.Open fault)))
+  opened_by : (fault : SessionFault) → OpensWithMemory fault → IsSessionFault s.file s.cell_count fault
+      → IsCounted s.store_faults (G.state after).store_faults (is_store_fault (target_fault (ended.Open fault)))
       → IsCounted s.device_faults (G.state after).device_faults (is_device_fault (target_fault (ended.Open fault))) → ⊥
   opened_by session.OutOfMemory memory is store device = memory
   opened_by (session.Open opening.OutOfMemory) memory is store device = is
   opened_by (session.Open opening.NoJob) memory is store device = not_free served.some.job s.file served.some.whole is
-  opened_by (session.Open (opening.NotAJob at)) memory is store device = is.none.no_job served.some.job served.some.board served.some.algorithms served.some.is served.some.whole
-  opened_by (session.Open (opening.Damaged kept found)) memory is store device = is.none.no_job served.some.job served.some.board served.some.algorithms served.some.is served.some.whole
+  opened_by (session.Open (opening.NotAJob at)) memory is store device =
+      is.none.no_job served.some.job served.some.board served.some.algorithms served.some.is served.some.whole
+  opened_by (session.Open (opening.Damaged kept found)) memory is store device =
+      is.none.no_job served.some.job served.some.board served.some.algorithms served.some.is served.some.whole
   opened_by (session.Open opening.StoreFault) memory is store device = none_rose.store (store.on_fault refl)
   opened_by (session.Open (opening.CellsDiffer said found)) memory is store device =
       let one = one_job s.file is.some.is served.some.is is.some.whole served.some.whole in
       is.differ (is.said_is ∙ ap (λ (b : board.Shown). size_of b.regions) one.board ∙ served.size ∙ sym is.found_is)
   opened_by session.DeviceFault memory is store device = none_rose.device (device.on_fault refl)
 
-  surveyed_by : (fault : SurveyFault) → HasMemory fault → IsCounted s.store_faults (G.state after).store_faults (is_store_fault (target_fault (ended.Survey fault)))
+  surveyed_by : (fault : SurveyFault) → HasMemory fault → IsCounted s.store_faults (G.state after).store_faults
+      (is_store_fault (target_fault (ended.Survey fault)))
       → IsCounted s.device_faults (G.state after).device_faults (is_device_fault (target_fault (ended.Survey fault))) → ⊥
   surveyed_by survey.OutOfMemory memory store device = memory
   surveyed_by survey.DeviceFault memory store device = none_rose.device (device.on_fault refl)
   surveyed_by survey.StoreFault memory store device = none_rose.store (store.on_fault refl)
 
-  done_by : (e : TargetEnd) → x.end ≡ e → IsSound s.cell_count e → IsCounted s.store_faults (G.state after).store_faults (is_store_fault (target_fault e)) → IsCounted s.device_faults (G.state after).device_faults (is_device_fault (target_fault e))
+  done_by : (e : TargetEnd) → x.end ≡ e → IsSound s.cell_count e → IsCounted s.store_faults (G.state after).store_faults (is_store_fault (target_fault e))
+      → IsCounted s.device_faults (G.state after).device_faults (is_device_fault (target_fault e))
       → Comes G s x (G.state after) e → e ≡ ended.Done
   done_by ended.Done is sound store device comes = refl
   done_by (ended.Open fault) is sound store device comes = absurd (opened_by fault sound.0 comes.1 store device)
   done_by (ended.Survey fault) is sound store device comes = absurd (surveyed_by fault sound store device)
   done_by (ended.CallFailed number call e) is sound store device comes =
       absurd (reached_by comes (end.CallFailed number call e)
-      (subst (λ (f : TargetEnd). FollowsAs (job_legs comes.job comes.surveyed s.file) (goal_in comes.job New s.file) (job_start comes.job (G.state comes.begun).cells) f (G.state comes.begun) (G.state after)) is comes.follows) refl refl)
+      (subst (λ (f : TargetEnd). FollowsAs (job_legs comes.job comes.surveyed s.file) (goal_in comes.job New s.file)
+      (job_start comes.job (G.state comes.begun).cells) f (G.state comes.begun) (G.state after)) is comes.follows) refl refl)
   done_by (ended.Mismatch d) is sound store device comes =
       absurd (reached_by comes (end.Mismatch d)
-      (subst (λ (f : TargetEnd). FollowsAs (job_legs comes.job comes.surveyed s.file) (goal_in comes.job New s.file) (job_start comes.job (G.state comes.begun).cells) f (G.state comes.begun) (G.state after)) is comes.follows) refl refl)
+      (subst (λ (f : TargetEnd). FollowsAs (job_legs comes.job comes.surveyed s.file) (goal_in comes.job New s.file)
+      (job_start comes.job (G.state comes.begun).cells) f (G.state comes.begun) (G.state after)) is comes.follows) refl refl)
   done_by ended.StoreFault is sound store device comes = absurd (none_rose.store (store.on_fault refl))
   done_by ended.DeviceFault is sound store device comes = absurd (none_rose.device (device.on_fault refl))
 
 -- ---- a whole call
 
 -- what turns left of a gang that was opened
-pub have_ended : {B : Type 0} (G : Ghosts B) (benches begun after : List B) (opened : Gang) (out err : SinkCall) (status : ℕ) → length begun ≡ length benches → AreOpened G benches opened begun → AreReady G opened begun
+pub have_ended : {B : Type 0} (G : Ghosts B) (benches begun after : List B) (opened : Gang) (out err : SinkCall) (status : ℕ) → length begun ≡ length benches
+    → AreOpened G benches opened begun → AreReady G opened begun
     → Runs G opened begun after out err status → HaveEnded G benches after out err status
 have_ended G benches begun after opened out err status long are ready runs = record {
   ends = outcomes runs.now;
@@ -181,7 +197,8 @@ module _ {B : Type 0} (G : Ghosts B) (words : ℕ) (benches after : List B) (out
         (record {
           files = goes_here (file_half s);
           cells = goes_here (cells_half s);
-          each = λ k f c from to f_at c_at. let is : k ≡ s.moment = omega (arith, from, to) in (subst (λ (n : ℕ). s.files_at n f) is f_at, subst (λ (n : ℕ). s.cells_at n c) is c_at);
+          each = λ k f c from to f_at c_at. let is : k ≡ s.moment = omega (arith, from, to) in
+              (subst (λ (n : ℕ). s.files_at n f) is f_at, subst (λ (n : ℕ). s.cells_at n c) is c_at);
         })
         (λ is_zero. omega (arith, two, is_zero)))
 
@@ -198,7 +215,8 @@ module _ {B : Type 0} (G : Ghosts B) (words : ℕ) (benches after : List B) (out
     memory_finished is = absurd (omega (arith, memory_is, is))
 
     pub memory_keeps : AllKeep G status benches after
-    memory_keeps i d less = looked_on status (G.state (get_or benches i d)) (G.state (get_or after i d)) (wants.looked i d less).pairs (λ is_zero. omega (arith, memory_is, is_zero))
+    memory_keeps i d less = looked_on status (G.state (get_or benches i d)) (G.state (get_or after i d)) (wants.looked i d less).pairs
+        (λ is_zero. omega (arith, memory_is, is_zero))
 
   -- all have ended
 
@@ -230,18 +248,22 @@ module _ {B : Type 0} (G : Ghosts B) (words : ℕ) (benches after : List B) (out
     pub ended_keeps : IsTrue G.tells → AllKeep G status benches after
     ended_keeps told i d less =
         let x : Outcome = get_or have.ends i none in
-        keeps_by G status (G.state (get_or benches i d)) x (G.state (get_or after i d)) x.end refl ((have.ended i d none less).comes told) (λ is_zero. zero_done is_zero i none less)
+        keeps_by G status (G.state (get_or benches i d)) x (G.state (get_or after i d)) x.end refl ((have.ended i d none less).comes told)
+        (λ is_zero. zero_done is_zero i none less)
 
-    complete_at : Reaches G → (d : B) → IsTrue G.tells → AllServed G benches → NoneRoseIn G benches after → (Rose out.before.faults out.after.faults → ⊥) → status ≡ 0
+    complete_at : Reaches G → (d : B) → IsTrue G.tells → AllServed G benches → NoneRoseIn G benches after → (Rose out.before.faults out.after.faults → ⊥)
+        → status ≡ 0
     complete_at law d told served none_rose quiet = ⊎_elim
         (λ whole. whole.1 ∙ none_left have.ends (λ i x less.
         let within : i < length benches = omega (arith, less, have.each) in
         let one = have.ended i d x within in
-        done_by G told law (G.state (get_or benches i d)) (get_or have.ends i x) (get_or after i d) (served i d within) (none_rose i d within) (get_or have.ends i x).end refl one.sound one.store one.device (one.comes told)))
+        done_by G told law (G.state (get_or benches i d)) (get_or have.ends i x) (get_or after i d) (served i d within) (none_rose i d within)
+        (get_or have.ends i x).end refl one.sound one.store one.device (one.comes told)))
         (λ part. absurd (quiet part.0.rose))
         have.says
 
-    pub ended_complete : Reaches G → IsTrue G.tells → AllServed G benches → NoneRoseIn G benches after → (Rose out.before.faults out.after.faults → ⊥) → status ≡ 0
+    pub ended_complete : Reaches G → IsTrue G.tells → AllServed G benches → NoneRoseIn G benches after → (Rose out.before.faults out.after.faults → ⊥)
+        → status ≡ 0
     ended_complete law told served none_rose quiet = some benches (some_benches words (length benches) fits)
       where
         some : (l : List B) → 0 < length l → status ≡ 0

@@ -1,5 +1,5 @@
 -- A target whose job was opened and surveyed, and which has ended.
-use Rattle.std.proofs.Common.{◌≡◌, ◌⊎◌, ⊎_elim, inl, inr, ◌<◌, ◌≤◌, ◌∙◌, refl, sym, ap, subst, arith, ℕ, IsTrue, List, [], length, get_or, map, Some}
+use Rattle.std.proofs.Common.{◌≡◌, ◌⊎◌, ⊎_elim, inl, inr, ◌<◌, ◌≤◌, ◌∙◌, refl, sym, ap, subst, arith, ℕ, IsTrue, List, [], length, get_or, Some}
 use Rattle.std.proofs.lemmas.Bool.{cases_lt}
 use Rattle.std.proofs.lemmas.List.{get_or-map}
 use Rattle.bench_model.specs.declared.bench.Bench.{Ghosts}
@@ -83,7 +83,8 @@ comes_script G s o t (ended.Mismatch d) is carries = carries
 comes_script G s o t ended.StoreFault is carries = carries
 comes_script G s o t ended.DeviceFault is carries = carries
 
-differs_inside : (legs : List Leg) (goal : List ℕ) (a : Stand) (e : TargetEnd) (m t : BenchState) (d : Difference) → FollowsAs legs goal a e m t → e ≡ ended.Mismatch d → d.at < length goal
+differs_inside : (legs : List Leg) (goal : List ℕ) (a : Stand) (e : TargetEnd) (m t : BenchState) (d : Difference) → FollowsAs legs goal a e m t
+    → e ≡ ended.Mismatch d → d.at < length goal
 differs_inside legs goal a e m t d follows is =
     let f : FollowsAs legs goal a (ended.Mismatch d) m t = subst (λ (x : TargetEnd). FollowsAs legs goal a x m t) is follows in
     f.ends.1.inside
@@ -91,13 +92,16 @@ differs_inside legs goal a e m t d follows is =
 -- ---- stops
 
 -- what a stop leaves that only looked at first, and then came to its own close
-pairs_behind : (s m t : BenchState) (at : ℕ) (body goal laid : List ℕ) → PairsLeave s m (Left s) → GoesOn (file_half m) (file_half t) → GoesOn (cells_half m) (cells_half t)
-    → PairsInTurn m t at (HasBody body) (guarded.IsAtClose body goal) → goal ≡ laid → PairsInTurn s t at (λ f c. Left s f c ⊎ IsWhole body f) (IsAtClose body laid)
+pairs_behind : (s m t : BenchState) (at : ℕ) (body goal laid : List ℕ) → PairsLeave s m (Left s) → GoesOn (file_half m) (file_half t)
+    → GoesOn (cells_half m) (cells_half t)
+    → PairsInTurn m t at (HasBody body) (guarded.IsAtClose body goal) → goal ≡ laid
+    → PairsInTurn s t at (λ f c. Left s f c ⊎ IsWhole body f) (IsAtClose body laid)
 pairs_behind s m t at body goal laid first files cells next is = record {
   started = omega (arith, first.files.later, next.started);
   later = omega (arith, first.files.later, next.later);
   before = λ k f c from to less f_at c_at. ⊎_elim
-      (λ (early : k < m.moment). inl (first.each k f c from (omega (arith, early)) ((files.past k f (omega (arith, early))).0 f_at) ((cells.past k c (omega (arith, early))).0 c_at)))
+      (λ (early : k < m.moment). inl (first.each k f c from (omega (arith, early)) ((files.past k f (omega (arith, early))).0 f_at)
+      ((cells.past k c (omega (arith, early))).0 c_at)))
       (λ (late : m.moment ≤ k). inr (next.before k f c late to less f_at c_at))
       (cases_lt k m.moment);
   from = λ k f c from to f_at c_at. let both = next.from k f c from to f_at c_at in record { whole_or_closed = both.0; done = both.1 ∙ is };
@@ -109,7 +113,8 @@ abbrev carried_to : TargetEnd → Job → Outcome
 carried_to e k = record { end = e; regions = Some k.board.regions }
 
 module _ {B : Type 0} (G : Ghosts B) (s : BenchState) (begun : B) (t : BenchState) (arena arena' : List (List ℕ)) (x : GangTarget) (new : Slot)
-    (begins : Begins G.tells x arena s (G.state begun)) (looked : IsLookedAt G.tells s (G.state begun)) (ready : IsReady G.tells (slot.Target x) arena (G.state begun)) (over : slot_turn new ≡ turn.Ended) where
+    (begins : Begins G.tells x arena s (G.state begun)) (looked : IsLookedAt G.tells s (G.state begun))
+    (ready : IsReady G.tells (slot.Target x) arena (G.state begun)) (over : slot_turn new ≡ turn.Ended) where
   abbrev m : BenchState
   m = G.state begun
 
@@ -156,9 +161,11 @@ module _ {B : Type 0} (G : Ghosts B) (s : BenchState) (begun : B) (t : BenchStat
 
     follows_so : FollowsAs (job_legs j begins.surveyed s.file) (goal_in j New s.file) (job_start j m.cells) alone.end m t
     follows_so =
-        subst (λ (a : Stand). FollowsAs (job_legs j begins.surveyed s.file) (goal_in j New s.file) a alone.end m t) (ap (λ (w : World). stand_at 0 w) (begins.world m.cells))
+        subst (λ (a : Stand). FollowsAs (job_legs j begins.surveyed s.file) (goal_in j New s.file) a alone.end m t)
+        (ap (λ (w : World). stand_at 0 w) (begins.world m.cells))
         (subst (λ (g : List ℕ). FollowsAs (job_legs j begins.surveyed s.file) g first_stand alone.end m t) goal_is
-        (subst (λ (l : List Leg). FollowsAs l (goal_for x.job x.player m.file) first_stand alone.end m t) (begins.legs ∙ ap (λ (f : List ℕ). job_legs j begins.surveyed f) same_file) alone.follows))
+        (subst (λ (l : List Leg). FollowsAs l (goal_for x.job x.player m.file) first_stand alone.end m t)
+        (begins.legs ∙ ap (λ (f : List ℕ). job_legs j begins.surveyed f) same_file) alone.follows))
 
     its_carries : Carries G s its t
     its_carries = record {
@@ -179,7 +186,8 @@ module _ {B : Type 0} (G : Ghosts B) (s : BenchState) (begun : B) (t : BenchStat
       closed = alone.idle;
       turn = alone.pairs.0;
       stops = record {
-        pairs = pairs_behind s m t alone.pairs.0 (body_of stands.text) (goal_for x.job x.player m.file) (overlaid j.image j.board.regions stands.text.snapshot) looked.pairs since.files since.goes.moments.goes_on alone.pairs.1
+        pairs = pairs_behind s m t alone.pairs.0 (body_of stands.text) (goal_for x.job x.player m.file) (overlaid j.image j.board.regions stands.text.snapshot)
+            looked.pairs since.files since.goes.moments.goes_on alone.pairs.1
             (goal_is ∙ ap (λ (c : List ℕ). overlaid j.image j.board.regions c) (sym stands.snapshot));
       };
     }
@@ -189,9 +197,20 @@ module _ {B : Type 0} (G : Ghosts B) (s : BenchState) (begun : B) (t : BenchStat
 
     not_refused : ComesBy s (outcome_of new).end
     not_refused = of_job s (outcome_of new).end
-        (record { some = record { job = stands.text; board = board.shown j.board; algorithms = algorithms_shown j.algorithms; is = stands.is; whole = stands.whole }; size = sized })
+        (record {
+          some = record {
+            job = stands.text;
+            board = board.shown j.board;
+            algorithms = algorithms_shown j.algorithms;
+            is = stands.is;
+            whole =
+                stands.whole;
+          };
+          size = sized;
+        })
 
-  pub target_ends : TargetKept x m new t → IsSlot new → (IsTrue G.tells → (a : Stand) → SlotStands a [] (slot.Target x) arena m → SlotSince a [] (slot.Target x) m new arena' t) → EndsOn G s (outcome_of new) t
+  pub target_ends : TargetKept x m new t → IsSlot new → (IsTrue G.tells → (a : Stand) → SlotStands a [] (slot.Target x) arena m
+      → SlotSince a [] (slot.Target x) m new arena' t) → EndsOn G s (outcome_of new) t
   target_ends kept lawful since =
       let y : GangTarget = kept.target in
       let at : (e : TargetEnd) × (y.player.place ≡ place.Ended e) = over_place y.player.place (ap slot_turn (sym kept.is) ∙ over) in
@@ -212,8 +231,10 @@ module _ {B : Type 0} (G : Ghosts B) (s : BenchState) (begun : B) (t : BenchStat
 -- ---- each place of a gang
 
 module _ {B : Type 0} (G : Ghosts B) where
-  slot_ends : (old : Slot) (arena arena' : List (List ℕ)) (s : BenchState) (begun bench : B) (new : Slot) → IsOpened G.tells old arena s (G.state begun) → IsReady G.tells old arena (G.state begun) → SlotKept G old begun new bench → IsSlot new
-      → slot_turn new ≡ turn.Ended → (IsTrue G.tells → (a : Stand) → SlotStands a [] old arena (G.state begun) → SlotSince a [] old (G.state begun) new arena' (G.state bench)) → EndsOn G s (outcome_of new) (G.state bench)
+  slot_ends : (old : Slot) (arena arena' : List (List ℕ)) (s : BenchState) (begun bench : B) (new : Slot) → IsOpened G.tells old arena s (G.state begun)
+      → IsReady G.tells old arena (G.state begun) → SlotKept G old begun new bench → IsSlot new
+      → slot_turn new ≡ turn.Ended → (IsTrue G.tells → (a : Stand) → SlotStands a [] old arena (G.state begun)
+      → SlotSince a [] old (G.state begun) new arena' (G.state bench)) → EndsOn G s (outcome_of new) (G.state bench)
   slot_ends (slot.Refused e) arena arena' s begun bench new opened ready kept lawful over since =
       subst (λ (b : B). EndsOn G s (outcome_of new) (G.state b)) (sym kept.1)
       (subst (λ (n : Slot). EndsOn G s (outcome_of n) (G.state begun)) (sym kept.0) (refused_ends G s (G.state begun) e opened.0 opened.1))
@@ -221,11 +242,15 @@ module _ {B : Type 0} (G : Ghosts B) where
       let going : IsUnended x.player.place = subst (λ (p : Place). IsUnended p) (sym opened.1.place) tt in
       target_ends G s begun (G.state bench) arena arena' x new opened.1 opened.0 ready over (kept going) lawful since
 
-  pub all_end : (benches begun after : List B) (opened now : Gang) → length begun ≡ length benches → length after ≡ length begun → length after ≡ length now.slots.items → AreOpened G benches opened begun → AreReady G opened begun
-      → AllKept G opened begun now after → AllSince G opened begun now after → IsGang now → HasEndedUpto now (length begun) → AllEndOn G benches (outcomes now) after
+  pub all_end : (benches begun after : List B) (opened now : Gang) → length begun ≡ length benches → length after ≡ length begun
+      → length after ≡ length now.slots.items → AreOpened G benches opened begun → AreReady G opened begun
+      → AllKept G opened begun now after → AllSince G opened begun now after → IsGang now → HasEndedUpto now (length begun)
+      → AllEndOn G benches (outcomes now) after
   all_end benches begun after opened now long count places are ready kept since gang over i d x less =
       let inside : i < length begun = omega (arith, less, long) in
       let within : i < length now.slots.items = omega (arith, inside, count, places) in
-      subst (λ (o : Outcome). EndsOn G (G.state (get_or benches i d)) o (G.state (get_or after i d))) (sym (get_or-map outcome_of now.slots.items i (slot.Refused (ended.Survey survey.StoreFault)) x within))
-      (slot_ends (slot_at opened i) opened.arena now.arena (G.state (get_or benches i d)) (get_or begun i d) (get_or after i d) (slot_at now i) (are i d less) (ready i d inside) (kept i d inside) (gang.slots i) (over i inside)
+      subst (λ (o : Outcome). EndsOn G (G.state (get_or benches i d)) o (G.state (get_or after i d)))
+      (sym (get_or-map outcome_of now.slots.items i (slot.Refused (ended.Survey survey.StoreFault)) x within))
+      (slot_ends (slot_at opened i) opened.arena now.arena (G.state (get_or benches i d)) (get_or begun i d) (get_or after i d) (slot_at now i) (are i d less)
+      (ready i d inside) (kept i d inside) (gang.slots i) (over i inside)
       (λ told a stood. since i d a [] inside told stood))

@@ -1,7 +1,6 @@
 -- What a place of a gang shows of a target that has ended.
 use Rattle.std.proofs.Common.{◌≡◌, refl, ap, Option, Some, None}
 use Rattle.std.specs.Borrow.{Bor}
-use Rattle.job_text.specs.Laid.{address_at}
 use Rattle.job_text.specs.declared.job.Job.{Job}
 use Rattle.flash_session.specs.declared.cursor.Place.{Place}
 use Rattle.flash_session.specs.declared.cursor.Place.TheVariants as place

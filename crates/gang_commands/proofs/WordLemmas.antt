@@ -39,4 +39,5 @@ not_fit words benches w n b isn't found same_words same_benches fit =
     let e : false ≡ true = sym isn't ∙ found.1 (subst (λ (m : ℕ). DoFit m n) (sym same_words) (subst (λ (m : ℕ). DoFit words m) (sym same_benches) fit)) in cc
 
 pub does_fit : (words benches w n : ℕ) (b : Bool) → b ≡ true → (b ≡ true) ↔ DoFit w n → w ≡ words → n ≡ benches → DoFit words benches
-does_fit words benches w n b is found same_words same_benches = subst (λ (m : ℕ). DoFit m benches) same_words (subst (λ (m : ℕ). DoFit w m) same_benches (found.0 is))
+does_fit words benches w n b is found same_words same_benches =
+    subst (λ (m : ℕ). DoFit m benches) same_words (subst (λ (m : ℕ). DoFit w m) same_benches (found.0 is))

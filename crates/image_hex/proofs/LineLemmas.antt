@@ -1,5 +1,6 @@
 -- What is at fault with a line of Intel HEX, and what taking it answers.
-use Rattle.std.proofs.Common.{◌≡◌, ◌++◌, ◌≤◌, ◌+◌, ◌-◌, ◌*◌, ℕ, Bool, true, false, cond, List, [], ◌∷◌, Option, Some, None, Ok, Err, length, get_or, take, drop, refl, sym, ap, subst}
+use Rattle.std.proofs.Common.{◌≡◌, ◌++◌, ◌≤◌, ◌+◌, ◌-◌, ◌*◌, ℕ, Bool, true, false, cond, List, [], ◌∷◌, Option, Some, None, Ok, Err, length, get_or, take, drop}
+use Rattle.std.proofs.Common.{refl, sym, ap, subst}
 use Rattle.std.specs.Prelude.{◌==◌, ◌&&◌, ◌||◌, not, nat_lt, slice_range}
 use Rattle.std.specs.List.{list_all}
 use Rattle.byte_map.specs.Image.{Run}
@@ -55,20 +56,24 @@ pub proper_line : (line : List ℕ) → IsProper (read_line line)
 proper_line [] = tt
 proper_line (first ∷ digits) =
     proper (first == 58) _ _
-    (proper (not (list_all is_hex_digit digits)) _ _ tt (proper (nat_lt (length digits) 10 || not (length digits == 10 + 2 * get_or (pairs digits) 0 0)) _ _ tt (proper_checked (pairs digits)))) tt
+    (proper (not (list_all is_hex_digit digits)) _ _ tt (proper (nat_lt (length digits) 10 || not (length digits == 10 + 2 * get_or (pairs digits) 0 0)) _ _ tt
+    (proper_checked (pairs digits)))) tt
 
 of_clash : (o : Option Clash) (kind : HexKind) → or_clash hex None o ≡ Some kind → IsKindOfLine kind
 of_clash None kind is = let nothing : None ≡ Some kind = is in absurd (cc)
-of_clash (Some c) kind is = let some : Some (Conflict c.at c.old c.new) ≡ Some kind = is in let same : Conflict c.at c.old c.new ≡ kind = cc in subst IsKindOfLine same tt
+of_clash (Some c) kind is = let some : Some (Conflict c.at c.old c.new) ≡ Some kind = is in let same : Conflict c.at c.old c.new ≡ kind = cc in
+    subst IsKindOfLine same tt
 
-of_reading : (reading : Reading) (base : Base) (before : List Cell) (kind : HexKind) → IsProper reading → line_fault hex base before reading ≡ Some kind → IsKindOfLine kind
+of_reading : (reading : Reading) (base : Base) (before : List Cell) (kind : HexKind) → IsProper reading → line_fault hex base before reading ≡ Some kind →
+    IsKindOfLine kind
 of_reading (Ok None) base before kind proper_ is = let nothing : None ≡ Some kind = is in absurd (cc)
 of_reading (Ok (Some r)) base before kind proper_ is = of_clash (first_clash before (hex.cells base r)) kind is
 of_reading (Err fault) base before kind proper_ is = let some : Some fault ≡ Some kind = is in let same : fault ≡ kind = cc in subst IsKindOfLine same proper_
 
 of_line : (lines : List (List ℕ)) (line : ℕ) (kind : HexKind) → IsFaultOfLine hex lines line kind → IsKindOfLine kind
 of_line lines line kind is =
-    of_reading (read_line (line_at lines is.place)) (context_before hex lines is.place) (cells_before hex lines is.place) kind (proper_line (line_at lines is.place)) is.fault_is
+    of_reading (read_line (line_at lines is.place)) (context_before hex lines is.place) (cells_before hex lines is.place) kind
+    (proper_line (line_at lines is.place)) is.fault_is
 
 -- a fault of a line as the text's fault
 pub line_as_hex : (lines : List (List ℕ)) (line : ℕ) (kind : HexKind) → IsFaultOfLine hex lines line kind → IsHexFault lines line kind
@@ -86,19 +91,30 @@ pub faulty : (reading : Reading) (kind : HexKind) (before : List Cell) (base : B
 faulty reading kind before base is = ap (line_fault hex base before) is
 
 -- a data record whose bytes were added
-pub took_data : (reading : Reading) (before : List Cell) (base : Base) (offset : ℕ) (bytes : List ℕ) (image : List Run) → reading ≡ Ok (Some (Data offset bytes)) → length bytes ≤ 255
-    → (first_clash before (data_cells base offset bytes) ≡ None) × IsImageOf (data_cells base offset bytes ++ before) image → TakesLine hex reading before base base false image
+pub took_data : (reading : Reading) (before : List Cell) (base : Base) (offset : ℕ) (bytes : List ℕ) (image : List Run) →
+    reading ≡ Ok (Some (Data offset bytes)) → length bytes ≤ 255
+    → (first_clash before (data_cells base offset bytes) ≡ None) × IsImageOf (data_cells base offset bytes ++ before) image →
+    TakesLine hex reading before base base false image
 took_data reading before base offset bytes image is few laid =
     subst (λ (r : Reading). TakesLine hex r before base base false image) (sym is)
-    (record { right = ap (or_clash hex None) laid.0; ends_is = refl; known_is = refl; image_is = laid.1; own = consistent_data base offset bytes few; end_cells = tt })
+    (record {
+      right = ap (or_clash hex None) laid.0;
+      ends_is = refl;
+      known_is = refl;
+      image_is = laid.1;
+      own = consistent_data base offset bytes few;
+      end_cells = tt;
+    })
 
 -- or that clashed
-clash_as_line : (fault : ClashFault) (before : List Cell) (base : Base) (offset : ℕ) (bytes : List ℕ) → IsClashFault fault (first_clash before (data_cells base offset bytes))
+clash_as_line : (fault : ClashFault) (before : List Cell) (base : Base) (offset : ℕ) (bytes : List ℕ) →
+    IsClashFault fault (first_clash before (data_cells base offset bytes))
     → IsLineFault hex (Ok (Some (Data offset bytes))) before base (line_fault_of fault)
 clash_as_line (clash.Conflict at old new) before base offset bytes is = ap (or_clash hex None) is
 clash_as_line clash.OutOfMemory before base offset bytes is = tt
 
-pub clashed : (reading : Reading) (fault : ClashFault) (before : List Cell) (base : Base) (offset : ℕ) (bytes : List ℕ) → reading ≡ Ok (Some (Data offset bytes))
+pub clashed : (reading : Reading) (fault : ClashFault) (before : List Cell) (base : Base) (offset : ℕ) (bytes : List ℕ) →
+    reading ≡ Ok (Some (Data offset bytes))
     → IsClashFault fault (first_clash before (data_cells base offset bytes)) → IsLineFault hex reading before base (line_fault_of fault)
 clashed reading fault before base offset bytes is there =
     subst (λ (r : Reading). IsLineFault hex r before base (line_fault_of fault)) (sym is) (clash_as_line fault before base offset bytes there)

@@ -42,8 +42,10 @@ pub one_hex_fault : (lines : List (List ℕ)) (line other : ℕ) (a b : HexKind)
 one_hex_fault lines line other a b one two no_a no_b = ⊎_elim
     (λ (one : IsFaultOfLine hex lines line a). ⊎_elim
     (λ (two : IsFaultOfLine hex lines other b). let same = one_line_fault hex lines line other a b one two in (same.line_is, same.fault_is))
-    (λ (two : (b ≡ hex_kind.NoEnd) × HasNoEnd hex lines other). absurd (fault_or_no_end hex lines line other a one two.1)) (hex_fault_is lines other b two no_b))
+    (λ (two : (b ≡ hex_kind.NoEnd) × HasNoEnd hex lines other). absurd (fault_or_no_end hex lines line other a one two.1))
+    (hex_fault_is lines other b two no_b))
     (λ (one : (a ≡ hex_kind.NoEnd) × HasNoEnd hex lines line). ⊎_elim
     (λ (two : IsFaultOfLine hex lines other b). absurd (fault_or_no_end hex lines other line b two one.1))
-    (λ (two : (b ≡ hex_kind.NoEnd) × HasNoEnd hex lines other). (one_no_end hex lines line other one.1 two.1, one.0 ∙ sym two.0)) (hex_fault_is lines other b two no_b))
+    (λ (two : (b ≡ hex_kind.NoEnd) × HasNoEnd hex lines other). (one_no_end hex lines line other one.1 two.1, one.0 ∙ sym two.0))
+    (hex_fault_is lines other b two no_b))
     (hex_fault_is lines line a one no_a)

@@ -19,8 +19,10 @@ choice : (a b c : Bool) (x y z : Reading) → a ≡ true → b ≡ false → c �
 choice a b c x y z p q r =
     ap (λ (v : Bool). cond (not v) x (cond (b || not c) y z)) p ∙ ap (λ (v : Bool). cond (v || not c) y z) q ∙ ap (λ (v : Bool). cond (not v) y z) r
 
-pub read_right : (digits : List ℕ) (count : ℕ) → list_all is_hex_digit digits ≡ true → 10 ≤ length digits → count ≡ unwrap_or (pair_value (get_or digits 0 0) (get_or digits 1 0)) 0 → length digits ≡ 10 + 2 * count → read_digits digits ≡ checked (pairs digits)
+pub read_right : (digits : List ℕ) (count : ℕ) → list_all is_hex_digit digits ≡ true → 10 ≤ length digits →
+    count ≡ unwrap_or (pair_value (get_or digits 0 0) (get_or digits 1 0)) 0 → length digits ≡ 10 + 2 * count → read_digits digits ≡ checked (pairs digits)
 read_right digits count all least count_is long =
     let first : get_or (pairs digits) 0 0 ≡ count = get_or-pairs digits 0 (omega arith) ∙ sym count_is in
-    choice (list_all is_hex_digit digits) (nat_lt (length digits) 10) (length digits == 10 + 2 * get_or (pairs digits) 0 0) (Err BadDigit) (Err BadLength) (checked (pairs digits)) all (not_less (length digits) 10 least)
+    choice (list_all is_hex_digit digits) (nat_lt (length digits) 10) (length digits == 10 + 2 * get_or (pairs digits) 0 0) (Err BadDigit) (Err BadLength)
+    (checked (pairs digits)) all (not_less (length digits) 10 least)
     (same_number (length digits) (10 + 2 * get_or (pairs digits) 0 0) (omega (arith, first)))

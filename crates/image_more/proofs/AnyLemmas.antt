@@ -17,22 +17,26 @@ pub one_any_image : (raw_at : Option ℕ) (bytes : List ℕ) (a b : List Run) �
 one_any_image raw_at bytes a b one two = one_by (is_uf2 raw_at bytes) raw_at bytes a b one two
 
 -- an image of a file that is read so
-by : (uf2 : Bool) (raw_at : Option ℕ) (bytes : List ℕ) (image : List Run) → is_uf2 raw_at bytes ≡ uf2 → IsAnyImage raw_at bytes image → IsImageBy uf2 raw_at bytes image
+by : (uf2 : Bool) (raw_at : Option ℕ) (bytes : List ℕ) (image : List Run) → is_uf2 raw_at bytes ≡ uf2 → IsAnyImage raw_at bytes image →
+    IsImageBy uf2 raw_at bytes image
 by uf2 raw_at bytes image is any = subst (λ (b : Bool). IsImageBy b raw_at bytes image) is any
 
-pub any_memory_alone : (raw_at : Option ℕ) (bytes : List ℕ) (image : List Run) (fault : AnyFault) → IsAnyImage raw_at bytes image → IsAnyFault raw_at bytes fault → fault ≡ OutOfMemory
+pub any_memory_alone : (raw_at : Option ℕ) (bytes : List ℕ) (image : List Run) (fault : AnyFault) → IsAnyImage raw_at bytes image →
+    IsAnyFault raw_at bytes fault → fault ≡ OutOfMemory
 any_memory_alone raw_at bytes image (Image fault) one two = absurd (image_or_fault raw_at bytes image fault (by false raw_at bytes image two.0 one) two.1 two.2)
 any_memory_alone raw_at bytes image (Uf2 fault) one two = absurd (two.2 (uf2_memory_alone bytes image fault (by true raw_at bytes image two.0 one) two.1))
 any_memory_alone raw_at bytes image OutOfMemory one two = refl
 
-pub any_image_or_fault : (raw_at : Option ℕ) (bytes : List ℕ) (image : List Run) (fault : AnyFault) → IsAnyImage raw_at bytes image → IsAnyFault raw_at bytes fault
+pub any_image_or_fault : (raw_at : Option ℕ) (bytes : List ℕ) (image : List Run) (fault : AnyFault) → IsAnyImage raw_at bytes image →
+    IsAnyFault raw_at bytes fault
     → fault ≢ OutOfMemory → ⊥
 any_image_or_fault raw_at bytes image fault one two other = other (any_memory_alone raw_at bytes image fault one two)
 
 not_both : (raw_at : Option ℕ) (bytes : List ℕ) → is_uf2 raw_at bytes ≡ true → is_uf2 raw_at bytes ≡ false → ⊥
 not_both raw_at bytes is isn't = cc
 
-pub one_any_fault : (raw_at : Option ℕ) (bytes : List ℕ) (a b : AnyFault) → IsAnyFault raw_at bytes a → IsAnyFault raw_at bytes b → a ≢ OutOfMemory → b ≢ OutOfMemory → a ≡ b
+pub one_any_fault : (raw_at : Option ℕ) (bytes : List ℕ) (a b : AnyFault) → IsAnyFault raw_at bytes a → IsAnyFault raw_at bytes b → a ≢ OutOfMemory →
+    b ≢ OutOfMemory → a ≡ b
 one_any_fault raw_at bytes (Image a) (Image b) one two no_a no_b = ap Image (one_fault raw_at bytes a b one.1 two.1 one.2 two.2)
 one_any_fault raw_at bytes (Image a) (Uf2 b) one two no_a no_b = absurd (not_both raw_at bytes two.0 one.0)
 one_any_fault raw_at bytes (Uf2 a) (Image b) one two no_a no_b = absurd (not_both raw_at bytes one.0 two.0)

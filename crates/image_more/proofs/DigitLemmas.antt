@@ -1,5 +1,6 @@
 -- The digits of bytes, and the lines of a text.
-use Rattle.std.proofs.Common.{◌≡◌, ◌≢◌, ◌<◌, ◌≤◌, ◌+◌, ◌*◌, ◌/◌, ◌%◌, ◌++◌, ◌∙◌, sym, ap, refl, arith, ℕ, Bool, true, false, cond, List, [], ◌∷◌, length, get_or, take, Option, Some, append_assoc, zero-add}
+use Rattle.std.proofs.Common.{◌≡◌, ◌≢◌, ◌<◌, ◌≤◌, ◌+◌, ◌*◌, ◌/◌, ◌%◌, ◌++◌, ◌∙◌, sym, ap, refl, arith, ℕ, Bool, true, false, cond, List, [], ◌∷◌, length}
+use Rattle.std.proofs.Common.{get_or, take, Option, Some, append_assoc, zero-add}
 use Rattle.std.proofs.lemmas.List.{take_more}
 use Rattle.std.specs.Prelude.{◌==◌, ◌&&◌, nat_le, is_some, unwrap_or, map}
 use Rattle.std.specs.List.{All, list_all, range_with_len}
@@ -35,7 +36,8 @@ pub digits-are : (bytes : List ℕ) → All IsByte bytes → list_all is_hex_dig
 digits-are [] small = refl
 digits-are (byte ∷ bytes) small =
     let lt = All-head IsByte byte bytes small in
-    ap (λ (o : Option ℕ). is_some o && (is_hex_digit (upper_digit (byte % 16)) && list_all is_hex_digit (digits bytes))) (hex_value-upper_digit (byte / 16) (omega (arith, lt)))
+    ap (λ (o : Option ℕ). is_some o && (is_hex_digit (upper_digit (byte % 16)) && list_all is_hex_digit (digits bytes)))
+    (hex_value-upper_digit (byte / 16) (omega (arith, lt)))
     ∙ ap (λ (o : Option ℕ). is_some o && list_all is_hex_digit (digits bytes)) (hex_value-upper_digit (byte % 16) (omega arith))
     ∙ digits-are bytes (All-tail IsByte byte bytes small)
 
@@ -101,7 +103,8 @@ whole-marks : (line rest : List ℕ) → All IsMark line → whole_lines (line +
 unfolding whole_lines
 whole-marks [] rest marks = refl
 whole-marks (byte ∷ line) rest marks =
-    ap (λ (b : Bool). cond b ([] ∷ whole_lines (line ++ 10 ∷ rest)) (in_front byte (whole_lines (line ++ 10 ∷ rest)))) (no_feed byte (All-head IsMark byte line marks))
+    ap (λ (b : Bool). cond b ([] ∷ whole_lines (line ++ 10 ∷ rest)) (in_front byte (whole_lines (line ++ 10 ∷ rest))))
+    (no_feed byte (All-head IsMark byte line marks))
     ∙ ap (in_front byte) (whole-marks line rest (All-tail IsMark byte line marks))
 
 -- a text of such lines has them as its lines

@@ -1,5 +1,6 @@
 -- The text of a map as Intel HEX is read as the map.
-use Rattle.std.proofs.Common.{◌≡◌, ◌≤◌, ◌<◌, ◌+◌, ◌*◌, ◌/◌, ◌%◌, ◌++◌, ◌∙◌, sym, ap, subst, refl, arith, append_assoc, ℕ, suc, Bool, true, false, cond, List, [], ◌∷◌, length, Option, Some, None, Ok}
+use Rattle.std.proofs.Common.{◌≡◌, ◌≤◌, ◌<◌, ◌+◌, ◌*◌, ◌/◌, ◌%◌, ◌++◌, ◌∙◌, sym, ap, subst, refl, arith, append_assoc, ℕ, suc, Bool, true, false, cond, List}
+use Rattle.std.proofs.Common.{[], ◌∷◌, length, Option, Some, None, Ok}
 use Rattle.std.specs.Prelude.{◌==◌, codes, nat_le}
 use Rattle.std.specs.List.{All}
 use Rattle.std.proofs.lemmas.Bool.{eqb-true}
@@ -34,7 +35,8 @@ unfolding hex_value
 end_reads = refl
 
 two_bytes : (upper : ℕ) → upper < 65536 → All IsByte (upper / 256 ∷ upper % 256 ∷ [])
-two_bytes upper small = All-cons IsByte (upper / 256) (upper % 256 ∷ []) (omega (arith, small)) (All-cons IsByte (upper % 256) [] (omega arith) (All-nil IsByte))
+two_bytes upper small = All-cons IsByte (upper / 256) (upper % 256 ∷ []) (omega (arith, small))
+    (All-cons IsByte (upper % 256) [] (omega arith) (All-nil IsByte))
 
 upper_reads : (upper : ℕ) → upper < 65536 → read_line (upper_line upper) ≡ Ok (Some (Sets (Upper upper)))
 upper_reads upper small =
@@ -45,14 +47,16 @@ data_reads : (row : Run) → IsRow row → read_line (hex_line 0 (row.at % 65536
 data_reads row is = hex_read 0 (row.at % 65536) row.bytes (omega arith) (omega arith) (omega (arith, is.fits)) is.small
 
 -- the cells of a data record that doesn't wrap
-straight : (half offset : ℕ) (bytes : List ℕ) → half < 65536 → offset + length bytes ≤ 65536 → data_cells (Upper half) offset bytes ≡ cells_from (half * 65536 + offset) bytes
+straight : (half offset : ℕ) (bytes : List ℕ) → half < 65536 → offset + length bytes ≤ 65536 →
+    data_cells (Upper half) offset bytes ≡ cells_from (half * 65536 + offset) bytes
 straight half offset [] small fits = refl
 straight half offset (byte ∷ bytes) small fits =
     let at : (half * 65536 + offset) % 4294967296 ≡ half * 65536 + offset = omega (arith, small, fits) in
     let next : half * 65536 + (offset + 1) ≡ half * 65536 + offset + 1 = omega arith in
     let first : ℕ → Cell = λ n. record { at = n; byte = byte } in
     ap (λ (n : ℕ). first n ∷ data_cells (Upper half) (offset + 1) bytes) at
-    ∙ ap (λ (cells : List Cell). first (half * 65536 + offset) ∷ cells) (straight half (offset + 1) bytes small (omega (arith, fits)) ∙ ap (λ (n : ℕ). cells_from n bytes) next)
+    ∙ ap (λ (cells : List Cell). first (half * 65536 + offset) ∷ cells)
+    (straight half (offset + 1) bytes small (omega (arith, fits)) ∙ ap (λ (n : ℕ). cells_from n bytes) next)
 
 row_cells : (row : Run) → IsRow row → data_cells (Upper (row.at / 65536)) (row.at % 65536) row.bytes ≡ cells_from row.at row.bytes
 row_cells row is =
@@ -65,12 +69,16 @@ IsKnown None base = Unit {0}
 IsKnown (Some upper) base = base ≡ Upper upper
 
 module _ (lines : List (List ℕ)) where
-  upper_step : (n upper : ℕ) (rest : List (List ℕ)) (base : Base) (cells : List Cell) → upper < 65536 → Stands hex lines n (upper_line upper ∷ rest) base cells → Stands hex lines (suc n) rest (Upper upper) cells
-  upper_step n upper rest base cells small h = stands_more hex lines n (upper_line upper) rest base cells h (Ok (Some (Sets (Upper upper)))) (upper_reads upper small) refl refl
+  upper_step : (n upper : ℕ) (rest : List (List ℕ)) (base : Base) (cells : List Cell) → upper < 65536 →
+      Stands hex lines n (upper_line upper ∷ rest) base cells → Stands hex lines (suc n) rest (Upper upper) cells
+  upper_step n upper rest base cells small h = stands_more hex lines n (upper_line upper) rest base cells h (Ok (Some (Sets (Upper upper))))
+      (upper_reads upper small) refl refl
 
-  upper_by : (b : Bool) (before upper n : ℕ) (rest : List (List ℕ)) (base : Base) (cells : List Cell) → (before == upper) ≡ b → base ≡ Upper before → upper < 65536
+  upper_by : (b : Bool) (before upper n : ℕ) (rest : List (List ℕ)) (base : Base) (cells : List Cell) → (before == upper) ≡ b → base ≡ Upper before →
+      upper < 65536
       → Stands hex lines n (cond b [] (upper_line upper ∷ []) ++ rest) base cells → (m : ℕ) × Stands hex lines m rest (Upper upper) cells
-  upper_by true before upper n rest base cells is known small h = (n, subst (λ (b : Base). Stands hex lines n rest b cells) (known ∙ ap Upper (eqb-true before upper is)) h)
+  upper_by true before upper n rest base cells is known small h =
+      (n, subst (λ (b : Base). Stands hex lines n rest b cells) (known ∙ ap Upper (eqb-true before upper is)) h)
   upper_by false before upper n rest base cells is known small h = (suc n, upper_step n upper rest base cells small h)
 
   upper_known : (upper : Option ℕ) (half n : ℕ) (rest : List (List ℕ)) (base : Base) (cells : List Cell) → IsKnown upper base → half < 65536
@@ -83,12 +91,14 @@ module _ (lines : List (List ℕ)) where
       → Stands hex lines (suc n) rest (Upper (row.at / 65536)) (cells_from row.at row.bytes ++ cells)
   data_step row low n rest cells is from none h =
       let same = row_cells row is in
-      let clear : first_clash cells (cells_from row.at row.bytes) ≡ None = no_clash row.at row.bytes cells (λ k old lt there. let nothing = none (row.at + k) (omega (arith, from)) in absurd (cc)) in
+      let clear : first_clash cells (cells_from row.at row.bytes) ≡ None =
+      no_clash row.at row.bytes cells (λ k old lt there. let nothing = none (row.at + k) (omega (arith, from)) in absurd (cc)) in
       subst (λ (own : List Cell). Stands hex lines (suc n) rest (Upper (row.at / 65536)) (own ++ cells)) same
       (stands_more hex lines n (hex_line 0 (row.at % 65536) row.bytes) rest (Upper (row.at / 65536)) cells h (Ok (Some (Data (row.at % 65536) row.bytes)))
       (data_reads row is) (ap (or_clash hex None) (ap (first_clash cells) same ∙ clear)) refl)
 
-  rows_read : (map : List Run) (maximal : AreMaximal 0 addresses map) (rows : List Run) (upper : Option ℕ) (base : Base) (low n : ℕ) (cells : List Cell) → AreRows low rows → IsKnown upper base
+  rows_read : (map : List Run) (maximal : AreMaximal 0 addresses map) (rows : List Run) (upper : Option ℕ) (base : Base) (low n : ℕ) (cells : List Cell) →
+      AreRows low rows → IsKnown upper base
       → ((a : ℕ) → low ≤ a → held cells a ≡ None) → ((a : ℕ) → byte_at map a ≡ or_else (byte_at rows a) (held cells a))
       → Stands hex lines n (rows_lines (Hex upper) rows ++ end_line ∷ []) base cells → IsImageOfText hex lines map
   rows_read map maximal [] upper base low n cells are known none union h =
@@ -100,7 +110,8 @@ module _ (lines : List (List ℕ)) where
       let shape : ((upper_lines upper half ++ own ∷ []) ++ later) ++ end_line ∷ [] ≡ upper_lines upper half ++ own ∷ (later ++ end_line ∷ []) =
       append_assoc (upper_lines upper half ++ own ∷ []) later (end_line ∷ []) ∙ append_assoc (upper_lines upper half) (own ∷ []) (later ++ end_line ∷ []) in
       let inside : half < 65536 = omega (arith, are.1.inside, are.1.some) in
-      let (m, there) = upper_known upper half n (own ∷ (later ++ end_line ∷ [])) base cells known inside (subst (λ (ls : List (List ℕ)). Stands hex lines n ls base cells) shape h) in
+      let (m, there) = upper_known upper half n (own ∷ (later ++ end_line ∷ [])) base cells known inside
+      (subst (λ (ls : List (List ℕ)). Stands hex lines n ls base cells) shape h) in
       rows_read map maximal rows (Some half) (Upper half) (end_of row) (suc m) (cells_from row.at row.bytes ++ cells) are.2 refl
       (none_above low row cells are.0 none)
       (λ a. union a ∙ row_moved row rows cells a are.2)

@@ -53,11 +53,13 @@ srec_not_uf2 : (map : List Run) → is_uf2 None (srec_text map) ≡ false
 unfolding srec_lines
 srec_not_uf2 map = refl
 
-file_of : (bytes : List ℕ) (f : Form) (image : List Run) → is_uf2 None bytes ≡ false → form_of None bytes ≡ Some f → IsImageOfForm (Some f) bytes image → IsAnyImage None bytes image
+file_of : (bytes : List ℕ) (f : Form) (image : List Run) → is_uf2 None bytes ≡ false → form_of None bytes ≡ Some f → IsImageOfForm (Some f) bytes image →
+    IsAnyImage None bytes image
 file_of bytes f image no_uf2 form_is image_is =
     subst (λ (b : Bool). IsImageBy b None bytes image) (sym no_uf2) (subst (λ (g : Option Form). IsImageOfForm g bytes image) (sym form_is) image_is)
 
-of_file : (bytes : List ℕ) (f : Form) (image : List Run) → is_uf2 None bytes ≡ false → form_of None bytes ≡ Some f → IsAnyImage None bytes image → IsImageOfForm (Some f) bytes image
+of_file : (bytes : List ℕ) (f : Form) (image : List Run) → is_uf2 None bytes ≡ false → form_of None bytes ≡ Some f → IsAnyImage None bytes image →
+    IsImageOfForm (Some f) bytes image
 of_file bytes f image no_uf2 form_is any =
     subst (λ (g : Option Form). IsImageOfForm g bytes image) form_is (subst (λ (b : Bool). IsImageBy b None bytes image) no_uf2 any)
 

@@ -1,5 +1,6 @@
 -- The rows of a map: where they lie, and that they have the map's bytes and no other.
-use Rattle.std.proofs.Common.{◌≡◌, ⊎_elim, ◌≤◌, ◌<◌, ◌+◌, ◌-◌, ◌%◌, ◌/◌, ◌^◌, ◌++◌, ◌∙◌, sym, ap, subst, refl, arith, ℕ, suc, Bool, true, false, cond, List, [], ◌∷◌, length, Option, Some, None}
+use Rattle.std.proofs.Common.{◌≡◌, ⊎_elim, ◌≤◌, ◌<◌, ◌+◌, ◌-◌, ◌%◌, ◌/◌, ◌^◌, ◌++◌, ◌∙◌, sym, ap, subst, refl, arith, ℕ, suc, Bool, true, false, cond, List, []}
+use Rattle.std.proofs.Common.{◌∷◌, length, Option, Some, None}
 use Rattle.std.specs.Prelude.{◌==◌}
 use Rattle.std.specs.List.{All}
 use Rattle.std.proofs.lemmas.Bool.{cases_lt}
@@ -50,9 +51,16 @@ run_starts at (byte ∷ bytes) = start_with at byte ((at + 1) % 16 == 0) (run_ro
 
 -- a row of one byte
 byte_row : (at byte : ℕ) → at < 4294967296 → byte < 256 → IsRow (record { at = at; bytes = byte ∷ [] })
-byte_row at byte inside small = record { some = omega arith; fits = omega arith; inside = omega (arith, inside); small = All-cons IsByte byte [] small (All-nil IsByte) }
+byte_row at byte inside small = record {
+  some = omega arith;
+  fits = omega arith;
+  inside = omega (arith, inside);
+  small =
+      All-cons IsByte byte [] small (All-nil IsByte);
+}
 
-with_rows : (at byte : ℕ) (b : Bool) (rows later : List Run) → (at + 1) % 16 == 0 ≡ b → at < 4294967296 → byte < 256 → StartAt (at + 1) rows → AreRows (at + 1) (rows ++ later)
+with_rows : (at byte : ℕ) (b : Bool) (rows later : List Run) → (at + 1) % 16 == 0 ≡ b → at < 4294967296 → byte < 256 → StartAt (at + 1) rows →
+    AreRows (at + 1) (rows ++ later)
     → AreRows at (with_byte at byte b rows ++ later)
 with_rows at byte true rows later is inside small start are = (omega arith, byte_row at byte inside small, are)
 with_rows at byte false [] later is inside small start are = (omega arith, byte_row at byte inside small, are)
@@ -74,10 +82,12 @@ with_rows at byte false (row ∷ rows) later is inside small start are =
       rows_from (end_of row) (at + suc (length row.bytes)) (rows ++ later) are.2 (omega (arith, start)),
     )
 
-run_rows_are : (at : ℕ) (bytes : List ℕ) (later : List Run) → at + length bytes ≤ 4294967296 → All IsByte bytes → AreRows (at + length bytes) later → AreRows at (run_rows at bytes ++ later)
+run_rows_are : (at : ℕ) (bytes : List ℕ) (later : List Run) → at + length bytes ≤ 4294967296 → All IsByte bytes → AreRows (at + length bytes) later →
+    AreRows at (run_rows at bytes ++ later)
 run_rows_are at [] later fits small are = rows_from (at + 0) at later are (omega arith)
 run_rows_are at (byte ∷ bytes) later fits small are =
-    with_rows at byte ((at + 1) % 16 == 0) (run_rows (at + 1) bytes) later refl (omega (arith, fits)) (All-head IsByte byte bytes small) (run_starts (at + 1) bytes)
+    with_rows at byte ((at + 1) % 16 == 0) (run_rows (at + 1) bytes) later refl (omega (arith, fits)) (All-head IsByte byte bytes small)
+    (run_starts (at + 1) bytes)
     (run_rows_are (at + 1) bytes later (omega (arith, fits)) (All-tail IsByte byte bytes small)
     (rows_from (at + suc (length bytes)) (at + 1 + length bytes) later are (omega arith)))
 
@@ -105,7 +115,8 @@ or_cond : (b : Bool) (byte : ℕ) (x y : Option ℕ) → or_else (cond b (Some b
 or_cond true byte x y = refl
 or_cond false byte x y = refl
 
-with_bytes : (at byte : ℕ) (b : Bool) (rows : List Run) (a : ℕ) → StartAt (at + 1) rows → byte_at (with_byte at byte b rows) a ≡ cond (a == at) (Some byte) (byte_at rows a)
+with_bytes : (at byte : ℕ) (b : Bool) (rows : List Run) (a : ℕ) → StartAt (at + 1) rows → byte_at (with_byte at byte b rows) a ≡ cond (a == at) (Some byte)
+    (byte_at rows a)
 with_bytes at byte true rows a start = as_cells (record { at = at; bytes = byte ∷ [] }) rows a ∙ or_cond (a == at) byte None (byte_at rows a)
 with_bytes at byte false [] a start = as_cells (record { at = at; bytes = byte ∷ [] }) [] a ∙ or_cond (a == at) byte None None
 with_bytes at byte false (row ∷ rows) a start =
@@ -155,7 +166,8 @@ row_moved row rows cells a are =
     ∙ ap (or_else (byte_at rows a)) (sym (held-append (cells_from row.at row.bytes) cells a))
 
 -- nothing stands above the rows that were read
-pub none_above : (low : ℕ) (row : Run) (cells : List Cell) → low ≤ row.at → ((a : ℕ) → low ≤ a → held cells a ≡ None) → (a : ℕ) → end_of row ≤ a → held (cells_from row.at row.bytes ++ cells) a ≡ None
+pub none_above : (low : ℕ) (row : Run) (cells : List Cell) → low ≤ row.at → ((a : ℕ) → low ≤ a → held cells a ≡ None) →
+    (a : ℕ) → end_of row ≤ a → held (cells_from row.at row.bytes ++ cells) a ≡ None
 none_above low row cells from none a high =
     held-append (cells_from row.at row.bytes) cells a
     ∙ ap (λ (o : Option ℕ). or_else o (held cells a)) (held-none_above row.at row.bytes a high)

@@ -1,5 +1,6 @@
 -- Rows, and the lines of rows that are put one after the other.
-use Rattle.std.proofs.Common.{◌≡◌, ◌⊎◌, ⊎_elim, ◌≤◌, ◌<◌, ◌+◌, ◌-◌, ◌%◌, ◌++◌, ◌∙◌, sym, ap, subst, refl, arith, Bool, true, false, min, ℕ, zero, suc, List, [], ◌∷◌, length, take, drop, append_assoc, append-nil, Result, Ok, Err}
+use Rattle.std.proofs.Common.{◌≡◌, ◌⊎◌, ⊎_elim, ◌≤◌, ◌<◌, ◌+◌, ◌-◌, ◌%◌, ◌++◌, ◌∙◌, sym, ap, subst, refl, arith, Bool, true, false, min, ℕ, zero, suc, List, []}
+use Rattle.std.proofs.Common.{◌∷◌, length, take, drop, append_assoc, append-nil, Result, Ok, Err}
 use Rattle.std.specs.Prelude.{◌==◌, slice_get, slice_range, Some}
 use Rattle.std.proofs.lemmas.Bool.{cases_lt}
 use Rattle.std.proofs.lemmas.Grind.{flat_map-append}
@@ -41,7 +42,8 @@ first_row at (byte ∷ bytes) (suc c) some is = ⊎_elim
     (λ (none : c < 1).
     let z : 0 ≡ c = omega (arith, none) in
     subst
-    (λ (n : ℕ). with_byte at byte ((at + 1) % 16 == 0) (run_rows (at + 1) bytes) ≡ record { at = at; bytes = byte ∷ take n bytes } ∷ run_rows (at + suc n) (drop n bytes))
+    (λ (n : ℕ). with_byte at byte ((at + 1) % 16 == 0) (run_rows (at + 1) bytes) ≡ record { at = at; bytes = byte ∷ take n bytes } ∷ run_rows (at + suc n)
+    (drop n bytes))
     z (one_byte at byte bytes (omega (arith, is, z))))
     (λ (more : 1 ≤ c).
     let apart : (at + 1) % 16 ≡ 0 → ⊥ = λ same. omega (arith, is, more, same) in
@@ -53,14 +55,17 @@ first_row at (byte ∷ bytes) (suc c) some is = ⊎_elim
 
 -- the row of a run at a place of it
 pub row_next : (at from count : ℕ) (bytes : List ℕ) → from < length bytes → count ≡ min (16 - (at + from) % 16) (length bytes - from)
-    → run_rows (at + from) (drop from bytes) ≡ (record { at = at + from; bytes = slice_range bytes from (from + count) } ∷ []) ++ run_rows (at + (from + count)) (drop (from + count) bytes)
+    → run_rows (at + from) (drop from bytes) ≡ (record { at = at + from; bytes = slice_range bytes from (from + count) } ∷ []) ++ run_rows (at + (from + count))
+    (drop (from + count) bytes)
 row_next at from count bytes less is =
     let long = length-drop from bytes in
     let row : List ℕ → Run = λ own. record { at = at + from; bytes = own } in
     first_row (at + from) (drop from bytes) count (omega (arith, long, less)) (omega (arith, long, is))
-    ∙ ap (λ (n : ℕ). row (take n (drop from bytes)) ∷ run_rows (at + from + count) (drop count (drop from bytes))) (let n : count ≡ from + count - from = omega arith in n)
+    ∙ ap (λ (n : ℕ). row (take n (drop from bytes)) ∷ run_rows (at + from + count) (drop count (drop from bytes)))
+    (let n : count ≡ from + count - from = omega arith in n)
     ∙ ap (λ (later : List ℕ). row (slice_range bytes from (from + count)) ∷ run_rows (at + from + count) later) (drop-drop count from bytes)
-    ∙ ap (λ (n : ℕ). row (slice_range bytes from (from + count)) ∷ run_rows n (drop (from + count) bytes)) (let n : at + from + count ≡ at + (from + count) = omega arith in n)
+    ∙ ap (λ (n : ℕ). row (slice_range bytes from (from + count)) ∷ run_rows n (drop (from + count) bytes))
+    (let n : at + from + count ≡ at + (from + count) = omega arith in n)
 
 -- The lines of rows.
 
@@ -70,8 +75,10 @@ rows-append form (x ∷ xs) ys =
     ap (λ (l : List (List ℕ)). row_lines form x ++ l) (rows-append (behind form x) xs ys)
     ∙ sym (append_assoc (row_lines form x) (rows_lines (behind form x) xs) (rows_lines (form_behind (behind form x) xs) ys))
 
-text-append : (form : RowForm) (xs ys : List Run) → text_of (rows_lines form (xs ++ ys)) ≡ text_of (rows_lines form xs) ++ text_of (rows_lines (form_behind form xs) ys)
-text-append form xs ys = ap text_of (rows-append form xs ys) ∙ flat_map-append (λ (line : List ℕ). line ++ 10 ∷ []) (rows_lines form xs) (rows_lines (form_behind form xs) ys)
+text-append : (form : RowForm) (xs ys : List Run) → text_of (rows_lines form (xs ++ ys)) ≡ text_of (rows_lines form xs) ++
+    text_of (rows_lines (form_behind form xs) ys)
+text-append form xs ys = ap text_of (rows-append form xs ys) ∙ flat_map-append (λ (line : List ℕ). line ++ 10 ∷ []) (rows_lines form xs)
+    (rows_lines (form_behind form xs) ys)
 
 behind-append : (form : RowForm) (xs ys : List Run) → form_behind form (xs ++ ys) ≡ form_behind (form_behind form xs) ys
 behind-append form [] ys = refl
@@ -91,7 +98,8 @@ pub record HasGathered (tells : Bool) (old now : SinkState) (waited waits : List
   pub form_is : form_behind form rest ≡ form_behind first all
 
 -- none was gathered
-pub rows_none : (tells : Bool) (a : SinkState) (w : List ℕ) (first : RowForm) (all rest : List Run) → rest ≡ all → HasGathered tells a a w w first first all rest
+pub rows_none : (tells : Bool) (a : SinkState) (w : List ℕ) (first : RowForm) (all rest : List Run) → rest ≡ all →
+    HasGathered tells a a w w first first all rest
 rows_none tells a w first all rest is = record {
   part = [];
   gathers = gathers_nothing tells a w tt;
@@ -99,7 +107,8 @@ rows_none tells a w first all rest is = record {
   form_is = ap (form_behind first) is;
 }
 
-module _ {tells : Bool} {a b : SinkState} {v w : List ℕ} {first form : RowForm} {all rest : List Run} (h : HasGathered tells a b v w first form all rest) (rows later : List Run) (is : rest ≡ rows ++ later) where
+module _ {tells : Bool} {a b : SinkState} {v w : List ℕ} {first form : RowForm} {all rest : List Run} (h : HasGathered tells a b v w first form all rest)
+    (rows later : List Run) (is : rest ≡ rows ++ later) where
   rest_text : text_of (rows_lines form rows) ++ text_of (rows_lines (form_behind form rows) later) ≡ text_of (rows_lines form rest)
   rest_text = sym (text-append form rows later) ∙ ap (λ (rs : List Run). text_of (rows_lines form rs)) (sym is)
 
@@ -109,7 +118,8 @@ module _ {tells : Bool} {a b : SinkState} {v w : List ℕ} {first form : RowForm
       ∙ ap (λ (l : List ℕ). h.part ++ l) rest_text ∙ h.text_is
 
   -- more rows
-  pub rows_more : {c : SinkState} {x : List ℕ} {u : Unit {0}} (next : RowForm) → next ≡ form_behind form rows → Gathers tells b c w x (text_of (rows_lines form rows)) (Ok u)
+  pub rows_more : {c : SinkState} {x : List ℕ} {u : Unit {0}} (next : RowForm) → next ≡ form_behind form rows →
+      Gathers tells b c w x (text_of (rows_lines form rows)) (Ok u)
       → HasGathered tells a c v x first next all later
   rows_more {c} {x} {u} next next_is gathers = record {
     part = h.part ++ text_of (rows_lines form rows);
@@ -121,10 +131,12 @@ module _ {tells : Bool} {a b : SinkState} {v w : List ℕ} {first form : RowForm
   -- rows that a fault broke off
   pub rows_break : {c : SinkState} {x : List ℕ} {e : OutputFault} → Gathers tells b c w x (text_of (rows_lines form rows)) (Err e)
       → Gathers tells a c v x (text_of (rows_lines first all)) (Err e)
-  rows_break {c} {x} {e} gathers = gathers_as all_text (gathers_stops (text_of (rows_lines (form_behind form rows) later)) (gathers_then (Err e) h.gathers gathers))
+  rows_break {c} {x} {e} gathers = gathers_as all_text (gathers_stops (text_of (rows_lines (form_behind form rows) later))
+      (gathers_then (Err e) h.gathers gathers))
 
 -- none are left
-pub rows_gathered : {tells : Bool} {a b : SinkState} {v w : List ℕ} {first form : RowForm} {all rest : List Run} → rest ≡ [] → HasGathered tells a b v w first form all rest
+pub rows_gathered : {tells : Bool} {a b : SinkState} {v w : List ℕ} {first form : RowForm} {all rest : List Run} → rest ≡ [] →
+    HasGathered tells a b v w first form all rest
     → Gathers tells a b v w (text_of (rows_lines first all)) (Ok tt)
 rows_gathered {tells} {a} {b} {v} {w} {first} {form} {all} {rest} none h =
     gathers_as (sym (append-nil h.part) ∙ ap (λ (rows : List Run). h.part ++ text_of (rows_lines form rows)) (sym none) ∙ h.text_is) h.gathers

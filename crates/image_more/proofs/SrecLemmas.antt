@@ -1,5 +1,6 @@
 -- The text of a map as S-records is read as the map.
-use Rattle.std.proofs.Common.{◌≡◌, ◌≤◌, ◌<◌, ◌+◌, ◌^◌, ◌++◌, ◌∙◌, sym, ap, subst, refl, arith, ℕ, suc, Bool, false, cond, List, [], ◌∷◌, length, Option, Some, None, Ok}
+use Rattle.std.proofs.Common.{◌≡◌, ◌≤◌, ◌<◌, ◌+◌, ◌^◌, ◌++◌, ◌∙◌, sym, ap, subst, refl, arith, ℕ, suc, Bool, false, cond, List, [], ◌∷◌, length, Option, Some}
+use Rattle.std.proofs.Common.{None, Ok}
 use Rattle.std.specs.Prelude.{codes, nat_le, nat_lt}
 use Rattle.std.specs.List.{All}
 use Rattle.std.proofs.lemmas.List.Elements.{All-nil, All-cons, All-append}
@@ -44,13 +45,17 @@ row_reads : (row : Run) → IsRow row → read_line (srec_line row) ≡ Ok (Some
 row_reads row is = srec_read row (omega (arith, is.inside, is.some)) (omega (arith, is.fits)) is.small
 
 module _ (lines : List (List ℕ)) where
-  row_step : (row : Run) (low n : ℕ) (rest : List (List ℕ)) (seen : Seen) (cells : List Cell) → IsRow row → low ≤ row.at → ((a : ℕ) → low ≤ a → held cells a ≡ None)
-      → Stands srec lines n (srec_line row ∷ rest) seen cells → Stands srec lines (suc n) rest (record { records = seen.records + 1 }) (cells_from row.at row.bytes ++ cells)
+  row_step : (row : Run) (low n : ℕ) (rest : List (List ℕ)) (seen : Seen) (cells : List Cell) → IsRow row → low ≤ row.at →
+      ((a : ℕ) → low ≤ a → held cells a ≡ None)
+      → Stands srec lines n (srec_line row ∷ rest) seen cells → Stands srec lines (suc n) rest (record { records = seen.records + 1 })
+      (cells_from row.at row.bytes ++ cells)
   row_step row low n rest seen cells is from none h =
-      let clear : first_clash cells (cells_from row.at row.bytes) ≡ None = no_clash row.at row.bytes cells (λ k old lt there. let nothing = none (row.at + k) (omega (arith, from)) in absurd (cc)) in
+      let clear : first_clash cells (cells_from row.at row.bytes) ≡ None =
+      no_clash row.at row.bytes cells (λ k old lt there. let nothing = none (row.at + k) (omega (arith, from)) in absurd (cc)) in
       let fits : nat_lt 4294967296 (row.at + length row.bytes) ≡ false = not_less 4294967296 (row.at + length row.bytes) is.inside in
       stands_more srec lines n (srec_line row) rest seen cells h (Ok (Some (Data row.at row.bytes))) (row_reads row is)
-      (ap (λ (b : Bool). or_clash srec (cond b (Some (PastEnd row.at)) None) (first_clash cells (cells_from row.at row.bytes))) fits ∙ ap (or_clash srec None) clear) refl
+      (ap (λ (b : Bool). or_clash srec (cond b (Some (PastEnd row.at)) None) (first_clash cells (cells_from row.at row.bytes))) fits ∙
+      ap (or_clash srec None) clear) refl
 
   rows_read : (map : List Run) (maximal : AreMaximal 0 addresses map) (rows : List Run) (seen : Seen) (low n : ℕ) (cells : List Cell) → AreRows low rows
       → ((a : ℕ) → low ≤ a → held cells a ≡ None) → ((a : ℕ) → byte_at map a ≡ or_else (byte_at rows a) (held cells a))
@@ -83,9 +88,11 @@ srec_is_read map is =
     let are = rows_are 0 map is.maximal is.small in
     let rows = rows_lines Srec (rows_of map) in
     let marks = All-cons AreMarks header_line (rows ++ end_line ∷ []) (AllPass-from_list_all (λ (b : ℕ). nat_le 48 b) header_line refl)
-    (All-append AreMarks rows (end_line ∷ []) (rows_marks 0 (rows_of map) are) (one_marks end_line (AllPass-from_list_all (λ (b : ℕ). nat_le 48 b) end_line refl))) in
+    (All-append AreMarks rows (end_line ∷ []) (rows_marks 0 (rows_of map) are)
+    (one_marks end_line (AllPass-from_list_all (λ (b : ℕ). nat_le 48 b) end_line refl))) in
     let lines = srec_lines map in
     subst (λ (ls : List (List ℕ)). IsImageOfText srec ls map) (sym (lines_of-text lines marks))
     (rows_read lines map is.maximal (rows_of map) (record { records = 0 }) 0 1 [] are (λ a le. refl)
     (λ a. sym (rows_bytes map a) ∙ sym (or_right (byte_at (rows_of map) a)))
-    (stands_more srec lines 0 header_line (rows ++ end_line ∷ []) (record { records = 0 }) [] (stands_first srec lines) (Ok (Some Header)) header_reads refl refl))
+    (stands_more srec lines 0 header_line (rows ++ end_line ∷ []) (record { records = 0 }) [] (stands_first srec lines) (Ok (Some Header)) header_reads refl
+    refl))

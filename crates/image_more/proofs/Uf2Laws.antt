@@ -1,5 +1,6 @@
 -- A UF2 file has one image or one fault, but for want of memory.
-use Rattle.std.proofs.Common.{◌≡◌, ◌≢◌, ◌<◌, ◌≤◌, ◌+◌, ◌-◌, ◌++◌, ◌∙◌, ◌⊎◌, inl, inr, ⊎_elim, sym, ap, subst, refl, arith, ℕ, zero, suc, Bool, true, false, cond, List, [], ◌∷◌, length, Option, Some, None}
+use Rattle.std.proofs.Common.{◌≡◌, ◌≢◌, ◌<◌, ◌≤◌, ◌+◌, ◌-◌, ◌++◌, ◌∙◌, ◌⊎◌, inl, inr, ⊎_elim, sym, ap, subst, refl, arith, ℕ, zero, suc, Bool, true, false}
+use Rattle.std.proofs.Common.{cond, List, [], ◌∷◌, length, Option, Some, None}
 use Rattle.std.specs.List.{All}
 use Rattle.std.proofs.lemmas.Bool.{cases_lt}
 use Rattle.std.proofs.lemmas.List.Elements.{All-head}
@@ -11,7 +12,8 @@ use Rattle.record_lines.proofs.Unions.{none_holds, part_of, All-front, All-back}
 use Rattle.image_set.proofs.SegmentLaws.{one_clash}
 use Rattle.image_more.specs.declared.fault.Uf2Fault.{Uf2Fault}
 use Rattle.image_more.specs.declared.fault.Uf2Fault.TheVariants.{BadLength, BadMagic, BadSize, Conflict, PastEnd, OutOfMemory}
-use Rattle.image_more.specs.Uf2.{is_skipped, payload, runs_of, block_count, block_at, runs_before, IsWhole, IsImageBefore, IsForFlash, IsBlockFault, IsUf2Image, IsFirstRefused, IsUf2Fault}
+use Rattle.image_more.specs.Uf2.{is_skipped, payload, runs_of, block_count, block_at, runs_before, IsWhole, IsImageBefore, IsForFlash, IsBlockFault, IsUf2Image}
+use Rattle.image_more.specs.Uf2.{IsFirstRefused, IsUf2Fault}
 
 same_by : (runs one two : List Run) (a : ℕ) (o : Option ℕ) → byte_at runs a ≡ o → IsUnionOf runs one → IsUnionOf runs two → byte_at one a ≡ byte_at two a
 same_by runs one two a None is u v = u.only a (none_holds runs a is) ∙ sym (v.only a (none_holds runs a is))
@@ -32,11 +34,13 @@ fewer P bytes n (suc k) all =
     (subst (λ (m : ℕ). All P (runs_before bytes m)) (let z : n + suc k ≡ suc (n + k) = omega arith in z) all))
 
 -- an image has what the image of fewer runs has
-kept_by : (runs part whole : List Run) (a byte : ℕ) (o : Option ℕ) → byte_at runs a ≡ o → IsUnionOf runs part → All (HasRun whole) runs → byte_at part a ≡ Some byte → byte_at whole a ≡ Some byte
+kept_by : (runs part whole : List Run) (a byte : ℕ) (o : Option ℕ) → byte_at runs a ≡ o → IsUnionOf runs part → All (HasRun whole) runs →
+    byte_at part a ≡ Some byte → byte_at whole a ≡ Some byte
 kept_by runs part whole a byte None is u all there = let none = u.only a (none_holds runs a is) in absurd (cc)
 kept_by runs part whole a byte (Some other) is u all there = part_of runs whole a other all is ∙ sym (part_of runs part a other u.all is) ∙ there
 
-no_clash_inside : (bytes : List ℕ) (n : ℕ) (whole part : List Run) (k at old new : ℕ) → IsUnionOf (runs_before bytes n) whole → k < n → IsUnionOf (runs_before bytes k) part
+no_clash_inside : (bytes : List ℕ) (n : ℕ) (whole part : List Run) (k at old new : ℕ) → IsUnionOf (runs_before bytes n) whole → k < n →
+    IsUnionOf (runs_before bytes k) part
     → IsForFlash (block_at bytes k) → IsFirstClash (payload (block_at bytes k)) part at old new → ⊥
 no_clash_inside bytes n whole part k at old new all inside union flash clash =
     let block = block_at bytes k in
@@ -52,7 +56,8 @@ no_clash_inside bytes n whole part k at old new all inside union flash clash =
     clash.unequal (same ∙ clash.new_is)
 
 -- a block among some that are right isn't refused
-not_refused : (bytes : List ℕ) (n : ℕ) (image : List Run) (fault : Uf2Fault) → IsImageBefore bytes n image → (two : IsFirstRefused bytes fault) → two.place < n → fault ≡ OutOfMemory
+not_refused : (bytes : List ℕ) (n : ℕ) (image : List Run) (fault : Uf2Fault) → IsImageBefore bytes n image → (two : IsFirstRefused bytes fault) →
+    two.place < n → fault ≡ OutOfMemory
 not_refused bytes n image (BadLength len) one two inside = absurd two.refused
 not_refused bytes n image (BadMagic block) one two inside = let right = (one.right two.place inside).magic in let wrong = two.refused.1 in absurd (cc)
 not_refused bytes n image (BadSize block size) one two inside =
@@ -112,7 +117,8 @@ one_refused : (bytes : List ℕ) (a b : Uf2Fault) → IsFirstRefused bytes a →
 one_refused bytes a b one two no_a no_b =
     let place : one.place ≡ two.place = ⊎_elim
     (λ less. absurd (no_a (not_refused bytes two.place two.image a two.before one less)))
-    (λ most. ⊎_elim (λ less. absurd (no_b (not_refused bytes one.place one.image b one.before two less))) (λ least. omega (arith, most, least)) (cases_lt two.place one.place))
+    (λ most. ⊎_elim (λ less. absurd (no_b (not_refused bytes one.place one.image b one.before two less))) (λ least. omega (arith, most, least))
+    (cases_lt two.place one.place))
     (cases_lt one.place two.place) in
     let image : one.image ≡ two.image = one_union (runs_before bytes two.place) one.image two.image
     (subst (λ (k : ℕ). IsUnionOf (runs_before bytes k) one.image) place one.before.union) two.before.union in
@@ -121,7 +127,8 @@ one_refused bytes a b one two no_a no_b =
     (subst (λ (k : ℕ). IsBlockFault (k + 1) (block_at bytes k) one.image a) place one.refused)) two.refused no_a no_b
 
 -- a fault is one of the length or of a block
-length_or_block : (bytes : List ℕ) (a : Uf2Fault) → IsUf2Fault bytes a → a ≢ OutOfMemory → ((a ≡ BadLength (length bytes)) × (IsWhole bytes → ⊥)) ⊎ IsFirstRefused bytes a
+length_or_block : (bytes : List ℕ) (a : Uf2Fault) → IsUf2Fault bytes a → a ≢ OutOfMemory → ((a ≡ BadLength (length bytes)) × (IsWhole bytes → ⊥)) ⊎
+    IsFirstRefused bytes a
 length_or_block bytes (BadLength len) is no_a = inl (ap BadLength is.0, is.1)
 length_or_block bytes (BadMagic block) is no_a = inr is
 length_or_block bytes (BadSize block size) is no_a = inr is

@@ -147,7 +147,8 @@ elf_faults bytes a (Srec fault) one two no_a no_b = let wrong = two.0 in absurd 
 elf_faults bytes a (OutsideDevice at) one two no_a no_b = absurd two
 elf_faults bytes a EmptyImage one two no_a no_b = absurd two
 
-one_fault_of : (f : Option Form) (bytes : List ℕ) (a b : ImageFault) → IsFaultOfForm f bytes a → IsFaultOfForm f bytes b → a ≢ OutOfMemory → b ≢ OutOfMemory → a ≡ b
+one_fault_of : (f : Option Form) (bytes : List ℕ) (a b : ImageFault) → IsFaultOfForm f bytes a → IsFaultOfForm f bytes b → a ≢ OutOfMemory → b ≢ OutOfMemory →
+    a ≡ b
 one_fault_of None bytes a b one two no_a no_b = none_fault bytes a one no_a ∙ sym (none_fault bytes b two no_b)
 one_fault_of (Some (form.Raw from)) bytes a b one two no_a no_b = raw_fault from bytes a one no_a ∙ sym (raw_fault from bytes b two no_b)
 one_fault_of (Some form.Elf) bytes a b one two no_a no_b = elf_faults bytes a b one two no_a no_b
@@ -162,7 +163,8 @@ one_fault_of (Some form.Srec) bytes a b one two no_a no_b =
     x.is ∙ same_srec x.fault y.fault (one_srec_fault (lines_of bytes) x.fault.line y.fault.line x.fault.kind y.fault.kind x.of_form.1 y.of_form.1
     x.of_form.2 y.of_form.2) ∙ sym y.is
 
-pub one_fault : (raw_at : Option ℕ) (bytes : List ℕ) (a b : ImageFault) → IsFault raw_at bytes a → IsFault raw_at bytes b → a ≢ OutOfMemory → b ≢ OutOfMemory → a ≡ b
+pub one_fault : (raw_at : Option ℕ) (bytes : List ℕ) (a b : ImageFault) → IsFault raw_at bytes a → IsFault raw_at bytes b → a ≢ OutOfMemory → b ≢ OutOfMemory →
+    a ≡ b
 one_fault raw_at bytes a b one two no_a no_b = one_fault_of (form_of raw_at bytes) bytes a b one two no_a no_b
 
 memory_left : (fault : ImageFault) → (fault ≢ OutOfMemory → ⊥) → fault ≡ OutOfMemory
@@ -177,5 +179,6 @@ memory_left EmptyImage is = absurd (is (λ same. cc))
 memory_left OutOfMemory is = refl
 
 -- a file with an image has no fault but want of memory
-pub memory_alone : (raw_at : Option ℕ) (bytes : List ℕ) (image : List Run) (fault : ImageFault) → IsImage raw_at bytes image → IsFault raw_at bytes fault → fault ≡ OutOfMemory
+pub memory_alone : (raw_at : Option ℕ) (bytes : List ℕ) (image : List Run) (fault : ImageFault) → IsImage raw_at bytes image → IsFault raw_at bytes fault →
+    fault ≡ OutOfMemory
 memory_alone raw_at bytes image fault one two = memory_left fault (image_or_fault raw_at bytes image fault one two)

@@ -1,5 +1,6 @@
 -- Images in ranges of addresses.
-use Rattle.std.proofs.Common.{◌≡◌, ◌≢◌, ⊎_elim, ◌≤◌, ◌<◌, ◌^◌, ◌∙◌, ℕ, suc, List, [], ◌∷◌, length, get_or, Option, Some, None, Bool, true, false, refl, ap, subst, arith}
+use Rattle.std.proofs.Common.{◌≡◌, ◌≢◌, ⊎_elim, ◌≤◌, ◌<◌, ◌^◌, ◌∙◌, ℕ, suc, List, [], ◌∷◌, length, get_or, Option, Some, None, Bool, true, false, refl, ap}
+use Rattle.std.proofs.Common.{subst, arith}
 use Rattle.std.specs.Prelude.{IsTrue, IsSome, ◌||◌}
 use Rattle.std.proofs.lemmas.Bool.{cases_lt}
 use Rattle.byte_map.specs.Image.{Run, run_at, end_of, holds, byte_at, AreMaximal}
@@ -29,7 +30,8 @@ all_inside runs ranges some each =
           each k lt a (held_from (run_at runs k) a held) (held_to (run_at runs k) a held);
     }
 
-inside_below : (runs : List Run) (ranges : List (ℕ × ℕ)) (k at a j : ℕ) → AreMaximal 0 (2 ^ 32) runs → k < length runs → LieBefore runs ranges k → IsOutside (run_at runs k).at (end_of (run_at runs k)) ranges at → a < at → j < length runs → holds (run_at runs j) a ≡ true → IsTrue (is_inside ranges a)
+inside_below : (runs : List Run) (ranges : List (ℕ × ℕ)) (k at a j : ℕ) → AreMaximal 0 (2 ^ 32) runs → k < length runs → LieBefore runs ranges k →
+    IsOutside (run_at runs k).at (end_of (run_at runs k)) ranges at → a < at → j < length runs → holds (run_at runs j) a ≡ true → IsTrue (is_inside ranges a)
 inside_below runs ranges k at a j m lt each outside below within held =
     let from = held_from (run_at runs j) a held in
     let to = held_to (run_at runs j) a held in
@@ -44,7 +46,8 @@ inside_below runs ranges k at a j m lt each outside below within held =
     (cases_lt j k)
 
 -- the least address of a run that is in no range, where the runs before it lie in ranges
-pub least_outside : (runs : List Run) (ranges : List (ℕ × ℕ)) (k at : ℕ) → AreMaximal 0 (2 ^ 32) runs → k < length runs → LieBefore runs ranges k → IsOutside (run_at runs k).at (end_of (run_at runs k)) ranges at → IsLeastOutside runs ranges at
+pub least_outside : (runs : List Run) (ranges : List (ℕ × ℕ)) (k at : ℕ) → AreMaximal 0 (2 ^ 32) runs → k < length runs → LieBefore runs ranges k →
+    IsOutside (run_at runs k).at (end_of (run_at runs k)) ranges at → IsLeastOutside runs ranges at
 least_outside runs ranges k at m lt each outside =
     record {
       held = rw (found_in 0 (2 ^ 32) runs k at m lt (holds_between (run_at runs k) at outside.low outside.high)) refl;

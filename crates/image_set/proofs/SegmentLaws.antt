@@ -25,7 +25,8 @@ pub record IsSameClash (at at' old old' new new' : ℕ) : Type 0 where
   pub old_is : old ≡ old'
   pub new_is : new ≡ new'
 
-earlier_clash : (piece : Run) (image : List Run) (p q old new old' new' : ℕ) → IsFirstClash piece image p old new → IsFirstClash piece image q old' new' → p < q → ⊥
+earlier_clash : (piece : Run) (image : List Run) (p q old new old' new' : ℕ) → IsFirstClash piece image p old new → IsFirstClash piece image q old' new' →
+    p < q → ⊥
 earlier_clash piece image p q old new old' new' one two less = one.unequal (two.first p old less one.held one.old_is ∙ one.new_is)
 
 pub one_clash : (piece : Run) (image : List Run) (p q old old' new new' : ℕ) → IsFirstClash piece image p old new → IsFirstClash piece image q old' new'
@@ -101,7 +102,8 @@ elf_image_or_fault bytes image fault one two = ⊎_elim
     (λ (of_segment : IsFirstRefused bytes (Elf fault)). elf_image_or_refused bytes image (Elf fault) one of_segment (λ same. cc))
     two
 
-earlier_refused : (bytes : List ℕ) (a b : ImageFault) → (one : IsFirstRefused bytes a) → (two : IsFirstRefused bytes b) → a ≢ OutOfMemory → one.place < two.place → ⊥
+earlier_refused : (bytes : List ℕ) (a b : ImageFault) → (one : IsFirstRefused bytes a) → (two : IsFirstRefused bytes b) → a ≢ OutOfMemory →
+    one.place < two.place → ⊥
 earlier_refused bytes a b one two no_a less = right_or_refused bytes one.place a (two.before one.place less one.loaded) one.refused no_a
 
 pub one_refused : (bytes : List ℕ) (a b : ImageFault) → IsFirstRefused bytes a → IsFirstRefused bytes b → a ≢ OutOfMemory → b ≢ OutOfMemory → a ≡ b

@@ -1,5 +1,6 @@
 -- The segments of an ELF file, one after another.
-use Rattle.std.proofs.Common.{◌≡◌, ◌<◌, ◌+◌, ◌^◌, ◌∙◌, ℕ, List, [], ◌∷◌, length, Option, Some, None, Bool, true, false, cond, Ok, Err, inr, refl, sym, ap, arith, below_more, add-one}
+use Rattle.std.proofs.Common.{◌≡◌, ◌<◌, ◌+◌, ◌^◌, ◌∙◌, ℕ, List, [], ◌∷◌, length, Option, Some, None, Bool, true, false, cond, Ok, Err, inr, refl, sym, ap}
+use Rattle.std.proofs.Common.{arith, below_more, add-one}
 use Rattle.std.specs.Prelude.{IsTrue}
 use Rattle.byte_map.specs.Image.{Run, byte_at, holds, byte_of, IsSameMap}
 use Rattle.byte_map.specs.Laying.{AgreesBelow, IsFirstClash, Lays, IsLayFault}
@@ -25,20 +26,24 @@ agrees_same piece image other limit same agrees a byte lt held is = agrees a byt
 pub no_segment : (bytes : List ℕ) → IsImageBefore bytes 0 []
 no_segment bytes = record { right = λ k lt loaded. absurd (omega arith); union = λ a. refl; maximal = tt }
 
-pieces_more : (bytes : List ℕ) (k : ℕ) (loaded : Bool) → is_loaded bytes k ≡ loaded → pieces_before bytes (k + 1) ≡ cond loaded (piece_at bytes k ∷ pieces_before bytes k) (pieces_before bytes k)
+pieces_more : (bytes : List ℕ) (k : ℕ) (loaded : Bool) → is_loaded bytes k ≡ loaded →
+    pieces_before bytes (k + 1) ≡ cond loaded (piece_at bytes k ∷ pieces_before bytes k) (pieces_before bytes k)
 pieces_more bytes k loaded is =
     ap (pieces_before bytes) (add-one k) ∙ ap (λ (b : Bool). cond b (piece_at bytes k ∷ pieces_before bytes k) (pieces_before bytes k)) is
 
-pub size_more : (bytes : List ℕ) (k : ℕ) (loaded : Bool) → is_loaded bytes k ≡ loaded → size_before bytes (k + 1) ≡ cond loaded (length (piece_at bytes k).bytes + size_before bytes k) (size_before bytes k)
+pub size_more : (bytes : List ℕ) (k : ℕ) (loaded : Bool) → is_loaded bytes k ≡ loaded →
+    size_before bytes (k + 1) ≡ cond loaded (length (piece_at bytes k).bytes + size_before bytes k) (size_before bytes k)
 size_more bytes k loaded is =
     ap (size_before bytes) (add-one k) ∙ ap (λ (b : Bool). cond b (length (piece_at bytes k).bytes + size_before bytes k) (size_before bytes k)) is
 
 -- one more segment that is loaded
-pub segment_more : (bytes : List ℕ) (k : ℕ) (image new : List Run) → IsImageBefore bytes k image → is_loaded bytes k ≡ true → is_cut_at bytes k ≡ false → Lays (piece_at bytes k) image new → IsImageBefore bytes (k + 1) new
+pub segment_more : (bytes : List ℕ) (k : ℕ) (image new : List Run) → IsImageBefore bytes k image → is_loaded bytes k ≡ true → is_cut_at bytes k ≡ false →
+    Lays (piece_at bytes k) image new → IsImageBefore bytes (k + 1) new
 segment_more bytes k image new before loaded whole lays =
     let piece = piece_at bytes k in
     record {
-      right = below_more (λ (j : ℕ). IsTrue (is_loaded bytes j) → IsRight bytes j) k before.right (λ is. record { whole = whole; fits = lays.fits; agrees = agrees_same piece image (pieces_before bytes k) (2 ^ 32) before.union lays.agrees });
+      right = below_more (λ (j : ℕ). IsTrue (is_loaded bytes j) → IsRight bytes j) k before.right
+          (λ is. record { whole = whole; fits = lays.fits; agrees = agrees_same piece image (pieces_before bytes k) (2 ^ 32) before.union lays.agrees });
       union = λ a.
           lays.union a
           ∙ ap (λ (o : Option ℕ). cond (holds piece a) (Some (byte_of piece a)) o) (before.union a)
@@ -55,7 +60,8 @@ segment_skipped bytes k image before skipped =
       maximal = before.maximal;
     }
 
-clash_same : (piece : Run) (image other : List Run) (at old new : ℕ) → IsSameMap image other → IsFirstClash piece image at old new → IsFirstClash piece other at old new
+clash_same : (piece : Run) (image other : List Run) (at old new : ℕ) → IsSameMap image other → IsFirstClash piece image at old new →
+    IsFirstClash piece other at old new
 clash_same piece image other at old new same clash =
     record {
       held = clash.held;
@@ -66,7 +72,8 @@ clash_same piece image other at old new same clash =
     }
 
 -- a refusal asks for the image's bytes alone
-pub fault_same : (bytes : List ℕ) (k : ℕ) (image other : List Run) (fault : ImageFault) → IsSameMap image other → IsSegmentFault bytes k image fault → IsSegmentFault bytes k other fault
+pub fault_same : (bytes : List ℕ) (k : ℕ) (image other : List Run) (fault : ImageFault) → IsSameMap image other → IsSegmentFault bytes k image fault →
+    IsSegmentFault bytes k other fault
 fault_same bytes k image other NoForm same is = is
 fault_same bytes k image other (Hex fault) same is = is
 fault_same bytes k image other (Srec fault) same is = is
@@ -111,12 +118,14 @@ is_refused bytes k image fault is =
     cut_by (is_cut bytes s.offset s.filesz) (Truncated field.Segment) fault (part bytes s.offset s.filesz) is
 
 -- a segment whose bytes were not added
-pub lay_refused : (bytes : List ℕ) (k : ℕ) (image : List Run) (fault : LayFault) → segment_part bytes k ≡ Ok (piece_at bytes k).bytes → IsLayFault (piece_at bytes k) image fault → IsSegmentFault bytes k image (fault_of fault)
+pub lay_refused : (bytes : List ℕ) (k : ℕ) (image : List Run) (fault : LayFault) → segment_part bytes k ≡ Ok (piece_at bytes k).bytes →
+    IsLayFault (piece_at bytes k) image fault → IsSegmentFault bytes k image (fault_of fault)
 lay_refused bytes k image (lay.Conflict at old new) whole is = (is_whole bytes k (piece_at bytes k).bytes whole, is)
 lay_refused bytes k image (lay.PastEnd at) whole is = (is_whole bytes k (piece_at bytes k).bytes whole, is)
 lay_refused bytes k image lay.OutOfMemory whole is = tt
 
-first_refused : (bytes : List ℕ) (k : ℕ) (image : List Run) (fault : ImageFault) → file_fault bytes ≡ None → k < e_phnum bytes → is_loaded bytes k ≡ true → IsImageBefore bytes k image → IsSegmentFault bytes k image fault → IsFirstRefused bytes fault
+first_refused : (bytes : List ℕ) (k : ℕ) (image : List Run) (fault : ImageFault) → file_fault bytes ≡ None → k < e_phnum bytes → is_loaded bytes k ≡ true →
+    IsImageBefore bytes k image → IsSegmentFault bytes k image fault → IsFirstRefused bytes fault
 first_refused bytes k image fault readable inside loaded before is =
     record {
       readable = readable;
@@ -128,12 +137,14 @@ first_refused bytes k image fault readable inside loaded before is =
     }
 
 -- a refused segment as a refused file
-pub elf_refused : (bytes : List ℕ) (k : ℕ) (image : List Run) (fault : ImageFault) → file_fault bytes ≡ None → k < e_phnum bytes → is_loaded bytes k ≡ true → IsImageBefore bytes k image → IsSegmentFault bytes k image fault → IsFaultOfForm (Some form.Elf) bytes fault
+pub elf_refused : (bytes : List ℕ) (k : ℕ) (image : List Run) (fault : ImageFault) → file_fault bytes ≡ None → k < e_phnum bytes → is_loaded bytes k ≡ true →
+    IsImageBefore bytes k image → IsSegmentFault bytes k image fault → IsFaultOfForm (Some form.Elf) bytes fault
 elf_refused bytes k image NoForm readable inside loaded before is = absurd is
 elf_refused bytes k image (Hex fault) readable inside loaded before is = absurd is
 elf_refused bytes k image (Srec fault) readable inside loaded before is = absurd is
 elf_refused bytes k image (Elf fault) readable inside loaded before is = (refl, inr (first_refused bytes k image (Elf fault) readable inside loaded before is))
-elf_refused bytes k image (Conflict at old new) readable inside loaded before is = (refl, first_refused bytes k image (Conflict at old new) readable inside loaded before is)
+elf_refused bytes k image (Conflict at old new) readable inside loaded before is =
+    (refl, first_refused bytes k image (Conflict at old new) readable inside loaded before is)
 elf_refused bytes k image (PastEnd at) readable inside loaded before is = first_refused bytes k image (PastEnd at) readable inside loaded before is
 elf_refused bytes k image (OutsideDevice at) readable inside loaded before is = is
 elf_refused bytes k image EmptyImage readable inside loaded before is = is

@@ -1,5 +1,6 @@
 -- The runs of two images, laid one after another: the union of the first runs of both grows by one.
-use Rattle.std.proofs.Common.{◌≡◌, ⊎_elim, ◌≤◌, ◌<◌, ◌+◌, ◌-◌, ◌^◌, ◌∙◌, ℕ, zero, suc, List, [], ◌∷◌, length, take, drop, Option, Some, None, Bool, true, false, cond, refl, sym, ap, subst, arith, add-one}
+use Rattle.std.proofs.Common.{◌≡◌, ⊎_elim, ◌≤◌, ◌<◌, ◌+◌, ◌-◌, ◌^◌, ◌∙◌, ℕ, zero, suc, List, [], ◌∷◌, length, take, drop, Option, Some, None, Bool, true, false}
+use Rattle.std.proofs.Common.{cond, refl, sym, ap, subst, arith, add-one}
 use Rattle.std.proofs.Math.Seq.{take-length}
 use Rattle.std.proofs.lemmas.Bool.{cases_lt}
 use Rattle.std.proofs.lemmas.List.{length-take, take-append-drop}
@@ -72,7 +73,8 @@ byte_at-more : (x : List Run) (k a : ℕ) → k < length x → byte_at (take (su
 byte_at-more [] k a lt = absurd (omega arith)
 byte_at-more (r ∷ rs) zero a lt = refl
 byte_at-more (r ∷ rs) (suc k) a lt =
-    elim (holds r a) as (λ (b : Bool). cond b (Some (byte_of r a)) (byte_at (take (suc k) rs) a) ≡ or_else (cond b (Some (byte_of r a)) (byte_at (take k rs) a)) (byte_at (run_at rs k ∷ []) a)) [ true ↦ refl | false ↦ byte_at-more rs k a (omega arith) ]
+    elim (holds r a) as (λ (b : Bool). cond b (Some (byte_of r a)) (byte_at (take (suc k) rs) a) ≡ or_else (cond b (Some (byte_of r a)) (byte_at (take k rs) a))
+    (byte_at (run_at rs k ∷ []) a)) [ true ↦ refl | false ↦ byte_at-more rs k a (omega arith) ]
 
 -- a byte of the first runs is the image's, and its run is one of them
 taken_byte : (x : List Run) (n a byte : ℕ) → byte_at (take n x) a ≡ Some byte → byte_at x a ≡ Some byte
@@ -87,7 +89,8 @@ taken_run x n a byte is =
     let less : l < n = omega (arith, length-take n x) in
     (l, less, omega (arith, length-take n x), subst (λ (r : Run). holds r a ≡ true) (run_at-take x n l less) held)
 
-found_taken : (x : List Run) (n k a : ℕ) → AreMaximal 0 (2 ^ 32) x → k < n → k < length x → holds (run_at x k) a ≡ true → byte_at (take n x) a ≡ Some (byte_of (run_at x k) a)
+found_taken : (x : List Run) (n k a : ℕ) → AreMaximal 0 (2 ^ 32) x → k < n → k < length x → holds (run_at x k) a ≡ true →
+    byte_at (take n x) a ≡ Some (byte_of (run_at x k) a)
 found_taken x n k a m less lt held =
     let is = run_at-take x n k less in
     found_in 0 (2 ^ 32) (take n x) k a (maximal_take 0 (2 ^ 32) x n m) (omega (arith, length-take n x)) (subst (λ (r : Run). holds r a ≡ true) (sym is) held)
@@ -95,21 +98,24 @@ found_taken x n k a m less lt held =
 
 -- One more run.
 
-more_same : (p : Run) (a : ℕ) (before other : Option ℕ) (held : Bool) → holds p a ≡ held → (held ≡ true → before ≡ None) → (held ≡ true → (byte : ℕ) → other ≡ Some byte → byte ≡ byte_of p a)
+more_same : (p : Run) (a : ℕ) (before other : Option ℕ) (held : Bool) → holds p a ≡ held → (held ≡ true → before ≡ None) →
+    (held ≡ true → (byte : ℕ) → other ≡ Some byte → byte ≡ byte_of p a)
     → cond (holds p a) (Some (byte_of p a)) (or_else other before) ≡ or_else other (or_else before (byte_at (p ∷ []) a))
 more_same p a before None true is none agrees = let no = none refl in grind (arith)
 more_same p a before (Some byte) true is none agrees = let same = agrees refl byte refl in grind (arith)
 more_same p a before None false is none agrees = grind (arith)
 more_same p a before (Some byte) false is none agrees = grind (arith)
 
-more_agree : (p : Run) (a byte other : ℕ) (before : Option ℕ) (held : Bool) → holds p a ≡ held → (held ≡ true → before ≡ None) → or_else before (byte_at (p ∷ []) a) ≡ Some byte
+more_agree : (p : Run) (a byte other : ℕ) (before : Option ℕ) (held : Bool) → holds p a ≡ held → (held ≡ true → before ≡ None) →
+    or_else before (byte_at (p ∷ []) a) ≡ Some byte
     → (held ≡ true → other ≡ byte_of p a) → (before ≡ Some byte → byte ≡ other) → byte ≡ other
 more_agree p a byte other None true is none byte_is agrees earlier = let same = agrees refl in grind (arith)
 more_agree p a byte other (Some b) true is none byte_is agrees earlier = let no = none refl in absurd (cc)
 more_agree p a byte other None false is none byte_is agrees earlier = absurd (grind (arith))
 more_agree p a byte other (Some b) false is none byte_is agrees earlier = earlier byte_is
 
-pub union_more : (x y : List Run) (i j : ℕ) (map new : List Run) → AreMaximal 0 (2 ^ 32) x → i < length x → IsUnion (take i x) (take j y) map → Lays (run_at x i) map new → IsUnion (take (i + 1) x) (take j y) new
+pub union_more : (x y : List Run) (i j : ℕ) (map new : List Run) → AreMaximal 0 (2 ^ 32) x → i < length x → IsUnion (take i x) (take j y) map →
+    Lays (run_at x i) map new → IsUnion (take (i + 1) x) (take j y) new
 union_more x y i j map new m lt is lays =
     let p = run_at x i in
     let none = λ (a : ℕ) (held : holds p a ≡ true). none_before x i a m lt held in
@@ -132,7 +138,8 @@ union_more x y i j map new m lt is lays =
 -- Where a run clashes.
 
 -- the run of the other image that has the clashing byte ends the runs below it
-other_laid : (y : List Run) (j l k a at : ℕ) → AreMaximal 0 (2 ^ 32) y → l < j → holds (run_at y l) at ≡ true → k < length y → holds (run_at y k) a ≡ true → a < at → k < j
+other_laid : (y : List Run) (j l k a at : ℕ) → AreMaximal 0 (2 ^ 32) y → l < j → holds (run_at y l) at ≡ true → k < length y → holds (run_at y k) a ≡ true →
+    a < at → k < j
 other_laid y j l k a at m less held lt in_run below =
     ⊎_elim (λ (yes_ : k < j). yes_)
     (λ (ge : j ≤ k).
@@ -142,7 +149,8 @@ other_laid y j l k a at m less held lt in_run below =
     absurd (omega (arith, up, to, from)))
     (cases_lt k j)
 
-clash_below : (x y : List Run) (i j : ℕ) (map : List Run) (at old new : ℕ) → AreMaximal 0 (2 ^ 32) x → AreMaximal 0 (2 ^ 32) y → i < length x → IsUnion (take i x) (take j y) map
+clash_below : (x y : List Run) (i j : ℕ) (map : List Run) (at old new : ℕ) → AreMaximal 0 (2 ^ 32) x → AreMaximal 0 (2 ^ 32) y → i < length x →
+    IsUnion (take i x) (take j y) map
     → IsFirstClash (run_at x i) map at old new → byte_at (take j y) at ≡ Some old → AgreeBelow y x at
 clash_below x y i j map at old new mx my lt is clash old_is a o n below o_is n_is =
     let (l, less, within, held) = taken_run y j at old old_is in
@@ -153,7 +161,8 @@ clash_below x y i j map at old new mx my lt is clash old_is a o n below o_is n_i
     let to = held_to (run_at x i) at clash.held in
     let limit = (each_run 0 (2 ^ 32) x i mx lt).2 in
     ⊎_elim
-    (λ (earlier : h < i). sym (is.agree a n o (omega (arith, to, limit)) (found_taken x i h a mx earlier lt_h held_h ∙ ap (λ (b : ℕ). Some b) (sym n_of)) other))
+    (λ (earlier : h < i). sym (is.agree a n o (omega (arith, to, limit)) (found_taken x i h a mx earlier lt_h held_h ∙ ap (λ (b : ℕ). Some b) (sym n_of))
+    other))
     (λ (ge : i ≤ h). ⊎_elim
     (λ (later : i < h).
     let up = rising 0 (2 ^ 32) x i h mx later lt_h in
@@ -166,7 +175,8 @@ clash_below x y i j map at old new mx my lt is clash old_is a o n below o_is n_i
     (cases_lt i h))
     (cases_lt h i)
 
-clash_of : (x y : List Run) (i j : ℕ) (map : List Run) (at old new : ℕ) → AreMaximal 0 (2 ^ 32) x → AreMaximal 0 (2 ^ 32) y → i < length x → IsUnion (take i x) (take j y) map
+clash_of : (x y : List Run) (i j : ℕ) (map : List Run) (at old new : ℕ) → AreMaximal 0 (2 ^ 32) x → AreMaximal 0 (2 ^ 32) y → i < length x →
+    IsUnion (take i x) (take j y) map
     → IsFirstClash (run_at x i) map at old new → IsLeastClash y x at old new
 clash_of x y i j map at old new mx my lt is clash =
     let none = none_before x i at mx lt clash.held in
@@ -181,12 +191,14 @@ clash_of x y i j map at old new mx my lt is clash =
     }
 
 -- a run that is refused, of the image that is new and of the one that is old
-pub new_fault : (x y : List Run) (i j : ℕ) (map : List Run) (fault : LayFault) → AreMaximal 0 (2 ^ 32) x → AreMaximal 0 (2 ^ 32) y → i < length x → IsUnion (take i x) (take j y) map → IsLayFault (run_at x i) map fault → IsUnionFault y x (fault_of fault)
+pub new_fault : (x y : List Run) (i j : ℕ) (map : List Run) (fault : LayFault) → AreMaximal 0 (2 ^ 32) x → AreMaximal 0 (2 ^ 32) y → i < length x →
+    IsUnion (take i x) (take j y) map → IsLayFault (run_at x i) map fault → IsUnionFault y x (fault_of fault)
 new_fault x y i j map (Conflict at old new) mx my lt is refused = clash_of x y i j map at old new mx my lt is refused.1
 new_fault x y i j map (PastEnd at) mx my lt is refused = absurd (omega (arith, refused.1, (each_run 0 (2 ^ 32) x i mx lt).2))
 new_fault x y i j map OutOfMemory mx my lt is refused = tt
 
-pub old_fault : (x y : List Run) (i j : ℕ) (map : List Run) (fault : LayFault) → AreMaximal 0 (2 ^ 32) x → AreMaximal 0 (2 ^ 32) y → i < length x → IsUnion (take i x) (take j y) map → IsLayFault (run_at x i) map fault → IsUnionFault x y (fault_of (swapped fault))
+pub old_fault : (x y : List Run) (i j : ℕ) (map : List Run) (fault : LayFault) → AreMaximal 0 (2 ^ 32) x → AreMaximal 0 (2 ^ 32) y → i < length x →
+    IsUnion (take i x) (take j y) map → IsLayFault (run_at x i) map fault → IsUnionFault x y (fault_of (swapped fault))
 old_fault x y i j map (Conflict at old new) mx my lt is refused = clash_swap y x at old new (clash_of x y i j map at old new mx my lt is refused.1)
 old_fault x y i j map (PastEnd at) mx my lt is refused = absurd (omega (arith, refused.1, (each_run 0 (2 ^ 32) x i mx lt).2))
 old_fault x y i j map OutOfMemory mx my lt is refused = tt
@@ -210,17 +222,20 @@ united_none image other union is =
       new_within = omega arith;
     }
 
-pub united_old : (image other : List Run) (index old : ℕ) (map new : List Run) → AreMaximal 0 (2 ^ 32) image → old < length image → IsUnited image other index old map → Lays (run_at image old) map new → IsUnited image other (index + 1) (old + 1) new
+pub united_old : (image other : List Run) (index old : ℕ) (map new : List Run) → AreMaximal 0 (2 ^ 32) image → old < length image →
+    IsUnited image other index old map → Lays (run_at image old) map new → IsUnited image other (index + 1) (old + 1) new
 united_old image other index old map new m lt is lays =
     let same : index - old ≡ index + 1 - (old + 1) = omega arith in
     record {
-      union_is = subst (λ (n : ℕ). IsUnion (take (old + 1) image) (take n other) new) same (union_more image other old (index - old) map new m lt is.union_is lays);
+      union_is = subst (λ (n : ℕ). IsUnion (take (old + 1) image) (take n other) new) same
+          (union_more image other old (index - old) map new m lt is.union_is lays);
       ordered = omega (arith, is.ordered);
       old_within = omega arith;
       new_within = omega (arith, is.new_within);
     }
 
-pub united_new : (image other : List Run) (index old : ℕ) (map new : List Run) → AreMaximal 0 (2 ^ 32) other → index - old < length other → IsUnited image other index old map → Lays (run_at other (index - old)) map new → IsUnited image other (index + 1) old new
+pub united_new : (image other : List Run) (index old : ℕ) (map new : List Run) → AreMaximal 0 (2 ^ 32) other → index - old < length other →
+    IsUnited image other index old map → Lays (run_at other (index - old)) map new → IsUnited image other (index + 1) old new
 united_new image other index old map new m lt is lays =
     let place = index - old in
     let same : place + 1 ≡ index + 1 - old = omega (arith, is.ordered) in
@@ -232,6 +247,8 @@ united_new image other index old map new m lt is lays =
       new_within = omega (arith, is.ordered);
     }
 
-pub united_all : (image other : List Run) (index old : ℕ) (union : List Run) → index ≡ length image + length other → IsUnited image other index old union → IsUnion image other union
+pub united_all : (image other : List Run) (index old : ℕ) (union : List Run) → index ≡ length image + length other → IsUnited image other index old union →
+    IsUnion image other union
 united_all image other index old union end is =
-    union_all image other union old (index - old) (omega (arith, end, is.ordered, is.old_within, is.new_within)) (omega (arith, end, is.ordered, is.old_within, is.new_within)) is.union_is
+    union_all image other union old (index - old) (omega (arith, end, is.ordered, is.old_within, is.new_within))
+    (omega (arith, end, is.ordered, is.old_within, is.new_within)) is.union_is

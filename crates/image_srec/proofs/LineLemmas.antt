@@ -1,5 +1,6 @@
 -- What is at fault with a line of S-records, and what taking it answers.
-use Rattle.std.proofs.Common.{◌≡◌, ◌++◌, ◌+◌, ◌-◌, ◌*◌, ◌∙◌, ◌≤◌, ℕ, Bool, true, false, cond, List, [], ◌∷◌, Option, Some, None, Result, Ok, Err, length, get_or, take, drop, refl, sym, ap, subst, arith}
+use Rattle.std.proofs.Common.{◌≡◌, ◌++◌, ◌+◌, ◌-◌, ◌*◌, ◌∙◌, ◌≤◌, ℕ, Bool, true, false, cond, List, [], ◌∷◌, Option, Some, None, Result, Ok, Err, length}
+use Rattle.std.proofs.Common.{get_or, take, drop, refl, sym, ap, subst, arith}
 use Rattle.std.specs.Prelude.{◌==◌, ◌&&◌, ◌||◌, not, nat_lt, nat_le}
 use Rattle.std.specs.List.{list_all}
 use Rattle.std.proofs.lemmas.Bool.Decides.{nat_tests}
@@ -12,7 +13,8 @@ use Rattle.record_lines.specs.declared.fault.ClashFault.{ClashFault}
 use Rattle.record_lines.specs.declared.fault.ClashFault.TheVariants as clash
 use Rattle.record_lines.proofs.CellLemmas.{consistent_from}
 use Rattle.image_srec.specs.declared.fault.SrecKind.{SrecKind}
-use Rattle.image_srec.specs.declared.fault.SrecKind.TheVariants.{NotRecord, BadDigit, BadLength, BadSum, BadType, CountDiffers, PastEnd, Conflict, NoEnd, OutOfMemory}
+use Rattle.image_srec.specs.declared.fault.SrecKind.TheVariants.{NotRecord, BadDigit, BadLength, BadSum, BadType, CountDiffers, PastEnd, Conflict, NoEnd}
+use Rattle.image_srec.specs.declared.fault.SrecKind.TheVariants.{OutOfMemory}
 use Rattle.image_srec.specs.declared.record.Seen.{Seen}
 use Rattle.image_srec.specs.declared.record.SrecRecord.{SrecRecord}
 use Rattle.image_srec.specs.declared.record.SrecRecord.TheVariants.{Header, Data, Count, End}
@@ -48,7 +50,8 @@ proper_digits : (value : ℕ) (digits : List ℕ) → IsProper (read_digits valu
 proper_digits value digits =
     proper (not (list_all is_hex_digit digits)) _ _ tt
     (proper (value == 4) _ _ tt
-    (proper (nat_lt (length digits) 2 || (not (length digits == 2 + 2 * get_or (pairs digits) 0 0) || not (is_long_enough value (get_or (pairs digits) 0 0)))) _ _ tt (proper_checked value (pairs digits))))
+    (proper (nat_lt (length digits) 2 || (not (length digits == 2 + 2 * get_or (pairs digits) 0 0) || not (is_long_enough value (get_or (pairs digits) 0 0)))) _
+    _ tt (proper_checked value (pairs digits))))
 
 pub proper_line : (line : List ℕ) → IsProper (read_line line)
 proper_line [] = tt
@@ -73,16 +76,19 @@ of_record seen End = tt
 of_clash : (o : Option SrecKind) (c : Option Clash) (kind : SrecKind) → IsRefusal o → or_clash srec o c ≡ Some kind → IsKindOfLine kind
 of_clash (Some fault) c kind proper_ is = let some : Some fault ≡ Some kind = is in let same : fault ≡ kind = cc in subst IsKindOfLine same proper_
 of_clash None None kind proper_ is = let nothing : None ≡ Some kind = is in absurd (cc)
-of_clash None (Some c) kind proper_ is = let some : Some (Conflict c.at c.old c.new) ≡ Some kind = is in let same : Conflict c.at c.old c.new ≡ kind = cc in subst IsKindOfLine same tt
+of_clash None (Some c) kind proper_ is = let some : Some (Conflict c.at c.old c.new) ≡ Some kind = is in let same : Conflict c.at c.old c.new ≡ kind = cc in
+    subst IsKindOfLine same tt
 
-of_reading : (reading : Reading) (seen : Seen) (before : List Cell) (kind : SrecKind) → IsProper reading → line_fault srec seen before reading ≡ Some kind → IsKindOfLine kind
+of_reading : (reading : Reading) (seen : Seen) (before : List Cell) (kind : SrecKind) → IsProper reading → line_fault srec seen before reading ≡ Some kind →
+    IsKindOfLine kind
 of_reading (Ok None) seen before kind proper_ is = let nothing : None ≡ Some kind = is in absurd (cc)
 of_reading (Ok (Some r)) seen before kind proper_ is = of_clash (refused seen r) (first_clash before (srec.cells seen r)) kind (of_record seen r) is
 of_reading (Err fault) seen before kind proper_ is = let some : Some fault ≡ Some kind = is in let same : fault ≡ kind = cc in subst IsKindOfLine same proper_
 
 of_line : (lines : List (List ℕ)) (line : ℕ) (kind : SrecKind) → IsFaultOfLine srec lines line kind → IsKindOfLine kind
 of_line lines line kind is =
-    of_reading (read_line (line_at lines is.place)) (context_before srec lines is.place) (cells_before srec lines is.place) kind (proper_line (line_at lines is.place)) is.fault_is
+    of_reading (read_line (line_at lines is.place)) (context_before srec lines is.place) (cells_before srec lines is.place) kind
+    (proper_line (line_at lines is.place)) is.fault_is
 
 -- a fault of a line as the text's fault
 pub line_as_srec : (lines : List (List ℕ)) (line : ℕ) (kind : SrecKind) → IsFaultOfLine srec lines line kind → IsSrecFault lines line kind
@@ -109,12 +115,15 @@ in_range : (at : ℕ) (bytes : List ℕ) → at + length bytes ≤ 4294967296 �
 in_range at bytes fits = ap (λ (b : Bool). cond b (Some (PastEnd at)) None) (not_past 4294967296 (at + length bytes) fits)
 
 -- whose bytes were added
-pub took_data : (reading : Reading) (before : List Cell) (seen next : Seen) (at : ℕ) (bytes : List ℕ) (image : List Run) → reading ≡ Ok (Some (Data at bytes)) → at + length bytes ≤ 4294967296
-    → next ≡ record { records = seen.records + 1 } → (first_clash before (cells_from at bytes) ≡ None) × IsImageOf (cells_from at bytes ++ before) image → TakesLine srec reading before seen next false image
+pub took_data : (reading : Reading) (before : List Cell) (seen next : Seen) (at : ℕ) (bytes : List ℕ) (image : List Run) → reading ≡ Ok (Some (Data at bytes)) →
+    at + length bytes ≤ 4294967296
+    → next ≡ record { records = seen.records + 1 } → (first_clash before (cells_from at bytes) ≡ None) × IsImageOf (cells_from at bytes ++ before) image →
+    TakesLine srec reading before seen next false image
 took_data reading before seen next at bytes image is fits counted laid =
     subst (λ (r : Reading). TakesLine srec r before seen next false image) (sym is)
     (record {
-      right = ap (λ (o : Option SrecKind). or_clash srec o (first_clash before (cells_from at bytes))) (in_range at bytes fits) ∙ ap (or_clash srec None) laid.0;
+      right = ap (λ (o : Option SrecKind). or_clash srec o (first_clash before (cells_from at bytes))) (in_range at bytes fits) ∙
+          ap (or_clash srec None) laid.0;
       ends_is = refl;
       known_is = counted;
       image_is = laid.1;
@@ -129,7 +138,8 @@ clash_as_line (clash.Conflict a o n) before seen at bytes fits is =
     ap (λ (x : Option SrecKind). or_clash srec x (first_clash before (cells_from at bytes))) (in_range at bytes fits) ∙ ap (or_clash srec None) is
 clash_as_line clash.OutOfMemory before seen at bytes fits is = tt
 
-pub clashed : (reading : Reading) (fault : ClashFault) (before : List Cell) (seen : Seen) (at : ℕ) (bytes : List ℕ) → reading ≡ Ok (Some (Data at bytes)) → at + length bytes ≤ 4294967296
+pub clashed : (reading : Reading) (fault : ClashFault) (before : List Cell) (seen : Seen) (at : ℕ) (bytes : List ℕ) → reading ≡ Ok (Some (Data at bytes)) →
+    at + length bytes ≤ 4294967296
     → IsClashFault fault (first_clash before (cells_from at bytes)) → IsLineFault srec reading before seen (line_fault_of fault)
 clashed reading fault before seen at bytes is fits there =
     subst (λ (r : Reading). IsLineFault srec r before seen (line_fault_of fault)) (sym is) (clash_as_line fault before seen at bytes fits there)

@@ -31,7 +31,8 @@ srec_memory_alone lines image line srec_kind.BadDigit one is = absurd (image_or_
 srec_memory_alone lines image line srec_kind.BadLength one is = absurd (image_or_fault srec lines image line srec_kind.BadLength one is)
 srec_memory_alone lines image line (srec_kind.BadSum said due) one is = absurd (image_or_fault srec lines image line (srec_kind.BadSum said due) one is)
 srec_memory_alone lines image line (srec_kind.BadType value) one is = absurd (image_or_fault srec lines image line (srec_kind.BadType value) one is)
-srec_memory_alone lines image line (srec_kind.CountDiffers said seen) one is = absurd (image_or_fault srec lines image line (srec_kind.CountDiffers said seen) one is)
+srec_memory_alone lines image line (srec_kind.CountDiffers said seen) one is =
+    absurd (image_or_fault srec lines image line (srec_kind.CountDiffers said seen) one is)
 srec_memory_alone lines image line (srec_kind.PastEnd at) one is = absurd (image_or_fault srec lines image line (srec_kind.PastEnd at) one is)
 srec_memory_alone lines image line (srec_kind.Conflict at old new) one is = absurd (image_or_fault srec lines image line (srec_kind.Conflict at old new) one is)
 srec_memory_alone lines image line srec_kind.NoEnd one is = absurd (image_or_no_end srec lines image line one is)
@@ -46,8 +47,10 @@ pub one_srec_fault : (lines : List (List ℕ)) (line other : ℕ) (a b : SrecKin
 one_srec_fault lines line other a b one two no_a no_b = ⊎_elim
     (λ (one : IsFaultOfLine srec lines line a). ⊎_elim
     (λ (two : IsFaultOfLine srec lines other b). let same = one_line_fault srec lines line other a b one two in (same.line_is, same.fault_is))
-    (λ (two : (b ≡ srec_kind.NoEnd) × HasNoEnd srec lines other). absurd (fault_or_no_end srec lines line other a one two.1)) (srec_fault_is lines other b two no_b))
+    (λ (two : (b ≡ srec_kind.NoEnd) × HasNoEnd srec lines other). absurd (fault_or_no_end srec lines line other a one two.1))
+    (srec_fault_is lines other b two no_b))
     (λ (one : (a ≡ srec_kind.NoEnd) × HasNoEnd srec lines line). ⊎_elim
     (λ (two : IsFaultOfLine srec lines other b). absurd (fault_or_no_end srec lines other line b two one.1))
-    (λ (two : (b ≡ srec_kind.NoEnd) × HasNoEnd srec lines other). (one_no_end srec lines line other one.1 two.1, one.0 ∙ sym two.0)) (srec_fault_is lines other b two no_b))
+    (λ (two : (b ≡ srec_kind.NoEnd) × HasNoEnd srec lines other). (one_no_end srec lines line other one.1 two.1, one.0 ∙ sym two.0))
+    (srec_fault_is lines other b two no_b))
     (srec_fault_is lines line a one no_a)

@@ -1,5 +1,6 @@
 -- A file is hashed window by window. `put_hashed` and `find_damage` hash so.
-use Rattle.std.proofs.Common.{◌≡◌, ◌≤◌, ◌<◌, ◌+◌, ◌-◌, ◌++◌, ◌∙◌, ℕ, List, Bool, true, false, not, ◌&&◌, nat_eq, leb, IsTrue, if◌then◌else◌, length, take, drop, Option, Some, None, Bor, refl, sym, ap, subst, arith}
+use Rattle.std.proofs.Common.{◌≡◌, ◌≤◌, ◌<◌, ◌+◌, ◌-◌, ◌++◌, ◌∙◌, ℕ, List, Bool, true, false, not, ◌&&◌, nat_eq, leb, IsTrue, if◌then◌else◌, length, take, drop}
+use Rattle.std.proofs.Common.{Option, Some, None, Bor, refl, sym, ap, subst, arith}
 use Rattle.std.specs.Prelude.{bytes_eq, option_copied}
 use Rattle.std.specs.List.{concat}
 use Rattle.std.specs.Cmp.Lexicographic.{pointwise, same_text, bytes_decides}
@@ -84,13 +85,15 @@ pub short_intact : (body : List ℕ) → length body < 63 → is_damaged body �
 short_intact body short = ap (λ (b : Bool). (b && is_second body) && not (bytes_eq (kept_in body) (found_in body))) (lt-leb 63 (length body) short)
 
 -- what the hashes say
-hashes_say : (body kept found : List ℕ) (b : Bool) → 63 ≤ length body → is_second body ≡ true → kept ≡ kept_in body → found ≡ found_in body → bytes_eq kept found ≡ b → is_damaged body ≡ not b
+hashes_say : (body kept found : List ℕ) (b : Bool) → 63 ≤ length body → is_second body ≡ true → kept ≡ kept_in body → found ≡ found_in body
+    → bytes_eq kept found ≡ b → is_damaged body ≡ not b
 hashes_say body kept found b long second kept_is found_is is =
     let enough : leb 63 (length body) ≡ true = le-leb _ _ long in
     let same : bytes_eq (kept_in body) (found_in body) ≡ b = (λ i. bytes_eq (sym kept_is i) (sym found_is i)) ∙ is in
     λ i. (enough i && second i) && not (same i)
 
-pub damage_is : (body kept found : List ℕ) (o : Option Damage) → 63 ≤ length body → is_second body ≡ true → kept ≡ kept_in body → found ≡ found_in body → AreHashes kept found o → IsDamage o body
+pub damage_is : (body kept found : List ℕ) (o : Option Damage) → 63 ≤ length body → is_second body ≡ true → kept ≡ kept_in body → found ≡ found_in body
+    → AreHashes kept found o → IsDamage o body
 damage_is body kept found None long second kept_is found_is is = hashes_say body kept found true long second kept_is found_is is
 damage_is body kept found (Some damage) long second kept_is found_is (same_kept, same_found, is) =
     (hashes_say body kept found false long second kept_is found_is is, same_kept ∙ kept_is, same_found ∙ found_is)
@@ -106,7 +109,8 @@ pub concat_none : (p : JobParts) → p.second ≡ None → p.flm.now ≡ concat 
 concat_none p is = sym (append-nil p.flm.now) ∙ ap (λ (o : Option (Bor (List ℕ))). concat (files_with p.flm.now (option_copied o))) (sym is)
 
 pub concat_some : (p : JobParts) (s : Bor (List ℕ)) → p.second ≡ Some s → p.flm.now ++ s.now ≡ concat (flms_of p)
-concat_some p s is = ap (λ (l : List ℕ). p.flm.now ++ l) (sym (append-nil s.now)) ∙ ap (λ (o : Option (Bor (List ℕ))). concat (files_with p.flm.now (option_copied o))) (sym is)
+concat_some p s is = ap (λ (l : List ℕ). p.flm.now ++ l) (sym (append-nil s.now))
+    ∙ ap (λ (o : Option (Bor (List ℕ))). concat (files_with p.flm.now (option_copied o))) (sym is)
 
 pub second_len : (p : JobParts) (s : Bor (List ℕ)) → p.second ≡ Some s → flm_len (flms_of p) 1 ≡ length s.now
 second_len p s is = ap (λ (o : Option (Bor (List ℕ))). flm_len (files_with p.flm.now (option_copied o)) 1) is

@@ -1,6 +1,5 @@
 -- A body is written behind a closed gate. While the gate is closed, whatever a stop leaves is a free file.
 use Rattle.std.proofs.Common.{◌≡◌, ◌≤◌, ◌+◌, ◌-◌, ◌++◌, ◌∷◌, ◌∙◌, ℕ, List, Bool, IsTrue, length, take, drop, refl, sym, ap, subst, arith, append_assoc}
-use Rattle.std.proofs.lemmas.List.{append-nil, take_all}
 use Rattle.std.proofs.Math.Seq.{take-add}
 use Rattle.bench_model.specs.History.{Leaves}
 use Rattle.bench_model.specs.State.{BenchState, file_half, cells_half}
@@ -24,7 +23,13 @@ cells_read_then one two = record {
 }
 
 pub cells_read_stay : (tells : Bool) (a b : BenchState) → CellsStay a b → CellsAreRead tells a b
-cells_read_stay tells a b stay = record { cells = λ told. stay.cells; operation = λ told. stay.operation; count = stay.count; moments = stays_adds_nothing stay.half }
+cells_read_stay tells a b stay = record {
+  cells = λ told. stay.cells;
+  operation = λ told. stay.operation;
+  count = stay.count;
+  moments =
+      stays_adds_nothing stay.half;
+}
 
 -- the front, and so many cells behind it
 pub record PutSoFar (tells : Bool) (start now : BenchState) (front window : List ℕ) (hasher : Sha256) (at : ℕ) : Type 0 where
@@ -38,16 +43,19 @@ pub record PutSoFar (tells : Bool) (start now : BenchState) (front window : List
   pub device : now.device_faults ≡ start.device_faults
 
 -- a step that keeps byte 0
-pub still_shut : (a b c : BenchState) → Leaves (file_half a) (file_half b) IsShut → Leaves (file_half b) (file_half c) (Follows KeepsGate (file_half b)) → Leaves (file_half a) (file_half c) IsShut
+pub still_shut : (a b c : BenchState) → Leaves (file_half a) (file_half b) IsShut → Leaves (file_half b) (file_half c) (Follows KeepsGate (file_half b))
+    → Leaves (file_half a) (file_half c) IsShut
 still_shut a b c shut moments =
     leaves_then IsShut shut (leaves_as (Follows KeepsGate (file_half b)) IsShut (λ f (d, was, same). same ∙ leaves_left IsShut shut d was) moments)
 
 -- some cells more
-pub cells_more : (front cells file new : List ℕ) (at end : ℕ) → at ≤ end → file ≡ 0 ∷ (front ++ take at cells) → new ≡ file ++ take (end - at) (drop at cells) → new ≡ 0 ∷ (front ++ take end cells)
+pub cells_more : (front cells file new : List ℕ) (at end : ℕ) → at ≤ end → file ≡ 0 ∷ (front ++ take at cells) → new ≡ file ++ take (end - at) (drop at cells)
+    → new ≡ 0 ∷ (front ++ take end cells)
 cells_more front cells file new at end le is more =
     let n : at + (end - at) ≡ end = omega (arith, le) in
     more ∙ ap (λ (l : List ℕ). l ++ take (end - at) (drop at cells)) is
-    ∙ ap (λ (l : List ℕ). 0 ∷ l) (append_assoc front (take at cells) (take (end - at) (drop at cells)) ∙ ap (λ (l : List ℕ). front ++ l) (sym (take-add at (end - at) cells)))
+    ∙ ap (λ (l : List ℕ). 0 ∷ l) (append_assoc front (take at cells) (take (end - at) (drop at cells))
+    ∙ ap (λ (l : List ℕ). front ++ l) (sym (take-add at (end - at) cells)))
     ∙ ap (λ (k : ℕ). 0 ∷ (front ++ take k cells)) n
 
 -- and their hash
@@ -57,7 +65,8 @@ hash_more front cells now old new at end n le size same holds more =
     let m : at + (end - at) ≡ end = omega (arith, le) in
     let is : (front ++ take at cells) ++ take n (drop at now) ≡ front ++ take end cells =
     append_assoc front (take at cells) (take n (drop at now))
-    ∙ ap (λ (l : List ℕ). front ++ l) (ap (λ (k : ℕ). take at cells ++ take k (drop at now)) size ∙ ap (λ (l : List ℕ). take at cells ++ take (end - at) (drop at l)) same
+    ∙ ap (λ (l : List ℕ). front ++ l) (ap (λ (k : ℕ). take at cells ++ take k (drop at now)) size
+    ∙ ap (λ (l : List ℕ). take at cells ++ take (end - at) (drop at l)) same
     ∙ sym (take-add at (end - at) cells) ∙ ap (λ (k : ℕ). take k cells) m) in
     subst (λ (l : List ℕ). Holds256 new l) is (more (front ++ take at cells) holds)
 
@@ -80,7 +89,8 @@ gate_kept to n d f some torn = gate_in to d f some torn.before
         shorter l = Rattle.std.proofs.lemmas.List.take-take 1 to l some
 
 -- a write behind byte 0, after the cells were read
-pub kept_by_write : (s m t : BenchState) (to n : ℕ) → 1 ≤ to → FileStays s m → Leaves (file_half m) (file_half t) (Follows (Torn to n) (file_half m)) → Leaves (file_half s) (file_half t) (Follows KeepsGate (file_half s))
+pub kept_by_write : (s m t : BenchState) (to n : ℕ) → 1 ≤ to → FileStays s m → Leaves (file_half m) (file_half t) (Follows (Torn to n) (file_half m))
+    → Leaves (file_half s) (file_half t) (Follows KeepsGate (file_half s))
 kept_by_write s m t to n some stay moments =
     let P : List ℕ → Type 0 = Follows KeepsGate (file_half s) in
     leaves_then P (stays_leaves P (λ f at. (f, at, refl)) stay.half)

@@ -19,7 +19,8 @@ unopened_by T a b (beginning.CellsDiffer said found) leaves = tt
 unopened_by T a b (beginning.NotAJob at) leaves = tt
 unopened_by T a b (beginning.Damaged kept found) leaves = tt
 
-pub unopened_other : (T : Type 0) (a b : Half) (fault : BeginFault) → is_device_fault (begin_fault fault) ≡ false → UnopenedAtDeviceFault {T = T} a b (Err fault)
+pub unopened_other : (T : Type 0) (a b : Half) (fault : BeginFault) → is_device_fault (begin_fault fault) ≡ false
+    → UnopenedAtDeviceFault {T = T} a b (Err fault)
 unopened_other T a b beginning.OutOfMemory other = tt
 unopened_other T a b beginning.JobOpen other = tt
 unopened_other T a b beginning.StoreFault other = tt
@@ -29,14 +30,16 @@ unopened_other T a b (beginning.NotAJob at) other = tt
 unopened_other T a b (beginning.Damaged kept found) other = tt
 
 -- behind calls after which a stop leaves nothing new
-pub unopened_behind : {T : Type 0} (a b d : Half) (result : Result T BeginFault) → AddsNothing a b → UnopenedAtDeviceFault {T = T} b d result → UnopenedAtDeviceFault {T = T} a d result
+pub unopened_behind : {T : Type 0} (a b d : Half) (result : Result T BeginFault) → AddsNothing a b → UnopenedAtDeviceFault {T = T} b d result
+    → UnopenedAtDeviceFault {T = T} a d result
 unopened_behind a b d (Ok x) adds rest = tt
 unopened_behind a b d (Err beginning.OutOfMemory) adds rest = tt
 unopened_behind a b d (Err beginning.JobOpen) adds rest = tt
 unopened_behind a b d (Err beginning.StoreFault) adds rest = tt
 unopened_behind a b d (Err beginning.DeviceFault) adds rest =
     leaves_then (IsUnopened a) (leaves_as (left a) (IsUnopened a) (λ f at. inl at) adds)
-    (leaves_as (IsUnopened b) (IsUnopened a) (λ f either. ⊎_elim (λ (at : left b f). inl (leaves_left (left a) adds f at)) (λ (free : IsFree f). inr free) either) rest)
+    (leaves_as (IsUnopened b) (IsUnopened a) (λ f either. ⊎_elim (λ (at : left b f). inl (leaves_left (left a) adds f at)) (λ (free : IsFree f). inr free)
+    either) rest)
 unopened_behind a b d (Err (beginning.CellsDiffer said found)) adds rest = tt
 unopened_behind a b d (Err (beginning.NotAJob at)) adds rest = tt
 unopened_behind a b d (Err (beginning.Damaged kept found)) adds rest = tt

@@ -157,13 +157,22 @@ module _ (tells : Bool) (b after : BenchState) (inputs : InputsCall) (takes : Ta
     said_counts text (refused output_fault) says = record {
       inputs_count = unraised inputs.before.faults inputs.after.faults input (refused output_fault) takes.faults (λ its. let wrong : output ≡ input = cc in cc);
       store_count = unraised b.store_faults after.store_faults store (refused output_fault) same (λ its. let wrong : output ≡ store = cc in cc);
-      device_count = unraised b.device_faults after.device_faults device (refused output_fault) reads.cells.faults (λ its. let wrong : output ≡ device = cc in cc);
+      device_count = unraised b.device_faults after.device_faults device (refused output_fault) reads.cells.faults
+          (λ its. let wrong : output ≡ device = cc in cc);
       out_count = record { later = says.later; only = λ its. says.rose; answered = λ more. refl };
     }
     said_counts text (refused r) says = absurd says
 
-    said_lawful : (text : List ℕ) (answer : Answer) → SaysText out text answer → EndsLawfully on_job_file (bench_call tells b after) inputs out has_status [] answer
-    said_lawful text done says = record { kind = tt; counts = said_counts text done says; stands = tt; untaken = λ name is. absurd (cc); none_failed = λ told no. takes.failed }
+    said_lawful : (text : List ℕ) (answer : Answer) → SaysText out text answer
+        → EndsLawfully on_job_file (bench_call tells b after) inputs out has_status [] answer
+    said_lawful text done says = record {
+      kind = tt;
+      counts = said_counts text done says;
+      stands = tt;
+      untaken = λ name is. absurd (cc);
+      none_failed =
+          λ told no. takes.failed;
+    }
     said_lawful text (refused output_fault) says = record {
       kind = refl;
       counts = said_counts text (refused output_fault) says;
@@ -173,17 +182,20 @@ module _ (tells : Bool) (b after : BenchState) (inputs : InputsCall) (takes : Ta
     }
     said_lawful text (refused r) says = absurd says
 
-    comes_none : (answer : Answer) → SaysText out no_job_text answer → SaysNone (bench_call tells b after) out answer → ComesOfJobFile (bench_call tells b after) out answer
+    comes_none : (answer : Answer) → SaysText out no_job_text answer → SaysNone (bench_call tells b after) out answer
+        → ComesOfJobFile (bench_call tells b after) out answer
     comes_none done says none = inl none
     comes_none (refused output_fault) says none = inl none
     comes_none (refused r) says none = absurd says
 
-    comes_job : (answer : Answer) (text : List ℕ) → SaysText out text answer → SaysJob (bench_call tells b after) out answer → ComesOfJobFile (bench_call tells b after) out answer
+    comes_job : (answer : Answer) (text : List ℕ) → SaysText out text answer → SaysJob (bench_call tells b after) out answer
+        → ComesOfJobFile (bench_call tells b after) out answer
     comes_job done text says job = inr job
     comes_job (refused output_fault) text says job = inr job
     comes_job (refused r) text says job = absurd says
 
-    pub ends_free : (answer : Answer) → (IsTrue tells → IsFree b.file) → SaysText out no_job_text answer → StatusEnds (bench_call tells b after) inputs out answer
+    pub ends_free : (answer : Answer) → (IsTrue tells → IsFree b.file) → SaysText out no_job_text answer
+        → StatusEnds (bench_call tells b after) inputs out answer
     ends_free answer free says =
         let comes = comes_none answer says (record { free = free; says = says }) in record {
           lawful = said_lawful no_job_text answer says;
@@ -206,7 +218,8 @@ module _ (tells : Bool) (b after : BenchState) (inputs : InputsCall) (takes : Ta
   -- nothing went to `out`
   module _ (told : Bool) (o : SinkState) where
     refused_ends : (r : Refusal) → EndsLawfully on_job_file (bench_call tells b after) inputs (sink_call told o o) has_status [] (refused r)
-        → ComesOfJobFile (bench_call tells b after) (sink_call told o o) (refused r) → StatusEnds (bench_call tells b after) inputs (sink_call told o o) (refused r)
+        → ComesOfJobFile (bench_call tells b after) (sink_call told o o) (refused r)
+        → StatusEnds (bench_call tells b after) inputs (sink_call told o o) (refused r)
     refused_ends r lawful comes = record {
       lawful = lawful;
       takes = takes;
@@ -215,7 +228,8 @@ module _ (tells : Bool) (b after : BenchState) (inputs : InputsCall) (takes : Ta
       due = λ its. is_due (bench_call tells b after) (sink_call told o o) its (refused r) comes;
     }
 
-    plain_counts : (r : Refusal) → after.store_faults ≡ b.store_faults → fault_in (refused r) ≡ None → AreCounted (bench_call tells b after) inputs (sink_call told o o) (refused r)
+    plain_counts : (r : Refusal) → after.store_faults ≡ b.store_faults → fault_in (refused r) ≡ None
+        → AreCounted (bench_call tells b after) inputs (sink_call told o o) (refused r)
     plain_counts r same none = record {
       inputs_count = unraised inputs.before.faults inputs.after.faults input (refused r) takes.faults (λ its. cc);
       store_count = unraised b.store_faults after.store_faults store (refused r) same (λ its. cc);
@@ -224,7 +238,8 @@ module _ (tells : Bool) (b after : BenchState) (inputs : InputsCall) (takes : Ta
     }
 
     pub ends_refused : (fault : OpenFault) → fault ≢ opening.NoJob → bench.IsCounted b.store_faults after.store_faults (bench.is_store_fault (open_fault fault))
-        → (IsTrue tells → IsOpenFault b.file b.cell_count fault) → IsSoundOpen b.cell_count fault → StatusEnds (bench_call tells b after) inputs (sink_call told o o) (refused (of_open fault))
+        → (IsTrue tells → IsOpenFault b.file b.cell_count fault) → IsSoundOpen b.cell_count fault
+        → StatusEnds (bench_call tells b after) inputs (sink_call told o o) (refused (of_open fault))
     ends_refused opening.OutOfMemory some counted is sound = refused_ends out_of_memory (record {
       kind = refl;
       counts = plain_counts out_of_memory (counted.on_other refl) refl;
@@ -252,7 +267,8 @@ module _ (tells : Bool) (b after : BenchState) (inputs : InputsCall) (takes : Ta
       counts = record {
         inputs_count = unraised inputs.before.faults inputs.after.faults input (refused store_fault) takes.faults (λ its. let wrong : store ≡ input = cc in cc);
         store_count = record { later = counted.later; only = λ its. counted.on_fault refl; answered = λ more. refl };
-        device_count = unraised b.device_faults after.device_faults device (refused store_fault) reads.cells.faults (λ its. let wrong : store ≡ device = cc in cc);
+        device_count = unraised b.device_faults after.device_faults device (refused store_fault) reads.cells.faults
+            (λ its. let wrong : store ≡ device = cc in cc);
         out_count = unraised o.faults o.faults output (refused store_fault) refl (λ its. let wrong : store ≡ output = cc in cc);
       };
       stands = tt;

@@ -1,5 +1,6 @@
 -- What is read is the body of the job that is found, and the body of a job is read as that job.
-use Rattle.std.proofs.Common.{◌≡◌, ◌≢◌, ◌⊎◌, ⊎_elim, inl, inr, ℕ, ◌+◌, ◌*◌, ◌^◌, ◌<◌, ◌≤◌, Bool, true, false, not, ◌||◌, nat_eq, ltb, leb, eqb, List, [], ◌∷◌, ◌++◌, length, map, drop, slice_get, Option, Some, None, Ok, refl, sym, ap, subst, ◌∙◌, append_assoc, arith}
+use Rattle.std.proofs.Common.{◌≡◌, ◌≢◌, ◌⊎◌, ⊎_elim, inl, inr, ℕ, ◌+◌, ◌*◌, ◌^◌, ◌<◌, ◌≤◌, Bool, true, false, not, ◌||◌, nat_eq, ltb, leb, eqb, List, [], ◌∷◌}
+use Rattle.std.proofs.Common.{◌++◌, length, map, drop, slice_get, Option, Some, None, Ok, refl, sym, ap, subst, ◌∙◌, append_assoc, arith}
 use Rattle.std.specs.List.{concat, flat_map}
 use Rattle.std.proofs.lemmas.Bool.{ltb-true, le-leb, lt-ltb, eqb-true, eq-eqb, ne_eqb, cases_eq, and_parts, and_from}
 use Rattle.std.proofs.lemmas.List.{append-nil, length-append}
@@ -19,7 +20,8 @@ use Rattle.job_text.specs.declared.head.Places.{Places}
 use Rattle.job_text.specs.Fits.{fits, all_fit, Suits}
 use Rattle.job_text.specs.Body.{Job, first_mark, second_mark, field, flm_len, run_text, tail_of, hashed_of, body_in, body_of, MayHave}
 use Rattle.job_text.specs.Jobs.{AreFlms, IsJob}
-use Rattle.job_text.specs.Reading.{text_at, read_or, holds_or, head_at, runs_at, File, fits_in, file_at, second_at, Texts, are_files, files_of, files_in, texts_at, Found, places_of, rest_at, format_in, job_as, job_at}
+use Rattle.job_text.specs.Reading.{text_at, read_or, holds_or, head_at, runs_at, File, fits_in, file_at, second_at, Texts, are_files, files_of, files_in}
+use Rattle.job_text.specs.Reading.{texts_at, Found, places_of, rest_at, format_in, job_as, job_at}
 use Rattle.job_text.specs.Heads.{SecondFits}
 use Rattle.job_text.proofs.Steps.{bind_ok, bind_to, ok_is, held, holds, was_read, is_read}
 use Rattle.job_text.proofs.TakeLemmas.{IsBytes, behind_fits, text_parts, text_again}
@@ -35,7 +37,8 @@ record FileIs (b : board.Shown) (region len : ℕ) (bytes : List ℕ) (x : File 
   fit : fits_in b (slice_get b.regions region) x.0.algorithm ≡ true
   len_is : length x.0.text ≡ len
 
-file_takes : (d at : ℕ) (b : board.Shown) (region len : ℕ) (bytes : List ℕ) (x : File × List ℕ) → file_at d at b region len bytes ≡ Ok x → FileIs b region len bytes x
+file_takes : (d at : ℕ) (b : board.Shown) (region len : ℕ) (bytes : List ℕ) (x : File × List ℕ) → file_at d at b region len bytes ≡ Ok x →
+    FileIs b region len bytes x
 unfolding file_at
 file_takes d at b region len bytes x e =
     let t = bind_ok (text_at d len bytes) _ x e in
@@ -50,12 +53,15 @@ file_takes d at b region len bytes x e =
       len_is = t0.1;
     })
 
-file_again : (d at : ℕ) (b : board.Shown) (region : ℕ) (text : List ℕ) (a : flm.Shown) (rest : List ℕ) → IsFlm text a → fits_in b (slice_get b.regions region) a ≡ true
+file_again : (d at : ℕ) (b : board.Shown) (region : ℕ) (text : List ℕ) (a : flm.Shown) (rest : List ℕ) → IsFlm text a →
+    fits_in b (slice_get b.regions region) a ≡ true
     → file_at d at b region (length text) (text ++ rest) ≡ Ok (record { text = text; algorithm = a }, rest)
 unfolding file_at
 file_again d at b region text a rest is fit =
-    bind_to _ (λ t. read_or at (flm_of t.0) >>= λ x. holds_or at (fits_in b (slice_get b.regions region) x) >>= λ u. Ok (record { text = t.0; algorithm = x }, t.1)) (text, rest) _ (text_again d text rest)
-    (bind_to _ (λ x. holds_or at (fits_in b (slice_get b.regions region) x) >>= λ u. Ok (record { text = text; algorithm = x }, rest)) a _ (is_read at (flm_of text) a is)
+    bind_to _ (λ t. read_or at (flm_of t.0) >>= λ x. holds_or at (fits_in b (slice_get b.regions region) x) >>= λ u. Ok
+    (record { text = t.0; algorithm = x }, t.1)) (text, rest) _ (text_again d text rest)
+    (bind_to _ (λ x. holds_or at (fits_in b (slice_get b.regions region) x) >>= λ u. Ok (record { text = text; algorithm = x }, rest)) a _
+    (is_read at (flm_of text) a is)
     (bind_to _ (λ u. Ok (record { text = text; algorithm = a }, rest)) tt _ (holds at (fits_in b (slice_get b.regions region) a) fit)
     refl))
 
@@ -63,7 +69,8 @@ abbrev SecondIs : board.Shown → Head → List ℕ → Option File → List ℕ
 SecondIs b h bytes None rest = (bytes ≡ rest) × (h.files ≡ 1)
 SecondIs b h bytes (Some f) rest = FileIs b 1 h.second bytes (f, rest) × (h.files ≢ 1)
 
-second_takes_file : (d at : ℕ) (b : board.Shown) (h : Head) (bytes : List ℕ) (x : Option File × List ℕ) → second_at d at b h bytes ≡ Ok x → SecondIs b h bytes x.0 x.1
+second_takes_file : (d at : ℕ) (b : board.Shown) (h : Head) (bytes : List ℕ) (x : Option File × List ℕ) → second_at d at b h bytes ≡ Ok x →
+    SecondIs b h bytes x.0 x.1
 unfolding second_at
 second_takes_file d at b h bytes x e = ⊎_elim
     (λ (one : h.files ≡ 1).
@@ -71,7 +78,8 @@ second_takes_file d at b h bytes x e = ⊎_elim
     subst (λ (y : Option File × List ℕ). SecondIs b h bytes y.0 y.1) none (refl, one))
     (λ (more : h.files ≢ 1).
     let f = bind_ok (file_at d at b 1 h.second bytes) _ x (rw (ne_eqb h.files 1 more) at e) in
-    subst (λ (y : Option File × List ℕ). SecondIs b h bytes y.0 y.1) (ok_is {E = ℕ} (Some f.0.0, f.0.1) x f.2) (file_takes d at b 1 h.second bytes f.0 f.1, more))
+    subst (λ (y : Option File × List ℕ). SecondIs b h bytes y.0 y.1) (ok_is {E = ℕ} (Some f.0.0, f.0.1) x f.2)
+    (file_takes d at b 1 h.second bytes f.0 f.1, more))
     (cases_eq h.files 1)
 
 abbrev pub texts_in : List File → List (List ℕ)
@@ -97,8 +105,11 @@ or_cases false b is = inr is
 
 are_few : (files regions : ℕ) → are_files files regions ≡ true → ((files ≡ 1) ⊎ (files ≡ 2)) × (files ≡ regions)
 are_few files regions is =
-    let p = and_parts (nat_eq files 1 || nat_eq files 2) (nat_eq files regions) is in
-    (⊎_elim (λ (one : nat_eq files 1 ≡ true). inl (eqb-true _ _ one)) (λ (two : nat_eq files 2 ≡ true). inr (eqb-true _ _ two)) (or_cases (nat_eq files 1) (nat_eq files 2) p.0), eqb-true _ _ p.1)
+    let p = and_parts (nat_eq files 1 || nat_eq files 2) (nat_eq files regions) is in (
+      ⊎_elim (λ (one : nat_eq files 1 ≡ true). inl (eqb-true _ _ one)) (λ (two : nat_eq files 2 ≡ true). inr (eqb-true _ _ two))
+          (or_cases (nat_eq files 1) (nat_eq files 2) p.0),
+      eqb-true _ _ p.1,
+    )
 
 no_second : (files second : ℕ) → files ≡ 1 → (not (nat_eq files 1) || nat_eq second 0) ≡ true → second ≡ 0
 no_second files second one is = ⊎_elim
@@ -108,8 +119,10 @@ no_second files second one is = ⊎_elim
 
 -- with one file, or with two
 texts_are : (h : Head) (bytes after between : List ℕ) (text : List ℕ) (b : board.Shown) (first : File) (o : Option File) (rest : List ℕ)
-    → bytes ≡ text ++ after → IsBoard text b → length text ≡ h.board → are_files h.files (length b.regions) ≡ true → (not (nat_eq h.files 1) || nat_eq h.second 0) ≡ true
-    → FileIs b 0 h.first after (first, between) → SecondIs b h between o rest → TextsAre h bytes (record { board_text = text; board = b; first = first; second = o }) rest
+    → bytes ≡ text ++ after → IsBoard text b → length text ≡ h.board → are_files h.files (length b.regions) ≡ true →
+    (not (nat_eq h.files 1) || nat_eq h.second 0) ≡ true
+    → FileIs b 0 h.first after (first, between) → SecondIs b h between o rest →
+    TextsAre h bytes (record { board_text = text; board = b; first = first; second = o }) rest
 texts_are h bytes after between text b first None rest parts is_board board_len files none one two =
     let count = are_few h.files (length b.regions) files in
     let regrouped : text ++ after ≡ text ++ ((first.text ++ []) ++ rest) =
@@ -190,7 +203,8 @@ rest_takes d format h bytes x fits_bytes e =
     let r = bind_ok (runs_at d b.regions h.runs 0 t.0.1) _ x o.2 in
     let n = bind_ok (holds_or d (eqb (length r.0.1) h.cells)) _ x r.2 in
     let t0 = texts_take d places h bytes t.0 t.1 in
-    let rest_fits : IsBytes t.0.1 = behind_fits (concat (texts_in files)) t.0.1 (concat (texts_in files) ++ t.0.1) refl (behind_fits t.0.0.board_text (concat (texts_in files) ++ t.0.1) bytes t0.parts fits_bytes) in
+    let rest_fits : IsBytes t.0.1 = behind_fits (concat (texts_in files)) t.0.1 (concat (texts_in files) ++ t.0.1) refl
+    (behind_fits t.0.0.board_text (concat (texts_in files) ++ t.0.1) bytes t0.parts fits_bytes) in
     let t1 = runs_take d b.regions h.runs 0 t.0.1 r.0 rest_fits r.1 in
     let sized : h.cells ≡ size_of b.regions = eqb-true _ _ (held places.cells (eqb h.cells (size_of b.regions)) s.0 s.1) in
     let many : 0 < h.runs = ltb-true _ _ (held places.runs (ltb 0 h.runs) o.0 o.1) in
@@ -218,7 +232,15 @@ rest_takes d format h bytes x fits_bytes e =
     })
 
 abbrev pub head_for : Job → Head
-head_for j = record { board = length j.board; files = length j.flms; first = flm_len j.flms 0; second = flm_len j.flms 1; runs = length j.image; cells = length j.snapshot }
+head_for j = record {
+  board = length j.board;
+  files = length j.flms;
+  first = flm_len j.flms 0;
+  second = flm_len j.flms 1;
+  runs = length j.image;
+  cells =
+      length j.snapshot;
+}
 
 -- ---- and again
 
@@ -255,12 +277,25 @@ one_again d places h text f b a rest board_is one first_is none is_board is_flm 
     subst (λ (n : ℕ). file_at d (places.front + h.board) b 0 n ((f ++ []) ++ rest) ≡ Ok (record { text = f; algorithm = a }, rest)) (sym first_is)
     (ap (λ (l : List ℕ). file_at d (places.front + h.board) b 0 (length f) (l ++ rest)) (append-nil f)
     ∙ file_again d (places.front + h.board) b 0 f a rest is_flm (first_fits b b.regions a [] fit)) in
-    bind_to _ (λ t. read_or places.front (reading t.0) >>= λ said. holds_or places.files (are_files h.files (length said.regions)) >>= λ c. holds_or places.second (not (nat_eq h.files 1) || nat_eq h.second 0) >>= λ z. file_at d (places.front + h.board) said 0 h.first t.1 >>= λ f. second_at d (places.front + h.board + h.first) said h f.1 >>= λ g. Ok (record { board_text = t.0; board = said; first = f.0; second = g.0 }, g.1)) (text, (f ++ []) ++ rest) _ start
-    (bind_to _ (λ said. holds_or places.files (are_files h.files (length said.regions)) >>= λ c. holds_or places.second (not (nat_eq h.files 1) || nat_eq h.second 0) >>= λ z. file_at d (places.front + h.board) said 0 h.first ((f ++ []) ++ rest) >>= λ f. second_at d (places.front + h.board + h.first) said h f.1 >>= λ g. Ok (record { board_text = text; board = said; first = f.0; second = g.0 }, g.1)) b _ (is_read places.front (reading text) b is_board)
-    (bind_to _ (λ c. holds_or places.second (not (nat_eq h.files 1) || nat_eq h.second 0) >>= λ z. file_at d (places.front + h.board) b 0 h.first ((f ++ []) ++ rest) >>= λ f. second_at d (places.front + h.board + h.first) b h f.1 >>= λ g. Ok (record { board_text = text; board = b; first = f.0; second = g.0 }, g.1)) tt _ (holds places.files (are_files h.files (length b.regions)) (files_again h.files (length b.regions) (inl one) regions))
-    (bind_to _ (λ z. file_at d (places.front + h.board) b 0 h.first ((f ++ []) ++ rest) >>= λ f. second_at d (places.front + h.board + h.first) b h f.1 >>= λ g. Ok (record { board_text = text; board = b; first = f.0; second = g.0 }, g.1)) tt _ (holds places.second (not (nat_eq h.files 1) || nat_eq h.second 0) (second_zero h none))
-    (bind_to _ (λ f. second_at d (places.front + h.board + h.first) b h f.1 >>= λ g. Ok (record { board_text = text; board = b; first = f.0; second = g.0 }, g.1)) (record { text = f; algorithm = a }, rest) _ file
-    (bind_to _ (λ g. Ok (record { board_text = text; board = b; first = (record { text = f; algorithm = a }); second = g.0 }, g.1)) (None, rest) _ (rw (eq-eqb h.files 1 one) refl)
+    bind_to _ (λ t. read_or places.front (reading t.0) >>= λ said. holds_or places.files (are_files h.files (length said.regions)) >>= λ c. holds_or
+    places.second (not (nat_eq h.files 1) || nat_eq h.second 0) >>= λ z. file_at d (places.front + h.board) said 0 h.first t.1 >>= λ f. second_at d
+    (places.front + h.board + h.first) said h f.1 >>= λ g. Ok (record { board_text = t.0; board = said; first = f.0; second = g.0 }, g.1))
+    (text, (f ++ []) ++ rest) _ start
+    (bind_to _ (λ said. holds_or places.files (are_files h.files (length said.regions)) >>= λ c. holds_or places.second
+    (not (nat_eq h.files 1) || nat_eq h.second 0) >>= λ z. file_at d (places.front + h.board) said 0 h.first ((f ++ []) ++ rest) >>= λ f. second_at d
+    (places.front + h.board + h.first) said h f.1 >>= λ g. Ok (record { board_text = text; board = said; first = f.0; second = g.0 }, g.1)) b _
+    (is_read places.front (reading text) b is_board)
+    (bind_to _ (λ c. holds_or places.second (not (nat_eq h.files 1) || nat_eq h.second 0) >>= λ z. file_at d (places.front + h.board) b 0 h.first
+    ((f ++ []) ++ rest) >>= λ f. second_at d (places.front + h.board + h.first) b h f.1 >>= λ g. Ok
+    (record { board_text = text; board = b; first = f.0; second = g.0 }, g.1)) tt _
+    (holds places.files (are_files h.files (length b.regions)) (files_again h.files (length b.regions) (inl one) regions))
+    (bind_to _ (λ z. file_at d (places.front + h.board) b 0 h.first ((f ++ []) ++ rest) >>= λ f. second_at d (places.front + h.board + h.first) b h f.1 >>= λ g.
+    Ok (record { board_text = text; board = b; first = f.0; second = g.0 }, g.1)) tt _
+    (holds places.second (not (nat_eq h.files 1) || nat_eq h.second 0) (second_zero h none))
+    (bind_to _ (λ f. second_at d (places.front + h.board + h.first) b h f.1 >>= λ g. Ok
+    (record { board_text = text; board = b; first = f.0; second = g.0 }, g.1)) (record { text = f; algorithm = a }, rest) _ file
+    (bind_to _ (λ g. Ok (record { board_text = text; board = b; first = (record { text = f; algorithm = a }); second = g.0 }, g.1)) (None, rest) _
+    (rw (eq-eqb h.files 1 one) refl)
     refl)))))
   where
     or_true : (a b : Bool) → b ≡ true → (a || b) ≡ true
@@ -271,8 +306,10 @@ one_again d places h text f b a rest board_is one first_is none is_board is_flm 
     second_zero h none = or_true (not (nat_eq h.files 1)) (nat_eq h.second 0) (eq-eqb h.second 0 none)
 
 two_again : (d : ℕ) (places : Places) (h : Head) (text f g : List ℕ) (b : board.Shown) (a c : flm.Shown) (rest : List ℕ)
-    → h.board ≡ length text → h.files ≡ 2 → h.first ≡ length f → h.second ≡ length g → IsBoard text b → IsFlm f a → IsFlm g c → all_fit b b.regions (a ∷ c ∷ []) ≡ true
-    → texts_at d places h (text ++ ((f ++ (g ++ [])) ++ rest)) ≡ Ok (texts_for text b (record { text = f; algorithm = a }) (Some (record { text = g; algorithm = c })), rest)
+    → h.board ≡ length text → h.files ≡ 2 → h.first ≡ length f → h.second ≡ length g → IsBoard text b → IsFlm f a → IsFlm g c →
+    all_fit b b.regions (a ∷ c ∷ []) ≡ true
+    → texts_at d places h (text ++ ((f ++ (g ++ [])) ++ rest)) ≡ Ok
+    (texts_for text b (record { text = f; algorithm = a }) (Some (record { text = g; algorithm = c })), rest)
 unfolding texts_at second_at
 two_again d places h text f g b a c rest board_is two first_is second_is is_board is_flm is_other fit =
     let regions : h.files ≡ length b.regions = two ∙ sym (same_count b b.regions (a ∷ c ∷ []) fit) in
@@ -288,15 +325,30 @@ two_again d places h text f g b a c rest board_is two first_is second_is is_boar
     let other : file_at d (places.front + h.board + h.first) b 1 h.second (g ++ rest) ≡ Ok (record { text = g; algorithm = c }, rest) =
     subst (λ (n : ℕ). file_at d (places.front + h.board + h.first) b 1 n (g ++ rest) ≡ Ok (record { text = g; algorithm = c }, rest)) (sym second_is)
     (file_again d (places.front + h.board + h.first) b 1 g c rest is_other (second_fits b b.regions a c [] fit)) in
-    bind_to _ (λ t. read_or places.front (reading t.0) >>= λ said. holds_or places.files (are_files h.files (length said.regions)) >>= λ c. holds_or places.second (not (nat_eq h.files 1) || nat_eq h.second 0) >>= λ z. file_at d (places.front + h.board) said 0 h.first t.1 >>= λ f. second_at d (places.front + h.board + h.first) said h f.1 >>= λ g. Ok (record { board_text = t.0; board = said; first = f.0; second = g.0 }, g.1)) (text, tail) _ start
-    (bind_to _ (λ said. holds_or places.files (are_files h.files (length said.regions)) >>= λ c. holds_or places.second (not (nat_eq h.files 1) || nat_eq h.second 0) >>= λ z. file_at d (places.front + h.board) said 0 h.first (tail) >>= λ f. second_at d (places.front + h.board + h.first) said h f.1 >>= λ g. Ok (record { board_text = text; board = said; first = f.0; second = g.0 }, g.1)) b _ (is_read places.front (reading text) b is_board)
-    (bind_to _ (λ c. holds_or places.second (not (nat_eq h.files 1) || nat_eq h.second 0) >>= λ z. file_at d (places.front + h.board) b 0 h.first (tail) >>= λ f. second_at d (places.front + h.board + h.first) b h f.1 >>= λ g. Ok (record { board_text = text; board = b; first = f.0; second = g.0 }, g.1)) tt _ (holds places.files (are_files h.files (length b.regions)) (files_again h.files (length b.regions) (inr two) regions))
-    (bind_to _ (λ z. file_at d (places.front + h.board) b 0 h.first (tail) >>= λ f. second_at d (places.front + h.board + h.first) b h f.1 >>= λ g. Ok (record { board_text = text; board = b; first = f.0; second = g.0 }, g.1)) tt _ (holds places.second (not (nat_eq h.files 1) || nat_eq h.second 0) (rw (ne_eqb h.files 1 more) refl))
-    (bind_to _ (λ f. second_at d (places.front + h.board + h.first) b h f.1 >>= λ g. Ok (record { board_text = text; board = b; first = f.0; second = g.0 }, g.1)) (record { text = f; algorithm = a }, g ++ rest) _ file
-    (bind_to _ (λ g. Ok (record { board_text = text; board = b; first = (record { text = f; algorithm = a }); second = g.0 }, g.1)) (Some (record { text = g; algorithm = c }), rest) _ (rw (ne_eqb h.files 1 more) (bind_to _ (λ x. Ok (Some x.0, x.1)) (record { text = g; algorithm = c }, rest) _ other refl))
+    bind_to _ (λ t. read_or places.front (reading t.0) >>= λ said. holds_or places.files (are_files h.files (length said.regions)) >>= λ c. holds_or
+    places.second (not (nat_eq h.files 1) || nat_eq h.second 0) >>= λ z. file_at d (places.front + h.board) said 0 h.first t.1 >>= λ f. second_at d
+    (places.front + h.board + h.first) said h f.1 >>= λ g. Ok (record { board_text = t.0; board = said; first = f.0; second = g.0 }, g.1))
+    (text, tail) _ start
+    (bind_to _ (λ said. holds_or places.files (are_files h.files (length said.regions)) >>= λ c. holds_or places.second
+    (not (nat_eq h.files 1) || nat_eq h.second 0) >>= λ z. file_at d (places.front + h.board) said 0 h.first (tail) >>= λ f. second_at d
+    (places.front + h.board + h.first) said h f.1 >>= λ g. Ok (record { board_text = text; board = said; first = f.0; second = g.0 }, g.1)) b _
+    (is_read places.front (reading text) b is_board)
+    (bind_to _ (λ c. holds_or places.second (not (nat_eq h.files 1) || nat_eq h.second 0) >>= λ z. file_at d (places.front + h.board) b 0 h.first
+    (tail) >>= λ f. second_at d (places.front + h.board + h.first) b h f.1 >>= λ g. Ok
+    (record { board_text = text; board = b; first = f.0; second = g.0 }, g.1)) tt _
+    (holds places.files (are_files h.files (length b.regions)) (files_again h.files (length b.regions) (inr two) regions))
+    (bind_to _ (λ z. file_at d (places.front + h.board) b 0 h.first (tail) >>= λ f. second_at d (places.front + h.board + h.first) b h f.1 >>= λ g. Ok
+    (record { board_text = text; board = b; first = f.0; second = g.0 }, g.1)) tt _
+    (holds places.second (not (nat_eq h.files 1) || nat_eq h.second 0) (rw (ne_eqb h.files 1 more) refl))
+    (bind_to _ (λ f. second_at d (places.front + h.board + h.first) b h f.1 >>= λ g. Ok
+    (record { board_text = text; board = b; first = f.0; second = g.0 }, g.1)) (record { text = f; algorithm = a }, g ++ rest) _ file
+    (bind_to _ (λ g. Ok (record { board_text = text; board = b; first = (record { text = f; algorithm = a }); second = g.0 }, g.1))
+    (Some (record { text = g; algorithm = c }), rest) _ (rw (ne_eqb h.files 1 more)
+    (bind_to _ (λ x. Ok (Some x.0, x.1)) (record { text = g; algorithm = c }, rest) _ other refl))
     refl)))))
 
-record TextsFor (d : ℕ) (places : Places) (h : Head) (text : List ℕ) (flms : List (List ℕ)) (b : board.Shown) (algorithms : List flm.Shown) (rest : List ℕ) : Type 0 where
+record TextsFor (d : ℕ) (places : Places) (h : Head) (text : List ℕ) (flms : List (List ℕ)) (b : board.Shown) (algorithms : List flm.Shown)
+    (rest : List ℕ) : Type 0 where
   first : File
   second : Option File
   read_as : texts_at d places h (text ++ (concat flms ++ rest)) ≡ Ok (texts_for text b first second, rest)
@@ -353,11 +405,75 @@ rest_again d format j b algorithms format_is is =
     let few = few_files j.format (length j.flms) is.files in
     let t = texts_all d places (head_for j) j.board j.flms b algorithms rest few is.algorithms is.suits.fit is.board refl refl refl refl in
     let small = small_regions b b.regions algorithms j.flms is.suits.fit is.algorithms in
-    bind_to _ (λ (x : Texts × List ℕ). holds_or (places_of format).cells (eqb (length j.snapshot) (size_of x.0.board.regions)) >>= λ sized. holds_or (places_of format).runs (ltb 0 (length j.image)) >>= λ some. runs_at d x.0.board.regions (length j.image) 0 x.1 >>= λ r. holds_or d (eqb (length r.1) (length j.snapshot)) >>= λ ends. Ok (record { job = record { format = format; board = x.0.board_text; flms = map (λ (f : File). f.text) (files_in x.0); image = r.0; snapshot = r.1 }; board = x.0.board; algorithms = map (λ (f : File). f.algorithm) (files_in x.0) })) (texts_for j.board b t.first t.second, rest) _ t.read_as
-    (bind_to _ (λ sized. holds_or (places_of format).runs (ltb 0 (length j.image)) >>= λ some. runs_at d (texts_for j.board b t.first t.second).board.regions (length j.image) 0 rest >>= λ r. holds_or d (eqb (length r.1) (length j.snapshot)) >>= λ ends. Ok (record { job = record { format = format; board = (texts_for j.board b t.first t.second).board_text; flms = map (λ (f : File). f.text) (files_in (texts_for j.board b t.first t.second)); image = r.0; snapshot = r.1 }; board = (texts_for j.board b t.first t.second).board; algorithms = map (λ (f : File). f.algorithm) (files_in (texts_for j.board b t.first t.second)) })) tt _ (holds places.cells (eqb (length j.snapshot) (size_of b.regions)) (eq-eqb _ _ is.cells))
-    (bind_to _ (λ some. runs_at d (texts_for j.board b t.first t.second).board.regions (length j.image) 0 rest >>= λ r. holds_or d (eqb (length r.1) (length j.snapshot)) >>= λ ends. Ok (record { job = record { format = format; board = (texts_for j.board b t.first t.second).board_text; flms = map (λ (f : File). f.text) (files_in (texts_for j.board b t.first t.second)); image = r.0; snapshot = r.1 }; board = (texts_for j.board b t.first t.second).board; algorithms = map (λ (f : File). f.algorithm) (files_in (texts_for j.board b t.first t.second)) })) tt _ (holds places.runs (ltb 0 (length j.image)) (lt-ltb _ _ is.suits.some))
-    (bind_to _ (λ (r : List Run × List ℕ). holds_or d (eqb (length r.1) (length j.snapshot)) >>= λ ends. Ok (record { job = record { format = format; board = (texts_for j.board b t.first t.second).board_text; flms = map (λ (f : File). f.text) (files_in (texts_for j.board b t.first t.second)); image = r.0; snapshot = r.1 }; board = (texts_for j.board b t.first t.second).board; algorithms = map (λ (f : File). f.algorithm) (files_in (texts_for j.board b t.first t.second)) })) (j.image, j.snapshot) _ (runs_again d b.regions 0 j.image j.snapshot (few_regions j b algorithms is) small is.suits.inside.0 is.suits.inside.1)
-    (bind_to _ (λ ends. Ok (record { job = record { format = format; board = (texts_for j.board b t.first t.second).board_text; flms = map (λ (f : File). f.text) (files_in (texts_for j.board b t.first t.second)); image = j.image; snapshot = j.snapshot }; board = (texts_for j.board b t.first t.second).board; algorithms = map (λ (f : File). f.algorithm) (files_in (texts_for j.board b t.first t.second)) })) tt _ (holds d (eqb (length j.snapshot) (length j.snapshot)) (eq-eqb _ _ refl))
+    bind_to _ (λ (x : Texts × List ℕ). holds_or (places_of format).cells (eqb (length j.snapshot) (size_of x.0.board.regions)) >>= λ sized. holds_or
+    (places_of format).runs (ltb 0 (length j.image)) >>= λ some. runs_at d x.0.board.regions (length j.image) 0 x.1 >>= λ r. holds_or d
+    (eqb (length r.1) (length j.snapshot)) >>= λ ends. Ok
+    (record {
+      job = record { format = format; board = x.0.board_text; flms = map (λ (f : File). f.text) (files_in x.0); image = r.0; snapshot = r.1 };
+      board = x.0.board;
+      algorithms = map (λ (f : File). f.algorithm) (files_in x.0);
+    })) (texts_for j.board b t.first t.second, rest) _ t.read_as
+    (bind_to _ (λ sized. holds_or (places_of format).runs (ltb 0 (length j.image)) >>= λ some. runs_at d (texts_for j.board b t.first t.second).board.regions
+    (length j.image) 0 rest >>= λ r. holds_or d (eqb (length r.1) (length j.snapshot)) >>= λ ends. Ok
+    (record {
+      job = record {
+        format = format;
+        board = (texts_for j.board b t.first t.second).board_text;
+        flms =
+            map (λ (f : File). f.text) (files_in (texts_for j.board b t.first t.second));
+        image = r.0;
+        snapshot = r.1;
+      };
+      board =
+          (texts_for j.board b t.first t.second).board;
+      algorithms = map (λ (f : File). f.algorithm) (files_in (texts_for j.board b t.first t.second));
+    })) tt _
+    (holds places.cells (eqb (length j.snapshot) (size_of b.regions)) (eq-eqb _ _ is.cells))
+    (bind_to _ (λ some. runs_at d (texts_for j.board b t.first t.second).board.regions (length j.image) 0 rest >>= λ r. holds_or d
+    (eqb (length r.1) (length j.snapshot)) >>= λ ends. Ok
+    (record {
+      job = record {
+        format = format;
+        board = (texts_for j.board b t.first t.second).board_text;
+        flms =
+            map (λ (f : File). f.text) (files_in (texts_for j.board b t.first t.second));
+        image = r.0;
+        snapshot = r.1;
+      };
+      board =
+          (texts_for j.board b t.first t.second).board;
+      algorithms = map (λ (f : File). f.algorithm) (files_in (texts_for j.board b t.first t.second));
+    })) tt _
+    (holds places.runs (ltb 0 (length j.image)) (lt-ltb _ _ is.suits.some))
+    (bind_to _ (λ (r : List Run × List ℕ). holds_or d (eqb (length r.1) (length j.snapshot)) >>= λ ends. Ok
+    (record {
+      job = record {
+        format = format;
+        board = (texts_for j.board b t.first t.second).board_text;
+        flms =
+            map (λ (f : File). f.text) (files_in (texts_for j.board b t.first t.second));
+        image = r.0;
+        snapshot = r.1;
+      };
+      board =
+          (texts_for j.board b t.first t.second).board;
+      algorithms = map (λ (f : File). f.algorithm) (files_in (texts_for j.board b t.first t.second));
+    }))
+    (j.image, j.snapshot) _ (runs_again d b.regions 0 j.image j.snapshot (few_regions j b algorithms is) small is.suits.inside.0 is.suits.inside.1)
+    (bind_to _ (λ ends. Ok (record {
+      job = record {
+        format = format;
+        board = (texts_for j.board b t.first t.second).board_text;
+        flms =
+            map (λ (f : File). f.text) (files_in (texts_for j.board b t.first t.second));
+        image = j.image;
+        snapshot = j.snapshot;
+      };
+      board =
+          (texts_for j.board b t.first t.second).board;
+      algorithms = map (λ (f : File). f.algorithm) (files_in (texts_for j.board b t.first t.second));
+    })) tt _
+    (holds d (eqb (length j.snapshot) (length j.snapshot)) (eq-eqb _ _ refl))
     (λ i. Ok (record {
       job = record { format = sym format_is i; board = j.board; flms = t.flms_are i; image = j.image; snapshot = j.snapshot };
       board = b;
@@ -386,7 +502,8 @@ head_is format h bytes x r = λ i. record {
   cells = sym r.cells_len i;
 }
 
-is_job : (format : Format) (h : Head) (bytes : List ℕ) (x : Found) → RestIs format h bytes x → HeadFits h → MayHave x.job.format (length x.job.flms) → IsJob x.job x.board x.algorithms
+is_job : (format : Format) (h : Head) (bytes : List ℕ) (x : Found) → RestIs format h bytes x → HeadFits h → MayHave x.job.format (length x.job.flms) →
+    IsJob x.job x.board x.algorithms
 is_job format h bytes x r fits may = record {
   board = r.is_board;
   files = may;
@@ -408,7 +525,8 @@ first_job d body x fits e =
     let one : length x.job.flms ≡ 1 = r.files_len ∙ t0.one in
     let may : MayHave x.job.format (length x.job.flms) = subst (λ (f : Format). MayHave f (length x.job.flms)) (sym r.format_is) one in
     let text : body ≡ first_mark ++ four (head_for x.job) (tail_of x.job) =
-    t0.parts ∙ ap (λ (y : Head). first_mark ++ four y h.0.1) (head_is First h.0.0 h.0.1 x r) ∙ ap (λ (l : List ℕ). first_mark ++ four (head_for x.job) l) r.parts in
+    t0.parts ∙ ap (λ (y : Head). first_mark ++ four y h.0.1) (head_is First h.0.0 h.0.1 x r) ∙
+    ap (λ (l : List ℕ). first_mark ++ four (head_for x.job) l) r.parts in
     record { parts = text ∙ first_text x.job r.format_is; is = is_job First h.0.0 h.0.1 x r t0.fits may; format_is = r.format_is }
   where
     first_text : (j : Job) → j.format ≡ First → first_mark ++ four (head_for j) (tail_of j) ≡ body_of j
@@ -460,24 +578,29 @@ one_file (f ∷ g ∷ flms) one = absurd (omega (arith, one))
 marked_len : (m : List ℕ) → length (second_mark ++ sha256 m) ≡ 39
 marked_len m = omega (arith, length-append second_mark (sha256 m), length-sha256 m)
 
-as_format : (d : ℕ) (format : Format) (j : Job) (b : board.Shown) (algorithms : List flm.Shown) → (places_of format).front ≤ d → j.format ≡ format → MayHave format (length j.flms)
+as_format : (d : ℕ) (format : Format) (j : Job) (b : board.Shown) (algorithms : List flm.Shown) → (places_of format).front ≤ d → j.format ≡ format →
+    MayHave format (length j.flms)
     → IsJob j b algorithms → job_as d format (body_in format j) ≡ Ok (found_for j b algorithms)
 unfolding job_as
 as_format d First j b algorithms long format_is one is =
     bind_to _ (λ long. head_at d First (body_in First j) >>= λ x. rest_at d First x.0 x.1) tt _ (holds d (leb 24 d) (le-leb _ _ long))
-    (bind_to _ (λ x. rest_at d First x.0 x.1) (head_for j, tail_of j) _ (first_again d (head_for j) (tail_of j) (head_fits j b algorithms is) one (one_file j.flms one))
+    (bind_to _ (λ x. rest_at d First x.0 x.1) (head_for j, tail_of j) _
+    (first_again d (head_for j) (tail_of j) (head_fits j b algorithms is) one (one_file j.flms one))
     (rest_again d First j b algorithms format_is is))
 as_format d Second j b algorithms long format_is few is =
     bind_to _ (λ long. head_at d Second (body_in Second j) >>= λ x. rest_at d Second x.0 x.1) tt _ (holds d (leb 64 d) (le-leb _ _ long))
-    (bind_to _ (λ x. rest_at d Second x.0 x.1) (head_for j, tail_of j) _ (second_again d (head_for j) (second_mark ++ sha256 (hashed_of j)) (tail_of j) (marked_len (hashed_of j)) (head_fits j b algorithms is))
+    (bind_to _ (λ x. rest_at d Second x.0 x.1) (head_for j, tail_of j) _
+    (second_again d (head_for j) (second_mark ++ sha256 (hashed_of j)) (tail_of j) (marked_len (hashed_of j)) (head_fits j b algorithms is))
     (rest_again d Second j b algorithms format_is is))
 
 pub format_of : (format : Format) (j : Job) → format_in (body_in format j) ≡ format
 format_of First j = refl
 format_of Second j = refl
 
-pub job_again : (d : ℕ) (j : Job) (b : board.Shown) (algorithms : List flm.Shown) → (places_of j.format).front ≤ d → IsJob j b algorithms → job_at d (body_of j) ≡ Ok (found_for j b algorithms)
-job_again d j b algorithms long is = ap (λ (f : Format). job_as d f (body_of j)) (format_of j.format j) ∙ as_format d j.format j b algorithms long refl is.files is
+pub job_again : (d : ℕ) (j : Job) (b : board.Shown) (algorithms : List flm.Shown) → (places_of j.format).front ≤ d → IsJob j b algorithms →
+    job_at d (body_of j) ≡ Ok (found_for j b algorithms)
+job_again d j b algorithms long is = ap (λ (f : Format). job_as d f (body_of j)) (format_of j.format j) ∙
+    as_format d j.format j b algorithms long refl is.files is
 
 -- a body has at least its head
 pub long_body : (j : Job) → (places_of j.format).front ≤ length (body_of j) + 1
@@ -500,7 +623,8 @@ same_job j k b c a e is_j is_k same =
     front_small Second = omega arith
 
 -- files of which each fits its region
-pub all_fitting : (b : board.Shown) (files : ℕ) (first : File) (o : Option File) → are_files files (length b.regions) ≡ true → fits_in b (slice_get b.regions 0) first.algorithm ≡ true → SecondFits b files o
+pub all_fitting : (b : board.Shown) (files : ℕ) (first : File) (o : Option File) → are_files files (length b.regions) ≡ true →
+    fits_in b (slice_get b.regions 0) first.algorithm ≡ true → SecondFits b files o
     → all_fit b b.regions (said_in (files_of first o)) ≡ true
 all_fitting b files first None are fit one = one_fits b b.regions first.algorithm (sym (are_few files (length b.regions) are).1 ∙ one) fit
 all_fitting b files first (Some second) are fit more =
@@ -513,18 +637,23 @@ abbrev texts_before : Job → List ℕ
 texts_before j = j.board ++ (concat j.flms ++ flat_map run_text j.image)
 
 abbrev lengths_in : Job → List ℕ
-lengths_in j = field (length j.board) ++ (field (length j.flms) ++ (field (flm_len j.flms 0) ++ (field (flm_len j.flms 1) ++ (field (length j.image) ++ field (length j.snapshot)))))
+lengths_in j = field (length j.board) ++ (field (length j.flms) ++
+    (field (flm_len j.flms 0) ++ (field (flm_len j.flms 1) ++ (field (length j.image) ++ field (length j.snapshot)))))
 
 abbrev pub front_text : Format → Job → List ℕ
-front_text First j = first_mark ++ (field (length j.board) ++ (field (flm_len j.flms 0) ++ (field (length j.image) ++ (field (length j.snapshot) ++ texts_before j))))
+front_text First j = first_mark ++ (field (length j.board) ++
+    (field (flm_len j.flms 0) ++ (field (length j.image) ++ (field (length j.snapshot) ++ texts_before j))))
 front_text Second j = (second_mark ++ sha256 (hashed_of j)) ++ (lengths_in j ++ texts_before j)
 
 tail_parts : (j : Job) → texts_before j ++ j.snapshot ≡ tail_of j
-tail_parts j = append_assoc j.board (concat j.flms ++ flat_map run_text j.image) j.snapshot ∙ ap (λ (l : List ℕ). j.board ++ l) (append_assoc (concat j.flms) (flat_map run_text j.image) j.snapshot)
+tail_parts j = append_assoc j.board (concat j.flms ++ flat_map run_text j.image) j.snapshot ∙
+    ap (λ (l : List ℕ). j.board ++ l) (append_assoc (concat j.flms) (flat_map run_text j.image) j.snapshot)
 
 pub ends_in_snapshot : (format : Format) (j : Job) → front_text format j ++ j.snapshot ≡ body_in format j
-ends_in_snapshot First j = ap (λ (l : List ℕ). first_mark ++ (field (length j.board) ++ (field (flm_len j.flms 0) ++ (field (length j.image) ++ (field (length j.snapshot) ++ l))))) (tail_parts j)
+ends_in_snapshot First j = ap (λ (l : List ℕ). first_mark ++
+    (field (length j.board) ++ (field (flm_len j.flms 0) ++ (field (length j.image) ++ (field (length j.snapshot) ++ l))))) (tail_parts j)
 ends_in_snapshot Second j =
     append_assoc (second_mark ++ sha256 (hashed_of j)) (lengths_in j ++ texts_before j) j.snapshot
     ∙ append_assoc second_mark (sha256 (hashed_of j)) ((lengths_in j ++ texts_before j) ++ j.snapshot)
-    ∙ ap (λ (l : List ℕ). second_mark ++ (sha256 (hashed_of j) ++ l)) (append_assoc (lengths_in j) (texts_before j) j.snapshot ∙ ap (λ (l : List ℕ). lengths_in j ++ l) (tail_parts j))
+    ∙ ap (λ (l : List ℕ). second_mark ++ (sha256 (hashed_of j) ++ l))
+    (append_assoc (lengths_in j) (texts_before j) j.snapshot ∙ ap (λ (l : List ℕ). lengths_in j ++ l) (tail_parts j))

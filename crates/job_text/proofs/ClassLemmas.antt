@@ -1,5 +1,6 @@
 -- What a file is, in the words of the format. `class_of_file`, and all that judge a file, go by them from case to case.
-use Rattle.std.proofs.Common.{◌≡◌, ◌≢◌, if◌then◌else◌, ◌⊎◌, ⊎_elim, inl, inr, ℕ, suc, ◌+◌, ◌-◌, ◌<◌, ◌≤◌, Bool, true, false, not, ◌&&◌, cond, leb, List, [], ◌∷◌, ◌++◌, length, get_or, take, drop, Result, Ok, Err, refl, sym, ap, subst, ◌∙◌, arith}
+use Rattle.std.proofs.Common.{◌≡◌, ◌≢◌, if◌then◌else◌, ◌⊎◌, ⊎_elim, inl, inr, ℕ, suc, ◌+◌, ◌-◌, ◌<◌, ◌≤◌, Bool, true, false, not, ◌&&◌, cond, leb, List, []}
+use Rattle.std.proofs.Common.{◌∷◌, ◌++◌, length, get_or, take, drop, Result, Ok, Err, refl, sym, ap, subst, ◌∙◌, arith}
 use Rattle.std.specs.Prelude.{bytes_eq}
 use Rattle.std.specs.Cmp.Lexicographic.{same_text, bytes_decides}
 use Rattle.std.proofs.lemmas.Bool.{cases_eq, cases_lt, eq-eqb, ne_eqb, leb-true, le-leb, and_parts, and_from}
@@ -18,7 +19,8 @@ use Rattle.job_text.specs.Said.{algorithms_shown}
 use Rattle.job_text.specs.Body.{Job, second_mark, hashed_of, body_in, body_of}
 use Rattle.job_text.specs.Jobs.{IsJob}
 use Rattle.job_text.specs.Reading as reading
-use Rattle.job_text.specs.Reading.{Found, places_of, is_second, format_in, job_as, job_at, kept_in, found_in, is_damaged, class_behind, class_of, class_from, free, stands, damaged, not_a_job, seen_of}
+use Rattle.job_text.specs.Reading.{Found, places_of, is_second, format_in, job_as, job_at, kept_in, found_in, is_damaged, class_behind, class_of, class_from}
+use Rattle.job_text.specs.Reading.{free, stands, damaged, not_a_job, seen_of}
 use Rattle.job_text.specs.Shown.{IsClass}
 use Rattle.job_text.specs.Stands.{StandsFor, IsSomeJob, IsNoJob, IsDamaged, IsFoundDamaged, IsNotAJob, IsClassOf}
 use Rattle.job_text.proofs.Steps.{ok_is}
@@ -51,7 +53,8 @@ whole_second body j marked kept rest =
     let mark : second_mark ≡ take 7 body = same_text second_mark (take 7 body) (sym marked) in
     let hash : take 32 (drop 7 body) ≡ sha256 (hashed_of j) = kept ∙ ap sha256 rest in
     let tail : drop 7 body ≡ sha256 (hashed_of j) ++ hashed_of j =
-    sym (take-append-drop 32 (drop 7 body)) ∙ ap (λ (l : List ℕ). l ++ drop 32 (drop 7 body)) hash ∙ ap (λ (l : List ℕ). sha256 (hashed_of j) ++ l) (drop-drop 32 7 body ∙ rest) in
+    sym (take-append-drop 32 (drop 7 body)) ∙ ap (λ (l : List ℕ). l ++ drop 32 (drop 7 body)) hash ∙
+    ap (λ (l : List ℕ). sha256 (hashed_of j) ++ l) (drop-drop 32 7 body ∙ rest) in
     sym (take-append-drop 7 body) ∙ ap (λ (l : List ℕ). l ++ drop 7 body) (sym mark) ∙ ap (λ (l : List ℕ). second_mark ++ l) tail
 
 -- ---- the classes
@@ -68,7 +71,11 @@ long : (gate next : ℕ) (rest : List ℕ) → IsShut gate next rest ⊎ IsOpen 
 unfolding class_of
 long gate next rest = ⊎_elim
     (λ (is : gate ≡ 165). inr (record { is = ap (λ (b : Bool). cond b (class_behind (length rest + 2) (next ∷ rest)) free) (eq-eqb gate 165 is); opened = is }))
-    (λ (shut : gate ≢ 165). inl (record { is = ap (λ (b : Bool). cond b (class_behind (length rest + 2) (next ∷ rest)) free) (ne_eqb gate 165 shut); shut = shut }))
+    (λ (shut : gate ≢ 165). inl (record {
+      is = ap (λ (b : Bool). cond b (class_behind (length rest + 2) (next ∷ rest)) free) (ne_eqb gate 165 shut);
+      shut =
+          shut;
+    }))
     (cases_eq gate 165)
 
 record IsBroken (whole : ℕ) (body : List ℕ) : Type 0 where
@@ -84,8 +91,14 @@ unfolding class_behind
 behind whole body = by_test (is_damaged body) refl
   where
     by_test : (b : Bool) → is_damaged body ≡ b → IsBroken whole body ⊎ IsIntact whole body
-    by_test true broken = inl (record { is = ap (λ (b : Bool). cond b (damaged (kept_in body) (found_in body)) (class_from (job_at whole body))) broken; broken = broken })
-    by_test false intact = inr (record { is = ap (λ (b : Bool). cond b (damaged (kept_in body) (found_in body)) (class_from (job_at whole body))) intact; intact = intact })
+    by_test true broken = inl (record {
+      is = ap (λ (b : Bool). cond b (damaged (kept_in body) (found_in body)) (class_from (job_at whole body))) broken;
+      broken = broken;
+    })
+    by_test false intact = inr (record {
+      is = ap (λ (b : Bool). cond b (damaged (kept_in body) (found_in body)) (class_from (job_at whole body))) intact;
+      intact = intact;
+    })
 
 never_free : (r : Result Found ℕ) → class_from r ≡ free → ⊥
 never_free (Ok x) e = cc
@@ -106,7 +119,8 @@ free_class (gate ∷ []) e = tt
 free_class (gate ∷ next ∷ rest) e = ⊎_elim
     (λ (s : IsShut gate next rest). s.shut)
     (λ (o : IsOpen gate next rest). ⊎_elim
-    (λ (k : IsBroken (length rest + 2) (next ∷ rest)). let both : damaged (kept_in (next ∷ rest)) (found_in (next ∷ rest)) ≡ free = sym k.is ∙ sym o.is ∙ e in absurd cc)
+    (λ (k : IsBroken (length rest + 2) (next ∷ rest)). let both : damaged (kept_in (next ∷ rest)) (found_in (next ∷ rest)) ≡ free = sym k.is ∙ sym o.is ∙ e in
+    absurd cc)
     (λ (k : IsIntact (length rest + 2) (next ∷ rest)). absurd (never_free (job_at (length rest + 2) (next ∷ rest)) (sym k.is ∙ sym o.is ∙ e)))
     (behind (length rest + 2) (next ∷ rest)))
     (long gate next rest)
@@ -129,7 +143,8 @@ hash_fits body intact second enough = by_hash (bytes_eq (kept_in body) (found_in
         let both : true ≡ false = sym broken ∙ intact in absurd cc
 
 -- and with the bytes that it is of it is that of a job
-pub second_whole : (body : List ℕ) (j : Job) → format_in body ≡ Second → is_damaged body ≡ false → j.format ≡ Second → drop 39 body ≡ hashed_of j → body ≡ body_of j
+pub second_whole : (body : List ℕ) (j : Job) → format_in body ≡ Second → is_damaged body ≡ false → j.format ≡ Second → drop 39 body ≡ hashed_of j →
+    body ≡ body_of j
 second_whole body j format intact format_is rest =
     let second : is_second body ≡ true = of_mark (is_second body) format in
     let enough : 63 ≤ length body = omega (arith, ap (λ (l : List ℕ). length l) rest, length-drop 39 body) in
@@ -140,7 +155,8 @@ second_whole body j format intact format_is rest =
     of_mark false is = absurd cc
 
 -- a body that is read and not damaged is that of the job that was found
-body_is : (whole : ℕ) (body : List ℕ) (x : Found) → IsBytes body → (63 ≤ length body) ⊎ (length body < 63) → is_damaged body ≡ false → job_at whole body ≡ Ok x → (body ≡ body_of x.job) × IsJob x.job x.board x.algorithms
+body_is : (whole : ℕ) (body : List ℕ) (x : Found) → IsBytes body → (63 ≤ length body) ⊎ (length body < 63) → is_damaged body ≡ false →
+    job_at whole body ≡ Ok x → (body ≡ body_of x.job) × IsJob x.job x.board x.algorithms
 body_is whole body x fits size intact r = by_test (is_second body) refl
   where
     of_first : IsJobIn First body x → (body ≡ body_of x.job) × IsJob x.job x.board x.algorithms
@@ -160,7 +176,8 @@ body_is whole body x fits size intact r = by_test (is_second body) refl
             omega (arith, parts.1, short, ap (λ (l : List ℕ). length l) parts.0, length-drop 39 body)
 
     by_test : (b : Bool) → is_second body ≡ b → (body ≡ body_of x.job) × IsJob x.job x.board x.algorithms
-    by_test true second = of_second second (job_takes whole Second body x fits (sym (ap (λ (b : Bool). job_as whole (if b then Second else First) body) second) ∙ r))
+    by_test true second = of_second second (job_takes whole Second body x fits
+        (sym (ap (λ (b : Bool). job_as whole (if b then Second else First) body) second) ∙ r))
     by_test false first = of_first (job_takes whole First body x fits (sym (ap (λ (b : Bool). job_as whole (if b then Second else First) body) first) ∙ r))
 
 sizes : (n : ℕ) → (63 ≤ n) ⊎ (n < 63)
@@ -173,7 +190,8 @@ stands_class (gate ∷ []) x fits e = absurd cc
 stands_class (gate ∷ next ∷ rest) x fits e = ⊎_elim
     (λ (s : IsShut gate next rest). let both : free ≡ stands x = sym s.is ∙ e in absurd cc)
     (λ (o : IsOpen gate next rest). ⊎_elim
-    (λ (k : IsBroken (length rest + 2) (next ∷ rest)). let both : damaged (kept_in (next ∷ rest)) (found_in (next ∷ rest)) ≡ stands x = sym k.is ∙ sym o.is ∙ e in absurd cc)
+    (λ (k : IsBroken (length rest + 2) (next ∷ rest)). let both : damaged (kept_in (next ∷ rest)) (found_in (next ∷ rest)) ≡ stands x = sym k.is ∙ sym o.is ∙
+    e in absurd cc)
     (λ (k : IsIntact (length rest + 2) (next ∷ rest)).
     let r = found_is (job_at (length rest + 2) (next ∷ rest)) x (sym k.is ∙ sym o.is ∙ e) in
     let t = body_is (length rest + 2) (next ∷ rest) x (rest_bytes gate (next ∷ rest) fits) (sizes (length (next ∷ rest))) k.intact r in
@@ -182,13 +200,15 @@ stands_class (gate ∷ next ∷ rest) x fits e = ⊎_elim
     (long gate next rest)
 
 -- a file behind whose open gate a body is that is read as no job has no job
-no_job_behind : (gate next : ℕ) (rest : List ℕ) (c : reading.Class) → gate ≡ 165 → class_behind (length rest + 2) (next ∷ rest) ≡ c → ((x : Found) → c ≡ stands x → ⊥) → IsNoJob (gate ∷ next ∷ rest)
+no_job_behind : (gate next : ℕ) (rest : List ℕ) (c : reading.Class) → gate ≡ 165 → class_behind (length rest + 2) (next ∷ rest) ≡ c →
+    ((x : Found) → c ≡ stands x → ⊥) → IsNoJob (gate ∷ next ∷ rest)
 no_job_behind gate next rest c opened is never = record {
   not_free = λ shut. shut opened;
   no_job = λ j b algorithms is_job whole.
       let body : next ∷ rest ≡ body_of j = cc in
       let len : (places_of j.format).front ≤ length rest + 2 = omega (arith, long_body j, ap (λ (l : List ℕ). length l) body) in
-      let r : job_at (length rest + 2) (next ∷ rest) ≡ Ok (found_for j b algorithms) = ap (job_at (length rest + 2)) body ∙ job_again (length rest + 2) j b algorithms len is_job in
+      let r : job_at (length rest + 2) (next ∷ rest) ≡ Ok (found_for j b algorithms) = ap (job_at (length rest + 2)) body ∙
+      job_again (length rest + 2) j b algorithms len is_job in
       let intact : is_damaged (next ∷ rest) ≡ false = ap is_damaged body ∙ intact_as j.format j in
       ⊎_elim
       (λ (k : IsBroken (length rest + 2) (next ∷ rest)). let both : true ≡ false = sym k.broken ∙ intact in absurd cc)
@@ -197,7 +217,8 @@ no_job_behind gate next rest c opened is never = record {
 }
 
 -- damage, in the words of the format
-broken_is : (gate next : ℕ) (rest : List ℕ) → gate ≡ 165 → is_damaged (next ∷ rest) ≡ true → IsDamaged (kept_in (next ∷ rest)) (found_in (next ∷ rest)) (gate ∷ next ∷ rest)
+broken_is : (gate next : ℕ) (rest : List ℕ) → gate ≡ 165 → is_damaged (next ∷ rest) ≡ true →
+    IsDamaged (kept_in (next ∷ rest)) (found_in (next ∷ rest)) (gate ∷ next ∷ rest)
 broken_is gate next rest opened broken =
     let body : List ℕ = next ∷ rest in
     let p = and_parts (leb 63 (length body) && is_second body) (not (bytes_eq (kept_in body) (found_in body))) broken in
@@ -209,7 +230,8 @@ broken_is gate next rest opened broken =
       long = omega (arith, enough);
       kept_is = refl;
       found_is = refl;
-      differ = λ same. let both : not (bytes_eq (kept_in body) (found_in body)) ≡ false = ap not ((bytes_decides _ _).1 same) in let one : true ≡ false = sym p.1 ∙ both in cc;
+      differ = λ same. let both : not (bytes_eq (kept_in body) (found_in body)) ≡ false = ap not ((bytes_decides _ _).1 same) in
+          let one : true ≡ false = sym p.1 ∙ both in cc;
     }
 
 is_broken : (gate next : ℕ) (rest kept found : List ℕ) → IsDamaged kept found (gate ∷ next ∷ rest) → is_damaged (next ∷ rest) ≡ true
@@ -235,7 +257,8 @@ damaged_class (gate ∷ next ∷ rest) kept found e = ⊎_elim
     let kept_same : kept_in (next ∷ rest) ≡ kept = cc in
     let found_same : found_in (next ∷ rest) ≡ found = cc in
     record {
-      damaged = subst (λ (l : List ℕ). IsDamaged l found (gate ∷ next ∷ rest)) kept_same (subst (λ (l : List ℕ). IsDamaged (kept_in (next ∷ rest)) l (gate ∷ next ∷ rest)) found_same
+      damaged = subst (λ (l : List ℕ). IsDamaged l found (gate ∷ next ∷ rest)) kept_same
+          (subst (λ (l : List ℕ). IsDamaged (kept_in (next ∷ rest)) l (gate ∷ next ∷ rest)) found_same
           (broken_is gate next rest o.opened k.broken));
       none = no_job_behind gate next rest (damaged kept found) o.opened (sym o.is ∙ e) (λ x both_. cc);
     })
@@ -244,7 +267,8 @@ damaged_class (gate ∷ next ∷ rest) kept found e = ⊎_elim
     (long gate next rest)
 
 -- a damaged file stands for no job
-pub never_jobs : (file kept found : List ℕ) → IsDamaged kept found file → (j : Job) (b : board.Shown) (algorithms : List flm.Shown) → IsJob j b algorithms → IsWhole (body_of j) file → ⊥
+pub never_jobs : (file kept found : List ℕ) → IsDamaged kept found file → (j : Job) (b : board.Shown) (algorithms : List flm.Shown) → IsJob j b algorithms →
+    IsWhole (body_of j) file → ⊥
 never_jobs [] kept found d j b algorithms is whole = absurd (omega (arith, d.long))
 never_jobs (gate ∷ []) kept found d j b algorithms is whole = absurd (omega (arith, d.long))
 never_jobs (gate ∷ next ∷ rest) kept found d j b algorithms is whole =
@@ -264,7 +288,8 @@ not_class (gate ∷ next ∷ rest) at e = ⊎_elim
       none = no_job_behind gate next rest (not_a_job at) o.opened (sym o.is ∙ e) (λ x both_. cc);
       whole = λ kept found d.
           ⊎_elim
-          (λ (k : IsBroken (length rest + 2) (next ∷ rest)). let both : damaged (kept_in (next ∷ rest)) (found_in (next ∷ rest)) ≡ not_a_job at = sym k.is ∙ sym o.is ∙ e in cc)
+          (λ (k : IsBroken (length rest + 2) (next ∷ rest)). let both : damaged (kept_in (next ∷ rest)) (found_in (next ∷ rest)) ≡ not_a_job at = sym k.is ∙
+          sym o.is ∙ e in cc)
           (λ (k : IsIntact (length rest + 2) (next ∷ rest)). let both : true ≡ false = sym (is_broken gate next rest kept found d) ∙ k.intact in cc)
           (behind (length rest + 2) (next ∷ rest));
     })
@@ -318,7 +343,8 @@ class_opened (gate ∷ next ∷ rest) enough opened =
     ap (λ (b : Bool). cond b (class_behind (length rest + 2) (next ∷ rest)) free) (eq-eqb gate 165 opened) ∙ ap (λ (n : ℕ). class_behind n (next ∷ rest)) len
 
 -- a file behind whose open gate the hash fits, and no job is read
-pub not_as : (file : List ℕ) (at : ℕ) → 1 < length file → get_or file 0 0 ≡ 165 → is_damaged (drop 1 file) ≡ false → job_at (length file) (drop 1 file) ≡ Err at → IsNotAJob at file
+pub not_as : (file : List ℕ) (at : ℕ) → 1 < length file → get_or file 0 0 ≡ 165 → is_damaged (drop 1 file) ≡ false →
+    job_at (length file) (drop 1 file) ≡ Err at → IsNotAJob at file
 unfolding class_behind
 not_as file at enough opened intact is =
     let body = drop 1 file in
@@ -326,7 +352,8 @@ not_as file at enough opened intact is =
     ∙ ap (λ (b : Bool). cond b (damaged (kept_in body) (found_in body)) (class_from (job_at (length file) body))) intact ∙ ap class_from is)
 
 -- a file behind whose open gate the hash doesn't fit
-pub damaged_as : (file : List ℕ) → 1 < length file → get_or file 0 0 ≡ 165 → is_damaged (drop 1 file) ≡ true → IsFoundDamaged (kept_in (drop 1 file)) (found_in (drop 1 file)) file
+pub damaged_as : (file : List ℕ) → 1 < length file → get_or file 0 0 ≡ 165 → is_damaged (drop 1 file) ≡ true →
+    IsFoundDamaged (kept_in (drop 1 file)) (found_in (drop 1 file)) file
 unfolding class_behind
 damaged_as file enough opened broken =
     let body = drop 1 file in

@@ -166,7 +166,8 @@ under_reach : (rs : List Region) (from to : ℕ) → from ≤ to → to ≤ reac
 under_reach [] from to le within = omega (arith, within)
 under_reach (r ∷ rs) from to le within = by_test (holds r from) refl (under_reach rs from to le) (under_grows rs from to le)
   where
-    by_test : (b : Bool) → holds r from ≡ b → (to ≤ reach rs from → cells_under rs from + (to - from) ≤ cells_under rs to) → cells_under rs from ≤ cells_under rs to
+    by_test : (b : Bool) → holds r from ≡ b → (to ≤ reach rs from → cells_under rs from + (to - from) ≤ cells_under rs to) →
+        cells_under rs from ≤ cells_under rs to
         → cells_under (r ∷ rs) from + (to - from) ≤ cells_under (r ∷ rs) to
     by_test true is later more =
         let h = held r from is in

@@ -1,5 +1,6 @@
 -- The device of every FLM file lies in memory. So the regions of a job that fit their algorithms have addresses.
-use Rattle.std.proofs.Common.{◌≡◌, ℕ, ◌+◌, ◌≤◌, ◌^◌, Bool, true, false, ◌||◌, cond, eqb, ltb, List, length, Option, Some, None, Result, Ok, Err, refl, ap, subst, arith}
+use Rattle.std.proofs.Common.{◌≡◌, ℕ, ◌+◌, ◌≤◌, ◌^◌, Bool, true, false, ◌||◌, cond, eqb, ltb, List, length, Option, Some, None, Result, Ok, Err, refl, ap}
+use Rattle.std.proofs.Common.{subst, arith}
 use Rattle.std.proofs.lemmas.Bool.{ltb-false}
 use Rattle.std.specs.Option.{option_map}
 use Rattle.faults.specs.Results.{◌>>=◌}
@@ -40,8 +41,10 @@ or_parts false b e = (refl, e)
 fitting : (device : Device) (s : Shape) → s.size ≡ device.size → device_fault device.base s ≡ None → IsInMemory device
 unfolding device_fault
 fitting device s same e =
-    let test = none_if ((eqb s.size 0) || ltb 16777216 s.size || ltb addresses (device.base + s.size) || ltb 65536 (length (sectors s)) || ltb 1048576 (length (pages s))) (BadDevice s.size) e in
-    let a = or_parts ((eqb s.size 0) || ltb 16777216 s.size || ltb addresses (device.base + s.size) || ltb 65536 (length (sectors s))) (ltb 1048576 (length (pages s))) test in
+    let test = none_if ((eqb s.size 0) || ltb 16777216 s.size || ltb addresses (device.base + s.size) || ltb 65536 (length (sectors s)) || ltb 1048576
+    (length (pages s))) (BadDevice s.size) e in
+    let a = or_parts ((eqb s.size 0) || ltb 16777216 s.size || ltb addresses (device.base + s.size) || ltb 65536 (length (sectors s)))
+    (ltb 1048576 (length (pages s))) test in
     let b = or_parts ((eqb s.size 0) || ltb 16777216 s.size || ltb addresses (device.base + s.size)) (ltb 65536 (length (sectors s))) a.0 in
     let c = or_parts ((eqb s.size 0) || ltb 16777216 s.size) (ltb addresses (device.base + s.size)) b.0 in
     let d = or_parts (eqb s.size 0) (ltb 16777216 s.size) c.0 in
@@ -52,9 +55,12 @@ fitting device s same e =
 limited : (device : Device) (items : List SectorItem) → limits_of device items ≡ Ok tt → IsInMemory device
 unfolding limits_of
 limited device items e =
-    let page = bind_ok (unless (page_fault device.page)) (λ page. unless (gap_fault items) >>= λ gap. unless (order_fault items) >>= λ order. unless (size_fault items) >>= λ size. unless (device_fault device.base (shape device.size device.page items))) tt e in
-    let gap = bind_ok (unless (gap_fault items)) (λ gap. unless (order_fault items) >>= λ order. unless (size_fault items) >>= λ size. unless (device_fault device.base (shape device.size device.page items))) tt page.2 in
-    let order = bind_ok (unless (order_fault items)) (λ order. unless (size_fault items) >>= λ size. unless (device_fault device.base (shape device.size device.page items))) tt gap.2 in
+    let page = bind_ok (unless (page_fault device.page)) (λ page. unless (gap_fault items) >>= λ gap. unless (order_fault items) >>= λ order. unless
+    (size_fault items) >>= λ size. unless (device_fault device.base (shape device.size device.page items))) tt e in
+    let gap = bind_ok (unless (gap_fault items)) (λ gap. unless (order_fault items) >>= λ order. unless (size_fault items) >>= λ size. unless
+    (device_fault device.base (shape device.size device.page items))) tt page.2 in
+    let order = bind_ok (unless (order_fault items)) (λ order. unless (size_fault items) >>= λ size. unless
+    (device_fault device.base (shape device.size device.page items))) tt gap.2 in
     let size = bind_ok (unless (size_fault items)) (λ size. unless (device_fault device.base (shape device.size device.page items))) tt order.2 in
     fitting device (shape device.size device.page items) refl (no_fault (device_fault device.base (shape device.size device.page items)) size.2)
 
@@ -64,11 +70,13 @@ unit_is r u e = e
 described : (bytes : List ℕ) (at : ℕ) (d : Described) → described_of bytes at ≡ Ok d → IsInMemory d.device
 unfolding described_of
 described bytes at d e =
-    let device = bind_ok (device_of bytes at) (λ device. items_of bytes at >>= λ items. limits_of device items >>= λ lawful. Ok (record { device = device; items = items })) d e in
+    let device = bind_ok (device_of bytes at) (λ device. items_of bytes at >>= λ items. limits_of device items >>= λ lawful. Ok
+    (record { device = device; items = items })) d e in
     let items = bind_ok (items_of bytes at) (λ items. limits_of device.0 items >>= λ lawful. Ok (record { device = device.0; items = items })) d device.2 in
     let lawful = bind_ok (limits_of device.0 items.0) (λ lawful. Ok (record { device = device.0; items = items.0 })) d items.2 in
     let made : Described = record { device = device.0; items = items.0 } in
-    subst (λ (x : Described). IsInMemory x.device) (ok_is {E = FlmFault} made d lawful.2) (limited device.0 items.0 (unit_is (limits_of device.0 items.0) lawful.0 lawful.1))
+    subst (λ (x : Described). IsInMemory x.device) (ok_is {E = FlmFault} made d lawful.2)
+    (limited device.0 items.0 (unit_is (limits_of device.0 items.0) lawful.0 lawful.1))
 
 of_parts : (bytes : List ℕ) (sections : Sections) (contents : Contents) (a : Shown) → algorithm_of bytes sections contents ≡ Ok a → IsInMemory a.device
 unfolding algorithm_of

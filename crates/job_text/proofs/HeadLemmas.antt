@@ -89,7 +89,8 @@ second_takes d bytes x fits e =
     let e5 : s.0.1 ≡ field r.0.0 ++ (field n.0.0 ++ n.0.1) = t5.0.parts ∙ ap (λ (l : List ℕ). field r.0.0 ++ l) t6.0.parts in
     let e4 : f.0.1 ≡ field s.0.0 ++ (field r.0.0 ++ (field n.0.0 ++ n.0.1)) = t4.0.parts ∙ ap (λ (l : List ℕ). field s.0.0 ++ l) e5 in
     let e3 : q.0.1 ≡ field f.0.0 ++ (field s.0.0 ++ (field r.0.0 ++ (field n.0.0 ++ n.0.1))) = t3.0.parts ∙ ap (λ (l : List ℕ). field f.0.0 ++ l) e4 in
-    let e2 : b.0.1 ≡ field q.0.0 ++ (field f.0.0 ++ (field s.0.0 ++ (field r.0.0 ++ (field n.0.0 ++ n.0.1)))) = t2.0.parts ∙ ap (λ (l : List ℕ). field q.0.0 ++ l) e3 in
+    let e2 : b.0.1 ≡ field q.0.0 ++ (field f.0.0 ++ (field s.0.0 ++ (field r.0.0 ++ (field n.0.0 ++ n.0.1)))) = t2.0.parts ∙
+    ap (λ (l : List ℕ). field q.0.0 ++ l) e3 in
     let e1 : m.0.1 ≡ six h n.0.1 = t1.0.parts ∙ ap (λ (l : List ℕ). field b.0.0 ++ l) e2 in
     let cut : drop 39 bytes ≡ m.0.1 = behind m.0.0 m.0.1 bytes t0.0.parts t0.1 in
     let made : Head × List ℕ = (h, n.0.1) in
@@ -116,11 +117,16 @@ first_again d h rest fits one none =
     let s3 = field h.runs ++ s4 in
     let s2 = field h.first ++ s3 in
     let s1 = field h.board ++ s2 in
-    bind_to _ (λ marked. number_at d marked >>= λ b. number_at d b.1 >>= λ f. number_at d f.1 >>= λ r. number_at d r.1 >>= λ n. Ok (record { board = b.0; files = 1; first = f.0; second = 0; runs = r.0; cells = n.0 }, n.1)) s1 _ (mark_again s1)
-    (bind_to _ (λ b. number_at d b.1 >>= λ f. number_at d f.1 >>= λ r. number_at d r.1 >>= λ n. Ok (record { board = b.0; files = 1; first = f.0; second = 0; runs = r.0; cells = n.0 }, n.1)) (h.board, s2) _ (number_again d h.board s2 fits.board)
-    (bind_to _ (λ f. number_at d f.1 >>= λ r. number_at d r.1 >>= λ n. Ok (record { board = h.board; files = 1; first = f.0; second = 0; runs = r.0; cells = n.0 }, n.1)) (h.first, s3) _ (number_again d h.first s3 fits.first)
-    (bind_to _ (λ r. number_at d r.1 >>= λ n. Ok (record { board = h.board; files = 1; first = h.first; second = 0; runs = r.0; cells = n.0 }, n.1)) (h.runs, s4) _ (number_again d h.runs s4 fits.runs)
-    (bind_to _ (λ n. Ok (record { board = h.board; files = 1; first = h.first; second = 0; runs = h.runs; cells = n.0 }, n.1)) (h.cells, rest) _ (number_again d h.cells rest fits.cells)
+    bind_to _ (λ marked. number_at d marked >>= λ b. number_at d b.1 >>= λ f. number_at d f.1 >>= λ r. number_at d r.1 >>= λ n. Ok
+    (record { board = b.0; files = 1; first = f.0; second = 0; runs = r.0; cells = n.0 }, n.1)) s1 _ (mark_again s1)
+    (bind_to _ (λ b. number_at d b.1 >>= λ f. number_at d f.1 >>= λ r. number_at d r.1 >>= λ n. Ok
+    (record { board = b.0; files = 1; first = f.0; second = 0; runs = r.0; cells = n.0 }, n.1)) (h.board, s2) _ (number_again d h.board s2 fits.board)
+    (bind_to _ (λ f. number_at d f.1 >>= λ r. number_at d r.1 >>= λ n. Ok
+    (record { board = h.board; files = 1; first = f.0; second = 0; runs = r.0; cells = n.0 }, n.1)) (h.first, s3) _ (number_again d h.first s3 fits.first)
+    (bind_to _ (λ r. number_at d r.1 >>= λ n. Ok (record { board = h.board; files = 1; first = h.first; second = 0; runs = r.0; cells = n.0 }, n.1))
+    (h.runs, s4) _ (number_again d h.runs s4 fits.runs)
+    (bind_to _ (λ n. Ok (record { board = h.board; files = 1; first = h.first; second = 0; runs = h.runs; cells = n.0 }, n.1)) (h.cells, rest) _
+    (number_again d h.cells rest fits.cells)
     (ap (λ (y : Head). let x : Result (Head × List ℕ) ℕ = Ok (y, rest) in x) (same h one none))))))
   where
     same : (h : Head) → h.files ≡ 1 → h.second ≡ 0 → made_first h.board h.first h.runs h.cells ≡ h
@@ -136,11 +142,23 @@ second_again d h marked rest long fits =
     let s2 = field h.files ++ s3 in
     let s1 = field h.board ++ s2 in
     let start : text_at d 39 (marked ++ s1) ≡ Ok (marked, s1) = subst (λ (n : ℕ). text_at d n (marked ++ s1) ≡ Ok (marked, s1)) long (text_again d marked s1) in
-    bind_to _ (λ m. number_at d m.1 >>= λ b. number_at d b.1 >>= λ q. number_at d q.1 >>= λ f. number_at d f.1 >>= λ s. number_at d s.1 >>= λ r. number_at d r.1 >>= λ n. Ok (record { board = b.0; files = q.0; first = f.0; second = s.0; runs = r.0; cells = n.0 }, n.1)) (marked, s1) _ start
-    (bind_to _ (λ b. number_at d b.1 >>= λ q. number_at d q.1 >>= λ f. number_at d f.1 >>= λ s. number_at d s.1 >>= λ r. number_at d r.1 >>= λ n. Ok (record { board = b.0; files = q.0; first = f.0; second = s.0; runs = r.0; cells = n.0 }, n.1)) (h.board, s2) _ (number_again d h.board s2 fits.board)
-    (bind_to _ (λ q. number_at d q.1 >>= λ f. number_at d f.1 >>= λ s. number_at d s.1 >>= λ r. number_at d r.1 >>= λ n. Ok (record { board = h.board; files = q.0; first = f.0; second = s.0; runs = r.0; cells = n.0 }, n.1)) (h.files, s3) _ (number_again d h.files s3 fits.files)
-    (bind_to _ (λ f. number_at d f.1 >>= λ s. number_at d s.1 >>= λ r. number_at d r.1 >>= λ n. Ok (record { board = h.board; files = h.files; first = f.0; second = s.0; runs = r.0; cells = n.0 }, n.1)) (h.first, s4) _ (number_again d h.first s4 fits.first)
-    (bind_to _ (λ s. number_at d s.1 >>= λ r. number_at d r.1 >>= λ n. Ok (record { board = h.board; files = h.files; first = h.first; second = s.0; runs = r.0; cells = n.0 }, n.1)) (h.second, s5) _ (number_again d h.second s5 fits.second)
-    (bind_to _ (λ r. number_at d r.1 >>= λ n. Ok (record { board = h.board; files = h.files; first = h.first; second = h.second; runs = r.0; cells = n.0 }, n.1)) (h.runs, s6) _ (number_again d h.runs s6 fits.runs)
-    (bind_to _ (λ n. Ok (record { board = h.board; files = h.files; first = h.first; second = h.second; runs = h.runs; cells = n.0 }, n.1)) (h.cells, rest) _ (number_again d h.cells rest fits.cells)
+    bind_to _ (λ m. number_at d m.1 >>= λ b. number_at d b.1 >>= λ q. number_at d q.1 >>= λ f. number_at d f.1 >>= λ s. number_at d s.1 >>= λ r. number_at d r.1
+    >>= λ n. Ok (record { board = b.0; files = q.0; first = f.0; second = s.0; runs = r.0; cells = n.0 }, n.1)) (marked, s1) _ start
+    (bind_to _ (λ b. number_at d b.1 >>= λ q. number_at d q.1 >>= λ f. number_at d f.1 >>= λ s. number_at d s.1 >>= λ r. number_at d r.1 >>= λ n. Ok
+    (record { board = b.0; files = q.0; first = f.0; second = s.0; runs = r.0; cells = n.0 }, n.1)) (h.board, s2) _ (number_again d h.board s2 fits.board)
+    (bind_to _ (λ q. number_at d q.1 >>= λ f. number_at d f.1 >>= λ s. number_at d s.1 >>= λ r. number_at d r.1 >>= λ n. Ok
+    (record { board = h.board; files = q.0; first = f.0; second = s.0; runs = r.0; cells = n.0 }, n.1)) (h.files, s3) _
+    (number_again d h.files s3 fits.files)
+    (bind_to _ (λ f. number_at d f.1 >>= λ s. number_at d s.1 >>= λ r. number_at d r.1 >>= λ n. Ok
+    (record { board = h.board; files = h.files; first = f.0; second = s.0; runs = r.0; cells = n.0 }, n.1)) (h.first, s4) _
+    (number_again d h.first s4 fits.first)
+    (bind_to _ (λ s. number_at d s.1 >>= λ r. number_at d r.1 >>= λ n. Ok
+    (record { board = h.board; files = h.files; first = h.first; second = s.0; runs = r.0; cells = n.0 }, n.1)) (h.second, s5) _
+    (number_again d h.second s5 fits.second)
+    (bind_to _ (λ r. number_at d r.1 >>= λ n. Ok (
+      record { board = h.board; files = h.files; first = h.first; second = h.second; runs = r.0; cells = n.0 },
+      n.1,
+    )) (h.runs, s6) _ (number_again d h.runs s6 fits.runs)
+    (bind_to _ (λ n. Ok (record { board = h.board; files = h.files; first = h.first; second = h.second; runs = h.runs; cells = n.0 }, n.1)) (h.cells, rest) _
+    (number_again d h.cells rest fits.cells)
     refl))))))

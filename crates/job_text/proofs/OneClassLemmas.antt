@@ -19,7 +19,8 @@ something file free fits is = inl (free_class file is)
 something file (stands x) fits is =
     let found : IsFoundIn x file = stands_class file x fits is in
     inr (inl (record { job = x.job; board = x.board; algorithms = x.algorithms; is = found.is; whole = found.whole }))
-something file (damaged kept found) fits is = let d : IsFoundDamaged kept found file = damaged_class file kept found is in inr (inr (inl (kept, found, d.damaged)))
+something file (damaged kept found) fits is = let d : IsFoundDamaged kept found file = damaged_class file kept found is in
+    inr (inr (inl (kept, found, d.damaged)))
 something file (not_a_job at) fits is = inr (inr (inr (at, not_class file at is)))
 
 -- a gate that is open before a body isn't shut

@@ -1,5 +1,6 @@
 -- A body says one job, where the numbers of the job have room in their fields; and those of a job whose texts suit one another have.
-use Rattle.std.proofs.Common.{◌≡◌, ◌⊎◌, ⊎_elim, inl, ℕ, ◌≤◌, ◌<◌, ◌+◌, ◌^◌, List, [], ◌∷◌, ◌++◌, All, length, drop, refl, sym, ap, subst, ◌∙◌, append_assoc, arith}
+use Rattle.std.proofs.Common.{◌≡◌, ◌⊎◌, ⊎_elim, inl, ℕ, ◌≤◌, ◌<◌, ◌+◌, ◌^◌, List, [], ◌∷◌, ◌++◌, All, length, drop, refl, sym, ap, subst, ◌∙◌, append_assoc}
+use Rattle.std.proofs.Common.{arith}
 use Rattle.std.specs.List.{concat, flat_map}
 use Rattle.std.proofs.lemmas.List.{append-nil}
 use Rattle.std.proofs.lemmas.List.Concat.{flat_map-cons}
@@ -43,7 +44,8 @@ one_field n m r s small few e =
     (ap (λ (x : ℕ × List ℕ). x.0) both, ap (λ (x : ℕ × List ℕ). x.1) both)
 
 -- the first run in front of the others
-apart : (x : Run) (rs : List Run) (r : List ℕ) → flat_map run_text (x ∷ rs) ++ r ≡ field x.at ++ (field (length x.bytes) ++ (x.bytes ++ (flat_map run_text rs ++ r)))
+apart : (x : Run) (rs : List Run) (r : List ℕ) → flat_map run_text (x ∷ rs) ++ r ≡ field x.at ++
+    (field (length x.bytes) ++ (x.bytes ++ (flat_map run_text rs ++ r)))
 apart x rs r =
     ap (λ (l : List ℕ). l ++ r) (flat_map-cons run_text x rs)
     ∙ append_assoc (run_text x) (flat_map run_text rs) r
@@ -65,7 +67,8 @@ one_image (x ∷ rs) (y ∷ ss) r s long small few e =
     (λ i. record { at = at.0 i; bytes = bytes.0 i } ∷ rest.0 i, rest.1)
 
 -- one file or two
-one_or_two : (xs ys : List (List ℕ)) (r s : List ℕ) → (length xs ≡ 1) ⊎ (length xs ≡ 2) → length xs ≡ length ys → flm_len xs 0 ≡ flm_len ys 0 → flm_len xs 1 ≡ flm_len ys 1
+one_or_two : (xs ys : List (List ℕ)) (r s : List ℕ) → (length xs ≡ 1) ⊎ (length xs ≡ 2) → length xs ≡ length ys → flm_len xs 0 ≡ flm_len ys 0 →
+    flm_len xs 1 ≡ flm_len ys 1
     → concat xs ++ r ≡ concat ys ++ s → (xs ≡ ys) × (r ≡ s)
 one_or_two (x ∷ []) (y ∷ []) r s few long first second e =
     let parts = one_front x y r s first (sym (ap (λ (l : List ℕ). l ++ r) (append-nil x)) ∙ e ∙ ap (λ (l : List ℕ). l ++ s) (append-nil y)) in
@@ -119,7 +122,8 @@ one_in First j k one two a b e =
     one_tail j k (inl one) a b
     (record { board = board.0; files = one ∙ sym two; first = first.0; second = one_file j.flms one ∙ sym (one_file k.flms two); image = image.0 }) cells.1
 one_in Second j k few some a b e =
-    let hashed = one_front (sha256 (hashed_of j)) (sha256 (hashed_of k)) (hashed_of j) (hashed_of k) (length-sha256 (hashed_of j) ∙ sym (length-sha256 (hashed_of k))) (ap (drop 7) e) in
+    let hashed = one_front (sha256 (hashed_of j)) (sha256 (hashed_of k)) (hashed_of j) (hashed_of k)
+    (length-sha256 (hashed_of j) ∙ sym (length-sha256 (hashed_of k))) (ap (drop 7) e) in
     let board = one_field (length j.board) (length k.board) _ _ a.board b.board hashed.1 in
     let files = one_field (length j.flms) (length k.flms) _ _ (few_of (length j.flms) few) (few_of (length k.flms) some) board.1 in
     let first = one_field (flm_len j.flms 0) (flm_len k.flms 0) _ _ a.first b.first files.1 in
@@ -137,10 +141,17 @@ one_text j k a b e =
 
 -- ---- a job has room
 
-rooms : (regions : List Region) (low : ℕ) (rs : List Run) → length regions ≤ 2 → AreSmall regions → AreMaximal low addresses rs → AreCovered regions rs → All HasRoom rs
+rooms : (regions : List Region) (low : ℕ) (rs : List Run) → length regions ≤ 2 → AreSmall regions → AreMaximal low addresses rs → AreCovered regions rs →
+    All HasRoom rs
 rooms regions low [] few small fits covered = All-nil HasRoom
-rooms regions low (r ∷ rs) few small fits covered = All-cons HasRoom r rs
-    (omega (arith, fits.1, fits.2), omega (arith, covers_small regions r.at (end_of r) small (each_covered regions r.at (end_of r) few (omega (arith, fits.1)) covered.0)))
+rooms regions low (r ∷ rs) few small fits covered = All-cons HasRoom r rs (
+  omega (arith, fits.1, fits.2),
+  omega (
+    arith,
+    covers_small regions r.at (end_of r) small
+        (each_covered regions r.at (end_of r) few (omega (arith, fits.1)) covered.0),
+  ),
+)
     (rooms regions (end_of r + 1) rs few small fits.3 covered.1)
 
 pub has_fields : (j : Job) (b : board.Shown) (algorithms : List flm.Shown) → IsJob j b algorithms → HasFields j

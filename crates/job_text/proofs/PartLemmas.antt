@@ -1,5 +1,6 @@
 -- The parts of a job, as they are written. Writers put them one behind the other.
-use Rattle.std.proofs.Common.{◌≡◌, ◌⊎◌, inl, inr, ◌<◌, ◌+◌, ◌^◌, ℕ, take, drop, List, [], ◌∷◌, ◌++◌, length, replicate, Option, Some, None, refl, sym, ap, subst, ◌∙◌, append_assoc, arith}
+use Rattle.std.proofs.Common.{◌≡◌, ◌⊎◌, inl, inr, ◌<◌, ◌+◌, ◌^◌, ℕ, take, drop, List, [], ◌∷◌, ◌++◌, length, replicate, Option, Some, None, refl, sym, ap}
+use Rattle.std.proofs.Common.{subst, ◌∙◌, append_assoc, arith}
 use Rattle.std.specs.List.{concat, flat_map}
 use Rattle.std.specs.Prelude.{slice_get, option_copied}
 use Rattle.std.proofs.lemmas.List.{append-nil, length-replicate, take_more, drop_at}
@@ -51,12 +52,15 @@ short_parts p are =
     short_runs are.board.regions p.image.now small few are.suits.inside.0 are.suits.inside.1
 
 -- the lengths, the rest of the front and a snapshot of the size are what the hash is of
-front_is : (p : JobParts) (snapshot : List ℕ) → length snapshot ≡ p.size → (lengths_of p ++ p.board.now ++ concat (flms_of p) ++ flat_map run_text p.image.now) ++ snapshot ≡ hashed_of (job_of p snapshot)
+front_is : (p : JobParts) (snapshot : List ℕ) → length snapshot ≡ p.size →
+    (lengths_of p ++ p.board.now ++ concat (flms_of p) ++ flat_map run_text p.image.now) ++ snapshot ≡ hashed_of (job_of p snapshot)
 front_is p snapshot len =
     let runs = flat_map run_text p.image.now in
     let flms = concat (flms_of p) in
-    ap (λ (n : ℕ). (field (length p.board.now) ++ field (length (flms_of p)) ++ field (flm_len (flms_of p) 0) ++ field (flm_len (flms_of p) 1) ++ field (length p.image.now) ++ field n ++ p.board.now ++ flms ++ runs) ++ snapshot) (sym len)
-    ∙ ap (λ (l : List ℕ). field (length p.board.now) ++ (field (length (flms_of p)) ++ (field (flm_len (flms_of p) 0) ++ (field (flm_len (flms_of p) 1) ++ (field (length p.image.now) ++ (field (length snapshot) ++ l))))))
+    ap (λ (n : ℕ). (field (length p.board.now) ++ field (length (flms_of p)) ++ field (flm_len (flms_of p) 0) ++ field (flm_len (flms_of p) 1) ++ field
+    (length p.image.now) ++ field n ++ p.board.now ++ flms ++ runs) ++ snapshot) (sym len)
+    ∙ ap (λ (l : List ℕ). field (length p.board.now) ++ (field (length (flms_of p)) ++
+    (field (flm_len (flms_of p) 0) ++ (field (flm_len (flms_of p) 1) ++ (field (length p.image.now) ++ (field (length snapshot) ++ l))))))
     (append_assoc (p.board.now ++ flms) runs snapshot ∙ append_assoc p.board.now flms (runs ++ snapshot))
 
 -- with its hash in its place, a front with a snapshot of the size is the body
@@ -66,21 +70,25 @@ hashed_is p snapshot len =
     let behind : List ℕ = p.board.now ++ concat (flms_of p) ++ flat_map run_text p.image.now in
     let start : List ℕ = second_mark ++ zeros in
     let parts : front_of p ++ snapshot ≡ start ++ ((lengths_of p ++ behind) ++ snapshot) =
-    ap (λ (l : List ℕ). l ++ snapshot) (sym (append_assoc (second_mark ++ zeros) (lengths_of p) behind)) ∙ append_assoc start (lengths_of p ++ behind) snapshot in
+    ap (λ (l : List ℕ). l ++ snapshot) (sym (append_assoc (second_mark ++ zeros) (lengths_of p) behind)) ∙
+    append_assoc start (lengths_of p ++ behind) snapshot in
     let rest : drop 39 (front_of p ++ snapshot) ≡ hashed_of (job_of p snapshot) =
     ap (λ (l : List ℕ). drop 39 l) parts ∙ drop_at start ((lengths_of p ++ behind) ++ snapshot) 39 refl ∙ front_is p snapshot len in
     λ i. second_mark ++ (sha256 (rest i) ++ rest i)
 
 -- one run more is written
-pub more_runs : (image : List Run) (i : ℕ) (r : Run) (out old new : List ℕ) → i < length image → slice_get image i ≡ Some r → old ≡ out ++ flat_map run_text (take i image)
+pub more_runs : (image : List Run) (i : ℕ) (r : Run) (out old new : List ℕ) → i < length image → slice_get image i ≡ Some r →
+    old ≡ out ++ flat_map run_text (take i image)
     → new ≡ old ++ run_text r → new ≡ out ++ flat_map run_text (take (i + 1) image)
 more_runs image i r out old new lt is old-is new-is =
     let nothing : Run = record { at = 0; bytes = [] } in
-    let more : take (i + 1) image ≡ take i image ++ r ∷ [] = take_more image i nothing lt ∙ ap (λ (x : Run). take i image ++ x ∷ []) (get_or_from_slice_get image i r nothing is) in
+    let more : take (i + 1) image ≡ take i image ++ r ∷ [] = take_more image i nothing lt ∙
+    ap (λ (x : Run). take i image ++ x ∷ []) (get_or_from_slice_get image i r nothing is) in
     let one : flat_map run_text (r ∷ []) ≡ run_text r = flat_map-cons run_text r [] ∙ append-nil (run_text r) in
     let text : flat_map run_text (take (i + 1) image) ≡ flat_map run_text (take i image) ++ run_text r =
     ap (flat_map run_text) more ∙ flat_map-append run_text (take i image) (r ∷ []) ∙ ap (λ (l : List ℕ). flat_map run_text (take i image) ++ l) one in
-    new-is ∙ ap (λ (l : List ℕ). l ++ run_text r) old-is ∙ append_assoc out (flat_map run_text (take i image)) (run_text r) ∙ ap (λ (l : List ℕ). out ++ l) (sym text)
+    new-is ∙ ap (λ (l : List ℕ). l ++ run_text r) old-is ∙ append_assoc out (flat_map run_text (take i image)) (run_text r) ∙
+    ap (λ (l : List ℕ). out ++ l) (sym text)
 
 -- the run that is written fits its field
 pub short_run : (image : List Run) (i : ℕ) (r : Run) → AreShort image → i < length image → slice_get image i ≡ Some r → length r.bytes < 2 ^ 32

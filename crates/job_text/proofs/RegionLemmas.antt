@@ -39,11 +39,13 @@ two_fit b (r ∷ []) a c two first second = absurd (omega (arith, two))
 two_fit b (r ∷ s ∷ []) a c two first second = and_from _ _ first (and_from _ _ second refl)
 two_fit b (r ∷ s ∷ t ∷ rs) a c two first second = absurd (omega (arith, two))
 
-pub first_fits : (b : board.Shown) (rs : List Region) (a : flm.Shown) (rest : List flm.Shown) → all_fit b rs (a ∷ rest) ≡ true → fits_in b (slice_get rs 0) a ≡ true
+pub first_fits : (b : board.Shown) (rs : List Region) (a : flm.Shown) (rest : List flm.Shown) → all_fit b rs (a ∷ rest) ≡ true →
+    fits_in b (slice_get rs 0) a ≡ true
 first_fits b [] a rest fit = absurd cc
 first_fits b (r ∷ rs) a rest fit = (and_parts (fits b r a) (all_fit b rs rest) fit).0
 
-pub second_fits : (b : board.Shown) (rs : List Region) (a c : flm.Shown) (rest : List flm.Shown) → all_fit b rs (a ∷ c ∷ rest) ≡ true → fits_in b (slice_get rs 1) c ≡ true
+pub second_fits : (b : board.Shown) (rs : List Region) (a c : flm.Shown) (rest : List flm.Shown) → all_fit b rs (a ∷ c ∷ rest) ≡ true →
+    fits_in b (slice_get rs 1) c ≡ true
 second_fits b [] a c rest fit = absurd cc
 second_fits b (r ∷ []) a c rest fit = let p = and_parts (fits b r a) (all_fit b [] (c ∷ rest)) fit in absurd cc
 second_fits b (r ∷ s ∷ rs) a c rest fit =
@@ -51,7 +53,8 @@ second_fits b (r ∷ s ∷ rs) a c rest fit =
     (and_parts (fits b s c) (all_fit b rs rest) p.1).0
 
 -- regions have as few bytes as the devices of FLM files
-pub small_regions : (b : board.Shown) (rs : List Region) (algorithms : List flm.Shown) (files : List (List ℕ)) → all_fit b rs algorithms ≡ true → AreFlms files algorithms → AreSmall rs
+pub small_regions : (b : board.Shown) (rs : List Region) (algorithms : List flm.Shown) (files : List (List ℕ)) → all_fit b rs algorithms ≡ true →
+    AreFlms files algorithms → AreSmall rs
 small_regions b [] algorithms files fit are = tt
 small_regions b (r ∷ rs) [] files fit are = absurd cc
 small_regions b (r ∷ rs) (a ∷ rest) [] fit are = absurd are

@@ -1,5 +1,6 @@
 -- Texts that are gathered one after the other. For `Gathered`, whose text goes out at once.
-use Rattle.std.proofs.Common.{◌≡◌, ◌<◌, ◌+◌, ◌++◌, ◌∙◌, sym, ap, subst, refl, arith, Bool, ℕ, List, [], length, take, drop, get_or, append_assoc, append-nil, Result, Ok, Err, OnOk, IsErr}
+use Rattle.std.proofs.Common.{◌≡◌, ◌<◌, ◌+◌, ◌++◌, ◌∙◌, sym, ap, subst, refl, arith, Bool, ℕ, List, [], length, take, drop, get_or, append_assoc, append-nil}
+use Rattle.std.proofs.Common.{Result, Ok, Err, OnOk, IsErr}
 use Rattle.std.specs.List.{flat_map}
 use Rattle.faults.specs.Counts.{Rose}
 use Rattle.outside_io.specs.State.{SinkState}

@@ -1,5 +1,6 @@
 -- Texts that are put one after the other. Every command joins what it has put by them.
-use Rattle.std.proofs.Common.{◌≡◌, ◌<◌, ◌+◌, ◌++◌, ◌∙◌, sym, ap, subst, refl, arith, Bool, ℕ, List, [], take, drop, length, get_or, append_assoc, append-nil, add-one, Result, Ok, Err, IsErr}
+use Rattle.std.proofs.Common.{◌≡◌, ◌<◌, ◌+◌, ◌++◌, ◌∙◌, sym, ap, subst, refl, arith, Bool, ℕ, List, [], take, drop, length, get_or, append_assoc, append-nil}
+use Rattle.std.proofs.Common.{add-one, Result, Ok, Err, IsErr}
 use Rattle.std.proofs.Math.Seq.{take-suc}
 use Rattle.std.proofs.lemmas.List.{take-append-drop}
 use Rattle.std.proofs.lemmas.Grind.{flat_map-append}

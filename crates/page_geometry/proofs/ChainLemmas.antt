@@ -1,5 +1,6 @@
 -- Ranges that follow one another: a partition of the places from the first to the last.
-use Rattle.std.proofs.Common.{◌≡◌, ℕ, zero, suc, ◌+◌, ◌-◌, ◌*◌, ◌<◌, ◌≤◌, min, refl, sym, ap, subst, arith, ◌∙◌, List, [], ◌∷◌, ◌++◌, map, length, inl, inr, zero-add}
+use Rattle.std.proofs.Common.{◌≡◌, ℕ, zero, suc, ◌+◌, ◌-◌, ◌*◌, ◌<◌, ◌≤◌, min, refl, sym, ap, subst, arith, ◌∙◌, List, [], ◌∷◌, ◌++◌, map, length, inl, inr}
+use Rattle.std.proofs.Common.{zero-add}
 use Rattle.std.proofs.lemmas.Bool.{cases_lt}
 use Rattle.std.proofs.lemmas.List.{get_or_append_left, get_or-append_right, length-append, get_or_past}
 use Rattle.std.specs.List.{range_with_len}
@@ -22,7 +23,8 @@ unfolding Chains
 chains_le a b [] h = omega (arith, h)
 chains_le a b (r ∷ rs) h = let rest = chains_le r.stop b rs h.2 in omega (arith, h.0, h.1, rest)
 
-pub chains_at : (a b : ℕ) (rs : List Range) (k : ℕ) → Chains a rs b → k < length rs → (a ≤ (range_at rs k).start) × ((range_at rs k).start < (range_at rs k).stop) × ((range_at rs k).stop ≤ b)
+pub chains_at : (a b : ℕ) (rs : List Range) (k : ℕ) → Chains a rs b → k < length rs → (a ≤ (range_at rs k).start) ×
+    ((range_at rs k).start < (range_at rs k).stop) × ((range_at rs k).stop ≤ b)
 unfolding Chains
 chains_at a b [] k h l = absurd (omega (arith, l))
 chains_at a b (r ∷ rs) zero h l = (omega (arith, h.0), h.1, chains_le r.stop b rs h.2)
@@ -63,7 +65,8 @@ partition size rs h = record {
   apart = chains_apart 0 size rs h;
 }
 
-cut_from : (step start stop : ℕ) → 1 ≤ step → (n k : ℕ) → k + n ≡ pieces step start stop → Chains (min (start + k * step) stop) (map (piece step start stop) (range_with_len k n)) stop
+cut_from : (step start stop : ℕ) → 1 ≤ step → (n k : ℕ) → k + n ≡ pieces step start stop →
+    Chains (min (start + k * step) stop) (map (piece step start stop) (range_with_len k n)) stop
 unfolding Chains
 cut_from step start stop some zero k e =
     elim (cases_lt (start + k * step) stop) [
@@ -90,7 +93,8 @@ pages_chain page a b (r ∷ ss) some h =
     (subst (λ (n : ℕ). Chains n (cut page r.start r.stop) r.stop) e (cut_chains page r.start r.stop some))
     (pages_chain page r.stop b ss some h.2)
 
-pub pages_nested : (page : ℕ) (ss : List Range) → 1 ≤ page → (p : ℕ) → p < length (pages_of page ss) → (s : ℕ) × (s < length ss) × Within (range_at (pages_of page ss) p) (range_at ss s)
+pub pages_nested : (page : ℕ) (ss : List Range) → 1 ≤ page → (p : ℕ) → p < length (pages_of page ss) → (s : ℕ) ×
+    (s < length ss) × Within (range_at (pages_of page ss) p) (range_at ss s)
 unfolding pages_of
 pages_nested page [] some p h = absurd (omega (arith, h))
 pages_nested page (r ∷ ss) some p h =
@@ -99,7 +103,8 @@ pages_nested page (r ∷ ss) some p h =
     let all = length-append (cut page r.start r.stop) (pages_of page ss) in
     elim (cases_lt p n) [
       | inl here ↦
-          (let e = get_or_append_left (cut page r.start r.stop) (pages_of page ss) (range 0 0) p (omega (arith, here, long)) ∙ cut_at page r.start r.stop p here in
+          (let e = get_or_append_left (cut page r.start r.stop) (pages_of page ss) (range 0 0) p (omega (arith, here, long)) ∙
+          cut_at page r.start r.stop p here in
           (0, omega arith, subst (λ (x : Range). Within x r) (sym e) (omega arith, omega arith)))
       | inr there ↦
           (let x = pages_nested page ss some (p - n) (omega (arith, h, all, long, there)) in

@@ -8,7 +8,8 @@ use Rattle.flm_descriptor.specs.Shape.{pieces, piece, cut, sectors_of, pages_of,
 use Rattle.flm_descriptor.proofs.CutLemmas.{pieces_above}
 use Rattle.page_geometry.specs.Geometry.{In}
 use Rattle.page_geometry.specs.Table.{AreRuns, AreFirstSectors, AreFirstPages}
-use Rattle.flm_descriptor.proofs.RunLemmas.{sectors_next, pages_next, sectors_all, pages_all, sectors_none, pages_none, sectors_rise, pages_rise, run_find_page, pieces_some}
+use Rattle.flm_descriptor.proofs.RunLemmas.{sectors_next, pages_next, sectors_all, pages_all, sectors_none, pages_none, sectors_rise, pages_rise, run_find_page}
+use Rattle.flm_descriptor.proofs.RunLemmas.{pieces_some}
 
 -- ---- what `last_at_most` asks of the tables
 
@@ -20,8 +21,10 @@ module _ (runs : List Run) (firsts : List ℕ) (t : AreFirstSectors runs firsts)
   pub sectors_first : (index : ℕ) → slice_index firsts 0 ≤ index
   sectors_first index = let e = t.each 0 t.some ∙ sectors_none runs in omega (arith, e)
 
-  pub sectors_found : (at index : ℕ) → at < length firsts → slice_index firsts at ≤ index → (at + 1 < length firsts → index < slice_index firsts (at + 1)) → index < length (sectors_of runs)
-      → (at < length runs) × (index - slice_index firsts at < pieces (run_at runs at).step (run_at runs at).start (run_at runs at).stop) × (sectors_before runs at + (index - slice_index firsts at) ≡ index)
+  pub sectors_found : (at index : ℕ) → at < length firsts → slice_index firsts at ≤ index → (at + 1 < length firsts → index < slice_index firsts (at + 1)) →
+      index < length (sectors_of runs)
+      → (at < length runs) × (index - slice_index firsts at < pieces (run_at runs at).step (run_at runs at).start (run_at runs at).stop) ×
+      (sectors_before runs at + (index - slice_index firsts at) ≡ index)
   sectors_found at index l low high inside =
       let here : at < length runs = omega (arith, l, t.long) in
       let e = t.each at here in
@@ -43,8 +46,10 @@ module _ (page : ℕ) (runs : List Run) (firsts : List ℕ) (t : AreFirstPages p
   pub each_some : (at : ℕ) → at < length runs → 0 < pieces page 0 (run_at runs at).step
   each_some at h = pieces_some page 0 (run_at runs at).step t.page_some (t.steps at h)
 
-  pub pages_found : (at index : ℕ) → at < length firsts → slice_index firsts at ≤ index → (at + 1 < length firsts → index < slice_index firsts (at + 1)) → index < length (pages_of page (sectors_of runs))
-      → (at < length runs) × (index - slice_index firsts at < length (pages_of page (cut (run_at runs at).step (run_at runs at).start (run_at runs at).stop))) × (pages_before page runs at + (index - slice_index firsts at) ≡ index)
+  pub pages_found : (at index : ℕ) → at < length firsts → slice_index firsts at ≤ index → (at + 1 < length firsts → index < slice_index firsts (at + 1)) →
+      index < length (pages_of page (sectors_of runs))
+      → (at < length runs) × (index - slice_index firsts at < length (pages_of page (cut (run_at runs at).step (run_at runs at).start (run_at runs at).stop))) ×
+      (pages_before page runs at + (index - slice_index firsts at) ≡ index)
   pages_found at index l low high inside =
       let here : at < length runs = omega (arith, l, t.long) in
       let e = t.each at here in
@@ -56,23 +61,27 @@ module _ (page : ℕ) (runs : List Run) (firsts : List ℕ) (t : AreFirstPages p
       (here, omega (arith, e, next, over, low), omega (arith, e, low))
 
   -- which sector of the run, and which page of it
-  pub page_parts : (at index each : ℕ) → at < length firsts → slice_index firsts at ≤ index → (at + 1 < length firsts → index < slice_index firsts (at + 1)) → index < length (pages_of page (sectors_of runs))
+  pub page_parts : (at index each : ℕ) → at < length firsts → slice_index firsts at ≤ index → (at + 1 < length firsts → index < slice_index firsts (at + 1)) →
+      index < length (pages_of page (sectors_of runs))
       → each ≡ pieces page 0 (run_at runs at).step
       → let run = run_at runs at in let left : ℕ = index - slice_index firsts at in let s = piece run.step run.start run.stop (left / each) in
-      (left / each < pieces run.step run.start run.stop) × (left % each < pieces page s.start s.stop) × (pages_before page runs at + (left / each * pieces page 0 run.step + left % each) ≡ index)
+      (left / each < pieces run.step run.start run.stop) × (left % each < pieces page s.start s.stop) ×
+      (pages_before page runs at + (left / each * pieces page 0 run.step + left % each) ≡ index)
   page_parts at index each l low high inside e =
       let x = pages_found at index l low high inside in
       let run = run_at runs at in
       let left : ℕ = index - slice_index firsts at in
       let y = run_find_page page run.step run.start run.stop t.page_some (t.steps at x.0) left x.1 in
       let goal = λ (n : ℕ). let s = piece run.step run.start run.stop (left / n) in
-      (left / n < pieces run.step run.start run.stop) × (left % n < pieces page s.start s.stop) × (pages_before page runs at + (left / n * pieces page 0 run.step + left % n) ≡ index) in
+      (left / n < pieces run.step run.start run.stop) × (left % n < pieces page s.start s.stop) ×
+      (pages_before page runs at + (left / n * pieces page 0 run.step + left % n) ≡ index) in
       let whole : pages_before page runs at + (left / pieces page 0 run.step * pieces page 0 run.step + left % pieces page 0 run.step) ≡ index =
       ap (λ (n : ℕ). pages_before page runs at + n) (div-add-mod' left (pieces page 0 run.step)) ∙ x.2 in
       subst (λ (n : ℕ). goal n) (sym e) (y.0, y.1, whole)
 
 module _ (size : ℕ) (runs : List Run) (starts : List ℕ) (t : AreRuns size runs starts) where
-  pub place_found : (at place : ℕ) → at < length starts → slice_index starts at ≤ place → (at + 1 < length starts → place < slice_index starts (at + 1)) → place < size
+  pub place_found : (at place : ℕ) → at < length starts → slice_index starts at ≤ place → (at + 1 < length starts → place < slice_index starts (at + 1)) →
+      place < size
       → let run = run_at runs at in let k : ℕ = (place - slice_index starts at) / run.step in
       (k < pieces run.step run.start run.stop) × In place (piece run.step run.start run.stop k)
   place_found at place l low high inside =

@@ -3,7 +3,8 @@ use Rattle.std.proofs.Common.{◌≡◌, ℕ, suc, ◌+◌, ◌-◌, ◌<◌, �
 use Rattle.std.proofs.lemmas.Bool.{cases_lt}
 use Rattle.std.proofs.lemmas.List.{get_or_append_left, get_or-append_right, length-append}
 use Rattle.flm_descriptor.specs.declared.items.SectorItem.{SectorItem}
-use Rattle.flm_descriptor.specs.Shape.{Range, range, range_at, Shape, IsLawful, item_end, runs_of, sectors_of, pages_of, sectors, pages, pieces, cut, offset_at, size_at}
+use Rattle.flm_descriptor.specs.Shape.{Range, range, range_at, Shape, IsLawful, item_end, runs_of, sectors_of, pages_of, sectors, pages, pieces, cut, offset_at}
+use Rattle.flm_descriptor.specs.Shape.{size_at}
 use Rattle.flm_descriptor.proofs.CutLemmas.{length-cut, cut_at}
 use Rattle.page_geometry.specs.Geometry.{In, Within, Geometry, IsGeometry, PagesFit, shape_geometry}
 use Rattle.page_geometry.proofs.ChainLemmas.{Chains, chains_append, cut_chains, pages_chain, pages_nested, partition}
@@ -14,7 +15,8 @@ Rising [] = Unit {0}
 Rising (item ∷ []) = 1 ≤ item.size
 Rising (item ∷ next ∷ rest) = (1 ≤ item.size) × (item.offset < next.offset) × Rising (next ∷ rest)
 
-rising : (items : List SectorItem) → ((k : ℕ) → k + 1 < length items → offset_at items k < offset_at items (k + 1)) → ((k : ℕ) → k < length items → 1 ≤ size_at items k) → Rising items
+rising : (items : List SectorItem) → ((k : ℕ) → k + 1 < length items → offset_at items k < offset_at items (k + 1)) →
+    ((k : ℕ) → k < length items → 1 ≤ size_at items k) → Rising items
 unfolding Rising
 rising [] up some = tt
 rising (item ∷ []) up some = some 0 (omega arith)
@@ -27,9 +29,11 @@ rising (item ∷ next ∷ rest) up some = (
       (λ k l. some (suc k) (omega (arith, l))),
 )
 
-sectors_chain : (size : ℕ) (item : SectorItem) (rest : List SectorItem) → Rising (item ∷ rest) → Chains (min item.offset size) (sectors_of (runs_of size (item ∷ rest))) size
+sectors_chain : (size : ℕ) (item : SectorItem) (rest : List SectorItem) → Rising (item ∷ rest) →
+    Chains (min item.offset size) (sectors_of (runs_of size (item ∷ rest))) size
 unfolding Rising runs_of sectors_of item_end
-sectors_chain size item [] up = subst (λ (rs : List Range). Chains (min item.offset size) rs size) (sym (append-nil _)) (cut_chains item.size item.offset size up)
+sectors_chain size item [] up = subst (λ (rs : List Range). Chains (min item.offset size) rs size) (sym (append-nil _))
+    (cut_chains item.size item.offset size up)
 sectors_chain size item (next ∷ rest) up =
     let stop : ℕ = min next.offset size in
     let e : min item.offset stop ≡ min item.offset size = omega (arith, up.1) in
@@ -53,7 +57,8 @@ geometry_lawful s lawful =
       nested = pages_nested s.page (sectors s) lawful.page_some;
     }
 
-pub pages_fit : (page : ℕ) (ss : List Range) (p : ℕ) → p < length (pages_of page ss) → (range_at (pages_of page ss) p).stop ≤ (range_at (pages_of page ss) p).start + page
+pub pages_fit : (page : ℕ) (ss : List Range) (p : ℕ) → p < length (pages_of page ss) →
+    (range_at (pages_of page ss) p).stop ≤ (range_at (pages_of page ss) p).start + page
 unfolding pages_of
 pages_fit page [] p h = absurd (omega (arith, h))
 pages_fit page (r ∷ ss) p h =
@@ -63,7 +68,8 @@ pages_fit page (r ∷ ss) p h =
     let goal = λ (x : Range). x.stop ≤ x.start + page in
     elim (cases_lt p n) [
       | inl here ↦
-          (let e = get_or_append_left (cut page r.start r.stop) (pages_of page ss) (range 0 0) p (omega (arith, here, long)) ∙ cut_at page r.start r.stop p here in
+          (let e = get_or_append_left (cut page r.start r.stop) (pages_of page ss) (range 0 0) p (omega (arith, here, long)) ∙
+          cut_at page r.start r.stop p here in
           subst (λ (x : Range). goal x) (sym e) (omega arith))
       | inr there ↦
           (let e = get_or-append_right (cut page r.start r.stop) (pages_of page ss) n p (range 0 0) long there in
@@ -75,7 +81,8 @@ pub geometry_fits : (s : Shape) → PagesFit s.page (shape_geometry s)
 geometry_fits s = pages_fit s.page (sectors s)
 
 -- a page one of whose places lies in a sector lies in it whole
-pub page_within : (l : Geometry) → IsGeometry l → (s p i : ℕ) → p < length l.pages → In i (range_at l.pages p) → In i (range_at l.sectors s) → Within (range_at l.pages p) (range_at l.sectors s)
+pub page_within : (l : Geometry) → IsGeometry l → (s p i : ℕ) → p < length l.pages → In i (range_at l.pages p) → In i (range_at l.sectors s) →
+    Within (range_at l.pages p) (range_at l.sectors s)
 page_within l good s p i inside in_page in_sector =
     let x = good.nested p inside in
     let same : x.0 ≡ s = good.sectors_part.apart x.0 s i (omega (arith, x.2.0, in_page.0), omega (arith, x.2.1, in_page.1)) in_sector in

@@ -1,6 +1,8 @@
 -- Tests of a range and of numbers below a bound: from an element, and back to one; and counts.
-use Rattle.std.proofs.Common.{◌≡◌, ℕ, zero, suc, ◌+◌, ◌<◌, ◌≤◌, Bool, true, false, not, ◌&&◌, ◌||◌, nat_eq, nat_le, refl, subst, arith, slice_index, eq-eqb, List, inl, inr, ◌⊎◌, sym, ◌∙◌}
-use Rattle.std.proofs.lemmas.Bool.{false≢true, or_cases, or_left, or_right, and_from, and_parts, cases_lt, cases_Bool, cases_eq, le-leb, leb-true, eqb-false, ne_eqb, not-true, not_from_false, both_ways, false_from_ne_true}
+use Rattle.std.proofs.Common.{◌≡◌, ℕ, zero, suc, ◌+◌, ◌<◌, ◌≤◌, Bool, true, false, not, ◌&&◌, ◌||◌, nat_eq, nat_le, refl, subst, arith, slice_index, eq-eqb}
+use Rattle.std.proofs.Common.{List, inl, inr, ◌⊎◌, sym, ◌∙◌}
+use Rattle.std.proofs.lemmas.Bool.{false≢true, or_cases, or_left, or_right, and_from, and_parts, cases_lt, cases_Bool, cases_eq, le-leb, leb-true, eqb-false}
+use Rattle.std.proofs.lemmas.Bool.{ne_eqb, not-true, not_from_false, both_ways, false_from_ne_true}
 use Rattle.flm_descriptor.specs.Shape.{Range}
 use Rattle.page_geometry.specs.Geometry.{In}
 use Rattle.page_geometry.specs.Cells.{some_below, count_below, some_in, is_used, differs, IsEmpty}

@@ -1,5 +1,6 @@
 -- Files of a command that are those of a job are right.
-use Rattle.std.proofs.Common.{◌≡◌, refl, sym, subst, arith, ap, ◌∙◌, ◌-◌, ◌≤◌, ◌<◌, ◌||◌, ℕ, zero, suc, Bool, true, IsTrue, IsSome, All, List, [], ◌∷◌, ◌++◌, length, take, drop, Option, option_to_list, Some, None}
+use Rattle.std.proofs.Common.{◌≡◌, refl, sym, subst, arith, ap, ◌∙◌, ◌-◌, ◌≤◌, ◌<◌, ◌||◌, ℕ, zero, suc, Bool, true, IsTrue, IsSome, All, List, [], ◌∷◌, ◌++◌}
+use Rattle.std.proofs.Common.{length, take, drop, Option, option_to_list, Some, None}
 use Rattle.std.specs.List.{list_any}
 use Rattle.std.proofs.lemmas.Bool.{and_parts, eqb-true, leb-true}
 use Rattle.std.proofs.lemmas.List.{length-append}
@@ -66,7 +67,8 @@ record HasFirst (under : List ℕ → Option (List ℕ)) (name : List ℕ) (name
   stands : under name ≡ Some first
   stand : Stand under names others
 
-has_first : (under : List ℕ → Option (List ℕ)) (name : List ℕ) (names files : List (List ℕ)) → Stand under (name ∷ names) files → HasFirst under name names files
+has_first : (under : List ℕ → Option (List ℕ)) (name : List ℕ) (names files : List (List ℕ)) → Stand under (name ∷ names) files
+    → HasFirst under name names files
 has_first under name names [] are = absurd are
 has_first under name names (file ∷ files) are = record { first = file; others = files; files_are = refl; stands = are.0; stand = are.1 }
 
@@ -89,7 +91,12 @@ are_for b (r ∷ rs) (file ∷ files) (x ∷ xs) are fit =
     let places = and_parts _ _ device.0 in (
       record {
         says = are.0;
-        fits = record { base_is = sym (eqb-true r.base x.device.base places.0); size_is = sym (eqb-true r.size x.device.size places.1); room = leb-true _ _ device.1 };
+        fits = record {
+          base_is = sym (eqb-true r.base x.device.base places.0);
+          size_is = sym (eqb-true r.size x.device.size places.1);
+          room =
+              leb-true _ _ device.1;
+        };
       },
       are_for b rs files xs are.1 both.1,
     )
@@ -115,7 +122,8 @@ lies_inside regions image some lies = record {
       subst IsTrue (sym (in_some regions a)) (covered_at regions image lies.1 held.0 held.1 a (held_from run a held.2) (held_to run a held.2));
 }
 
-some_images : (raw_at : Option ℕ) (images : List (List ℕ)) (image : List Run) → IsUnionBefore raw_at images (length images) image → 1 ≤ length image → 1 ≤ length images
+some_images : (raw_at : Option ℕ) (images : List (List ℕ)) (image : List Run) → IsUnionBefore raw_at images (length images) image → 1 ≤ length image
+    → 1 ≤ length images
 some_images raw_at [] image union some = absurd (omega (arith, some, ap (λ (l : List Run). length l) union))
 some_images raw_at (file ∷ files) image union some = omega arith
 
@@ -198,6 +206,7 @@ module _ (inputs : InputsCall) (asked : FilesAsked) (job : Job) (some : IsSome a
     has_texts = record {
       has_flm = refl;
       short_board = All-head (λ (file : List ℕ). length file ≤ 67108864) says.text.board says.text.flms short;
-      short_flms = subst (λ (l : List (List ℕ)). All (λ (file : List ℕ). length file ≤ 67108864) l) (sym flms_are) (All-tail (λ (file : List ℕ). length file ≤ 67108864) says.text.board says.text.flms short);
+      short_flms = subst (λ (l : List (List ℕ)). All (λ (file : List ℕ). length file ≤ 67108864) l) (sym flms_are)
+          (All-tail (λ (file : List ℕ). length file ≤ 67108864) says.text.board says.text.flms short);
     };
   }

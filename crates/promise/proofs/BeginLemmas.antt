@@ -6,7 +6,8 @@ use Rattle.job_text.specs.Files.{IsFree}
 use Rattle.job_text.specs.Stands.{IsSomeJob}
 use Rattle.campaign.specs.Stops.{IsUntouched}
 use Rattle.flash_session.specs.declared.goal.Goal.TheVariants.{New}
-use Rattle.report_text.specs.Refusal.{Refusal, out_of_memory, usage, input_fault, image_too_long, image_refused, image_misplaced, flm_refused, other_device, no_room, board_refused, job_open, not_a_job, damaged, cells_differ}
+use Rattle.report_text.specs.Refusal.{Refusal, out_of_memory, usage, input_fault, image_too_long, image_refused, image_misplaced, flm_refused, other_device}
+use Rattle.report_text.specs.Refusal.{no_room, board_refused, job_open, not_a_job, damaged, cells_differ}
 use Rattle.command_words.specs.Files.{FilesAsked}
 use Rattle.command_files.specs.Inputs.{FilesGiven, Given}
 use Rattle.command_files.specs.Files.{Aim}
@@ -62,7 +63,8 @@ module _ (has : Refusal → Bool) (Prints : ℕ → SinkCall → Answer → Type
         let stands = ends.lawful.stands in
         ⊎_elim
         (λ (is_free : IsFree file). ⊎_elim
-        (λ (same : size_of works.holds.aim.board.regions ≡ call.bench.before.cell_count). inr (begun works is_free (over.begins works.holds.holds.has_texts is_free same)))
+        (λ (same : size_of works.holds.aim.board.regions ≡ call.bench.before.cell_count). inr
+        (begun works is_free (over.begins works.holds.holds.has_texts is_free same)))
         (λ (other : size_of works.holds.aim.board.regions ≢ call.bench.before.cell_count).
         inl (looked call answer (cells_differ size call.bench.before.cell_count) told zero (λ early. early) stands (over.other_size is_free other)))
         (cases_eq size call.bench.before.cell_count))
@@ -81,7 +83,8 @@ module _ (has : Refusal → Bool) (Prints : ℕ → SinkCall → Answer → Type
         (λ (works : Works answer). worked works)
         (by_answer answer ends)
 
-module _ (asked : FilesAsked) (call : answers.Call) (told : IsTrue call.bench.tells) (told_files : IsTrue call.inputs.tells) (bytes : AreBytes call.bench.before.file) where
+module _ (asked : FilesAsked) (call : answers.Call) (told : IsTrue call.bench.tells) (told_files : IsTrue call.inputs.tells)
+    (bytes : AreBytes call.bench.before.file) where
   pub programs : program.ProgramAnswers asked call → IsRefused (its call) ⊎ Programs (its call) asked
   programs it = begun_or_refused program.has_program PrintsWork program.Begins asked call told bytes it.answer it.zero it.ends (Programs (its call) asked)
       (λ works is_free starts.
@@ -90,7 +93,8 @@ module _ (asked : FilesAsked) (call : answers.Call) (told : IsTrue call.bench.te
       record {
         job = job_of text aim.board;
         begun = record {
-          files = of_files call.inputs asked works.files aim starts.snapshot told_files works.are_files works.holds.is_aim works.holds.holds.has_texts starts.is_job;
+          files = of_files call.inputs asked works.files aim starts.snapshot told_files works.are_files works.holds.is_aim works.holds.holds.has_texts
+              starts.is_job;
           free = is_free;
           snapshot = starts.carries.surveyed;
         };
@@ -106,7 +110,8 @@ module _ (asked : FilesAsked) (call : answers.Call) (told : IsTrue call.bench.te
       record {
         job = job_of text aim.board;
         begun = record {
-          files = of_files call.inputs asked works.files aim starts.snapshot told_files works.are_files works.holds.is_aim works.holds.holds.has_texts starts.is_job;
+          files = of_files call.inputs asked works.files aim starts.snapshot told_files works.are_files works.holds.is_aim works.holds.holds.has_texts
+              starts.is_job;
           free = is_free;
           snapshot = starts.begins.surveyed;
         };

@@ -191,6 +191,7 @@ module _ (asked : FilesAsked) (first : Call) (end : ℕ) (later : List Later) (i
 
   pub are_safe : IsRefused first ⊎ IsSafeFrom asked first end later
   are_safe = ⊎_elim
-      (λ (either_ : IsRefused first ⊎ Programs first asked). ⊎_elim (λ (r : IsRefused first). inl r) (λ (it : Programs first asked). inr (programmed it)) either_)
+      (λ (either_ : IsRefused first ⊎ Programs first asked). ⊎_elim (λ (r : IsRefused first). inl r) (λ (it : Programs first asked). inr (programmed it))
+      either_)
       (λ (either_ : IsRefused first ⊎ Begins first asked). ⊎_elim (λ (r : IsRefused first). inl r) (λ (it : Begins first asked). inr (only_begun it)) either_)
       is.keeps

@@ -31,10 +31,12 @@ laid_at image (r ∷ rest) cells place at less is = ⊎_elim
     ∙ ap (λ (a : ℕ). unwrap_or (byte_at image a) (get_or (take r.size cells) place 0)) its
     ∙ ap (λ (c : ℕ). unwrap_or (byte_at image at) c) front)
     (λ (past : r.size ≤ place).
-    let long : length (over image r.base (take r.size cells)) ≡ r.size = omega (arith, length-over image r.base (take r.size cells), length-take r.size cells, past, less) in
+    let long : length (over image r.base (take r.size cells)) ≡ r.size =
+    omega (arith, length-over image r.base (take r.size cells), length-take r.size cells, past, less) in
     let rest_less : place - r.size < length (drop r.size cells) = omega (arith, length-drop r.size cells, less, past) in
     let there : r.size + (place - r.size) ≡ place = omega (arith, past) in
-    let back : get_or (drop r.size cells) (place - r.size) 0 ≡ get_or cells place 0 = get_or-drop r.size cells (place - r.size) 0 ∙ ap (λ (k : ℕ). get_or cells k 0) there in
+    let back : get_or (drop r.size cells) (place - r.size) 0 ≡ get_or cells place 0 = get_or-drop r.size cells (place - r.size) 0
+    ∙ ap (λ (k : ℕ). get_or cells k 0) there in
     get_or-append_right (over image r.base (take r.size cells)) (overlaid image rest (drop r.size cells)) r.size place 0 long past
     ∙ laid_at image rest (drop r.size cells) (place - r.size) at rest_less (sym (address_past r rest place past) ∙ is)
     ∙ ap (λ (c : ℕ). unwrap_or (byte_at image at) c) back)

@@ -43,11 +43,13 @@ goes_on : (goal : Goal) (call : answers.Call) → IsTrue call.bench.tells → Go
     → (job : Job) → IsReady (its call) job → KeepsDuties job → NoFault (its call) → IsComplete (its call)
 goes_on goal call told it job ready keeps none =
     let says = ready.says in
-    let carried = (it.ends.told told).stands says.text says.board ready.right.algorithms ready.right.is_job (whole_text job says call.bench.before.file ready.whole)
+    let carried = (it.ends.told told).stands says.text says.board ready.right.algorithms ready.right.is_job
+    (whole_text job says call.bench.before.file ready.whole)
     (its_size job says ready.right call.bench.before.cell_count ready.sized) in
     ends call it.answer it.says it.ends.lawful.counts none (carried.1.complete (keeps says ready.right))
 
-begun : (bench : BenchCall) (out : SinkCall) (text : List ℕ) (job : written.Job) (answer : Answer) → begins.BegunComes bench out text job answer → IsUnless answer done
+begun : (bench : BenchCall) (out : SinkCall) (text : List ℕ) (job : written.Job) (answer : Answer) → begins.BegunComes bench out text job answer
+    → IsUnless answer done
 begun bench out text job done comes = inl refl
 begun bench out text job (refused out_of_memory) comes = inr refl
 begun bench out text job (refused (input_fault name)) comes = inr refl
@@ -56,7 +58,8 @@ begun bench out text job (refused device_fault) comes = inr refl
 begun bench out text job (refused output_fault) comes = inr refl
 begun bench out text job (refused r) comes = absurd comes
 
-module _ (asked : FilesAsked) (call : answers.Call) (told : IsTrue call.bench.tells) (told_files : IsTrue call.inputs.tells) (some : IsSome asked.flm) (job : Job)
+module _ (asked : FilesAsked) (call : answers.Call) (told : IsTrue call.bench.tells) (told_files : IsTrue call.inputs.tells) (some : IsSome asked.flm)
+    (job : Job)
     (ready : IsReadyFor (its call) asked job) (none : NoFault (its call)) where
   right : AreRight call.inputs asked (its_aim call.inputs asked job some ready.files ready.right.algorithms ready.right.is_job ready.short)
   right = are_right call.inputs asked job some ready.files ready.right.algorithms ready.right.is_job ready.short
@@ -66,19 +69,22 @@ module _ (asked : FilesAsked) (call : answers.Call) (told : IsTrue call.bench.te
 
   programmed : programs.ProgramAnswers asked call → KeepsDuties job → IsComplete (its call)
   programmed it keeps =
-      let over = it.ends.files.goes right.files (its_aim call.inputs asked job some ready.files ready.right.algorithms ready.right.is_job ready.short) told_files right.are_files right.is_aim told in
+      let over = it.ends.files.goes right.files (its_aim call.inputs asked job some ready.files ready.right.algorithms ready.right.is_job ready.short)
+      told_files right.are_files right.is_aim told in
       let starts = over.begins right.has_texts ready.free size in
       ends call it.answer it.says it.ends.lawful.counts none (starts.carries.complete (keeps ready.files.says ready.right))
 
   only_begun : begins.BeginAnswers asked call → IsComplete (its call)
   only_begun it =
-      let over = it.ends.files.goes right.files (its_aim call.inputs asked job some ready.files ready.right.algorithms ready.right.is_job ready.short) told_files right.are_files right.is_aim told in
+      let over = it.ends.files.goes right.files (its_aim call.inputs asked job some ready.files ready.right.algorithms ready.right.is_job ready.short)
+      told_files right.are_files right.is_aim told in
       let starts = over.begins right.has_texts ready.free size in
       ends call it.answer it.says it.ends.lawful.counts none (begun call.bench call.out _ _ it.answer starts.begins.comes)
 
 pub completes : (command : Command) (words : List (List ℕ)) (call : answers.Call) → IsTrue call.bench.tells → IsTrue call.inputs.tells → Asks words command
     → Answers call (Some command) → Completes command (its call)
-completes (program asked) words call told told_files asks it = λ job ready keeps none. programmed asked call told told_files asks.names.has_flm job ready none it keeps
+completes (program asked) words call told told_files asks it = λ job ready keeps none. programmed asked call told told_files asks.names.has_flm job ready none
+    it keeps
 completes (begin asked) words call told told_files asks it = λ job ready none. only_begun asked call told told_files asks.names.has_flm job ready none it
 completes resume words call told told_files asks it = goes_on New call told it
 completes revert words call told told_files asks it = goes_on Old call told it

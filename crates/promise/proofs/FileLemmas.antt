@@ -1,5 +1,6 @@
 -- The files of a command, as the promise sees them.
-use Rattle.std.proofs.Common.{◌≡◌, refl, sym, subst, arith, ◌-◌, ℕ, zero, suc, IsTrue, IsSome, List, [], ◌∷◌, ◌++◌, length, take, drop, Option, option_to_list, Some, None}
+use Rattle.std.proofs.Common.{◌≡◌, refl, sym, subst, arith, ◌-◌, ℕ, zero, suc, IsTrue, IsSome, List, [], ◌∷◌, ◌++◌, length, take, drop, Option, option_to_list}
+use Rattle.std.proofs.Common.{Some, None}
 use Rattle.board_file.specs.declared.region.Region.{Region}
 use Rattle.job_text.specs.Jobs.{IsJob}
 use Rattle.command_words.specs.Files.{FilesAsked}
@@ -9,7 +10,8 @@ use Rattle.job_commands.specs.Beginning.{HasTexts, job_for}
 use Rattle.promise.specs.Texts.{Stand, IsOfFiles}
 use Rattle.promise.proofs.CarryLemmas.{job_of, says}
 
-stand_each : (inputs : InputsCall) (told : IsTrue inputs.tells) (names files : List (List ℕ)) → AreEach inputs names files → Stand inputs.before.stands names files
+stand_each : (inputs : InputsCall) (told : IsTrue inputs.tells) (names files : List (List ℕ)) → AreEach inputs names files
+    → Stand inputs.before.stands names files
 stand_each inputs told [] [] are = tt
 stand_each inputs told [] (file ∷ files) are = absurd (omega (arith, are.count))
 stand_each inputs told (name ∷ names) [] are = absurd (omega (arith, are.count))
@@ -44,7 +46,8 @@ others_are None regions some = absurd (cc)
 others_are (Some file) regions some = refl
 
 -- the job of a command's files is theirs
-pub of_files : (inputs : InputsCall) (asked : FilesAsked) (files : FilesGiven) (aim : Aim) (snapshot : List ℕ) → IsTrue inputs.tells → AreFiles inputs asked files
+pub of_files : (inputs : InputsCall) (asked : FilesAsked) (files : FilesGiven) (aim : Aim) (snapshot : List ℕ) → IsTrue inputs.tells
+    → AreFiles inputs asked files
     → IsAim asked.raw_at files aim → HasTexts files aim → IsJob (job_for files aim snapshot) aim.board aim.algorithms
     → IsOfFiles inputs.before.stands asked (job_of (job_for files aim snapshot) aim.board)
 of_files inputs asked files aim snapshot told are is has is_job =

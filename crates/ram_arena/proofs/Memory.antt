@@ -15,7 +15,8 @@ use mir.Val.{Val, Fits, vint, vstruct, vcons, vnil, of_list}
 use base.Logic.{ent, sep, emp, guard_i, via, snd∗, id⊢}
 use base.Fml.{Fml, Lft, Share, ftrue, fsep, fat, froom, flft}
 use types.Logic.{Logic, sem}
-use types.Kit.{Item, Goal, Soaks, Seq, Step, step, ‵, ◌⊛◌, ◌$◌, ◌∵◌, !, qed, by, move, keep, drop as skip, use1, use2, split, frame, fsplit, fjoin, fpick, fpack, feq_i, feq_l, flt_i, flt_l, rewrite, done}
+use types.Kit.{Item, Goal, Soaks, Seq, Step, step, ‵, ◌⊛◌, ◌$◌, ◌∵◌, !, qed, by, move, keep, drop as skip, use1, use2, split, frame, fsplit, fjoin, fpick}
+use types.Kit.{fpack, feq_i, feq_l, flt_i, flt_l, rewrite, done}
 use denote.RattleType.{RattleType, Valss}
 use denote.Memory.{part_at, cell_at, hidden_shr}
 use denote.Builtin.{u8}
@@ -64,11 +65,13 @@ abbrev pub mark : Val
 mark = vstruct (vcons (vstruct vnil) vnil)
 
 pub mark_made : {M : Type 1} {𝓤 : Ura M} (𝓛 : Logic 𝓤) → ent 𝓤 (emp 𝓤) (sem 𝓛 (Mark.own_val (tt, tt) (mark ∷ [])))
-mark_made 𝓛 = makes_shadow 𝓛 (Mark.own_val (tt, tt) (mark ∷ [])) (λ vss. (tt, ((λ uss. (tt, tt)), tt))) ((vstruct vnil ∷ [], tt), (refl, ((tt, (refl, tt)), tt)))
+mark_made 𝓛 = makes_shadow 𝓛 (Mark.own_val (tt, tt) (mark ∷ [])) (λ vss. (tt, ((λ uss. (tt, tt)), tt)))
+    ((vstruct vnil ∷ [], tt), (refl, ((tt, (refl, tt)), tt)))
 
 module _ {M : Type 1} {𝓤 : Ura M} {𝓛 : Logic 𝓤} {K : Type 0} {Γ : List (Item 𝓤)} {G : Goal 𝓤 𝓛.H} where
   pub word_had : K → (c : Ptr) (vs : List Val) → (vs ≡ word c ∷ [] → Seq K 𝓛 Γ G) → Seq K 𝓛 (‵ (Word.own_val (c, tt) vs) ∷ Γ) G
-  word_had t c vs k = fpick t (λ vss. fsplit t $ feq_l t (λ ev. fsplit t $ feq_l t (λ e. skip t $ k (subst (λ (ws : List Val). vs ≡ vstruct (of_list (ws ++ [])) ∷ []) e ev))))
+  word_had t c vs k = fpick t (λ vss. fsplit t $ feq_l t (λ ev. fsplit t $ feq_l t
+      (λ e. skip t $ k (subst (λ (ws : List Val). vs ≡ vstruct (of_list (ws ++ [])) ∷ []) e ev))))
 
   pub word_made : K → (c : Ptr) → Step K 𝓛 (‵ (Word.own_val (c, tt) (word c ∷ [])) ∷ Γ) G Γ G
   word_made t c = step (λ s.
@@ -112,19 +115,24 @@ module _ {M : Type 1} {𝓤 : Ura M} (𝓛 : Logic 𝓤) (b : ℕ) where
     pub room_out : i < length cs → ent 𝓤 (sem 𝓛 (Row o cs)) (sep 𝓤 (H.room (ty_int w8) b (i + o)) (sem 𝓛 Besides))
     room_out lt = qed 𝓛 (‵ (Row o cs) ∷ []) ∵
         rewrite ! 0 (λ (l : List Place). ‵ (Row o l)) (sym (take-append-drop i cs) ∙ ap (λ l. take i cs ++ l) (drop-cons cs i None lt)) refl $
-        use1 𝓛 (‵ (Row o (take i cs)) ⊛ ‵ (Row (i + o) (get_or cs i None ∷ drop (suc i) cs))) (cut (take i cs) (get_or cs i None ∷ drop (suc i) cs) o (i + o) (before (omega arith))) $
-        split ! $ move ! (1 ∷ []) $ fsplit ! $ use1 𝓛 (‵ (froom (ty_int w8) b (i + o))) (emptied (i + o) (get_or cs i None)) $ move ! (2 ∷ 1 ∷ []) $ fjoin ! $ move ! (1 ∷ []) $ done !
+        use1 𝓛 (‵ (Row o (take i cs)) ⊛ ‵ (Row (i + o) (get_or cs i None ∷ drop (suc i) cs)))
+        (cut (take i cs) (get_or cs i None ∷ drop (suc i) cs) o (i + o) (before (omega arith))) $
+        split ! $ move ! (1 ∷ []) $ fsplit ! $ use1 𝓛 (‵ (froom (ty_int w8) b (i + o))) (emptied (i + o) (get_or cs i None)) $ move !
+        (2 ∷ 1 ∷ []) $ fjoin ! $ move ! (1 ∷ []) $ done !
 
-    pub byte_in : i < length cs → (x : ℕ) → ent 𝓤 (sep 𝓤 (H.at full_share (ty_int w8) b (i + o) (vint w8 x)) (sem 𝓛 Besides)) (sem 𝓛 (Row o (set cs i (Some x))))
+    pub byte_in : i < length cs → (x : ℕ) → ent 𝓤 (sep 𝓤 (H.at full_share (ty_int w8) b (i + o) (vint w8 x)) (sem 𝓛 Besides))
+        (sem 𝓛 (Row o (set cs i (Some x))))
     byte_in lt x = qed 𝓛 (‵ (fat full_share (ty_int w8) b (i + o) (vint w8 x)) ∷ ‵ Besides ∷ []) ∵
-        use1 𝓛 (‵ (slot b (i + o) (Some x))) (uint_in 𝓛 full_share w8 x b (i + o)) $ move ! (1 ∷ []) $ fsplit ! $ move ! (2 ∷ 1 ∷ []) $ fjoin ! $ move ! (1 ∷ 0 ∷ []) $
+        use1 𝓛 (‵ (slot b (i + o) (Some x))) (uint_in 𝓛 full_share w8 x b (i + o)) $ move ! (1 ∷ []) $ fsplit ! $ move ! (2 ∷ 1 ∷ []) $ fjoin ! $ move !
+        (1 ∷ 0 ∷ []) $
         use2 𝓛 (‵ (Row o (take i cs ++ Some x ∷ drop (suc i) cs))) (glue (take i cs) (Some x ∷ drop (suc i) cs) o (i + o) (before (omega arith))) $
         rewrite ! 0 (λ (l : List Place). ‵ (Row o l)) (sym (set_split cs i (Some x) lt)) refl $ done !
 
   pub of_room : (n o : ℕ) → ent 𝓤 (H.room (bytes_of n) b o) (sem 𝓛 (Row o (replicate n None)))
   of_room zero o = qed 𝓛 (‵ (froom (bytes_of 0) b o) ∷ []) ∵ keep ! [] $ done !
   of_room (suc n) o = qed 𝓛 (‵ (froom (bytes_of (suc n)) b o) ∷ []) ∵
-      use1 𝓛 (‵ (froom (ty_int w8) b o) ⊛ ‵ (froom (bytes_of n) b (o + 1))) (𝓛.laws.room_uncons (ty_int w8) n b o) $ split ! $ frame ! $ by ! (of_room n (o + 1))
+      use1 𝓛 (‵ (froom (ty_int w8) b o) ⊛ ‵ (froom (bytes_of n) b (o + 1))) (𝓛.laws.room_uncons (ty_int w8) n b o) $ split ! $ frame ! $ by !
+      (of_room n (o + 1))
 
   pub to_room : (cs : List Place) (o : ℕ) → ent 𝓤 (sem 𝓛 (Row o cs)) (H.room (bytes_of (length cs)) b o)
   to_room [] o = 𝓛.laws.room_nil (ty_int w8) b o
@@ -157,26 +165,32 @@ module _ {M : Type 1} {𝓤 : Ura M} (𝓛 : Logic 𝓤) (b : ℕ) where
 module _ {M : Type 1} {𝓤 : Ura M} {𝓛 : Logic 𝓤} {K : Type 0} {Γ : List (Item 𝓤)} {G : Goal 𝓤 𝓛.H} where
   -- [nothing; the byte; the way back; S]
   pub sees : K → Soaks G → {κ : Lft} {q : Share} {S : Fml} (n b at : ℕ) → ent 𝓤 (sem 𝓛 S) (sep 𝓤 (sem 𝓛 (hidden_shr u8 κ n b at)) (sem 𝓛 S))
-      → ((q' : Share) → n < 2 ^ 8 → Seq K 𝓛 (‵ ftrue ∷ ‵ (fat q' (ty_int w8) b at (vint w8 n)) ∷ Shut 𝓛 κ q (part_at u8 q' n b at) ∷ ‵ S ∷ Γ) G) → Seq K 𝓛 (‵ S ∷ ‵ (flft κ q) ∷ Γ) G
+      → ((q' : Share) → n < 2 ^ 8 → Seq K 𝓛 (‵ ftrue ∷ ‵ (fat q' (ty_int w8) b at (vint w8 n)) ∷ Shut 𝓛 κ q (part_at u8 q' n b at) ∷ ‵ S ∷ Γ) G) →
+      Seq K 𝓛 (‵ S ∷ ‵ (flft κ q) ∷ Γ) G
   sees t z {κ} {q} {S} n b at shown k =
-      use1 𝓛 (‵ (hidden_shr u8 κ n b at) ⊛ ‵ S) shown $ split t $ move t (0 ∷ 2 ∷ []) $ looks t z u8 (uint_Copied 𝓛 w8).opens n b at (λ q' vs. move t (1 ∷ []) $ fsplit t $ feq_l t (λ e. flt_l t (λ fn.
+      use1 𝓛 (‵ (hidden_shr u8 κ n b at) ⊛ ‵ S) shown $ split t $ move t (0 ∷ 2 ∷ []) $ looks t z u8 (uint_Copied 𝓛 w8).opens n b at
+      (λ q' vs. move t (1 ∷ []) $ fsplit t $ feq_l t (λ e. flt_l t (λ fn.
       rewrite t 0 (λ (us : List Val). ‵ (cell_at q' u8.mir us b at)) e refl $ move t (2 ∷ []) $ skip t $ nothing t $ k q' fn)))
 
   -- [the token; S]
   pub seen : K → Soaks G → {κ : Lft} {q q' : Share} {S : Fml} (n b at : ℕ) → n < 2 ^ 8
       → Step K 𝓛 (‵ S ∷ ‵ (flft κ q) ∷ Γ) G (‵ ftrue ∷ ‵ (fat q' (ty_int w8) b at (vint w8 n)) ∷ Shut 𝓛 κ q (part_at u8 q' n b at) ∷ ‵ S ∷ Γ) G
   seen t z {q' = q'} n b at fn = step (λ s.
-      skip t $ flt_i t n (2 ^ 8) fn $ feq_i t (List Val) (vint w8 n ∷ []) (vint w8 n ∷ []) refl $ fjoin t $ move t (1 ∷ 0 ∷ []) $ shuts t z u8 q' n (vint w8 n ∷ []) b at $ move t (1 ∷ 0 ∷ []) $ s)
+      skip t $ flt_i t n (2 ^ 8) fn $ feq_i t (List Val) (vint w8 n ∷ []) (vint w8 n ∷ []) refl $ fjoin t $ move t (1 ∷ 0 ∷ []) $ shuts t z u8 q' n
+      (vint w8 n ∷ []) b at $ move t (1 ∷ 0 ∷ []) $ s)
 
 abbrev pub three_val : Val → Val → Val → Val
 three_val u v w = vstruct (vcons u (vcons v (vcons w vnil)))
 
 pub three_of : {M : Type 1} {𝓤 : Ura M} (𝓛 : Logic 𝓤) (R S T : RattleType) (x : R.Denot) (y : S.Denot) (z : T.Denot) (u v w : Val)
-    → ent 𝓤 (sep 𝓤 (sem 𝓛 (R.own_val x (u ∷ []))) (sep 𝓤 (sem 𝓛 (S.own_val y (v ∷ []))) (sem 𝓛 (T.own_val z (w ∷ []))))) (sem 𝓛 ((Tuple (R ∷ S ∷ T ∷ [])).own_val (x, y, z) (three_val u v w ∷ [])))
+    → ent 𝓤 (sep 𝓤 (sem 𝓛 (R.own_val x (u ∷ []))) (sep 𝓤 (sem 𝓛 (S.own_val y (v ∷ []))) (sem 𝓛 (T.own_val z (w ∷ [])))))
+    (sem 𝓛 ((Tuple (R ∷ S ∷ T ∷ [])).own_val (x, y, z) (three_val u v w ∷ [])))
 three_of 𝓛 R S T x y z u v w =
-    qed 𝓛 (‵ (R.own_val x (u ∷ [])) ∷ ‵ (S.own_val y (v ∷ [])) ∷ ‵ (T.own_val z (w ∷ [])) ∷ []) ∵ nothing ! $ move ! (3 ∷ 0 ∷ []) $ fjoin ! $ move ! (2 ∷ 0 ∷ []) $ fjoin ! $ move ! (1 ∷ 0 ∷ []) $ fjoin ! $
+    qed 𝓛 (‵ (R.own_val x (u ∷ [])) ∷ ‵ (S.own_val y (v ∷ [])) ∷ ‵ (T.own_val z (w ∷ [])) ∷ []) ∵ nothing ! $ move ! (3 ∷ 0 ∷ []) $ fjoin ! $ move !
+    (2 ∷ 0 ∷ []) $ fjoin ! $ move ! (1 ∷ 0 ∷ []) $ fjoin ! $
     feq_i ! (List Val) (three_val u v w ∷ []) (three_val u v w ∷ []) refl $ fjoin ! $
-    fpack ! (Valss (R ∷ S ∷ T ∷ [])) (within (Declared.shape (tuple_type (R ∷ S ∷ T ∷ []))) (x, (y, (z, tt))) (three_val u v w ∷ [])) (u ∷ [], (v ∷ [], (w ∷ [], tt))) $ done !
+    fpack ! (Valss (R ∷ S ∷ T ∷ [])) (within (Declared.shape (tuple_type (R ∷ S ∷ T ∷ []))) (x, (y, (z, tt))) (three_val u v w ∷ []))
+    (u ∷ [], (v ∷ [], (w ∷ [], tt))) $ done !
 
 module _ {M : Type 1} {𝓤 : Ura M} (𝓛 : Logic 𝓤) where
   open 𝓛 use {H}

@@ -33,7 +33,8 @@ module _ {M : Type 1} {𝓤 : Ura M} (𝓛 : Logic 𝓤) (l : Lft) where
 
   Lends-slots : (b o : ℕ) (cs : List (Option ℕ)) → Lends 𝓛 (slots b o cs) (slots_lent b o cs) l
   Lends-slots b o [] = Lends-nothing 𝓛 ftrue l
-  Lends-slots b o (c ∷ cs) = Lends-both 𝓛 (slot b o c) (slots b (o + 1) cs) (slot_lent b o c) (slots_lent b (o + 1) cs) l (Lends-slot b o c) (Lends-slots b (o + 1) cs)
+  Lends-slots b o (c ∷ cs) = Lends-both 𝓛 (slot b o c) (slots b (o + 1) cs) (slot_lent b o c) (slots_lent b (o + 1) cs) l (Lends-slot b o c)
+      (Lends-slots b (o + 1) cs)
 
   pub Lends-cells : (p : Ptr) (cs : List (Option ℕ)) → Lends 𝓛 (cells_own p cs) (cells_lent p cs) l
   Lends-cells (block_ptr b o) cs = Lends-both 𝓛 (fit cs) (slots b o cs) (said (fit cs)) (slots_lent b o cs) l (Lends-said 𝓛 (fit cs) tt l) (Lends-slots b o cs)

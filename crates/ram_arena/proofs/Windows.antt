@@ -1,5 +1,7 @@
 -- Windows of one list of bytes: where they begin, how long they are, and what a store leaves.
-use Rattle.std.proofs.Common.{◌≡◌, ◌<◌, ◌≤◌, ◌+◌, ◌/◌, ◌%◌, ℕ, zero, suc, List, [], ◌∷◌, ◌++◌, map, length, get_or, set, take, drop, replicate, slice_index, refl, sym, ap, ◌∙◌, arith, length-take, length-drop, get_or-take, get_or-drop, get_or-set_same, set-set, drop-drop, drop-set-lt, take-suc}
+use Rattle.std.proofs.Common.{◌≡◌, ◌<◌, ◌≤◌, ◌+◌, ◌/◌, ◌%◌, ℕ, zero, suc, List, [], ◌∷◌, ◌++◌, map, length, get_or, set, take, drop, replicate, slice_index}
+use Rattle.std.proofs.Common.{refl, sym, ap, ◌∙◌, arith, length-take, length-drop, get_or-take, get_or-drop, get_or-set_same, set-set, drop-drop, drop-set-lt}
+use Rattle.std.proofs.Common.{take-suc}
 use lib.ListN.{length-map}
 use lib.Seq.{take-set-le, take-set-lt, drop-set-add}
 use Rattle.ram_arena.specs.Windows.{round_up, total, cut, sizes_of, LieFrom, begins, begin_of, blank}
@@ -24,17 +26,28 @@ cut_length (n ∷ ns) bytes = ap suc (cut_length ns (drop (round_up n) bytes))
 pub cut_at : (ns : List ℕ) (i : ℕ) (bytes : List ℕ) → i < length ns → get_or (cut ns bytes) i [] ≡ take (get_or ns i 0) (drop (begins ns i) bytes)
 cut_at [] i bytes lt = absurd (none i lt)
 cut_at (n ∷ ns) zero bytes lt = refl
-cut_at (n ∷ ns) (suc i) bytes lt = cut_at ns i (drop (round_up n) bytes) (omega (arith, lt)) ∙ ap (take (get_or ns i 0)) (drop-drop (begins ns i) (round_up n) bytes)
+cut_at (n ∷ ns) (suc i) bytes lt = cut_at ns i (drop (round_up n) bytes) (omega (arith, lt)) ∙
+    ap (take (get_or ns i 0)) (drop-drop (begins ns i) (round_up n) bytes)
 
 pub window_length : (ns : List ℕ) (i : ℕ) (bytes : List ℕ) → i < length ns → total ns ≤ length bytes → length (get_or (cut ns bytes) i []) ≡ get_or ns i 0
-window_length ns i bytes lt le = omega (arith, ap length (cut_at ns i bytes lt), length-take (get_or ns i 0) (drop (begins ns i) bytes), length-drop (begins ns i) bytes, within ns i lt, le)
+window_length ns i bytes lt le = omega (
+  arith,
+  ap length (cut_at ns i bytes lt),
+  length-take (get_or ns i 0) (drop (begins ns i) bytes),
+  length-drop (begins ns i) bytes,
+  within ns i lt,
+  le,
+)
 
 -- a byte of a window
-pub byte_in : (ns : List ℕ) (i : ℕ) (bytes : List ℕ) (o : ℕ) → i < length ns → o < get_or ns i 0 → slice_index (get_or (cut ns bytes) i []) o ≡ slice_index bytes (begins ns i + o)
-byte_in ns i bytes o lt at = ap (λ (l : List ℕ). get_or l o 0) (cut_at ns i bytes lt) ∙ get_or-take (get_or ns i 0) (drop (begins ns i) bytes) o 0 at ∙ get_or-drop (begins ns i) bytes o 0
+pub byte_in : (ns : List ℕ) (i : ℕ) (bytes : List ℕ) (o : ℕ) → i < length ns → o < get_or ns i 0 →
+    slice_index (get_or (cut ns bytes) i []) o ≡ slice_index bytes (begins ns i + o)
+byte_in ns i bytes o lt at = ap (λ (l : List ℕ). get_or l o 0) (cut_at ns i bytes lt) ∙ get_or-take (get_or ns i 0) (drop (begins ns i) bytes) o 0 at ∙
+    get_or-drop (begins ns i) bytes o 0
 
 -- the windows after a store
-pub set_in : (ns : List ℕ) (i : ℕ) (bytes : List ℕ) (o v : ℕ) → i < length ns → o < get_or ns i 0 → cut ns (set bytes (begins ns i + o) v) ≡ set (cut ns bytes) i (set (get_or (cut ns bytes) i []) o v)
+pub set_in : (ns : List ℕ) (i : ℕ) (bytes : List ℕ) (o v : ℕ) → i < length ns → o < get_or ns i 0 →
+    cut ns (set bytes (begins ns i + o) v) ≡ set (cut ns bytes) i (set (get_or (cut ns bytes) i []) o v)
 set_in [] i bytes o v lt at = absurd (none i lt)
 set_in (n ∷ ns) zero bytes o v lt at =
     let far : o < round_up n = omega (arith, at, up n) in
@@ -44,7 +57,8 @@ set_in (n ∷ ns) (suc i) bytes o v lt at =
     let r : ℕ = round_up n in let p : ℕ = begins ns i + o in
     let same : r + begins ns i + o ≡ r + p = omega arith in
     let near : n ≤ r + p = omega (arith, up n) in
-    let rest : cut ns (set (drop r bytes) p v) ≡ set (cut ns (drop r bytes)) i (set (get_or (cut ns (drop r bytes)) i []) o v) = set_in ns i (drop r bytes) o v (omega (arith, lt)) at in
+    let rest : cut ns (set (drop r bytes) p v) ≡ set (cut ns (drop r bytes)) i (set (get_or (cut ns (drop r bytes)) i []) o v) =
+    set_in ns i (drop r bytes) o v (omega (arith, lt)) at in
     rw (same, take-set-le n bytes (r + p) v near, drop-set-add r bytes p v) (ap (λ (l : List (List ℕ)). take n bytes ∷ l) rest)
 
 module _ (ns : List ℕ) (i : ℕ) (bytes : List ℕ) (lt : i < length ns) where
@@ -58,7 +72,8 @@ module _ (ns : List ℕ) (i : ℕ) (bytes : List ℕ) (lt : i < length ns) where
   there = omega (arith, lt, cut_length ns bytes)
 
   -- one store after another
-  again : (bytes' w' : List ℕ) (o v : ℕ) → cut ns bytes' ≡ set (cut ns bytes) i w' → o < get_or ns i 0 → cut ns (set bytes' (b + o) v) ≡ set (cut ns bytes) i (set w' o v)
+  again : (bytes' w' : List ℕ) (o v : ℕ) → cut ns bytes' ≡ set (cut ns bytes) i w' → o < get_or ns i 0 →
+      cut ns (set bytes' (b + o) v) ≡ set (cut ns bytes) i (set w' o v)
   again bytes' w' o v is at =
       set_in ns i bytes' o v lt at
       ∙ ap (λ (l : List (List ℕ)). set l i (set (get_or l i []) o v)) is
@@ -81,7 +96,8 @@ module _ (ns : List ℕ) (i : ℕ) (bytes : List ℕ) (lt : i < length ns) where
       let v0 : ℕ = v % 0x100 in let v1 : ℕ = v / 0x100 % 0x100 in let v2 : ℕ = v / 0x10000 % 0x100 in let v3 : ℕ = v / 0x1000000 in
       let b0 : List ℕ = set bytes (b + o) v0 in let b1 : List ℕ = set b0 (b + (o + 1)) v1 in let b2 : List ℕ = set b1 (b + (o + 2)) v2 in
       let w0 : List ℕ = set w o v0 in let w1 : List ℕ = set w0 (o + 1) v1 in let w2 : List ℕ = set w1 (o + 2) v2 in
-      rw (one, two, three) (again b2 w2 (o + 3) v3 (again b1 w1 (o + 2) v2 (again b0 w0 (o + 1) v1 (first o v0 (omega (arith, at))) (omega (arith, at))) (omega (arith, at))) (omega (arith, at)))
+      rw (one, two, three) (again b2 w2 (o + 3) v3 (again b1 w1 (o + 2) v2 (again b0 w0 (o + 1) v1 (first o v0 (omega (arith, at))) (omega (arith, at)))
+      (omega (arith, at))) (omega (arith, at)))
 
   pub load16_in : (o : ℕ) → o + 2 ≤ get_or ns i 0 → word16 w o ≡ word16 bytes (b + o)
   load16_in o at =
@@ -93,7 +109,15 @@ module _ (ns : List ℕ) (i : ℕ) (bytes : List ℕ) (lt : i < length ns) where
       let one : b + o + 1 ≡ b + (o + 1) = omega arith in
       let two : b + o + 2 ≡ b + (o + 2) = omega arith in
       let three : b + o + 3 ≡ b + (o + 3) = omega arith in
-      rw (one, two, three, byte_in ns i bytes o lt (omega (arith, at)), byte_in ns i bytes (o + 1) lt (omega (arith, at)), byte_in ns i bytes (o + 2) lt (omega (arith, at)), byte_in ns i bytes (o + 3) lt (omega (arith, at))) refl
+      rw (
+        one,
+        two,
+        three,
+        byte_in ns i bytes o lt (omega (arith, at)),
+        byte_in ns i bytes (o + 1) lt (omega (arith, at)),
+        byte_in ns i bytes (o + 2) lt (omega (arith, at)),
+        byte_in ns i bytes (o + 3) lt (omega (arith, at)),
+      ) refl
 
 -- the places that are kept are those at which the windows begin
 pub from_is : (ws : List Window) (at i : ℕ) (x : Window) → LieFrom at ws → i < length ws → (get_or ws i x).from ≡ at + begins (sizes_of ws) i
@@ -164,7 +188,8 @@ begin_set (w ∷ ws) zero x = refl
 begin_set (w ∷ ws) (suc i) x = ap (λ (k : ℕ). round_up (length w) + k) (begin_set ws i x)
 
 -- the window of an arena, by what the arena holds
-module _ (ws : List Window) (bytes : List ℕ) (now : List (List ℕ)) (view : cut (sizes_of ws) bytes ≡ now) (all : total (sizes_of ws) ≡ length bytes) (lie : LieFrom 0 ws) (i : ℕ) (lt : i < length now) where
+module _ (ws : List Window) (bytes : List ℕ) (now : List (List ℕ)) (view : cut (sizes_of ws) bytes ≡ now) (all : total (sizes_of ws) ≡ length bytes)
+    (lie : LieFrom 0 ws) (i : ℕ) (lt : i < length now) where
   abbrev ns : List ℕ
   ns = sizes_of ws
 
@@ -188,22 +213,31 @@ module _ (ws : List Window) (bytes : List ℕ) (now : List (List ℕ)) (view : c
     size = ap (λ (x : Window). x.size) is ∙ size_is ws i w is_there ∙ sym long
 
     pub load8_is : (o : ℕ) → o < length (get_or now i []) → slice_index bytes (w.from + o) ≡ slice_index (get_or now i []) o
-    load8_is o in' = ap (λ (k : ℕ). slice_index bytes (k + o)) from ∙ sym (byte_in ns i bytes o at (omega (arith, in', long))) ∙ ap (λ (l : List (List ℕ)). slice_index (get_or l i []) o) view
+    load8_is o in' = ap (λ (k : ℕ). slice_index bytes (k + o)) from ∙ sym (byte_in ns i bytes o at (omega (arith, in', long))) ∙
+        ap (λ (l : List (List ℕ)). slice_index (get_or l i []) o) view
 
     pub load16_is : (o : ℕ) → o + 2 ≤ length (get_or now i []) → word16 bytes (w.from + o) ≡ word16 (get_or now i []) o
-    load16_is o in' = ap (λ (k : ℕ). word16 bytes (k + o)) from ∙ sym (load16_in ns i bytes at o (omega (arith, in', long))) ∙ ap (λ (l : List (List ℕ)). word16 (get_or l i []) o) view
+    load16_is o in' = ap (λ (k : ℕ). word16 bytes (k + o)) from ∙ sym (load16_in ns i bytes at o (omega (arith, in', long))) ∙
+        ap (λ (l : List (List ℕ)). word16 (get_or l i []) o) view
 
     pub load32_is : (o : ℕ) → o + 4 ≤ length (get_or now i []) → word32 bytes (w.from + o) ≡ word32 (get_or now i []) o
-    load32_is o in' = ap (λ (k : ℕ). word32 bytes (k + o)) from ∙ sym (load32_in ns i bytes at o (omega (arith, in', long))) ∙ ap (λ (l : List (List ℕ)). word32 (get_or l i []) o) view
+    load32_is o in' = ap (λ (k : ℕ). word32 bytes (k + o)) from ∙ sym (load32_in ns i bytes at o (omega (arith, in', long))) ∙
+        ap (λ (l : List (List ℕ)). word32 (get_or l i []) o) view
 
-    pub store8_is : (o v : ℕ) (new : List ℕ) → new ≡ set bytes (w.from + o) v → o < length (get_or now i []) → cut ns new ≡ set now i (set (get_or now i []) o v)
-    store8_is o v new is' in' = ap (cut ns) (is' ∙ ap (λ (k : ℕ). set bytes (k + o) v) from) ∙ set_in ns i bytes o v at (omega (arith, in', long)) ∙ ap (λ (l : List (List ℕ)). set l i (set (get_or l i []) o v)) view
+    pub store8_is : (o v : ℕ) (new : List ℕ) → new ≡ set bytes (w.from + o) v → o < length (get_or now i []) →
+        cut ns new ≡ set now i (set (get_or now i []) o v)
+    store8_is o v new is' in' = ap (cut ns) (is' ∙ ap (λ (k : ℕ). set bytes (k + o) v) from) ∙ set_in ns i bytes o v at (omega (arith, in', long)) ∙
+        ap (λ (l : List (List ℕ)). set l i (set (get_or l i []) o v)) view
 
-    pub store16_is : (o v : ℕ) (new : List ℕ) → new ≡ with16 bytes (w.from + o) v → o + 2 ≤ length (get_or now i []) → cut ns new ≡ set now i (with16 (get_or now i []) o v)
-    store16_is o v new is' in' = ap (cut ns) (is' ∙ ap (λ (k : ℕ). with16 bytes (k + o) v) from) ∙ store16_in ns i bytes at o v (omega (arith, in', long)) ∙ ap (λ (l : List (List ℕ)). set l i (with16 (get_or l i []) o v)) view
+    pub store16_is : (o v : ℕ) (new : List ℕ) → new ≡ with16 bytes (w.from + o) v → o + 2 ≤ length (get_or now i []) →
+        cut ns new ≡ set now i (with16 (get_or now i []) o v)
+    store16_is o v new is' in' = ap (cut ns) (is' ∙ ap (λ (k : ℕ). with16 bytes (k + o) v) from) ∙ store16_in ns i bytes at o v (omega (arith, in', long)) ∙
+        ap (λ (l : List (List ℕ)). set l i (with16 (get_or l i []) o v)) view
 
-    pub store32_is : (o v : ℕ) (new : List ℕ) → new ≡ with32 bytes (w.from + o) v → o + 4 ≤ length (get_or now i []) → cut ns new ≡ set now i (with32 (get_or now i []) o v)
-    store32_is o v new is' in' = ap (cut ns) (is' ∙ ap (λ (k : ℕ). with32 bytes (k + o) v) from) ∙ store32_in ns i bytes at o v (omega (arith, in', long)) ∙ ap (λ (l : List (List ℕ)). set l i (with32 (get_or l i []) o v)) view
+    pub store32_is : (o v : ℕ) (new : List ℕ) → new ≡ with32 bytes (w.from + o) v → o + 4 ≤ length (get_or now i []) →
+        cut ns new ≡ set now i (with32 (get_or now i []) o v)
+    store32_is o v new is' in' = ap (cut ns) (is' ∙ ap (λ (k : ℕ). with32 bytes (k + o) v) from) ∙ store32_in ns i bytes at o v (omega (arith, in', long)) ∙
+        ap (λ (l : List (List ℕ)). set l i (with32 (get_or l i []) o v)) view
 
   pub begin_is : begin_of now i ≡ begins ns i
   begin_is = ap (λ (l : List (List ℕ)). begin_of l i) (sym view) ∙ begin_cut ns bytes i (omega (arith, all))
@@ -213,19 +247,27 @@ module _ (ws : List Window) (bytes : List ℕ) (now : List (List ℕ)) (view : c
     is_from = is ∙ begin_is
 
     pub load8_at : (o : ℕ) → o < length (get_or now i []) → slice_index bytes (b + o) ≡ slice_index (get_or now i []) o
-    load8_at o in' = ap (λ (k : ℕ). slice_index bytes (k + o)) is_from ∙ sym (byte_in ns i bytes o at (omega (arith, in', long))) ∙ ap (λ (l : List (List ℕ)). slice_index (get_or l i []) o) view
+    load8_at o in' = ap (λ (k : ℕ). slice_index bytes (k + o)) is_from ∙ sym (byte_in ns i bytes o at (omega (arith, in', long))) ∙
+        ap (λ (l : List (List ℕ)). slice_index (get_or l i []) o) view
 
     pub load16_at : (o : ℕ) → o + 2 ≤ length (get_or now i []) → word16 bytes (b + o) ≡ word16 (get_or now i []) o
-    load16_at o in' = ap (λ (k : ℕ). word16 bytes (k + o)) is_from ∙ sym (load16_in ns i bytes at o (omega (arith, in', long))) ∙ ap (λ (l : List (List ℕ)). word16 (get_or l i []) o) view
+    load16_at o in' = ap (λ (k : ℕ). word16 bytes (k + o)) is_from ∙ sym (load16_in ns i bytes at o (omega (arith, in', long))) ∙
+        ap (λ (l : List (List ℕ)). word16 (get_or l i []) o) view
 
     pub load32_at : (o : ℕ) → o + 4 ≤ length (get_or now i []) → word32 bytes (b + o) ≡ word32 (get_or now i []) o
-    load32_at o in' = ap (λ (k : ℕ). word32 bytes (k + o)) is_from ∙ sym (load32_in ns i bytes at o (omega (arith, in', long))) ∙ ap (λ (l : List (List ℕ)). word32 (get_or l i []) o) view
+    load32_at o in' = ap (λ (k : ℕ). word32 bytes (k + o)) is_from ∙ sym (load32_in ns i bytes at o (omega (arith, in', long))) ∙
+        ap (λ (l : List (List ℕ)). word32 (get_or l i []) o) view
 
     pub store8_at : (o v : ℕ) (new : List ℕ) → new ≡ set bytes (b + o) v → o < length (get_or now i []) → cut ns new ≡ set now i (set (get_or now i []) o v)
-    store8_at o v new is' in' = ap (cut ns) (is' ∙ ap (λ (k : ℕ). set bytes (k + o) v) is_from) ∙ set_in ns i bytes o v at (omega (arith, in', long)) ∙ ap (λ (l : List (List ℕ)). set l i (set (get_or l i []) o v)) view
+    store8_at o v new is' in' = ap (cut ns) (is' ∙ ap (λ (k : ℕ). set bytes (k + o) v) is_from) ∙ set_in ns i bytes o v at (omega (arith, in', long)) ∙
+        ap (λ (l : List (List ℕ)). set l i (set (get_or l i []) o v)) view
 
-    pub store16_at : (o v : ℕ) (new : List ℕ) → new ≡ with16 bytes (b + o) v → o + 2 ≤ length (get_or now i []) → cut ns new ≡ set now i (with16 (get_or now i []) o v)
-    store16_at o v new is' in' = ap (cut ns) (is' ∙ ap (λ (k : ℕ). with16 bytes (k + o) v) is_from) ∙ store16_in ns i bytes at o v (omega (arith, in', long)) ∙ ap (λ (l : List (List ℕ)). set l i (with16 (get_or l i []) o v)) view
+    pub store16_at : (o v : ℕ) (new : List ℕ) → new ≡ with16 bytes (b + o) v → o + 2 ≤ length (get_or now i []) →
+        cut ns new ≡ set now i (with16 (get_or now i []) o v)
+    store16_at o v new is' in' = ap (cut ns) (is' ∙ ap (λ (k : ℕ). with16 bytes (k + o) v) is_from) ∙ store16_in ns i bytes at o v (omega (arith, in', long)) ∙
+        ap (λ (l : List (List ℕ)). set l i (with16 (get_or l i []) o v)) view
 
-    pub store32_at : (o v : ℕ) (new : List ℕ) → new ≡ with32 bytes (b + o) v → o + 4 ≤ length (get_or now i []) → cut ns new ≡ set now i (with32 (get_or now i []) o v)
-    store32_at o v new is' in' = ap (cut ns) (is' ∙ ap (λ (k : ℕ). with32 bytes (k + o) v) is_from) ∙ store32_in ns i bytes at o v (omega (arith, in', long)) ∙ ap (λ (l : List (List ℕ)). set l i (with32 (get_or l i []) o v)) view
+    pub store32_at : (o v : ℕ) (new : List ℕ) → new ≡ with32 bytes (b + o) v → o + 4 ≤ length (get_or now i []) →
+        cut ns new ≡ set now i (with32 (get_or now i []) o v)
+    store32_at o v new is' in' = ap (cut ns) (is' ∙ ap (λ (k : ℕ). with32 bytes (k + o) v) is_from) ∙ store32_in ns i bytes at o v (omega (arith, in', long)) ∙
+        ap (λ (l : List (List ℕ)). set l i (with32 (get_or l i []) o v)) view

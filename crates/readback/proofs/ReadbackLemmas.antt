@@ -1,5 +1,6 @@
 -- A comparison that goes on window by window. `first_difference` goes on by them.
-use Rattle.std.proofs.Common.{◌≡◌, ◌<◌, ◌≤◌, ◌+◌, ◌++◌, ◌∙◌, sym, ap, refl, arith, Bool, IsTrue, ℕ, List, length, take, drop, get_or, length-drop, Option, Some, None, is_some, true, false}
+use Rattle.std.proofs.Common.{◌≡◌, ◌<◌, ◌≤◌, ◌+◌, ◌++◌, ◌∙◌, sym, ap, refl, arith, Bool, IsTrue, ℕ, List, length, take, drop, get_or, length-drop, Option, Some}
+use Rattle.std.proofs.Common.{None, is_some, true, false}
 use Rattle.std.proofs.Math.Seq.{take-add}
 use Rattle.std.proofs.lemmas.List.{drop-drop, length-take-le, get_or-take, get_or-drop, take-take}
 use Rattle.bench_model.specs.State.{BenchState, cells_half}

@@ -1,5 +1,6 @@
 -- The runs of the lines of a text, and why their union is its image.
-use Rattle.std.proofs.Common.{◌≡◌, ◌<◌, ◌∙◌, ℕ, zero, suc, List, [], ◌∷◌, ◌++◌, length, Option, Some, None, Result, Ok, Err, Bool, true, false, cond, refl, sym, ap, arith, below_more}
+use Rattle.std.proofs.Common.{◌≡◌, ◌<◌, ◌∙◌, ℕ, zero, suc, List, [], ◌∷◌, ◌++◌, length, Option, Some, None, Result, Ok, Err, Bool, true, false, cond, refl, sym}
+use Rattle.std.proofs.Common.{ap, arith, below_more}
 use Rattle.std.specs.Prelude.{◌==◌}
 use Rattle.std.specs.List.{All}
 use Rattle.std.proofs.lemmas.Bool.Decides.{nat_tests}
@@ -19,7 +20,8 @@ neither None p none = (refl, none)
 neither (Some x) p some = let nothing : Some x ≡ None = some in absurd (cc)
 
 -- the runs of a line have its cells
-line_has : (cells : List Cell) (runs image : List Run) → AreConsistent cells → IsImageOf (cells ++ []) runs → All (HasRun image) runs → All (HasCell image) cells
+line_has : (cells : List Cell) (runs image : List Run) → AreConsistent cells → IsImageOf (cells ++ []) runs → All (HasRun image) runs →
+    All (HasCell image) cells
 line_has cells runs image own is all =
     All-weaker (λ (cell : Cell). held cells cell.at ≡ Some cell.byte) (HasCell image)
     (λ cell same. part_of runs image cell.at cell.byte all (is.same cell.at ∙ ap (λ (cs : List Cell). held cs cell.at) (append-nil cells) ∙ same))
@@ -30,7 +32,8 @@ line_only : (cells : List Cell) (runs : List Run) (a : ℕ) → IsImageOf (cells
 line_only cells runs a is none = none_holds runs a (is.same a ∙ ap (λ (cs : List Cell). held cs a) (append-nil cells) ∙ none)
 
 -- one line more
-pub gathered_more : {C R F : Type 0} (f : Format C R F) (lines : List (List ℕ)) (n : ℕ) (runs own : List Run) → AreRunsBefore f lines n runs → n < length lines → own_fault_at f lines n ≡ None → ends_at f lines n ≡ false
+pub gathered_more : {C R F : Type 0} (f : Format C R F) (lines : List (List ℕ)) (n : ℕ) (runs own : List Run) → AreRunsBefore f lines n runs →
+    n < length lines → own_fault_at f lines n ≡ None → ends_at f lines n ≡ false
     → AreConsistent (cells_at f lines n) → IsImageOf (cells_at f lines n ++ []) own → AreRunsBefore f lines (suc n) (runs ++ own)
 gathered_more f lines n runs own before inside right goes_on consistent is =
     record {
@@ -41,19 +44,23 @@ gathered_more f lines n runs own before inside right goes_on consistent is =
           (before.all image (All-front (HasRun image) runs own all))
           (line_has (cells_at f lines n) own image consistent is (All-back (HasRun image) runs own all)) k (omega arith);
       only = λ a none.
-          let both = neither (held (cells_at f lines n) a) (held (cells_before f lines n) a) (sym (held-append (cells_at f lines n) (cells_before f lines n) a) ∙ none) in
+          let both = neither (held (cells_at f lines n) a) (held (cells_before f lines n) a)
+          (sym (held-append (cells_at f lines n) (cells_before f lines n) a) ∙ none) in
           All-append (λ (run : Run). holds run a ≡ false) runs own (before.only a both.1) (line_only (cells_at f lines n) own a is both.0);
     }
 
 -- an image with the bytes of some cells has what they hold
-held_first : (cell : Cell) (cells : List Cell) (image : List Run) (a byte : ℕ) (b : Bool) → (a == cell.at) ≡ b → cond b (Some cell.byte) (held cells a) ≡ Some byte → HasCell image cell → (held cells a ≡ Some byte → byte_at image a ≡ Some byte) → byte_at image a ≡ Some byte
+held_first : (cell : Cell) (cells : List Cell) (image : List Run) (a byte : ℕ) (b : Bool) →
+    (a == cell.at) ≡ b → cond b (Some cell.byte) (held cells a) ≡ Some byte → HasCell image cell → (held cells a ≡ Some byte → byte_at image a ≡ Some byte) →
+    byte_at image a ≡ Some byte
 held_first cell cells image a byte true same here has later = let at : a ≡ cell.at = grind (arith, nat_tests) in ap (byte_at image) at ∙ has ∙ here
 held_first cell cells image a byte false other there has later = later there
 
 held_in : (cells : List Cell) (image : List Run) (a byte : ℕ) → All (HasCell image) cells → held cells a ≡ Some byte → byte_at image a ≡ Some byte
 held_in [] image a byte all is = let nothing : None ≡ Some byte = is in absurd (cc)
 held_in (cell ∷ cells) image a byte all is =
-    held_first cell cells image a byte (a == cell.at) refl is (All-head (HasCell image) cell cells all) (λ later. held_in cells image a byte (All-tail (HasCell image) cell cells all) later)
+    held_first cell cells image a byte (a == cell.at) refl is (All-head (HasCell image) cell cells all)
+    (λ later. held_in cells image a byte (All-tail (HasCell image) cell cells all) later)
 
 -- cells that one image has don't clash
 no_clash_in : (before cells : List Cell) (image : List Run) → All (HasCell image) before → All (HasCell image) cells → first_clash before cells ≡ None
@@ -66,12 +73,14 @@ no_clash_in before (cell ∷ cells) image all some =
     let same : Some old ≡ Some cell.byte = sym here ∙ has in cc)
     ∙ no_clash_in before cells image all (All-tail (HasCell image) cell cells some)
 
-or_clash_none : {C R F : Type 0} (f : Format C R F) (o : Option F) (clash other : Option Clash) → or_clash f o clash ≡ None → other ≡ None → or_clash f o other ≡ None
+or_clash_none : {C R F : Type 0} (f : Format C R F) (o : Option F) (clash other : Option Clash) → or_clash f o clash ≡ None → other ≡ None →
+    or_clash f o other ≡ None
 or_clash_none f (Some fault) clash other is none = is
 or_clash_none f None clash other is none = ap (or_clash f None) none
 
 -- a line that is right by itself, and clashes nowhere with those before it
-right_behind : {C R F : Type 0} (f : Format C R F) (c : C) (before : List Cell) (reading : Result (Option R) F) → line_fault f c [] reading ≡ None → first_clash before (line_cells f c reading) ≡ None → line_fault f c before reading ≡ None
+right_behind : {C R F : Type 0} (f : Format C R F) (c : C) (before : List Cell) (reading : Result (Option R) F) → line_fault f c [] reading ≡ None →
+    first_clash before (line_cells f c reading) ≡ None → line_fault f c before reading ≡ None
 right_behind f c before (Ok None) right none = refl
 right_behind f c before (Ok (Some r)) right none = or_clash_none f (f.refused c r) (first_clash [] (f.cells c r)) (first_clash before (f.cells c r)) right none
 right_behind f c before (Err fault) right none = right
@@ -79,7 +88,8 @@ right_behind f c before (Err fault) right none = right
 module _ {C R F : Type 0} (f : Format C R F) (lines : List (List ℕ)) where
   all_before : (image : List Run) (n : ℕ) → ((k : ℕ) → k < n → All (HasCell image) (cells_at f lines k)) → All (HasCell image) (cells_before f lines n)
   all_before image zero each = All-nil (HasCell image)
-  all_before image (suc n) each = All-append (HasCell image) (cells_at f lines n) (cells_before f lines n) (each n (omega arith)) (all_before image n (λ k lt. each k (omega arith)))
+  all_before image (suc n) each = All-append (HasCell image) (cells_at f lines n) (cells_before f lines n) (each n (omega arith))
+      (all_before image n (λ k lt. each k (omega arith)))
 
   -- the union of the runs is the image
   pub union_is_image : (runs image : List Run) → AreRunsOfText f lines runs → IsUnionOf runs image → IsImageOfText f lines image
@@ -97,11 +107,13 @@ module _ {C R F : Type 0} (f : Format C R F) (lines : List (List ℕ)) where
           goes_on = text.before.goes_on;
         };
         inside = text.inside;
-        right = right_behind f (context_before f lines n) (cells_before f lines n) (f.read (line_at lines n)) text.right (ap (first_clash (cells_before f lines n)) text.no_cells);
+        right = right_behind f (context_before f lines n) (cells_before f lines n) (f.read (line_at lines n)) text.right
+            (ap (first_clash (cells_before f lines n)) text.no_cells);
         ends = text.ends;
         image_is = record { maximal = union.maximal; same = λ a. by image union whole a (held (cells_before f lines n) a) refl };
       }
     where
-      by : (image : List Run) → IsUnionOf runs image → All (HasCell image) (cells_before f lines text.place) → (a : ℕ) (o : Option ℕ) → held (cells_before f lines text.place) a ≡ o → byte_at image a ≡ o
+      by : (image : List Run) → IsUnionOf runs image → All (HasCell image) (cells_before f lines text.place) →
+          (a : ℕ) (o : Option ℕ) → held (cells_before f lines text.place) a ≡ o → byte_at image a ≡ o
       by image union whole a None none = union.only a (text.before.only a none)
       by image union whole a (Some byte) is = held_in (cells_before f lines text.place) image a byte whole is

@@ -4,7 +4,8 @@ use Rattle.std.proofs.lemmas.Bool.{cases_lt}
 use Rattle.byte_map.specs.Image.{Run}
 use Rattle.byte_map.proofs.OneList.{one_list}
 use Rattle.record_lines.specs.Cells.{held}
-use Rattle.record_lines.specs.Format.{Format, fault_at, ends_at, cells_before, AreRight, IsImageOfText, line_number, IsFaultOfLine, HasNoEnd, IsTextFault, IsMemoryFault}
+use Rattle.record_lines.specs.Format.{Format, fault_at, ends_at, cells_before, AreRight, IsImageOfText, line_number, IsFaultOfLine, HasNoEnd, IsTextFault}
+use Rattle.record_lines.specs.Format.{IsMemoryFault}
 use Rattle.record_lines.specs.declared.fault.TextFault.{TextFault}
 use Rattle.record_lines.specs.declared.fault.TextFault.TheVariants.{Line, NoEnd, OutOfMemory}
 

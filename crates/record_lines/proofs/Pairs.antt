@@ -9,7 +9,8 @@ length-pairs [] n long = omega arith
 length-pairs (last ∷ []) n long = omega arith
 length-pairs (high ∷ low ∷ rest) n long = let later = length-pairs rest (n - 1) (omega arith) in omega (arith, later)
 
-pub get_or-pairs : (digits : List ℕ) (k : ℕ) → 2 * k + 1 < length digits → get_or (pairs digits) k 0 ≡ unwrap_or (pair_value (get_or digits (2 * k) 0) (get_or digits (2 * k + 1) 0)) 0
+pub get_or-pairs : (digits : List ℕ) (k : ℕ) → 2 * k + 1 < length digits →
+    get_or (pairs digits) k 0 ≡ unwrap_or (pair_value (get_or digits (2 * k) 0) (get_or digits (2 * k + 1) 0)) 0
 get_or-pairs [] k lt = absurd (omega arith)
 get_or-pairs (last ∷ []) k lt = absurd (omega arith)
 get_or-pairs (high ∷ low ∷ rest) zero lt = refl

@@ -1,10 +1,12 @@
 -- A text read line by line: what holds behind its first n lines, and how it ends.
-use Rattle.std.proofs.Common.{◌≡◌, ◌≤◌, ◌<◌, ◌+◌, ℕ, suc, min, List, [], ◌∷◌, ◌++◌, length, get_or, drop, Some, None, refl, sym, ap, subst, ◌∙◌, true, false, arith, below_more}
+use Rattle.std.proofs.Common.{◌≡◌, ◌≤◌, ◌<◌, ◌+◌, ℕ, suc, min, List, [], ◌∷◌, ◌++◌, length, get_or, drop, Some, None, refl, sym, ap, subst, ◌∙◌, true, false}
+use Rattle.std.proofs.Common.{arith, below_more}
 use Rattle.std.proofs.lemmas.List.{length-drop, get_or-drop, drop-drop, drop_all}
 use Rattle.octets.specs.Lines.{lines_of, whole_lines}
 use Rattle.byte_map.specs.Image.{Run}
 use Rattle.record_lines.specs.Cells.{Cell, IsImageOf}
-use Rattle.record_lines.specs.Format.{Format, line_at, context_before, line_cells, line_ends, line_fault, cells_before, fault_at, ends_at, AreRight, IsImageOfText, line_number, IsFaultOfLine, HasNoEnd}
+use Rattle.record_lines.specs.Format.{Format, line_at, context_before, line_cells, line_ends, line_fault, cells_before, fault_at, ends_at, AreRight}
+use Rattle.record_lines.specs.Format.{IsImageOfText, line_number, IsFaultOfLine, HasNoEnd}
 use Rattle.record_lines.specs.Gathered.{cells_at}
 
 -- behind the first n lines, which end at `from`, c is known
@@ -32,7 +34,8 @@ read_nothing f text c is =
     }
 
 -- the line that comes next
-module _ {C R F : Type 0} (f : Format C R F) (text : List ℕ) (from : ℕ) (c : C) (n next : ℕ) (here : List ℕ) (h : IsBehind f text from c n) (lines : lines_of (drop from text) ≡ here ∷ lines_of (drop next text)) where
+module _ {C R F : Type 0} (f : Format C R F) (text : List ℕ) (from : ℕ) (c : C) (n next : ℕ) (here : List ℕ) (h : IsBehind f text from c n)
+    (lines : lines_of (drop from text) ≡ here ∷ lines_of (drop next text)) where
   whole : drop n (lines_of text) ≡ here ∷ lines_of (drop next text)
   whole = sym h.rest ∙ lines
 
@@ -46,7 +49,8 @@ module _ {C R F : Type 0} (f : Format C R F) (text : List ℕ) (from : ℕ) (c :
   next_inside = omega (arith, ap length whole, length-drop n (lines_of text))
 
   -- what is said of the line at a place, from what is said of its content
-  pub next_fault : (before : List Cell) → line_fault f (context_before f (lines_of text) n) before (f.read (line_at (lines_of text) n)) ≡ line_fault f c before (f.read here)
+  pub next_fault : (before : List Cell) → line_fault f (context_before f (lines_of text) n) before (f.read (line_at (lines_of text) n)) ≡ line_fault f c before
+      (f.read here)
   next_fault before =
       ap (λ (k : C). line_fault f k before (f.read (line_at (lines_of text) n))) (sym h.context_is)
       ∙ ap (λ (l : List ℕ). line_fault f c before (f.read l)) next_is
@@ -63,7 +67,8 @@ module _ {C R F : Type 0} (f : Format C R F) (text : List ℕ) (from : ℕ) (c :
   pub behind_next : (c' : C) → c' ≡ f.behind (f.read here) c → IsBehind f text next c' (suc n)
   behind_next c' is =
       record {
-        rest = sym (ap (λ (k : ℕ). drop k (lines_of text)) (let more : suc n ≡ n + 1 = omega arith in more) ∙ sym (drop-drop 1 n (lines_of text)) ∙ ap (drop 1) whole);
+        rest = sym (ap (λ (k : ℕ). drop k (lines_of text)) (let more : suc n ≡ n + 1 = omega arith in more) ∙ sym (drop-drop 1 n (lines_of text)) ∙
+            ap (drop 1) whole);
         context_is = is ∙ ap (f.behind (f.read here)) h.context_is
             ∙ ap (λ (l : List ℕ). f.behind (f.read l) (context_before f (lines_of text) n)) (sym next_is);
       }
@@ -77,7 +82,8 @@ module _ {C R F : Type 0} (f : Format C R F) (text : List ℕ) (from : ℕ) (c :
         behind = behind_next c' c_is;
         before = record {
           within = omega (arith, next_inside);
-          right = λ k lt. below_more (λ (j : ℕ). fault_at f (lines_of text) j ≡ None) n read.before.right (next_fault (cells_before f (lines_of text) n) ∙ right) k (omega arith);
+          right = λ k lt. below_more (λ (j : ℕ). fault_at f (lines_of text) j ≡ None) n read.before.right
+              (next_fault (cells_before f (lines_of text) n) ∙ right) k (omega arith);
           goes_on = λ k lt. below_more (λ (j : ℕ). ends_at f (lines_of text) j ≡ false) n read.before.goes_on (next_ends ∙ goes_on) k (omega arith);
         };
         image_is = subst (λ (cells : List Cell). IsImageOf (cells ++ cells_before f (lines_of text) n) image') (sym next_cells) image_is;
@@ -86,7 +92,8 @@ module _ {C R F : Type 0} (f : Format C R F) (text : List ℕ) (from : ℕ) (c :
 
   -- the end record
   pub read_end : (line : ℕ) (image image' : List Run) → HasRead f text from line c image n
-      → line_fault f c (cells_before f (lines_of text) n) (f.read here) ≡ None → line_ends f (f.read here) ≡ true → IsImageOf (cells_before f (lines_of text) n) image' → IsImageOfText f (lines_of text) image'
+      → line_fault f c (cells_before f (lines_of text) n) (f.read here) ≡ None → line_ends f (f.read here) ≡ true →
+      IsImageOf (cells_before f (lines_of text) n) image' → IsImageOfText f (lines_of text) image'
   read_end line image image' read right ends image_is =
       record {
         place = n;
@@ -114,7 +121,8 @@ unfolding whole_lines
 no_lines = refl
 
 -- no line is left
-pub read_all : {C R F : Type 0} (f : Format C R F) (text : List ℕ) (from line : ℕ) (c : C) (image : List Run) (n : ℕ) → HasRead f text from line c image n → length text ≤ from → HasNoEnd f (lines_of text) line
+pub read_all : {C R F : Type 0} (f : Format C R F) (text : List ℕ) (from line : ℕ) (c : C) (image : List Run) (n : ℕ) → HasRead f text from line c image n →
+    length text ≤ from → HasNoEnd f (lines_of text) line
 read_all f text from line c image n h past =
     let nothing : drop n (lines_of text) ≡ [] = sym h.behind.rest ∙ ap lines_of (drop_all from text past) ∙ no_lines in
     let none_left : length (lines_of text) ≡ n = omega (arith, ap length nothing, length-drop n (lines_of text), h.before.within) in

@@ -24,7 +24,8 @@ runs-append bytes more (piece ∷ pieces) inside =
     ∙ ap (λ (runs : List Run). run_of bytes piece ∷ runs) (runs-append bytes more pieces (All-tail (IsInside bytes) piece pieces inside))
 
 -- a piece whose bytes are the last ones
-run_of-last : (bytes more : List ℕ) (piece : Piece) → piece.start ≡ length bytes → piece.len ≡ length more → run_of (bytes ++ more) piece ≡ record { at = piece.at; bytes = more }
+run_of-last : (bytes more : List ℕ) (piece : Piece) → piece.start ≡ length bytes → piece.len ≡ length more →
+    run_of (bytes ++ more) piece ≡ record { at = piece.at; bytes = more }
 run_of-last bytes more piece start len =
     ap (λ (bs : List ℕ). record { at = piece.at; bytes = bs })
     (ap (λ (n : ℕ). take piece.len (drop n (bytes ++ more))) start
@@ -40,7 +41,8 @@ runs-push bytes more pieces piece inside start len =
     ∙ ap (λ (run : Run). map (run_of bytes) pieces ++ run ∷ []) (run_of-last bytes more piece start len)
 
 -- the runs of a map one by one behind others
-pub pushed_more : (before runs now next : List Run) (index : ℕ) (run : Run) → index < length runs → slice_get runs index ≡ Some run → now ≡ before ++ take index runs → next ≡ now ++ run ∷ [] → next ≡ before ++ take (index + 1) runs
+pub pushed_more : (before runs now next : List Run) (index : ℕ) (run : Run) → index < length runs → slice_get runs index ≡ Some run →
+    now ≡ before ++ take index runs → next ≡ now ++ run ∷ [] → next ≡ before ++ take (index + 1) runs
 pushed_more before runs now next index run lt is now_is next_is =
     let none : Run = record { at = 0; bytes = [] } in
     next_is

@@ -1,5 +1,6 @@
 -- The union of runs, in whatever order they are laid. So lines may be gathered first, and be laid by rising address.
-use Rattle.std.proofs.Common.{◌≡◌, ◌+◌, ◌<◌, ◌∙◌, ℕ, List, [], ◌∷◌, ◌++◌, length, get_or, take, Some, None, Result, Ok, Err, Bool, true, false, cond, refl, sym, ap, subst, arith}
+use Rattle.std.proofs.Common.{◌≡◌, ◌+◌, ◌<◌, ◌∙◌, ℕ, List, [], ◌∷◌, ◌++◌, length, get_or, take, Some, None, Result, Ok, Err, Bool, true, false, cond, refl, sym}
+use Rattle.std.proofs.Common.{ap, subst, arith}
 use Rattle.std.specs.Result.{OnOk, result_ok}
 use Rattle.std.specs.List.{All}
 use Rattle.std.specs.List.Sorted.{IsPermutation}
@@ -27,7 +28,8 @@ module _ {X : Type 0} (P : X → Type 0) where
   All-front (x ∷ xs) ys all = All-cons P x xs (All-head P x (xs ++ ys) all) (All-front xs ys (All-tail P x (xs ++ ys) all))
 
 -- no run holds an address at which their map has no byte
-none_holds_first : (r : Run) (rs : List Run) (a : ℕ) (b : Bool) → holds r a ≡ b → cond b (Some (byte_of r a)) (byte_at rs a) ≡ None → (byte_at rs a ≡ None → All (λ run. holds run a ≡ false) rs) → All (λ run. holds run a ≡ false) (r ∷ rs)
+none_holds_first : (r : Run) (rs : List Run) (a : ℕ) (b : Bool) → holds r a ≡ b → cond b (Some (byte_of r a)) (byte_at rs a) ≡ None →
+    (byte_at rs a ≡ None → All (λ run. holds run a ≡ false) rs) → All (λ run. holds run a ≡ false) (r ∷ rs)
 none_holds_first r rs a true held none later = absurd (cc)
 none_holds_first r rs a false held none later = All-cons (λ (run : Run). holds run a ≡ false) r rs held (later none)
 
@@ -61,16 +63,19 @@ module _ (piece : Run) (old new : List Run) (lays : Lays piece old new) where
   laid_one runs union =
       record {
         maximal = lays.maximal;
-        all = All-push (HasRun new) runs piece (All-weaker (HasRun old) (HasRun new) (λ run has a held. laid_keeps a (byte_of run a) (has a held)) runs union.all) laid_has;
+        all = All-push (HasRun new) runs piece (All-weaker (HasRun old) (HasRun new) (λ run has a held. laid_keeps a (byte_of run a) (has a held)) runs
+            union.all) laid_has;
         only = λ a none. laid_only a
             (All-head (λ (run : Run). holds run a ≡ false) piece [] (All-back (λ (run : Run). holds run a ≡ false) runs (piece ∷ []) none))
             (union.only a (All-front (λ (run : Run). holds run a ≡ false) runs (piece ∷ []) none));
       }
 
 -- the first of some runs, and one more
-pub union_more : (runs : List Run) (index : ℕ) (run : Run) (old new : List Run) → index < length runs → get_or runs index (record { at = 0; bytes = [] }) ≡ run → Lays run old new → IsUnionOf (take index runs) old → IsUnionOf (take (index + 1) runs) new
+pub union_more : (runs : List Run) (index : ℕ) (run : Run) (old new : List Run) → index < length runs →
+    get_or runs index (record { at = 0; bytes = [] }) ≡ run → Lays run old new → IsUnionOf (take index runs) old → IsUnionOf (take (index + 1) runs) new
 union_more runs index run old new lt is lays union =
-    subst (λ (rs : List Run). IsUnionOf rs new) (sym (take_more runs index (record { at = 0; bytes = [] }) lt ∙ ap (λ (r : Run). take index runs ++ r ∷ []) is)) (laid_one run old new lays (take index runs) union)
+    subst (λ (rs : List Run). IsUnionOf rs new) (sym (take_more runs index (record { at = 0; bytes = [] }) lt ∙ ap (λ (r : Run). take index runs ++ r ∷ []) is))
+    (laid_one run old new lays (take index runs) union)
 
 -- their order is all one
 pub union_permuted : (runs other image : List Run) → IsPermutation runs other → IsUnionOf other image → IsUnionOf runs image

@@ -5,7 +5,6 @@ use Rattle.std.proofs.lemmas.Option.{get_or_from_slice_get}
 use Rattle.std.specs.List.{flat_map}
 use Rattle.std.proofs.lemmas.List.Folds.{flat_map-map}
 use Rattle.byte_map.specs.Image.{Run, end_of, AreMaximal}
-use Rattle.flm_descriptor.specs.declared.device.Device.{Device}
 use Rattle.flm_descriptor.specs.declared.algorithm.Algorithm.{Algorithm}
 use Rattle.report_text.specs.Job.{bytes_in, device_line}
 

@@ -1,5 +1,6 @@
 -- The texts of the members of a set, one after the other.
-use Rattle.std.proofs.Common.{◌≡◌, ◌<◌, ◌≤◌, ◌+◌, ◌-◌, ◌++◌, ◌∙◌, sym, ap, refl, arith, ℕ, zero, suc, Bool, true, false, not, ◌&&◌, List, [], ◌∷◌, length, get_or, append_assoc, append-nil, add-one, Ok, Err}
+use Rattle.std.proofs.Common.{◌≡◌, ◌<◌, ◌≤◌, ◌+◌, ◌-◌, ◌++◌, ◌∙◌, sym, ap, refl, arith, ℕ, zero, suc, Bool, true, false, not, ◌&&◌, List, [], ◌∷◌, length}
+use Rattle.std.proofs.Common.{get_or, append_assoc, append-nil, add-one, Ok, Err}
 use Rattle.std.specs.Prelude.{codes}
 use Rattle.outside_io.specs.State.{SinkState}
 use Rattle.outside_io.specs.declared.sink.OutputFault.{OutputFault}
@@ -54,7 +55,8 @@ pub not_in : (name : List ℕ) (base : ℕ) (ranges : List Range) (set : List Bo
 unfolding member_text
 not_in name base ranges set k out = rw out refl
 
-pub is_in : (name : List ℕ) (base : ℕ) (ranges : List Range) (set : List Bool) (k place len : ℕ) → get_or set k false ≡ true → IsAt (range_at ranges k) place len
+pub is_in : (name : List ℕ) (base : ℕ) (ranges : List Range) (set : List Bool) (k place len : ℕ) → get_or set k false ≡ true
+    → IsAt (range_at ranges k) place len
     → action_text name (base + place) len ≡ member_text name base ranges set k
 unfolding member_text
 is_in name base ranges set k place len member at =
@@ -125,6 +127,7 @@ pub erase_chip : (l : Geometry) (base : ℕ) (plan : Chosen) → plan.chip ≡ t
 unfolding erase_text
 erase_chip l base plan chip = rw chip refl
 
-pub erase_sectors : (l : Geometry) (base : ℕ) (plan : Chosen) → plan.chip ≡ false → set_text (codes "erase") base l.sectors plan.sectors ≡ erase_text l base plan
+pub erase_sectors : (l : Geometry) (base : ℕ) (plan : Chosen) → plan.chip ≡ false
+    → set_text (codes "erase") base l.sectors plan.sectors ≡ erase_text l base plan
 unfolding erase_text
 erase_sectors l base plan chip = rw chip refl

@@ -1,6 +1,8 @@
 -- No refusal has the status 0.
 use Rattle.std.proofs.Common.{◌≤◌, arith}
-use Rattle.report_text.specs.Refusal.{Refusal, status_of, out_of_memory, usage, input_fault, image_too_long, image_refused, image_misplaced, flm_refused, other_device, no_room, board_refused, job_open, no_job, not_a_job, damaged, cells_differ, store_fault, device_fault, output_fault, call_failed, mismatch, differs}
+use Rattle.report_text.specs.Refusal.{Refusal, status_of, out_of_memory, usage, input_fault, image_too_long, image_refused, image_misplaced, flm_refused}
+use Rattle.report_text.specs.Refusal.{other_device, no_room, board_refused, job_open, no_job, not_a_job, damaged, cells_differ, store_fault, device_fault}
+use Rattle.report_text.specs.Refusal.{output_fault, call_failed, mismatch, differs}
 
 pub some_status : (r : Refusal) → 1 ≤ status_of r
 some_status out_of_memory = omega arith

@@ -4,7 +4,8 @@ use Rattle.std.specs.List.{concat, flat_map}
 use Rattle.octets.specs.Digit.{hex_text}
 use Rattle.report_text.specs.Calls.{failed_text}
 use Rattle.report_text.specs.Faults.{board_text, flm_text, image_text, any_text, file_text}
-use Rattle.report_text.specs.Refusal.{Refusal, out_of_memory, usage, input_fault, image_too_long, image_refused, image_misplaced, flm_refused, other_device, no_room}
+use Rattle.report_text.specs.Refusal.{Refusal, out_of_memory, usage, input_fault, image_too_long, image_refused, image_misplaced, flm_refused, other_device}
+use Rattle.report_text.specs.Refusal.{no_room}
 use Rattle.report_text.specs.Refusal.{board_refused, job_open, no_job, not_a_job, damaged, cells_differ, store_fault, device_fault, output_fault, call_failed}
 use Rattle.report_text.specs.Refusal.{mismatch, differs}
 

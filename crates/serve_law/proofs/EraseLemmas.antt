@@ -1,5 +1,6 @@
 -- EraseSector and EraseChip, by induction on the ticks left.
-use Rattle.std.proofs.Common.{◌≡◌, ◌+◌, ◌<◌, ◌≤◌, ◌^◌, ◌%◌, ℕ, zero, suc, Bool, true, false, List, [], ◌∷◌, ◌++◌, length, replicate, Option, Some, None, refl, sym, ap, subst, arith}
+use Rattle.std.proofs.Common.{◌≡◌, ◌+◌, ◌<◌, ◌≤◌, ◌^◌, ◌%◌, ℕ, zero, suc, Bool, true, false, List, [], ◌∷◌, ◌++◌, length, replicate, Option, Some, None, refl}
+use Rattle.std.proofs.Common.{sym, ap, subst, arith}
 use Rattle.bench_model.specs.Calls.{written}
 use Rattle.armv6m_step.specs.declared.core_state.Core.{Core}
 use Rattle.flm_descriptor.specs.Shape.{Range, range}
@@ -27,7 +28,8 @@ use Rattle.serve_law.proofs.Computed.{computed, after_in, answer_in, goes_by}
 use Rattle.serve_law.proofs.HomeLemmas.{IsHome}
 use Rattle.serve_law.proofs.GoesLemmas.{Goes, goes_then, all_idle, idle_goes, run_goes, step_goes, AllIn}
 use Rattle.serve_law.proofs.DoneLemmas.{IsDone, run_done}
-use Rattle.serve_law.proofs.Setup.{Given, a1_setup, a1_world, a1_area, a1_map, len_of, regs, resting, unlocked, IsQuick, sector_count, sector_fuel, chip_fuel, need}
+use Rattle.serve_law.proofs.Setup.{Given, a1_setup, a1_world, a1_area, a1_map, len_of, regs, resting, unlocked, IsQuick, sector_count, sector_fuel, chip_fuel}
+use Rattle.serve_law.proofs.Setup.{need}
 
 abbrev pub running : ℕ → ℕ → Work → ℕ → ℕ → UnitState
 running c a w place t = record (unlocked c a) { operation = Some (record { work = w; place = place; ticks = t }) }
@@ -46,7 +48,8 @@ erase_core g r0 r1 r2 n z pc = record {
   primask = false;
 }
 
-module _ (g : Given) (r : Option (ℕ × ℕ)) (r0 c a place : ℕ) (w : Work) (ram : List ℕ) (home : IsHome 0x20000000 ram) (lies : OpensIn r (Some (place, work_len w))) where
+module _ (g : Given) (r : Option (ℕ × ℕ)) (r0 c a place : ℕ) (w : Work) (ram : List ℕ) (home : IsHome 0x20000000 ram)
+    (lies : OpensIn r (Some (place, work_len w))) where
   -- before the load of the status
   abbrev pub waiting : ℕ → UnitState → List ℕ → Point
   waiting r2 st cells = record { core = erase_core g r0 1 r2 false false 0x20000046; world = a1_world g ram st cells }
@@ -62,7 +65,8 @@ module _ (g : Given) (r : Option (ℕ × ℕ)) (r0 c a place : ℕ) (w : Work) (
   wait_steps (suc (suc (suc zero))) = 3
   wait_steps (suc (suc (suc (suc t)))) = 3 + wait_steps (suc t)
 
-  more_goes : (t r2 : ℕ) (cells : List ℕ) → Goes r 3 (waiting r2 (running c a w place (suc (suc (suc (suc t))))) cells) (waiting 1 (running c a w place (suc t)) cells)
+  more_goes : (t r2 : ℕ) (cells : List ℕ) → Goes r 3 (waiting r2 (running c a w place (suc (suc (suc (suc t))))) cells)
+      (waiting 1 (running c a w place (suc t)) cells)
   unfolding computed AllIn
   more_goes t r2 cells = run_goes r 3 (waiting r2 (running c a w place (suc (suc (suc (suc t))))) cells) home refl (lies, lies, (lies, lies, (lies, lies, tt)))
 
@@ -124,7 +128,8 @@ module _ (g : Given) (r : Option (ℕ × ℕ)) (r0 c a place : ℕ) (w : Work) (
 
 -- a sector of the region
 module _ (g : Given) (x : Range) (c a : ℕ) (ram cells : List ℕ) (home : IsHome 0x20000000 (written 176 [] ram)) (quick : IsQuick g)
-    (is : sector_of (a1_area g ∷ []) (g.runs ++ []) (0x08000000 + x.start) ≡ Some (record { place = x.start; len = len_of x; empty = g.empty })) (ordered : x.start ≤ x.stop) where
+    (is : sector_of (a1_area g ∷ []) (g.runs ++ []) (0x08000000 + x.start) ≡ Some (record { place = x.start; len = len_of x; empty = g.empty }))
+    (ordered : x.start ≤ x.stop) where
   abbrev at : ℕ
   at = 0x08000000 + x.start
 
@@ -194,7 +199,8 @@ module _ (g : Given) (x : Range) (c a : ℕ) (ram cells : List ℕ) (home : IsHo
   sector_done = run_done (a1_setup g) start request r steps end refl enough runs refl refl _ refl refl
 
 -- the whole region
-module _ (g : Given) (c a : ℕ) (ram cells : List ℕ) (home : IsHome 0x20000000 (written 176 [] ram)) (quick : IsQuick g) (many : 0 < sector_count g) (full : length cells ≡ g.size) where
+module _ (g : Given) (c a : ℕ) (ram cells : List ℕ) (home : IsHome 0x20000000 (written 176 [] ram)) (quick : IsQuick g) (many : 0 < sector_count g)
+    (full : length cells ≡ g.size) where
   abbrev chip_request : Request
   chip_request = asked a_call.EraseChip []
 
@@ -224,12 +230,14 @@ module _ (g : Given) (c a : ℕ) (ram cells : List ℕ) (home : IsHome 0x2000000
   chip_end = returned g chip_place 0 3 0 0 chip_fill (written 176 [] ram) home chip_lies (written 0 (replicate g.size g.empty) cells)
 
   chip_runs : Goes chip_place chip_steps chip_first chip_end
-  chip_runs = goes_then chip_place 7 _ chip_first _ chip_end chip_begins (begun_goes g chip_place 0 3 0 0 chip_fill (written 176 [] ram) home chip_lies 3 g.chip_ticks cells)
+  chip_runs = goes_then chip_place 7 _ chip_first _ chip_end chip_begins
+      (begun_goes g chip_place 0 3 0 0 chip_fill (written 176 [] ram) home chip_lies 3 g.chip_ticks cells)
 
   chip_enough : chip_steps ≤ fuel_of (a1_setup g) a_call.EraseChip
   chip_enough = chip_fuel g chip_steps many
       (omega (arith, quick.chip, erase_bound g chip_place 0 3 0 0 chip_fill (written 176 [] ram) home chip_lies g.chip_ticks))
       (omega (arith, quick.chip_small, erase_bound g chip_place 0 3 0 0 chip_fill (written 176 [] ram) home chip_lies g.chip_ticks))
 
-  pub chip_done : IsDone (a1_setup g) chip_start chip_request chip_place (a1_world g (written 176 [] ram) (unlocked 3 0) (written 0 (replicate g.size g.empty) cells))
+  pub chip_done : IsDone (a1_setup g) chip_start chip_request chip_place
+      (a1_world g (written 176 [] ram) (unlocked 3 0) (written 0 (replicate g.size g.empty) cells))
   chip_done = run_done (a1_setup g) chip_start chip_request chip_place chip_steps chip_end refl chip_enough chip_runs refl refl _ refl refl

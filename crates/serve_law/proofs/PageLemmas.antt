@@ -1,5 +1,6 @@
 -- ProgramPage, by induction on the units.
-use Rattle.std.proofs.Common.{◌≡◌, ◌+◌, ◌-◌, ◌*◌, ◌<◌, ◌≤◌, ◌^◌, ◌%◌, ◌/◌, ℕ, zero, suc, Bool, true, false, nat_eq, nat_le, List, [], ◌∷◌, length, slice_index, All, Option, Some, None, Result, Ok, refl, sym, ap, subst, ◌∙◌, arith, ap₂}
+use Rattle.std.proofs.Common.{◌≡◌, ◌+◌, ◌-◌, ◌*◌, ◌<◌, ◌≤◌, ◌^◌, ◌%◌, ◌/◌, ℕ, zero, suc, Bool, true, false, nat_eq, nat_le, List, [], ◌∷◌, length, slice_index}
+use Rattle.std.proofs.Common.{All, Option, Some, None, Result, Ok, refl, sym, ap, subst, ◌∙◌, arith, ap₂}
 use Rattle.bench_model.specs.declared.bench_fault.BusEnd.{BusEnd}
 use Rattle.bench_model.specs.Calls.{written}
 use Rattle.armv6m_alu.specs.Sums.{sum_with_carry}
@@ -27,10 +28,12 @@ use Rattle.algo_calls.specs.Duties.{OpensIn}
 use Rattle.serve_law.proofs.Ranges.{span}
 use Rattle.serve_law.proofs.Computed.{computed}
 use Rattle.serve_law.proofs.GoesLemmas.{Goes, goes_then, all_idle, idle_goes, run_goes, AllIn}
-use Rattle.serve_law.proofs.StepLemmas.{word_at, gone, meaning_at, outcome_load, outcome_store, step_by, ram_loads, stored_here, stored_len, unit_stores, with_word}
+use Rattle.serve_law.proofs.StepLemmas.{word_at, gone, meaning_at, outcome_load, outcome_store, step_by, ram_loads, stored_here, stored_len, unit_stores}
+use Rattle.serve_law.proofs.StepLemmas.{with_word}
 use Rattle.serve_law.proofs.ListLemmas.{written_len, written_after, written_in, blank_two, put_all, put_all_is}
 use Rattle.serve_law.proofs.NumberLemmas.{difference_zero, difference_two, one_odd, sum_small}
-use Rattle.serve_law.proofs.FrameLemmas.{IsFrame, Held, held_from, flash_place, loads_word, outcome_stores, ram_words, ram_written, with_words, word_even, words_before}
+use Rattle.serve_law.proofs.FrameLemmas.{IsFrame, Held, held_from, flash_place, loads_word, outcome_stores, ram_words, ram_written, with_words, word_even}
+use Rattle.serve_law.proofs.FrameLemmas.{words_before}
 use Rattle.serve_law.proofs.DoneLemmas.{IsDone, run_done}
 use Rattle.serve_law.proofs.Setup.{Given, IsFit, IsQuick, IsRam, need, a1_setup, a1_world, a1_map, regs, resting, unlocked, top_is, top_whole, page_fuel}
 
@@ -85,40 +88,69 @@ module _ (g : Given) (r : Option (ℕ × ℕ)) (a low : ℕ) (ram : List ℕ) (f
     abbrev left : List ℕ → List ℕ
     left cells = written p (value % 0x100 ∷ value / 0x100 % 0x100 ∷ []) cells
 
-    polls : (d : Bool) (t r5 : ℕ) (n z : Bool) (cells : List ℕ) → (r5' : ℕ) × Goes r (poll_steps (suc t)) (polling r5 n z (busy a d value p (suc t)) cells) (polling r5' false false (ready a true) (left cells))
+    polls : (d : Bool) (t r5 : ℕ) (n z : Bool) (cells : List ℕ) →
+        (r5' : ℕ) × Goes r (poll_steps (suc t)) (polling r5 n z (busy a d value p (suc t)) cells) (polling r5' false false (ready a true) (left cells))
     unfolding poll_steps computed AllIn
     polls true zero r5 n z cells = (3, run_goes r 3 (polling r5 n z (busy a true value p 1) cells) frame.home refl (lies, lies, (tt, tt, (tt, tt, tt))))
     polls false zero r5 n z cells = (1, run_goes r 3 (polling r5 n z (busy a false value p 1) cells) frame.home refl (lies, lies, (tt, tt, (tt, tt, tt))))
-    polls true (suc zero) r5 n z cells = (3, run_goes r 3 (polling r5 n z (busy a true value p 2) cells) frame.home refl (lies, lies, (lies, lies, (tt, tt, tt))))
-    polls false (suc zero) r5 n z cells = (1, run_goes r 3 (polling r5 n z (busy a false value p 2) cells) frame.home refl (lies, lies, (lies, lies, (tt, tt, tt))))
-    polls true (suc (suc zero)) r5 n z cells = (3, run_goes r 3 (polling r5 n z (busy a true value p 3) cells) frame.home refl (lies, lies, (lies, lies, (lies, lies, tt))))
-    polls false (suc (suc zero)) r5 n z cells = (1, run_goes r 3 (polling r5 n z (busy a false value p 3) cells) frame.home refl (lies, lies, (lies, lies, (lies, lies, tt))))
+    polls true (suc zero) r5 n z cells = (
+      3,
+      run_goes r 3 (polling r5 n z (busy a true value p 2) cells) frame.home refl
+          (lies, lies, (lies, lies, (tt, tt, tt))),
+    )
+    polls false (suc zero) r5 n z cells = (
+      1,
+      run_goes r 3 (polling r5 n z (busy a false value p 2) cells) frame.home refl
+          (lies, lies, (lies, lies, (tt, tt, tt))),
+    )
+    polls true (suc (suc zero)) r5 n z cells = (
+      3,
+      run_goes r 3 (polling r5 n z (busy a true value p 3) cells) frame.home refl
+          (lies, lies, (lies, lies, (lies, lies, tt))),
+    )
+    polls false (suc (suc zero)) r5 n z cells = (
+      1,
+      run_goes r 3 (polling r5 n z (busy a false value p 3) cells) frame.home refl
+          (lies, lies, (lies, lies, (lies, lies, tt))),
+    )
     polls true (suc (suc (suc t))) r5 n z cells =
-        let rest : (r5' : ℕ) × Goes r (poll_steps (suc t)) (polling 3 false false (busy a true value p (suc t)) cells) (polling r5' false false (ready a true) (left cells)) = polls true t 3 false false cells in
-        (rest.0, goes_then r 3 (poll_steps (suc t)) _ _ _ (run_goes r 3 (polling r5 n z (busy a true value p (suc (suc (suc (suc t))))) cells) frame.home refl (lies, lies, (lies, lies, (lies, lies, tt)))) rest.1)
+        let rest : (r5' : ℕ) × Goes r (poll_steps (suc t)) (polling 3 false false (busy a true value p (suc t)) cells)
+        (polling r5' false false (ready a true) (left cells)) = polls true t 3 false false cells in (
+          rest.0,
+          goes_then r 3 (poll_steps (suc t)) _ _ _ (run_goes r 3 (polling r5 n z (busy a true value p (suc (suc (suc (suc t))))) cells) frame.home refl
+              (lies, lies, (lies, lies, (lies, lies, tt)))) rest.1,
+        )
     polls false (suc (suc (suc t))) r5 n z cells =
-        let rest : (r5' : ℕ) × Goes r (poll_steps (suc t)) (polling 1 false false (busy a false value p (suc t)) cells) (polling r5' false false (ready a true) (left cells)) = polls false t 1 false false cells in
-        (rest.0, goes_then r 3 (poll_steps (suc t)) _ _ _ (run_goes r 3 (polling r5 n z (busy a false value p (suc (suc (suc (suc t))))) cells) frame.home refl (lies, lies, (lies, lies, (lies, lies, tt)))) rest.1)
+        let rest : (r5' : ℕ) × Goes r (poll_steps (suc t)) (polling 1 false false (busy a false value p (suc t)) cells)
+        (polling r5' false false (ready a true) (left cells)) = polls false t 1 false false cells in (
+          rest.0,
+          goes_then r 3 (poll_steps (suc t)) _ _ _ (run_goes r 3 (polling r5 n z (busy a false value p (suc (suc (suc (suc t))))) cells) frame.home refl
+              (lies, lies, (lies, lies, (lies, lies, tt)))) rest.1,
+        )
 
     -- from the settled unit to the next
     settles : (r5 : ℕ) (n z : Bool) (cells : List ℕ) → Goes r 10 (polling r5 n z (ready a true) cells)
         (at_pc 0x20000064 (sum_with_carry r0 2 false).value (subtraction r1 2).value (sum_with_carry r2 2 false).value 0
-        (nat_le (2 ^ 31) (subtraction r1 2).value) (nat_eq (subtraction r1 2).value 0) (subtraction r1 2).carry (subtraction r1 2).overflow (ready a true) cells)
+        (nat_le (2 ^ 31) (subtraction r1 2).value) (nat_eq (subtraction r1 2).value 0) (subtraction r1 2).carry (subtraction r1 2).overflow
+        (ready a true) cells)
     unfolding computed all_idle
     settles r5 n z cells = idle_goes r 10 (polling r5 n z (ready a true) cells) frame.home refl refl
 
   -- the head of the loop, with so many bytes left
   heads : (r0 r1 r2 r5 : ℕ) (n z c v : Bool) (st : Bool) (cells : List ℕ) → Goes r 1 (at_pc 0x20000064 r0 r1 r2 r5 n z c v (ready a st) cells)
-      (at_pc 0x20000066 r0 r1 r2 r5 (nat_le (2 ^ 31) (subtraction r1 0).value) (nat_eq (subtraction r1 0).value 0) (subtraction r1 0).carry (subtraction r1 0).overflow (ready a st) cells)
+      (at_pc 0x20000066 r0 r1 r2 r5 (nat_le (2 ^ 31) (subtraction r1 0).value) (nat_eq (subtraction r1 0).value 0) (subtraction r1 0).carry
+      (subtraction r1 0).overflow (ready a st) cells)
   unfolding computed all_idle
   heads r0 r1 r2 r5 n z c v st cells = idle_goes r 1 (at_pc 0x20000064 r0 r1 r2 r5 n z c v (ready a st) cells) frame.home refl refl
 
-  falls : (r0 r1 r2 r5 : ℕ) (n c v : Bool) (st : Bool) (cells : List ℕ) → Goes r 1 (at_pc 0x20000066 r0 r1 r2 r5 n false c v (ready a st) cells) (at_pc 0x20000068 r0 r1 r2 r5 n false c v (ready a st) cells)
+  falls : (r0 r1 r2 r5 : ℕ) (n c v : Bool) (st : Bool) (cells : List ℕ) → Goes r 1 (at_pc 0x20000066 r0 r1 r2 r5 n false c v (ready a st) cells)
+      (at_pc 0x20000068 r0 r1 r2 r5 n false c v (ready a st) cells)
   unfolding computed all_idle
   falls r0 r1 r2 r5 n c v st cells = idle_goes r 1 (at_pc 0x20000066 r0 r1 r2 r5 n false c v (ready a st) cells) frame.home refl refl
 
   -- the load of a unit from the buffer
-  reads : (r0 r1 b r5 : ℕ) (n z c v st : Bool) (cells : List ℕ) → b % 2 ≡ 0 → b + 2 ≤ length ram → Goes r 1 (at_pc 0x20000068 r0 r1 (0x20000000 + b) r5 n z c v (ready a st) cells)
+  reads : (r0 r1 b r5 : ℕ) (n z c v st : Bool) (cells : List ℕ) → b % 2 ≡ 0 → b + 2 ≤ length ram →
+      Goes r 1 (at_pc 0x20000068 r0 r1 (0x20000000 + b) r5 n z c v (ready a st) cells)
       (at_pc 0x2000006A r0 r1 (0x20000000 + b) (value_at ram 2 b) n z c v (ready a st) cells)
   unfolding computed meaning_at outcome
   reads r0 r1 b r5 n z c v st cells even within =
@@ -134,16 +166,24 @@ module _ (g : Given) (r : Option (ℕ × ℕ)) (a low : ℕ) (ram : List ℕ) (f
       tt tt
 
   -- the store of a unit to the flash
-  flash_row : (d : Bool) (p value : ℕ) (cells : List ℕ) → p < g.size → all_are g.empty (cells_at cells p 2) ≡ true → store_row any_table (a1_map g) (ready a d) cells (0x08000000 + p) 2 value ≡ (Ok tt, busy a d value p g.program_ticks)
+  flash_row : (d : Bool) (p value : ℕ) (cells : List ℕ) → p < g.size → all_are g.empty (cells_at cells p 2) ≡ true →
+      store_row any_table (a1_map g) (ready a d) cells (0x08000000 + p) 2 value ≡ (Ok tt, busy a d value p g.program_ticks)
   unfolding store_row program
   flash_row d p value cells inside blank = ap (store_at any_table (a1_map g) (ready a d) cells 2 value) (flash_place g p 2 frame.flash inside) ∙ (rw blank refl)
 
-  flash_answer : (d : Bool) (p value : ℕ) (cells : List ℕ) → p < g.size → all_are g.empty (cells_at cells p 2) ≡ true → store_answer (a1_world g ram (ready a d) cells) 2 (0x08000000 + p) value None ≡ (Ok 0, a1_world g ram (busy a d value p g.program_ticks) cells)
-  flash_answer d p value cells inside blank = ap (λ (x : Result (Unit {0}) BusEnd × UnitState). (stored x.0, a1_world g ram x.1 cells)) (flash_row d p value cells inside blank)
+  flash_answer : (d : Bool) (p value : ℕ) (cells : List ℕ) → p < g.size → all_are g.empty (cells_at cells p 2) ≡ true →
+      store_answer (a1_world g ram (ready a d) cells) 2 (0x08000000 + p) value None ≡ (Ok 0, a1_world g ram (busy a d value p g.program_ticks) cells)
+  flash_answer d p value cells inside blank = ap (λ (x : Result (Unit {0}) BusEnd × UnitState). (stored x.0, a1_world g ram x.1 cells))
+      (flash_row d p value cells inside blank)
 
-  writes : (p r1 r2 value : ℕ) (n z c v d : Bool) (cells : List ℕ) → p % 2 ≡ 0 → p < g.size → value < 2 ^ 16 → all_are g.empty (cells_at cells p 2) ≡ true → OpensIn r (Some (p, 2))
+  writes : (p r1 r2 value : ℕ) (n z c v d : Bool) (cells : List ℕ) → p % 2 ≡ 0 → p < g.size → value < 2 ^ 16 → all_are g.empty (cells_at cells p 2) ≡ true →
+      OpensIn r (Some (p, 2))
       → Goes r 1 (at_pc 0x2000006A (0x08000000 + p) r1 r2 value n z c v (ready a d) cells)
-      (record { core = page_core low (0x08000000 + p) r1 r2 value n z c v 0x2000006C; world = world_tick (a1_world g ram (busy a d value p g.program_ticks) cells) })
+      (record {
+        core = page_core low (0x08000000 + p) r1 r2 value n z c v 0x2000006C;
+        world =
+            world_tick (a1_world g ram (busy a d value p g.program_ticks) cells);
+      })
   unfolding computed meaning_at outcome
   writes p r1 r2 value n z c v d cells even inside small blank lies =
       let q : Point = at_pc 0x2000006A (0x08000000 + p) r1 r2 value n z c v (ready a d) cells in
@@ -180,24 +220,30 @@ module _ (g : Given) (r : Option (ℕ × ℕ)) (a low : ℕ) (ram : List ℕ) (f
     unfolding computed meaning_at
     pop_means = refl
 
-    pop_does : outcome world_answer (meaning_at 0x2000008A here.core) here.core here.world ≡ gone (popped (word_at ram low) (word_at ram (low + 4)) 0x20000000) here.world
+    pop_does : outcome world_answer (meaning_at 0x2000008A here.core) here.core here.world ≡ gone (popped (word_at ram low) (word_at ram (low + 4)) 0x20000000)
+        here.world
     unfolding outcome moved
     pop_does =
         let e4 : (0x20000000 + low + 4) % 2 ^ 32 ≡ 0x20000000 + (low + 4) = omega (arith, frame.high, frame.home.short) in
         let e8 : (0x20000000 + low + 8) % 2 ^ 32 ≡ 0x20000000 + (low + 4 + 4) = omega (arith, frame.high, frame.home.short) in
         ap (λ (m : Meaning). outcome world_answer m here.core here.world) pop_means
         ∙ ap₂ (λ (j k : ℕ). outcome world_answer (pop_at (0x20000000 + low) j k) here.core here.world) e4 e8
-        ∙ outcome_load 4 (0x20000000 + low) (word_at ram low) _ here.core here.world (word_even low frame.whole) (loads_word here.world low refl (omega (arith, frame.high)))
-        ∙ outcome_load 4 (0x20000000 + (low + 4)) (word_at ram (low + 4)) _ here.core here.world (word_even (low + 4) (omega (arith, frame.whole))) (loads_word here.world (low + 4) refl (omega (arith, frame.high)))
-        ∙ outcome_load 4 (0x20000000 + (low + 4 + 4)) (word_at ram (low + 4 + 4)) _ here.core here.world (word_even (low + 4 + 4) (omega (arith, frame.whole))) (loads_word here.world (low + 4 + 4) refl (omega (arith, frame.high)))
-        ∙ ap (λ (u : ℕ). outcome world_answer (Gives (branch_exchange 0x2000008A (popped (word_at ram low) (word_at ram (low + 4)) 0x2000008A) u)) here.core here.world) frame.back
+        ∙ outcome_load 4 (0x20000000 + low) (word_at ram low) _ here.core here.world (word_even low frame.whole)
+        (loads_word here.world low refl (omega (arith, frame.high)))
+        ∙ outcome_load 4 (0x20000000 + (low + 4)) (word_at ram (low + 4)) _ here.core here.world (word_even (low + 4) (omega (arith, frame.whole)))
+        (loads_word here.world (low + 4) refl (omega (arith, frame.high)))
+        ∙ outcome_load 4 (0x20000000 + (low + 4 + 4)) (word_at ram (low + 4 + 4)) _ here.core here.world (word_even (low + 4 + 4) (omega (arith, frame.whole)))
+        (loads_word here.world (low + 4 + 4) refl (omega (arith, frame.high)))
+        ∙ ap (λ (u : ℕ). outcome world_answer (Gives (branch_exchange 0x2000008A (popped (word_at ram low) (word_at ram (low + 4)) 0x2000008A) u)) here.core
+        here.world) frame.back
 
     pops : Goes r 1 here (record { core = popped (word_at ram low) (word_at ram (low + 4)) 0x20000000; world = here.world })
     unfolding tick_row
     pops = step_by r here 0x2000008A (popped (word_at ram low) (word_at ram (low + 4)) 0x20000000) here.world refl frame.home refl pop_does tt tt
 
   -- from the head of the loop with no byte left
-  ends : (r0 r2 r5 : ℕ) (n z c v d : Bool) (cells : List ℕ) → Goes r 6 (at_pc 0x20000064 r0 0 r2 r5 n z c v (ready a d) cells) (here 0 0 r2 0x1E false false true false cells)
+  ends : (r0 r2 r5 : ℕ) (n z c v d : Bool) (cells : List ℕ) → Goes r 6 (at_pc 0x20000064 r0 0 r2 r5 n z c v (ready a d) cells)
+      (here 0 0 r2 0x1E false false true false cells)
   unfolding computed all_idle
   ends r0 r2 r5 n z c v true cells = idle_goes r 6 (at_pc 0x20000064 r0 0 r2 r5 n z c v (ready a true) cells) frame.home refl refl
   ends r0 r2 r5 n z c v false cells = idle_goes r 6 (at_pc 0x20000064 r0 0 r2 r5 n z c v (ready a false) cells) frame.home refl refl
@@ -212,7 +258,11 @@ module _ (g : Given) (r : Option (ℕ × ℕ)) (a low : ℕ) (ram : List ℕ) (f
 
   returns : (r0 r2 r5 : ℕ) (n z c v d : Bool) (cells : List ℕ) → Returns 7 (at_pc 0x20000064 r0 0 r2 r5 n z c v (ready a d) cells) cells
   returns r0 r2 r5 n z c v d cells = record {
-    last = record { core = popped 0 0 r2 0x1E false false true false cells (word_at ram low) (word_at ram (low + 4)) 0x20000000; world = a1_world g ram (unlocked 1 a) cells };
+    last = record {
+      core = popped 0 0 r2 0x1E false false true false cells (word_at ram low) (word_at ram (low + 4)) 0x20000000;
+      world =
+          a1_world g ram (unlocked 1 a) cells;
+    };
     goes = goes_then r 6 1 _ _ _ (ends r0 r2 r5 n z c v d cells) (pops 0 0 r2 0x1E false false true false cells);
     back = refl;
     success = refl;
@@ -221,7 +271,13 @@ module _ (g : Given) (r : Option (ℕ × ℕ)) (a low : ℕ) (ram : List ℕ) (f
 
   -- a part of a run before one that returns
   then_returns : (n m : ℕ) (p q : Point) (cells : List ℕ) → Goes r n p q → Returns m q cells → Returns (n + m) p cells
-  then_returns n m p q cells one two = record { last = two.last; goes = goes_then r n m p q two.last one two.goes; back = two.back; success = two.success; leaves = two.leaves }
+  then_returns n m p q cells one two = record {
+    last = two.last;
+    goes = goes_then r n m p q two.last one two.goes;
+    back = two.back;
+    success = two.success;
+    leaves = two.leaves;
+  }
 
   -- the units
   begun_steps : ℕ → ℕ
@@ -250,20 +306,31 @@ module _ (g : Given) (r : Option (ℕ × ℕ)) (a low : ℕ) (ram : List ℕ) (f
   -- a unit that was begun, to the head of the loop
   module _ (r1 b value p : ℕ) (n z c v : Bool) (lies : OpensIn r (Some (p, 2))) where
     abbrev begun : Bool → ℕ → List ℕ → Point
-    begun d t cells = record { core = page_core low (0x08000000 + p) r1 (0x20000000 + b) value n z c v 0x2000006C; world = world_tick (a1_world g ram (busy a d value p t) cells) }
+    begun d t cells = record {
+      core = page_core low (0x08000000 + p) r1 (0x20000000 + b) value n z c v 0x2000006C;
+      world =
+          world_tick (a1_world g ram (busy a d value p t) cells);
+    }
 
     abbrev next_head : List ℕ → Point
-    next_head cells = at_pc 0x20000064 (sum_with_carry (0x08000000 + p) 2 false).value (subtraction r1 2).value (sum_with_carry (0x20000000 + b) 2 false).value 0
+    next_head cells = at_pc 0x20000064 (sum_with_carry (0x08000000 + p) 2 false).value (subtraction r1 2).value (sum_with_carry (0x20000000 + b) 2 false).value
+        0
         (nat_le (2 ^ 31) (subtraction r1 2).value) (nat_eq (subtraction r1 2).value 0) (subtraction r1 2).carry (subtraction r1 2).overflow (ready a true) cells
 
-    begun_goes : (d : Bool) (t : ℕ) (cells : List ℕ) → Goes r (begun_steps t) (begun d t cells) (next_head (left (0x08000000 + p) r1 (0x20000000 + b) value p c v lies cells))
+    begun_goes : (d : Bool) (t : ℕ) (cells : List ℕ) → Goes r (begun_steps t) (begun d t cells)
+        (next_head (left (0x08000000 + p) r1 (0x20000000 + b) value p c v lies cells))
     unfolding begun_steps tick_row
-    begun_goes d zero cells = settles (0x08000000 + p) r1 (0x20000000 + b) value p c v lies value n z (left (0x08000000 + p) r1 (0x20000000 + b) value p c v lies cells)
-    begun_goes d (suc zero) cells = settles (0x08000000 + p) r1 (0x20000000 + b) value p c v lies value n z (left (0x08000000 + p) r1 (0x20000000 + b) value p c v lies cells)
+    begun_goes d zero cells = settles (0x08000000 + p) r1 (0x20000000 + b) value p c v lies value n z
+        (left (0x08000000 + p) r1 (0x20000000 + b) value p c v lies cells)
+    begun_goes d (suc zero) cells = settles (0x08000000 + p) r1 (0x20000000 + b) value p c v lies value n z
+        (left (0x08000000 + p) r1 (0x20000000 + b) value p c v lies cells)
     begun_goes d (suc (suc t)) cells =
-        let after : (r5' : ℕ) × Goes r (poll_steps (suc t)) (polling (0x08000000 + p) r1 (0x20000000 + b) value p c v lies value n z (busy a d value p (suc t)) cells) (polling (0x08000000 + p) r1 (0x20000000 + b) value p c v lies r5' false false (ready a true) (left (0x08000000 + p) r1 (0x20000000 + b) value p c v lies cells)) =
+        let after : (r5' : ℕ) × Goes r (poll_steps (suc t)) (polling (0x08000000 + p) r1 (0x20000000 + b) value p c v lies value n z
+        (busy a d value p (suc t)) cells) (polling (0x08000000 + p) r1 (0x20000000 + b) value p c v lies r5' false false (ready a true)
+        (left (0x08000000 + p) r1 (0x20000000 + b) value p c v lies cells)) =
         polls (0x08000000 + p) r1 (0x20000000 + b) value p c v lies d t value n z cells in
-        goes_then r (poll_steps (suc t)) 10 _ _ _ after.1 (settles (0x08000000 + p) r1 (0x20000000 + b) value p c v lies after.0 false false (left (0x08000000 + p) r1 (0x20000000 + b) value p c v lies cells))
+        goes_then r (poll_steps (suc t)) 10 _ _ _ after.1 (settles (0x08000000 + p) r1 (0x20000000 + b) value p c v lies after.0 false false
+        (left (0x08000000 + p) r1 (0x20000000 + b) value p c v lies cells))
 
 -- what a page needs before the rest of its bytes is programmed
 pub record Rest (g : Given) (x : Range) (ram : List ℕ) (p b : ℕ) (bytes cells : List ℕ) : Type 0 where
@@ -311,7 +378,8 @@ module _ (g : Given) (x : Range) (ram : List ℕ) (p b y z : ℕ) (bytes cells :
   unit_blank : all_are g.empty (cells_at cells p 2) ≡ true
   unit_blank = blank_two cells p g.empty put_fits (rest.blank p (omega arith) (omega arith)) (rest.blank (p + 1) (omega arith) (omega arith))
 
-same_unit : (p y w value : ℕ) (cells : List ℕ) → value ≡ y + 0x100 * w → y < 2 ^ 8 → w < 2 ^ 8 → written p (value % 0x100 ∷ value / 0x100 % 0x100 ∷ []) cells ≡ written p (y ∷ w ∷ []) cells
+same_unit : (p y w value : ℕ) (cells : List ℕ) → value ≡ y + 0x100 * w → y < 2 ^ 8 → w < 2 ^ 8 →
+    written p (value % 0x100 ∷ value / 0x100 % 0x100 ∷ []) cells ≡ written p (y ∷ w ∷ []) cells
 same_unit p y w value cells is first second =
     let low : value % 0x100 ≡ y = omega arith in
     let high : value / 0x100 % 0x100 ≡ w = omega arith in
@@ -325,7 +393,8 @@ module _ (g : Given) (x : Range) (a low : ℕ) (ram : List ℕ) (frame : IsFrame
   head p l b r5 n z c v d cells = at_pc g place a low ram frame 0x20000064 (0x08000000 + p) l (0x20000000 + b) r5 n z c v (ready a d) cells
 
   units : (bytes : List ℕ) (p b r5 : ℕ) (n z c v d : Bool) (cells : List ℕ) → Rest g x ram p b bytes cells
-      → Returns g place a low ram frame (unit_steps g place a low ram frame g.program_ticks (length bytes)) (head p (length bytes) b r5 n z c v d cells) (put_all p bytes cells)
+      → Returns g place a low ram frame (unit_steps g place a low ram frame g.program_ticks (length bytes)) (head p (length bytes) b r5 n z c v d cells)
+      (put_all p bytes cells)
   unfolding unit_steps put_all
   units [] p b r5 n z c v d cells rest = returns g place a low ram frame (0x08000000 + p) (0x20000000 + b) r5 n z c v d cells
   units (y ∷ []) p b r5 n z c v d cells rest = absurd (one_odd rest.even)
@@ -339,23 +408,29 @@ module _ (g : Given) (x : Range) (a low : ℕ) (ram : List ℕ) (frame : IsFrame
       let nf : Bool = nat_le (2 ^ 31) (subtraction r1 0).value in
       let cf : Bool = (subtraction r1 0).carry in
       let vf : Bool = (subtraction r1 0).overflow in
-      let one : Goes place 1 (head p r1 b r5 n z c v d cells) (at_pc g place a low ram frame 0x20000066 (0x08000000 + p) r1 (0x20000000 + b) r5 nf false cf vf (ready a d) cells) =
-      subst (λ (t : Bool). Goes place 1 (head p r1 b r5 n z c v d cells) (at_pc g place a low ram frame 0x20000066 (0x08000000 + p) r1 (0x20000000 + b) r5 nf t cf vf (ready a d) cells)) some
+      let one : Goes place 1 (head p r1 b r5 n z c v d cells)
+      (at_pc g place a low ram frame 0x20000066 (0x08000000 + p) r1 (0x20000000 + b) r5 nf false cf vf (ready a d) cells) =
+      subst (λ (t : Bool). Goes place 1 (head p r1 b r5 n z c v d cells)
+      (at_pc g place a low ram frame 0x20000066 (0x08000000 + p) r1 (0x20000000 + b) r5 nf t cf vf (ready a d) cells)) some
       (heads g place a low ram frame (0x08000000 + p) r1 (0x20000000 + b) r5 n z c v d cells) in
       let two = falls g place a low ram frame (0x08000000 + p) r1 (0x20000000 + b) r5 nf cf vf d cells in
       let three = reads g place a low ram frame (0x08000000 + p) r1 b r5 nf false cf vf d cells rest.buffer_even (omega (arith, rest.in_ram)) in
-      let four = writes g place a low ram frame p r1 (0x20000000 + b) value nf false cf vf d cells rest.place_even (omega (arith, rest.to, rest.in_area)) small (unit_blank g x ram p b y w bytes cells rest) lies in
+      let four = writes g place a low ram frame p r1 (0x20000000 + b) value nf false cf vf d cells rest.place_even (omega (arith, rest.to, rest.in_area)) small
+      (unit_blank g x ram p b y w bytes cells rest) lies in
       let five = begun_goes g place a low ram frame r1 b value p nf false cf vf lies d g.program_ticks cells in
-      let e0 : (sum_with_carry (0x08000000 + p) 2 false).value ≡ 0x08000000 + (p + 2) = sum_small (0x08000000 + p) 2 (omega (arith, frame.flash, rest.to, rest.in_area)) (omega arith) ∙ omega arith in
+      let e0 : (sum_with_carry (0x08000000 + p) 2 false).value ≡ 0x08000000 + (p + 2) =
+      sum_small (0x08000000 + p) 2 (omega (arith, frame.flash, rest.to, rest.in_area)) (omega arith) ∙ omega arith in
       let e1 : (subtraction r1 2).value ≡ l = difference_two l (omega (arith, rest.few)) in
-      let e2 : (sum_with_carry (0x20000000 + b) 2 false).value ≡ 0x20000000 + (b + 2) = sum_small (0x20000000 + b) 2 (omega (arith, frame.home.short, rest.in_ram)) (omega arith) ∙ omega arith in
+      let e2 : (sum_with_carry (0x20000000 + b) 2 false).value ≡ 0x20000000 + (b + 2) =
+      sum_small (0x20000000 + b) 2 (omega (arith, frame.home.short, rest.in_ram)) (omega arith) ∙ omega arith in
       let ec : written p (value % 0x100 ∷ value / 0x100 % 0x100 ∷ []) cells ≡ put g x ram p b y w bytes cells rest =
       same_unit p y w value cells (unit_is g x ram p b y w bytes cells rest) rest.held.1 rest.held.2.1 in
       let n2 : Bool = nat_le (2 ^ 31) (subtraction r1 2).value in
       let z2 : Bool = nat_eq (subtraction r1 2).value 0 in
       let c2 : Bool = (subtraction r1 2).carry in
       let v2 : Bool = (subtraction r1 2).overflow in
-      let next : next_head g place a low ram frame r1 b value p nf false cf vf lies (written p (value % 0x100 ∷ value / 0x100 % 0x100 ∷ []) cells) ≡ head (p + 2) l (b + 2) 0 n2 z2 c2 v2 true (put g x ram p b y w bytes cells rest) =
+      let next : next_head g place a low ram frame r1 b value p nf false cf vf lies (written p (value % 0x100 ∷ value / 0x100 % 0x100 ∷ []) cells) ≡ head
+      (p + 2) l (b + 2) 0 n2 z2 c2 v2 true (put g x ram p b y w bytes cells rest) =
       λ i. at_pc g place a low ram frame 0x20000064 (e0 i) (e1 i) (e2 i) 0 n2 z2 c2 v2 (ready a true) (ec i) in
       let more = units bytes (p + 2) (b + 2) 0 n2 z2 c2 v2 true (put g x ram p b y w bytes cells rest) (next_rest g x ram p b y w bytes cells rest) in
       then_returns g place a low ram frame 1 _ _ _ _ one
@@ -363,7 +438,8 @@ module _ (g : Given) (x : Range) (a low : ℕ) (ram : List ℕ) (frame : IsFrame
       (then_returns g place a low ram frame 1 _ _ _ _ three
       (then_returns g place a low ram frame 1 _ _ _ _ four
       (then_returns g place a low ram frame (begun_steps g place a low ram frame g.program_ticks) _ _ _ _ five
-      (subst (λ (q : Point). Returns g place a low ram frame (unit_steps g place a low ram frame g.program_ticks l) q (put_all (p + 2) bytes (put g x ram p b y w bytes cells rest))) (sym next) more)))))
+      (subst (λ (q : Point). Returns g place a low ram frame (unit_steps g place a low ram frame g.program_ticks l) q
+      (put_all (p + 2) bytes (put g x ram p b y w bytes cells rest))) (sym next) more)))))
 
 -- The call.
 
@@ -379,7 +455,8 @@ pub record PageFits (g : Given) (x : Range) (bytes cells : List ℕ) : Type 0 wh
   pub blank : (j : ℕ) → x.start ≤ j → j < x.stop → slice_index cells j ≡ g.empty
   pub small : All (λ v. v < 2 ^ 8) bytes
 
-module _ (g : Given) (x : Range) (bytes : List ℕ) (c a0 : ℕ) (ram cells : List ℕ) (is_ram : IsRam g ram) (fit : IsFit g) (quick : IsQuick g) (fits : PageFits g x bytes cells) where
+module _ (g : Given) (x : Range) (bytes : List ℕ) (c a0 : ℕ) (ram cells : List ℕ) (is_ram : IsRam g ram) (fit : IsFit g) (quick : IsQuick g)
+    (fits : PageFits g x bytes cells) where
   abbrev at : ℕ
   at = 0x08000000 + x.start
 
@@ -458,16 +535,21 @@ module _ (g : Given) (x : Range) (bytes : List ℕ) (c a0 : ℕ) (ram cells : Li
   abbrev push_at : ℕ → ℕ → ℕ → ℕ → Meaning
   push_at i j k low = store 4 i 0 (store 4 j 0 (store 4 k 0x20000001 (Gives (Ok (pushed low)))))
 
-  push_means : meaning_at 0x2000005C first.core ≡ push_at ((sp + 4294967284) % 2 ^ 32) (((sp + 4294967284) % 2 ^ 32 + 4) % 2 ^ 32) (((sp + 4294967284) % 2 ^ 32 + 8) % 2 ^ 32) ((sp + 4294967284) % 2 ^ 32 / 4 * 4)
+  push_means : meaning_at 0x2000005C first.core ≡ push_at ((sp + 4294967284) % 2 ^ 32) (((sp + 4294967284) % 2 ^ 32 + 4) % 2 ^ 32)
+      (((sp + 4294967284) % 2 ^ 32 + 8) % 2 ^ 32) ((sp + 4294967284) % 2 ^ 32 / 4 * 4)
   unfolding computed meaning_at first_point
   push_means = refl
 
-  push_does : outcome world_answer (meaning_at 0x2000005C first.core) first.core (a1_world g ram0 (unlocked c a0) cells) ≡ gone (pushed (0x20000000 + base)) (a1_world g ram3 (unlocked c a0) cells)
+  push_does : outcome world_answer (meaning_at 0x2000005C first.core) first.core (a1_world g ram0 (unlocked c a0) cells) ≡ gone (pushed (0x20000000 + base))
+      (a1_world g ram3 (unlocked c a0) cells)
   unfolding outcome
   push_does =
-      let down : (sp + 4294967284) % 2 ^ 32 ≡ 0x20000000 + base = ap (λ (n : ℕ). (n + 4294967284) % 2 ^ 32) (top_is g fit) ∙ omega (arith, fit.room, fit.ram_small, above) in
-      let e4 : ((sp + 4294967284) % 2 ^ 32 + 4) % 2 ^ 32 ≡ 0x20000000 + (base + 4) = ap (λ (n : ℕ). (n + 4) % 2 ^ 32) down ∙ omega (arith, ends_ram, fit.ram_small) in
-      let e8 : ((sp + 4294967284) % 2 ^ 32 + 8) % 2 ^ 32 ≡ 0x20000000 + (base + 4 + 4) = ap (λ (n : ℕ). (n + 8) % 2 ^ 32) down ∙ omega (arith, ends_ram, fit.ram_small) in
+      let down : (sp + 4294967284) % 2 ^ 32 ≡ 0x20000000 + base = ap (λ (n : ℕ). (n + 4294967284) % 2 ^ 32) (top_is g fit) ∙
+      omega (arith, fit.room, fit.ram_small, above) in
+      let e4 : ((sp + 4294967284) % 2 ^ 32 + 4) % 2 ^ 32 ≡ 0x20000000 + (base + 4) = ap (λ (n : ℕ). (n + 4) % 2 ^ 32) down ∙
+      omega (arith, ends_ram, fit.ram_small) in
+      let e8 : ((sp + 4294967284) % 2 ^ 32 + 8) % 2 ^ 32 ≡ 0x20000000 + (base + 4 + 4) = ap (λ (n : ℕ). (n + 8) % 2 ^ 32) down ∙
+      omega (arith, ends_ram, fit.ram_small) in
       let es : (sp + 4294967284) % 2 ^ 32 / 4 * 4 ≡ 0x20000000 + base = ap (λ (n : ℕ). n / 4 * 4) down ∙ omega (arith, whole) in
       let w : World = a1_world g ram0 (unlocked c a0) cells in
       ap (λ (m : Meaning). outcome world_answer m first.core w) push_means
@@ -522,4 +604,5 @@ module _ (g : Given) (x : Range) (bytes : List ℕ) (c a0 : ℕ) (ram cells : Li
   cells_are = put_all_is x.start bytes cells (omega (arith, fits.ends, fits.in_cells)) fits.even
 
   pub page_done : IsDone (a1_setup g) start request r (a1_world g ram3 (unlocked 1 a0) (written x.start bytes cells))
-  page_done = run_done (a1_setup g) start request r steps all.last refl enough runs all.back all.success _ (all.leaves ∙ ap (λ (l : List ℕ). a1_world g ram3 (unlocked 1 a0) l) cells_are) refl
+  page_done = run_done (a1_setup g) start request r steps all.last refl enough runs all.back all.success _
+      (all.leaves ∙ ap (λ (l : List ℕ). a1_world g ram3 (unlocked 1 a0) l) cells_are) refl

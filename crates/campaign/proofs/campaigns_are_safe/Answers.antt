@@ -1,3 +1,4 @@
+-- `campaigns_are_safe`: that it keeps its contract.
 use Rattle.campaign.proofs.CampaignLemmas as law
 use Rattle.campaign.proofs.campaigns_are_safe.Goals as goal
 

@@ -1,3 +1,4 @@
+-- `assemble`: its clauses `err` and `ok`, and what `write_code` asks for.
 use Rattle.std.proofs.Common.{List, subst, sym}
 use Rattle.std.specs.Prelude.{All, Contains}
 use Rattle.std.proofs.lemmas.Result.{err_from_is_err_and}
@@ -10,7 +11,8 @@ use Rattle.armv6m_asm.proofs.assembler.assemble.Goals as goal
 
 pub write_code-requires-clause-there : goal.write_code-requires-clause-there
 write_code-requires-clause-there c =
-    let there = subst (λ (ss : List Statement). All (Contains (names_of c.in_ok-labels.labels)) (targets_of ss)) c.as_slice-2.ensures.value c.in_ok-check_targets.ensures.ok in
+    let there = subst (λ (ss : List Statement). All (Contains (names_of c.in_ok-labels.labels)) (targets_of ss)) c.as_slice-2.ensures.value
+    c.in_ok-check_targets.ensures.ok in
     subst (λ (ss : List Statement). All (Contains (names_of c.in_ok-labels.labels)) (targets_of ss)) (sym c.as_slice-3.ensures.value) there
 
 pub returns-in_err-bytes-clause-err : goal.returns-in_err-bytes-clause-err

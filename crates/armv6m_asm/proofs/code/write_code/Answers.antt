@@ -1,3 +1,4 @@
+-- `write_code`: its clause `err`, that its loop keeps what it has to, what `add_operation` asks for, and that no number overflows.
 use Rattle.std.proofs.Common.{◌+◌, ℕ, subst, sym, arith}
 use Rattle.std.specs.Prelude.{Contains}
 use Rattle.std.proofs.lemmas.Result.{err_from_is_err_and}
@@ -13,7 +14,8 @@ pub returns-in_err-add_operation-clause-err : goal.returns-in_err-add_operation-
 returns-in_err-add_operation-clause-err c =
     let l = c.loop-statement in
     let p = err_from_is_err_and c.from_residual.result c.from_residual.ensures.1 in
-    rw (p.1, p.2) (written_fault c.args.labels.now c.args.statements.now l.statement-index l.place l.line nothing l.bytes.items c.in_err-add_operation.field-0.0 (omega arith) l.invariant c.in_err-add_operation.ensures.err)
+    rw (p.1, p.2) (written_fault c.args.labels.now c.args.statements.now l.statement-index l.place l.line nothing l.bytes.items c.in_err-add_operation.field-0.0
+    (omega arith) l.invariant c.in_err-add_operation.ensures.err)
 
 pub overflow_add-place : goal.overflow_add-place
 overflow_add-place c =
@@ -23,5 +25,7 @@ overflow_add-place c =
 pub loop-statement-preserved : goal.loop-statement-preserved
 loop-statement-preserved c =
     let l = c.loop-statement in
-    subst (λ (size : ℕ). HasWritten c.args.labels.now c.args.statements.now (l.statement-index + 1) (l.place + size) (l.line + 1) c.add_operation.new.bytes.items) (sym c.size-place.ensures)
-    (written_more c.args.labels.now c.args.statements.now l.statement-index l.place l.line nothing l.bytes.items c.add_operation.new.bytes.items (omega arith) l.invariant c.in_ok-add_operation.ensures.ok)
+    subst (λ (size : ℕ). HasWritten c.args.labels.now c.args.statements.now (l.statement-index + 1) (l.place + size)
+    (l.line + 1) c.add_operation.new.bytes.items) (sym c.size-place.ensures)
+    (written_more c.args.labels.now c.args.statements.now l.statement-index l.place l.line nothing l.bytes.items c.add_operation.new.bytes.items
+    (omega arith) l.invariant c.in_ok-add_operation.ensures.ok)

@@ -1,3 +1,4 @@
+-- `write_code`: what holds at each turn of its loop.
 use Rattle.armv6m_asm.proofs.Steps.{HasWritten}
 use Rattle.armv6m_asm.proofs.code.write_code.Given as goal
 

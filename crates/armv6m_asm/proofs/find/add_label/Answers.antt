@@ -1,3 +1,4 @@
+-- `add_label`: its clause `ok`.
 use Rattle.std.proofs.Common.{◌≡◌, ◌∙◌, ◌++◌, ◌∷◌, [], List, ℕ, ap, subst, sym}
 use Rattle.std.specs.Prelude.{Some, None, Option, is_some, false, MatchOption}
 use Rattle.std.specs.Borrow.{Bor}
@@ -17,4 +18,5 @@ returns-clause-ok c =
     let pushed = c.in_ok-push.ensures in
     let not = none_there c.get.result _ _ (sym c.is_some.ensures ∙ c.if-is_some.false) c.get.ensures.cases in
     subst (λ (o : Option (Bor (List ℕ))). AddsLabels c.args.labels.now c.push.new.self (label_at o c.args.place)) (sym c.in-Some.is)
-    (added_label c.args.labels.now c.push.new.self name c.args.place not (pushed ∙ ap (λ (n : List ℕ). c.args.labels.now ++ record { name = n; place = c.args.place } ∷ []) copied))
+    (added_label c.args.labels.now c.push.new.self name c.args.place not
+    (pushed ∙ ap (λ (n : List ℕ). c.args.labels.now ++ record { name = n; place = c.args.place } ∷ []) copied))

@@ -1,3 +1,4 @@
+-- `check_targets`: its clauses `err` and `ok`, and that its loop keeps what it has to.
 use Rattle.std.proofs.Common.{List, subst, arith}
 use Rattle.std.specs.Prelude.{Contains, All}
 use Rattle.std.proofs.lemmas.List.{take_all}
@@ -12,12 +13,15 @@ pub returns-in_err-check_target-clause-err : goal.returns-in_err-check_target-cl
 returns-in_err-check_target-clause-err c =
     let l = c.loop-statement in
     let p = err_from_is_err_and c.from_residual.result c.from_residual.ensures.1 in
-    rw (p.1, p.2) (target_fault c.args.statements.now l.statement-index nothing (names_of c.args.labels.now) c.in_err-check_target.field-0.0 (omega arith) l.invariant c.in_err-check_target.ensures.err)
+    rw (p.1, p.2) (target_fault c.args.statements.now l.statement-index nothing (names_of c.args.labels.now) c.in_err-check_target.field-0.0
+    (omega arith) l.invariant c.in_err-check_target.ensures.err)
 
 pub loop-statement-preserved : goal.loop-statement-preserved
 loop-statement-preserved c =
-    targets_more (Contains (names_of c.args.labels.now)) c.args.statements.now c.loop-statement.statement-index nothing (omega arith) c.loop-statement.invariant c.in_ok-check_target.ensures.ok
+    targets_more (Contains (names_of c.args.labels.now)) c.args.statements.now c.loop-statement.statement-index nothing (omega arith) c.loop-statement.invariant
+    c.in_ok-check_target.ensures.ok
 
 pub returns-clause-ok : goal.returns-clause-ok
 returns-clause-ok c =
-    subst (λ (ss : List Statement). All (Contains (names_of c.args.labels.now)) (targets_of ss)) (take_all c.loop-statement.statement-index c.args.statements.now (omega arith)) c.loop-statement.invariant
+    subst (λ (ss : List Statement). All (Contains (names_of c.args.labels.now)) (targets_of ss))
+    (take_all c.loop-statement.statement-index c.args.statements.now (omega arith)) c.loop-statement.invariant

@@ -1,3 +1,4 @@
+-- `check_targets`: what holds at each turn of its loop.
 use Rattle.std.proofs.Common.{take}
 use Rattle.std.specs.Prelude.{All, Contains}
 use Rattle.armv6m_asm.specs.Label.{names_of}

@@ -1,3 +1,4 @@
+-- `find_labels`: its clause `err`, that its loop keeps what it has to, and that no number overflows.
 use Rattle.std.proofs.Common.{◌+◌, ℕ, subst, sym, arith}
 use Rattle.std.proofs.lemmas.Result.{err_from_is_err_and}
 use Rattle.armv6m_asm.proofs.Steps.{HasFound, nothing, place_fits, found_more, found_fault}
@@ -7,7 +8,8 @@ pub returns-in_err-add_label-clause-err : goal.returns-in_err-add_label-clause-e
 returns-in_err-add_label-clause-err c =
     let l = c.loop-statement in
     let p = err_from_is_err_and c.from_residual.result c.from_residual.ensures.1 in
-    rw (p.1, p.2) (found_fault c.args.statements.now l.statement-index l.place nothing l.labels c.in_err-add_label.field-0.0 (omega arith) l.invariant c.in_err-add_label.ensures.err)
+    rw (p.1, p.2) (found_fault c.args.statements.now l.statement-index l.place nothing l.labels c.in_err-add_label.field-0.0
+    (omega arith) l.invariant c.in_err-add_label.ensures.err)
 
 pub overflow_add-place : goal.overflow_add-place
 overflow_add-place c =

@@ -1,3 +1,4 @@
+-- `find_labels`: what holds at each turn of its loop.
 use Rattle.armv6m_asm.proofs.Steps.{HasFound}
 use Rattle.armv6m_asm.proofs.find.find_labels.Given as goal
 

@@ -1,3 +1,4 @@
+-- `one_refusal`: its contract, `OneRefusal`.
 use Rattle.armv6m_asm.proofs.OutcomeLemmas.{one_refusal}
 use Rattle.armv6m_asm.proofs.law.one_refusal.Goals as goal
 

@@ -1,3 +1,4 @@
+-- `last_list`: that its loop keeps what it has to.
 use Rattle.std.proofs.Common.{sym, ◌∙◌}
 use Rattle.armv6m_asm.proofs.ListLemmas.{list_of-more}
 use Rattle.armv6m_asm.proofs.list.last_list.Goals as goal

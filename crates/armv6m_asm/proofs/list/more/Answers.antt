@@ -1,3 +1,4 @@
+-- `more`: that no number overflows.
 use Rattle.std.proofs.Common.{arith}
 use Rattle.armv6m_asm.proofs.ListLemmas.{fits_more, clear}
 use Rattle.armv6m_asm.proofs.list.more.Goals as goal

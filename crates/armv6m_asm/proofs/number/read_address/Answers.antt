@@ -1,3 +1,4 @@
+-- `read_address`: its contract, `IsAddress`.
 use Rattle.std.proofs.Common.{◌≡◌, ◌++◌, codes, rules}
 use Rattle.armv6m_asm.proofs.NumberLemmas.{address_of_digits}
 use Rattle.armv6m_asm.proofs.number.read_address.Goals as goal

@@ -1,3 +1,4 @@
+-- `read_digits`: its contract, `IsNumeral`.
 use Rattle.armv6m_asm.proofs.NumberLemmas.{IsUtf8-digits}
 use Rattle.armv6m_asm.proofs.number.read_digits.Goals as goal
 

@@ -1,3 +1,4 @@
+-- `read_operands`: its contract, `Spell`.
 use Rattle.armv6m_asm.proofs.OperandLemmas.{operands_exact}
 use Rattle.armv6m_asm.proofs.operands.read_operands.Goals as goal
 

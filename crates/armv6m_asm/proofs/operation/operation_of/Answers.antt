@@ -1,3 +1,4 @@
+-- `operation_of`: its contract, `AreOperation`.
 use Rattle.armv6m_asm.proofs.StatementLemmas.{no_operation}
 use Rattle.armv6m_asm.proofs.operation.operation_of.Goals as goal
 

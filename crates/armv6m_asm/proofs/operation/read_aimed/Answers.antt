@@ -1,3 +1,4 @@
+-- `read_aimed`: its contract, `AreAimed`.
 use Rattle.std.proofs.Common.{◌≡◌, ◌≢◌, codes, rules, ap, sym, ◌∙◌, ◌∷◌}
 use Rattle.armv6m_forms.specs.declared.form.Aim.{Aim}
 use Rattle.armv6m_asm.specs.Token.{word, tokens_of}

@@ -1,3 +1,4 @@
+-- `read_plain`: its contract, `ArePlain`.
 use Rattle.armv6m_asm.proofs.StatementLemmas.{plain_exact}
 use Rattle.armv6m_asm.proofs.operation.read_plain.Goals as goal
 

@@ -1,3 +1,4 @@
+-- `read_word`: its contract, `Are`.
 use Rattle.std.proofs.Common.{◌≡◌, codes, rules}
 use Rattle.armv6m_asm.proofs.StatementLemmas.{value_exact}
 use Rattle.armv6m_asm.proofs.operation.read_word.Goals as goal

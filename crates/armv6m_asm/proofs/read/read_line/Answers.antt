@@ -1,3 +1,4 @@
+-- `read_line`: its clause `usable`.
 use Rattle.armv6m_asm.proofs.UsableLemmas.{statement_usable}
 use Rattle.armv6m_asm.proofs.read.read_line.Goals as goal
 

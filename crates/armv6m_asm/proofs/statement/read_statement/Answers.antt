@@ -1,3 +1,4 @@
+-- `read_statement`: its contract, `IsStatement`.
 use Rattle.std.proofs.Common.{rules, sym, ◌∙◌}
 use Rattle.armv6m_asm.specs.Statement.{IsStatement}
 use Rattle.armv6m_asm.specs.declared.statement.Statement.{Statement}

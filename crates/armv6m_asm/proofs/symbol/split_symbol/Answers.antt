@@ -1,3 +1,4 @@
+-- `split_symbol`: its clause `split`.
 use Rattle.std.proofs.Common.{rules}
 use Rattle.armv6m_asm.specs.Reading.{symbols_of}
 use Rattle.armv6m_asm.proofs.symbol.split_symbol.Goals as goal

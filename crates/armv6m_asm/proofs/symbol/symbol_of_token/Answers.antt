@@ -1,3 +1,4 @@
+-- `symbol_of_token`: its clause `symbol`.
 use Rattle.std.proofs.Common.{rules}
 use Rattle.armv6m_asm.specs.Reading.{symbol_of}
 use Rattle.armv6m_asm.proofs.symbol.symbol_of_token.Goals as goal

@@ -1,3 +1,4 @@
+-- `symbol_of_word`: its clause `symbol`.
 use Rattle.std.proofs.Common.{sym, None}
 use Rattle.armv6m_asm.proofs.WordLemmas.{number_in-answer, register_of-none, special_of-none}
 use Rattle.armv6m_asm.proofs.SymbolLemmas.{symbol_of_number, symbol_of_register, symbol_of_special, symbol_of_interrupts, symbol_of_other}

@@ -1,3 +1,4 @@
+-- `is_name`: the value that it answers.
 use Rattle.std.proofs.Common.{sym, ◌∙◌, ◌&&◌, ◌||◌, ◌-◌, Bool, ap, length, take, drop}
 use Rattle.std.specs.List.{list_all}
 use Rattle.armv6m_asm.specs.Token.{is_letter, is_digit}

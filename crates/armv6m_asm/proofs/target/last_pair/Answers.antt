@@ -1,3 +1,4 @@
+-- `last_pair`: its contract, `Are`.
 use Rattle.std.proofs.Common.{rules, [], ◌∷◌, ℕ}
 use Rattle.armv6m_asm.specs.Token.{tokens_of}
 use Rattle.armv6m_asm.specs.Statement.{Are, low_register, comma, target}

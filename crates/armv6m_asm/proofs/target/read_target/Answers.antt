@@ -1,3 +1,4 @@
+-- `read_target`: that it keeps its contract.
 use Rattle.std.proofs.Common.{sym, ◌∙◌}
 use Rattle.armv6m_asm.proofs.StatementLemmas.{no_target}
 use Rattle.armv6m_asm.proofs.target.read_target.Goals as goal

@@ -1,3 +1,4 @@
+-- `split_low`: its contract, `Token`.
 use Rattle.armv6m_asm.proofs.StatementLemmas.{no_low}
 use Rattle.armv6m_asm.proofs.target.split_low.Goals as goal
 

@@ -1,3 +1,4 @@
+-- `split_token`: that it keeps its contract.
 use Rattle.std.proofs.Common.{◌∷◌, sym, ap, ◌∙◌, get_or}
 use Rattle.armv6m_asm.specs.Token.{mark, tokens_of}
 use Rattle.armv6m_asm.proofs.TokenLemmas.{tokens_of-empty, first_of_word, first_is_mark, first_begins_comment, lent_rest}
@@ -21,5 +22,6 @@ returns-then-is_of_word c =
 pub returns-else-is_of_word : goal.returns-else-is_of_word
 returns-else-is_of_word c =
     sym c.without_blanks-text.ensures.same
-    ∙ first_is_mark c.without_blanks-text.result.now c.in-len1-up.len_at_least c.if-byte-eq59.false c.without_blanks-text.ensures.first (sym c.is_of_word.ensures ∙ c.if-is_of_word.false)
+    ∙ first_is_mark c.without_blanks-text.result.now c.in-len1-up.len_at_least c.if-byte-eq59.false c.without_blanks-text.ensures.first
+    (sym c.is_of_word.ensures ∙ c.if-is_of_word.false)
     ∙ ap (λ (rest : _). mark (get_or c.without_blanks-text.result.now 0 0) ∷ tokens_of rest) (sym (lent_rest c.without_blanks-text.result.now 1))

@@ -1,3 +1,4 @@
+-- `without_blanks`: its clauses `same` and `first`.
 use Rattle.std.proofs.Common.{ap, ◌∙◌}
 use Rattle.armv6m_asm.specs.Token.{tokens_of}
 use Rattle.armv6m_asm.proofs.TokenLemmas.{tokens_of-blanks, first_behind_blanks, lent_rest}

@@ -1,3 +1,4 @@
+-- `bcc`: its contract, `Decoded`.
 use Rattle.std.proofs.Common.{◌≡◌, ◌∙◌, ap}
 use Rattle.armv6m_decode.specs.declared.condition.Condition.{Condition}
 use Rattle.armv6m_decode.specs.declared.instr.Branch.TheVariants.{Bcc}

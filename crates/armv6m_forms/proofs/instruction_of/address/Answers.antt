@@ -1,3 +1,4 @@
+-- `address`: its contract, `IsReadAt`.
 use Rattle.std.proofs.Common.{refl, arith, ◌<◌, ◌^◌}
 use Rattle.armv6m_forms.proofs.AimLemmas.{read_address, unread_address}
 use Rattle.armv6m_forms.proofs.instruction_of.address.Goals as goal

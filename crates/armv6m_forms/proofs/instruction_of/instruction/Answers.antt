@@ -1,3 +1,4 @@
+-- `instruction`: its contract, `StandsFor`.
 use Rattle.armv6m_forms.proofs.ReadLemmas.{as_written}
 use Rattle.armv6m_forms.proofs.instruction_of.instruction.Goals as goal
 

@@ -1,3 +1,4 @@
+-- `load`: its contract, `IsReadAt`.
 use Rattle.std.proofs.Common.{refl, arith, ◌<◌, ◌^◌}
 use Rattle.armv6m_forms.proofs.AimLemmas.{read_load, unread_load}
 use Rattle.armv6m_forms.proofs.instruction_of.load.Goals as goal

@@ -1,3 +1,4 @@
+-- `reach`: its contract, `HasNoInstruction`.
 use Rattle.armv6m_forms.proofs.AimLemmas.{as_aimed}
 use Rattle.armv6m_forms.proofs.instruction_of.reach.Goals as goal
 

@@ -1,3 +1,4 @@
+-- `by_offset`: its contract, `IsReadAs`.
 use Rattle.std.proofs.Common.{arith, refl, None}
 use Rattle.std.proofs.lemmas.Bool.Decides.{nat_tests}
 use Rattle.armv6m_forms.proofs.ReadLemmas.{read_by_offset, unread_by_offset}

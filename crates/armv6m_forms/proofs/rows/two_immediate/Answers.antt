@@ -1,3 +1,4 @@
+-- `two_immediate`: its contract, `IsReadAs`.
 use Rattle.std.proofs.Common.{arith, refl, None}
 use Rattle.std.proofs.lemmas.Bool.Decides.{nat_tests}
 use Rattle.armv6m_forms.proofs.ReadLemmas.{read_two_immediate, unread_two_immediate}

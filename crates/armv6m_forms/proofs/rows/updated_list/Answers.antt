@@ -1,3 +1,4 @@
+-- `updated_list`: its contract, `IsReadAs`.
 use Rattle.std.proofs.Common.{arith, refl, None}
 use Rattle.std.proofs.lemmas.Bool.Decides.{nat_tests}
 use Rattle.armv6m_decode.specs.declared.instr.Instr.TheVariants as instr

@@ -1,3 +1,4 @@
+-- `write_list`: what holds at each turn of its loop.
 use Rattle.std.proofs.Common.{◌≡◌, ◌++◌}
 use Rattle.std.specs.List.{join_by}
 use Rattle.armv6m_forms.specs.Text.{register_text, comma_text, listed_below}

@@ -1,3 +1,4 @@
+-- `write_plain`: its contract, `Plain`.
 use Rattle.std.proofs.Common.{refl}
 use Rattle.armv6m_forms.specs.Text.{form_text}
 use Rattle.armv6m_forms.proofs.WritingLemmas.{form_text-plain}
@@ -9,4 +10,11 @@ returns-in-None c = rw (c.in-None.is, c.put.ensures, c.text.ensures.text, c.requ
 
 pub returns-in_default : goal.returns-in_default
 returns-in_default c =
-    rw (form_text-plain c.args.mnemonic c.args.operands.now c.in_default.not-None, c.write_operands.ensures, c.put-in_default.ensures, c.put.ensures, c.text.ensures.text, c.requires.empty) refl
+    rw (
+      form_text-plain c.args.mnemonic c.args.operands.now c.in_default.not-None,
+      c.write_operands.ensures,
+      c.put-in_default.ensures,
+      c.put.ensures,
+      c.text.ensures.text,
+      c.requires.empty,
+    ) refl

@@ -1,3 +1,4 @@
+-- `write_register`: its clause `text`.
 use Rattle.std.proofs.Common.{append_assoc, refl}
 use Rattle.armv6m_forms.proofs.WritingLemmas.{numbered_register}
 use Rattle.armv6m_forms.proofs.text.write_register.Goals as goal

@@ -1,3 +1,4 @@
+-- `read_condition`: its clause `none`.
 use Rattle.std.proofs.Common.{◌∙◌, ap, arith}
 use Rattle.armv6m_decode.specs.Conditions.{condition_code}
 use Rattle.armv6m_decode.proofs.ConditionLemmas.{code_below, stands_at_its_code}

@@ -1,3 +1,4 @@
+-- `read_condition`: what holds at each turn of its loop.
 use Rattle.std.proofs.Common.{◌≢◌, ◌<◌, ℕ, get_or}
 use Rattle.armv6m_decode.specs.declared.condition.Condition.TheVariants.{Equal}
 use Rattle.armv6m_decode.specs.declared.condition.TheConstants.Condition.{ALL}

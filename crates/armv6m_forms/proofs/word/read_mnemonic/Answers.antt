@@ -1,3 +1,4 @@
+-- `read_mnemonic`: its clause `none`.
 use Rattle.std.proofs.Common.{◌∙◌, ap, arith}
 use Rattle.armv6m_forms.specs.Text.{text_of}
 use Rattle.armv6m_forms.proofs.TextLemmas.{stands}

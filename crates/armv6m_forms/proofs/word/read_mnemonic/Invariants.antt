@@ -1,3 +1,4 @@
+-- `read_mnemonic`: what holds at each turn of its loop.
 use Rattle.std.proofs.Common.{◌≢◌, ◌<◌, ℕ, get_or}
 use Rattle.armv6m_forms.specs.Text.{text_of}
 use Rattle.armv6m_forms.specs.declared.mnemonic.Mnemonic.TheVariants as mnemonic

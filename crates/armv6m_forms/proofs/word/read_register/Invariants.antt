@@ -1,3 +1,4 @@
+-- `read_register`: what holds at each turn of its loop.
 use Rattle.std.proofs.Common.{◌≢◌, ◌<◌, ℕ}
 use Rattle.armv6m_forms.specs.Text.{register_text}
 use Rattle.armv6m_forms.proofs.word.read_register.Given as goal

@@ -1,3 +1,4 @@
+-- `register_name`: its clause `text`.
 use Rattle.std.proofs.Common.{refl}
 use Rattle.std.specs.Fmt.{digits}
 use Rattle.armv6m_forms.specs.Text.{register_text}

@@ -1,3 +1,4 @@
+-- `put_clear`: what holds at each turn of its loop.
 use Rattle.std.proofs.Common.{◌≡◌, ◌<◌, ℕ, List, Bool, length, true, false, slice_index_or}
 use Rattle.std.specs.Prelude.{slice_index}
 use Rattle.bench_model.proofs.record.put_clear.Given as goal

@@ -1,3 +1,4 @@
+-- `cut_synced`: its clauses `ok` and `moments`.
 use Rattle.std.proofs.Common.{◌∙◌, sym}
 use Rattle.std.proofs.lemmas.Result.{on_ok_weaker}
 use Rattle.bench_model.proofs.Moments.{leaves_then_nothing}

@@ -1,3 +1,4 @@
+-- `write_synced`: its clause `moments`.
 use Rattle.std.proofs.Common.{length}
 use Rattle.bench_model.proofs.Moments.{leaves_then_nothing}
 use Rattle.bench_model.specs.State.{file_half}

@@ -1,3 +1,4 @@
+-- `table_list`: that it keeps its contract.
 use Rattle.std.proofs.Common.{◌≡◌, true, rules, sym}
 use Rattle.toml.specs.View.{items_view}
 use Rattle.board_file.specs.Text.{all_tables}

@@ -1,3 +1,4 @@
+-- `end_early`: what holds at each turn of its loop.
 use Rattle.std.proofs.Common.{◌≡◌, drop}
 use Rattle.std.specs.List.{list_any}
 use Rattle.board_file.specs.Limits.{ends_late}

@@ -1,3 +1,4 @@
+-- `limited`: what `quiet_ranges` asks for.
 use Rattle.std.proofs.Common.{◌≡◌, ◌≤◌, ◌+◌, false, None, rules}
 use Rattle.std.specs.List.{list_any}
 use Rattle.board_file.specs.Table.{addresses}

@@ -1,3 +1,4 @@
+-- `quiet_ranges`: what holds at each turn of its loop.
 use Rattle.std.proofs.Common.{◌≡◌, ◌++◌, drop, true}
 use Rattle.std.specs.List.{list_all}
 use Rattle.board_file.specs.Limits.{is_short}

@@ -1,3 +1,4 @@
+-- `with_quiet`: what holds at each turn of its loop.
 use Rattle.std.proofs.Common.{◌≡◌, ◌++◌, drop}
 use Rattle.board_file.specs.Limits.{quiet_parts}
 use Rattle.board_file.specs.Written.{quiets_shown}

@@ -1,3 +1,4 @@
+-- `quiet_ranges`: what holds at each turn of its loop.
 use Rattle.std.proofs.Common.{◌≡◌, drop}
 use Rattle.toml.specs.View.{items_view}
 use Rattle.board_file.specs.Text.{quiet_ranges}

@@ -1,3 +1,4 @@
+-- `cover`: its clause `ok`.
 use Rattle.byte_map.proofs.Grown.{lays_covered}
 use Rattle.byte_map.proofs.join.cover.Goals as goal
 

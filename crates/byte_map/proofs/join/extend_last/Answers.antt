@@ -1,3 +1,4 @@
+-- `extend_last`: its clause `ok`.
 use Rattle.std.proofs.Common.{ℕ, ◌-◌, ◌∙◌, ◌++◌, List, take, drop, refl, ap}
 use Rattle.byte_map.specs.Image.{Run, run_at}
 use Rattle.byte_map.proofs.Grown.{lays_last}
@@ -5,7 +6,8 @@ use Rattle.byte_map.proofs.join.extend_last.Goals as goal
 
 pub returns-clause-ok : goal.returns-clause-ok
 returns-clause-ok c =
-    lays_last (record { at = c.args.at; bytes = c.args.bytes.now }) c.args.runs.now c.remove.new.self c.args.first c.args.last c.requires.can c.requires.some c.requires.begins c.requires.ends
+    lays_last (record { at = c.args.at; bytes = c.args.bytes.now }) c.args.runs.now c.remove.new.self c.args.first c.args.last c.requires.can c.requires.some
+    c.requires.begins c.requires.ends
     c.get.result.now (run_at c.args.runs.now (c.args.last - 1)) _ (c.at.result - c.args.at) c.deref.result.now _ c.get.ensures refl
     (ap (λ (n : ℕ). n - c.args.at) c.at.ensures ∙ ap (λ (r : Run). r.at - c.args.at) c.get-2.ensures)
     (c.deref.ensures.value ∙ c.in_ok-front.ensures.items ∙ c.bytes_before.ensures)

@@ -1,3 +1,4 @@
+-- `join`: its clause `ok`, and what `extend_first` and `extend_last` ask for.
 use Rattle.std.proofs.Common.{◌≡◌, ◌-◌, ◌^◌, ℕ, ap, arith}
 use Rattle.byte_map.specs.Image.{Run, run_at, end_of}
 use Rattle.byte_map.proofs.Runs.{rising, at_rises, end_rises}
@@ -11,7 +12,8 @@ returns-in-true-true-clause-ok c =
     let end = ap (λ (r : Run). end_of r) c.get-2.ensures in
     let one : c.args.last - 1 ≡ c.args.first = omega arith in
     let same = ap (λ (k : ℕ). end_of (run_at runs k)) one in
-    lays_nothing _ runs c.args.first c.args.last c.requires (omega arith) (omega (arith, at, c.at-front.ensures)) (omega (arith, end, same, c.end-back.ensures.end))
+    lays_nothing _ runs c.args.first c.args.last c.requires (omega arith) (omega (arith, at, c.at-front.ensures))
+    (omega (arith, end, same, c.end-back.ensures.end))
 
 pub extend_first-requires-clause-ends : goal.extend_first-requires-clause-ends
 extend_first-requires-clause-ends c =
@@ -30,13 +32,15 @@ extend_last-requires-clause-begins c =
 pub extend_first-requires-in-true-false-clause-ends : goal.extend_first-requires-in-true-false-clause-ends
 extend_first-requires-in-true-false-clause-ends c =
     let touch = c.requires.touches in
-    let up = end_rises (2 ^ 32) c.args.runs.now c.args.first (c.args.last - 1) c.requires.maximal (omega (arith, touch.ordered)) (omega (arith, touch.ordered, touch.within)) in
+    let up = end_rises (2 ^ 32) c.args.runs.now c.args.first (c.args.last - 1) c.requires.maximal (omega (arith, touch.ordered))
+    (omega (arith, touch.ordered, touch.within)) in
     let end = ap (λ (r : Run). end_of r) c.get-2.ensures in
     omega (arith, up, end, c.end-back.ensures.end)
 
 pub extend_last-requires-in-false-true-clause-begins : goal.extend_last-requires-in-false-true-clause-begins
 extend_last-requires-in-false-true-clause-begins c =
     let touch = c.requires.touches in
-    let up = at_rises (2 ^ 32) c.args.runs.now c.args.first (c.args.last - 1) c.requires.maximal (omega (arith, touch.ordered)) (omega (arith, touch.ordered, touch.within)) in
+    let up = at_rises (2 ^ 32) c.args.runs.now c.args.first (c.args.last - 1) c.requires.maximal (omega (arith, touch.ordered))
+    (omega (arith, touch.ordered, touch.within)) in
     let at = ap (λ (r : Run). r.at) c.get.ensures in
     omega (arith, up, at, c.at-front.ensures)

@@ -1,3 +1,4 @@
+-- `+ending_below`: its contract, `IsCut`.
 use Rattle.std.proofs.Common.{◌≡◌, ◌≤◌, ◌-◌, ◌^◌, ◌∙◌, ℕ, [], ◌++◌, length, arith, rules, subst, ap}
 use Rattle.std.proofs.lemmas.List.{get_or_default}
 use Rattle.byte_map.specs.Image.{Run, run_at, end_of, AreMaximal}
@@ -14,7 +15,8 @@ returns-then-is_empty t c =
     let rises = λ (i j : ℕ). end_rises (2 ^ 32) runs i j (subst (AreMaximal 0 (2 ^ 32)) is c.requires) in
     let none : length node.chunk.items ≡ 0 = search rules in
     recut (λ (r : Run). end_of r) runs (runs_of c.args.side.now) c.args.address _ _ is (omega arith)
-    (cut_empty (λ (r : Run). end_of r) (runs_of node.left) node.chunk.items (runs_of node.right) c.args.address c.ending_below.result c.ending_below-then-is_empty.result rises none c.ending_below.ensures c.ending_below-then-is_empty.ensures)
+    (cut_empty (λ (r : Run). end_of r) (runs_of node.left) node.chunk.items (runs_of node.right) c.args.address c.ending_below.result
+    c.ending_below-then-is_empty.result rises none c.ending_below.ensures c.ending_below-then-is_empty.ensures)
 
 pub returns-then-end-address : goal.returns-then-end-address
 returns-then-end-address t c =
@@ -25,9 +27,11 @@ returns-then-end-address t c =
     let some : 1 ≤ length node.chunk.items = search rules in
     let len_is : c.len.result ≡ length node.chunk.items = search rules in
     let last : c.index.result.now ≡ run_at node.chunk.items (length node.chunk.items - 1) =
-    c.index.ensures ∙ get_or_default node.chunk.items (c.len.result - 1) _ (record { at = 0; bytes = [] }) (omega (arith, some, len_is)) ∙ ap (λ (n : ℕ). run_at node.chunk.items (n - 1)) len_is in
+    c.index.ensures ∙ get_or_default node.chunk.items (c.len.result - 1) _ (record { at = 0; bytes = [] }) (omega (arith, some, len_is)) ∙
+    ap (λ (n : ℕ). run_at node.chunk.items (n - 1)) len_is in
     recut (λ (r : Run). end_of r) runs (runs_of c.args.side.now) c.args.address _ _ is (omega (arith, c.count_of.ensures, c.deref-in-Some.invariant))
-    (cut_behind (λ (r : Run). end_of r) (runs_of node.left) node.chunk.items (runs_of node.right) c.args.address c.ending_below-then-end-address.result rises some (omega (arith, c.end.ensures.end, ap (λ (r : Run). end_of r) last)) c.ending_below-then-end-address.ensures)
+    (cut_behind (λ (r : Run). end_of r) (runs_of node.left) node.chunk.items (runs_of node.right) c.args.address c.ending_below-then-end-address.result rises
+    some (omega (arith, c.end.ensures.end, ap (λ (r : Run). end_of r) last)) c.ending_below-then-end-address.ensures)
 
 pub returns-then-address-end : goal.returns-then-address-end
 returns-then-address-end t c =
@@ -36,9 +40,11 @@ returns-then-address-end t c =
     let is : runs_of c.args.side.now ≡ runs = search rules in
     let rises = λ (i j : ℕ). end_rises (2 ^ 32) runs i j (subst (AreMaximal 0 (2 ^ 32)) is c.requires) in
     let some : 1 ≤ length node.chunk.items = search rules in
-    let first : c.index-else-end-address.result.now ≡ run_at node.chunk.items 0 = c.index-else-end-address.ensures ∙ get_or_default node.chunk.items 0 _ (record { at = 0; bytes = [] }) (omega (arith, some)) in
+    let first : c.index-else-end-address.result.now ≡ run_at node.chunk.items 0 = c.index-else-end-address.ensures ∙
+    get_or_default node.chunk.items 0 _ (record { at = 0; bytes = [] }) (omega (arith, some)) in
     recut (λ (r : Run). end_of r) runs (runs_of c.args.side.now) c.args.address _ _ is (omega arith)
-    (cut_before (λ (r : Run). end_of r) (runs_of node.left) node.chunk.items (runs_of node.right) c.args.address c.ending_below-then-address-end.result rises some (omega (arith, c.end-else-end-address.ensures.end, ap (λ (r : Run). end_of r) first)) c.ending_below-then-address-end.ensures)
+    (cut_before (λ (r : Run). end_of r) (runs_of node.left) node.chunk.items (runs_of node.right) c.args.address c.ending_below-then-address-end.result rises
+    some (omega (arith, c.end-else-end-address.ensures.end, ap (λ (r : Run). end_of r) first)) c.ending_below-then-address-end.ensures)
 
 pub returns-else-address-end : goal.returns-else-address-end
 returns-else-address-end t c =
@@ -49,9 +55,14 @@ returns-else-address-end t c =
     let some : 1 ≤ length node.chunk.items = search rules in
     let len_is : c.len.result ≡ length node.chunk.items = search rules in
     let last : c.index.result.now ≡ run_at node.chunk.items (length node.chunk.items - 1) =
-    c.index.ensures ∙ get_or_default node.chunk.items (c.len.result - 1) _ (record { at = 0; bytes = [] }) (omega (arith, some, len_is)) ∙ ap (λ (n : ℕ). run_at node.chunk.items (n - 1)) len_is in
-    let first : c.index-else-end-address.result.now ≡ run_at node.chunk.items 0 = c.index-else-end-address.ensures ∙ get_or_default node.chunk.items 0 _ (record { at = 0; bytes = [] }) (omega (arith, some)) in
+    c.index.ensures ∙ get_or_default node.chunk.items (c.len.result - 1) _ (record { at = 0; bytes = [] }) (omega (arith, some, len_is)) ∙
+    ap (λ (n : ℕ). run_at node.chunk.items (n - 1)) len_is in
+    let first : c.index-else-end-address.result.now ≡ run_at node.chunk.items 0 = c.index-else-end-address.ensures ∙
+    get_or_default node.chunk.items 0 _ (record { at = 0; bytes = [] }) (omega (arith, some)) in
     let same : c.deref-else-address-end.result.now ≡ node.chunk.items = c.deref-else-address-end.ensures.value in
-    let cut = cut_of (λ (r : Run). end_of r) node.chunk.items c.deref-else-address-end.result.now c.args.address c.ending_in.result same c.ending_in.ensures.within c.ending_in.ensures.below c.ending_in.ensures.others in
+    let cut = cut_of (λ (r : Run). end_of r) node.chunk.items c.deref-else-address-end.result.now c.args.address c.ending_in.result same
+    c.ending_in.ensures.within c.ending_in.ensures.below c.ending_in.ensures.others in
     recut (λ (r : Run). end_of r) runs (runs_of c.args.side.now) c.args.address _ _ is (search rules)
-    (cut_within (λ (r : Run). end_of r) (runs_of node.left) node.chunk.items (runs_of node.right) c.args.address c.ending_in.result rises some (omega (arith, c.end-else-end-address.ensures.end, ap (λ (r : Run). end_of r) first)) (omega (arith, c.end.ensures.end, ap (λ (r : Run). end_of r) last)) cut)
+    (cut_within (λ (r : Run). end_of r) (runs_of node.left) node.chunk.items (runs_of node.right) c.args.address c.ending_in.result rises some
+    (omega (arith, c.end-else-end-address.ensures.end, ap (λ (r : Run). end_of r) first))
+    (omega (arith, c.end.ensures.end, ap (λ (r : Run). end_of r) last)) cut)

@@ -1,3 +1,4 @@
+-- `+insert`: its clause `ok`.
 use Rattle.std.proofs.Common.{◌≡◌, ◌-◌, ◌∙◌, ℕ, List, [], ◌∷◌, ◌++◌, length, arith, rules, sym, ap, append_assoc}
 use Rattle.byte_map.specs.Image.{Run}
 use Rattle.byte_map.specs.Tree.{runs_of, put_in}
@@ -13,7 +14,9 @@ returns-then-len-place-clause-ok t c =
     let len : c.len-len.result ≡ length n.chunk.items = search rules in
     c.settle-then-len-place.ensures
     ∙ ap (λ (rs : List Run). runs_of n.left ++ (n.chunk.items ++ rs)) c.in_ok-added-2.ensures.ok
-    ∙ ap (λ (k : ℕ). runs_of n.left ++ (n.chunk.items ++ put_in (runs_of n.right) k new)) (let is : c.args.index - c.count_of-before.result - c.len-len.result ≡ c.args.index - length (runs_of n.left) - length n.chunk.items = omega (arith, before, len) in is)
+    ∙ ap (λ (k : ℕ). runs_of n.left ++ (n.chunk.items ++ put_in (runs_of n.right) k new))
+    (let is : c.args.index - c.count_of-before.result - c.len-len.result ≡ c.args.index - length (runs_of n.left) - length n.chunk.items =
+    omega (arith, before, len) in is)
     ∙ sym (put_third (runs_of n.left) n.chunk.items (runs_of n.right) new c.args.index (omega (arith, before)) (omega (arith, before, len)))
     ∙ ap (λ (rs : List Run). put_in rs c.args.index new) whole
 
@@ -30,6 +33,7 @@ returns-clause-ok t c =
     ∙ ap (λ (rs : List Run). runs_of n.left ++ (chunk ++ rs)) behind
     ∙ ap (λ (rs : List Run). runs_of n.left ++ rs) (sym (append_assoc chunk (runs_of c.in_ok-rest.rest) (runs_of n.right)))
     ∙ ap (λ (rs : List Run). runs_of n.left ++ (rs ++ runs_of n.right)) (sym c.in_ok-rest.ensures.ok)
-    ∙ ap (λ (k : ℕ). runs_of n.left ++ (put_in n.chunk.items k new ++ runs_of n.right)) (let is : c.args.index - c.count_of-before.result ≡ c.args.index - length (runs_of n.left) = omega (arith, before) in is)
+    ∙ ap (λ (k : ℕ). runs_of n.left ++ (put_in n.chunk.items k new ++ runs_of n.right))
+    (let is : c.args.index - c.count_of-before.result ≡ c.args.index - length (runs_of n.left) = omega (arith, before) in is)
     ∙ sym (put_second (runs_of n.left) n.chunk.items (runs_of n.right) new c.args.index (omega (arith, before)) (omega (arith, before, len)))
     ∙ ap (λ (rs : List Run). put_in rs c.args.index new) whole

@@ -13,12 +13,14 @@ new-requires c =
     omega (arith, long)
 
 pub demo_run-requires : goal.demo_run-requires
-demo_run-requires c = fresh_of c.args.seed c.in_ok-bench.bench c.in_ok-bench.ensures.made (c.deref.ensures.value ∙ c.in_ok-cells.ensures) refl c.in_ok-bench.ensures.rest
+demo_run-requires c = fresh_of c.args.seed c.in_ok-bench.bench c.in_ok-bench.ensures.made (c.deref.ensures.value ∙ c.in_ok-cells.ensures) refl
+    c.in_ok-bench.ensures.rest
 
 pub returns : goal.returns
 returns c =
     let cells = c.deref.ensures.value ∙ c.in_ok-cells.ensures in
     let made = c.in_ok-bench.ensures.made ∙ ap (λ (l : List ℕ). made_bench l [] 4194304 400000 [] [] []) cells in
-    let fresh = fresh_of c.args.seed c.in_ok-bench.bench c.in_ok-bench.ensures.made (c.deref.ensures.value ∙ c.in_ok-cells.ensures) refl c.in_ok-bench.ensures.rest in
+    let fresh = fresh_of c.args.seed c.in_ok-bench.bench c.in_ok-bench.ensures.made (c.deref.ensures.value ∙ c.in_ok-cells.ensures) refl
+    c.in_ok-bench.ensures.rest in
     if_ok (Shows c.args.seed c.in_ok-bench.bench) (IsShown c.args.seed) c.demo_run.result
     (λ demo shows. record { fresh = c.in_ok-bench.bench; is_made = made; is_fresh = fresh; shows = shows }) c.demo_run.ensures

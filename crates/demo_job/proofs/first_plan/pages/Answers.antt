@@ -14,8 +14,10 @@ loop-index-preserved c =
     let more = count_more n member (member n) refl in
     record {
       count = elim c.if-page_in.branch [
-        | then-page_in w ↦ (let one = ap (λ (b : Bool). let r : ℕ = cond b 1 0 in r) (sym c.page_in.ensures ∙ w.if-page_in.true) in omega (arith, more, one, w.count-is, c.loop-index.invariant.count))
-        | else-page_in w ↦ (let one = ap (λ (b : Bool). let r : ℕ = cond b 1 0 in r) (sym c.page_in.ensures ∙ w.if-page_in.false) in omega (arith, more, one, w.count-is, c.loop-index.invariant.count))
+        | then-page_in w ↦ (let one = ap (λ (b : Bool). let r : ℕ = cond b 1 0 in r) (sym c.page_in.ensures ∙ w.if-page_in.true) in
+            omega (arith, more, one, w.count-is, c.loop-index.invariant.count))
+        | else-page_in w ↦ (let one = ap (λ (b : Bool). let r : ℕ = cond b 1 0 in r) (sym c.page_in.ensures ∙ w.if-page_in.false) in
+            omega (arith, more, one, w.count-is, c.loop-index.invariant.count))
       ];
       few = elim c.if-page_in.branch [ then-page_in w ↦ omega arith | else-page_in w ↦ omega arith ];
     }

@@ -14,8 +14,10 @@ loop-index-preserved c =
     let more = count_more n member (member n) refl in
     record {
       count = elim c.if-sector_in.branch [
-        | then-sector_in w ↦ (let one = ap (λ (b : Bool). let r : ℕ = cond b 1 0 in r) (sym c.sector_in.ensures ∙ w.if-sector_in.true) in omega (arith, more, one, w.count-is, c.loop-index.invariant.count))
-        | else-sector_in w ↦ (let one = ap (λ (b : Bool). let r : ℕ = cond b 1 0 in r) (sym c.sector_in.ensures ∙ w.if-sector_in.false) in omega (arith, more, one, w.count-is, c.loop-index.invariant.count))
+        | then-sector_in w ↦ (let one = ap (λ (b : Bool). let r : ℕ = cond b 1 0 in r) (sym c.sector_in.ensures ∙ w.if-sector_in.true) in
+            omega (arith, more, one, w.count-is, c.loop-index.invariant.count))
+        | else-sector_in w ↦ (let one = ap (λ (b : Bool). let r : ℕ = cond b 1 0 in r) (sym c.sector_in.ensures ∙ w.if-sector_in.false) in
+            omega (arith, more, one, w.count-is, c.loop-index.invariant.count))
       ];
       few = elim c.if-sector_in.branch [ then-sector_in w ↦ omega arith | else-sector_in w ↦ omega arith ];
     }

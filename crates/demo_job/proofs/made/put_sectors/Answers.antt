@@ -8,7 +8,9 @@ loop-sector-init c = record { bytes = begin_sectors c.args.cells.now.items c.arg
 
 pub loop-sector-preserved : goal.loop-sector-preserved
 loop-sector-preserved c = record {
-  bytes = more_sectors c.loop-sector._sector c.args.draws.now.state c.loop-sector.draws.state c.args.cells.now.items c.loop-sector.cells.items c.put_sector.new.cells.items
+  bytes = more_sectors c.loop-sector._sector c.args.draws.now.state c.loop-sector.draws.state c.args.cells.now.items c.loop-sector.cells.items
+      c.put_sector.new.cells.items
       c.loop-sector.invariant.state c.loop-sector.invariant.bytes c.in_ok-put_sector.ensures.bytes;
-  state = more_after c.loop-sector._sector c.args.draws.now.state c.loop-sector.draws.state c.put_sector.new.draws.state c.loop-sector.invariant.state c.in_ok-put_sector.ensures.state;
+  state = more_after c.loop-sector._sector c.args.draws.now.state c.loop-sector.draws.state c.put_sector.new.draws.state c.loop-sector.invariant.state
+      c.in_ok-put_sector.ensures.state;
 }

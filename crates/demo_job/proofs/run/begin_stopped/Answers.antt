@@ -1,12 +1,12 @@
 -- `begin_stopped`: its contract, `BeginsOver`, and what `begin_job` asks for.
-use Rattle.std.proofs.Common.{◌∙◌, sym, subst, List, [], ◌∷◌, IsTrue}
+use Rattle.std.proofs.Common.{◌∙◌, sym, subst, List, [], ◌∷◌}
 use Rattle.bench_model.specs.Stopped.{stopped}
 use Rattle.byte_map.specs.Image.{Run}
 use Rattle.job_text.specs.Fits.{Suits}
 use Rattle.command_answers.specs.Answered.{IsOf}
 use Rattle.command_answers.specs.Call.{bench_call, Answer}
 use Rattle.job_commands.specs.Steps.{BeginsParts, BenchCounted, has_work}
-use Rattle.demo_job.specs.Run.{silence, answer_in}
+use Rattle.demo_job.specs.Run.{silence}
 use Rattle.demo_job.specs.Scene.{target_of}
 use Rattle.demo_job.proofs.PlanLemmas.{board_size}
 use Rattle.demo_job.proofs.RunLemmas.{parts_of}
@@ -39,7 +39,9 @@ returns g c =
         size = sym c.parts.ensures.size;
         all = c.parts.ensures.size ∙ scene.size;
       };
-      begins = λ told. subst (λ (a : Answer). BeginsParts (bench_call g.B.Bench.tells first begun) silence c.parts.result a) (sym c.refusal_of-refusal.ensures) (c.begin_job.ensures.told told);
+      begins = λ told. subst (λ (a : Answer). BeginsParts (bench_call g.B.Bench.tells first begun) silence c.parts.result a) (sym c.refusal_of-refusal.ensures)
+          (c.begin_job.ensures.told told);
       kind = subst (λ (a : Answer). IsOf has_work a) (sym c.refusal_of-refusal.ensures) c.begin_job.ensures.kind;
-      counts = subst (λ (a : Answer). BenchCounted (bench_call g.B.Bench.tells first begun) silence a) (sym c.refusal_of-refusal.ensures) c.begin_job.ensures.counts;
+      counts = subst (λ (a : Answer). BenchCounted (bench_call g.B.Bench.tells first begun) silence a) (sym c.refusal_of-refusal.ensures)
+          c.begin_job.ensures.counts;
     }

@@ -1,5 +1,5 @@
 -- `lose`: its contract, `IsLost`.
-use Rattle.std.proofs.Common.{◌≡◌, ◌∙◌, refl, sym, subst, true, List, [], ◌∷◌}
+use Rattle.std.proofs.Common.{◌≡◌, ◌∙◌, refl, sym, subst, List, [], ◌∷◌}
 use Rattle.bench_model.specs.State.{Left}
 use Rattle.bench_model.specs.Loss.{IsPicked, after_loss}
 use Rattle.bench_model.specs.Shown.{shown, bench_of}
@@ -25,7 +25,8 @@ returns c =
     let lost = c.power_loss.new.self in
     let answer = answer_in c.begin_stopped-stopped.result.refusal in
     let suits = subst (λ (i : List Run). Suits t.board (t.algorithm ∷ []) i) (sym (its.image ∙ sym scene.image)) scene.suits in
-    let of = begun_of seed t over.first begun c.args.bench answer over.parts over.inner c.requires.fresh scene.target suits its.board its.flm its.second its.image (board_size t.board t.algorithm scene.suits.fit ∙ its.size) its.all (length-cells seed)
+    let of = begun_of seed t over.first begun c.args.bench answer over.parts over.inner c.requires.fresh scene.target suits its.board its.flm its.second
+    its.image (board_size t.board t.algorithm scene.suits.fit ∙ its.size) its.all (length-cells seed)
     (over.begins refl) in
     let inner = c.into_inner-bench.ensures.inner in
     record {

@@ -1,3 +1,4 @@
+-- `resume`: its contract, `Shows`.
 use Rattle.std.proofs.Common.{◌∙◌, refl, sym, subst, true}
 use Rattle.bench_model.specs.Shown.{bench_of}
 use Rattle.flash_session.specs.declared.goal.Goal.TheVariants.{New}
@@ -18,7 +19,8 @@ returns c fresh is_fresh is_lost =
     let after = c.go_on.new.bench in
     let end = c.refusal_of-refusal.result in
     let resumes : Resumes lost after end = λ inputs takes.
-    subst (λ (a : Answer). GoOnEnds New (bench_call true (bench_of lost) (bench_of after)) inputs silence a) (sym c.refusal_of-refusal.ensures) (c.go_on.ensures.ends inputs takes) in
+    subst (λ (a : Answer). GoOnEnds New (bench_call true (bench_of lost) (bench_of after)) inputs silence a) (sym c.refusal_of-refusal.ensures)
+    (c.go_on.ensures.ends inputs takes) in
     let same = same_as c.is_same.ensures c.cells.ensures (c.deref.ensures.value ∙ scene.goal) in
     record {
       target = t;

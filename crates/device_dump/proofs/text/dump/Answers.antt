@@ -16,7 +16,8 @@ returns-in_err-file g c =
     let u = c.from_residual.ensures in
     let is : c.from_residual.result ≡ Err c.in_err-file.field-0.0 = search rules in
     rw is (ends_untaken c.args.form c.args.board.now g.B.Bench.tells g.O.Sink.tells (g.B.Bench.state c.args.bench.now) (g.O.Sink.state c.args.out.now)
-    (inputs_call g.I.Inputs.tells (g.I.Inputs.state c.args.inputs.now) (g.I.Inputs.state c.take_one.new.inputs)) (shown c.in_err-file.field-0.0) c.in_err-file.ensures.takes)
+    (inputs_call g.I.Inputs.tells (g.I.Inputs.state c.args.inputs.now) (g.I.Inputs.state c.take_one.new.inputs)) (shown c.in_err-file.field-0.0)
+    c.in_err-file.ensures.takes)
 
 pub returns-in_err-board : goal.returns-in_err-board
 returns-in_err-board g c =
@@ -37,11 +38,14 @@ returns-then-found-wanted g c =
     let its = board.shown c.in_ok-board.board in
     let file = subst (λ (f : List ℕ). IsFile inputs name f) (sym c.bytes.ensures) (c.in_ok-file.ensures.takes.0.each 0 (omega arith)) in
     let wanted : c.cells_of-wanted.result ≡ size_of its.regions = c.cells_of-wanted.ensures in
-    let ends = ends_other_count form name g.B.Bench.tells g.O.Sink.tells b o inputs c.bytes.result.now file c.in_ok-file.ensures.takes.1 its c.in_ok-board.ensures
+    let ends = ends_other_count form name g.B.Bench.tells g.O.Sink.tells b o inputs c.bytes.result.now file c.in_ok-file.ensures.takes.1 its
+    c.in_ok-board.ensures
     (λ same. c.if-found-wanted.true (c.cells_len-found.ensures ∙ sym same ∙ sym wanted)) in
-    subst (λ (w : ℕ). DumpEnds form name (bench_call g.B.Bench.tells b b) inputs (sink_call g.O.Sink.tells o o) (refused (cells_differ w c.cells_len-found.result)))
+    subst (λ (w : ℕ). DumpEnds form name (bench_call g.B.Bench.tells b b) inputs (sink_call g.O.Sink.tells o o)
+    (refused (cells_differ w c.cells_len-found.result)))
     (sym wanted)
-    (subst (λ (n : ℕ). DumpEnds form name (bench_call g.B.Bench.tells b b) inputs (sink_call g.O.Sink.tells o o) (refused (cells_differ (size_of its.regions) n)))
+    (subst (λ (n : ℕ). DumpEnds form name (bench_call g.B.Bench.tells b b) inputs (sink_call g.O.Sink.tells o o)
+    (refused (cells_differ (size_of its.regions) n)))
     (sym c.cells_len-found.ensures) ends)
 
 pub dump_cells-requires : goal.dump_cells-requires
@@ -54,5 +58,6 @@ returns g c =
     let inputs = inputs_call g.I.Inputs.tells (g.I.Inputs.state c.args.inputs.now) (g.I.Inputs.state c.take_one.new.inputs) in
     let out = sink_call g.O.Sink.tells (g.O.Sink.state c.args.out.now) (g.O.Sink.state c.dump_cells.new.out) in
     let file = subst (λ (f : List ℕ). IsFile inputs c.args.board.now f) (sym c.bytes.ensures) (c.in_ok-file.ensures.takes.0.each 0 (omega arith)) in
-    ends_dumped c.args.form c.args.board.now bench inputs out c.bytes.result.now file c.in_ok-file.ensures.takes.1 (board.shown c.in_ok-board.board) c.in_ok-board.ensures
+    ends_dumped c.args.form c.args.board.now bench inputs out c.bytes.result.now file c.in_ok-file.ensures.takes.1 (board.shown c.in_ok-board.board)
+    c.in_ok-board.ensures
     (sym c.cells_of-wanted.ensures ∙ sym c.if-found-wanted.false ∙ c.cells_len-found.ensures) (answer_of c.dump_cells.result) c.dump_cells.ensures

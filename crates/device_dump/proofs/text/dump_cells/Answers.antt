@@ -1,5 +1,5 @@
 -- `dump_cells`: its contract, `DumpsCells`.
-use Rattle.std.proofs.Common.{◌≡◌, ◌∙◌, sym, subst, arith, length, List, ℕ, IsTrue}
+use Rattle.std.proofs.Common.{◌≡◌, ◌∙◌, sym, subst, arith, List, ℕ, IsTrue}
 use Rattle.std.proofs.lemmas.Result.{err_from_is_err_and}
 use Rattle.board_file.specs.declared.region.Region.{Region}
 use Rattle.command_answers.specs.Call.{bench_call, sink_call}
@@ -18,8 +18,10 @@ pub returns : goal.returns
 returns g c =
     let bench = bench_call g.B.Bench.tells (g.B.Bench.state c.args.bench.now) (g.B.Bench.state c.survey.new.bench) in
     let out = sink_call g.O.Sink.tells (g.O.Sink.state c.args.out.now) (g.O.Sink.state c.put_cells.new.out) in
-    let cells : c.survey.new.cells ≡ c.deref.result.now = sym (c.deref.ensures.value ∙ written_back _ c.survey.new.cells _ (omega (arith, c.survey.auto.cells, c.deref_mut.ensures.len))) in
-    let puts = subst (λ (rs : List Region). PutsCells c.args.form rs c.deref.result.now out (answer_of c.put_cells.result)) c.as_slice.ensures c.put_cells.ensures in
+    let cells : c.survey.new.cells ≡ c.deref.result.now = sym
+    (c.deref.ensures.value ∙ written_back _ c.survey.new.cells _ (omega (arith, c.survey.auto.cells, c.deref_mut.ensures.len))) in
+    let puts = subst (λ (rs : List Region). PutsCells c.args.form rs c.deref.result.now out (answer_of c.put_cells.result)) c.as_slice.ensures
+    c.put_cells.ensures in
     dumps_put c.args.form c.args.board.now.regions bench out c.deref.result.now _ c.in_ok-survey.ensures.looks
     (subst (λ (l : List ℕ). IsTrue g.B.Bench.tells → (g.B.Bench.state c.survey.new.bench).cells ≡ l) cells c.in_ok-survey.ensures.surveyed)
     (answer_of c.put_cells.result) puts

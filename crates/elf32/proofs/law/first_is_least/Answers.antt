@@ -1,3 +1,4 @@
+-- `first_is_least`: its clauses `found` and `none`.
 use Rattle.elf32.proofs.SearchLemmas.{first_below-fails, first_below-least}
 use Rattle.elf32.proofs.law.first_is_least.Goals as goal
 

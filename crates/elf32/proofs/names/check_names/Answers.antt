@@ -1,3 +1,4 @@
+-- `check_names`: its contract, `Finds`, and that its loop keeps what it has to.
 use Rattle.std.proofs.Common.{◌≡◌, ◌<◌, arith, refl, Option, Some, None}
 use Rattle.std.specs.Prelude.{is_none, MatchOption}
 use Rattle.std.proofs.lemmas.Result.{err_from_is_err_and}

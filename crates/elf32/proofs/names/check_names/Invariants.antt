@@ -1,3 +1,4 @@
+-- `check_names`: what holds at each turn of its loop.
 use Rattle.std.proofs.Common.{◌≡◌, None}
 use Rattle.std.specs.Prelude.{is_none}
 use Rattle.elf32.specs.Search.{first_below}

@@ -1,3 +1,4 @@
+-- `find_from`: what holds at each turn of its loop.
 use Rattle.std.proofs.Common.{◌≡◌, None}
 use Rattle.elf32.specs.Search.{first_below}
 use Rattle.elf32.specs.Tables.{is_section}

@@ -1,3 +1,4 @@
+-- `keep_names`: what holds at each turn of its loop.
 use Rattle.elf32.specs.Places.{AreKept}
 use Rattle.elf32.proofs.names.keep_names.Given as goal
 

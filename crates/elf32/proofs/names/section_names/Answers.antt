@@ -1,3 +1,4 @@
+-- `section_names`: its clauses `fault` and `names`.
 use Rattle.std.proofs.Common.{◌≡◌, ◌<◌, ◌∙◌, sym, ap, arith, Ok, Err}
 use Rattle.std.specs.Result.{result_ok, result_err}
 use Rattle.std.proofs.lemmas.Result.{err_from_is_err_and}

@@ -1,3 +1,4 @@
+-- `short_name`: its contract, `HasNoShortName`.
 use Rattle.elf32.proofs.NameLemmas.{short_lent, none_short}
 use Rattle.elf32.proofs.names.short_name.Goals as goal
 

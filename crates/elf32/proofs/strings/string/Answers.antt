@@ -1,3 +1,4 @@
+-- `string`: that it keeps its contract.
 use Rattle.std.proofs.Common.{sym}
 use Rattle.elf32.proofs.StringLemmas.{found_within, missed_within}
 use Rattle.elf32.proofs.strings.string.Goals as goal

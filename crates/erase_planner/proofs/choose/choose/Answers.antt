@@ -1,3 +1,4 @@
+-- `choose`: its clause `least`, and what `fill_pages` asks for.
 use Rattle.std.proofs.Common.{◌&&◌, nat_lt, ◌≡◌, ℕ, ◌+◌, ◌*◌, length, ◌∙◌, ap, sym, List, Bool, false}
 use Rattle.page_geometry.specs.Cells.{count_below}
 use Rattle.erase_planner.specs.Plans.{tests}
@@ -9,18 +10,22 @@ use Rattle.erase_planner.proofs.choose.choose.Goals as goal
 
 pub fill_pages-programmed-requires-clause-set : goal.fill_pages-programmed-requires-clause-set
 fill_pages-programmed-requires-clause-set c =
-    ap (λ (bs : List Bool). length bs) (c.deref.ensures.value ∙ c.fill_sectors-erased.ensures.set) ∙ tests_long (length c.args.geometry.now.sectors) (erases_by c.args.geometry.now c.args.marks.now)
+    ap (λ (bs : List Bool). length bs) (c.deref.ensures.value ∙ c.fill_sectors-erased.ensures.set) ∙
+    tests_long (length c.args.geometry.now.sectors) (erases_by c.args.geometry.now c.args.marks.now)
 
 pub returns-then-chip-clause-least : goal.returns-then-chip-clause-least
 returns-then-chip-clause-least c empty o w lo lw m =
     let l : Geometry = c.args.geometry.now in
     let given : List Bool = tests (length l.sectors) (erases_by l c.args.marks.now) in
     let set = c.deref.ensures.value ∙ c.fill_sectors-erased.ensures.set in
-    let total : c.cost_of.result + c.cost_of-2.result ≡ c.args.weights.now.sector * count_below (length l.sectors) (erases_by l c.args.marks.now) + c.args.weights.now.page * count_below (length l.pages) (programs_by l c.args.marks.now given) =
+    let total : c.cost_of.result + c.cost_of-2.result ≡ c.args.weights.now.sector * count_below (length l.sectors) (erases_by l c.args.marks.now) +
+    c.args.weights.now.page * count_below (length l.pages) (programs_by l c.args.marks.now given) =
     cc (c.cost_of.ensures.cost, c.cost_of-2.ensures.cost, c.fill_sectors-erased.ensures.count, c.fill_pages-programmed.ensures.count, set) in
-    let chip : c.from.result + c.cost_of-3.result ≡ c.args.weights.now.chip + c.args.weights.now.page * count_below (length l.pages) (wanted_by c.args.marks.now) =
+    let chip : c.from.result + c.cost_of-3.result ≡ c.args.weights.now.chip + c.args.weights.now.page * count_below (length l.pages)
+    (wanted_by c.args.marks.now) =
     cc (c.from.ensures, c.cost_of-3.ensures.cost, c.count_wanted-wanted.ensures.count, c.requires.long) in
-    finish_chip l c.pages-pages.ensures.lawful empty o w lo lw c.args.marks.now m c.args.weights.now c.args.has_chip c.fill_none.new.sectors.items c.fill_wanted.new.pages.items (c.from.result + c.cost_of-3.result)
+    finish_chip l c.pages-pages.ensures.lawful empty o w lo lw c.args.marks.now m c.args.weights.now c.args.has_chip c.fill_none.new.sectors.items
+    c.fill_wanted.new.pages.items (c.from.result + c.cost_of-3.result)
     (c.fill_none.ensures.set ∙ ap (λ (n : ℕ). tests n (λ s. false)) c.sectors-sector_count.ensures.count)
     (c.fill_wanted.ensures.set ∙ ap (λ (n : ℕ). tests n (wanted_by c.args.marks.now)) c.requires.long)
     chip
@@ -31,11 +36,14 @@ returns-else-chip-clause-least c empty o w lo lw m =
     let l : Geometry = c.args.geometry.now in
     let given : List Bool = tests (length l.sectors) (erases_by l c.args.marks.now) in
     let set = c.deref.ensures.value ∙ c.fill_sectors-erased.ensures.set in
-    let total : c.cost_of.result + c.cost_of-2.result ≡ c.args.weights.now.sector * count_below (length l.sectors) (erases_by l c.args.marks.now) + c.args.weights.now.page * count_below (length l.pages) (programs_by l c.args.marks.now given) =
+    let total : c.cost_of.result + c.cost_of-2.result ≡ c.args.weights.now.sector * count_below (length l.sectors) (erases_by l c.args.marks.now) +
+    c.args.weights.now.page * count_below (length l.pages) (programs_by l c.args.marks.now given) =
     cc (c.cost_of.ensures.cost, c.cost_of-2.ensures.cost, c.fill_sectors-erased.ensures.count, c.fill_pages-programmed.ensures.count, set) in
-    let chip : c.from.result + c.cost_of-3.result ≡ c.args.weights.now.chip + c.args.weights.now.page * count_below (length l.pages) (wanted_by c.args.marks.now) =
+    let chip : c.from.result + c.cost_of-3.result ≡ c.args.weights.now.chip + c.args.weights.now.page * count_below (length l.pages)
+    (wanted_by c.args.marks.now) =
     cc (c.from.ensures, c.cost_of-3.ensures.cost, c.count_wanted-wanted.ensures.count, c.requires.long) in
-    finish_sectors l c.pages-pages.ensures.lawful empty o w lo lw c.args.marks.now m c.args.weights.now c.args.has_chip c.fill_sectors-erased.new.sectors.items c.fill_pages-programmed.new.pages.items (c.cost_of.result + c.cost_of-2.result)
+    finish_sectors l c.pages-pages.ensures.lawful empty o w lo lw c.args.marks.now m c.args.weights.now c.args.has_chip c.fill_sectors-erased.new.sectors.items
+    c.fill_pages-programmed.new.pages.items (c.cost_of.result + c.cost_of-2.result)
     c.fill_sectors-erased.ensures.set
     (c.fill_pages-programmed.ensures.set ∙ ap (λ (bs : List Bool). tests (length l.pages) (programs_by l c.args.marks.now bs)) set)
     total

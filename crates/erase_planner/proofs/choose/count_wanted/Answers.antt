@@ -1,3 +1,4 @@
+-- `count_wanted`: that its loop keeps what it has to.
 use Rattle.std.proofs.Common.{ℕ, arith, ap, cond, Bool, refl}
 use Rattle.erase_planner.specs.Marks.{wanted_by}
 use Rattle.erase_planner.proofs.FillLemmas.{count_more, count_start}
@@ -13,8 +14,10 @@ loop-page-preserved c =
     let more = count_more n (wanted_by c.args.marks.now) (wanted_by c.args.marks.now n) refl in
     record {
       count = elim c.if-wanted.branch [
-        | then-wanted w ↦ (let one = ap (λ (b : Bool). let r : ℕ = cond b 1 0 in r) w.if-wanted.true in omega (arith, more, one, w.count-is, c.loop-page.invariant.count))
-        | else-wanted w ↦ (let one = ap (λ (b : Bool). let r : ℕ = cond b 1 0 in r) w.if-wanted.false in omega (arith, more, one, w.count-is, c.loop-page.invariant.count))
+        | then-wanted w ↦ (let one = ap (λ (b : Bool). let r : ℕ = cond b 1 0 in r) w.if-wanted.true in
+            omega (arith, more, one, w.count-is, c.loop-page.invariant.count))
+        | else-wanted w ↦ (let one = ap (λ (b : Bool). let r : ℕ = cond b 1 0 in r) w.if-wanted.false in
+            omega (arith, more, one, w.count-is, c.loop-page.invariant.count))
       ];
       few = elim c.if-wanted.branch [ then-wanted w ↦ omega arith | else-wanted w ↦ omega arith ];
     }

@@ -1,3 +1,4 @@
+-- `count_wanted`: what holds at each turn of its loop.
 use Rattle.std.proofs.Common.{◌≡◌, ◌≤◌}
 use Rattle.page_geometry.specs.Cells.{count_below}
 use Rattle.erase_planner.specs.Marks.{wanted_by}

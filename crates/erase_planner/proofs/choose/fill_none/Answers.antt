@@ -1,3 +1,4 @@
+-- `fill_none`: that its loop keeps what it has to, and what `push_within` asks for.
 use Rattle.std.proofs.Common.{length, arith, ◌∙◌, ap, sym, [], ◌∷◌, ◌++◌, List, Bool, false, refl}
 use Rattle.erase_planner.proofs.FillLemmas.{tests_long, tests_more}
 use Rattle.erase_planner.proofs.choose.fill_none.Goals as goal
@@ -9,7 +10,8 @@ push_within-requires c =
 
 pub loop-sector-preserved : goal.loop-sector-preserved
 loop-sector-preserved c = record {
-  set = c.push_within.ensures.items ∙ ap (λ (bs : List Bool). bs ++ false ∷ []) c.loop-sector.invariant.set ∙ sym (tests_more c.loop-sector._sector (λ s. false) false refl);
+  set = c.push_within.ensures.items ∙ ap (λ (bs : List Bool). bs ++ false ∷ []) c.loop-sector.invariant.set ∙
+      sym (tests_more c.loop-sector._sector (λ s. false) false refl);
   room = omega (arith, c.push_within.ensures.spare, c.loop-sector.invariant.room);
   spare = omega (arith, c.push_within.ensures.spare, c.loop-sector.invariant.spare);
 }

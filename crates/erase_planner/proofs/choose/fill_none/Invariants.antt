@@ -1,3 +1,4 @@
+-- `fill_none`: what holds at each turn of its loop.
 use Rattle.std.proofs.Common.{◌≡◌, ◌≤◌, vec_capacity, false}
 use Rattle.erase_planner.specs.Plans.{tests}
 use Rattle.erase_planner.proofs.choose.fill_none.Given as goal

@@ -1,3 +1,4 @@
+-- `fill_sectors`: that its loop keeps what it has to, and what `push_within` asks for.
 use Rattle.std.proofs.Common.{ℕ, length, arith, ◌∙◌, ap, sym, cond, [], ◌∷◌, ◌++◌, List, Bool}
 use Rattle.erase_planner.specs.Marks.{erases_by}
 use Rattle.erase_planner.proofs.FillLemmas.{tests_long, tests_more, count_more, count_start}
@@ -18,12 +19,15 @@ loop-sector-preserved c =
     let n : ℕ = c.loop-sector.sector in
     let e = c.must_erase-must.ensures in
     record {
-      set = c.push_within.ensures.items ∙ ap (λ (bs : List Bool). bs ++ c.must_erase-must.result ∷ []) c.loop-sector.invariant.set ∙ sym (tests_more n (erases_by c.args.geometry.now c.args.marks.now) c.must_erase-must.result e);
+      set = c.push_within.ensures.items ∙ ap (λ (bs : List Bool). bs ++ c.must_erase-must.result ∷ []) c.loop-sector.invariant.set ∙
+          sym (tests_more n (erases_by c.args.geometry.now c.args.marks.now) c.must_erase-must.result e);
       room = omega (arith, c.push_within.ensures.spare, c.loop-sector.invariant.room);
       spare = omega (arith, c.push_within.ensures.spare, c.loop-sector.invariant.spare);
       count = (let more = count_more n (erases_by c.args.geometry.now c.args.marks.now) c.must_erase-must.result e in elim c.if-must.branch [
-        | then-must w ↦ (let one = ap (λ (b : Bool). let r : ℕ = cond b 1 0 in r) w.if-must.true in omega (arith, more, one, w.count-is, c.loop-sector.invariant.count))
-        | else-must w ↦ (let one = ap (λ (b : Bool). let r : ℕ = cond b 1 0 in r) w.if-must.false in omega (arith, more, one, w.count-is, c.loop-sector.invariant.count))
+        | then-must w ↦ (let one = ap (λ (b : Bool). let r : ℕ = cond b 1 0 in r) w.if-must.true in
+            omega (arith, more, one, w.count-is, c.loop-sector.invariant.count))
+        | else-must w ↦ (let one = ap (λ (b : Bool). let r : ℕ = cond b 1 0 in r) w.if-must.false in
+            omega (arith, more, one, w.count-is, c.loop-sector.invariant.count))
       ]);
       few = elim c.if-must.branch [ then-must w ↦ omega arith | else-must w ↦ omega arith ];
     }

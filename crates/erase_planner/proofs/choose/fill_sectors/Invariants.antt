@@ -1,3 +1,4 @@
+-- `fill_sectors`: what holds at each turn of its loop.
 use Rattle.std.proofs.Common.{◌≡◌, ◌≤◌, length, vec_capacity}
 use Rattle.page_geometry.specs.Cells.{count_below}
 use Rattle.erase_planner.specs.Plans.{tests}

@@ -1,3 +1,4 @@
+-- `fill_wanted`: that its loop keeps what it has to, and what `push_within` asks for.
 use Rattle.std.proofs.Common.{length, arith, ◌∙◌, ap, sym, [], ◌∷◌, ◌++◌, List, Bool, refl}
 use Rattle.erase_planner.specs.Marks.{wanted_by}
 use Rattle.erase_planner.proofs.FillLemmas.{tests_long, tests_more}
@@ -10,7 +11,8 @@ push_within-requires c =
 
 pub loop-page-preserved : goal.loop-page-preserved
 loop-page-preserved c = record {
-  set = c.push_within.ensures.items ∙ ap (λ (bs : List Bool). bs ++ wanted_by c.args.marks.now c.loop-page.page ∷ []) c.loop-page.invariant.set ∙ sym (tests_more c.loop-page.page (wanted_by c.args.marks.now) (wanted_by c.args.marks.now c.loop-page.page) refl);
+  set = c.push_within.ensures.items ∙ ap (λ (bs : List Bool). bs ++ wanted_by c.args.marks.now c.loop-page.page ∷ []) c.loop-page.invariant.set ∙
+      sym (tests_more c.loop-page.page (wanted_by c.args.marks.now) (wanted_by c.args.marks.now c.loop-page.page) refl);
   room = omega (arith, c.push_within.ensures.spare, c.loop-page.invariant.room);
   spare = omega (arith, c.push_within.ensures.spare, c.loop-page.invariant.spare);
 }

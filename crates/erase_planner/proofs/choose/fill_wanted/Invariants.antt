@@ -1,3 +1,4 @@
+-- `fill_wanted`: what holds at each turn of its loop.
 use Rattle.std.proofs.Common.{◌≡◌, ◌≤◌, length, vec_capacity}
 use Rattle.erase_planner.specs.Plans.{tests}
 use Rattle.erase_planner.specs.Marks.{wanted_by}

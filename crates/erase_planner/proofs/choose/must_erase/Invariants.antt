@@ -1,3 +1,4 @@
+-- `must_erase`: what holds at each turn of its loop.
 use Rattle.std.proofs.Common.{◌≡◌, ℕ, ◌≤◌, ◌<◌, false}
 use Rattle.erase_planner.specs.Marks.{mark_at, needs_erasure}
 use Rattle.erase_planner.proofs.choose.must_erase.Given as goal

@@ -1,3 +1,4 @@
+-- `feed_marks`: that its loop keeps what it has to.
 use Rattle.std.proofs.Common.{◌≡◌, ℕ, ◌+◌, ◌<◌, List, [], ◌∷◌, ◌++◌, length, take, get_or, arith, sym, ap, ◌∙◌, set}
 use Rattle.std.proofs.Math.ListN.{length-set}
 use Rattle.std.proofs.lemmas.List.{take_more, append_assoc, length-append, length-take-le}
@@ -28,9 +29,14 @@ loop-index-preserved c =
       };
       fed = λ o w lo lw m.
           let before = c.loop-index.invariant.fed o w lo lw m in
-          let here : AreMarks c.args.geometry.now c.args.empty ((o ++ take k c.args.old.now) ++ get_or c.args.old.now k 0 ∷ []) ((w ++ take k c.args.want.now) ++ get_or c.args.want.now k 0 ∷ []) (set c.loop-index.marks c.page_from-here.result.0 (with_byte c.args.empty (get_or c.args.old.now k 0) (get_or c.args.want.now k 0) (mark_at c.loop-index.marks c.page_from-here.result.0))) =
-          marks_more c.args.geometry.now c.args.empty (o ++ take k c.args.old.now) (w ++ take k c.args.want.now) c.loop-index.place (get_or c.args.old.now k 0) (get_or c.args.want.now k 0)
-          (long o c.args.old.now c.args.at k lo h ∙ sym c.loop-index.invariant.place) (long w c.args.want.now c.args.at k lw h2 ∙ sym c.loop-index.invariant.place)
+          let here : AreMarks c.args.geometry.now c.args.empty ((o ++ take k c.args.old.now) ++ get_or c.args.old.now k 0 ∷ [])
+          ((w ++ take k c.args.want.now) ++ get_or c.args.want.now k 0 ∷ [])
+          (set c.loop-index.marks c.page_from-here.result.0
+          (with_byte c.args.empty (get_or c.args.old.now k 0) (get_or c.args.want.now k 0) (mark_at c.loop-index.marks c.page_from-here.result.0))) =
+          marks_more c.args.geometry.now c.args.empty (o ++ take k c.args.old.now) (w ++ take k c.args.want.now) c.loop-index.place (get_or c.args.old.now k 0)
+          (get_or c.args.want.now k 0)
+          (long o c.args.old.now c.args.at k lo h ∙ sym c.loop-index.invariant.place)
+          (long w c.args.want.now c.args.at k lw h2 ∙ sym c.loop-index.invariant.place)
           c.pages-pages.ensures.lawful c.loop-index.marks before c.page_from-here.result.0 c.page_from-here.ensures.number inside in
           rw (c.with_byte-marked.ensures, ← more o c.args.old.now k h, ← more w c.args.want.now k h2) here;
     }

@@ -1,3 +1,4 @@
+-- `start_marks`: what holds at each turn of its loop.
 use Rattle.std.proofs.Common.{◌≡◌, ℕ, ◌≤◌, ◌<◌, length, vec_capacity, []}
 use Rattle.erase_planner.specs.Marks.{mark_at}
 use Rattle.erase_planner.proofs.marks.start_marks.Given as goal

@@ -1,3 +1,4 @@
+-- `plan_finish`: its clause `least`.
 use Rattle.std.proofs.Common.{◌≡◌, List, sym, ap, subst, ◌∙◌}
 use Rattle.erase_planner.specs.declared.marks.Mark.{Mark}
 use Rattle.erase_planner.specs.Plans.{made_of}

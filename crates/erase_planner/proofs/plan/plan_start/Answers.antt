@@ -1,3 +1,4 @@
+-- `plan_start`: its clause `fed`.
 use Rattle.std.proofs.Common.{◌∙◌, refl, arith}
 use Rattle.erase_planner.proofs.FeedLemmas.{mark_blank}
 use Rattle.erase_planner.proofs.plan.plan_start.Goals as goal

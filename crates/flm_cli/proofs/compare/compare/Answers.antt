@@ -14,7 +14,8 @@ returns-in_err-file g c =
     let u = c.from_residual.ensures in
     let is : c.from_residual.result ≡ Err c.in_err-file.field-0.0 = search rules in
     rw is (ends_untaken g.B.Bench.tells g.O.Sink.tells (g.B.Bench.state c.args.bench.now) (g.O.Sink.state c.args.out.now)
-    (inputs_call g.I.Inputs.tells (g.I.Inputs.state c.args.inputs.now) (g.I.Inputs.state c.take_one.new.inputs)) c.args.image.now (shown c.in_err-file.field-0.0)
+    (inputs_call g.I.Inputs.tells (g.I.Inputs.state c.args.inputs.now) (g.I.Inputs.state c.take_one.new.inputs)) c.args.image.now
+    (shown c.in_err-file.field-0.0)
     c.in_err-file.ensures.takes)
 
 pub tell_found-requires : goal.tell_found-requires
@@ -30,6 +31,7 @@ returns g c =
     let out = sink_call g.O.Sink.tells (g.O.Sink.state c.args.out.now) (g.O.Sink.state c.tell_found.new.out) in
     let bytes = c.bytes.result.now in
     let file = subst (λ (f : List ℕ). IsFile inputs c.args.image.now f) (sym c.bytes.ensures) (c.in_ok-file.ensures.takes.0.each 0 (omega arith)) in
-    ends_compared bench inputs out c.args.image.now bytes file c.in_ok-file.ensures.takes.1 (omega (arith, ap length c.bytes.ensures)) (answer_of c.tell_found.result)
+    ends_compared bench inputs out c.args.image.now bytes file c.in_ok-file.ensures.takes.1 (omega (arith, ap length c.bytes.ensures))
+    (answer_of c.tell_found.result)
     (compares_by bench out 0 (CellsAre bench bytes) (DiffersFrom bench bytes) c.find_in_cells-found.result (answer_of c.tell_found.result)
     c.find_in_cells-found.ensures.looks c.find_in_cells-found.ensures.found c.tell_found.ensures)

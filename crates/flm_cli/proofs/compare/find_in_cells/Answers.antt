@@ -11,7 +11,9 @@ returns-in_err-cells_drop-clause-looks g c =
     rw is (looks_dropped c.in_err-cells_drop.field-0.0 c.in_err-cells_drop.ensures.does)
 
 pub returns-clause-found : goal.returns-clause-found
-returns-clause-found g c = found_in_bytes g.B.Bench.tells (g.B.Bench.state c.args.bench.now) (g.B.Bench.state c.cells_drop.new.self) (g.B.Bench.state c.first_difference.new.bench) c.first_difference.ensures.bench c.args.bytes.now c.first_difference.result c.first_difference.ensures.ok
+returns-clause-found g c = found_in_bytes g.B.Bench.tells (g.B.Bench.state c.args.bench.now) (g.B.Bench.state c.cells_drop.new.self)
+    (g.B.Bench.state c.first_difference.new.bench) c.first_difference.ensures.bench c.args.bytes.now c.first_difference.result c.first_difference.ensures.ok
 
 pub returns-clause-looks : goal.returns-clause-looks
-returns-clause-looks g c = looks_by _ c.in_ok-cells_drop.ensures.does c.first_difference.ensures.bench c.first_difference.result c.first_difference.ensures.cause
+returns-clause-looks g c = looks_by _ c.in_ok-cells_drop.ensures.does c.first_difference.ensures.bench c.first_difference.result
+    c.first_difference.ensures.cause

@@ -21,7 +21,8 @@ returns-in_err-algorithm g c =
     let inputs = inputs_call g.I.Inputs.tells (g.I.Inputs.state c.args.inputs.now) (g.I.Inputs.state c.take_one.new.inputs) in
     let file = subst (λ (f : List ℕ). IsFile inputs c.args.flm.now f) (sym c.bytes.ensures) (c.in_ok-file.ensures.takes.0.each 0 (omega arith)) in
     let p = err_from_is_err_and c.from_residual-in_err-algorithm.result c.from_residual-in_err-algorithm.ensures.1 in
-    rw (p.1, p.2) (ends_unread g.B.Bench.tells g.O.Sink.tells (g.B.Bench.state c.args.bench.now) (g.O.Sink.state c.args.out.now) inputs c.args.flm.now c.bytes.result.now
+    rw (p.1, p.2) (ends_unread g.B.Bench.tells g.O.Sink.tells (g.B.Bench.state c.args.bench.now) (g.O.Sink.state c.args.out.now) inputs c.args.flm.now
+    c.bytes.result.now
     file c.in_ok-file.ensures.takes.1 c.in_err-algorithm.field-0.0 c.in_err-algorithm.ensures.refused)
 
 pub returns-in_err-put_inspection : goal.returns-in_err-put_inspection
@@ -31,7 +32,8 @@ returns-in_err-put_inspection g c =
     let file = subst (λ (f : List ℕ). IsFile inputs c.args.flm.now f) (sym c.bytes.ensures) (c.in_ok-file.ensures.takes.0.each 0 (omega arith)) in
     let puts = c.in_err-put_inspection.ensures in
     let p = err_from_is_err_and c.from_residual-in_err-put_inspection.result c.from_residual-in_err-put_inspection.ensures.1 in
-    rw (p.1, p.2) (ends_cut g.B.Bench.tells (g.B.Bench.state c.args.bench.now) inputs out c.args.flm.now c.bytes.result.now (flm.shown c.in_ok-algorithm.algorithm) file
+    rw (p.1, p.2) (ends_cut g.B.Bench.tells (g.B.Bench.state c.args.bench.now) inputs out c.args.flm.now c.bytes.result.now
+    (flm.shown c.in_ok-algorithm.algorithm) file
     c.in_ok-file.ensures.takes.1 c.in_ok-algorithm.ensures.ok (record { taken = puts.err; later = puts.cause.later; rose = puts.cause.on_fault refl }))
 
 pub returns : goal.returns

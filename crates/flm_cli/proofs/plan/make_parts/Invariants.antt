@@ -1,3 +1,4 @@
+-- `make_parts`: what holds at each turn of its loop.
 use Rattle.flm_cli.proofs.PlanLemmas.{TakenTo}
 use Rattle.flm_cli.proofs.plan.make_parts.Given as goal
 

@@ -1,3 +1,4 @@
+-- `plan`: its contract, `PlanEnds`, and what `read_files` and `print_plans` ask for.
 use Rattle.std.proofs.Common.{rules, ◌≡◌, ◌∙◌, sym, subst, ℕ, Err}
 use Rattle.board_file.specs.Limits.{size_of}
 use Rattle.command_words.specs.Requested.{files_of}
@@ -19,7 +20,8 @@ pub print_plans-requires-clause-devices : goal.print_plans-requires-clause-devic
 print_plans-requires-clause-devices g c =
     let inputs = inputs_call g.I.Inputs.tells (g.I.Inputs.state c.args.inputs.now) (g.I.Inputs.state c.take_files.new.inputs) in
     let some = has_file inputs (files_of c.args.names.now) (bytes_of c.in_ok-files.files) c.requires.has_flm c.in_ok-files.ensures.takes.0 in
-    devices_of c.args.names.now.raw_at (bytes_of c.in_ok-files.files) (aim_of c.in_ok-wanted.wanted) c.in_ok-wanted.ensures some c.in_ok-wanted.wanted.board.some_region
+    devices_of c.args.names.now.raw_at (bytes_of c.in_ok-files.files) (aim_of c.in_ok-wanted.wanted) c.in_ok-wanted.ensures some
+    c.in_ok-wanted.wanted.board.some_region
 
 pub print_plans-requires-clause-cells : goal.print_plans-requires-clause-cells
 print_plans-requires-clause-cells g c = sym c.cells_of-size.ensures ∙ (sym c.if-cells-size.false ∙ c.cells_len-cells.ensures)
@@ -48,10 +50,12 @@ returns-then-cells-size g c =
     let o = g.O.Sink.state c.args.out.now in
     let wanted = c.in_ok-wanted.wanted in
     let ends = ends_other_size g.B.Bench.tells g.O.Sink.tells b o inputs asked (bytes_of c.in_ok-files.files) c.in_ok-files.ensures.takes.0
-    c.in_ok-files.ensures.takes.1 wanted c.in_ok-wanted.ensures (λ same. c.if-cells-size.true (c.cells_len-cells.ensures ∙ sym same ∙ sym c.cells_of-size.ensures)) in
+    c.in_ok-files.ensures.takes.1 wanted c.in_ok-wanted.ensures
+    (λ same. c.if-cells-size.true (c.cells_len-cells.ensures ∙ sym same ∙ sym c.cells_of-size.ensures)) in
     subst (λ (s : ℕ). PlanEnds asked (bench_call g.B.Bench.tells b b) inputs (sink_call g.O.Sink.tells o o) (refused (cells_differ s c.cells_len-cells.result)))
     (sym c.cells_of-size.ensures)
-    (subst (λ (n : ℕ). PlanEnds asked (bench_call g.B.Bench.tells b b) inputs (sink_call g.O.Sink.tells o o) (refused (cells_differ (size_of wanted.board.regions) n)))
+    (subst (λ (n : ℕ). PlanEnds asked (bench_call g.B.Bench.tells b b) inputs (sink_call g.O.Sink.tells o o)
+    (refused (cells_differ (size_of wanted.board.regions) n)))
     (sym c.cells_len-cells.ensures) ends)
 
 pub returns : goal.returns
@@ -60,6 +64,9 @@ returns g c =
     let inputs = inputs_call g.I.Inputs.tells (g.I.Inputs.state c.args.inputs.now) (g.I.Inputs.state c.take_files.new.inputs) in
     let out = sink_call g.O.Sink.tells (g.O.Sink.state c.args.out.now) (g.O.Sink.state c.print_plans.new.out) in
     let some = has_file inputs (files_of c.args.names.now) (bytes_of c.in_ok-files.files) c.requires.has_flm c.in_ok-files.ensures.takes.0 in
-    let devices = devices_of c.args.names.now.raw_at (bytes_of c.in_ok-files.files) (aim_of c.in_ok-wanted.wanted) c.in_ok-wanted.ensures some c.in_ok-wanted.wanted.board.some_region in
-    ends_planned bench inputs out (files_of c.args.names.now) (bytes_of c.in_ok-files.files) c.in_ok-files.ensures.takes.0 c.in_ok-wanted.wanted c.in_ok-wanted.ensures devices
-    (sym c.cells_of-size.ensures ∙ (sym c.if-cells-size.false ∙ c.cells_len-cells.ensures)) c.in_ok-files.ensures.takes.1 (answer_of c.print_plans.result) c.print_plans.ensures
+    let devices = devices_of c.args.names.now.raw_at (bytes_of c.in_ok-files.files) (aim_of c.in_ok-wanted.wanted) c.in_ok-wanted.ensures some
+    c.in_ok-wanted.wanted.board.some_region in
+    ends_planned bench inputs out (files_of c.args.names.now) (bytes_of c.in_ok-files.files) c.in_ok-files.ensures.takes.0 c.in_ok-wanted.wanted
+    c.in_ok-wanted.ensures devices
+    (sym c.cells_of-size.ensures ∙ (sym c.if-cells-size.false ∙ c.cells_len-cells.ensures)) c.in_ok-files.ensures.takes.1 (answer_of c.print_plans.result)
+    c.print_plans.ensures

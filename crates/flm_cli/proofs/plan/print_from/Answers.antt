@@ -1,3 +1,4 @@
+-- `print_from`: its contract, `PlansCells`, and what `survey` and `put_parts` ask for.
 use Rattle.std.proofs.Common.{◌∙◌, sym}
 use Rattle.std.proofs.lemmas.Result.{err_from_is_err_and}
 use Rattle.outside_io.proofs.PutTexts.{puts_as}
@@ -28,7 +29,8 @@ returns-in_err-put_parts g c =
     let e = c.in_ok-survey.ensures in
     let bench = bench_call tells (g.B.Bench.state c.args.bench.now) s in
     let read = read_of tells wanted s parts c.requires.devices e.parts e.plans in
-    let same = read_told tells wanted s parts c.requires.devices e.parts e.plans (λ told. g.met.B.Bench.all_told c.survey.new.bench told ∙ e.looks.count ∙ sym c.requires.cells) in
+    let same = read_told tells wanted s parts c.requires.devices e.parts e.plans
+    (λ told. g.met.B.Bench.all_told c.survey.new.bench told ∙ e.looks.count ∙ sym c.requires.cells) in
     let p = err_from_is_err_and c.from_residual-in_err-put_parts.result c.from_residual-in_err-put_parts.ensures.1 in
     rw (p.1, p.2) (plans_cut bench g.O.Sink.tells (g.O.Sink.state c.args.out.now) (text_of (aim_of wanted)) (g.O.Sink.state c.put_parts.new.out) read.cells
     (read.long ∙ c.requires.cells) _ e.looks same _
@@ -43,7 +45,8 @@ returns g c =
     let e = c.in_ok-survey.ensures in
     let bench = bench_call tells (g.B.Bench.state c.args.bench.now) s in
     let read = read_of tells wanted s parts c.requires.devices e.parts e.plans in
-    let same = read_told tells wanted s parts c.requires.devices e.parts e.plans (λ told. g.met.B.Bench.all_told c.survey.new.bench told ∙ e.looks.count ∙ sym c.requires.cells) in
+    let same = read_told tells wanted s parts c.requires.devices e.parts e.plans
+    (λ told. g.met.B.Bench.all_told c.survey.new.bench told ∙ e.looks.count ∙ sym c.requires.cells) in
     plans_done bench g.O.Sink.tells (g.O.Sink.state c.args.out.now) (text_of (aim_of wanted)) (g.O.Sink.state c.put_parts.new.out) read.cells
     (read.long ∙ c.requires.cells) _ e.looks same _
     (puts_as (read_text tells wanted s parts c.requires.devices e.parts e.plans) c.in_ok-put_parts.ensures)

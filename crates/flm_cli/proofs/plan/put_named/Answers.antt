@@ -1,3 +1,4 @@
+-- `put_named`: its contract, `Puts`.
 use Rattle.outside_io.proofs.PutTexts.{puts_then, puts_stops, puts_failed}
 use Rattle.flm_cli.proofs.plan.put_named.Goals as goal
 

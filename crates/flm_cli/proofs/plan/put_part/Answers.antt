@@ -1,3 +1,4 @@
+-- `put_part`: its contract, `Puts`.
 use Rattle.std.proofs.Common.{Bool, sym, ap}
 use Rattle.outside_io.proofs.PutTexts.{puts_as}
 use Rattle.flm_cli.specs.Steps.{part_text}

@@ -1,3 +1,4 @@
+-- `put_parts`: its contract, `Puts`, that its loop keeps what it has to, and what `put_part` asks for.
 use Rattle.std.proofs.Common.{◌≤◌, ◌+◌, ◌^◌, ◌∙◌, List, ap, sym, subst, length, nat_lt}
 use Rattle.std.specs.List.{flat_map}
 use Rattle.std.proofs.lemmas.List.{take_all}
@@ -23,9 +24,11 @@ pub returns-in_err-put_part : goal.returns-in_err-put_part
 returns-in_err-put_part g c =
     let text = λ (p : Part). part_text (nat_lt 1 (length c.args.parts.now)) p in
     puts_failed _ c.from_residual.ensures.0
-    (puts_as (all_texts c.args.parts.now) (puts_breaks text _ _ c.part-item.result c.loop-part-test.true c.loop-part.invariant (puts_as (ap text c.part-item.is) c.in_err-put_part.ensures)))
+    (puts_as (all_texts c.args.parts.now) (puts_breaks text _ _ c.part-item.result c.loop-part-test.true c.loop-part.invariant
+    (puts_as (ap text c.part-item.is) c.in_err-put_part.ensures)))
 
 pub returns : goal.returns
 returns g c =
     let text = λ (p : Part). part_text (nat_lt 1 (length c.args.parts.now)) p in
-    puts_as (ap (λ (l : List Part). flat_map text l) (take_all c.loop-part.part-index c.args.parts.now c.loop-part-test.false) ∙ all_texts c.args.parts.now) c.loop-part.invariant
+    puts_as (ap (λ (l : List Part). flat_map text l) (take_all c.loop-part.part-index c.args.parts.now c.loop-part-test.false) ∙ all_texts c.args.parts.now)
+    c.loop-part.invariant

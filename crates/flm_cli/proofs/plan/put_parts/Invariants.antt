@@ -1,3 +1,4 @@
+-- `put_parts`: what holds at each turn of its loop.
 use Rattle.std.proofs.Common.{length, nat_lt, take, Ok}
 use Rattle.std.specs.List.{flat_map}
 use Rattle.outside_io.specs.Puts.{Puts}

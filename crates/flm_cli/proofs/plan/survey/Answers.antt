@@ -1,3 +1,4 @@
+-- `survey`: its clauses `looks` and `plans`, and what `survey_parts` asks for.
 use Rattle.std.proofs.Common.{rules, ◌≡◌, ◌∙◌, sym, Err}
 use Rattle.device_dump.proofs.LooksLemmas.{looks_dropped, looks_by}
 use Rattle.flm_cli.proofs.PlanLemmas.{plans_since}
@@ -14,7 +15,8 @@ returns-in_err-cells_drop-clause-looks g c =
 
 pub returns-clause-plans : goal.returns-clause-plans
 returns-clause-plans g c =
-    plans_since g.B.Bench.tells c.args.wanted.now.board.weights c.args.wanted.now.image c.survey_parts.result (g.B.Bench.state c.cells_drop.new.self).cells (g.B.Bench.state c.survey_parts.new.bench).cells
+    plans_since g.B.Bench.tells c.args.wanted.now.board.weights c.args.wanted.now.image c.survey_parts.result (g.B.Bench.state c.cells_drop.new.self).cells
+    (g.B.Bench.state c.survey_parts.new.bench).cells
     _ c.survey_parts.new.parts c.survey_parts.ensures.reads.cells c.survey_parts.ensures.plans
 
 pub returns-clause-looks : goal.returns-clause-looks

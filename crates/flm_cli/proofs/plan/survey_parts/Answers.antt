@@ -1,14 +1,21 @@
+-- `survey_parts`: its clause `plans`, that its loop keeps what it has to, and what `index` and `survey_cells` ask for.
 use Rattle.std.proofs.Common.{◌<◌, get_or, length, ap, refl, arith}
 use Rattle.flash_session.specs.declared.part.Part.{Part}
 use Rattle.flm_cli.proofs.PlanLemmas.{many_parts, surveyed_none, surveyed_more, one_of, surveyed_all}
 use Rattle.flm_cli.proofs.plan.survey_parts.Goals as goal
 
 pub loop-index-init : goal.loop-index-init
-loop-index-init g c = surveyed_none g.B.Bench.tells c.args.wanted.now.board.weights c.args.wanted.now.image c.args.wanted.now.algorithms.items (g.B.Bench.state c.args.bench.now) c.args.parts.now c.requires.parts
+loop-index-init g c = surveyed_none g.B.Bench.tells c.args.wanted.now.board.weights c.args.wanted.now.image c.args.wanted.now.algorithms.items
+    (g.B.Bench.state c.args.bench.now) c.args.parts.now c.requires.parts
 
 pub index-algorithm-requires : goal.index-algorithm-requires
 index-algorithm-requires g c =
-    omega (arith, many_parts c.args.wanted.now.algorithms.items 0 c.loop-index.parts c.loop-index.invariant.are, c.loop-index.auto.parts, c.loop-index-test.true)
+    omega (
+      arith,
+      many_parts c.args.wanted.now.algorithms.items 0 c.loop-index.parts c.loop-index.invariant.are,
+      c.loop-index.auto.parts,
+      c.loop-index-test.true,
+    )
 
 pub survey_cells-requires-clause-part : goal.survey_cells-requires-clause-part
 survey_cells-requires-clause-part g c =
@@ -18,7 +25,8 @@ survey_cells-requires-clause-part g c =
     let now = g.B.Bench.state l.bench in
     let old = get_or l.parts l.index c.index-parts-index.result in
     let less : l.index < length l.parts = omega (arith, l.auto.parts, c.loop-index-test.true) in
-    (one_of g.B.Bench.tells wanted.board.weights wanted.image wanted.algorithms.items s now now l.parts l.index c.index-algorithm.result.now old old l.invariant less c.index-algorithm.ensures
+    (one_of g.B.Bench.tells wanted.board.weights wanted.image wanted.algorithms.items s now now l.parts l.index c.index-algorithm.result.now old old l.invariant
+    less c.index-algorithm.ensures
     (ap (λ (p : Part). get_or l.parts l.index p) c.index-parts-index.is)).is
 
 pub survey_cells-requires-clause-inside : goal.survey_cells-requires-clause-inside
@@ -29,7 +37,8 @@ survey_cells-requires-clause-inside g c =
     let now = g.B.Bench.state l.bench in
     let old = get_or l.parts l.index c.index-parts-index.result in
     let less : l.index < length l.parts = omega (arith, l.auto.parts, c.loop-index-test.true) in
-    let one = one_of g.B.Bench.tells wanted.board.weights wanted.image wanted.algorithms.items s now now l.parts l.index c.index-algorithm.result.now old old l.invariant less c.index-algorithm.ensures
+    let one = one_of g.B.Bench.tells wanted.board.weights wanted.image wanted.algorithms.items s now now l.parts l.index c.index-algorithm.result.now old old
+    l.invariant less c.index-algorithm.ensures
     (ap (λ (p : Part). get_or l.parts l.index p) c.index-parts-index.is) in
     omega (arith, one.inside, l.invariant.reads.count, c.requires.cells)
 
@@ -40,13 +49,16 @@ loop-index-preserved g c =
     let e = c.in_ok-survey_cells.ensures in
     let old = get_or l.parts l.index c.index-parts-index.result in
     let less : l.index < length l.parts = omega (arith, l.auto.parts, c.loop-index-test.true) in
-    surveyed_more g.B.Bench.tells wanted.board.weights wanted.image wanted.algorithms.items (g.B.Bench.state c.args.bench.now) (g.B.Bench.state l.bench) (g.B.Bench.state c.survey_cells.new.bench)
-    l.parts l.index c.index-algorithm.result.now old c.survey_cells.new.part l.invariant less c.index-algorithm.ensures (ap (λ (p : Part). get_or l.parts l.index p) c.index-parts-index.is)
+    surveyed_more g.B.Bench.tells wanted.board.weights wanted.image wanted.algorithms.items (g.B.Bench.state c.args.bench.now) (g.B.Bench.state l.bench)
+    (g.B.Bench.state c.survey_cells.new.bench)
+    l.parts l.index c.index-algorithm.result.now old c.survey_cells.new.part l.invariant less c.index-algorithm.ensures
+    (ap (λ (p : Part). get_or l.parts l.index p) c.index-parts-index.is)
     e.part e.place e.plan e.reads (e.cause.on_ok refl)
 
 pub returns-clause-plans : goal.returns-clause-plans
 returns-clause-plans g c =
     let wanted = c.args.wanted.now in
     let l = c.loop-index in
-    surveyed_all g.B.Bench.tells wanted.board.weights wanted.image wanted.algorithms.items (g.B.Bench.state c.args.bench.now) (g.B.Bench.state l.bench) l.parts l.index l.invariant
+    surveyed_all g.B.Bench.tells wanted.board.weights wanted.image wanted.algorithms.items (g.B.Bench.state c.args.bench.now) (g.B.Bench.state l.bench) l.parts
+    l.index l.invariant
     (omega (arith, l.auto.parts, c.loop-index-test.false))

@@ -14,7 +14,8 @@ returns-in-Err g c = λ asked given. record {
   answer = refused out_of_memory;
   says = c.report-in-Err.ensures;
   zero = zero_is_done _ _ (refused out_of_memory) c.report-in-Err.ensures;
-  ends = ends_unread g.B.Bench.tells g.I.Inputs.tells g.O.Sink.tells (g.B.Bench.state c.args.bench.now) (g.I.Inputs.state c.args.inputs.now) (g.O.Sink.state c.args.out.now)
+  ends = ends_unread g.B.Bench.tells g.I.Inputs.tells g.O.Sink.tells (g.B.Bench.state c.args.bench.now) (g.I.Inputs.state c.args.inputs.now)
+      (g.O.Sink.state c.args.out.now)
       (λ told. g.met.B.Bench.all_told c.args.bench.now told) (λ told x at. (g.met.B.Bench.as_told c.args.bench.now x told).0 at)
       c.args.words.now asked given;
 }

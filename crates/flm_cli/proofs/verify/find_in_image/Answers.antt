@@ -12,7 +12,8 @@ returns-in_err-cells_drop-clause-looks g c =
 
 pub returns-clause-found : goal.returns-clause-found
 returns-clause-found g c =
-    found_in_image g.B.Bench.tells (g.B.Bench.state c.args.bench.now) (g.B.Bench.state c.cells_drop.new.self) (g.B.Bench.state c.find_in_regions.new.bench) c.find_in_regions.ensures.bench c.args.board.now.regions c.args.image.now c.find_in_regions.result c.find_in_regions.ensures.ok
+    found_in_image g.B.Bench.tells (g.B.Bench.state c.args.bench.now) (g.B.Bench.state c.cells_drop.new.self) (g.B.Bench.state c.find_in_regions.new.bench)
+    c.find_in_regions.ensures.bench c.args.board.now.regions c.args.image.now c.find_in_regions.result c.find_in_regions.ensures.ok
 
 pub returns-clause-looks : goal.returns-clause-looks
 returns-clause-looks g c = looks_by _ c.in_ok-cells_drop.ensures.does c.find_in_regions.ensures.bench c.find_in_regions.result c.find_in_regions.ensures.cause

@@ -10,15 +10,18 @@ find_in_run-requires-clause-run_ends g c =
 
 pub loop-index-preserved : goal.loop-index-preserved
 loop-index-preserved g c =
-    runs_then g.B.Bench.tells _ _ c.args.start c.args.region.now.base c.args.region.now.size c.args.image.now c.loop-index.index _ c.loop-index.invariant (omega arith)
+    runs_then g.B.Bench.tells _ _ c.args.start c.args.region.now.base c.args.region.now.size c.args.image.now c.loop-index.index _ c.loop-index.invariant
+    (omega arith)
     c.run-at.ensures _ c.in_ok-found.found c.in_ok-found.ensures.ok (sym c.is_some.ensures ∙ c.if-is_some.false) c.in_ok-found.ensures.bench
     (c.in_ok-found.ensures.cause.on_ok refl)
 
 pub returns-then-is_some-clause-ok : goal.returns-then-is_some-clause-ok
 returns-then-is_some-clause-ok g c =
-    runs_differ g.B.Bench.tells _ _ c.args.start c.args.region.now.base c.args.region.now.size c.args.image.now c.loop-index.index _ c.loop-index.invariant (omega arith)
+    runs_differ g.B.Bench.tells _ _ c.args.start c.args.region.now.base c.args.region.now.size c.args.image.now c.loop-index.index _ c.loop-index.invariant
+    (omega arith)
     c.run-at.ensures c.runs-index-end.ensures.maximal c.in_ok-found.found c.in_ok-found.ensures.ok (sym c.is_some.ensures ∙ c.if-is_some.true)
 
 pub returns-clause-ok : goal.returns-clause-ok
 returns-clause-ok g c =
-    all_agree g.B.Bench.tells _ _ c.args.start c.args.region.now.base c.args.region.now.size c.args.image.now c.loop-index.index c.loop-index.invariant (omega arith)
+    all_agree g.B.Bench.tells _ _ c.args.start c.args.region.now.base c.args.region.now.size c.args.image.now c.loop-index.index c.loop-index.invariant
+    (omega arith)

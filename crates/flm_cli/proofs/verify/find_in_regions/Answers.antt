@@ -1,5 +1,5 @@
 -- `find_in_regions`: its clause `ok`, that its loop keeps what it has to, and what `find_in_region` asks for.
-use Rattle.std.proofs.Common.{◌≡◌, ◌∙◌, refl, sym, ap, subst, arith, List, None}
+use Rattle.std.proofs.Common.{◌∙◌, refl, sym, ap, subst, arith, List, None}
 use Rattle.board_file.specs.declared.region.Region.{Region}
 use Rattle.board_file.specs.Limits.{size_of}
 use Rattle.flm_cli.specs.Steps.{FindsInImage}
@@ -8,7 +8,8 @@ use Rattle.flm_cli.proofs.verify.find_in_regions.Goals as goal
 
 pub find_in_region-requires-clause-fits : goal.find_in_region-requires-clause-fits
 find_in_region-requires-clause-fits g c =
-    let its = fits g.B.Bench.tells _ _ c.as_slice-regions.result.now c.args.image.now c.loop-region.region-index c.loop-region.start c.loop-region.invariant c.region-item.result c.loop-region-test.true c.region-item.is in
+    let its = fits g.B.Bench.tells _ _ c.as_slice-regions.result.now c.args.image.now c.loop-region.region-index c.loop-region.start c.loop-region.invariant
+    c.region-item.result c.loop-region-test.true c.region-item.is in
     omega (arith, its, ap size_of c.as_slice-regions.ensures, c.requires.cells, c.loop-region.invariant.bench.count)
 
 pub find_in_region-requires-clause-idle : goal.find_in_region-requires-clause-idle
@@ -16,16 +17,21 @@ find_in_region-requires-clause-idle g c = λ told. c.loop-region.invariant.bench
 
 pub loop-region-preserved : goal.loop-region-preserved
 loop-region-preserved g c =
-    regions_then g.B.Bench.tells _ _ c.as_slice-regions.result.now c.args.image.now c.loop-region.region-index c.loop-region.start c.loop-region.invariant c.region-item.result c.loop-region-test.true c.region-item.is
-    c.in_ok-found.found c.in_ok-found.ensures.ok _ (sym c.is_some.ensures ∙ c.if-is_some.false) c.in_ok-found.ensures.bench (c.in_ok-found.ensures.cause.on_ok refl)
+    regions_then g.B.Bench.tells _ _ c.as_slice-regions.result.now c.args.image.now c.loop-region.region-index c.loop-region.start c.loop-region.invariant
+    c.region-item.result c.loop-region-test.true c.region-item.is
+    c.in_ok-found.found c.in_ok-found.ensures.ok _ (sym c.is_some.ensures ∙ c.if-is_some.false) c.in_ok-found.ensures.bench
+    (c.in_ok-found.ensures.cause.on_ok refl)
 
 pub returns-then-is_some-clause-ok : goal.returns-then-is_some-clause-ok
 returns-then-is_some-clause-ok g c =
-    subst (λ (rs : List Region). FindsInImage g.B.Bench.tells (g.B.Bench.state c.args.bench.now).cells rs c.args.image.now c.in_ok-found.found) c.as_slice-regions.ensures
-    (region_differs g.B.Bench.tells _ _ c.as_slice-regions.result.now c.args.image.now c.loop-region.region-index c.loop-region.start c.loop-region.invariant c.region-item.result c.loop-region-test.true c.region-item.is
+    subst (λ (rs : List Region). FindsInImage g.B.Bench.tells (g.B.Bench.state c.args.bench.now).cells rs c.args.image.now c.in_ok-found.found)
+    c.as_slice-regions.ensures
+    (region_differs g.B.Bench.tells _ _ c.as_slice-regions.result.now c.args.image.now c.loop-region.region-index c.loop-region.start c.loop-region.invariant
+    c.region-item.result c.loop-region-test.true c.region-item.is
     c.in_ok-found.found c.in_ok-found.ensures.ok (sym c.is_some.ensures ∙ c.if-is_some.true))
 
 pub returns-clause-ok : goal.returns-clause-ok
 returns-clause-ok g c =
     subst (λ (rs : List Region). FindsInImage g.B.Bench.tells (g.B.Bench.state c.args.bench.now).cells rs c.args.image.now None) c.as_slice-regions.ensures
-    (all_regions g.B.Bench.tells _ _ c.as_slice-regions.result.now c.args.image.now c.loop-region.region-index c.loop-region.start c.loop-region.invariant c.loop-region-test.false)
+    (all_regions g.B.Bench.tells _ _ c.as_slice-regions.result.now c.args.image.now c.loop-region.region-index c.loop-region.start c.loop-region.invariant
+    c.loop-region-test.false)

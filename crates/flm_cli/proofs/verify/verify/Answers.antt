@@ -23,7 +23,8 @@ tell_found-requires g c =
     let regions = wanted.board.regions in
     told_fits 0 (AgreesWith bench regions wanted.image) (DiffersAt bench regions wanted.image) c.find_in_image-found.result
     c.find_in_image-found.ensures.found
-    (λ at byte found differs. address_fits c.args.names.now.raw_at (bytes_of c.in_ok-files.files) (aim_of wanted) bench at byte found c.in_ok-wanted.ensures differs)
+    (λ at byte found differs. address_fits c.args.names.now.raw_at (bytes_of c.in_ok-files.files) (aim_of wanted) bench at byte found c.in_ok-wanted.ensures
+    differs)
 
 pub returns-in_err-files : goal.returns-in_err-files
 returns-in_err-files g c =
@@ -39,7 +40,8 @@ returns-in_err-wanted g c =
     let is : c.from_residual-in_err-wanted.result ≡ Err c.in_err-wanted.field-0.0 = search rules in
     rw is (ends_unread g.B.Bench.tells g.O.Sink.tells (g.B.Bench.state c.args.bench.now) (g.O.Sink.state c.args.out.now)
     (inputs_call g.I.Inputs.tells (g.I.Inputs.state c.args.inputs.now) (g.I.Inputs.state c.take_files.new.inputs)) (files_of c.args.names.now)
-    (bytes_of c.in_ok-files.files) c.requires.no_flm c.in_ok-files.ensures.takes.0 c.in_ok-files.ensures.takes.1 (shown c.in_err-wanted.field-0.0) c.in_err-wanted.ensures)
+    (bytes_of c.in_ok-files.files) c.requires.no_flm c.in_ok-files.ensures.takes.0 c.in_ok-files.ensures.takes.1 (shown c.in_err-wanted.field-0.0)
+    c.in_err-wanted.ensures)
 
 pub returns-then-cells-size : goal.returns-then-cells-size
 returns-then-cells-size g c =
@@ -49,10 +51,13 @@ returns-then-cells-size g c =
     let o = g.O.Sink.state c.args.out.now in
     let wanted = c.in_ok-wanted.wanted in
     let ends = ends_other_size g.B.Bench.tells g.O.Sink.tells b o inputs asked (bytes_of c.in_ok-files.files) c.requires.no_flm c.in_ok-files.ensures.takes.0
-    c.in_ok-files.ensures.takes.1 wanted c.in_ok-wanted.ensures (λ same. c.if-cells-size.true (c.cells_len-cells.ensures ∙ sym same ∙ sym c.cells_of-size.ensures)) in
-    subst (λ (s : ℕ). VerifyEnds asked (bench_call g.B.Bench.tells b b) inputs (sink_call g.O.Sink.tells o o) (refused (cells_differ s c.cells_len-cells.result)))
+    c.in_ok-files.ensures.takes.1 wanted c.in_ok-wanted.ensures
+    (λ same. c.if-cells-size.true (c.cells_len-cells.ensures ∙ sym same ∙ sym c.cells_of-size.ensures)) in
+    subst (λ (s : ℕ). VerifyEnds asked (bench_call g.B.Bench.tells b b) inputs (sink_call g.O.Sink.tells o o)
+    (refused (cells_differ s c.cells_len-cells.result)))
     (sym c.cells_of-size.ensures)
-    (subst (λ (n : ℕ). VerifyEnds asked (bench_call g.B.Bench.tells b b) inputs (sink_call g.O.Sink.tells o o) (refused (cells_differ (size_of wanted.board.regions) n)))
+    (subst (λ (n : ℕ). VerifyEnds asked (bench_call g.B.Bench.tells b b) inputs (sink_call g.O.Sink.tells o o)
+    (refused (cells_differ (size_of wanted.board.regions) n)))
     (sym c.cells_len-cells.ensures) ends)
 
 pub returns : goal.returns
@@ -62,7 +67,9 @@ returns g c =
     let out = sink_call g.O.Sink.tells (g.O.Sink.state c.args.out.now) (g.O.Sink.state c.tell_found.new.out) in
     let wanted = c.in_ok-wanted.wanted in
     let regions = wanted.board.regions in
-    ends_compared bench inputs out (files_of c.args.names.now) (bytes_of c.in_ok-files.files) wanted c.in_ok-files.ensures.takes.0 c.in_ok-files.ensures.takes.1 c.in_ok-wanted.ensures
+    ends_compared bench inputs out (files_of c.args.names.now) (bytes_of c.in_ok-files.files) wanted c.in_ok-files.ensures.takes.0 c.in_ok-files.ensures.takes.1
+    c.in_ok-wanted.ensures
     (sym c.cells_of-size.ensures ∙ (sym c.if-cells-size.false ∙ c.cells_len-cells.ensures)) (answer_of c.tell_found.result)
-    (compares_by bench out 0 (AgreesWith bench regions wanted.image) (DiffersAt bench regions wanted.image) c.find_in_image-found.result (answer_of c.tell_found.result)
+    (compares_by bench out 0 (AgreesWith bench regions wanted.image) (DiffersAt bench regions wanted.image) c.find_in_image-found.result
+    (answer_of c.tell_found.result)
     c.find_in_image-found.ensures.looks c.find_in_image-found.ensures.found c.tell_found.ensures)

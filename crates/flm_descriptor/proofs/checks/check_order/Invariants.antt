@@ -1,3 +1,4 @@
+-- `check_order`: what holds at each turn of its loop.
 use Rattle.std.proofs.Common.{◌≡◌, ℕ, ◌+◌, ◌<◌, None}
 use Rattle.elf32.specs.Search.{first_below}
 use Rattle.flm_descriptor.specs.Shape.{offset_at}

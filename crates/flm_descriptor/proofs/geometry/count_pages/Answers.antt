@@ -1,3 +1,4 @@
+-- `count_pages`: the value that it answers, that its loop keeps what it has to, and what `run_pages` asks for.
 use Rattle.std.proofs.Common.{◌≡◌, ℕ, ◌+◌, ◌<◌, get_or, ap, sym, ◌∙◌, arith, length, List}
 use Rattle.flm_descriptor.specs.declared.geometry.Run.{Run}
 use Rattle.flm_descriptor.specs.Shape.{runs_of, pieces, run_at, cut, pages_of}
@@ -22,8 +23,10 @@ run_pages-total-requires-clause-few c =
     let rise = sectors_rise runs (k + 1) (length runs) (omega (arith, here)) in
     let all = sectors_all runs (length runs) (omega arith) in
     let run = runs_at c.args.size items k c.loop-index-test.true in
-    let same : pieces (get_or items k no_item).size (get_or items k no_item).offset c.stop_of.result ≡ pieces (run_at runs k).step (run_at runs k).start (run_at runs k).stop =
-    ap (λ (s : ℕ). pieces (get_or items k no_item).size (get_or items k no_item).offset s) c.stop_of.ensures ∙ sym (ap (λ (r : Run). pieces r.step r.start r.stop) run) in
+    let same : pieces (get_or items k no_item).size (get_or items k no_item).offset c.stop_of.result ≡ pieces (run_at runs k).step (run_at runs k).start
+    (run_at runs k).stop =
+    ap (λ (s : ℕ). pieces (get_or items k no_item).size (get_or items k no_item).offset s) c.stop_of.ensures ∙
+    sym (ap (λ (r : Run). pieces r.step r.start r.stop) run) in
     omega (arith, next, rise, all, same, c.requires.sectors)
 
 pub loop-index-preserved : goal.loop-index-preserved
@@ -43,4 +46,5 @@ loop-index-preserved c =
 pub returns : goal.returns
 returns c =
     c.loop-index.invariant.total
-    ∙ pages_all c.args.page (runs_of c.args.size c.args.items.now) c.loop-index.index (omega (arith, length-runs c.args.size c.args.items.now, c.loop-index-test.false))
+    ∙ pages_all c.args.page (runs_of c.args.size c.args.items.now) c.loop-index.index
+    (omega (arith, length-runs c.args.size c.args.items.now, c.loop-index-test.false))

@@ -1,3 +1,4 @@
+-- `count_pages`: what holds at each turn of its loop.
 use Rattle.std.proofs.Common.{◌≡◌, ◌*◌, ◌≤◌}
 use Rattle.flm_descriptor.specs.Shape.{runs_of, pages_before}
 use Rattle.flm_descriptor.proofs.geometry.count_pages.Given as goal

@@ -1,3 +1,4 @@
+-- `count_pieces`: the value that it answers.
 use Rattle.flm_descriptor.proofs.RunLemmas.{pieces_none, pieces_counted}
 use Rattle.std.proofs.Common.{arith}
 use Rattle.flm_descriptor.proofs.geometry.count_pieces.Goals as goal

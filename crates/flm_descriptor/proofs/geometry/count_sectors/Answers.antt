@@ -1,3 +1,4 @@
+-- `count_sectors`: the value that it answers, that its loop keeps what it has to, and what `count_pieces` asks for.
 use Rattle.std.proofs.Common.{◌≡◌, ℕ, ◌<◌, get_or, ap, sym, ◌∙◌, arith, length}
 use Rattle.flm_descriptor.specs.declared.geometry.Run.{Run}
 use Rattle.flm_descriptor.specs.Shape.{runs_of, pieces}
@@ -19,9 +20,12 @@ loop-index-preserved c =
     let here : k < length (runs_of c.args.size c.args.items.now) = omega (arith, length-runs c.args.size c.args.items.now, c.loop-index-test.true) in
     let next = sectors_next 1 (runs_of c.args.size c.args.items.now) k here in
     let run = runs_at c.args.size c.args.items.now k c.loop-index-test.true in
-    let same : c.count_pieces.result ≡ pieces (run_at (runs_of c.args.size c.args.items.now) k).step (run_at (runs_of c.args.size c.args.items.now) k).start (run_at (runs_of c.args.size c.args.items.now) k).stop =
-    c.count_pieces.ensures ∙ ap (λ (s : ℕ). pieces (get_or c.args.items.now k no_item).size (get_or c.args.items.now k no_item).offset s) c.stop_of-stop.ensures ∙ sym (ap (λ (r : Run). pieces r.step r.start r.stop) run) in
+    let same : c.count_pieces.result ≡ pieces (run_at (runs_of c.args.size c.args.items.now) k).step (run_at (runs_of c.args.size c.args.items.now) k).start
+    (run_at (runs_of c.args.size c.args.items.now) k).stop =
+    c.count_pieces.ensures ∙ ap (λ (s : ℕ). pieces (get_or c.args.items.now k no_item).size (get_or c.args.items.now k no_item).offset s) c.stop_of-stop.ensures
+    ∙ sym (ap (λ (r : Run). pieces r.step r.start r.stop) run) in
     record { total = omega (arith, next, same, c.loop-index.invariant.total, c.from-total.ensures); small = omega arith }
 
 pub returns : goal.returns
-returns c = c.loop-index.invariant.total ∙ sectors_all (runs_of c.args.size c.args.items.now) c.loop-index.index (omega (arith, length-runs c.args.size c.args.items.now, c.loop-index-test.false))
+returns c = c.loop-index.invariant.total ∙ sectors_all (runs_of c.args.size c.args.items.now) c.loop-index.index
+    (omega (arith, length-runs c.args.size c.args.items.now, c.loop-index-test.false))

@@ -1,3 +1,4 @@
+-- `count_sectors`: what holds at each turn of its loop.
 use Rattle.std.proofs.Common.{◌≡◌, ◌*◌, ◌≤◌}
 use Rattle.flm_descriptor.specs.Shape.{runs_of}
 use Rattle.flm_descriptor.specs.Shape.{sectors_before}

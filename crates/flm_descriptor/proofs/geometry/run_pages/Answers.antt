@@ -1,3 +1,4 @@
+-- `run_pages`: its clause `pages`, and that no number overflows.
 use Rattle.std.proofs.Common.{◌≡◌, ◌-◌, ◌<◌, arith}
 use Rattle.flm_descriptor.specs.Shape.{pieces}
 use Rattle.flm_descriptor.proofs.CutLemmas.{pieces_below}
@@ -23,5 +24,6 @@ overflow_add-last c =
 
 pub returns-clause-pages : goal.returns-clause-pages
 returns-clause-pages c =
-    let all = run_counted c.args.page c.args.run.step c.args.run.start c.args.run.stop c.requires.page c.requires.step c.count_pieces-count.result c.count_pieces-each.result c.count_pieces.result c.if-count-eq0.false c.count_pieces-count.ensures c.count_pieces-each.ensures c.count_pieces.ensures in
+    let all = run_counted c.args.page c.args.run.step c.args.run.start c.args.run.stop c.requires.page c.requires.step c.count_pieces-count.result
+    c.count_pieces-each.result c.count_pieces.result c.if-count-eq0.false c.count_pieces-count.ensures c.count_pieces-each.ensures c.count_pieces.ensures in
     cc (all, c.from.ensures, c.from-2.ensures, c.from-3.ensures)

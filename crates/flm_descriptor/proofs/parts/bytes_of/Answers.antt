@@ -1,3 +1,4 @@
+-- `bytes_of`: its clause `long`.
 use Rattle.flm_descriptor.proofs.PartLemmas.{section_part-long}
 use Rattle.flm_descriptor.proofs.parts.bytes_of.Goals as goal
 

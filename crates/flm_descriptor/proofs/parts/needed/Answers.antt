@@ -1,3 +1,4 @@
+-- `needed`: its clause `typed`.
 use Rattle.std.proofs.Common.{◌≡◌, ◌∙◌, sym}
 use Rattle.elf32.specs.Tables.{section_of}
 use Rattle.flm_descriptor.specs.Parts.{text_of}

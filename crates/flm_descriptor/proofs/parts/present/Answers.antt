@@ -1,3 +1,4 @@
+-- `present`: its clause `typed`.
 use Rattle.std.proofs.Common.{◌∙◌, sym}
 use Rattle.std.specs.Prelude.{codes}
 use Rattle.flm_descriptor.proofs.PartLemmas.{section_of-kind}

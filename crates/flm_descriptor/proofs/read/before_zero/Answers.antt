@@ -1,3 +1,4 @@
+-- `before_zero`: that it keeps its contract.
 use Rattle.std.proofs.Common.{refl}
 use Rattle.elf32.specs.Strings.{is_zero}
 use Rattle.octets.proofs.LineLemmas.{unwrap_or-position}

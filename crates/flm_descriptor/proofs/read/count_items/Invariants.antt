@@ -1,3 +1,4 @@
+-- `count_items`: what holds at each turn of its loop.
 use Rattle.std.proofs.Common.{◌≡◌, None}
 use Rattle.elf32.specs.Search.{first_below}
 use Rattle.flm_descriptor.specs.Described.{is_end}

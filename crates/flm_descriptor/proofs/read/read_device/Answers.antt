@@ -1,3 +1,4 @@
+-- `read_device`: its clause `device`.
 use Rattle.std.proofs.Common.{◌≡◌, ◌+◌, length, false, ltb, refl}
 use Rattle.std.proofs.lemmas.Bool.{le-ltb}
 use Rattle.flm_descriptor.specs.Described.{device_of, fields_at}

@@ -1,3 +1,4 @@
+-- `read_items`: that its loop keeps what it has to.
 use Rattle.std.proofs.Common.{◌∷◌, [], sym, ap, ◌∙◌, arith, length, length-append}
 use Rattle.flm_descriptor.proofs.DescribedLemmas.{items_more}
 use Rattle.flm_descriptor.proofs.read.read_items.Goals as goal

@@ -1,3 +1,4 @@
+-- `read_items`: what holds at each turn of its loop.
 use Rattle.std.proofs.Common.{◌≡◌, length}
 use Rattle.std.specs.Prelude.{map}
 use Rattle.std.specs.List.{range_with_len}

@@ -1,3 +1,4 @@
+-- `items`: that it keeps its contract, and that its loop keeps what it has to.
 use Rattle.std.proofs.Common.{◌+◌, ◌*◌, ◌++◌, List, drop, get_or, sym, ap, ◌∙◌, arith}
 use Rattle.board_file.specs.declared.sectors.SectorRun.{SectorRun}
 use Rattle.flm_descriptor.specs.declared.items.SectorItem.{SectorItem}
@@ -13,7 +14,8 @@ loop-run-preserved c =
     let runs = c.args.runs.now in
     let l = c.loop-run in
     record {
-      made = ap (λ (r : List SectorItem). r ++ items_from (l.offset + (get_or runs l.run-index no_run).count * (get_or runs l.run-index no_run).size) (drop (l.run-index + 1) runs)) c.in_ok-push.ensures.items
+      made = ap (λ (r : List SectorItem). r ++ items_from (l.offset + (get_or runs l.run-index no_run).count * (get_or runs l.run-index no_run).size)
+          (drop (l.run-index + 1) runs)) c.in_ok-push.ensures.items
           ∙ items_more runs l.run-index l.offset no_run l.items.items (omega arith) ∙ l.invariant.made;
       left = omega (arith, cells_more runs l.run-index no_run (omega arith), l.invariant.left);
     }

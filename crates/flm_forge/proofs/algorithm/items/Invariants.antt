@@ -1,3 +1,4 @@
+-- `items`: what holds at each turn of its loop.
 use Rattle.std.proofs.Common.{◌≡◌, ◌+◌, ◌++◌, drop}
 use Rattle.board_file.specs.Limits.{cells_of}
 use Rattle.flm_forge.specs.Listed.{items_from}

@@ -1,3 +1,4 @@
+-- `put_device`: its clauses `bytes` and `fits`.
 use Rattle.std.proofs.Common.{◌++◌, ℕ, List, [], ◌∷◌, ap, ◌∙◌, arith}
 use Rattle.std.proofs.lemmas.Result.{on_ok_weaker}
 use Rattle.flm_forge.specs.Device.{device_bytes, name_field, on_chip, version}

@@ -1,3 +1,4 @@
+-- `put_items`: that its loop keeps what it has to.
 use Rattle.std.proofs.Common.{arith}
 use Rattle.std.proofs.lemmas.List.Elements.{All-more}
 use Rattle.flm_descriptor.specs.declared.items.SectorItem.{SectorItem}
@@ -14,6 +15,8 @@ loop-item-preserved c =
     let items = c.args.items.now in
     let fit = c.in_ok-put_words.ensures.fit in
     record {
-      made = one_more item_bytes items l.item-index no_item l.out.items c.put_words.new.out.items c.args.out.now.items (omega arith) l.invariant.made c.in_ok-put_words.ensures.bytes;
-      fit = All-more ItemFits items l.item-index no_item (omega arith) l.invariant.fit (record { size = fit 0 0 (omega arith); offset = fit 1 0 (omega arith) });
+      made = one_more item_bytes items l.item-index no_item l.out.items c.put_words.new.out.items c.args.out.now.items
+          (omega arith) l.invariant.made c.in_ok-put_words.ensures.bytes;
+      fit = All-more ItemFits items l.item-index no_item (omega arith) l.invariant.fit
+          (record { size = fit 0 0 (omega arith); offset = fit 1 0 (omega arith) });
     }

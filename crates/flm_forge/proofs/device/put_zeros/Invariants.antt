@@ -1,3 +1,4 @@
+-- `put_zeros`: what holds at each turn of its loop.
 use Rattle.std.proofs.Common.{◌≡◌, ◌++◌}
 use Rattle.std.specs.Prelude.{replicate}
 use Rattle.flm_forge.proofs.device.put_zeros.Given as goal

@@ -1,3 +1,4 @@
+-- `file`: its clause `bytes`.
 use Rattle.std.proofs.Common.{◌≡◌, ◌++◌, ℕ, List, ap, ◌∙◌}
 use Rattle.std.specs.List.{flat_map}
 use Rattle.flm_forge.specs.declared.sizes.Sizes.{Sizes}

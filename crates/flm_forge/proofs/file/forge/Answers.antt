@@ -1,3 +1,4 @@
+-- `forge`: its clauses `exact` and `ok`.
 use Rattle.std.proofs.Common.{◌<◌, ◌^◌, ℕ, List, subst}
 use Rattle.std.proofs.lemmas.Result.{err_from_is_err_and}
 use Rattle.armv6m_asm.specs.Assembly.{IsAssembled, IsRefused}
@@ -24,4 +25,5 @@ returns-clause-ok c =
     let code = c.in_ok-code.code in
     let assembled = subst (λ (text : List ℕ). IsAssembled text code) c.bytes.ensures c.in_ok-code.ensures.ok in
     let ends = subst (λ (sizes : Sizes). end_of sizes < 2 ^ 32) c.in_ok-sizes.ensures.sizes c.in_ok-sizes.ensures.fits in
-    forged c.args.listing.now code c.in_ok-file.field-0 assembled c.in_ok-file.ensures.bytes ends c.in_ok-file.ensures.listing_fits c.in_ok-sizes.ensures.zero_len_fits
+    forged c.args.listing.now code c.in_ok-file.field-0 assembled c.in_ok-file.ensures.bytes ends c.in_ok-file.ensures.listing_fits
+    c.in_ok-sizes.ensures.zero_len_fits

@@ -1,6 +1,8 @@
+-- `put_text`: that it keeps its contract.
 use Rattle.std.proofs.Common.{◌++◌, ℕ, List, [], ◌∷◌, sym, ap, ◌∙◌}
 use Rattle.std.proofs.lemmas.Result.{on_ok_weaker}
-use Rattle.flm_forge.specs.Texts.{constant_lines, erase_chip_lines, erase_lines, erase_sector_lines, init_lines, lie_lines, program_page_first, program_page_lines, text_of, un_init_first, un_init_lines, verify_lines}
+use Rattle.flm_forge.specs.Texts.{constant_lines, erase_chip_lines, erase_lines, erase_sector_lines, init_lines, lie_lines, program_page_first}
+use Rattle.flm_forge.specs.Texts.{program_page_lines, text_of, un_init_first, un_init_lines, verify_lines}
 use Rattle.flm_forge.proofs.TextLemmas.{text_split}
 use Rattle.flm_forge.proofs.WriteLemmas.{eleven_parts}
 use Rattle.flm_forge.proofs.kind.put_text.Goals as goal
@@ -21,7 +23,8 @@ returns c =
     let e10 = c.in_ok-put-10.ensures ∙ ap (λ (t : List ℕ). c.put-9.new.out.items ++ t) c.lie.ensures in
     on_ok_weaker c.put_constants.result
     (λ last. eleven_parts start (text_of (init_lines kind)) (text_of (un_init_first kind ∷ [])) (text_of (un_init_lines kind)) (text_of (erase_chip_lines kind))
-    (text_of (erase_sector_lines kind)) (text_of (erase_lines kind)) (text_of (program_page_first kind)) (text_of (program_page_lines kind)) (text_of verify_lines)
+    (text_of (erase_sector_lines kind)) (text_of (erase_lines kind)) (text_of (program_page_first kind)) (text_of (program_page_lines kind))
+    (text_of verify_lines)
     (text_of (lie_lines kind)) (text_of (constant_lines base))
     c.put.new.out.items c.put-2.new.out.items c.put-3.new.out.items c.put-4.new.out.items c.put-5.new.out.items c.put-6.new.out.items c.put-7.new.out.items
     c.put-8.new.out.items c.put-9.new.out.items c.put-10.new.out.items c.put_constants.new.out.items

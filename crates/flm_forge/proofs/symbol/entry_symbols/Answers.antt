@@ -1,3 +1,4 @@
+-- `entry_symbols`: its clause `symbols`.
 use Rattle.std.proofs.Common.{◌≡◌, ℕ, take, ap, ◌∙◌, arith}
 use Rattle.std.specs.List.{flat_map}
 use Rattle.flm_forge.specs.Entries.{entry_names, shown_place}

@@ -1,3 +1,4 @@
+-- `entry_symbols`: what holds at each turn of its loop.
 use Rattle.std.proofs.Common.{◌≡◌, ◌≤◌, length, take}
 use Rattle.std.specs.List.{flat_map}
 use Rattle.flm_forge.specs.Entries.{shown_place}

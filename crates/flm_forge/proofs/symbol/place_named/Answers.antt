@@ -1,3 +1,4 @@
+-- `place_named`: the value that it answers.
 use Rattle.flm_forge.proofs.EntryLemmas.{named_is}
 use Rattle.flm_forge.proofs.symbol.place_named.Goals as goal
 

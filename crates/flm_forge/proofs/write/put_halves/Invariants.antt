@@ -1,3 +1,4 @@
+-- `put_halves`: what holds at each turn of its loop.
 use Rattle.std.proofs.Common.{◌≡◌, ◌++◌, take}
 use Rattle.std.specs.List.{flat_map}
 use Rattle.flm_forge.specs.Fields.{half_bytes}

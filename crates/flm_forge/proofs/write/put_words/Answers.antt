@@ -1,3 +1,4 @@
+-- `put_words`: its clause `fit`.
 use Rattle.std.proofs.Common.{◌<◌, ◌^◌, ℕ, subst}
 use Rattle.std.proofs.lemmas.List.{get_or_default}
 use Rattle.flm_forge.proofs.write.put_words.Goals as goal

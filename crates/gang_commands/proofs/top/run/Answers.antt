@@ -1,5 +1,5 @@
 -- `run`: its contract, `Runs`, and what `put_targets` asks for.
-use Rattle.std.proofs.Common.{◌≡◌, ◌∙◌, length, refl, sym, arith, inl, inr}
+use Rattle.std.proofs.Common.{refl, sym, arith, inl, inr}
 use Rattle.gang_commands.proofs.top.run.Goals as goal
 
 pub put_targets-requires-clause-count : goal.put_targets-requires-clause-count

@@ -6,5 +6,10 @@ pub loop-number-init : goal.loop-number-init
 loop-number-init g c = (c.requires.gang, c.requires.ready, refl, sym c.requires.count)
 
 pub loop-number-preserved : goal.loop-number-preserved
-loop-number-preserved g c =
-    (c.turn.ensures.gang, c.turn.ensures.ready, c.turn.ensures.turn.count ∙ c.loop-number.invariant.2, c.turn.ensures.turn.places ∙ c.loop-number.invariant.3 ∙ sym c.turn.ensures.turn.count)
+loop-number-preserved g c = (
+  c.turn.ensures.gang,
+  c.turn.ensures.ready,
+  c.turn.ensures.turn.count ∙ c.loop-number.invariant.2,
+  c.turn.ensures.turn.places ∙ c.loop-number.invariant.3
+      ∙ sym c.turn.ensures.turn.count,
+)

@@ -1,5 +1,5 @@
 -- `turns_taken`: what holds at each turn of its loop.
-use Rattle.std.specs.Prelude.{◌≡◌, ◌≤◌, length}
+use Rattle.std.specs.Prelude.{◌≡◌, length}
 use Rattle.gang_run.specs.Gangs.{IsGang, AreReady}
 use Rattle.gang_vectors.proofs.gangs.turns_taken.Given as goal
 

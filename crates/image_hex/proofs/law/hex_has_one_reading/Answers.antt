@@ -1,3 +1,4 @@
+-- `hex_has_one_reading`: the law.
 use Rattle.record_lines.proofs.OneReading.{one_text_image}
 use Rattle.image_hex.specs.Hex.{hex}
 use Rattle.image_hex.proofs.OneHex.{hex_memory_alone, one_hex_fault}

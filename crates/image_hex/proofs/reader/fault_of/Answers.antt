@@ -1,3 +1,4 @@
+-- `fault_of`: its contract, `IsHexFault`.
 use Rattle.std.proofs.Common.{refl, subst}
 use Rattle.record_lines.specs.Format.{IsTextFault}
 use Rattle.image_hex.specs.Hex.{hex}

@@ -1,3 +1,4 @@
+-- `read_hex`: its clause `err`.
 use Rattle.octets.specs.Lines.{lines_of}
 use Rattle.image_hex.proofs.reader.read_hex.Goals as goal
 

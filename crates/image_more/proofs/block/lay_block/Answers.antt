@@ -1,3 +1,4 @@
+-- `lay_block`: its clause `union`.
 use Rattle.std.proofs.Common.{◌≡◌, ◌∙◌, ◌++◌, sym, subst, Bool, false, cond, [], ◌∷◌}
 use Rattle.byte_map.specs.Laying.{Lays}
 use Rattle.record_lines.specs.Gathered.{IsUnionOf}

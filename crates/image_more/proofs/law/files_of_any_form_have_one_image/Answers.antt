@@ -1,3 +1,4 @@
+-- `files_of_any_form_have_one_image`: its clauses `image`, `alone` and `fault`.
 use Rattle.image_more.proofs.AnyLemmas.{one_any_image, any_memory_alone, one_any_fault}
 use Rattle.image_more.proofs.law.files_of_any_form_have_one_image.Goals as goal
 

@@ -1,3 +1,4 @@
+-- `files_of_texts_are_their_maps`: its clauses `hex`, `hex_alone`, `srec` and `srec_alone`.
 use Rattle.image_more.proofs.LawLemmas.{hex_file, hex_file_alone, srec_file, srec_file_alone}
 use Rattle.image_more.proofs.law.files_of_texts_are_their_maps.Goals as goal
 

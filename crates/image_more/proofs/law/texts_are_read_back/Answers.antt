@@ -1,3 +1,4 @@
+-- `texts_are_read_back`: its clauses `hex`, `hex_alone`, `srec` and `srec_alone`.
 use Rattle.image_more.proofs.HexLemmas.{hex_is_read}
 use Rattle.image_more.proofs.SrecLemmas.{srec_is_read}
 use Rattle.image_more.proofs.LawLemmas.{hex_read_alone, srec_read_alone}

@@ -1,3 +1,4 @@
+-- `uf2_files_have_one_image`: its clauses `image` and `alone`.
 use Rattle.image_more.proofs.Uf2Laws.{one_uf2_image, uf2_memory_alone}
 use Rattle.image_more.proofs.law.uf2_files_have_one_image.Goals as goal
 

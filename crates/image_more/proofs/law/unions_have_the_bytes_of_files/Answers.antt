@@ -1,3 +1,4 @@
+-- `unions_have_the_bytes_of_files`: its clauses `from` and `to`.
 use Rattle.image_more.proofs.FilesLemmas.{union_from, union_to}
 use Rattle.image_more.proofs.law.unions_have_the_bytes_of_files.Goals as goal
 

@@ -1,3 +1,4 @@
+-- `gather_digits`: what holds at each turn of its loop.
 use Rattle.std.proofs.Common.{◌≡◌, ◌++◌, ◌+◌, ◌*◌, length, take}
 use Rattle.image_more.specs.Texts.{digits}
 use Rattle.image_more.proofs.line.gather_digits.Given as goal

@@ -1,3 +1,4 @@
+-- `gather_srec_line`: its contract, `Gathers`.
 use Rattle.std.proofs.Common.{◌≡◌, ◌-◌, ◌%◌, ◌++◌, ◌∙◌, sym, ap, append-nil, ℕ, List, [], ◌∷◌}
 use Rattle.std.specs.Prelude.{sum}
 use Rattle.byte_map.specs.Image.{Run}

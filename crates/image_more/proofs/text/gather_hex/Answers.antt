@@ -1,3 +1,4 @@
+-- `gather_hex`: its contract, `Gathers`.
 use Rattle.std.proofs.Common.{List, ℕ, [], ◌∷◌, None}
 use Rattle.std.specs.Prelude.{codes}
 use Rattle.image_more.specs.declared.form.RowForm.TheVariants.{Hex}

@@ -1,3 +1,4 @@
+-- `gather_row`: its contract, `Gathers`.
 use Rattle.std.proofs.Common.{◌∙◌, ◌/◌, ◌%◌, [], ◌∷◌, sym, ap}
 use Rattle.byte_map.specs.Image.{Run}
 use Rattle.image_more.specs.declared.form.RowForm.{RowForm}

@@ -1,3 +1,4 @@
+-- `gather_rows`: its contract, `Gathers`, that its loop keeps what it has to, and what `gather_run` asks for.
 use Rattle.std.proofs.Common.{◌≡◌, ◌+◌, ◌≤◌, ◌<◌, length, drop, ap, refl, subst, arith, []}
 use Rattle.std.proofs.lemmas.List.{drop_all}
 use Rattle.std.proofs.lemmas.Option.{get_or_from_slice_get}
@@ -28,7 +29,8 @@ returns-in_err-gather_run g c =
     let run : Run = record { at = c.run-at.result.0; bytes = c.run-at.result.1.now } in
     let lt : index < length runs = omega (arith, c.runs-index-end.ensures.count, c.loop-index-test.true) in
     gathers_failed _ c.from_residual.ensures.0
-    (rows_break c.loop-index.invariant (run_rows run.at run.bytes) (rows_of (drop (index + 1) runs)) (rows_step runs index run lt c.run-at.ensures) c.in_err-gather_run.ensures.text)
+    (rows_break c.loop-index.invariant (run_rows run.at run.bytes) (rows_of (drop (index + 1) runs)) (rows_step runs index run lt c.run-at.ensures)
+    c.in_err-gather_run.ensures.text)
 
 pub loop-index-preserved : goal.loop-index-preserved
 loop-index-preserved g c =

@@ -1,3 +1,4 @@
+-- `gather_srec`: its contract, `Gathers`.
 use Rattle.std.proofs.Common.{List, ℕ, [], ◌∷◌, ◌++◌, Ok, Err}
 use Rattle.std.specs.Prelude.{codes}
 use Rattle.image_more.specs.declared.form.RowForm.TheVariants.{Srec}

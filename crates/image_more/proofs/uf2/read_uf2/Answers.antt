@@ -1,3 +1,4 @@
+-- `read_uf2`: that its loop keeps what it has to.
 use Rattle.image_more.specs.Uf2.{runs_before}
 use Rattle.image_more.proofs.Uf2Lemmas.{block_more}
 use Rattle.image_more.proofs.uf2.read_uf2.Goals as goal

@@ -1,3 +1,4 @@
+-- `read_uf2`: what holds at each turn of its loop.
 use Rattle.image_more.specs.Uf2.{IsImageBefore}
 use Rattle.image_more.proofs.uf2.read_uf2.Given as goal
 

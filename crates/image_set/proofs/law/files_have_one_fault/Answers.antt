@@ -1,3 +1,4 @@
+-- `files_have_one_fault`: the law.
 use Rattle.image_set.proofs.FileLemmas.{one_fault}
 use Rattle.image_set.proofs.law.files_have_one_fault.Goals as goal
 

@@ -1,3 +1,4 @@
+-- `check_ranges`: what holds at each turn of its loop.
 use Rattle.image_set.proofs.RangeLemmas.{LieBefore}
 use Rattle.image_set.proofs.ranges.check_ranges.Given as goal
 

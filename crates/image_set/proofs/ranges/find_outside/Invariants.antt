@@ -1,3 +1,4 @@
+-- `find_outside`: what holds at each turn of its loop, and what falls with it.
 use Rattle.std.proofs.Common.{ℕ, ◌<◌, ◌≤◌, ◌-◌}
 use Rattle.std.specs.Prelude.{IsTrue}
 use Rattle.image_set.specs.Ranges.{is_inside}

@@ -1,3 +1,4 @@
+-- `skip_range`: its clause `outside`.
 use Rattle.std.proofs.Common.{arith}
 use Rattle.image_set.proofs.RangeLemmas.{none_inside}
 use Rattle.image_set.proofs.ranges.skip_range.Goals as goal

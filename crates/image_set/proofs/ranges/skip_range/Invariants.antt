@@ -1,3 +1,4 @@
+-- `skip_range`: what holds at each turn of its loop.
 use Rattle.std.proofs.Common.{◌≡◌, ℕ, ◌<◌, false, get_or}
 use Rattle.image_set.specs.Ranges.{is_in_range}
 use Rattle.image_set.proofs.ranges.skip_range.Given as goal

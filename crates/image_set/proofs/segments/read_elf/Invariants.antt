@@ -1,3 +1,4 @@
+-- `read_elf`: what holds at each turn of its loop.
 use Rattle.std.proofs.Common.{◌≡◌, ◌+◌}
 use Rattle.image_set.specs.Segments.{size_before, IsImageBefore}
 use Rattle.image_set.proofs.segments.read_elf.Given as goal

@@ -1,3 +1,4 @@
+-- `lay_next`: its clauses `ok` and `refused`, and that no number overflows.
 use Rattle.std.proofs.Common.{◌-◌, ◌^◌, take, sym, subst, arith}
 use Rattle.std.proofs.lemmas.Result.{err_from_is_err_and}
 use Rattle.byte_map.proofs.Runs.{few_runs}
@@ -29,7 +30,8 @@ returns-in_err-lay_run-clause-refused c =
     let new = c.args.index - c.args.old in
     let p = err_from_is_err_and c.from_residual.result c.from_residual.ensures.1 in
     rw (p.1, p.2) (new_fault other image new c.args.old c.args.union.now c.in_err-lay_run.field-0.0 c.requires.maximal.1 c.requires.maximal.0
-    (c.comes_first.ensures.new c.if-comes_first.false) (union_swap (take c.args.old image) (take new other) c.args.union.now c.requires.united.union_is) c.in_err-lay_run.ensures.refused)
+    (c.comes_first.ensures.new c.if-comes_first.false) (union_swap (take c.args.old image) (take new other) c.args.union.now c.requires.united.union_is)
+    c.in_err-lay_run.ensures.refused)
 
 pub returns-in_ok-lay_run-clause-ok : goal.returns-in_ok-lay_run-clause-ok
 returns-in_ok-lay_run-clause-ok c =

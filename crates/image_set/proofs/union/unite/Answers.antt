@@ -1,3 +1,4 @@
+-- `unite`: that its loop keeps what it has to, and that no number overflows.
 use Rattle.std.proofs.Common.{◌^◌, arith}
 use Rattle.byte_map.proofs.Runs.{few_runs}
 use Rattle.image_set.proofs.UnionLemmas.{united_none}
@@ -5,7 +6,13 @@ use Rattle.image_set.proofs.union.unite.Goals as goal
 
 pub overflow_add-index-end : goal.overflow_add-index-end
 overflow_add-index-end c =
-    omega (arith, c.runs.ensures.count, c.runs-2.ensures.count, few_runs 0 (2 ^ 32) c.args.image.now c.runs.ensures.maximal, few_runs 0 (2 ^ 32) c.args.other.now c.runs-2.ensures.maximal)
+    omega (
+      arith,
+      c.runs.ensures.count,
+      c.runs-2.ensures.count,
+      few_runs 0 (2 ^ 32) c.args.image.now c.runs.ensures.maximal,
+      few_runs 0 (2 ^ 32) c.args.other.now c.runs-2.ensures.maximal,
+    )
 
 pub loop-index-init : goal.loop-index-init
 loop-index-init c = united_none c.args.image.now c.args.other.now _ c.new-union.ensures

@@ -1,3 +1,4 @@
+-- `unite`: what holds at each turn of its loop.
 use Rattle.image_set.specs.Union.{IsUnited}
 use Rattle.image_set.proofs.union.unite.Given as goal
 

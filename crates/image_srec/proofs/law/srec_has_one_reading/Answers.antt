@@ -1,3 +1,4 @@
+-- `srec_has_one_reading`: the law.
 use Rattle.record_lines.proofs.OneReading.{one_text_image}
 use Rattle.image_srec.specs.Srec.{srec}
 use Rattle.image_srec.proofs.OneSrec.{srec_memory_alone, one_srec_fault}

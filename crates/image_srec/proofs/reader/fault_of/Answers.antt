@@ -1,3 +1,4 @@
+-- `fault_of`: its contract, `IsSrecFault`.
 use Rattle.std.proofs.Common.{refl, subst}
 use Rattle.record_lines.specs.Format.{IsTextFault}
 use Rattle.image_srec.specs.Srec.{srec}

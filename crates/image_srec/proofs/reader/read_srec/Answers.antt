@@ -1,3 +1,4 @@
+-- `read_srec`: its clause `err`.
 use Rattle.octets.specs.Lines.{lines_of}
 use Rattle.image_srec.proofs.reader.read_srec.Goals as goal
 

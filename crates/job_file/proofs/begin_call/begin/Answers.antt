@@ -16,9 +16,16 @@ pub returns-clause-ok : goal.returns-clause-ok
 returns-clause-ok g c = λ told.
     let p = c.args.parts.now in
     let d = g.B.Bench.state c.drop_and_put.new.bench in
-    let many : length d.cells ≡ p.size = omega (arith, g.met.B.Bench.all_told c.drop_and_put.new.bench told, c.drop_and_put.ensures.count, c.prepare.ensures.reads.cells.count, c.in_ok-head.ensures.sized refl) in
+    let many : length d.cells ≡ p.size = omega (
+      arith,
+      g.met.B.Bench.all_told c.drop_and_put.new.bench told,
+      c.drop_and_put.ensures.count,
+      c.prepare.ensures.reads.cells.count,
+      c.in_ok-head.ensures.sized refl,
+    ) in
     let text = hashed_is p d.cells many in
-    subst (λ (l : List ℕ). OnOk c.drop_and_put.result ((d.file ≡ 165 ∷ l) × LeftOnly (165 ∷ l) (file_half d) × (d.operation ≡ None))) text (c.drop_and_put.ensures.ok told)
+    subst (λ (l : List ℕ). OnOk c.drop_and_put.result ((d.file ≡ 165 ∷ l) × LeftOnly (165 ∷ l) (file_half d) × (d.operation ≡ None))) text
+    (c.drop_and_put.ensures.ok told)
 
 pub returns-clause-stops : goal.returns-clause-stops
 returns-clause-stops g c = λ told.
@@ -26,16 +33,29 @@ returns-clause-stops g c = λ told.
     let a = g.B.Bench.state c.args.bench.now in
     let b = g.B.Bench.state c.prepare.new.bench in
     let d = g.B.Bench.state c.drop_and_put.new.bench in
-    let many : length d.cells ≡ p.size = omega (arith, g.met.B.Bench.all_told c.drop_and_put.new.bench told, c.drop_and_put.ensures.count, c.prepare.ensures.reads.cells.count, c.in_ok-head.ensures.sized refl) in
+    let many : length d.cells ≡ p.size = omega (
+      arith,
+      g.met.B.Bench.all_told c.drop_and_put.new.bench told,
+      c.drop_and_put.ensures.count,
+      c.prepare.ensures.reads.cells.count,
+      c.in_ok-head.ensures.sized refl,
+    ) in
     let text = hashed_is p d.cells many in
-    begins g.B.Bench.tells a b d (with_hash (front_of p ++ d.cells)) (body_of (job_of p d.cells)) c.prepare.ensures.reads (c.drop_and_put.ensures.stops told) text
+    begins g.B.Bench.tells a b d (with_hash (front_of p ++ d.cells)) (body_of (job_of p d.cells)) c.prepare.ensures.reads (c.drop_and_put.ensures.stops told)
+    text
 
 pub returns-clause-after : goal.returns-clause-after
 returns-clause-after g c = λ told is_free.
     let p = c.args.parts.now in
     let b = g.B.Bench.state c.prepare.new.bench in
     let d = g.B.Bench.state c.drop_and_put.new.bench in
-    let many : length d.cells ≡ p.size = omega (arith, g.met.B.Bench.all_told c.drop_and_put.new.bench told, c.drop_and_put.ensures.count, c.prepare.ensures.reads.cells.count, c.in_ok-head.ensures.sized refl) in
+    let many : length d.cells ≡ p.size = omega (
+      arith,
+      g.met.B.Bench.all_told c.drop_and_put.new.bench told,
+      c.drop_and_put.ensures.count,
+      c.prepare.ensures.reads.cells.count,
+      c.in_ok-head.ensures.sized refl,
+    ) in
     let text = hashed_is p d.cells many in
     let body = with_hash (front_of p ++ d.cells) in
     ⊎_elim
@@ -47,9 +67,11 @@ pub returns-in_err-head-clause-unopened : goal.returns-in_err-head-clause-unopen
 returns-in_err-head-clause-unopened g c = λ told.
     let u = c.from_residual.ensures in
     let is : c.from_residual.result ≡ Err c.in_err-head.field-0.0 = search rules in
-    rw is (unopened_other (Unit {0}) (file_half (g.B.Bench.state c.args.bench.now)) (file_half (g.B.Bench.state c.prepare.new.bench)) c.in_err-head.field-0.0 c.in_err-head.ensures.no_device)
+    rw is (unopened_other (Unit {0}) (file_half (g.B.Bench.state c.args.bench.now)) (file_half (g.B.Bench.state c.prepare.new.bench)) c.in_err-head.field-0.0
+    c.in_err-head.ensures.no_device)
 
 pub returns-clause-unopened : goal.returns-clause-unopened
 returns-clause-unopened g c = λ told.
-    unopened_behind (file_half (g.B.Bench.state c.args.bench.now)) (file_half (g.B.Bench.state c.prepare.new.bench)) (file_half (g.B.Bench.state c.drop_and_put.new.bench)) c.drop_and_put.result
+    unopened_behind (file_half (g.B.Bench.state c.args.bench.now)) (file_half (g.B.Bench.state c.prepare.new.bench))
+    (file_half (g.B.Bench.state c.drop_and_put.new.bench)) c.drop_and_put.result
     c.prepare.ensures.reads.moments (c.drop_and_put.ensures.unopened told)

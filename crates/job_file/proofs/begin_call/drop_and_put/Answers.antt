@@ -12,7 +12,8 @@ use Rattle.job_file.proofs.begin_call.drop_and_put.Goals as goal
 
 pub returns-clause-unopened : goal.returns-clause-unopened
 returns-clause-unopened g c = λ told.
-    unopened_behind (file_half (g.B.Bench.state c.args.bench.now)) (file_half (g.B.Bench.state c.cells_drop.new.self)) (file_half (g.B.Bench.state c.put_job.new.bench)) c.put_job.result
+    unopened_behind (file_half (g.B.Bench.state c.args.bench.now)) (file_half (g.B.Bench.state c.cells_drop.new.self))
+    (file_half (g.B.Bench.state c.put_job.new.bench)) c.put_job.result
     (stays_adds_nothing c.cells_drop.ensures.does.file.half) (c.put_job.ensures.unopened told)
 
 pub returns-in_err-cells_drop-clause-unopened : goal.returns-in_err-cells_drop-clause-unopened
@@ -41,4 +42,5 @@ returns-clause-stops g c = λ told.
     let P = IsOfBegin (file_half s) (with_hash (front ++ d.cells)) in
     leaves_then P (stays_leaves P (λ f at. inl at) c.cells_drop.ensures.does.file.half)
     (leaves_as (IsFreeOrWhole (with_hash (front ++ m.cells))) P
-    (λ f either. inr (subst (λ (cells : List ℕ). IsFreeOrWhole (with_hash (front ++ cells)) f) (sym (c.put_job.ensures.cells.cells told)) either)) (c.put_job.ensures.moments told))
+    (λ f either. inr (subst (λ (cells : List ℕ). IsFreeOrWhole (with_hash (front ++ cells)) f) (sym (c.put_job.ensures.cells.cells told)) either))
+    (c.put_job.ensures.moments told))

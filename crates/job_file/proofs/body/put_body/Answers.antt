@@ -30,13 +30,15 @@ returns-in_err-behind-clause-moments g c = λ told.
     shut_by_parts (g.B.Bench.state c.args.bench.now) (g.B.Bench.state c.put_front.new.bench) (c.requires.only told) c.in_err-behind.ensures.appends.moments
 
 pub returns-in_err-behind-clause-cells : goal.returns-in_err-behind-clause-cells
-returns-in_err-behind-clause-cells g c = cells_read_stay g.B.Bench.tells (g.B.Bench.state c.args.bench.now) (g.B.Bench.state c.put_front.new.bench) c.in_err-behind.ensures.appends.cells
+returns-in_err-behind-clause-cells g c = cells_read_stay g.B.Bench.tells (g.B.Bench.state c.args.bench.now) (g.B.Bench.state c.put_front.new.bench)
+    c.in_err-behind.ensures.appends.cells
 
 pub copy_cells-requires-clause-end : goal.copy_cells-requires-clause-end
 copy_cells-requires-clause-end g c = λ told.
     let so_far = c.loop-at.invariant in
     let s = g.B.Bench.state c.args.bench.now in
-    body_end (front_of c.args.parts.now) s.cells (g.B.Bench.state c.loop-at.bench).file c.loop-at.at c.in_ok-behind.behind (so_far.file told) c.in_ok-behind.ensures.end (omega (arith, so_far.within, g.met.B.Bench.all_told c.args.bench.now told))
+    body_end (front_of c.args.parts.now) s.cells (g.B.Bench.state c.loop-at.bench).file c.loop-at.at c.in_ok-behind.behind
+    (so_far.file told) c.in_ok-behind.ensures.end (omega (arith, so_far.within, g.met.B.Bench.all_told c.args.bench.now told))
 
 pub loop-at-preserved : goal.loop-at-preserved
 loop-at-preserved g c =
@@ -52,10 +54,19 @@ loop-at-preserved g c =
     let part : length (take (end - at) window) ≡ end - at = omega (arith, length-take (end - at) window, so_far.room) in
     record {
       within = omega arith;
-      room = omega (arith, length-append c.copy_cells.new.window (drop (end - at) window), length-drop (end - at) window, c.copy_cells.auto.window, part, so_far.room);
+      room = omega (
+        arith,
+        length-append c.copy_cells.new.window (drop (end - at) window),
+        length-drop (end - at) window,
+        c.copy_cells.auto.window,
+        part,
+        so_far.room,
+      );
       file = λ told. cells_more (front_of c.args.parts.now) s.cells now.file new.file at end le (so_far.file told)
-          (e.ok told ∙ ap (λ (n : ℕ). now.file ++ take n (drop at now.cells)) part ∙ ap (λ (l : List ℕ). now.file ++ take (end - at) (drop at l)) (so_far.cells.cells told));
-      hash = λ told. hash_more (drop 39 (front_of c.args.parts.now)) s.cells now.cells c.loop-at.hasher c.copy_cells.new.hasher at end (length (take (end - at) window)) le part (so_far.cells.cells told) (so_far.hash told) (e.hash told);
+          (e.ok told ∙ ap (λ (n : ℕ). now.file ++ take n (drop at now.cells)) part
+          ∙ ap (λ (l : List ℕ). now.file ++ take (end - at) (drop at l)) (so_far.cells.cells told));
+      hash = λ told. hash_more (drop 39 (front_of c.args.parts.now)) s.cells now.cells c.loop-at.hasher c.copy_cells.new.hasher at end
+          (length (take (end - at) window)) le part (so_far.cells.cells told) (so_far.hash told) (e.hash told);
       shut = λ told. still_shut s now new (so_far.shut told) e.moments;
       cells = cells_read_then so_far.cells e.cells;
       store = e.store.on_other refl ∙ so_far.store;
@@ -68,4 +79,5 @@ returns-clause-hash g c = λ told.
     let s = g.B.Bench.state c.args.bench.now in
     let front = front_of c.args.parts.now in
     c.finalize.ensures (drop 39 front ++ take c.loop-at.at s.cells) (so_far.hash told)
-    ∙ ap (λ (l : List ℕ). sha256 (drop 39 front ++ l)) (take_all c.loop-at.at s.cells (omega (arith, so_far.cells.count, so_far.within, g.met.B.Bench.all_told c.args.bench.now told)))
+    ∙ ap (λ (l : List ℕ). sha256 (drop 39 front ++ l)) (take_all c.loop-at.at s.cells
+    (omega (arith, so_far.cells.count, so_far.within, g.met.B.Bench.all_told c.args.bench.now told)))

@@ -9,17 +9,20 @@ use Rattle.job_file.proofs.body.put_files.Goals as goal
 
 pub append-requires-in-Some-clause-end : goal.append-requires-in-Some-clause-end
 append-requires-in-Some-clause-end g c =
-    appended_end g.B.Bench.tells (g.B.Bench.state c.args.bench.now) (g.B.Bench.state c.append.new.bench) c.args.parts.now.flm.now tt c.args.at _ c.in-Ok.ensures c.requires.end (omega arith)
+    appended_end g.B.Bench.tells (g.B.Bench.state c.args.bench.now) (g.B.Bench.state c.append.new.bench) c.args.parts.now.flm.now tt c.args.at _ c.in-Ok.ensures
+    c.requires.end (omega arith)
 
 pub returns-in-Err : goal.returns-in-Err
 returns-in-Err g c =
     let p = c.args.parts.now in
-    appends_fails g.B.Bench.tells (g.B.Bench.state c.args.bench.now) (g.B.Bench.state c.append.new.bench) p.flm.now (concat (flms_of p)) c.in-Err.fault c.in-Err.ensures
+    appends_fails g.B.Bench.tells (g.B.Bench.state c.args.bench.now) (g.B.Bench.state c.append.new.bench) p.flm.now (concat (flms_of p)) c.in-Err.fault
+    c.in-Err.ensures
 
 pub returns-in-None : goal.returns-in-None
 returns-in-None g c =
     let p = c.args.parts.now in
-    appends_as g.B.Bench.tells (g.B.Bench.state c.args.bench.now) (g.B.Bench.state c.append.new.bench) p.flm.now (concat (flms_of p)) tt tt (concat_none p c.in-None.is) c.in-Ok.ensures
+    appends_as g.B.Bench.tells (g.B.Bench.state c.args.bench.now) (g.B.Bench.state c.append.new.bench) p.flm.now (concat (flms_of p)) tt tt
+    (concat_none p c.in-None.is) c.in-Ok.ensures
 
 pub returns-in-Some : goal.returns-in-Some
 returns-in-Some g c =

@@ -12,7 +12,8 @@ use Rattle.job_file.proofs.body.put_front.Goals as goal
 
 pub put_texts-requires-clause-end : goal.put_texts-requires-clause-end
 put_texts-requires-clause-end g c =
-    appended_end g.B.Bench.tells (g.B.Bench.state c.args.bench.now) (g.B.Bench.state c.append.new.bench) c.args.head.now tt 1 _ c.in-Ok.ensures c.requires.end (omega arith)
+    appended_end g.B.Bench.tells (g.B.Bench.state c.args.bench.now) (g.B.Bench.state c.append.new.bench) c.args.head.now tt 1 _ c.in-Ok.ensures c.requires.end
+    (omega arith)
 
 pub put_texts-requires-clause-bound : goal.put_texts-requires-clause-bound
 put_texts-requires-clause-bound g c =
@@ -26,7 +27,8 @@ put_runs-requires-clause-end g c =
     let m = g.B.Bench.state c.append.new.bench in
     let n = g.B.Bench.state c.put_texts.new.bench in
     let texts = p.board.now ++ concat (flms_of p) in
-    appended_end g.B.Bench.tells s n (c.args.head.now ++ texts) tt 1 _ (appends_then g.B.Bench.tells s m n c.args.head.now texts tt well c.in-Ok.ensures c.in-Ok-put_texts.ensures) c.requires.end
+    appended_end g.B.Bench.tells s n (c.args.head.now ++ texts) tt 1 _
+    (appends_then g.B.Bench.tells s m n c.args.head.now texts tt well c.in-Ok.ensures c.in-Ok-put_texts.ensures) c.requires.end
     (omega (arith, length-append c.args.head.now texts, length-append p.board.now (concat (flms_of p)), c.files_len.ensures.value))
 
 pub put_runs-requires-clause-bound : goal.put_runs-requires-clause-bound
@@ -39,7 +41,8 @@ put_runs-requires-clause-short g c = short_parts c.args.parts.now c.requires.par
 
 pub returns-in-Err-clause-appends : goal.returns-in-Err-clause-appends
 returns-in-Err-clause-appends g c =
-    appends_fails g.B.Bench.tells (g.B.Bench.state c.args.bench.now) (g.B.Bench.state c.append.new.bench) c.args.head.now (front_of c.args.parts.now) c.in-Err.fault c.in-Err.ensures
+    appends_fails g.B.Bench.tells (g.B.Bench.state c.args.bench.now) (g.B.Bench.state c.append.new.bench) c.args.head.now
+    (front_of c.args.parts.now) c.in-Err.fault c.in-Err.ensures
 
 pub returns-in-Err-put_texts-clause-appends : goal.returns-in-Err-put_texts-clause-appends
 returns-in-Err-put_texts-clause-appends g c =
@@ -49,7 +52,8 @@ returns-in-Err-put_texts-clause-appends g c =
     let n = g.B.Bench.state c.put_texts.new.bench in
     let texts = p.board.now ++ concat (flms_of p) in
     let failed : Result (Unit {0}) StoreFault = Err c.in-Err-put_texts.fault in
-    appends_fails g.B.Bench.tells s n (c.args.head.now ++ texts) (front_of p) c.in-Err-put_texts.fault (appends_then g.B.Bench.tells s m n c.args.head.now texts tt failed c.in-Ok.ensures c.in-Err-put_texts.ensures)
+    appends_fails g.B.Bench.tells s n (c.args.head.now ++ texts) (front_of p) c.in-Err-put_texts.fault
+    (appends_then g.B.Bench.tells s m n c.args.head.now texts tt failed c.in-Ok.ensures c.in-Err-put_texts.ensures)
 
 pub returns-in-Ok-put_texts-clause-appends : goal.returns-in-Ok-put_texts-clause-appends
 returns-in-Ok-put_texts-clause-appends g c =
@@ -60,7 +64,8 @@ returns-in-Ok-put_texts-clause-appends g c =
     let t = g.B.Bench.state c.put_runs.new.bench in
     let texts = p.board.now ++ concat (flms_of p) in
     let runs = flat_map run_text p.image.now in
-    let all = appends_then g.B.Bench.tells s n t (c.args.head.now ++ texts) runs tt c.put_runs.result (appends_then g.B.Bench.tells s m n c.args.head.now texts tt well c.in-Ok.ensures c.in-Ok-put_texts.ensures) c.put_runs.ensures.appends in
+    let all = appends_then g.B.Bench.tells s n t (c.args.head.now ++ texts) runs tt c.put_runs.result
+    (appends_then g.B.Bench.tells s m n c.args.head.now texts tt well c.in-Ok.ensures c.in-Ok-put_texts.ensures) c.put_runs.ensures.appends in
     subst (λ (l : List ℕ). Appends g.B.Bench.tells s t (l ++ texts ++ runs) c.put_runs.result) c.requires.head all
 
 pub returns-in-Ok-put_texts-clause-end : goal.returns-in-Ok-put_texts-clause-end
@@ -68,5 +73,6 @@ returns-in-Ok-put_texts-clause-end g c =
     let p = c.args.parts.now in
     let runs = flat_map run_text p.image.now in
     let front : length (front_of p) ≡ length c.args.head.now + length p.board.now + length (concat (flms_of p)) + length runs =
-    four_parts (head_of_parts p) p.board.now (concat (flms_of p)) runs ∙ ap (λ (l : List ℕ). length l + length p.board.now + length (concat (flms_of p)) + length runs) (sym c.requires.head) in
+    four_parts (head_of_parts p) p.board.now (concat (flms_of p)) runs
+    ∙ ap (λ (l : List ℕ). length l + length p.board.now + length (concat (flms_of p)) + length runs) (sym c.requires.head) in
     IfOk-weaker c.put_runs.result _ _ (λ at is. omega (arith, is, front, c.files_len.ensures.value)) c.put_runs.ensures.end

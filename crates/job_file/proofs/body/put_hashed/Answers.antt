@@ -31,7 +31,9 @@ returns-in_err-file_write-clause-moments g c = λ told.
     still_shut (g.B.Bench.state c.args.bench.now) m t (c.put_body.ensures.moments told) (part_moments m t 8 _ (omega arith) c.file_write.ensures.does.moments)
 
 pub returns-clause-cells : goal.returns-clause-cells
-returns-clause-cells g c = cells_read_then c.put_body.ensures.cells (cells_read_stay g.B.Bench.tells (g.B.Bench.state c.put_body.new.bench) (g.B.Bench.state c.file_write.new.self) c.file_write.ensures.does.cells)
+returns-clause-cells g c = cells_read_then c.put_body.ensures.cells
+    (cells_read_stay g.B.Bench.tells (g.B.Bench.state c.put_body.new.bench) (g.B.Bench.state c.file_write.new.self) c.file_write.ensures.does.cells)
 
 pub returns-in_err-file_write-clause-cells : goal.returns-in_err-file_write-clause-cells
-returns-in_err-file_write-clause-cells g c = cells_read_then c.put_body.ensures.cells (cells_read_stay g.B.Bench.tells (g.B.Bench.state c.put_body.new.bench) (g.B.Bench.state c.file_write.new.self) c.file_write.ensures.does.cells)
+returns-in_err-file_write-clause-cells g c = cells_read_then c.put_body.ensures.cells
+    (cells_read_stay g.B.Bench.tells (g.B.Bench.state c.put_body.new.bench) (g.B.Bench.state c.file_write.new.self) c.file_write.ensures.does.cells)

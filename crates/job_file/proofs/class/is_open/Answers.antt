@@ -8,7 +8,9 @@ pub returns-then-whole-le1-clause-gives : goal.returns-then-whole-le1-clause-giv
 returns-then-whole-le1-clause-gives g c = λ told. free_short (g.B.Bench.state c.args.bench.now).file (omega (arith, c.requires.told told))
 
 pub returns-then-gate-clause-gives : goal.returns-then-gate-clause-gives
-returns-then-gate-clause-gives g c = λ told. gate_open (g.B.Bench.state c.args.bench.now).file c.file_read.new.out (omega (arith, c.requires.told told)) (c.in-Ok.ensures.does.ok told) c.if-gate.true
+returns-then-gate-clause-gives g c = λ told. gate_open (g.B.Bench.state c.args.bench.now).file c.file_read.new.out (omega (arith, c.requires.told told))
+    (c.in-Ok.ensures.does.ok told) c.if-gate.true
 
 pub returns-else-gate-clause-gives : goal.returns-else-gate-clause-gives
-returns-else-gate-clause-gives g c = λ told. gate_shut (g.B.Bench.state c.args.bench.now).file c.file_read.new.out (omega (arith, c.requires.told told)) (c.in-Ok.ensures.does.ok told) c.if-gate.false
+returns-else-gate-clause-gives g c = λ told. gate_shut (g.B.Bench.state c.args.bench.now).file c.file_read.new.out (omega (arith, c.requires.told told))
+    (c.in-Ok.ensures.does.ok told) c.if-gate.false

@@ -15,7 +15,9 @@ read_opened-requires-clause-opened g c = λ told.
 
 pub returns-in-Ok-true-clause-class : goal.returns-in-Ok-true-clause-class
 returns-in-Ok-true-clause-class g c = λ told.
-    IfOk-weaker c.read_opened.result _ _ (λ k is. subst (λ (f : List ℕ). IsClassOf k f) (c.is_open.ensures.reads.file told) is) (c.read_opened.ensures.class told)
+    IfOk-weaker c.read_opened.result _ _ (λ k is. subst (λ (f : List ℕ). IsClassOf k f) (c.is_open.ensures.reads.file told) is)
+    (c.read_opened.ensures.class told)
 
 pub returns-in-Ok-false-clause-class : goal.returns-in-Ok-false-clause-class
-returns-in-Ok-false-clause-class g c = λ told. subst (λ (b : Bool). IsGate (g.B.Bench.state c.args.bench.now).file b) c.in-Ok-false.field-0-test (c.in-Ok-false.ensures.gives told)
+returns-in-Ok-false-clause-class g c = λ told. subst (λ (b : Bool). IsGate (g.B.Bench.state c.args.bench.now).file b) c.in-Ok-false.field-0-test
+    (c.in-Ok-false.ensures.gives told)

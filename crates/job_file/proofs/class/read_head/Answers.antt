@@ -18,4 +18,5 @@ read_head_into-requires-clause-long g c =
 pub returns-clause-said : goal.returns-clause-said
 returns-clause-said g c = λ told.
     let front : c.places_in-places.result.front ≡ (places_of c.args.format).front = ap (λ (p : Places). p.front) c.places_in-places.ensures.value in
-    head_gives c.args.whole c.args.format (g.B.Bench.state c.args.bench.now).file c.read_head_into.result (omega (arith, front)) (c.read_head_into.ensures.said told)
+    head_gives c.args.whole c.args.format (g.B.Bench.state c.args.bench.now).file c.read_head_into.result (omega (arith, front))
+    (c.read_head_into.ensures.said told)

@@ -14,4 +14,5 @@ returns-in-Ok-clause-said g c = λ told.
 pub returns-in-Ok-clause-text : goal.returns-in-Ok-clause-text
 returns-in-Ok-clause-text g c = λ told.
     let body = drop 1 (g.B.Bench.state c.args.bench.now).file in
-    IfOk-weaker c.judge_head.result _ _ (λ h is. subst (λ (l : List ℕ). IsHeadOf c.args.format h l) (c.in-Ok.ensures.does.ok told ∙ ap (λ (n : ℕ). take n body) c.requires.room) is) c.judge_head.ensures.text
+    IfOk-weaker c.judge_head.result _ _ (λ h is. subst (λ (l : List ℕ). IsHeadOf c.args.format h l)
+    (c.in-Ok.ensures.does.ok told ∙ ap (λ (n : ℕ). take n body) c.requires.room) is) c.judge_head.ensures.text

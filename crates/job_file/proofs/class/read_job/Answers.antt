@@ -14,7 +14,8 @@ returns-in-Ok-clause-ok g c = λ told.
     let file = (g.B.Bench.state c.args.bench.now).file in
     let h = c.in-Ok.head in
     IfOk-weaker c.read_rest.result _ _
-    (λ job rest. job_body job c.args.format file h (c.in-Ok.ensures.text told) (subst (λ (f : List ℕ). IsJobRest job c.args.format f h) (c.read_head.ensures.reads.file told) rest)) (c.read_rest.ensures.ok told)
+    (λ job rest. job_body job c.args.format file h (c.in-Ok.ensures.text told)
+    (subst (λ (f : List ℕ). IsJobRest job c.args.format f h) (c.read_head.ensures.reads.file told) rest)) (c.read_rest.ensures.ok told)
 
 pub returns-in-Ok-clause-err : goal.returns-in-Ok-clause-err
 returns-in-Ok-clause-err g c = λ told.
@@ -22,8 +23,11 @@ returns-in-Ok-clause-err g c = λ told.
     let h = c.in-Ok.head in
     let front = (places_of c.args.format).front in
     IfErr-weaker c.read_rest.result _ _
-    (λ e err. subst (λ (r : Result Found ℕ). Fails e r) (sym (job_rest c.args.whole c.args.format (drop 1 file) h (drop front file) (c.in-Ok.ensures.said told)))
-    (subst (λ (f : List ℕ). Fails e (rest_at c.args.whole c.args.format h (drop front f))) (c.read_head.ensures.reads.file told) err)) (c.read_rest.ensures.err told)
+    (λ e err. subst (λ (r : Result Found ℕ). Fails e r) (sym
+    (job_rest c.args.whole c.args.format (drop 1 file) h (drop front file) (c.in-Ok.ensures.said told)))
+    (subst (λ (f : List ℕ). Fails e (rest_at c.args.whole c.args.format h (drop front f))) (c.read_head.ensures.reads.file told) err))
+    (c.read_rest.ensures.err told)
 
 pub returns-in-Err-clause-err : goal.returns-in-Err-clause-err
-returns-in-Err-clause-err g c = λ told. job_head c.args.whole c.args.format (drop 1 (g.B.Bench.state c.args.bench.now).file) c.in-Err.fault (c.in-Err.ensures.said told)
+returns-in-Err-clause-err g c = λ told. job_head c.args.whole c.args.format (drop 1 (g.B.Bench.state c.args.bench.now).file) c.in-Err.fault
+    (c.in-Err.ensures.said told)

@@ -23,4 +23,5 @@ returns-in-Ok-Some-clause-class g c = λ told.
     let d : IsDamage (Some damage) (drop 1 file) =
     subst (λ (f : List ℕ). IsDamage (Some damage) (drop 1 f)) (c.read_format.ensures.reads.file told)
     (subst (λ (o : Option Damage). IsDamage o (drop 1 one)) c.in-Ok-Some.field-0-is (c.in-Ok-Some.ensures.ok told)) in
-    subst (λ (l : List ℕ). IsFoundDamaged l damage.found file) (sym d.1) (subst (λ (l : List ℕ). IsFoundDamaged (kept_in (drop 1 file)) l file) (sym d.2) (damaged_as file gate.0 gate.1 d.0))
+    subst (λ (l : List ℕ). IsFoundDamaged l damage.found file) (sym d.1)
+    (subst (λ (l : List ℕ). IsFoundDamaged (kept_in (drop 1 file)) l file) (sym d.2) (damaged_as file gate.0 gate.1 d.0))

@@ -35,11 +35,13 @@ returns-in-Err-check_counts-clause-err g c = λ told.
     let value = c.places_in-places.ensures.value in
     let t : Texts = texts_there file (places_of format) h said in
     let read : texts_at c.args.whole (places_of format) h (drop (places_of format).front file) ≡ Ok (t, drop said.end file) =
-    subst (λ (p : Places). texts_at c.args.whole p h (drop p.front file) ≡ Ok (texts_there file p h said, drop said.end file)) value (c.in-Ok.ensures.gives told) in
+    subst (λ (p : Places). texts_at c.args.whole p h (drop p.front file) ≡ Ok (texts_there file p h said, drop said.end file)) value
+    (c.in-Ok.ensures.gives told) in
     let e = c.in-Err-check_counts.fault in
     let failed : Result (Unit {0}) ReadFault = Err e in
     rest_miscounted (Unit {0}) c.args.whole format h file t said.end e read
-    (subst (λ (n : ℕ). Counts (places_of format) h n failed) c.cells_in.ensures (subst (λ (p : Places). Counts p h c.cells_in.result failed) value c.in-Err-check_counts.ensures))
+    (subst (λ (n : ℕ). Counts (places_of format) h n failed) c.cells_in.ensures
+    (subst (λ (p : Places). Counts p h c.cells_in.result failed) value c.in-Err-check_counts.ensures))
 
 pub returns-in-Err-read_runs-clause-err : goal.returns-in-Err-read_runs-clause-err
 returns-in-Err-read_runs-clause-err g c = λ told.
@@ -50,14 +52,17 @@ returns-in-Err-read_runs-clause-err g c = λ told.
     let value = c.places_in-places.ensures.value in
     let t : Texts = texts_there file (places_of format) h said in
     let read : texts_at c.args.whole (places_of format) h (drop (places_of format).front file) ≡ Ok (t, drop said.end file) =
-    subst (λ (p : Places). texts_at c.args.whole p h (drop p.front file) ≡ Ok (texts_there file p h said, drop said.end file)) value (c.in-Ok.ensures.gives told) in
-    let right : IsCountedRight c.args.whole format h file t said.end = record { read = read; sized = c.in-Ok-check_counts.ensures.0 ∙ c.cells_in.ensures; some = c.in-Ok-check_counts.ensures.1 } in
+    subst (λ (p : Places). texts_at c.args.whole p h (drop p.front file) ≡ Ok (texts_there file p h said, drop said.end file)) value
+    (c.in-Ok.ensures.gives told) in
+    let right : IsCountedRight c.args.whole format h file t said.end =
+    record { read = read; sized = c.in-Ok-check_counts.ensures.0 ∙ c.cells_in.ensures; some = c.in-Ok-check_counts.ensures.1 } in
     let one = (g.B.Bench.state c.read_said.new.bench).file in
     let same : one ≡ file = c.read_said.ensures.reads.file told in
     let e = c.in-Err-read_runs.fault in
     rest_runs c.args.whole format h file t said.end e right
     (subst (λ (f : List ℕ). Fails e (runs_at c.args.whole said.board.regions h.runs 0 (drop said.end f))) same
-    (subst (λ (rs : List Region). Fails e (runs_at c.args.whole rs h.runs 0 (drop said.end one))) c.as_slice-regions.ensures (c.in-Err-read_runs.ensures.gives told)))
+    (subst (λ (rs : List Region). Fails e (runs_at c.args.whole rs h.runs 0 (drop said.end one))) c.as_slice-regions.ensures
+    (c.in-Err-read_runs.ensures.gives told)))
 
 pub returns-then-left-cells-clause-err : goal.returns-then-left-cells-clause-err
 returns-then-left-cells-clause-err g c = λ told.
@@ -68,15 +73,18 @@ returns-then-left-cells-clause-err g c = λ told.
     let value = c.places_in-places.ensures.value in
     let t : Texts = texts_there file (places_of format) h said in
     let read : texts_at c.args.whole (places_of format) h (drop (places_of format).front file) ≡ Ok (t, drop said.end file) =
-    subst (λ (p : Places). texts_at c.args.whole p h (drop p.front file) ≡ Ok (texts_there file p h said, drop said.end file)) value (c.in-Ok.ensures.gives told) in
-    let right : IsCountedRight c.args.whole format h file t said.end = record { read = read; sized = c.in-Ok-check_counts.ensures.0 ∙ c.cells_in.ensures; some = c.in-Ok-check_counts.ensures.1 } in
+    subst (λ (p : Places). texts_at c.args.whole p h (drop p.front file) ≡ Ok (texts_there file p h said, drop said.end file)) value
+    (c.in-Ok.ensures.gives told) in
+    let right : IsCountedRight c.args.whole format h file t said.end =
+    record { read = read; sized = c.in-Ok-check_counts.ensures.0 ∙ c.cells_in.ensures; some = c.in-Ok-check_counts.ensures.1 } in
     let one = (g.B.Bench.state c.read_said.new.bench).file in
     let same : one ≡ file = c.read_said.ensures.reads.file told in
     let image = c.in-Ok-read_runs.read.0 in
     let at = c.in-Ok-read_runs.read.1 in
     rest_ends c.args.whole format h file t said.end at image right
     (subst (λ (f : List ℕ). runs_at c.args.whole said.board.regions h.runs 0 (drop said.end f) ≡ Ok (image, drop at f)) same
-    (subst (λ (rs : List Region). runs_at c.args.whole rs h.runs 0 (drop said.end one) ≡ Ok (image, drop at one)) c.as_slice-regions.ensures (c.in-Ok-read_runs.ensures.gives told)))
+    (subst (λ (rs : List Region). runs_at c.args.whole rs h.runs 0 (drop said.end one) ≡ Ok (image, drop at one)) c.as_slice-regions.ensures
+    (c.in-Ok-read_runs.ensures.gives told)))
     (c.requires.told told) (λ is. c.if-left-cells.true (omega (arith, is)))
 
 pub returns-in-Ok-new-clause-ok : goal.returns-in-Ok-new-clause-ok
@@ -88,8 +96,10 @@ returns-in-Ok-new-clause-ok g c = λ told.
     let value = c.places_in-places.ensures.value in
     let t : Texts = texts_there file (places_of format) h said in
     let read : texts_at c.args.whole (places_of format) h (drop (places_of format).front file) ≡ Ok (t, drop said.end file) =
-    subst (λ (p : Places). texts_at c.args.whole p h (drop p.front file) ≡ Ok (texts_there file p h said, drop said.end file)) value (c.in-Ok.ensures.gives told) in
-    let right : IsCountedRight c.args.whole format h file t said.end = record { read = read; sized = c.in-Ok-check_counts.ensures.0 ∙ c.cells_in.ensures; some = c.in-Ok-check_counts.ensures.1 } in
+    subst (λ (p : Places). texts_at c.args.whole p h (drop p.front file) ≡ Ok (texts_there file p h said, drop said.end file)) value
+    (c.in-Ok.ensures.gives told) in
+    let right : IsCountedRight c.args.whole format h file t said.end =
+    record { read = read; sized = c.in-Ok-check_counts.ensures.0 ∙ c.cells_in.ensures; some = c.in-Ok-check_counts.ensures.1 } in
     let one = (g.B.Bench.state c.read_said.new.bench).file in
     let same : one ≡ file = c.read_said.ensures.reads.file told in
     let image = c.in-Ok-read_runs.read.0 in

@@ -16,8 +16,10 @@ read_kept-requires g c = λ told. omega (arith, c.requires.told told, ap (λ (l 
 pub returns-clause-ok : goal.returns-clause-ok
 returns-clause-ok g c = λ told.
     let file = (g.B.Bench.state c.args.bench.now).file in
-    damage_is (drop 1 file) c.in_ok-kept.kept c.in_ok-found.found c.differing.result (omega (arith, c.requires.told told, length-drop 1 file)) (c.requires.second told)
-    (c.in_ok-kept.ensures.ok told ∙ ap (λ (l : List ℕ). take 32 (drop 8 l)) (c.read_hash.ensures.reads.file told) ∙ ap (λ (l : List ℕ). take 32 l) (sym (drop-drop 7 1 file)))
+    damage_is (drop 1 file) c.in_ok-kept.kept c.in_ok-found.found c.differing.result (omega (arith, c.requires.told told, length-drop 1 file))
+    (c.requires.second told)
+    (c.in_ok-kept.ensures.ok told ∙ ap (λ (l : List ℕ). take 32 (drop 8 l)) (c.read_hash.ensures.reads.file told)
+    ∙ ap (λ (l : List ℕ). take 32 l) (sym (drop-drop 7 1 file)))
     (c.in_ok-found.ensures.ok told ∙ ap (λ (l : List ℕ). sha256 l) (sym (drop-drop 39 1 file)))
     c.differing.ensures
 

@@ -37,7 +37,8 @@ loop-at-preserved g c =
     record {
       within = omega arith;
       room = omega (arith, length-append piece (drop (end - at) window), length-drop (end - at) window, size, so_far.room);
-      hash = λ told. window_hashed s.file now.file c.loop-at.hasher c.hash_window.new.hasher at end (length (take (end - at) window)) le part (so_far.reads.file told) (so_far.hash told) (e.ok told);
+      hash = λ told. window_hashed s.file now.file c.loop-at.hasher c.hash_window.new.hasher at end (length (take (end - at) window)) le part
+          (so_far.reads.file told) (so_far.hash told) (e.ok told);
       reads = only_reads_then so_far.reads e.reads;
       faults = e.cause.on_ok refl ∙ so_far.faults;
     }
@@ -47,4 +48,5 @@ returns-clause-ok g c = λ told.
     let so_far = c.loop-at.invariant in
     let file = (g.B.Bench.state c.args.bench.now).file in
     let rest = drop 40 file in
-    c.finalize.ensures (take c.loop-at.at rest) (so_far.hash told) ∙ ap (λ (l : List ℕ). sha256 l) (take_all c.loop-at.at rest (omega (arith, length-drop 40 file, c.requires.told told)))
+    c.finalize.ensures (take c.loop-at.at rest) (so_far.hash told)
+    ∙ ap (λ (l : List ℕ). sha256 l) (take_all c.loop-at.at rest (omega (arith, length-drop 40 file, c.requires.told told)))

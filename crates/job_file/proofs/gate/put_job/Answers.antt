@@ -17,10 +17,13 @@ returns-clause-moments g c = λ told.
     let body = with_hash (front ++ s.cells) in
     let P = IsFreeOrWhole body in
     let run1 = leaves_as IsFree P (λ f free. inl free) (c.shut.ensures.moments told) in
-    let run2 = leaves_then P run1 (leaves_as IsShut P (λ f shut. inl (free_closed f _ 0 (λ e. absurd (omega (arith, e))) shut)) (c.put_hashed.ensures.moments told)) in
+    let run2 = leaves_then P run1 (leaves_as IsShut P (λ f shut. inl (free_closed f _ 0 (λ e. absurd (omega (arith, e))) shut))
+    (c.put_hashed.ensures.moments told)) in
     let run3 = leaves_then_nothing P run2 c.file_sync.ensures.does.moments in
-    let is = c.in_ok-file_sync.ensures.does.file told ∙ c.in_ok-put_hashed.ensures.ok told ∙ ap (λ (l : List ℕ). 0 ∷ with_hash (front ++ l)) c.in_ok-shut.ensures.cells.cells in
-    leaves_then P run3 (leaves_step _ P _ _ (c.in_ok-file_sync.ensures.does.ok told) (c.in_ok-put_hashed.ensures.ok told ∙ ap (λ (l : List ℕ). 0 ∷ with_hash (front ++ l)) c.in_ok-shut.ensures.cells.cells)
+    let is = c.in_ok-file_sync.ensures.does.file told ∙ c.in_ok-put_hashed.ensures.ok told
+    ∙ ap (λ (l : List ℕ). 0 ∷ with_hash (front ++ l)) c.in_ok-shut.ensures.cells.cells in
+    leaves_then P run3 (leaves_step _ P _ _ (c.in_ok-file_sync.ensures.does.ok told)
+    (c.in_ok-put_hashed.ensures.ok told ∙ ap (λ (l : List ℕ). 0 ∷ with_hash (front ++ l)) c.in_ok-shut.ensures.cells.cells)
     (λ f torn. opening body f torn) c.write_synced.ensures.moments)
 
 pub returns-in_err-write_synced-clause-moments : goal.returns-in_err-write_synced-clause-moments
@@ -30,10 +33,13 @@ returns-in_err-write_synced-clause-moments g c = λ told.
     let body = with_hash (front ++ s.cells) in
     let P = IsFreeOrWhole body in
     let run1 = leaves_as IsFree P (λ f free. inl free) (c.shut.ensures.moments told) in
-    let run2 = leaves_then P run1 (leaves_as IsShut P (λ f shut. inl (free_closed f _ 0 (λ e. absurd (omega (arith, e))) shut)) (c.put_hashed.ensures.moments told)) in
+    let run2 = leaves_then P run1 (leaves_as IsShut P (λ f shut. inl (free_closed f _ 0 (λ e. absurd (omega (arith, e))) shut))
+    (c.put_hashed.ensures.moments told)) in
     let run3 = leaves_then_nothing P run2 c.file_sync.ensures.does.moments in
-    let is = c.in_ok-file_sync.ensures.does.file told ∙ c.in_ok-put_hashed.ensures.ok told ∙ ap (λ (l : List ℕ). 0 ∷ with_hash (front ++ l)) c.in_ok-shut.ensures.cells.cells in
-    leaves_then P run3 (leaves_step _ P _ _ (c.in_ok-file_sync.ensures.does.ok told) (c.in_ok-put_hashed.ensures.ok told ∙ ap (λ (l : List ℕ). 0 ∷ with_hash (front ++ l)) c.in_ok-shut.ensures.cells.cells)
+    let is = c.in_ok-file_sync.ensures.does.file told ∙ c.in_ok-put_hashed.ensures.ok told
+    ∙ ap (λ (l : List ℕ). 0 ∷ with_hash (front ++ l)) c.in_ok-shut.ensures.cells.cells in
+    leaves_then P run3 (leaves_step _ P _ _ (c.in_ok-file_sync.ensures.does.ok told)
+    (c.in_ok-put_hashed.ensures.ok told ∙ ap (λ (l : List ℕ). 0 ∷ with_hash (front ++ l)) c.in_ok-shut.ensures.cells.cells)
     (λ f torn. opening body f torn) c.write_synced.ensures.moments)
 
 pub returns-in_err-put_hashed-clause-unopened : goal.returns-in_err-put_hashed-clause-unopened
@@ -41,7 +47,8 @@ returns-in_err-put_hashed-clause-unopened g c = λ told.
     let a = file_half (g.B.Bench.state c.args.bench.now) in
     let P = IsUnopened a in
     let run1 = leaves_as IsFree P (λ f free. inr free) (c.shut.ensures.moments told) in
-    let run2 = leaves_then P run1 (leaves_as IsShut P (λ f shut. inr (free_closed f _ 0 (λ e. absurd (omega (arith, e))) shut)) (c.put_hashed.ensures.moments told)) in
+    let run2 = leaves_then P run1 (leaves_as IsShut P (λ f shut. inr (free_closed f _ 0 (λ e. absurd (omega (arith, e))) shut))
+    (c.put_hashed.ensures.moments told)) in
     let u = c.from_residual-in_err-put_hashed.ensures in
     let is : c.from_residual-in_err-put_hashed.result ≡ Err c.in_err-put_hashed.field-0.0 = search rules in
     rw is (unopened_by (Unit {0}) a (file_half (g.B.Bench.state c.put_hashed.new.bench)) c.in_err-put_hashed.field-0.0 run2)

@@ -9,4 +9,5 @@ pub returns-clause-moments : goal.returns-clause-moments
 returns-clause-moments g c = λ told.
     let s2 = g.B.Bench.state c.shorten.new.bench in
     let short = c.in_ok-shorten.ensures.ok told in
-    leaves_then IsFree (c.shorten.ensures.moments told) (leaves_step _ IsFree _ _ short.1 refl (λ f torn. closing_free s2.file f short.0 torn) c.write_synced.ensures.moments)
+    leaves_then IsFree (c.shorten.ensures.moments told) (leaves_step _ IsFree _ _ short.1 refl (λ f torn. closing_free s2.file f short.0 torn)
+    c.write_synced.ensures.moments)

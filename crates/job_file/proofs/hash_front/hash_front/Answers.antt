@@ -21,5 +21,6 @@ returns c =
     let one = c.update.ensures [] c.new-hasher.ensures in
     let two = c.update-2.ensures _ one in
     let three = c.hash_files.ensures _ two in
-    subst (λ (l : List ℕ). Holds256 c.hash_runs.new.hasher l) (ap (λ (l : List ℕ). ((l ++ p.board.now) ++ files) ++ runs) behind ∙ ap (λ (l : List ℕ). ((drop 39 l ++ p.board.now) ++ files) ++ runs) c.requires.head)
+    subst (λ (l : List ℕ). Holds256 c.hash_runs.new.hasher l)
+    (ap (λ (l : List ℕ). ((l ++ p.board.now) ++ files) ++ runs) behind ∙ ap (λ (l : List ℕ). ((drop 39 l ++ p.board.now) ++ files) ++ runs) c.requires.head)
     (c.hash_runs.ensures _ three)

@@ -52,12 +52,15 @@ loop-at-preserved g c =
       room = omega (arith, length-append piece (drop (end - at) window), length-drop (end - at) window, size, so_far.room);
       bytes = so_far.bytes ++ piece;
       long = omega (arith, length-append so_far.bytes piece, so_far.long, size);
-      stand = λ told. stands_more from at end so_far.bytes piece s.file now.file le (so_far.stand told) (so_far.reads.file told) (e.stand told ∙ ap (λ (n : ℕ). take n (drop (from + at) now.file)) part);
-      laid = window_more c.args.image.now c.loop-at.image c.lay_window.new.image c.args.place at c.args.len so_far.bytes piece c.requires.maximal c.requires.behind (omega (arith, size)) so_far.long (omega (arith, size)) c.requires.fits so_far.laid e.ok;
+      stand = λ told. stands_more from at end so_far.bytes piece s.file now.file le (so_far.stand told) (so_far.reads.file told)
+          (e.stand told ∙ ap (λ (n : ℕ). take n (drop (from + at) now.file)) part);
+      laid = window_more c.args.image.now c.loop-at.image c.lay_window.new.image c.args.place at c.args.len so_far.bytes piece c.requires.maximal
+          c.requires.behind (omega (arith, size)) so_far.long (omega (arith, size)) c.requires.fits so_far.laid e.ok;
       reads = only_reads_then so_far.reads e.reads;
       faults = e.counted.on_other refl ∙ so_far.faults;
     }
 
 pub returns-clause-ok : goal.returns-clause-ok
 returns-clause-ok g c =
-    all_laid g.B.Bench.tells (g.B.Bench.state c.args.bench.now) (g.B.Bench.state c.loop-at.bench) c.args.from c.args.place c.args.len c.loop-at.at c.args.image.now c.loop-at.image c.loop-at.window c.loop-at.invariant (omega arith) c.requires.some
+    all_laid g.B.Bench.tells (g.B.Bench.state c.args.bench.now) (g.B.Bench.state c.loop-at.bench) c.args.from c.args.place c.args.len
+    c.loop-at.at c.args.image.now c.loop-at.image c.loop-at.window c.loop-at.invariant (omega arith) c.requires.some

@@ -15,12 +15,14 @@ loop-at-preserved g c =
     let at = c.loop-at.at in
     let end = c.piece_end-end.result in
     let le : at ≤ end = omega arith in
-    let part : length (take (end - at) (drop at c.loop-at.out)) ≡ end - at = omega (arith, length-take (end - at) (drop at c.loop-at.out), length-drop at c.loop-at.out) in
+    let part : length (take (end - at) (drop at c.loop-at.out)) ≡ end - at =
+    omega (arith, length-take (end - at) (drop at c.loop-at.out), length-drop at c.loop-at.out) in
     let size : length c.file_read.new.out ≡ end - at = c.file_read.auto.out ∙ part in
     record {
       within = search (rules, places);
       front = λ told. front_more from at end c.loop-at.out c.file_read.new.out a.file le (omega arith) size (so_far.front told)
-          (does.ok told ∙ ap (λ (n : ℕ). take n (drop (from + at) b.file)) part ∙ ap (λ (l : List ℕ). take (end - at) (drop (from + at) l)) (so_far.reads.file told));
+          (does.ok told ∙ ap (λ (n : ℕ). take n (drop (from + at) b.file)) part
+          ∙ ap (λ (l : List ℕ). take (end - at) (drop (from + at) l)) (so_far.reads.file told));
       reads = only_reads_then so_far.reads (record { file = does.file; moments = does.moments; cells = does.cells });
       faults = does.cause.on_ok refl ∙ so_far.faults;
     }

@@ -23,4 +23,5 @@ returns-in-Ok-clause-gives g c = λ told.
     ∙ ap (λ (l : List ℕ). Ok (c.in-Ok.text.items, l)) (drop-drop c.args.len c.args.at file)
 
 pub returns-in-Err-clause-gives : goal.returns-in-Err-clause-gives
-returns-in-Err-clause-gives g c = λ told. no_verdict c.in-Err.fault (text_at c.args.whole c.args.len (drop c.args.at (g.B.Bench.state c.args.bench.now).file)) c.in-Err.ensures.fault
+returns-in-Err-clause-gives g c = λ told. no_verdict c.in-Err.fault (text_at c.args.whole c.args.len (drop c.args.at (g.B.Bench.state c.args.bench.now).file))
+    c.in-Err.ensures.fault

@@ -6,5 +6,6 @@ use Rattle.job_file.proofs.snapshot.snapshot_into.Goals as goal
 pub file_read-requires : goal.file_read-requires
 file_read-requires g c = λ told.
     let job = c.args.job.now in
-    let within = snapshot_within job (g.B.Bench.state c.args.bench.now).file c.args.at (length c.args.out.now) (c.requires.stands told) (some_cells job) c.requires.range in
+    let within = snapshot_within job (g.B.Bench.state c.args.bench.now).file c.args.at (length c.args.out.now) (c.requires.stands told)
+    (some_cells job) c.requires.range in
     omega (arith, within)

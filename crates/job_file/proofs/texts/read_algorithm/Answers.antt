@@ -11,7 +11,8 @@ use Rattle.job_file.proofs.texts.read_algorithm.Goals as goal
 
 pub returns-in-Ok-clause-gives : goal.returns-in-Ok-clause-gives
 returns-in-Ok-clause-gives g c = λ told.
-    subst (λ (r : Result (List ℕ × List ℕ) ℕ). Gives flm.shown c.algorithm_of.result (r >>= λ f. read_or c.args.at (flm_of f.0))) (sym (c.in-Ok.ensures.gives told)) c.algorithm_of.ensures.gives
+    subst (λ (r : Result (List ℕ × List ℕ) ℕ). Gives flm.shown c.algorithm_of.result (r >>= λ f. read_or c.args.at (flm_of f.0)))
+    (sym (c.in-Ok.ensures.gives told)) c.algorithm_of.ensures.gives
 
 pub returns-in-Ok-clause-fits : goal.returns-in-Ok-clause-fits
 returns-in-Ok-clause-fits g c = λ ok. c.in-Ok.ensures.fits Rattle.std.proofs.Common.refl
@@ -19,4 +20,5 @@ returns-in-Ok-clause-fits g c = λ ok. c.in-Ok.ensures.fits Rattle.std.proofs.Co
 pub returns-in-Err-clause-gives : goal.returns-in-Err-clause-gives
 returns-in-Err-clause-gives g c = λ told.
     let text = text_at c.args.whole c.args.len (drop c.args.at (g.B.Bench.state c.args.bench.now).file) in
-    fails_within c.in-Err.fault text (text >>= λ f. read_or c.args.at (flm_of f.0)) (λ at is. bind_err text (λ f. read_or c.args.at (flm_of f.0)) at is) (c.in-Err.ensures.gives told)
+    fails_within c.in-Err.fault text (text >>= λ f. read_or c.args.at (flm_of f.0)) (λ at is. bind_err text (λ f. read_or c.args.at (flm_of f.0)) at is)
+    (c.in-Err.ensures.gives told)

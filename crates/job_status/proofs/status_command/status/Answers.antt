@@ -18,9 +18,17 @@ returns-in-Ok g c = λ inputs takes.
       devices = report.devices_of c.in-Ok.job;
       image = c.in-Ok.job.image;
       size = ap (sum_by (λ (device : Device). device.size)) (sym (shown_devices c.in-Ok.job.algorithms))
-          ∙ devices_fill (board.shown c.in-Ok.job.board) c.in-Ok.job.board.regions (algorithms_shown c.in-Ok.job.algorithms) c.in-Ok.job.fit ∙ c.in-Ok.ensures.sized;
+          ∙ devices_fill (board.shown c.in-Ok.job.board) c.in-Ok.job.board.regions (algorithms_shown c.in-Ok.job.algorithms) c.in-Ok.job.fit
+          ∙ c.in-Ok.ensures.sized;
       stands = λ told. let st = c.in-Ok.ensures.ok told in record {
-        some = record { job = st.text; board = board.shown c.in-Ok.job.board; algorithms = algorithms_shown c.in-Ok.job.algorithms; is = st.is; whole = st.whole };
+        some = record {
+          job = st.text;
+          board = board.shown c.in-Ok.job.board;
+          algorithms = algorithms_shown c.in-Ok.job.algorithms;
+          is = st.is;
+          whole =
+              st.whole;
+        };
         devices_are = shown_devices c.in-Ok.job.algorithms;
         image_is = st.image;
       };

@@ -1,3 +1,4 @@
+-- `all_covered`: the value that it answers, and that its loop keeps what it has to.
 use Rattle.std.proofs.Common.{rules, ◌≡◌, true, false, arith}
 use Rattle.byte_map.specs.Image.{Run, end_of}
 use Rattle.job_text.specs.Runs.{run_of}

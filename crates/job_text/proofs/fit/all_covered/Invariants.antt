@@ -1,3 +1,4 @@
+-- `all_covered`: what holds at each turn of its loop.
 use Rattle.std.proofs.Common.{◌≡◌, drop}
 use Rattle.job_text.specs.Reading.{all_covered}
 use Rattle.job_text.proofs.fit.all_covered.Given as goal

@@ -1,3 +1,4 @@
+-- `all_fit`: the value that it answers.
 use Rattle.std.proofs.Common.{rules, ◌≡◌, length}
 use Rattle.board_file.specs.Shown.{shown as board_shown}
 use Rattle.job_text.proofs.FitLemmas.{other_count}

@@ -1,3 +1,4 @@
+-- `reach`: what holds at each turn of its loop.
 use Rattle.std.proofs.Common.{◌≡◌, drop}
 use Rattle.job_text.specs.Reading.{reach}
 use Rattle.job_text.proofs.fit.reach.Given as goal

@@ -1,3 +1,4 @@
+-- `damaged_files_have_no_job`: the law.
 use Rattle.job_text.proofs.ClassLemmas.{never_jobs}
 use Rattle.job_text.proofs.law.damaged_files_have_no_job.Goals as goal
 

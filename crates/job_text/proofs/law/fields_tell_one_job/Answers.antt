@@ -1,3 +1,4 @@
+-- `fields_tell_one_job`: the law.
 use Rattle.job_text.proofs.OneTextLemmas.{one_text}
 use Rattle.job_text.proofs.law.fields_tell_one_job.Goals as goal
 

@@ -1,3 +1,4 @@
+-- `head_text`: what `put_lengths` asks for.
 use Rattle.job_text.proofs.PartLemmas.{blank_small}
 use Rattle.job_text.proofs.parts.head_text.Goals as goal
 

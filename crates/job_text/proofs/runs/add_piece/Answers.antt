@@ -1,3 +1,4 @@
+-- `add_piece`: that an arm is never reached.
 use Rattle.std.proofs.Common.{subst}
 use Rattle.byte_map.specs.Laying.{IsLayFault}
 use Rattle.byte_map.specs.declared.fault.LayFault.{LayFault}

@@ -1,3 +1,4 @@
+-- `hex_digits`: the value that it answers, and that its loop keeps what it has to.
 use Rattle.std.proofs.Common.{◌≡◌, ◌-◌, ◌/◌, ◌%◌, ◌∙◌, ℕ, drop, sym, ap, arith}
 use Rattle.std.proofs.lemmas.Grind.{common_steps}
 use Rattle.octets.specs.Digit.{hex_text, upper_digit}

@@ -1,3 +1,4 @@
+-- `hex_digits`: what holds at each turn of its loop.
 use Rattle.std.proofs.Common.{◌≡◌, ◌-◌, ◌/◌, ◌^◌, drop, length}
 use Rattle.octets.specs.Digit.{hex_text}
 use Rattle.octets.proofs.digit.hex_digits.Given as goal

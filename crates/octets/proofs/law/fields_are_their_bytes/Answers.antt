@@ -1,3 +1,4 @@
+-- `fields_are_their_bytes`: the law.
 use Rattle.std.proofs.Common.{refl}
 use Rattle.octets.proofs.FieldLemmas.{small_bytes, to_le_bytes-field16, to_le_bytes-field32, field16-to_le_bytes, field32-to_le_bytes}
 use Rattle.octets.proofs.law.fields_are_their_bytes.Goals as goal

@@ -1,3 +1,4 @@
+-- `build`: what holds at each turn of its loop.
 use Rattle.page_geometry.proofs.BuiltLemmas.{Built}
 use Rattle.page_geometry.proofs.geometry.build.Given as goal
 

@@ -1,3 +1,4 @@
+-- `find_sector`: its clause `sector`, and what `last_at_most` asks for.
 use Rattle.page_geometry.proofs.FindLemmas.{sectors_rising, sectors_first, sectors_found}
 use Rattle.page_geometry.proofs.lookup.find_sector.Goals as goal
 
@@ -9,4 +10,5 @@ last_at_most-at-requires-clause-first c = sectors_first c.args.runs.now c.args.f
 
 pub returns-clause-sector : goal.returns-clause-sector
 returns-clause-sector c =
-    (sectors_found c.args.runs.now c.args.firsts.now c.requires.table c.last_at_most-at.result c.args.index c.last_at_most-at.ensures.within c.last_at_most-at.ensures.at_most c.last_at_most-at.ensures.next c.requires.index).1
+    (sectors_found c.args.runs.now c.args.firsts.now c.requires.table c.last_at_most-at.result c.args.index
+    c.last_at_most-at.ensures.within c.last_at_most-at.ensures.at_most c.last_at_most-at.ensures.next c.requires.index).1

@@ -1,3 +1,4 @@
+-- `count_pages`: the value that it answers, and that no number overflows.
 use Rattle.std.proofs.Common.{◌≡◌, ◌-◌, ◌<◌, arith}
 use Rattle.flm_descriptor.specs.Shape.{pieces}
 use Rattle.flm_descriptor.proofs.CutLemmas.{pieces_below}
@@ -23,14 +24,17 @@ overflow_add-last c =
 
 pub overflow_mul-result : goal.overflow_mul-result
 overflow_mul-result c =
-    let less = run_counted_less c.args.page c.args.run.step c.args.run.start c.args.run.stop c.requires.page_some c.requires.step_some c.count_pieces-count.result c.count_pieces-each.result c.if-count-eq0.false c.count_pieces-count.ensures c.count_pieces-each.ensures in
+    let less = run_counted_less c.args.page c.args.run.step c.args.run.start c.args.run.stop c.requires.page_some c.requires.step_some
+    c.count_pieces-count.result c.count_pieces-each.result c.if-count-eq0.false c.count_pieces-count.ensures c.count_pieces-each.ensures in
     omega (arith, less, c.requires.few)
 
 pub overflow_add-result : goal.overflow_add-result
 overflow_add-result c =
-    let same = run_counted c.args.page c.args.run.step c.args.run.start c.args.run.stop c.requires.page_some c.requires.step_some c.count_pieces-count.result c.count_pieces-each.result c.count_pieces.result c.if-count-eq0.false c.count_pieces-count.ensures c.count_pieces-each.ensures c.count_pieces.ensures in
+    let same = run_counted c.args.page c.args.run.step c.args.run.start c.args.run.stop c.requires.page_some c.requires.step_some c.count_pieces-count.result
+    c.count_pieces-each.result c.count_pieces.result c.if-count-eq0.false c.count_pieces-count.ensures c.count_pieces-each.ensures c.count_pieces.ensures in
     omega (arith, same, c.requires.few)
 
 pub returns : goal.returns
 returns c =
-    run_counted c.args.page c.args.run.step c.args.run.start c.args.run.stop c.requires.page_some c.requires.step_some c.count_pieces-count.result c.count_pieces-each.result c.count_pieces.result c.if-count-eq0.false c.count_pieces-count.ensures c.count_pieces-each.ensures c.count_pieces.ensures
+    run_counted c.args.page c.args.run.step c.args.run.start c.args.run.stop c.requires.page_some c.requires.step_some c.count_pieces-count.result
+    c.count_pieces-each.result c.count_pieces.result c.if-count-eq0.false c.count_pieces-count.ensures c.count_pieces-each.ensures c.count_pieces.ensures

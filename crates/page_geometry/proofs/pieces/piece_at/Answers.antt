@@ -1,3 +1,4 @@
+-- `piece_at`: its clause `order`, and that no number overflows.
 use Rattle.flm_descriptor.proofs.CutLemmas.{pieces_below}
 use Rattle.std.proofs.Common.{arith}
 use Rattle.page_geometry.proofs.pieces.piece_at.Goals as goal

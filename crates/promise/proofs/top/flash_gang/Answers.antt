@@ -1,3 +1,4 @@
+-- `flash_gang`: its contract, `GangKeeps`.
 use Rattle.std.proofs.Common.{length}
 use Rattle.command_answers.specs.Call.{sink_call}
 use Rattle.promise.proofs.GangLemmas.{gang_keeps}

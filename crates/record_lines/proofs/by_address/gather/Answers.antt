@@ -1,3 +1,4 @@
+-- `gather`: its contract, `AreRunsOfText`, and that its loop keeps what it has to.
 use Rattle.std.proofs.Common.{◌≡◌, ◌-◌, ◌++◌, ◌∙◌, Bool, suc, List, [], take, drop, sym, subst, arith}
 use Rattle.std.specs.Bool.{OnTrue}
 use Rattle.octets.specs.Lines.{lines_of}
@@ -20,7 +21,8 @@ returns-in-Ok-true g c =
     let lines = c.next_line-start.ensures.lines in
     let empty = subst (IsImageOf []) (sym c.new-map.ensures) empty_image in
     let takes = c.in-Ok-true.ensures.ok [] empty in
-    let none : line_cells f l.known (f.read here) ≡ [] = subst (λ (b : Bool). OnTrue b (line_cells f l.known (f.read here) ≡ [])) c.in-Ok-true.field-0-test takes.end_cells in
+    let none : line_cells f l.known (f.read here) ≡ [] = subst (λ (b : Bool). OnTrue b (line_cells f l.known (f.read here) ≡ [])) c.in-Ok-true.field-0-test
+    takes.end_cells in
     record {
       place = n;
       before = before;
@@ -49,6 +51,10 @@ loop-from-preserved g c =
     (subst (λ (cs : List Cell). IsImageOf (cs ++ []) c.take_line.new.map) (sym cells) takes.image_is) in
     let pushed = where_some c.push_runs.result c.in_ok-ok-in-Ok-false.field-0 (sym c.ok.ensures.value ∙ c.in_ok-ok-in-Ok-false.was) c.push_runs.ensures in
     record {
-      read = (suc n, behind_next f text l.from l.known n place.2 here h lines c.take_line.new.self takes.known_is, subst (AreRunsBefore f (lines_of text) (suc n)) (sym pushed) more);
+      read = (
+        suc n,
+        behind_next f text l.from l.known n place.2 here h lines c.take_line.new.self takes.known_is,
+        subst (AreRunsBefore f (lines_of text) (suc n)) (sym pushed) more,
+      );
       roomy = omega (arith, l.invariant.roomy, c.in-Ok-false.ensures.room, c.next_line-start.ensures.further);
     }

@@ -1,3 +1,4 @@
+-- `lay_all`: that its loop keeps what it has to.
 use Rattle.std.proofs.Common.{◌<◌, ◌∙◌, [], length, sym, arith}
 use Rattle.std.proofs.lemmas.Option.{get_or_from_slice_get}
 use Rattle.byte_map.specs.Image.{Run}
@@ -11,4 +12,5 @@ loop-index-preserved c =
     let run : Run = record { at = c.run-at.result.0; bytes = c.run-at.result.1.now } in
     let lt : index < length runs = omega (arith, c.len-index-end.ensures, c.loop-index-test.true) in
     let lays = where_some c.lay.result c.in_ok-ok.field-0 (sym c.ok.ensures.value ∙ c.in_ok-ok.was) c.lay.ensures.ok in
-    union_more runs index run c.loop-index.map c.lay.new.self lt (get_or_from_slice_get runs index run (record { at = 0; bytes = [] }) c.run-at.ensures) lays c.loop-index.invariant
+    union_more runs index run c.loop-index.map c.lay.new.self lt (get_or_from_slice_get runs index run (record { at = 0; bytes = [] }) c.run-at.ensures) lays
+    c.loop-index.invariant

@@ -1,3 +1,4 @@
+-- `lay_all`: what holds at each turn of its loop.
 use Rattle.std.proofs.Common.{take}
 use Rattle.record_lines.specs.Gathered.{IsUnionOf}
 use Rattle.record_lines.proofs.by_address.lay_all.Given as goal

@@ -1,3 +1,4 @@
+-- `read_by_address`: its contract, `IsImageOfText`.
 use Rattle.std.proofs.lemmas.Option.{IfSome_then}
 use Rattle.octets.specs.Lines.{lines_of}
 use Rattle.record_lines.proofs.Unions.{union_permuted}

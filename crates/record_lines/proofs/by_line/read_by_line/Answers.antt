@@ -1,3 +1,4 @@
+-- `read_by_line`: its clauses `ok` and `err`, and that its loop keeps what it has to.
 use Rattle.std.proofs.Common.{◌≡◌, ◌++◌, ◌-◌, ◌∙◌, ℕ, Bool, suc, List, [], take, drop, sym, subst, arith}
 use Rattle.std.specs.Bool.{OnTrue}
 use Rattle.octets.specs.Lines.{lines_of}
@@ -16,9 +17,11 @@ returns-in-Ok-true-clause-ok g c =
     let here = take (place.1 - place.0) (drop place.0 text) in
     let before = cells_before f (lines_of text) n in
     let takes = c.in-Ok-true.ensures.ok before h.image_is in
-    let none : line_cells f l.known (f.read here) ≡ [] = subst (λ (b : Bool). OnTrue b (line_cells f l.known (f.read here) ≡ [])) c.in-Ok-true.field-0-test takes.end_cells in
+    let none : line_cells f l.known (f.read here) ≡ [] = subst (λ (b : Bool). OnTrue b (line_cells f l.known (f.read here) ≡ [])) c.in-Ok-true.field-0-test
+    takes.end_cells in
     let image = subst (λ (cells : List Cell). IsImageOf (cells ++ before) c.take_line.new.map) none takes.image_is in
-    read_end f text l.from l.known n place.2 here h.behind c.next_line-start.ensures.lines l.line l.map c.take_line.new.map h takes.right (takes.ends_is ∙ c.in-Ok-true.field-0-test) image
+    read_end f text l.from l.known n place.2 here h.behind c.next_line-start.ensures.lines l.line l.map c.take_line.new.map h takes.right
+    (takes.ends_is ∙ c.in-Ok-true.field-0-test) image
 
 pub loop-from-preserved : goal.loop-from-preserved
 loop-from-preserved g c =
@@ -29,9 +32,14 @@ loop-from-preserved g c =
     let place = c.next_line-start.result in
     let here = take (place.1 - place.0) (drop place.0 text) in
     let takes = c.in-Ok-false.ensures.ok (cells_before f (lines_of text) n) h.image_is in
-    let more = read_more f text l.from l.known n place.2 here h.behind c.next_line-start.ensures.lines l.line l.map c.take_line.new.self c.take_line.new.map h takes.right (takes.ends_is ∙ c.in-Ok-false.field-0-test) takes.known_is takes.image_is in
+    let more = read_more f text l.from l.known n place.2 here h.behind c.next_line-start.ensures.lines l.line l.map c.take_line.new.self c.take_line.new.map h
+    takes.right (takes.ends_is ∙ c.in-Ok-false.field-0-test) takes.known_is takes.image_is in
     record {
-      read = (suc n, subst (λ (line : ℕ). HasRead f text place.2 line c.take_line.new.self c.take_line.new.map (suc n)) (sym c.saturating_add-line.ensures) more);
+      read = (
+        suc n,
+        subst (λ (line : ℕ). HasRead f text place.2 line c.take_line.new.self c.take_line.new.map (suc n)) (sym c.saturating_add-line.ensures)
+            more,
+      );
       roomy = omega (arith, l.invariant.roomy, c.in-Ok-false.ensures.room, c.next_line-start.ensures.further);
     }
 

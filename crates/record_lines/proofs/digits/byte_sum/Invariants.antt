@@ -1,3 +1,4 @@
+-- `byte_sum`: what holds at each turn of its loop.
 use Rattle.std.proofs.Common.{◌≡◌, ◌≤◌, ◌*◌, take, sum}
 use Rattle.record_lines.proofs.digits.byte_sum.Given as goal
 

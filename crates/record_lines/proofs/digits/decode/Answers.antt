@@ -1,3 +1,4 @@
+-- `decode`: that it keeps its contract, and that its loop keeps what it has to.
 use Rattle.std.proofs.Common.{◌≢◌, ◌<◌, ◌∙◌, length, sym, ap, arith, below_more, get_or-set_other, get_or-set_same}
 use Rattle.std.specs.Prelude.{unwrap_or}
 use Rattle.std.proofs.lemmas.Grind.{same_number_lists}

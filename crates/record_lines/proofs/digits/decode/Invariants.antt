@@ -1,3 +1,4 @@
+-- `decode`: what holds at each turn of its loop.
 use Rattle.std.proofs.Common.{◌≡◌, ℕ, ◌<◌, get_or}
 use Rattle.record_lines.specs.Digits.{pairs}
 use Rattle.record_lines.proofs.digits.decode.Given as goal

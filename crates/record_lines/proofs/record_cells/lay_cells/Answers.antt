@@ -1,3 +1,4 @@
+-- `lay_cells`: its clauses `ok` and `err`.
 use Rattle.std.proofs.Common.{subst}
 use Rattle.byte_map.specs.Laying.{IsLayFault}
 use Rattle.record_lines.proofs.CellLemmas.{laid_ok, laid_clash}

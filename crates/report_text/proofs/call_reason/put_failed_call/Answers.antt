@@ -10,4 +10,5 @@ returns-in_err-put_pieces g c = puts_failed _ c.from_residual.ensures.0 (puts_st
 
 pub returns : goal.returns
 unfolding failed_text
-returns g c = puts_then _ (rw (c.as_bytes-number.ensures.value, c.format.ensures.text, c.text.ensures, c.function_of.ensures) at c.in_ok-put_pieces.ensures) c.put_call_end.ensures
+returns g c = puts_then _ (rw (c.as_bytes-number.ensures.value, c.format.ensures.text, c.text.ensures, c.function_of.ensures) at c.in_ok-put_pieces.ensures)
+    c.put_call_end.ensures

@@ -6,11 +6,13 @@ use Rattle.report_text.proofs.inspection.put_device.Goals as goal
 
 pub returns-in_err-put_name : goal.returns-in_err-put_name
 unfolding device_text
-returns-in_err-put_name g c = puts_failed _ c.from_residual.ensures.0 (puts_stops _ (puts_stops _ (puts_as (ap name_text c.bytes.ensures) c.in_err-put_name.ensures)))
+returns-in_err-put_name g c = puts_failed _ c.from_residual.ensures.0
+    (puts_stops _ (puts_stops _ (puts_as (ap name_text c.bytes.ensures) c.in_err-put_name.ensures)))
 
 pub returns-in_err-put_kind : goal.returns-in_err-put_kind
 unfolding device_text
-returns-in_err-put_kind g c = puts_failed _ c.from_residual-in_err-put_kind.ensures.0 (puts_stops _ (puts_then _ (puts_as (ap name_text c.bytes.ensures) c.in_ok-put_name.ensures) c.in_err-put_kind.ensures))
+returns-in_err-put_kind g c = puts_failed _ c.from_residual-in_err-put_kind.ensures.0
+    (puts_stops _ (puts_then _ (puts_as (ap name_text c.bytes.ensures) c.in_ok-put_name.ensures) c.in_err-put_kind.ensures))
 
 pub returns : goal.returns
 unfolding device_text

@@ -11,16 +11,22 @@ returns-in_err-put_device g c = puts_failed _ c.from_residual.ensures.0 (puts_st
 
 pub returns-in_err-put_count : goal.returns-in_err-put_count
 unfolding inspection_text
-returns-in_err-put_count g c = puts_failed _ c.from_residual-in_err-put_count.ensures.0 (puts_stops _ (puts_stops _ (puts_stops _ (puts_then _ c.in_ok-put_device.ensures c.in_err-put_count.ensures))))
+returns-in_err-put_count g c = puts_failed _ c.from_residual-in_err-put_count.ensures.0
+    (puts_stops _ (puts_stops _ (puts_stops _ (puts_then _ c.in_ok-put_device.ensures c.in_err-put_count.ensures))))
 
 pub returns-in_err-put_items : goal.returns-in_err-put_items
 unfolding inspection_text
-returns-in_err-put_items g c = puts_failed _ c.from_residual-in_err-put_items.ensures.0 (puts_stops _ (puts_stops _ (puts_then _ (puts_then _ c.in_ok-put_device.ensures c.in_ok-put_count.ensures) (puts_as (ap (flat_map item_text) c.as_slice.ensures) c.in_err-put_items.ensures))))
+returns-in_err-put_items g c = puts_failed _ c.from_residual-in_err-put_items.ensures.0
+    (puts_stops _ (puts_stops _ (puts_then _ (puts_then _ c.in_ok-put_device.ensures c.in_ok-put_count.ensures)
+    (puts_as (ap (flat_map item_text) c.as_slice.ensures) c.in_err-put_items.ensures))))
 
 pub returns-in_err-put_parts : goal.returns-in_err-put_parts
 unfolding inspection_text
-returns-in_err-put_parts g c = puts_failed _ c.from_residual-in_err-put_parts.ensures.0 (puts_stops _ (puts_then _ (puts_then _ (puts_then _ c.in_ok-put_device.ensures c.in_ok-put_count.ensures) (puts_as (ap (flat_map item_text) c.as_slice.ensures) c.in_ok-put_items.ensures)) c.in_err-put_parts.ensures))
+returns-in_err-put_parts g c = puts_failed _ c.from_residual-in_err-put_parts.ensures.0
+    (puts_stops _ (puts_then _ (puts_then _ (puts_then _ c.in_ok-put_device.ensures c.in_ok-put_count.ensures)
+    (puts_as (ap (flat_map item_text) c.as_slice.ensures) c.in_ok-put_items.ensures)) c.in_err-put_parts.ensures))
 
 pub returns : goal.returns
 unfolding inspection_text
-returns g c = puts_then _ (puts_then _ (puts_then _ (puts_then _ c.in_ok-put_device.ensures c.in_ok-put_count.ensures) (puts_as (ap (flat_map item_text) c.as_slice.ensures) c.in_ok-put_items.ensures)) c.in_ok-put_parts.ensures) c.put_entries.ensures
+returns g c = puts_then _ (puts_then _ (puts_then _ (puts_then _ c.in_ok-put_device.ensures c.in_ok-put_count.ensures)
+    (puts_as (ap (flat_map item_text) c.as_slice.ensures) c.in_ok-put_items.ensures)) c.in_ok-put_parts.ensures) c.put_entries.ensures

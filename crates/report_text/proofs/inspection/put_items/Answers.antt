@@ -10,4 +10,5 @@ pub loop-item-preserved : goal.loop-item-preserved
 loop-item-preserved g c = puts_more item_text _ _ _ c.loop-item-test.true c.loop-item.invariant c.in_ok-put_item.ensures
 
 pub returns-in_err-put_item : goal.returns-in_err-put_item
-returns-in_err-put_item g c = puts_failed _ c.from_residual.ensures.0 (puts_breaks item_text _ _ _ c.loop-item-test.true c.loop-item.invariant c.in_err-put_item.ensures)
+returns-in_err-put_item g c = puts_failed _ c.from_residual.ensures.0
+    (puts_breaks item_text _ _ _ c.loop-item-test.true c.loop-item.invariant c.in_err-put_item.ensures)

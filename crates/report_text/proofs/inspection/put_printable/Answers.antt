@@ -8,7 +8,8 @@ pub loop-byte-init : goal.loop-byte-init
 loop-byte-init g c = puts_nothing _ _ _
 
 pub loop-byte-preserved : goal.loop-byte-preserved
-loop-byte-preserved g c = puts_more (λ byte. printable byte ∷ []) _ _ _ c.loop-byte-test.true c.loop-byte.invariant (rw c.printable.ensures at c.in_ok-put_pieces.ensures)
+loop-byte-preserved g c = puts_more (λ byte. printable byte ∷ []) _ _ _ c.loop-byte-test.true c.loop-byte.invariant
+    (rw c.printable.ensures at c.in_ok-put_pieces.ensures)
 
 pub returns-in_err-put_pieces : goal.returns-in_err-put_pieces
 returns-in_err-put_pieces g c = puts_failed _ c.from_residual.ensures.0

@@ -13,8 +13,10 @@ returns-in_err-put_pieces g c = puts_failed _ c.from_residual.ensures.0
 pub returns-in_err-put_devices : goal.returns-in_err-put_devices
 unfolding job_text
 returns-in_err-put_devices g c = puts_failed _ c.from_residual-in_err-put_devices.ensures.0
-    (puts_stops (image_line c.args.job.now.image) (puts_then _ c.in_ok-put_pieces.ensures (puts_as (devices_text _ _ c.as_slice.ensures) c.in_err-put_devices.ensures)))
+    (puts_stops (image_line c.args.job.now.image) (puts_then _ c.in_ok-put_pieces.ensures
+    (puts_as (devices_text _ _ c.as_slice.ensures) c.in_err-put_devices.ensures)))
 
 pub returns : goal.returns
 unfolding job_text
-returns g c = puts_then _ (puts_then _ c.in_ok-put_pieces.ensures (puts_as (devices_text _ _ c.as_slice.ensures) c.in_ok-put_devices.ensures)) c.put_image.ensures
+returns g c = puts_then _ (puts_then _ c.in_ok-put_pieces.ensures (puts_as (devices_text _ _ c.as_slice.ensures) c.in_ok-put_devices.ensures))
+    c.put_image.ensures

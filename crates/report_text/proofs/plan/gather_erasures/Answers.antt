@@ -9,4 +9,5 @@ returns-then-is_chip g c =
     gathers_as (erase_chip c.args.geometry.now c.args.base c.args.plan.now.made (sym c.is_chip.ensures ∙ c.if-is_chip.true)) c.add_all.ensures
 
 pub returns : goal.returns
-returns g c = gathers_as (erase_sectors c.args.geometry.now c.args.base c.args.plan.now.made (sym c.is_chip.ensures ∙ c.if-is_chip.false)) c.gather_sectors.ensures
+returns g c = gathers_as (erase_sectors c.args.geometry.now c.args.base c.args.plan.now.made (sym c.is_chip.ensures ∙ c.if-is_chip.false))
+    c.gather_sectors.ensures

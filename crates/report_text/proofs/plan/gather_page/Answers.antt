@@ -10,5 +10,6 @@ returns-then-not-page_in g c =
 
 pub returns : goal.returns
 returns g c =
-    gathers_as (is_in (codes "program") c.args.base c.args.geometry.now.pages c.args.plan.now.made.pages c.args.index c.page-place.result.0 c.page-place.result.1 (cc) c.page-place.ensures.range)
+    gathers_as (is_in (codes "program") c.args.base c.args.geometry.now.pages c.args.plan.now.made.pages c.args.index c.page-place.result.0
+    c.page-place.result.1 (cc) c.page-place.ensures.range)
     c.gather_action.ensures

@@ -11,12 +11,14 @@ loop-index-init g c = gathers_none (member_text (codes "program") c.args.base c.
 
 pub loop-index-preserved : goal.loop-index-preserved
 loop-index-preserved g c =
-    gathers_next (member_text (codes "program") c.args.base c.args.geometry.now.pages c.args.plan.now.made.pages) _ c.loop-index.invariant c.in_ok-gather_page.ensures
+    gathers_next (member_text (codes "program") c.args.base c.args.geometry.now.pages c.args.plan.now.made.pages) _ c.loop-index.invariant
+    c.in_ok-gather_page.ensures
 
 pub returns-in_err-gather_page : goal.returns-in_err-gather_page
 unfolding set_text
 returns-in_err-gather_page g c = gathers_failed _ c.from_residual.ensures.0
-    (gathers_broken (member_text (codes "program") c.args.base c.args.geometry.now.pages c.args.plan.now.made.pages) c.loop-index.index (length c.args.geometry.now.pages)
+    (gathers_broken (member_text (codes "program") c.args.base c.args.geometry.now.pages c.args.plan.now.made.pages) c.loop-index.index
+    (length c.args.geometry.now.pages)
     (omega arith) c.loop-index.invariant c.in_err-gather_page.ensures)
 
 pub returns : goal.returns

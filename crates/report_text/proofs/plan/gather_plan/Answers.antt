@@ -20,4 +20,5 @@ returns-in_err-gather_pages g c = gathers_failed _ c.from_residual-in_err-gather
 pub returns : goal.returns
 unfolding plan_text
 returns g c = rw c.cost.ensures at
-    (gathers_then _ (gathers_then _ (gathers_then _ c.in_ok-gather_kind.ensures c.in_ok-gather_erasures.ensures) c.in_ok-gather_pages.ensures) c.gather_cost.ensures)
+    (gathers_then _ (gathers_then _ (gathers_then _ c.in_ok-gather_kind.ensures c.in_ok-gather_erasures.ensures) c.in_ok-gather_pages.ensures)
+    c.gather_cost.ensures)

@@ -10,5 +10,6 @@ returns-then-not-sector_in g c =
 
 pub returns : goal.returns
 returns g c =
-    gathers_as (is_in (codes "erase") c.args.base c.args.geometry.now.sectors c.args.plan.now.made.sectors c.args.index c.sector-place.result.0 c.sector-place.result.1 (cc) c.sector-place.ensures.range)
+    gathers_as (is_in (codes "erase") c.args.base c.args.geometry.now.sectors c.args.plan.now.made.sectors c.args.index c.sector-place.result.0
+    c.sector-place.result.1 (cc) c.sector-place.ensures.range)
     c.gather_action.ensures

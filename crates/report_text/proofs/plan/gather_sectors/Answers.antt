@@ -11,12 +11,14 @@ loop-index-init g c = gathers_none (member_text (codes "erase") c.args.base c.ar
 
 pub loop-index-preserved : goal.loop-index-preserved
 loop-index-preserved g c =
-    gathers_next (member_text (codes "erase") c.args.base c.args.geometry.now.sectors c.args.plan.now.made.sectors) _ c.loop-index.invariant c.in_ok-gather_sector.ensures
+    gathers_next (member_text (codes "erase") c.args.base c.args.geometry.now.sectors c.args.plan.now.made.sectors) _ c.loop-index.invariant
+    c.in_ok-gather_sector.ensures
 
 pub returns-in_err-gather_sector : goal.returns-in_err-gather_sector
 unfolding set_text
 returns-in_err-gather_sector g c = gathers_failed _ c.from_residual.ensures.0
-    (gathers_broken (member_text (codes "erase") c.args.base c.args.geometry.now.sectors c.args.plan.now.made.sectors) c.loop-index.index (length c.args.geometry.now.sectors)
+    (gathers_broken (member_text (codes "erase") c.args.base c.args.geometry.now.sectors c.args.plan.now.made.sectors) c.loop-index.index
+    (length c.args.geometry.now.sectors)
     (omega arith) c.loop-index.invariant c.in_err-gather_sector.ensures)
 
 pub returns : goal.returns

@@ -6,4 +6,5 @@ use Rattle.report_text.proofs.plan.put_plan.Goals as goal
 
 pub returns : goal.returns
 returns g c = puts_as (append-nil _)
-    (gathers_alone _ c.new-text.ensures c.put.ensures.none (gathers_then _ c.in_ok-gather_plan.ensures (gathers_waiting _ c.put.ensures.none c.put.ensures.puts)))
+    (gathers_alone _ c.new-text.ensures c.put.ensures.none (gathers_then _ c.in_ok-gather_plan.ensures
+    (gathers_waiting _ c.put.ensures.none c.put.ensures.puts)))

@@ -12,7 +12,8 @@ returns-in_err-put_pieces g c = puts_failed _ c.from_residual.ensures.0
 
 pub returns-in_err-put_reason : goal.returns-in_err-put_reason
 unfolding line_of
-returns-in_err-put_reason g c = puts_failed _ c.from_residual-in_err-put_reason.ensures.0 (puts_stops _ (puts_then _ c.in_ok-put_pieces.ensures c.in_err-put_reason.ensures))
+returns-in_err-put_reason g c = puts_failed _ c.from_residual-in_err-put_reason.ensures.0
+    (puts_stops _ (puts_then _ c.in_ok-put_pieces.ensures c.in_err-put_reason.ensures))
 
 pub returns : goal.returns
 unfolding line_of

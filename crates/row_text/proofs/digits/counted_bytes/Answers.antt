@@ -14,5 +14,6 @@ returns-in_ok-repeat-in-Some c =
     inr (inr (record {
       once = once;
       pairs = ap decode_of (sym parts.0) ∙ c.in_ok-bytes_of-in-Some.ensures ∙ ap Ok (sym c.deref.ensures.value);
-      often = made ∙ ap (λ (n : ℕ). repeat n once) (c.in_ok-count-in-Some.ensures.value.0.1 ∙ ap (λ (l : List ℕ). digits_value 10 (without_leading_plus l)) parts.1);
+      often = made ∙ ap (λ (n : ℕ). repeat n once) (c.in_ok-count-in-Some.ensures.value.0.1
+          ∙ ap (λ (l : List ℕ). digits_value 10 (without_leading_plus l)) parts.1);
     }))

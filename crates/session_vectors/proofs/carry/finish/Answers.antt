@@ -12,7 +12,8 @@ close-requires-clause-surveyed g c = subst (λ (o : Option Surveyed). IsSome o) 
 
 pub close-requires-clause-whole : goal.close-requires-clause-whole
 close-requires-clause-whole g c = λ told.
-    subst (λ (l : List ℕ). IsWhole (drop 1 l) l) (sym (c.go.ensures.file.file told)) (subst (λ (f : List ℕ). f ≡ 165 ∷ drop 1 f) (sym (c.requires.stands told).whole) refl)
+    subst (λ (l : List ℕ). IsWhole (drop 1 l) l) (sym (c.go.ensures.file.file told))
+    (subst (λ (f : List ℕ). f ≡ 165 ∷ drop 1 f) (sym (c.requires.stands told).whole) refl)
 
 pub close-requires-clause-only : goal.close-requires-clause-only
 close-requires-clause-only g c = λ told.

@@ -1,3 +1,4 @@
+-- `Labels::get`: its clauses `cases` and `first`, and that its loop keeps what it has to.
 use Rattle.std.proofs.Common.{◌≡◌, ◌≢◌, ◌∙◌, List, sym, take, subst, arith}
 use Rattle.std.specs.Prelude.{Contains}
 use Rattle.std.proofs.lemmas.List.{take_all}
@@ -29,4 +30,5 @@ returns-then-eq-clause-first c =
     let d = c.label-item.result in
     let name = c.args.name.now in
     let same : d.name ≡ name = sym c.bytes.ensures ∙ (bytes_eq-Decides c.bytes.result.now name).0 (sym c.eq.ensures ∙ c.if-eq.true) in
-    subst (λ (ls : List Label). IsFirstNamed ls name d.place) (c.deref-label-items.ensures.value ∙ c.self.view_is) (first_named labels c.loop-label.label-index d name (omega arith) c.loop-label.invariant c.label-item.is same)
+    subst (λ (ls : List Label). IsFirstNamed ls name d.place) (c.deref-label-items.ensures.value ∙ c.self.view_is)
+    (first_named labels c.loop-label.label-index d name (omega arith) c.loop-label.invariant c.label-item.is same)

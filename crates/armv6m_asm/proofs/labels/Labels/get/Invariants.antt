@@ -1,3 +1,4 @@
+-- `Labels::get`: what holds at each turn of its loop.
 use Rattle.std.proofs.Common.{take}
 use Rattle.std.specs.Prelude.{Contains}
 use Rattle.armv6m_asm.specs.Label.{names_of}

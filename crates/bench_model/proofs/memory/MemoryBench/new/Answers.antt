@@ -1,3 +1,4 @@
+-- `MemoryBench::new`: its clause `rest`, and that its result is as its type asks.
 use Rattle.std.proofs.Common.{sym}
 use Rattle.bench_model.proofs.LossLemmas.{rests}
 use Rattle.bench_model.proofs.memory.MemoryBench.new.Goals as goal
@@ -10,5 +11,6 @@ invariant_of-result-clause-cells_bytes c = c.replace-2.ensures.bytes
 
 pub returns-clause-rest : goal.returns-clause-rest
 returns-clause-rest c =
-    rests c.replace.new.old.items c.replace-2.new.old.items _ _ c.in_ok-new-2.field-0.faults c.in_ok-new-3.field-0.faults c.in_ok-new.field-0 0 c.args.call_room _ (sym c.replace.ensures.items)
+    rests c.replace.new.old.items c.replace-2.new.old.items _ _ c.in_ok-new-2.field-0.faults c.in_ok-new-3.field-0.faults c.in_ok-new.field-0 0 c.args.call_room
+    _ (sym c.replace.ensures.items)
     (sym c.replace-2.ensures.items) c.in_ok-new.ensures

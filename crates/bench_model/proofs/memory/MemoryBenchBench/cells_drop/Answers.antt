@@ -1,8 +1,10 @@
+-- `MemoryBenchBench::cells_drop`: its clause `does`, and that its result is as its type asks.
 use Rattle.std.proofs.Common.{arith, refl, ap, sym, subst, ◌∙◌, ◌≡◌, ℕ, List, length, Option, Some, None}
 use Rattle.bench_model.specs.State.{SameOutside}
 use Rattle.bench_model.specs.Memory.{InStep}
 use Rattle.bench_model.specs.Record.{held_now, broken_off, broken}
-use Rattle.bench_model.proofs.MemoryLemmas.{went_cause, step_broken, within, length-broken, only_broken, in_step_after, longest-after, made-after, greatest-after, ended_adds_nothing, file_stays_after}
+use Rattle.bench_model.proofs.MemoryLemmas.{went_cause, step_broken, within, length-broken, only_broken, in_step_after, longest-after, made-after}
+use Rattle.bench_model.proofs.MemoryLemmas.{greatest-after, ended_adds_nothing, file_stays_after}
 use Rattle.bench_model.proofs.memory.MemoryBenchBench.cells_drop.Goals as goal
 
 pub invariant_of-self-2 : goal.invariant_of-self-2
@@ -38,7 +40,8 @@ returns-clause-does c =
     let new = broken c.byte_at-byte.result (Some (c.in-Some.at, c.in-Some.len)) m.cells.items in
     let long = length-broken c.byte_at-byte.result c.in-Some.at c.in-Some.len m.cells.items inside in
     let step = step_broken (held_now m.history) m.file.items m.cells.items m.operation m.in_step c.in-Some.at c.in-Some.len op c.byte_at-byte.result in
-    let only : SameOutside m.operation m.cells.items new = subst (λ (o : Option (ℕ × ℕ)). SameOutside o m.cells.items new) (sym op) (only_broken c.byte_at-byte.result c.in-Some.at c.in-Some.len m.cells.items inside) in
+    let only : SameOutside m.operation m.cells.items new = subst (λ (o : Option (ℕ × ℕ)). SameOutside o m.cells.items new) (sym op)
+    (only_broken c.byte_at-byte.result c.in-Some.at c.in-Some.len m.cells.items inside) in
     record {
       ok = λ told. record { operation = refl; cells = subst (λ (l : List ℕ). SameOutside m.operation m.cells.items l) (sym c.leave.ensures.items) only };
       err = λ told. tt;

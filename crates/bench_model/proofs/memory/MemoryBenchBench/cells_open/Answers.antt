@@ -1,3 +1,4 @@
+-- `MemoryBenchBench::cells_open`: its clause `does`, and that its result is as its type asks.
 use Rattle.std.proofs.Common.{arith, refl, ◌∙◌}
 use Rattle.bench_model.specs.Record.{held_now, opened}
 use Rattle.bench_model.proofs.MemoryLemmas.{went_cause, step_opened, in_step_after, longest-after, made-after, greatest-after, opened_leaves, file_stays_after}
@@ -10,7 +11,8 @@ invariant_of-self-2 c =
     let r' = c.note.new.self in
     let is = c.note.ensures in
     record {
-      in_step = in_step_after m.history r' e is _ _ _ (step_opened (held_now m.history) m.file.items m.cells.items m.operation m.in_step c.args.at c.args.len c.requires.some c.requires.range);
+      in_step = in_step_after m.history r' e is _ _ _ (step_opened (held_now m.history) m.file.items m.cells.items m.operation m.in_step c.args.at c.args.len
+          c.requires.some c.requires.range);
       fits = m.fits;
       file_bytes = m.file_bytes;
       cells_bytes = m.cells_bytes;
@@ -31,7 +33,8 @@ returns-clause-does c =
       err = λ told. tt;
       cells = λ told. refl;
       count = refl;
-      moments = opened_leaves m.history r' e is m.file.items m.cells.items m.operation m.in_step c.args.at c.args.len (c.requires.idle refl) c.requires.some c.requires.range refl;
+      moments = opened_leaves m.history r' e is m.file.items m.cells.items m.operation m.in_step c.args.at c.args.len (c.requires.idle refl) c.requires.some
+          c.requires.range refl;
       file = record { file = refl; faults = refl; half = file_stays_after m.history r' e is refl };
       cause = went_cause tt m.device c.next_goes.new.self (c.next_goes.ensures.goes c.if-not-next_goes.false).0;
     }

@@ -1,9 +1,11 @@
+-- `MemoryBenchBench::cells_settle`: its clause `does`, and that its result is as its type asks.
 use Rattle.std.proofs.Common.{arith, refl, ap, sym, subst, ◌∙◌, ◌≡◌, ℕ, List, length, Option, Some, None}
 use Rattle.bench_model.specs.Calls.{written}
 use Rattle.bench_model.specs.State.{SameOutside}
 use Rattle.bench_model.specs.Memory.{InStep}
 use Rattle.bench_model.specs.Record.{held_now, settled}
-use Rattle.bench_model.proofs.MemoryLemmas.{went_cause, in_open, step_settled, within, length-in_range, only_in_range, length-open, in_step_after, longest-after, made-after, greatest-after, ended_adds_nothing, file_stays_after}
+use Rattle.bench_model.proofs.MemoryLemmas.{went_cause, in_open, step_settled, within, length-in_range, only_in_range, length-open, in_step_after}
+use Rattle.bench_model.proofs.MemoryLemmas.{longest-after, made-after, greatest-after, ended_adds_nothing, file_stays_after}
 use Rattle.bench_model.proofs.memory.MemoryBenchBench.cells_settle.Goals as goal
 
 pub invariant_of-self-2 : goal.invariant_of-self-2
@@ -41,9 +43,14 @@ returns-clause-does c =
     let same = length-open (length c.args.bytes.now) m.operation c.in-Some.at c.in-Some.field-0-1 (c.requires refl) op in
     let long = length-in_range m.cells.items c.in-Some.at c.in-Some.field-0-1 inside c.args.bytes.now same in
     let step = step_settled (held_now m.history) m.file.items m.cells.items m.operation m.in_step c.in-Some.at c.in-Some.field-0-1 op c.args.bytes.now in
-    let only : SameOutside m.operation m.cells.items new = subst (λ (o : Option (ℕ × ℕ)). SameOutside o m.cells.items new) (sym op) (only_in_range m.cells.items c.in-Some.at c.in-Some.field-0-1 inside c.args.bytes.now same) in
+    let only : SameOutside m.operation m.cells.items new = subst (λ (o : Option (ℕ × ℕ)). SameOutside o m.cells.items new) (sym op)
+    (only_in_range m.cells.items c.in-Some.at c.in-Some.field-0-1 inside c.args.bytes.now same) in
     record {
-      ok = λ told. record { operation = refl; cells = in_open (λ n. c.args.bytes.now) m.operation c.in-Some.at c.in-Some.field-0-1 op m.cells.items _ c.settle.ensures.items };
+      ok = λ told. record {
+        operation = refl;
+        cells = in_open (λ n. c.args.bytes.now) m.operation c.in-Some.at c.in-Some.field-0-1 op m.cells.items _
+            c.settle.ensures.items;
+      };
       err = λ told. tt;
       count = ap length c.settle.ensures.items ∙ long;
       moments = ended_adds_nothing m.history r' e is m.file.items m.cells.items m.operation m.in_step new step only;

@@ -1,10 +1,12 @@
+-- `MemoryBenchBench::cells_settle_fill`: its clause `does`, and that its result is as its type asks.
 use Rattle.std.proofs.Common.{arith, refl, ap, sym, subst, ◌∙◌, ◌≡◌, ℕ, List, length, replicate, Option, Some, None}
 use Rattle.std.proofs.lemmas.List.{length-replicate}
 use Rattle.bench_model.specs.Calls.{written}
 use Rattle.bench_model.specs.State.{SameOutside}
 use Rattle.bench_model.specs.Memory.{InStep}
 use Rattle.bench_model.specs.Record.{held_now, filled}
-use Rattle.bench_model.proofs.MemoryLemmas.{went_cause, in_open, step_filled, within, length-in_range, only_in_range, in_step_after, longest-after, made-after, greatest-after, ended_adds_nothing, file_stays_after}
+use Rattle.bench_model.proofs.MemoryLemmas.{went_cause, in_open, step_filled, within, length-in_range, only_in_range, in_step_after, longest-after, made-after}
+use Rattle.bench_model.proofs.MemoryLemmas.{greatest-after, ended_adds_nothing, file_stays_after}
 use Rattle.bench_model.proofs.memory.MemoryBenchBench.cells_settle_fill.Goals as goal
 
 pub invariant_of-self-2 : goal.invariant_of-self-2
@@ -42,9 +44,14 @@ returns-clause-does c =
     let same = length-replicate c.in-Some.len c.args.value in
     let long = length-in_range m.cells.items c.in-Some.at c.in-Some.len inside (replicate c.in-Some.len c.args.value) same in
     let step = step_filled (held_now m.history) m.file.items m.cells.items m.operation m.in_step c.in-Some.at c.in-Some.len op c.args.value in
-    let only : SameOutside m.operation m.cells.items new = subst (λ (o : Option (ℕ × ℕ)). SameOutside o m.cells.items new) (sym op) (only_in_range m.cells.items c.in-Some.at c.in-Some.len inside (replicate c.in-Some.len c.args.value) same) in
+    let only : SameOutside m.operation m.cells.items new = subst (λ (o : Option (ℕ × ℕ)). SameOutside o m.cells.items new) (sym op)
+    (only_in_range m.cells.items c.in-Some.at c.in-Some.len inside (replicate c.in-Some.len c.args.value) same) in
     record {
-      ok = λ told. record { operation = refl; cells = in_open (λ n. replicate n c.args.value) m.operation c.in-Some.at c.in-Some.len op m.cells.items _ c.settle_fill.ensures.items };
+      ok = λ told. record {
+        operation = refl;
+        cells = in_open (λ n. replicate n c.args.value) m.operation c.in-Some.at c.in-Some.len op m.cells.items _
+            c.settle_fill.ensures.items;
+      };
       err = λ told. tt;
       count = ap length c.settle_fill.ensures.items ∙ long;
       moments = ended_adds_nothing m.history r' e is m.file.items m.cells.items m.operation m.in_step new step only;

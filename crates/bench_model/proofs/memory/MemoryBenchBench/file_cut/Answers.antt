@@ -1,3 +1,4 @@
+-- `MemoryBenchBench::file_cut`: its clause `does`, and that its result is as its type asks.
 use Rattle.std.proofs.Common.{arith, refl, sym, subst, ◌∙◌, ◌<◌, ℕ, List, All}
 use Rattle.std.proofs.lemmas.List.Elements.{All-take}
 use Rattle.bench_model.specs.Memory.{InStep}
@@ -15,7 +16,8 @@ invariant_of-self-2 c =
       in_step = subst (λ (f : List ℕ). InStep (held_now r') f m.cells.items m.operation) (sym c.truncate.ensures.items)
           (in_step_after m.history r' e is _ _ _ (step_cut (held_now m.history) m.file.items m.cells.items m.operation m.in_step c.args.len (c.requires refl)));
       fits = m.fits;
-      file_bytes = subst (All (λ (byte : ℕ). byte < 256)) (sym c.truncate.ensures.items) (All-take (λ (byte : ℕ). byte < 256) c.args.len m.file.items m.file_bytes);
+      file_bytes = subst (All (λ (byte : ℕ). byte < 256)) (sym c.truncate.ensures.items)
+          (All-take (λ (byte : ℕ). byte < 256) c.args.len m.file.items m.file_bytes);
       cells_bytes = m.cells_bytes;
       counted = made-after m.history r' e is ∙ m.counted;
       within = omega (arith, m.within, greatest-after m.history r' e is, longest-after m.history r' e is);

@@ -1,6 +1,8 @@
+-- `MemoryBenchBench::file_sync`: its clause `does`, and that its result is as its type asks.
 use Rattle.std.proofs.Common.{arith, refl, ap, ◌∙◌, length}
 use Rattle.bench_model.specs.Record.{held_now, synced}
-use Rattle.bench_model.proofs.MemoryLemmas.{went_cause, step_synced, in_step_after, longest-after, made-after, greatest-after, synced_adds_nothing, synced_leaves_only, cells_stay_after}
+use Rattle.bench_model.proofs.MemoryLemmas.{went_cause, step_synced, in_step_after, longest-after, made-after, greatest-after, synced_adds_nothing}
+use Rattle.bench_model.proofs.MemoryLemmas.{synced_leaves_only, cells_stay_after}
 use Rattle.bench_model.proofs.memory.MemoryBenchBench.file_sync.Goals as goal
 
 pub invariant_of-self-2 : goal.invariant_of-self-2
@@ -15,7 +17,14 @@ invariant_of-self-2 c =
       file_bytes = m.file_bytes;
       cells_bytes = m.cells_bytes;
       counted = made-after m.history r' e is ∙ m.counted;
-      within = omega (arith, m.within, greatest-after m.history r' e is, longest-after m.history r' e is, ap length m.in_step.same_file, m.in_step.left.no_longer);
+      within = omega (
+        arith,
+        m.within,
+        greatest-after m.history r' e is,
+        longest-after m.history r' e is,
+        ap length m.in_step.same_file,
+        m.in_step.left.no_longer,
+      );
       file_fits = omega (arith, m.file_fits, longest-after m.history r' e is);
       room_fits = omega (arith, m.room_fits, longest-after m.history r' e is);
     }

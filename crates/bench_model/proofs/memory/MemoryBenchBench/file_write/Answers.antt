@@ -1,3 +1,4 @@
+-- `MemoryBenchBench::file_write`: its clause `does`, and that its result is as its type asks.
 use Rattle.std.proofs.Common.{arith, refl, sym, subst, ◌∙◌, ◌+◌, ◌≤◌, ℕ, List, length}
 use Rattle.bench_model.specs.Memory.{InStep}
 use Rattle.bench_model.specs.Record.{held_now, wrote}
@@ -13,7 +14,8 @@ invariant_of-self-2 c =
     let room : c.args.at + length c.args.bytes.now ≤ m.file_room = (c.can_write-room.ensures.0 (c.next_goes.ensures.goes c.if-not-next_goes.false).1).0 in
     record {
       in_step = subst (λ (f : List ℕ). InStep (held_now r') f m.cells.items m.operation) (sym c.overwrite.ensures.items)
-          (in_step_after m.history r' e is _ _ _ (step_wrote (held_now m.history) m.file.items m.cells.items m.operation m.in_step c.args.at c.args.bytes.now (c.requires refl)));
+          (in_step_after m.history r' e is _ _ _ (step_wrote (held_now m.history) m.file.items m.cells.items m.operation m.in_step c.args.at c.args.bytes.now
+          (c.requires refl)));
       fits = m.fits;
       file_bytes = c.overwrite.ensures.bytes;
       cells_bytes = m.cells_bytes;

@@ -1,3 +1,4 @@
+-- `Record::note`: that it keeps its contract, and that its result is as its type asks.
 use Rattle.std.proofs.Common.{sym, subst, arith, ℕ, List, Bool, length}
 use Rattle.bench_model.specs.Record.{Held, Recorded, CanMark, HasRoom, IsMarked, after, at_rest, event_of, events_of, held_now, replay}
 use Rattle.bench_model.proofs.RecordLemmas.{events-after, replay-after, used-after, units-after, recorded, handed_of-event_of}
@@ -16,10 +17,17 @@ invariant_of-self c =
     let can = subst (λ (n : ℕ). CanMark c.args.change n r.longest) (sym i.is_marked.long) fits in
     let room = subst (λ (q : Recorded). HasRoom (length bs) q) (sym v) c.requires.room in
     let marks = marked_after h r.synced.items r.marks.items r.longest c.args.change bs i.is_marked c.requires.handed can in
-    let is = replay-after r.changes.items c.push.new.changes.items c.args.change r.handed.items c.push.new.handed.items bs i.all c.requires.handed c.push.ensures.changes c.push.ensures.handed made in
+    let is = replay-after r.changes.items c.push.new.changes.items c.args.change r.handed.items c.push.new.handed.items bs i.all c.requires.handed
+    c.push.ensures.changes c.push.ensures.handed made in
     record {
-      all = used-after r.changes.items c.push.new.changes.items c.args.change r.handed.items c.push.new.handed.items bs i.all c.requires.handed c.push.ensures.changes c.push.ensures.handed;
-      units = omega (arith, i.units, units-after r.changes.items c.push.new.changes.items c.args.change r.handed.items c.push.new.handed.items bs i.all c.requires.handed c.push.ensures.changes c.push.ensures.handed);
+      all = used-after r.changes.items c.push.new.changes.items c.args.change r.handed.items c.push.new.handed.items bs i.all c.requires.handed
+          c.push.ensures.changes c.push.ensures.handed;
+      units = omega (
+        arith,
+        i.units,
+        units-after r.changes.items c.push.new.changes.items c.args.change r.handed.items c.push.new.handed.items bs i.all
+            c.requires.handed c.push.ensures.changes c.push.ensures.handed,
+      );
       within = omega (arith, room);
       is_marked = subst (λ (q : Held). IsMarked q.kept r.synced.items c.mark_by.new.marks.items) (sym is)
           (subst (λ (m : List Bool). IsMarked (after (event_of c.args.change bs) h).kept r.synced.items m) (sym c.mark_by.ensures.items) marks);
@@ -35,6 +43,7 @@ returns c =
     let r = c.self.inside in
     recorded (at_rest r.made_file.items r.made_cells.items) (events_of r.changes.items r.handed.items) r.used (length c.args.bytes.now) r.room r.longest
     (event_of c.args.change c.args.bytes.now) (events_of c.push.new.changes.items c.push.new.handed.items) c.args.self.now
-    (events-after r.changes.items c.push.new.changes.items c.args.change r.handed.items c.push.new.handed.items c.args.bytes.now c.self.invariant.all c.requires.handed c.push.ensures.changes c.push.ensures.handed)
+    (events-after r.changes.items c.push.new.changes.items c.args.change r.handed.items c.push.new.handed.items c.args.bytes.now c.self.invariant.all
+    c.requires.handed c.push.ensures.changes c.push.ensures.handed)
     (handed_of-event_of c.args.change c.args.bytes.now c.requires.handed)
     c.self.view_is

@@ -1,3 +1,4 @@
+-- `Record::note_sync`: that it keeps its contract, and that its result is as its type asks.
 use Rattle.std.proofs.Common.{◌≡◌, sym, subst, refl, arith, ℕ, List, [], Bool, length, replicate, false}
 use Rattle.bench_model.specs.Kept.{all_synced}
 use Rattle.bench_model.specs.Record.{Held, Recorded, HasRoom, IsMarked, after, synced, at_rest, events_of, held_now, replay}
@@ -16,10 +17,17 @@ invariant_of-self c =
     let h = replay (events_of r.changes.items r.handed.items) made in
     let room = subst (λ (q : Recorded). HasRoom 0 q) (sym v) c.requires.room in
     let file_is : h.kept.file ≡ f = subst (λ (q : Recorded). (held_now q).kept.file ≡ f) (sym v) c.requires.file in
-    let is = replay-after r.changes.items c.push.new.changes.items Synced r.handed.items c.push.new.handed.items [] i.all refl c.push.ensures.changes c.push.ensures.handed made in
+    let is = replay-after r.changes.items c.push.new.changes.items Synced r.handed.items c.push.new.handed.items [] i.all refl c.push.ensures.changes
+    c.push.ensures.handed made in
     record {
-      all = used-after r.changes.items c.push.new.changes.items Synced r.handed.items c.push.new.handed.items [] i.all refl c.push.ensures.changes c.push.ensures.handed;
-      units = omega (arith, i.units, units-after r.changes.items c.push.new.changes.items Synced r.handed.items c.push.new.handed.items [] i.all refl c.push.ensures.changes c.push.ensures.handed);
+      all = used-after r.changes.items c.push.new.changes.items Synced r.handed.items c.push.new.handed.items [] i.all refl c.push.ensures.changes
+          c.push.ensures.handed;
+      units = omega (
+        arith,
+        i.units,
+        units-after r.changes.items c.push.new.changes.items Synced r.handed.items c.push.new.handed.items [] i.all refl
+            c.push.ensures.changes c.push.ensures.handed,
+      );
       within = omega (arith, room);
       is_marked = subst (λ (q : Held). IsMarked q.kept c.replace.new.old.items c.unmark.new.marks.items) (sym is)
           (subst (λ (m : List Bool). IsMarked (after synced h).kept c.replace.new.old.items m) (sym c.unmark.ensures.items)
@@ -37,5 +45,6 @@ returns c =
     let r = c.self.inside in
     recorded (at_rest r.made_file.items r.made_cells.items) (events_of r.changes.items r.handed.items) r.used 0 r.room r.longest
     synced (events_of c.push.new.changes.items c.push.new.handed.items) c.args.self.now
-    (events-after r.changes.items c.push.new.changes.items Synced r.handed.items c.push.new.handed.items [] c.self.invariant.all refl c.push.ensures.changes c.push.ensures.handed)
+    (events-after r.changes.items c.push.new.changes.items Synced r.handed.items c.push.new.handed.items [] c.self.invariant.all refl c.push.ensures.changes
+    c.push.ensures.handed)
     refl c.self.view_is

@@ -1,3 +1,4 @@
+-- `ByteMap::add`: its clause `ok`.
 use Rattle.std.proofs.Common.{◌^◌, rules, subst}
 use Rattle.byte_map.specs.Image.{AreMaximal}
 use Rattle.byte_map.proofs.Clashes.{lays_empty}
@@ -5,4 +6,5 @@ use Rattle.byte_map.proofs.map.ByteMap.add.Goals as goal
 
 pub returns-then-is_empty-clause-ok : goal.returns-then-is_empty-clause-ok
 returns-then-is_empty-clause-ok c =
-    lays_empty (record { at = c.args.at; bytes = c.args.bytes.now }) c.args.self.now c.requires.fits (search rules) (subst (AreMaximal 0 (2 ^ 32)) c.self.view_is c.self.invariant)
+    lays_empty (record { at = c.args.at; bytes = c.args.bytes.now }) c.args.self.now c.requires.fits (search rules)
+    (subst (AreMaximal 0 (2 ^ 32)) c.self.view_is c.self.invariant)

@@ -1,3 +1,4 @@
+-- `RunList::count_beginning_below`: its contract, `IsCut`.
 use Rattle.std.proofs.Common.{◌≡◌, ◌≤◌, ◌^◌, ◌∙◌, [], ◌++◌, length, arith, rules, refl, subst, sym, ap}
 use Rattle.std.proofs.lemmas.List.{get_or_default}
 use Rattle.byte_map.specs.Image.{Run, run_at, AreMaximal}
@@ -11,25 +12,32 @@ returns-then-is_empty c =
     let s = c.self.inside in
     let none : length s.tail.items ≡ 0 = search rules in
     recut (λ (r : Run). r.at) (runs_of s.tree ++ s.tail.items) c.args.self.now c.args.address _ _ (sym c.self.view_is) refl
-    (cut_left (λ (r : Run). r.at) (runs_of s.tree) s.tail.items c.args.address c.beginning_below.result (λ k lt. absurd (omega (arith, none))) c.beginning_below.ensures)
+    (cut_left (λ (r : Run). r.at) (runs_of s.tree) s.tail.items c.args.address c.beginning_below.result (λ k lt. absurd (omega (arith, none)))
+    c.beginning_below.ensures)
 
 pub returns-then-address-from : goal.returns-then-address-from
 returns-then-address-from c =
     let s = c.self.inside in
     let some : 1 ≤ length s.tail.items = search rules in
-    let first : c.index.result.now ≡ run_at s.tail.items 0 = c.index.ensures ∙ get_or_default s.tail.items 0 _ (record { at = 0; bytes = [] }) (omega (arith, some)) in
+    let first : c.index.result.now ≡ run_at s.tail.items 0 = c.index.ensures ∙ get_or_default s.tail.items 0 _ (record { at = 0; bytes = [] })
+    (omega (arith, some)) in
     let maximal = subst (AreMaximal 0 (2 ^ 32)) (sym c.self.view_is) c.requires in
     recut (λ (r : Run). r.at) (runs_of s.tree ++ s.tail.items) c.args.self.now c.args.address _ _ (sym c.self.view_is) refl
     (cut_left (λ (r : Run). r.at) (runs_of s.tree) s.tail.items c.args.address c.beginning_below-then-address-from.result
-    (λ k lt. let up = at_rises (2 ^ 32) s.tail.items 0 k (maximal_right 0 (2 ^ 32) (runs_of s.tree) s.tail.items maximal) (omega arith) lt in omega (arith, up, c.from.ensures, c.at.ensures, ap (λ (r : Run). r.at) first))
+    (λ k lt. let up = at_rises (2 ^ 32) s.tail.items 0 k (maximal_right 0 (2 ^ 32) (runs_of s.tree) s.tail.items maximal) (omega arith) lt in
+    omega (arith, up, c.from.ensures, c.at.ensures, ap (λ (r : Run). r.at) first))
     c.beginning_below-then-address-from.ensures)
 
 pub returns-else-address-from : goal.returns-else-address-from
 returns-else-address-from c =
     let s = c.self.inside in
     let some : 1 ≤ length s.tail.items = search rules in
-    let first : c.index.result.now ≡ run_at s.tail.items 0 = c.index.ensures ∙ get_or_default s.tail.items 0 _ (record { at = 0; bytes = [] }) (omega (arith, some)) in
+    let first : c.index.result.now ≡ run_at s.tail.items 0 = c.index.ensures ∙ get_or_default s.tail.items 0 _ (record { at = 0; bytes = [] })
+    (omega (arith, some)) in
     let maximal = subst (AreMaximal 0 (2 ^ 32)) (sym c.self.view_is) c.requires in
-    let cut = cut_of (λ (r : Run). r.at) s.tail.items c.deref.result.now c.args.address c.beginning_in.result c.deref.ensures.value c.beginning_in.ensures.within c.beginning_in.ensures.below c.beginning_in.ensures.others in
+    let cut = cut_of (λ (r : Run). r.at) s.tail.items c.deref.result.now c.args.address c.beginning_in.result c.deref.ensures.value
+    c.beginning_in.ensures.within c.beginning_in.ensures.below c.beginning_in.ensures.others in
     recut (λ (r : Run). r.at) (runs_of s.tree ++ s.tail.items) c.args.self.now c.args.address _ _ (sym c.self.view_is) (omega (arith, c.count_of.ensures))
-    (cut_right (λ (r : Run). r.at) (runs_of s.tree) s.tail.items c.args.address c.beginning_in.result (λ k lt. let up = ends_before (2 ^ 32) (runs_of s.tree) s.tail.items k maximal some lt in omega (arith, up, c.from.ensures, c.at.ensures, ap (λ (r : Run). r.at) first)) cut)
+    (cut_right (λ (r : Run). r.at) (runs_of s.tree) s.tail.items c.args.address c.beginning_in.result
+    (λ k lt. let up = ends_before (2 ^ 32) (runs_of s.tree) s.tail.items k maximal some lt in
+    omega (arith, up, c.from.ensures, c.at.ensures, ap (λ (r : Run). r.at) first)) cut)

@@ -1,3 +1,4 @@
+-- `RunList::insert`: its clause `ok`.
 use Rattle.std.proofs.Common.{◌≡◌, ◌-◌, ◌∙◌, ℕ, List, [], ◌∷◌, ◌++◌, length, arith, rules, sym, ap}
 use Rattle.byte_map.specs.Image.{Run}
 use Rattle.byte_map.specs.Tree.{runs_of, put_in}

@@ -1,3 +1,4 @@
+-- `RunList::remove`: what holds at each turn of its loop.
 use Rattle.std.proofs.Common.{◌≡◌, ◌++◌, take, drop}
 use Rattle.byte_map.proofs.run_list.RunList.remove.Given as goal
 

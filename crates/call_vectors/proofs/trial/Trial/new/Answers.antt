@@ -12,10 +12,12 @@ pub invariant_of-result : goal.invariant_of-result
 invariant_of-result c = record {
   fits = (
     omega (arith, ap (λ (ws : List (List ℕ)). length ws) c.in_ok-arena.ensures),
-    ap (λ (ws : List (List ℕ)). length (window_of ws 1)) c.in_ok-arena.ensures ∙ length-replicate _ _ ∙ sym (c.in_ok-calls.ensures.size ∙ c.in_ok-machine.ensures.size),
+    ap (λ (ws : List (List ℕ)). length (window_of ws 1)) c.in_ok-arena.ensures ∙ length-replicate _ _
+        ∙ sym (c.in_ok-calls.ensures.size ∙ c.in_ok-machine.ensures.size),
   );
   agrees = fresh_agrees _ c.in_ok-calls.calls.machine.unit _ _
       (ap unit_state c.in_ok-calls.ensures.unit ∙ c.in_ok-machine.ensures.fresh)
-      (ap (λ (b : MemoryBench). length b.cells.items) c.new-3.ensures ∙ ap (λ (m : Memory). length m.cells) c.in_ok-bench.ensures.made ∙ sym (ap unit_cells c.in_ok-calls.ensures.unit ∙ c.in_ok-machine.ensures.cells))
+      (ap (λ (b : MemoryBench). length b.cells.items) c.new-3.ensures ∙ ap (λ (m : Memory). length m.cells) c.in_ok-bench.ensures.made
+      ∙ sym (ap unit_cells c.in_ok-calls.ensures.unit ∙ c.in_ok-machine.ensures.cells))
       (ap (λ (b : MemoryBench). b.operation) c.new-3.ensures ∙ c.in_ok-bench.ensures.rest.idle);
 }

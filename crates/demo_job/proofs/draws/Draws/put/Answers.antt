@@ -8,7 +8,8 @@ loop-draw-init c = record { bytes = begin_bytes c.args.out.now.items c.args.self
 
 pub loop-draw-preserved : goal.loop-draw-preserved
 loop-draw-preserved c = record {
-  bytes = more_bytes c.loop-draw._draw c.args.self.now.state c.loop-draw.self.state c.args.out.now.items c.loop-draw.out.items c.push.new.self.items c.draw.result
+  bytes = more_bytes c.loop-draw._draw c.args.self.now.state c.loop-draw.self.state c.args.out.now.items c.loop-draw.out.items c.push.new.self.items
+      c.draw.result
       c.loop-draw.invariant.state c.loop-draw.invariant.bytes c.draw.ensures.byte c.in_ok-push.ensures.items;
   state = more_state c.loop-draw._draw c.args.self.now.state c.loop-draw.self.state c.draw.new.self.state c.loop-draw.invariant.state c.draw.ensures.state;
 }

@@ -1,3 +1,4 @@
+-- `Places::note`: its clause `ok`.
 use Rattle.std.proofs.Common.{◌≡◌, ◌∙◌, is_some, true, false, sym, ap, refl}
 use Rattle.std.specs.Map.{lookup}
 use Rattle.elf32.specs.Places.{first_place, placed_of}

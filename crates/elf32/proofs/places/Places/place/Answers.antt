@@ -1,3 +1,4 @@
+-- `Places::place`: the value that it answers.
 use Rattle.std.proofs.Common.{◌∙◌}
 use Rattle.elf32.proofs.PlaceLemmas.{lookup-first_place}
 use Rattle.elf32.proofs.places.Places.place.Goals as goal

@@ -1,3 +1,4 @@
+-- `Plan::is_empty`: its contract, `IsEmptyPlan`.
 use Rattle.std.proofs.Common.{ap, ◌∙◌, subst, List, Bool, ◌↔◌, IsTrue}
 use Rattle.erase_planner.specs.Plans.{IsEmptyPlan, made_of}
 use Rattle.erase_planner.specs.Marks.{PlanView}

@@ -1,3 +1,4 @@
+-- `FlashMap::cells`: what holds at each turn of its loop.
 use Rattle.flash_layout.proofs.FindLemmas.{Counted}
 use Rattle.flash_layout.proofs.flash_map.FlashMap.cells.Given as goal
 

@@ -1,3 +1,4 @@
+-- `FlashMap::find`: its clauses `value` and `inside`, and that its loop keeps what it has to.
 use Rattle.std.proofs.Common.{◌∙◌, ap, sym, List}
 use Rattle.std.proofs.lemmas.List.{drop_all}
 use Rattle.flash_layout.specs.declared.area.Area.{Area}
@@ -7,7 +8,8 @@ use Rattle.flash_layout.proofs.flash_map.FlashMap.find.Goals as goal
 
 pub returns-then-holds-clause-value : goal.returns-then-holds-clause-value
 returns-then-holds-clause-value c =
-    looked_found c.deref-area-items.result.now c.args.at c.loop-area.area-index c.loop-area.from _ c.loop-area-test.true (sym c.holds.ensures ∙ c.if-holds.true) c.loop-area.invariant ∙ ap (λ (l : List Area). find l 0 c.args.at) c.deref-area-items.ensures.value
+    looked_found c.deref-area-items.result.now c.args.at c.loop-area.area-index c.loop-area.from _ c.loop-area-test.true (sym c.holds.ensures ∙ c.if-holds.true)
+    c.loop-area.invariant ∙ ap (λ (l : List Area). find l 0 c.args.at) c.deref-area-items.ensures.value
 
 pub returns-then-holds-clause-inside : goal.returns-then-holds-clause-inside
 returns-then-holds-clause-inside c =
@@ -15,8 +17,10 @@ returns-then-holds-clause-inside c =
 
 pub loop-area-preserved : goal.loop-area-preserved
 loop-area-preserved c =
-    looked_on c.deref-area-items.result.now c.args.at c.loop-area.area-index c.loop-area.from _ c.loop-area-test.true (sym c.holds.ensures ∙ c.if-holds.false) c.loop-area.invariant
+    looked_on c.deref-area-items.result.now c.args.at c.loop-area.area-index c.loop-area.from _ c.loop-area-test.true (sym c.holds.ensures ∙ c.if-holds.false)
+    c.loop-area.invariant
 
 pub returns-clause-value : goal.returns-clause-value
 returns-clause-value c =
-    looked_none c.deref-area-items.result.now c.args.at c.loop-area.area-index c.loop-area.from (drop_all _ _ c.loop-area-test.false) c.loop-area.invariant ∙ ap (λ (l : List Area). find l 0 c.args.at) c.deref-area-items.ensures.value
+    looked_none c.deref-area-items.result.now c.args.at c.loop-area.area-index c.loop-area.from (drop_all _ _ c.loop-area-test.false) c.loop-area.invariant ∙
+    ap (λ (l : List Area). find l 0 c.args.at) c.deref-area-items.ensures.value

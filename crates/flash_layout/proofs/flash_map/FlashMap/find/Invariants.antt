@@ -1,3 +1,4 @@
+-- `FlashMap::find`: what holds at each turn of its loop.
 use Rattle.flash_layout.proofs.FindLemmas.{Looked}
 use Rattle.flash_layout.proofs.flash_map.FlashMap.find.Given as goal
 

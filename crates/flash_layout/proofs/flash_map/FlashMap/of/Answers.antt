@@ -1,3 +1,4 @@
+-- `FlashMap::of`: that its result is as its type asks.
 use Rattle.std.proofs.Common.{◌≡◌, subst, List, drop, []}
 use Rattle.std.proofs.lemmas.List.{drop_all}
 use Rattle.board_file.specs.declared.region.Region.{Region}

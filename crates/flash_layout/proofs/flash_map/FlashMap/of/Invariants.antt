@@ -1,3 +1,4 @@
+-- `FlashMap::of`: what holds at each turn of its loop.
 use Rattle.flash_layout.proofs.BoardLemmas.{Taken}
 use Rattle.flash_layout.proofs.flash_map.FlashMap.of.Given as goal
 

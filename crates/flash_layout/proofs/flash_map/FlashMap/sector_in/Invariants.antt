@@ -1,3 +1,4 @@
+-- `FlashMap::sector_in`: what holds at each turn of its loop.
 use Rattle.flash_layout.proofs.SectorLemmas.{Passed}
 use Rattle.flash_layout.proofs.flash_map.FlashMap.sector_in.Given as goal
 

@@ -1,3 +1,4 @@
+-- `BaseRecordFormat::take_line`: its clauses `err` and `ok`.
 use Rattle.std.proofs.Common.{◌≡◌, ◌≤◌, ◌++◌, length, List, ℕ, Some, Ok, Err, None, sym, subst}
 use Rattle.record_lines.specs.Cells.{first_clash, IsImageOf}
 use Rattle.record_lines.specs.Clashes.{IsClashFault}
@@ -17,7 +18,8 @@ returns-in-Ok-clause-ok c = λ before image.
     let arm = c.in-Ok-Some-Data in
     let base = c.args.self.now in
     let is : read_line c.args.line.now ≡ Ok (Some (Data arm.offset arm.bytes)) = cc in
-    let laid = subst (λ (bytes : List ℕ). (first_clash before (data_cells base arm.offset bytes) ≡ None) × IsImageOf (data_cells base arm.offset bytes ++ before) c.lay_data.new.map) c.bytes.ensures.value (c.in-Ok.ensures.ok before image) in
+    let laid = subst (λ (bytes : List ℕ). (first_clash before (data_cells base arm.offset bytes) ≡ None) ×
+    IsImageOf (data_cells base arm.offset bytes ++ before) c.lay_data.new.map) c.bytes.ensures.value (c.in-Ok.ensures.ok before image) in
     let few : length arm.bytes ≤ 255 = subst (λ (bytes : List ℕ). length bytes ≤ 255) c.bytes.ensures.value c.bytes.ensures.limit in
     took_data (read_line c.args.line.now) before base arm.offset arm.bytes c.lay_data.new.map is few laid
 
@@ -26,5 +28,7 @@ returns-in-Err-lay_data-clause-err c = λ before image.
     let arm = c.in-Ok-Some-Data in
     let base = c.args.self.now in
     let is : read_line c.args.line.now ≡ Ok (Some (Data arm.offset arm.bytes)) = cc in
-    let clash = subst (λ (bytes : List ℕ). IsClashFault c.in-Err-lay_data.fault (first_clash before (data_cells base arm.offset bytes))) c.bytes.ensures.value (c.in-Err-lay_data.ensures.err before image) in
-    subst (IsLineFault hex (read_line c.args.line.now) before base) (sym c.fault_of_clash.ensures) (clashed (read_line c.args.line.now) c.in-Err-lay_data.fault before base arm.offset arm.bytes is clash)
+    let clash = subst (λ (bytes : List ℕ). IsClashFault c.in-Err-lay_data.fault (first_clash before (data_cells base arm.offset bytes))) c.bytes.ensures.value
+    (c.in-Err-lay_data.ensures.err before image) in
+    subst (IsLineFault hex (read_line c.args.line.now) before base) (sym c.fault_of_clash.ensures)
+    (clashed (read_line c.args.line.now) c.in-Err-lay_data.fault before base arm.offset arm.bytes is clash)

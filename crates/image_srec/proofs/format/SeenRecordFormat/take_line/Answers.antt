@@ -1,3 +1,4 @@
+-- `SeenRecordFormat::take_line`: its clauses `err` and `ok`.
 use Rattle.std.proofs.Common.{◌≡◌, ◌++◌, ◌+◌, ◌≤◌, List, ℕ, Some, Ok, Err, None, length, refl, sym, ap, subst, arith}
 use Rattle.record_lines.specs.Cells.{cells_from, first_clash, IsImageOf}
 use Rattle.record_lines.specs.Clashes.{IsClashFault}
@@ -17,7 +18,8 @@ returns-in-Ok-clause-ok c = λ before image.
     let arm = c.in-Ok-Some-Data in
     let is : read_line c.args.line.now ≡ Ok (Some (Data arm.at arm.bytes)) = cc in
     let fits : arm.at + length arm.bytes ≤ 4294967296 = omega (arith, ap length c.bytes-bytes.ensures.value) in
-    let laid = subst (λ (bytes : List ℕ). (first_clash before (cells_from arm.at bytes) ≡ None) × IsImageOf (cells_from arm.at bytes ++ before) c.lay_cells.new.map) c.bytes-bytes.ensures.value (c.in-Ok.ensures.ok before image) in
+    let laid = subst (λ (bytes : List ℕ). (first_clash before (cells_from arm.at bytes) ≡ None) ×
+    IsImageOf (cells_from arm.at bytes ++ before) c.lay_cells.new.map) c.bytes-bytes.ensures.value (c.in-Ok.ensures.ok before image) in
     took_data (read_line c.args.line.now) before c.args.self.now _ arm.at arm.bytes c.lay_cells.new.map is fits refl laid
 
 pub returns-in-Err-lay_cells-clause-err : goal.returns-in-Err-lay_cells-clause-err
@@ -25,5 +27,7 @@ returns-in-Err-lay_cells-clause-err c = λ before image.
     let arm = c.in-Ok-Some-Data in
     let is : read_line c.args.line.now ≡ Ok (Some (Data arm.at arm.bytes)) = cc in
     let fits : arm.at + length arm.bytes ≤ 4294967296 = omega (arith, ap length c.bytes-bytes.ensures.value) in
-    let clash = subst (λ (bytes : List ℕ). IsClashFault c.in-Err-lay_cells.fault (first_clash before (cells_from arm.at bytes))) c.bytes-bytes.ensures.value (c.in-Err-lay_cells.ensures.err before image) in
-    subst (IsLineFault srec (read_line c.args.line.now) before c.args.self.now) (sym c.fault_of_clash.ensures) (clashed (read_line c.args.line.now) c.in-Err-lay_cells.fault before c.args.self.now arm.at arm.bytes is fits clash)
+    let clash = subst (λ (bytes : List ℕ). IsClashFault c.in-Err-lay_cells.fault (first_clash before (cells_from arm.at bytes))) c.bytes-bytes.ensures.value
+    (c.in-Err-lay_cells.ensures.err before image) in
+    subst (IsLineFault srec (read_line c.args.line.now) before c.args.self.now) (sym c.fault_of_clash.ensures)
+    (clashed (read_line c.args.line.now) c.in-Err-lay_cells.fault before c.args.self.now arm.at arm.bytes is fits clash)

@@ -1,3 +1,4 @@
+-- `Gathered::add`: its contract, `Gathers`.
 use Rattle.std.proofs.Common.{rules, ◌≡◌}
 use Rattle.outside_io.proofs.PutTexts.{puts_as}
 use Rattle.outside_io.proofs.GatherLemmas.{gathers_then, gathers_waiting}

@@ -1,3 +1,4 @@
+-- `Gathered::add_all`: its contract, `Gathers`, and that its loop keeps what it has to.
 use Rattle.std.proofs.Common.{Bor, ℕ, List}
 use Rattle.outside_io.proofs.GatherLemmas.{gathers_more, gathers_breaks, gathers_failed}
 use Rattle.outside_io.proofs.gathered.Gathered.add_all.Goals as goal

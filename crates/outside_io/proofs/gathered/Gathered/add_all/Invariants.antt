@@ -1,3 +1,4 @@
+-- `Gathered::add_all`: what holds at each turn of its loop.
 use Rattle.std.proofs.Common.{take, Ok}
 use Rattle.std.specs.List.{flat_map}
 use Rattle.outside_io.specs.Gathers.{Gathers}

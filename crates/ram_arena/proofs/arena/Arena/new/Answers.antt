@@ -1,3 +1,4 @@
+-- `Arena::new`: that it keeps its contract, that its loop keeps what it has to, and that no number overflows.
 use Rattle.std.proofs.Common.{◌≡◌, ◌+◌, ℕ, suc, List, [], ◌∷◌, ◌++◌, length, get_or, take, replicate, sym, ap, subst, ◌∙◌, arith, take-suc}
 use lib.Seq.{take-length}
 use Rattle.ram_arena.specs.Windows.{total, cut, sizes_of, LieFrom}
@@ -7,7 +8,14 @@ use Rattle.ram_arena.proofs.arena.Arena.new.Goals as goal
 
 pub overflow_add-from : goal.overflow_add-from
 overflow_add-from c = record {
-  fits = omega (arith, c.loop-index.invariant.2, c.round_up-from.ensures, total_next c.args.sizes.now c.loop-index.index c.loop-index-test.true, total_take (c.loop-index.index + 1) c.args.sizes.now, c.requires.bytes);
+  fits = omega (
+    arith,
+    c.loop-index.invariant.2,
+    c.round_up-from.ensures,
+    total_next c.args.sizes.now c.loop-index.index c.loop-index-test.true,
+    total_take (c.loop-index.index + 1) c.args.sizes.now,
+    c.requires.bytes,
+  );
 }
 
 pub loop-index-preserved : goal.loop-index-preserved
@@ -34,4 +42,5 @@ returns c =
     let all : c.loop-index.index ≡ length sizes = omega (arith, c.loop-index-test.false, c.loop-index.auto.index-end) in
     let every : take c.loop-index.index sizes ≡ sizes = ap (λ (k : ℕ). take k sizes) all ∙ take-length sizes in
     let bytes : c.loop-index.from ≡ total sizes = so_far.2 ∙ ap total every in
-    ap (λ (ns : List ℕ). cut ns c.in_ok-bytes.bytes) (so_far.0 ∙ every) ∙ ap (cut sizes) (c.in_ok-bytes.ensures ∙ ap (λ (k : ℕ). replicate {A = ℕ} k 0) bytes) ∙ blank_is sizes
+    ap (λ (ns : List ℕ). cut ns c.in_ok-bytes.bytes) (so_far.0 ∙ every) ∙ ap (cut sizes) (c.in_ok-bytes.ensures ∙ ap (λ (k : ℕ). replicate {A = ℕ} k 0) bytes) ∙
+    blank_is sizes

@@ -1,3 +1,4 @@
+-- `Bytes::store8`: that it keeps its contract, and that its result is as its type asks.
 use Rattle.std.proofs.Common.{ℕ, List, set, sym, ap, ◌∙◌}
 use Rattle.ram_arena.proofs.Slots.{start, on, by_name}
 use Rattle.ram_arena.proofs.bytes.Bytes.store8.Goals as goal

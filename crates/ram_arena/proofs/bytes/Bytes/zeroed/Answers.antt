@@ -1,3 +1,4 @@
+-- `Bytes::zeroed`: that it keeps its contract, that its loop keeps what it has to, what `store8` asks for, and that its result is as its type asks.
 use Rattle.std.proofs.Common.{◌≡◌, ◌-◌, ℕ, List, Option, Some, length, set, sym, ap, subst, ◌∙◌, arith}
 use Rattle.ram_arena.specs.Slots.{somes, IsFull}
 use Rattle.ram_arena.proofs.Slots.{zeros_to, zeros_on, zeros_length, zeros_somes, zeros_full, zeros_end}
@@ -11,8 +12,11 @@ loop-at-init c =
 
 pub store8-requires : goal.store8-requires
 store8-requires c =
-    let so_far = c.loop-at.invariant in
-    (so_far.0, omega (arith, ap (λ (l : List (Option ℕ)). length l) so_far.1, zeros_length c.loop-at.at (c.args.size - c.loop-at.at), c.loop-at-test.true), omega arith)
+    let so_far = c.loop-at.invariant in (
+      so_far.0,
+      omega (arith, ap (λ (l : List (Option ℕ)). length l) so_far.1, zeros_length c.loop-at.at (c.args.size - c.loop-at.at), c.loop-at-test.true),
+      omega arith,
+    )
 
 pub loop-at-preserved : goal.loop-at-preserved
 loop-at-preserved c =
@@ -29,8 +33,14 @@ loop-at-preserved c =
 pub invariant_of-result : goal.invariant_of-result
 invariant_of-result c =
     let so_far = c.loop-at.invariant in
-    let all = zeros_end c.loop-at.at c.args.size c.loop-at.cells.slots (omega (arith, c.loop-at-test.false, c.loop-at.auto.at-end)) so_far.1 in
-    (so_far.0, ap (λ (l : List (Option ℕ)). length l) all ∙ zeros_length c.args.size 0 ∙ omega arith, subst IsFull (sym all) (zeros_full c.args.size), so_far.3, so_far.4, so_far.5)
+    let all = zeros_end c.loop-at.at c.args.size c.loop-at.cells.slots (omega (arith, c.loop-at-test.false, c.loop-at.auto.at-end)) so_far.1 in (
+      so_far.0,
+      ap (λ (l : List (Option ℕ)). length l) all ∙ zeros_length c.args.size 0 ∙ omega arith,
+      subst IsFull (sym all) (zeros_full c.args.size),
+      so_far.3,
+      so_far.4,
+      so_far.5,
+    )
 
 pub returns : goal.returns
 returns c =

@@ -33,12 +33,21 @@ use Rattle.ram_arena.proofs.cells.Cells.load32.Statement.{statement}
 use Rattle.ram_arena.proofs.cells.Cells.load32.Code as code
 
 abbrev stayed : Stays f.ended.signature.params f.ended.kept
-stayed = (stay_dropped (slot_at 0 f.ended.signature.params) f.ended.kept.0, (stay_dropped (slot_at 1 f.ended.signature.params) f.ended.kept.1.0, (stay_dropped (slot_at 2 f.ended.signature.params) f.ended.kept.1.1.0, tt)))
+stayed = (
+  stay_dropped (slot_at 0 f.ended.signature.params) f.ended.kept.0,
+  (stay_dropped (slot_at 1 f.ended.signature.params) f.ended.kept.1.0, (stay_dropped (slot_at 2 f.ended.signature.params) f.ended.kept.1.1.0, tt)),
+)
 
 pub load32_spec : {M : Type 1} → statement M
 load32_spec 𝓤 𝓛 𝓜 𝓡 wired =
     let H = 𝓛.H in let c = f.clauses 𝓛 𝓜.mem 𝓡.returns in let C = (tables 𝓤 H 𝓜 𝓡 𝓡.env).C in let Λ = (tables 𝓤 H 𝓜 𝓡 𝓡.env).Λ in let fn = code.function in
-    proved_at 𝓛 f.ended stayed c 𝓜 𝓡 (Goes-dropped 𝓛 1 (slot_at 0 f.ended.signature.params) f.ended.kept.0 (λ κs x w. refl), (Goes-dropped 𝓛 1 (slot_at 1 f.ended.signature.params) f.ended.kept.1.0 (λ κs x w. refl), (Goes-dropped 𝓛 1 (slot_at 2 f.ended.signature.params) f.ended.kept.1.1.0 (λ κs x w. refl), tt)))
+    proved_at 𝓛 f.ended stayed c 𝓜 𝓡 (
+      Goes-dropped 𝓛 1 (slot_at 0 f.ended.signature.params) f.ended.kept.0 (λ κs x w. refl),
+      (
+        Goes-dropped 𝓛 1 (slot_at 1 f.ended.signature.params) f.ended.kept.1.0 (λ κs x w. refl),
+        (Goes-dropped 𝓛 1 (slot_at 2 f.ended.signature.params) f.ended.kept.1.1.0 (λ κs x w. refl), tt),
+      ),
+    )
     f.Key.name fn (code.unfolded 𝓤 H 𝓜 𝓡 wired) (λ z are.
     let Post : Val → SProp 𝓤 = (walk_of 𝓛 f.ended stayed c).post z in
     let a = z.0.3 in let vss = z.0.4 in let κ = z.0.0.0 in let q = z.0.1.0 in
@@ -46,10 +55,12 @@ load32_spec 𝓤 𝓛 𝓜 𝓡 wired =
     let Asked : Type 0 = (base.ptr ≡ d.at) × IsFull d.slots × (at + 3 < length d.slots) in
     qed 𝓛 ((raw (alive 𝓛 f.ended.signature z.0.0 z.0.1) ⊛ ‵ (owns (types_at f.ended.signature.params z.0.0) a vss)) ∷ raw (fact 𝓤 Asked) ∷ []) ∵
     move ! (1 ∷ []) $ heard ! Asked (λ asked. split ! $ use1 𝓛 (‵ (flft κ q) ⊛ ‵ ftrue) (id⊢ 𝓤 _) $ split ! $ move ! (2 ∷ []) $
-    fsplit ! $ fsplit ! $ feq_l ! (λ e0. move ! (1 ∷ []) $ fsplit ! $ word_had ! base.ptr vss.1.0 (λ e1. fsplit ! $ fsplit ! $ feq_l ! (λ e2. flt_l ! (λ fits. keep ! (1 ∷ 2 ∷ []) $
+    fsplit ! $ fsplit ! $ feq_l ! (λ e0. move ! (1 ∷ []) $ fsplit ! $ word_had ! base.ptr vss.1.0
+    (λ e1. fsplit ! $ fsplit ! $ feq_l ! (λ e2. flt_l ! (λ fits. keep ! (1 ∷ 2 ∷ []) $
     -- [what a `&` to the bytes holds; the token]
     regoal ! (λ (us : List Val). prop (WpFn 𝓤 H C Λ fn us Post)) (λ i. e0 i ++ (e1 i ++ (e2 i ++ []))) refl $
-    enter ! C Λ fn (vptr rb ro ∷ word base.ptr ∷ vint w64 at ∷ []) Post $ alloc_all ! (λ l. pass_all ! refl ((tt, tt), (word-Good [] base.ptr, ((tt, record { fits = fits }), tt))) $
+    enter ! C Λ fn (vptr rb ro ∷ word base.ptr ∷ vint w64 at ∷ []) Post $ alloc_all !
+    (λ l. pass_all ! refl ((tt, tt), (word-Good [] base.ptr, ((tt, record { fits = fits }), tt))) $
     let En : Env 𝓤 H = env fn.locals l in
     unhide ! $ fsplit ! $ drop ! $ in_a_block ! d.at (λ p. cells_lent p d.slots κ) (id⊢ 𝓤 (never 𝓤)) (λ b o e. fsplit ! $ flt_l ! (λ small.
     let full : IsFull d.slots = asked.1 in
@@ -84,14 +95,18 @@ load32_spec 𝓤 𝓛 𝓜 𝓡 wired =
     sets ! (bin ! (lit ! tt) (get ! refl) (record { fits = omega (arith, low1) })) refl (tt, record { fits = omega (arith, low1) }) $
     sets ! (bin ! (get ! refl) (get ! refl) (record { fits = omega (arith, low0, low1) })) refl (tt, record { fits = omega (arith, low0, low1) }) $
     sets ! (un ! (get ! refl) (record { fits = omega (arith, low2) })) refl (tt, record { fits = omega (arith, low2) }) $
-    sets ! (bin ! (big_lit ! (record { fits = lit< tt })) (get ! refl) (record { fits = omega (arith, low2) })) refl (tt, record { fits = omega (arith, low2) }) $
+    sets ! (bin ! (big_lit ! (record { fits = lit< tt })) (get ! refl) (record { fits = omega (arith, low2) })) refl (tt, record { fits = omega (arith, low2) })
+    $
     sets ! (bin ! (get ! refl) (get ! refl) (record { fits = omega (arith, low0, low1, low2) })) refl (tt, record { fits = omega (arith, low0, low1, low2) }) $
     sets ! (un ! (get ! refl) (record { fits = omega (arith, low3) })) refl (tt, record { fits = omega (arith, low3) }) $
-    sets ! (bin ! (big_lit ! (record { fits = lit< tt })) (get ! refl) (record { fits = omega (arith, low3) })) refl (tt, record { fits = omega (arith, low3) }) $
-    sets_last ! (bin ! (get ! refl) (get ! refl) (record { fits = omega (arith, low0, low1, low2, low3) })) refl (tt, record { fits = omega (arith, low0, low1, low2, low3) }) $
+    sets ! (bin ! (big_lit ! (record { fits = lit< tt })) (get ! refl) (record { fits = omega (arith, low3) })) refl (tt, record { fits = omega (arith, low3) })
+    $
+    sets_last ! (bin ! (get ! refl) (get ! refl) (record { fits = omega (arith, low0, low1, low2, low3) })) refl
+    (tt, record { fits = omega (arith, low0, low1, low2, low3) }) $
     exec ! C Λ En (after 1 fn.body) (at_ret En Post) $ sets ! (of_opd ! (get ! refl)) refl (tt, record { fits = omega (arith, low0, low1, low2, low3) }) $
     returns ! (look_at ! 0 refl) $ free_all ! refl $ move ! (1 ∷ []) $
-    let r : ℕ = x at + 0x100 * x (at + 1) + 0x10000 * x (at + 2) + 0x1000000 * x (at + 3) in let Gives : Type 0 = r ≡ x at + 0x100 * x (at + 1) + 0x10000 * x (at + 2) + 0x1000000 * x (at + 3) in
+    let r : ℕ = x at + 0x100 * x (at + 1) + 0x10000 * x (at + 2) + 0x1000000 * x (at + 3) in
+    let Gives : Type 0 = r ≡ x at + 0x100 * x (at + 1) + 0x10000 * x (at + 2) + 0x1000000 * x (at + 3) in
     use0 𝓛 (raw (fact 𝓤 Gives)) (fact_i 𝓤 Gives (emp 𝓤) refl) $ owned ! u32 _ (uint_Makes 𝓛 w32) r _ (refl, omega (arith, low0, low1, low2, low3)) $
     nothing ! $ nothing ! $ fjoin ! $ nothing ! $ fjoin ! $ nothing ! $ fjoin ! $ nothing ! $ move ! (4 ∷ 0 ∷ []) $ join ! $ keep ! (0 ∷ 1 ∷ 2 ∷ 3 ∷ []) $
     by ! (leaves 𝓛 f.ended stayed c z (vint w32 r) r (tt, (tt, (tt, tt))) (tt, (tt, (tt, tt)))))))))))))))))

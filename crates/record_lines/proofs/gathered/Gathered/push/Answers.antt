@@ -1,3 +1,4 @@
+-- `Gathered::push`: that it keeps its contract.
 use Rattle.std.proofs.Common.{◌≡◌, length, refl, rules}
 use Rattle.record_lines.proofs.Stores.{runs-push}
 use Rattle.record_lines.proofs.gathered.Gathered.push.Goals as goal
@@ -6,4 +7,5 @@ pub returns : goal.returns
 returns c =
     let inside = c.self.inside in
     rw (c.in_ok-push.ensures.items, c.in_ok-extend_from_slice.ensures.items, ← c.self.view_is)
-    (runs-push inside.bytes.items c.args.bytes.now inside.pieces.items _ c.self.invariant (let start : c.len-start.result ≡ length inside.bytes.items = search rules in start) refl)
+    (runs-push inside.bytes.items c.args.bytes.now inside.pieces.items _ c.self.invariant
+    (let start : c.len-start.result ≡ length inside.bytes.items = search rules in start) refl)

@@ -1,3 +1,4 @@
+-- `Gathered::push_runs`: what holds at each turn of its loop.
 use Rattle.std.proofs.Common.{◌≡◌, ◌++◌, take}
 use Rattle.record_lines.proofs.gathered.Gathered.push_runs.Given as goal
 

@@ -1,3 +1,4 @@
+-- `Payload::copy`: the value that it answers.
 use Rattle.std.proofs.Common.{rules}
 use Rattle.std.proofs.lemmas.Slice.{overwrites}
 use Rattle.record_lines.proofs.payload.Payload.copy.Goals as goal
