@@ -10,7 +10,6 @@ pub mod instr;
 mod memory;
 mod miscellaneous;
 mod pairs;
-pub mod parts;
 pub mod registers;
 pub mod targets;
 

@@ -1,7 +1,7 @@
 //! The addresses that instructions name by their distance from the PC.
 
-ghost use Rattle.std.specs.Prelude.{◌≡◌};
-ghost use Rattle.armv6m_decode.specs.Targets.{pc_read, literal_target, branch_target};
+ghost use Rattle.std.specs.Prelude.{◌≡◌, ◌%◌, ◌^◌};
+ghost use Rattle.armv6m_decode.specs.Targets.{pc_read, literal_target, signed_offset, branch_target};
 
 use armv6m_alu::sign_extend;
 
@@ -21,12 +21,32 @@ pub fn literal(at: u32, immediate: u8) -> u32
     (pc_at(at) / 4 * 4).wrapping_add(4 * u32::from(immediate))
 }
 
+/// How far `B` with a condition goes from the PC: twice its immediate, read as signed.
+#[inline(always)]
+#[tactic(auto, using(std::proofs::lemmas::Bool::Decides::nat_tests, std::proofs::lemmas::Int::ints))]
+fn short_way(immediate: u8) -> u32
+    ensures { result ≡ signed_offset 8 immediate }
+{
+    let signed = i32::from(immediate.cast_signed()).cast_unsigned();
+    signed.wrapping_mul(2)
+}
+
 /// The target of `B` with a condition.
 #[inline(always)]
 pub fn short(at: u32, immediate: u8) -> u32
     ensures { result ≡ branch_target 8 at immediate }
 {
-    pc_at(at).wrapping_add(sign_extend(2 * u32::from(immediate), 9))
+    pc_at(at).wrapping_add(short_way(immediate))
+}
+
+/// How far `B` goes.
+#[inline(always)]
+#[tactic(auto, using(std::proofs::lemmas::Bool::Decides::nat_tests))]
+fn near_way(immediate: u16) -> u32
+    ensures { result ≡ signed_offset 11 (immediate % 2 ^ 11) }
+{
+    let signed = ((u32::from(immediate) + 0x400) % 0x800).wrapping_sub(0x400);
+    signed.wrapping_mul(2)
 }
 
 /// The target of `B`.
@@ -34,7 +54,7 @@ pub fn short(at: u32, immediate: u8) -> u32
 pub fn near(at: u32, immediate: u16) -> u32
     ensures { result ≡ branch_target 11 at immediate }
 {
-    pc_at(at).wrapping_add(sign_extend(2 * u32::from(immediate % 0x800), 12))
+    pc_at(at).wrapping_add(near_way(immediate))
 }
 
 /// The target of `BL`.

@@ -18,8 +18,9 @@ fn stop_at(at: u32, end: BusEnd) -> Stop
     }
 }
 
-#[inline(always)]
-pub(crate) fn load8<B: Bus>(bus: &mut B, at: u32) -> Result<u32, Stop>
+/// Loads a byte, out of line.
+#[inline(never)]
+fn load8<B: Bus>(bus: &mut B, at: u32) -> Result<u32, Stop>
     ensures gives { LoadGives B.acts 1 at bus.old result bus.new }
     ensures fits { IfOk result (λ v. v < 2 ^ 8) }
 {
@@ -29,8 +30,9 @@ pub(crate) fn load8<B: Bus>(bus: &mut B, at: u32) -> Result<u32, Stop>
     }
 }
 
-#[inline(always)]
-pub(crate) fn load16<B: Bus>(bus: &mut B, at: u32) -> Result<u32, Stop>
+/// Loads a halfword, out of line.
+#[inline(never)]
+fn load16<B: Bus>(bus: &mut B, at: u32) -> Result<u32, Stop>
     ensures gives { LoadGives B.acts 2 at bus.old result bus.new }
     ensures fits { IfOk result (λ v. v < 2 ^ 16) }
 {
@@ -43,8 +45,9 @@ pub(crate) fn load16<B: Bus>(bus: &mut B, at: u32) -> Result<u32, Stop>
     }
 }
 
-#[inline(always)]
-pub(crate) fn load32<B: Bus>(bus: &mut B, at: u32) -> Result<u32, Stop>
+/// Loads a word, out of line.
+#[inline(never)]
+fn load32<B: Bus>(bus: &mut B, at: u32) -> Result<u32, Stop>
     ensures { LoadGives B.acts 4 at bus.old result bus.new }
 {
     if at % 4 != 0 {
@@ -56,8 +59,9 @@ pub(crate) fn load32<B: Bus>(bus: &mut B, at: u32) -> Result<u32, Stop>
     }
 }
 
-#[inline(always)]
-pub(crate) fn store8<B: Bus>(bus: &mut B, at: u32, value: u32) -> Result<(), Stop>
+/// Stores a byte, out of line.
+#[inline(never)]
+fn store8<B: Bus>(bus: &mut B, at: u32, value: u32) -> Result<(), Stop>
     requires { value < 2 ^ 8 }
     ensures { StoreGives B.acts 1 at value bus.old result bus.new }
 {
@@ -67,8 +71,9 @@ pub(crate) fn store8<B: Bus>(bus: &mut B, at: u32, value: u32) -> Result<(), Sto
     }
 }
 
-#[inline(always)]
-pub(crate) fn store16<B: Bus>(bus: &mut B, at: u32, value: u32) -> Result<(), Stop>
+/// Stores a halfword, out of line.
+#[inline(never)]
+fn store16<B: Bus>(bus: &mut B, at: u32, value: u32) -> Result<(), Stop>
     requires { value < 2 ^ 16 }
     ensures { StoreGives B.acts 2 at value bus.old result bus.new }
 {
@@ -81,8 +86,9 @@ pub(crate) fn store16<B: Bus>(bus: &mut B, at: u32, value: u32) -> Result<(), St
     }
 }
 
-#[inline(always)]
-pub(crate) fn store32<B: Bus>(bus: &mut B, at: u32, value: u32) -> Result<(), Stop>
+/// Stores a word, out of line.
+#[inline(never)]
+fn store32<B: Bus>(bus: &mut B, at: u32, value: u32) -> Result<(), Stop>
     ensures { StoreGives B.acts 4 at value bus.old result bus.new }
 {
     if at % 4 != 0 {
@@ -103,50 +109,63 @@ pub(crate) fn peek16<B: Bus>(bus: &B, at: u32) -> Option<u32>
     bus.peek16(at)
 }
 
-/// As `load8`, out of line.
-#[inline(never)]
-fn load8_out<B: Bus>(bus: &mut B, at: u32) -> Result<u32, Stop>
-    ensures { LoadGives B.acts 1 at bus.old result bus.new }
+/// As `load8`, whose result is taken here: its place is cleared only where it is called.
+#[inline(always)]
+fn far_load8<B: Bus>(bus: &mut B, at: u32) -> Result<u32, Stop>
+    ensures gives { LoadGives B.acts 1 at bus.old result bus.new }
+    ensures fits { IfOk result (λ v. v < 2 ^ 8) }
 {
-    load8(bus, at)
+    match load8(bus, at) {
+        Ok(value) => Ok(value),
+        Err(stop) => Err(stop),
+    }
 }
 
 /// As `load8`, in line where the bus has it at hand.
 #[inline(always)]
 pub(crate) fn byte_at<B: Bus>(bus: &mut B, at: u32) -> Result<u32, Stop>
-    ensures { LoadGives B.acts 1 at bus.old result bus.new }
+    ensures gives { LoadGives B.acts 1 at bus.old result bus.new }
+    ensures fits { IfOk result (λ v. v < 2 ^ 8) }
 {
     if let Some(value) = bus.peek8(at) {
         return Ok(value);
     }
-    load8_out(bus, at)
+    far_load8(bus, at)
 }
 
-/// As `load16`, out of line.
-#[inline(never)]
-fn load16_out<B: Bus>(bus: &mut B, at: u32) -> Result<u32, Stop>
-    ensures { LoadGives B.acts 2 at bus.old result bus.new }
+/// As `load16`, whose result is taken here: its place is cleared only where it is called.
+#[inline(always)]
+fn far_load16<B: Bus>(bus: &mut B, at: u32) -> Result<u32, Stop>
+    ensures gives { LoadGives B.acts 2 at bus.old result bus.new }
+    ensures fits { IfOk result (λ v. v < 2 ^ 16) }
 {
-    load16(bus, at)
+    match load16(bus, at) {
+        Ok(value) => Ok(value),
+        Err(stop) => Err(stop),
+    }
 }
 
 /// As `load16`, in line where the bus has it at hand.
 #[inline(always)]
 pub(crate) fn half_at<B: Bus>(bus: &mut B, at: u32) -> Result<u32, Stop>
-    ensures { LoadGives B.acts 2 at bus.old result bus.new }
+    ensures gives { LoadGives B.acts 2 at bus.old result bus.new }
+    ensures fits { IfOk result (λ v. v < 2 ^ 16) }
 {
     if let Some(value) = bus.peek16(at) {
         return Ok(value);
     }
-    load16_out(bus, at)
+    far_load16(bus, at)
 }
 
-/// As `load32`, out of line.
-#[inline(never)]
-fn load32_out<B: Bus>(bus: &mut B, at: u32) -> Result<u32, Stop>
+/// As `load32`, whose result is taken here: its place is cleared only where it is called.
+#[inline(always)]
+fn far_load32<B: Bus>(bus: &mut B, at: u32) -> Result<u32, Stop>
     ensures { LoadGives B.acts 4 at bus.old result bus.new }
 {
-    load32(bus, at)
+    match load32(bus, at) {
+        Ok(value) => Ok(value),
+        Err(stop) => Err(stop),
+    }
 }
 
 /// As `load32`, in line where the bus has it at hand.
@@ -157,16 +176,19 @@ pub(crate) fn word_at<B: Bus>(bus: &mut B, at: u32) -> Result<u32, Stop>
     if let Some(value) = bus.peek32(at) {
         return Ok(value);
     }
-    load32_out(bus, at)
+    far_load32(bus, at)
 }
 
-/// As `store8`, out of line.
-#[inline(never)]
-fn store8_out<B: Bus>(bus: &mut B, at: u32, value: u32) -> Result<(), Stop>
+/// As `store8`, whose result is taken here: its place is cleared only where it is called.
+#[inline(always)]
+fn far_store8<B: Bus>(bus: &mut B, at: u32, value: u32) -> Result<(), Stop>
     requires { value < 2 ^ 8 }
     ensures { StoreGives B.acts 1 at value bus.old result bus.new }
 {
-    store8(bus, at, value)
+    match store8(bus, at, value) {
+        Ok(()) => Ok(()),
+        Err(stop) => Err(stop),
+    }
 }
 
 /// As `store8`, in line where the bus has it at hand.
@@ -178,16 +200,19 @@ pub(crate) fn byte_to<B: Bus>(bus: &mut B, at: u32, value: u32) -> Result<(), St
     if bus.poke8(at, value) {
         return Ok(());
     }
-    store8_out(bus, at, value)
+    far_store8(bus, at, value)
 }
 
-/// As `store16`, out of line.
-#[inline(never)]
-fn store16_out<B: Bus>(bus: &mut B, at: u32, value: u32) -> Result<(), Stop>
+/// As `store16`, whose result is taken here: its place is cleared only where it is called.
+#[inline(always)]
+fn far_store16<B: Bus>(bus: &mut B, at: u32, value: u32) -> Result<(), Stop>
     requires { value < 2 ^ 16 }
     ensures { StoreGives B.acts 2 at value bus.old result bus.new }
 {
-    store16(bus, at, value)
+    match store16(bus, at, value) {
+        Ok(()) => Ok(()),
+        Err(stop) => Err(stop),
+    }
 }
 
 /// As `store16`, in line where the bus has it at hand.
@@ -199,15 +224,18 @@ pub(crate) fn half_to<B: Bus>(bus: &mut B, at: u32, value: u32) -> Result<(), St
     if bus.poke16(at, value) {
         return Ok(());
     }
-    store16_out(bus, at, value)
+    far_store16(bus, at, value)
 }
 
-/// As `store32`, out of line.
-#[inline(never)]
-fn store32_out<B: Bus>(bus: &mut B, at: u32, value: u32) -> Result<(), Stop>
+/// As `store32`, whose result is taken here: its place is cleared only where it is called.
+#[inline(always)]
+fn far_store32<B: Bus>(bus: &mut B, at: u32, value: u32) -> Result<(), Stop>
     ensures { StoreGives B.acts 4 at value bus.old result bus.new }
 {
-    store32(bus, at, value)
+    match store32(bus, at, value) {
+        Ok(()) => Ok(()),
+        Err(stop) => Err(stop),
+    }
 }
 
 /// As `store32`, in line where the bus has it at hand.
@@ -218,5 +246,5 @@ pub(crate) fn word_to<B: Bus>(bus: &mut B, at: u32, value: u32) -> Result<(), St
     if bus.poke32(at, value) {
         return Ok(());
     }
-    store32_out(bus, at, value)
+    far_store32(bus, at, value)
 }

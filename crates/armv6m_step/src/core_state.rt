@@ -41,6 +41,20 @@ impl Core {
         if n % 16 == PC { pc_at(value) } else { value }
     }
 
+    /// A register as an operand, by a number as wide as an address of the host, which takes no conversion.
+    #[inline(always)]
+    #[tactic(auto, unfolding(crate::specs::Registers::reg))]
+    pub(crate) fn read_wide(&self, n: usize) -> u32
+        ensures { result ≡ reg self.now n }
+    {
+        let value = self.regs[n % 16];
+        if n % 16 == PC as usize {
+            pc_at(value)
+        } else {
+            value
+        }
+    }
+
     /// Bits 7 to 0 of a register.
     #[inline(always)]
     pub(crate) fn low_byte(&self, n: u8) -> u32
@@ -55,6 +69,18 @@ impl Core {
         ensures { result ≡ reg self.now n % 2 ^ 16 }
     {
         self.read(n) % 0x1_0000
+    }
+
+    #[inline(always)]
+    #[tactic(auto, unfolding(crate::specs::Registers::written))]
+    pub(crate) fn write_wide(&mut self, n: usize, value: u32)
+        ensures { self.new ≡ written self.old n value }
+    {
+        self.regs[n % 16] = if n % 16 == SP as usize {
+            value / 4 * 4
+        } else {
+            value
+        };
     }
 
     #[inline(always)]

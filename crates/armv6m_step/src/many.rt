@@ -1,6 +1,6 @@
 //! Loads and stores of a list of registers.
 
-ghost use Rattle.std.specs.Prelude.{◌≡◌, ◌≤◌};
+ghost use Rattle.std.specs.Prelude.{◌≡◌, ◌≤◌, ◌<◌, ◌∷◌};
 ghost use Rattle.armv6m_step.specs.Ends.{end_of};
 ghost use Rattle.armv6m_step.specs.Meaning.{Runs};
 ghost use Rattle.armv6m_step.specs.ListRows.{low_registers, list_bytes, StoresEach, LoadsEach, all_loaded, unless_stopped, many};
@@ -20,17 +20,27 @@ fn bytes_of(list: u8) -> u32
     4 * list.count_ones()
 }
 
+/// The first register of a list, and the list of the others.
+#[inline(always)]
+fn first_of(list: u8) -> (u8, u8)
+    requires { 0 < list }
+    ensures registers { low_registers list ≡ result.0 ∷ low_registers result.1 }
+    ensures fewer { result.1 < list }
+{
+    (list.trailing_zeros() as u8, list & (list - 1))
+}
+
 #[tactic(auto, using(crate::proofs::ListLemmas::stored_so_far, std::proofs::lemmas::Bool::Decides::nat_tests))]
 fn store_list<B: Bus>(core: &Core, bus: &mut B, at: u32, list: u8) -> Result<(), Stop>
     ensures { StoresEach B.acts core.now at (low_registers list) bus.old result bus.new }
 {
     let mut to = at;
-    for r in 0..8u8 {
-        if (list >> r) % 2 != 1 {
-            continue;
-        }
+    let mut left = list;
+    while left != 0 {
+        let (r, rest) = first_of(left);
         word_to(bus, to, core.read(r))?;
         to = to.wrapping_add(4);
+        left = rest;
     }
     Ok(())
 }
@@ -51,13 +61,13 @@ fn load_list<B: Bus>(core: &mut Core, bus: &mut B, at: u32, list: u8) -> Result<
     ensures { LoadsEach B.acts core.old at (low_registers list) bus.old (all_loaded core.new result) bus.new }
 {
     let mut from = at;
-    for r in 0..8u8 {
-        if (list >> r) % 2 != 1 {
-            continue;
-        }
+    let mut left = list;
+    while left != 0 {
+        let (r, rest) = first_of(left);
         let value = word_at(bus, from)?;
         core.write(r, value);
         from = from.wrapping_add(4);
+        left = rest;
     }
     Ok(())
 }

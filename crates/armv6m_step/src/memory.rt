@@ -8,7 +8,7 @@ ghost use Rattle.armv6m_step.specs.Registers.{reg};
 ghost use Rattle.armv6m_step.specs.Meaning.{Runs};
 ghost use Rattle.armv6m_step.specs.MemoryRows.{load_word, load_half, load_byte, load_signed_half, load_signed_byte, store_word, store_half, store_byte, memory};
 
-use crate::access::{load8, load16, load32, store8, store16, store32};
+use crate::access::{byte_at, byte_to, half_at, half_to, word_at, word_to};
 use crate::{Bus, Core, Stop};
 use armv6m_alu::sign_extend;
 use armv6m_decode::Memory;
@@ -47,7 +47,7 @@ pub(crate) fn at_offset(core: &Core, n: u8, offset: u32) -> u32
 fn literal_into<B: Bus>(core: &mut Core, bus: &mut B, next: u32, t: u8, i: u8) -> Result<(), Stop>
     ensures { Runs B.acts (memory core.old next (Memory.LdrLiteral t i)) core.old bus.old (end_of result) core.new bus.new }
 {
-    let value = load32(bus, literal(core.pc(), i))?;
+    let value = word_at(bus, literal(core.pc(), i))?;
     core.write(t, value);
     core.go_to(next);
     Ok(())
@@ -66,7 +66,7 @@ fn word_into<B: Bus>(
 ) -> Result<(), Stop>
     ensures { Runs B.acts (load_word core.old next t (sum (reg core.old n) offset)) core.old bus.old (end_of result) core.new bus.new }
 {
-    let value = load32(bus, at_offset(core, n, offset))?;
+    let value = word_at(bus, at_offset(core, n, offset))?;
     core.write(t, value);
     core.go_to(next);
     Ok(())
@@ -85,7 +85,7 @@ fn half_into<B: Bus>(
 ) -> Result<(), Stop>
     ensures { Runs B.acts (load_half core.old next t (sum (reg core.old n) offset)) core.old bus.old (end_of result) core.new bus.new }
 {
-    let value = load16(bus, at_offset(core, n, offset))?;
+    let value = half_at(bus, at_offset(core, n, offset))?;
     core.write(t, value);
     core.go_to(next);
     Ok(())
@@ -104,7 +104,7 @@ fn byte_into<B: Bus>(
 ) -> Result<(), Stop>
     ensures { Runs B.acts (load_byte core.old next t (sum (reg core.old n) offset)) core.old bus.old (end_of result) core.new bus.new }
 {
-    let value = load8(bus, at_offset(core, n, offset))?;
+    let value = byte_at(bus, at_offset(core, n, offset))?;
     core.write(t, value);
     core.go_to(next);
     Ok(())
@@ -123,7 +123,7 @@ fn signed_half_into<B: Bus>(
 ) -> Result<(), Stop>
     ensures { Runs B.acts (load_signed_half core.old next t (sum (reg core.old n) offset)) core.old bus.old (end_of result) core.new bus.new }
 {
-    let value = load16(bus, at_offset(core, n, offset))?;
+    let value = half_at(bus, at_offset(core, n, offset))?;
     core.write(t, sign_extend(value, 16));
     core.go_to(next);
     Ok(())
@@ -142,7 +142,7 @@ fn signed_byte_into<B: Bus>(
 ) -> Result<(), Stop>
     ensures { Runs B.acts (load_signed_byte core.old next t (sum (reg core.old n) offset)) core.old bus.old (end_of result) core.new bus.new }
 {
-    let value = load8(bus, at_offset(core, n, offset))?;
+    let value = byte_at(bus, at_offset(core, n, offset))?;
     core.write(t, sign_extend(value, 8));
     core.go_to(next);
     Ok(())
@@ -161,7 +161,7 @@ fn word_from<B: Bus>(
 ) -> Result<(), Stop>
     ensures { Runs B.acts (store_word core.old next t (sum (reg core.old n) offset)) core.old bus.old (end_of result) core.new bus.new }
 {
-    store32(bus, at_offset(core, n, offset), core.read(t))?;
+    word_to(bus, at_offset(core, n, offset), core.read(t))?;
     core.go_to(next);
     Ok(())
 }
@@ -179,7 +179,7 @@ fn half_from<B: Bus>(
 ) -> Result<(), Stop>
     ensures { Runs B.acts (store_half core.old next t (sum (reg core.old n) offset)) core.old bus.old (end_of result) core.new bus.new }
 {
-    store16(bus, at_offset(core, n, offset), core.low_half(t))?;
+    half_to(bus, at_offset(core, n, offset), core.low_half(t))?;
     core.go_to(next);
     Ok(())
 }
@@ -197,7 +197,7 @@ fn byte_from<B: Bus>(
 ) -> Result<(), Stop>
     ensures { Runs B.acts (store_byte core.old next t (sum (reg core.old n) offset)) core.old bus.old (end_of result) core.new bus.new }
 {
-    store8(bus, at_offset(core, n, offset), core.low_byte(t))?;
+    byte_to(bus, at_offset(core, n, offset), core.low_byte(t))?;
     core.go_to(next);
     Ok(())
 }
@@ -224,112 +224,5 @@ pub(crate) fn run<B: Bus>(core: &mut Core, bus: &mut B, next: u32, op: Memory) -
         Memory::LdrhImmediate { t, n, immediate: i } => half_into(core, bus, next, t, n, halves(i)),
         Memory::StrSp { t, immediate: i } => word_from(core, bus, next, t, SP, words(i)),
         Memory::LdrSp { t, immediate: i } => word_into(core, bus, next, t, SP, words(i)),
-    }
-}
-
-/// The same of an instruction that is likely one of these, which stand in line.
-#[inline(always)]
-pub(crate) fn run_literal<B: Bus>(
-    core: &mut Core,
-    bus: &mut B,
-    next: u32,
-    op: Memory,
-) -> Result<(), Stop>
-    ensures { Runs B.acts (memory core.old next op) core.old bus.old (end_of result) core.new bus.new }
-{
-    match op {
-        Memory::LdrLiteral { t, immediate: i } => literal_into(core, bus, next, t, i),
-        _ => run(core, bus, next, op),
-    }
-}
-
-/// The same of an instruction that is likely one of these, which stand in line.
-#[inline(always)]
-pub(crate) fn run_by_register<B: Bus>(
-    core: &mut Core,
-    bus: &mut B,
-    next: u32,
-    op: Memory,
-) -> Result<(), Stop>
-    ensures { Runs B.acts (memory core.old next op) core.old bus.old (end_of result) core.new bus.new }
-{
-    match op {
-        Memory::StrRegister { t, n, m } => word_from(core, bus, next, t, n, core.read(m)),
-        Memory::StrhRegister { t, n, m } => half_from(core, bus, next, t, n, core.read(m)),
-        Memory::StrbRegister { t, n, m } => byte_from(core, bus, next, t, n, core.read(m)),
-        Memory::LdrsbRegister { t, n, m } => signed_byte_into(core, bus, next, t, n, core.read(m)),
-        Memory::LdrRegister { t, n, m } => word_into(core, bus, next, t, n, core.read(m)),
-        Memory::LdrhRegister { t, n, m } => half_into(core, bus, next, t, n, core.read(m)),
-        Memory::LdrbRegister { t, n, m } => byte_into(core, bus, next, t, n, core.read(m)),
-        Memory::LdrshRegister { t, n, m } => signed_half_into(core, bus, next, t, n, core.read(m)),
-        _ => run(core, bus, next, op),
-    }
-}
-
-/// The same of an instruction that is likely one of these, which stand in line.
-#[inline(always)]
-pub(crate) fn run_words<B: Bus>(
-    core: &mut Core,
-    bus: &mut B,
-    next: u32,
-    op: Memory,
-) -> Result<(), Stop>
-    ensures { Runs B.acts (memory core.old next op) core.old bus.old (end_of result) core.new bus.new }
-{
-    match op {
-        Memory::StrImmediate { t, n, immediate: i } => word_from(core, bus, next, t, n, words(i)),
-        Memory::LdrImmediate { t, n, immediate: i } => word_into(core, bus, next, t, n, words(i)),
-        _ => run(core, bus, next, op),
-    }
-}
-
-/// The same of an instruction that is likely one of these, which stand in line.
-#[inline(always)]
-pub(crate) fn run_bytes<B: Bus>(
-    core: &mut Core,
-    bus: &mut B,
-    next: u32,
-    op: Memory,
-) -> Result<(), Stop>
-    ensures { Runs B.acts (memory core.old next op) core.old bus.old (end_of result) core.new bus.new }
-{
-    match op {
-        Memory::StrbImmediate { t, n, immediate: i } => byte_from(core, bus, next, t, n, bytes(i)),
-        Memory::LdrbImmediate { t, n, immediate: i } => byte_into(core, bus, next, t, n, bytes(i)),
-        _ => run(core, bus, next, op),
-    }
-}
-
-/// The same of an instruction that is likely one of these, which stand in line.
-#[inline(always)]
-pub(crate) fn run_halves<B: Bus>(
-    core: &mut Core,
-    bus: &mut B,
-    next: u32,
-    op: Memory,
-) -> Result<(), Stop>
-    ensures { Runs B.acts (memory core.old next op) core.old bus.old (end_of result) core.new bus.new }
-{
-    match op {
-        Memory::StrhImmediate { t, n, immediate: i } => half_from(core, bus, next, t, n, halves(i)),
-        Memory::LdrhImmediate { t, n, immediate: i } => half_into(core, bus, next, t, n, halves(i)),
-        _ => run(core, bus, next, op),
-    }
-}
-
-/// The same of an instruction that is likely one of these, which stand in line.
-#[inline(always)]
-pub(crate) fn run_on_stack<B: Bus>(
-    core: &mut Core,
-    bus: &mut B,
-    next: u32,
-    op: Memory,
-) -> Result<(), Stop>
-    ensures { Runs B.acts (memory core.old next op) core.old bus.old (end_of result) core.new bus.new }
-{
-    match op {
-        Memory::StrSp { t, immediate: i } => word_from(core, bus, next, t, SP, words(i)),
-        Memory::LdrSp { t, immediate: i } => word_into(core, bus, next, t, SP, words(i)),
-        _ => run(core, bus, next, op),
     }
 }

@@ -54,34 +54,34 @@ fn stopped(stop: Stop) -> Quick
 
 /// The register in bits 2 to 0.
 #[inline(always)]
-fn low(half: u16) -> u8
+fn low(half: u16) -> usize
     ensures { result ≡ bits 2 0 half }
 {
-    (half % 8) as u8
+    usize::from(half % 8)
 }
 
 /// The register in bits 5 to 3.
 #[inline(always)]
-fn middle(half: u16) -> u8
+fn middle(half: u16) -> usize
     ensures { result ≡ bits 5 3 half }
 {
-    ((half >> 3) % 8) as u8
+    usize::from((half >> 3) % 8)
 }
 
 /// The register in bits 8 to 6.
 #[inline(always)]
-fn upper(half: u16) -> u8
+fn upper(half: u16) -> usize
     ensures { result ≡ bits 8 6 half }
 {
-    ((half >> 6) % 8) as u8
+    usize::from((half >> 6) % 8)
 }
 
 /// The register in bits 10 to 8.
 #[inline(always)]
-fn top(half: u16) -> u8
+fn top(half: u16) -> usize
     ensures { result ≡ bits 10 8 half }
 {
-    ((half >> 8) % 8) as u8
+    usize::from((half >> 8) % 8)
 }
 
 /// The immediate in bits 7 to 0.
@@ -100,31 +100,39 @@ fn five(half: u16) -> u8
     ((half >> 6) % 32) as u8
 }
 
+/// The address of a register and an offset in bytes.
+#[inline(always)]
+fn at_register(core: &Core, n: usize, offset: u32) -> u32
+    ensures { result ≡ sum (reg core.now n) offset }
+{
+    core.read_wide(n).wrapping_add(offset)
+}
+
 /// A value into a register, with N and Z.
 #[inline(always)]
-fn put_value(core: &mut Core, d: u8, value: u32)
+fn put_value(core: &mut Core, d: usize, value: u32)
     ensures { core.new ≡ with_nz (written core.old d value) value }
 {
-    core.write(d, value);
+    core.write_wide(d, value);
     core.set_nz(value);
 }
 
 /// A shifted value into a register, with N, Z and C.
 #[inline(always)]
-fn put_shift(core: &mut Core, d: u8, shifted: Shifted)
+fn put_shift(core: &mut Core, d: usize, shifted: Shifted)
     ensures { core.new ≡ with_carry (with_nz (written core.old d shifted.value) shifted.value) shifted.carry }
 {
-    core.write(d, shifted.value);
+    core.write_wide(d, shifted.value);
     core.set_nz(shifted.value);
     core.set_carry(shifted.carry);
 }
 
 /// A sum into a register, with N, Z, C and V.
 #[inline(always)]
-fn put_sum(core: &mut Core, d: u8, sum: Sum)
+fn put_sum(core: &mut Core, d: usize, sum: Sum)
     ensures { core.new ≡ with_nzcv (written core.old d sum.value) sum }
 {
-    core.write(d, sum.value);
+    core.write_wide(d, sum.value);
     core.set_nzcv(sum);
 }
 
@@ -133,7 +141,7 @@ fn put_sum(core: &mut Core, d: u8, sum: Sum)
 fn lsls_immediate(core: &mut Core, pc: u32, half: u16) -> Quick
     ensures { Goes (alu core.old (sum pc 2) (Alu.LslsImmediate (bits 2 0 half) (bits 5 3 half) (bits 10 6 half))) core.new result }
 {
-    let shifted = shift_left(core.read(middle(half)), u32::from(five(half)), core.c);
+    let shifted = shift_left(core.read_wide(middle(half)), u32::from(five(half)), core.c);
     put_shift(core, low(half), shifted);
     let next = pc.wrapping_add(2);
     Quick::Went { pc: next }
@@ -144,7 +152,7 @@ fn lsls_immediate(core: &mut Core, pc: u32, half: u16) -> Quick
 fn lsrs_immediate(core: &mut Core, pc: u32, half: u16) -> Quick
     ensures { Goes (alu core.old (sum pc 2) (Alu.LsrsImmediate (bits 2 0 half) (bits 5 3 half) (bits 10 6 half))) core.new result }
 {
-    let shifted = shift_right(core.read(middle(half)), amount(five(half)), core.c);
+    let shifted = shift_right(core.read_wide(middle(half)), amount(five(half)), core.c);
     put_shift(core, low(half), shifted);
     let next = pc.wrapping_add(2);
     Quick::Went { pc: next }
@@ -155,7 +163,11 @@ fn lsrs_immediate(core: &mut Core, pc: u32, half: u16) -> Quick
 fn adds_register(core: &mut Core, pc: u32, half: u16) -> Quick
     ensures { Goes (alu core.old (sum pc 2) (Alu.AddsRegister (bits 2 0 half) (bits 5 3 half) (bits 8 6 half))) core.new result }
 {
-    let sum = add_with_carry(core.read(middle(half)), core.read(upper(half)), false);
+    let sum = add_with_carry(
+        core.read_wide(middle(half)),
+        core.read_wide(upper(half)),
+        false,
+    );
     put_sum(core, low(half), sum);
     let next = pc.wrapping_add(2);
     Quick::Went { pc: next }
@@ -166,7 +178,7 @@ fn adds_register(core: &mut Core, pc: u32, half: u16) -> Quick
 fn subs_register(core: &mut Core, pc: u32, half: u16) -> Quick
     ensures { Goes (alu core.old (sum pc 2) (Alu.SubsRegister (bits 2 0 half) (bits 5 3 half) (bits 8 6 half))) core.new result }
 {
-    let sum = subtract(core.read(middle(half)), core.read(upper(half)));
+    let sum = subtract(core.read_wide(middle(half)), core.read_wide(upper(half)));
     put_sum(core, low(half), sum);
     let next = pc.wrapping_add(2);
     Quick::Went { pc: next }
@@ -187,7 +199,7 @@ fn movs_immediate(core: &mut Core, pc: u32, half: u16) -> Quick
 fn cmp_immediate(core: &mut Core, pc: u32, half: u16) -> Quick
     ensures { Goes (alu core.old (sum pc 2) (Alu.CmpImmediate (bits 10 8 half) (bits 7 0 half))) core.new result }
 {
-    core.set_nzcv(subtract(core.read(top(half)), u32::from(byte(half))));
+    core.set_nzcv(subtract(core.read_wide(top(half)), u32::from(byte(half))));
     let next = pc.wrapping_add(2);
     Quick::Went { pc: next }
 }
@@ -198,7 +210,7 @@ fn adds_immediate(core: &mut Core, pc: u32, half: u16) -> Quick
     ensures { Goes (alu core.old (sum pc 2) (Alu.AddsImmediate8 (bits 10 8 half) (bits 7 0 half))) core.new result }
 {
     let d = top(half);
-    let sum = add_with_carry(core.read(d), u32::from(byte(half)), false);
+    let sum = add_with_carry(core.read_wide(d), u32::from(byte(half)), false);
     put_sum(core, d, sum);
     let next = pc.wrapping_add(2);
     Quick::Went { pc: next }
@@ -210,7 +222,7 @@ fn subs_immediate(core: &mut Core, pc: u32, half: u16) -> Quick
     ensures { Goes (alu core.old (sum pc 2) (Alu.SubsImmediate8 (bits 10 8 half) (bits 7 0 half))) core.new result }
 {
     let d = top(half);
-    let sum = subtract(core.read(d), u32::from(byte(half)));
+    let sum = subtract(core.read_wide(d), u32::from(byte(half)));
     put_sum(core, d, sum);
     let next = pc.wrapping_add(2);
     Quick::Went { pc: next }
@@ -222,7 +234,7 @@ fn ands(core: &mut Core, pc: u32, half: u16) -> Quick
     ensures { Goes (alu core.old (sum pc 2) (Alu.Ands (bits 2 0 half) (bits 5 3 half))) core.new result }
 {
     let d = low(half);
-    put_value(core, d, core.read(d) & core.read(middle(half)));
+    put_value(core, d, core.read_wide(d) & core.read_wide(middle(half)));
     let next = pc.wrapping_add(2);
     Quick::Went { pc: next }
 }
@@ -233,7 +245,7 @@ fn eors(core: &mut Core, pc: u32, half: u16) -> Quick
     ensures { Goes (alu core.old (sum pc 2) (Alu.Eors (bits 2 0 half) (bits 5 3 half))) core.new result }
 {
     let d = low(half);
-    put_value(core, d, core.read(d) ^ core.read(middle(half)));
+    put_value(core, d, core.read_wide(d) ^ core.read_wide(middle(half)));
     let next = pc.wrapping_add(2);
     Quick::Went { pc: next }
 }
@@ -244,7 +256,7 @@ fn adcs(core: &mut Core, pc: u32, half: u16) -> Quick
     ensures { Goes (alu core.old (sum pc 2) (Alu.Adcs (bits 2 0 half) (bits 5 3 half))) core.new result }
 {
     let d = low(half);
-    let sum = add_with_carry(core.read(d), core.read(middle(half)), core.c);
+    let sum = add_with_carry(core.read_wide(d), core.read_wide(middle(half)), core.c);
     put_sum(core, d, sum);
     let next = pc.wrapping_add(2);
     Quick::Went { pc: next }
@@ -256,7 +268,11 @@ fn rors(core: &mut Core, pc: u32, half: u16) -> Quick
     ensures { Goes (alu core.old (sum pc 2) (Alu.Rors (bits 2 0 half) (bits 5 3 half))) core.new result }
 {
     let d = low(half);
-    let shifted = rotate_right(core.read(d), core.low_byte(middle(half)), core.c);
+    let shifted = rotate_right(
+        core.read_wide(d),
+        core.read_wide(middle(half)) % 0x100,
+        core.c,
+    );
     put_shift(core, d, shifted);
     let next = pc.wrapping_add(2);
     Quick::Went { pc: next }
@@ -267,7 +283,7 @@ fn rors(core: &mut Core, pc: u32, half: u16) -> Quick
 fn tst(core: &mut Core, pc: u32, half: u16) -> Quick
     ensures { Goes (alu core.old (sum pc 2) (Alu.Tst (bits 2 0 half) (bits 5 3 half))) core.new result }
 {
-    core.set_nz(core.read(low(half)) & core.read(middle(half)));
+    core.set_nz(core.read_wide(low(half)) & core.read_wide(middle(half)));
     let next = pc.wrapping_add(2);
     Quick::Went { pc: next }
 }
@@ -277,7 +293,7 @@ fn tst(core: &mut Core, pc: u32, half: u16) -> Quick
 fn rsbs(core: &mut Core, pc: u32, half: u16) -> Quick
     ensures { Goes (alu core.old (sum pc 2) (Alu.Rsbs (bits 2 0 half) (bits 5 3 half))) core.new result }
 {
-    let sum = subtract(0, core.read(middle(half)));
+    let sum = subtract(0, core.read_wide(middle(half)));
     put_sum(core, low(half), sum);
     let next = pc.wrapping_add(2);
     Quick::Went { pc: next }
@@ -288,7 +304,7 @@ fn rsbs(core: &mut Core, pc: u32, half: u16) -> Quick
 fn cmp_register(core: &mut Core, pc: u32, half: u16) -> Quick
     ensures { Goes (alu core.old (sum pc 2) (Alu.CmpRegister (bits 2 0 half) (bits 5 3 half))) core.new result }
 {
-    core.set_nzcv(subtract(core.read(low(half)), core.read(middle(half))));
+    core.set_nzcv(subtract(core.read_wide(low(half)), core.read_wide(middle(half))));
     let next = pc.wrapping_add(2);
     Quick::Went { pc: next }
 }
@@ -299,7 +315,7 @@ fn orrs(core: &mut Core, pc: u32, half: u16) -> Quick
     ensures { Goes (alu core.old (sum pc 2) (Alu.Orrs (bits 2 0 half) (bits 5 3 half))) core.new result }
 {
     let d = low(half);
-    put_value(core, d, core.read(d) | core.read(middle(half)));
+    put_value(core, d, core.read_wide(d) | core.read_wide(middle(half)));
     let next = pc.wrapping_add(2);
     Quick::Went { pc: next }
 }
@@ -310,7 +326,7 @@ fn muls(core: &mut Core, pc: u32, half: u16) -> Quick
     ensures { Goes (alu core.old (sum pc 2) (Alu.Muls (bits 2 0 half) (bits 5 3 half))) core.new result }
 {
     let d = low(half);
-    let value = core.read(d).wrapping_mul(core.read(middle(half)));
+    let value = core.read_wide(d).wrapping_mul(core.read_wide(middle(half)));
     put_value(core, d, value);
     let next = pc.wrapping_add(2);
     Quick::Went { pc: next }
@@ -319,12 +335,12 @@ fn muls(core: &mut Core, pc: u32, half: u16) -> Quick
 /// The word at an address, into a register.
 #[inline(always)]
 #[tactic(auto, using(crate::proofs::RunLemmas::asks), unfolding(crate::specs::MemoryRows::load_word))]
-fn word_into<B: Bus>(core: &mut Core, bus: &mut B, next: u32, t: u8, at: u32) -> Quick
+fn word_into<B: Bus>(core: &mut Core, bus: &mut B, next: u32, t: usize, at: u32) -> Quick
     ensures { Steps B.acts (load_word core.old next t at) core.old bus.old result core.new bus.new }
 {
     match word_at(bus, at) {
         Ok(value) => {
-            core.write(t, value);
+            core.write_wide(t, value);
             Quick::Went { pc: next }
         }
         Err(stop) => stopped(stop),
@@ -334,12 +350,12 @@ fn word_into<B: Bus>(core: &mut Core, bus: &mut B, next: u32, t: u8, at: u32) ->
 /// The halfword at an address, with zeros above it.
 #[inline(always)]
 #[tactic(auto, using(crate::proofs::RunLemmas::asks), unfolding(crate::specs::MemoryRows::load_half))]
-fn half_into<B: Bus>(core: &mut Core, bus: &mut B, next: u32, t: u8, at: u32) -> Quick
+fn half_into<B: Bus>(core: &mut Core, bus: &mut B, next: u32, t: usize, at: u32) -> Quick
     ensures { Steps B.acts (load_half core.old next t at) core.old bus.old result core.new bus.new }
 {
     match half_at(bus, at) {
         Ok(value) => {
-            core.write(t, value);
+            core.write_wide(t, value);
             Quick::Went { pc: next }
         }
         Err(stop) => stopped(stop),
@@ -349,12 +365,12 @@ fn half_into<B: Bus>(core: &mut Core, bus: &mut B, next: u32, t: u8, at: u32) ->
 /// The byte at an address, with zeros above it.
 #[inline(always)]
 #[tactic(auto, using(crate::proofs::RunLemmas::asks), unfolding(crate::specs::MemoryRows::load_byte))]
-fn byte_into<B: Bus>(core: &mut Core, bus: &mut B, next: u32, t: u8, at: u32) -> Quick
+fn byte_into<B: Bus>(core: &mut Core, bus: &mut B, next: u32, t: usize, at: u32) -> Quick
     ensures { Steps B.acts (load_byte core.old next t at) core.old bus.old result core.new bus.new }
 {
     match byte_at(bus, at) {
         Ok(value) => {
-            core.write(t, value);
+            core.write_wide(t, value);
             Quick::Went { pc: next }
         }
         Err(stop) => stopped(stop),
@@ -364,10 +380,10 @@ fn byte_into<B: Bus>(core: &mut Core, bus: &mut B, next: u32, t: u8, at: u32) ->
 /// A register, to the word at an address.
 #[inline(always)]
 #[tactic(auto, using(crate::proofs::RunLemmas::asks), unfolding(crate::specs::MemoryRows::store_word))]
-fn word_from<B: Bus>(core: &Core, bus: &mut B, next: u32, t: u8, at: u32) -> Quick
+fn word_from<B: Bus>(core: &Core, bus: &mut B, next: u32, t: usize, at: u32) -> Quick
     ensures { Steps B.acts (store_word core.now next t at) core.now bus.old result core.now bus.new }
 {
-    match word_to(bus, at, core.read(t)) {
+    match word_to(bus, at, core.read_wide(t)) {
         Ok(()) => Quick::Went { pc: next },
         Err(stop) => stopped(stop),
     }
@@ -376,10 +392,10 @@ fn word_from<B: Bus>(core: &Core, bus: &mut B, next: u32, t: u8, at: u32) -> Qui
 /// The low halfword of a register, to an address.
 #[inline(always)]
 #[tactic(auto, using(crate::proofs::RunLemmas::asks), unfolding(crate::specs::MemoryRows::store_half))]
-fn half_from<B: Bus>(core: &Core, bus: &mut B, next: u32, t: u8, at: u32) -> Quick
+fn half_from<B: Bus>(core: &Core, bus: &mut B, next: u32, t: usize, at: u32) -> Quick
     ensures { Steps B.acts (store_half core.now next t at) core.now bus.old result core.now bus.new }
 {
-    match half_to(bus, at, core.low_half(t)) {
+    match half_to(bus, at, core.read_wide(t) % 0x1_0000) {
         Ok(()) => Quick::Went { pc: next },
         Err(stop) => stopped(stop),
     }
@@ -388,10 +404,10 @@ fn half_from<B: Bus>(core: &Core, bus: &mut B, next: u32, t: u8, at: u32) -> Qui
 /// The low byte of a register, to an address.
 #[inline(always)]
 #[tactic(auto, using(crate::proofs::RunLemmas::asks), unfolding(crate::specs::MemoryRows::store_byte))]
-fn byte_from<B: Bus>(core: &Core, bus: &mut B, next: u32, t: u8, at: u32) -> Quick
+fn byte_from<B: Bus>(core: &Core, bus: &mut B, next: u32, t: usize, at: u32) -> Quick
     ensures { Steps B.acts (store_byte core.now next t at) core.now bus.old result core.now bus.new }
 {
-    match byte_to(bus, at, core.low_byte(t)) {
+    match byte_to(bus, at, core.read_wide(t) % 0x100) {
         Ok(()) => Quick::Went { pc: next },
         Err(stop) => stopped(stop),
     }
@@ -412,7 +428,7 @@ fn ldr_literal<B: Bus>(core: &mut Core, bus: &mut B, pc: u32, half: u16) -> Quic
 fn ldr_immediate<B: Bus>(core: &mut Core, bus: &mut B, pc: u32, half: u16) -> Quick
     ensures { Steps B.acts (memory core.old (sum pc 2) (Memory.LdrImmediate (bits 2 0 half) (bits 5 3 half) (bits 10 6 half))) core.old bus.old result core.new bus.new }
 {
-    let at = at_offset(core, middle(half), words(five(half)));
+    let at = at_register(core, middle(half), words(five(half)));
     word_into(core, bus, pc.wrapping_add(2), low(half), at)
 }
 
@@ -421,7 +437,7 @@ fn ldr_immediate<B: Bus>(core: &mut Core, bus: &mut B, pc: u32, half: u16) -> Qu
 fn ldrb_immediate<B: Bus>(core: &mut Core, bus: &mut B, pc: u32, half: u16) -> Quick
     ensures { Steps B.acts (memory core.old (sum pc 2) (Memory.LdrbImmediate (bits 2 0 half) (bits 5 3 half) (bits 10 6 half))) core.old bus.old result core.new bus.new }
 {
-    let at = at_offset(core, middle(half), bytes(five(half)));
+    let at = at_register(core, middle(half), bytes(five(half)));
     byte_into(core, bus, pc.wrapping_add(2), low(half), at)
 }
 
@@ -430,7 +446,7 @@ fn ldrb_immediate<B: Bus>(core: &mut Core, bus: &mut B, pc: u32, half: u16) -> Q
 fn ldrh_immediate<B: Bus>(core: &mut Core, bus: &mut B, pc: u32, half: u16) -> Quick
     ensures { Steps B.acts (memory core.old (sum pc 2) (Memory.LdrhImmediate (bits 2 0 half) (bits 5 3 half) (bits 10 6 half))) core.old bus.old result core.new bus.new }
 {
-    let at = at_offset(core, middle(half), halves(five(half)));
+    let at = at_register(core, middle(half), halves(five(half)));
     half_into(core, bus, pc.wrapping_add(2), low(half), at)
 }
 
@@ -439,7 +455,7 @@ fn ldrh_immediate<B: Bus>(core: &mut Core, bus: &mut B, pc: u32, half: u16) -> Q
 fn str_immediate<B: Bus>(core: &Core, bus: &mut B, pc: u32, half: u16) -> Quick
     ensures { Steps B.acts (memory core.now (sum pc 2) (Memory.StrImmediate (bits 2 0 half) (bits 5 3 half) (bits 10 6 half))) core.now bus.old result core.now bus.new }
 {
-    let at = at_offset(core, middle(half), words(five(half)));
+    let at = at_register(core, middle(half), words(five(half)));
     word_from(core, bus, pc.wrapping_add(2), low(half), at)
 }
 
@@ -448,7 +464,7 @@ fn str_immediate<B: Bus>(core: &Core, bus: &mut B, pc: u32, half: u16) -> Quick
 fn strb_immediate<B: Bus>(core: &Core, bus: &mut B, pc: u32, half: u16) -> Quick
     ensures { Steps B.acts (memory core.now (sum pc 2) (Memory.StrbImmediate (bits 2 0 half) (bits 5 3 half) (bits 10 6 half))) core.now bus.old result core.now bus.new }
 {
-    let at = at_offset(core, middle(half), bytes(five(half)));
+    let at = at_register(core, middle(half), bytes(five(half)));
     byte_from(core, bus, pc.wrapping_add(2), low(half), at)
 }
 
@@ -457,7 +473,7 @@ fn strb_immediate<B: Bus>(core: &Core, bus: &mut B, pc: u32, half: u16) -> Quick
 fn strh_immediate<B: Bus>(core: &Core, bus: &mut B, pc: u32, half: u16) -> Quick
     ensures { Steps B.acts (memory core.now (sum pc 2) (Memory.StrhImmediate (bits 2 0 half) (bits 5 3 half) (bits 10 6 half))) core.now bus.old result core.now bus.new }
 {
-    let at = at_offset(core, middle(half), halves(five(half)));
+    let at = at_register(core, middle(half), halves(five(half)));
     half_from(core, bus, pc.wrapping_add(2), low(half), at)
 }
 

@@ -91,6 +91,7 @@ impl<R: Registers> Driver<R> {
     }
 
     /// A load of `width` bytes (1, 2 or 4) from the address `at`, a multiple of it: the row's answer, or a device fault.
+    #[inline(always)]
     #[tactic(auto, unfolding(crate::specs::Table::load_row))]
     pub fn load<B: Bench>(&mut self, bench: &mut B, at: u32, width: u32) -> Result<u32, BusEnd>
         requires agrees { DriverAgrees B.tells self.old.layout self.old.state (B.state bench.old) }
@@ -228,6 +229,7 @@ impl<R: Registers> Driver<R> {
     }
 
     /// A load from outside the RAM: as `load`, but 0 in a quiet range where nothing else takes it.
+    #[inline(always)]
     pub fn load_or_quiet<B: Bench>(
         &mut self,
         bench: &mut B,

@@ -17,6 +17,7 @@ use bench_model::{Bench, BusEnd, DeviceFault};
 const WORD: usize = 4;
 
 /// The number whose bytes these are, the lowest first. There are at most four.
+#[inline(always)]
 fn little_endian(bytes: &[u8]) -> u32
     requires { length bytes.now ≤ 4 }
     ensures value { result ≡ value_of bytes.now }
