@@ -20,13 +20,13 @@ use Rattle.armv6m_forms.specs.Text.{text_of, aim_text, condition_text}
 use Rattle.armv6m_forms.proofs.RowLemmas.{row_of, row_is, one_for_each, with_field, row_immediate, row_one_immediate, row_two_immediate, row_base_list}
 use Rattle.armv6m_forms.proofs.RowLemmas.{row_updated_list}
 use Rattle.armv6m_forms.proofs.TextLemmas.{one_mnemonic}
-use Rattle.armv6m_asm.specs.declared.statement.Target.{Target}
-use Rattle.armv6m_asm.specs.declared.statement.Target.TheVariants as targets
+use Rattle.armv6m_asm.specs.declared.statement.Destination.{Destination}
+use Rattle.armv6m_asm.specs.declared.statement.Destination.TheVariants as destinations
 use Rattle.armv6m_asm.specs.declared.statement.Operation.{Operation}
 use Rattle.armv6m_asm.specs.declared.statement.Operation.TheVariants as operations
 use Rattle.armv6m_asm.specs.Token.{Token, word, mark, tokens_of}
-use Rattle.armv6m_asm.specs.Statement.{is_name, IsAddress, Are, number, low_register, comma, target, Spell, ArePlain, AreAimed, AreOperation, AreStatement}
-use Rattle.armv6m_asm.specs.Alike.{AreAlikeTargets, AreAlikeOperations, AreAlikeLabels, OneStatementForEachLine}
+use Rattle.armv6m_asm.specs.Statement.{is_name, IsAddress, Are, number, low_register, comma, destination, Spell, ArePlain, AreAimed, AreOperation, AreStatement}
+use Rattle.armv6m_asm.specs.Alike.{AreAlikeDestinations, AreAlikeOperations, AreAlikeLabels, OneStatementForEachLine}
 use Rattle.armv6m_asm.specs.Reading.{is_text}
 use Rattle.armv6m_asm.proofs.WordLemmas.{number_in-number}
 use Rattle.armv6m_asm.proofs.OperandLemmas.{one_spelling}
@@ -34,7 +34,7 @@ use Rattle.armv6m_asm.proofs.StatementLemmas.{one_register, no_colon}
 
 -- ---- the first words
 
--- which first word of an instruction with a target a word is
+-- which first word of an instruction with a destination a word is
 key_of : List ℕ → ℕ
 key_of bytes =
     if is_text (codes "B") bytes then 1 else if is_text (codes "BL") bytes then 2 else if is_text (codes "LDR") bytes then 3
@@ -78,7 +78,7 @@ condition_key conditions.LessThan = refl
 condition_key conditions.GreaterThan = refl
 condition_key conditions.LessOrEqual = refl
 
-aimed_key : (aim : Aim) (to : Target) (bytes : List ℕ) (rest : List Token) → AreAimed aim to (word bytes ∷ rest) → key_of bytes ≡ key aim
+aimed_key : (aim : Aim) (to : Destination) (bytes : List ℕ) (rest : List Token) → AreAimed aim to (word bytes ∷ rest) → key_of bytes ≡ key aim
 unfolding key key_of aim_text
 aimed_key aims.Branch to bytes rest is = let same : bytes ≡ codes "B" = let e = is.0 in cc in ap key_of same
 aimed_key (aims.BranchIf condition) to bytes rest is =
@@ -232,7 +232,7 @@ sort_of operations.Align = 2
 sort_of (operations.Plain instr) = 3
 sort_of (operations.Aimed aim to) = 3
 
-aim_sort : (aim : Aim) (to : Target) (tokens : List Token) → AreAimed aim to tokens → sort tokens ≡ 3
+aim_sort : (aim : Aim) (to : Destination) (tokens : List Token) → AreAimed aim to tokens → sort tokens ≡ 3
 unfolding sort directive aim_text
 aim_sort aims.Branch to [] is = absurd is
 aim_sort aims.Branch to (token ∷ rest) is = let e = is.0 in rw e refl
@@ -260,7 +260,7 @@ operation_sort operations.Align (token ∷ rest) is = let e = is.0 in rw e refl
 operation_sort (operations.Plain instr) tokens is = plain_sort instr tokens is
 operation_sort (operations.Aimed aim to) tokens is = aim_sort aim to tokens is
 
--- ---- targets
+-- ---- destinations
 
 begins_with_zero : (bytes : List ℕ) (address : ℕ) → IsAddress bytes address → is_name bytes ≡ false
 begins_with_zero bytes address is = ap is_name is.value.bytes_are
@@ -270,28 +270,29 @@ one_address bytes a b one other =
     let same : one.value.digits ≡ other.value.digits = let x = one.value.bytes_are in let y = other.value.bytes_are in ap (drop 2) (sym x ∙ y) in
     one.value.value_is ∙ ap (digits_value 16) same ∙ sym other.value.value_is
 
-one_target : (one other : Target) (token : Token) → target one token → target other token → AreAlikeTargets one other
-one_target (targets.Label a) (targets.Label b) token x y = let p = x.0 in let q = y.0 in cc
-one_target (targets.Label a) (targets.Address b) (word bytes) x y =
+one_destination : (one other : Destination) (token : Token) → destination one token → destination other token → AreAlikeDestinations one other
+one_destination (destinations.Label a) (destinations.Label b) token x y = let p = x.0 in let q = y.0 in cc
+one_destination (destinations.Label a) (destinations.Address b) (word bytes) x y =
     let same : bytes ≡ a.now = let e = x.0 in cc in
     let named : is_name a.now ≡ true = x.1 in
     let no = begins_with_zero bytes b y in
     let e = ap is_name same in
     cc
-one_target (targets.Label a) (targets.Address b) (mark byte) x y = absurd y
-one_target (targets.Address a) (targets.Label b) (word bytes) x y =
+one_destination (destinations.Label a) (destinations.Address b) (mark byte) x y = absurd y
+one_destination (destinations.Address a) (destinations.Label b) (word bytes) x y =
     let same : bytes ≡ b.now = let e = y.0 in cc in
     let named : is_name b.now ≡ true = y.1 in
     let no = begins_with_zero bytes a x in
     let e = ap is_name same in
     cc
-one_target (targets.Address a) (targets.Label b) (mark byte) x y = absurd x
-one_target (targets.Address a) (targets.Address b) (word bytes) x y = one_address bytes a b x y
-one_target (targets.Address a) (targets.Address b) (mark byte) x y = absurd x
+one_destination (destinations.Address a) (destinations.Label b) (mark byte) x y = absurd x
+one_destination (destinations.Address a) (destinations.Address b) (word bytes) x y = one_address bytes a b x y
+one_destination (destinations.Address a) (destinations.Address b) (mark byte) x y = absurd x
 
-one_last_target : (one other : Target) (tokens : List Token) → Are (target one ∷ []) tokens → Are (target other ∷ []) tokens → AreAlikeTargets one other
-one_last_target one other [] x y = absurd x
-one_last_target one other (token ∷ rest) x y = one_target one other token x.0 y.0
+one_last_destination : (one other : Destination) (tokens : List Token) → Are (destination one ∷ []) tokens → Are (destination other ∷ []) tokens →
+    AreAlikeDestinations one other
+one_last_destination one other [] x y = absurd x
+one_last_destination one other (token ∷ rest) x y = one_destination one other token x.0 y.0
 
 -- ---- operations
 
@@ -301,38 +302,38 @@ one_low a b token x y =
     let low = y.1 in
     one_register a b (omega arith) (omega arith) (let p = x.0 in let q = y.0 in cc)
 
-one_pair_load : (a b : ℕ) (to too : Target) (tokens : List Token) → Are (low_register a ∷ comma ∷ target to ∷ []) tokens →
-    Are (low_register b ∷ comma ∷ target too ∷ []) tokens
-    → (aims.Load a ≡ aims.Load b) × AreAlikeTargets to too
+one_pair_load : (a b : ℕ) (to too : Destination) (tokens : List Token) → Are (low_register a ∷ comma ∷ destination to ∷ []) tokens →
+    Are (low_register b ∷ comma ∷ destination too ∷ []) tokens
+    → (aims.Load a ≡ aims.Load b) × AreAlikeDestinations to too
 one_pair_load a b to too [] x y = absurd x
 one_pair_load a b to too (first ∷ []) x y = absurd x.1
-one_pair_load a b to too (first ∷ then_comma ∷ rest) x y = (ap aims.Load (one_low a b first x.0 y.0), one_last_target to too rest x.1.1 y.1.1)
+one_pair_load a b to too (first ∷ then_comma ∷ rest) x y = (ap aims.Load (one_low a b first x.0 y.0), one_last_destination to too rest x.1.1 y.1.1)
 
-one_pair_address : (a b : ℕ) (to too : Target) (tokens : List Token) → Are (low_register a ∷ comma ∷ target to ∷ []) tokens →
-    Are (low_register b ∷ comma ∷ target too ∷ []) tokens
-    → (aims.Address a ≡ aims.Address b) × AreAlikeTargets to too
+one_pair_address : (a b : ℕ) (to too : Destination) (tokens : List Token) → Are (low_register a ∷ comma ∷ destination to ∷ []) tokens →
+    Are (low_register b ∷ comma ∷ destination too ∷ []) tokens
+    → (aims.Address a ≡ aims.Address b) × AreAlikeDestinations to too
 one_pair_address a b to too [] x y = absurd x
 one_pair_address a b to too (first ∷ []) x y = absurd x.1
-one_pair_address a b to too (first ∷ then_comma ∷ rest) x y = (ap aims.Address (one_low a b first x.0 y.0), one_last_target to too rest x.1.1 y.1.1)
+one_pair_address a b to too (first ∷ then_comma ∷ rest) x y = (ap aims.Address (one_low a b first x.0 y.0), one_last_destination to too rest x.1.1 y.1.1)
 
-one_aimed : (one other : Aim) (to too : Target) (bytes : List ℕ) (rest : List Token) → key one ≡ key other → AreAimed one to (word bytes ∷ rest) →
+one_aimed : (one other : Aim) (to too : Destination) (bytes : List ℕ) (rest : List Token) → key one ≡ key other → AreAimed one to (word bytes ∷ rest) →
     AreAimed other too (word bytes ∷ rest)
-    → (one ≡ other) × AreAlikeTargets to too
+    → (one ≡ other) × AreAlikeDestinations to too
 unfolding key
-one_aimed aims.Branch aims.Branch to too bytes rest same x y = (refl, one_last_target to too rest x.1 y.1)
+one_aimed aims.Branch aims.Branch to too bytes rest same x y = (refl, one_last_destination to too rest x.1 y.1)
 one_aimed aims.Branch (aims.BranchIf d) to too bytes rest same x y = absurd (omega (arith, same))
 one_aimed aims.Branch aims.BranchLink to too bytes rest same x y = absurd (omega (arith, same))
 one_aimed aims.Branch (aims.Load d) to too bytes rest same x y = absurd (omega (arith, same))
 one_aimed aims.Branch (aims.Address d) to too bytes rest same x y = absurd (omega (arith, same))
 one_aimed (aims.BranchIf c) aims.Branch to too bytes rest same x y = absurd (omega (arith, same))
 one_aimed (aims.BranchIf c) (aims.BranchIf d) to too bytes rest same x y =
-    (ap aims.BranchIf (one_condition c d (omega (arith, same))), one_last_target to too rest x.1 y.1)
+    (ap aims.BranchIf (one_condition c d (omega (arith, same))), one_last_destination to too rest x.1 y.1)
 one_aimed (aims.BranchIf c) aims.BranchLink to too bytes rest same x y = absurd (omega (arith, same))
 one_aimed (aims.BranchIf c) (aims.Load d) to too bytes rest same x y = absurd (omega (arith, same))
 one_aimed (aims.BranchIf c) (aims.Address d) to too bytes rest same x y = absurd (omega (arith, same))
 one_aimed aims.BranchLink aims.Branch to too bytes rest same x y = absurd (omega (arith, same))
 one_aimed aims.BranchLink (aims.BranchIf d) to too bytes rest same x y = absurd (omega (arith, same))
-one_aimed aims.BranchLink aims.BranchLink to too bytes rest same x y = (refl, one_last_target to too rest x.1 y.1)
+one_aimed aims.BranchLink aims.BranchLink to too bytes rest same x y = (refl, one_last_destination to too rest x.1 y.1)
 one_aimed aims.BranchLink (aims.Load d) to too bytes rest same x y = absurd (omega (arith, same))
 one_aimed aims.BranchLink (aims.Address d) to too bytes rest same x y = absurd (omega (arith, same))
 one_aimed (aims.Load c) aims.Branch to too bytes rest same x y = absurd (omega (arith, same))
@@ -350,14 +351,14 @@ with_nothing : (f : ℕ → Option Instr) (field : Option ℕ) (i : Instr) → (
 with_nothing f None i nothing is = absurd (cc)
 with_nothing f (Some x) i nothing is = let none = nothing x in cc
 
-no_bracket_target : (to : Target) (token : Token) → token ≡ mark 91 → target to token → ⊥
-no_bracket_target (targets.Label label) token is x = let e = x.0 in cc
-no_bracket_target (targets.Address address) (word bytes) is x = absurd (cc)
-no_bracket_target (targets.Address address) (mark byte) is x = x
+no_bracket_destination : (to : Destination) (token : Token) → token ≡ mark 91 → destination to token → ⊥
+no_bracket_destination (destinations.Label label) token is x = let e = x.0 in cc
+no_bracket_destination (destinations.Address address) (word bytes) is x = absurd (cc)
+no_bracket_destination (destinations.Address address) (mark byte) is x = x
 
 -- `LDR` has a row only where a bracket is
-load_row : (o : Operands) (i : Instr) → row_of (forms.Plain mnemonics.Ldr o) 0 ≡ Some i → (t : ℕ) (to : Target) (tokens : List Token) → Spell o tokens
-    → Are (low_register t ∷ comma ∷ target to ∷ []) tokens → ⊥
+load_row : (o : Operands) (i : Instr) → row_of (forms.Plain mnemonics.Ldr o) 0 ≡ Some i → (t : ℕ) (to : Destination) (tokens : List Token) → Spell o tokens
+    → Are (low_register t ∷ comma ∷ destination to ∷ []) tokens → ⊥
 load_row operands.None i is t to tokens x y = absurd (cc)
 load_row (operands.One m) i is t to tokens x y = absurd (cc)
 load_row (operands.Two d m) i is t to tokens x y = absurd (cc)
@@ -368,11 +369,11 @@ load_row (operands.TwoImmediate d n v) i is t to tokens x y = with_nothing (row_
 load_row (operands.ByRegister a n m) i is t to [] x y = absurd y
 load_row (operands.ByRegister a n m) i is t to (first ∷ []) x y = absurd y.1
 load_row (operands.ByRegister a n m) i is t to (first ∷ second ∷ []) x y = absurd y.1.1
-load_row (operands.ByRegister a n m) i is t to (first ∷ second ∷ third ∷ rest) x y = no_bracket_target to third x.1.1.0 y.1.1.0
+load_row (operands.ByRegister a n m) i is t to (first ∷ second ∷ third ∷ rest) x y = no_bracket_destination to third x.1.1.0 y.1.1.0
 load_row (operands.ByOffset a n v) i is t to [] x y = absurd y
 load_row (operands.ByOffset a n v) i is t to (first ∷ []) x y = absurd y.1
 load_row (operands.ByOffset a n v) i is t to (first ∷ second ∷ []) x y = absurd y.1.1
-load_row (operands.ByOffset a n v) i is t to (first ∷ second ∷ third ∷ rest) x y = no_bracket_target to third x.1.1.0 y.1.1.0
+load_row (operands.ByOffset a n v) i is t to (first ∷ second ∷ third ∷ rest) x y = no_bracket_destination to third x.1.1.0 y.1.1.0
 load_row (operands.List list) i is t to tokens x y = absurd (cc)
 load_row (operands.BaseList n list) i is t to tokens x y = with_nothing (row_base_list mnemonics.Ldr n) _ i (λ field. refl) is
 load_row (operands.UpdatedList n list) i is t to tokens x y = with_nothing (row_updated_list mnemonics.Ldr n) _ i (λ field. refl) is
@@ -380,8 +381,8 @@ load_row operands.Interrupts i is t to tokens x y = absurd (cc)
 load_row (operands.FromSpecial d s) i is t to tokens x y = absurd (cc)
 load_row (operands.ToSpecial s n) i is t to tokens x y = absurd (cc)
 
--- an instruction without a target is none with one
-plain_or_aimed : (instr : Instr) (aim : Aim) (to : Target) (bytes : List ℕ) (rest : List Token) → ArePlain instr (word bytes ∷ rest) →
+-- an instruction without a destination is none with one
+plain_or_aimed : (instr : Instr) (aim : Aim) (to : Destination) (bytes : List ℕ) (rest : List Token) → ArePlain instr (word bytes ∷ rest) →
     AreAimed aim to (word bytes ∷ rest) → ⊥
 unfolding key
 plain_or_aimed instr aim to bytes rest plain aimed = ⊎_elim

@@ -1,4 +1,4 @@
--- Names as labels and targets.
+-- Names as labels and destinations.
 use Rattle.std.proofs.Common.{◌≡◌, ◌≢◌, ◌<◌, ◌+◌, inl, inr, ℕ, List, [], ◌∷◌, ◌++◌, length, get_or, take, subst, ◌∙◌, arith, drop, refl, sym, ap}
 use Rattle.std.specs.Prelude.{Contains}
 use Rattle.std.proofs.lemmas.List.{get_or_default, map_more}

@@ -8,8 +8,8 @@ use Rattle.octets.specs.Lines.{lines_of}
 use Rattle.armv6m_forms.specs.declared.form.Aim.{Aim}
 use Rattle.armv6m_forms.specs.declared.form.Form.TheVariants as form
 use Rattle.armv6m_forms.specs.Form.{StandsFor}
-use Rattle.armv6m_asm.specs.declared.statement.Target.{Target}
-use Rattle.armv6m_asm.specs.declared.statement.Target.TheVariants as targets
+use Rattle.armv6m_asm.specs.declared.statement.Destination.{Destination}
+use Rattle.armv6m_asm.specs.declared.statement.Destination.TheVariants as destinations
 use Rattle.armv6m_asm.specs.declared.statement.Operation.{Operation}
 use Rattle.armv6m_asm.specs.declared.statement.Operation.TheVariants.{Nothing, Word, Align, Plain, Aimed}
 use Rattle.armv6m_asm.specs.declared.statement.Statement.{Statement}
@@ -18,10 +18,11 @@ use Rattle.armv6m_asm.specs.declared.code.Code.{Code}
 use Rattle.armv6m_asm.specs.declared.fault.AsmFault.TheVariants.{BadWord, TwiceLabel, NoLabel, OutOfReach, OutOfMemory}
 use Rattle.armv6m_asm.specs.Label.{names_of}
 use Rattle.armv6m_asm.specs.Statement.{IsStatement}
-use Rattle.armv6m_asm.specs.Alike.{AreAlikeTargets, AreAlikeOperations, AreAlikeLabels}
-use Rattle.armv6m_asm.specs.Assembly.{width, aim_width, size_of, place_after, label_at, labels_of, AreOnce, name_in, named_by, targets_of, LeadsTo, AreBytesOf}
+use Rattle.armv6m_asm.specs.Alike.{AreAlikeDestinations, AreAlikeOperations, AreAlikeLabels}
+use Rattle.armv6m_asm.specs.Assembly.{width, aim_width, size_of, place_after, label_at, labels_of, AreOnce, name_in, named_by, destinations_of, LeadsTo}
+use Rattle.armv6m_asm.specs.Assembly.{AreBytesOf}
 use Rattle.armv6m_asm.specs.Assembly.{AreBytes, GoesBeyond, IsAligned, IsRight, IsBad, AreRead, IsFirstBad, IsFirstTwice, IsFirstMissing, IsFirstBeyond}
-use Rattle.armv6m_asm.specs.Assembly.{AreOfText, HasLabelsOnce, HasTargets, IsAssembled, HasTwiceLabel, HasNoLabel, HasOutOfReach}
+use Rattle.armv6m_asm.specs.Assembly.{AreOfText, HasLabelsOnce, HasDestinations, IsAssembled, HasTwiceLabel, HasNoLabel, HasOutOfReach}
 use Rattle.armv6m_asm.specs.Outcome.{RefusedOrAssembled, OneRefusal}
 use Rattle.armv6m_asm.proofs.LawLemmas.{one_statement}
 use Rattle.armv6m_asm.proofs.Places.{read_long}
@@ -41,9 +42,9 @@ size_alike (Plain a) (Plain b) at same = ap width same
 size_alike (Aimed a to) (Aimed b too) at same = ap aim_width same.0
 size_alike one other at same = absurd same
 
-name_alike : (one other : Target) → AreAlikeTargets one other → name_in one ≡ name_in other
-name_alike (targets.Label a) (targets.Label b) same = rw same
-name_alike (targets.Address a) (targets.Address b) same = refl
+name_alike : (one other : Destination) → AreAlikeDestinations one other → name_in one ≡ name_in other
+name_alike (destinations.Label a) (destinations.Label b) same = rw same
+name_alike (destinations.Address a) (destinations.Address b) same = refl
 name_alike one other same = absurd same
 
 named_alike : (one other : Operation) → AreAlikeOperations one other → named_by one ≡ named_by other
@@ -62,7 +63,7 @@ aligned_alike one other at same aligned = tt
 -- ---- two readings of the same lines
 
 same_names : (from : ℕ) (lines : List (List ℕ)) (ss ts : List Statement) → AreRead from lines ss → AreRead from lines ts
-    → (labels_of from ss ≡ labels_of from ts) × (targets_of ss ≡ targets_of ts)
+    → (labels_of from ss ≡ labels_of from ts) × (destinations_of ss ≡ destinations_of ts)
 same_names from [] [] [] x y = (refl, refl)
 same_names from [] [] (t ∷ ts) x y = absurd y
 same_names from [] (s ∷ ss) ts x y = absurd x
@@ -195,7 +196,7 @@ twice_or_once earlier name later (k, within, is) once =
     let second : get_or (earlier ++ name ∷ later) (length earlier + 0) name ≡ name = get_or-append-add earlier (name ∷ later) 0 name in
     once k (length earlier + 0) name (omega arith) (omega (arith, length-append earlier (name ∷ later))) (first ∙ sym second)
 
--- ---- the third: targets, up to one that is no label
+-- ---- the third: destinations, up to one that is no label
 
 stands_there : {X : Type 0} (earlier : List X) (x : X) (later : List X) → Contains (earlier ++ x ∷ later) x
 stands_there earlier x later = Contains-append_right earlier (x ∷ later) x (0, omega arith, refl)
@@ -224,11 +225,11 @@ one_place labels one other once same (i, inside, x) (j, within, y) =
     let at : i ≡ j = omega arith in
     ap (λ (l : Label). l.place) (sym x ∙ get_or_default labels i one other inside ∙ ap (λ (n : ℕ). get_or labels n other) at ∙ y)
 
-one_address : (labels : List Label) (to too : Target) (a b : ℕ) → AreOnce (names_of labels) → AreAlikeTargets to too → LeadsTo labels to a →
+one_address : (labels : List Label) (to too : Destination) (a b : ℕ) → AreOnce (names_of labels) → AreAlikeDestinations to too → LeadsTo labels to a →
     LeadsTo labels too b → a ≡ b
-one_address labels (targets.Label name) (targets.Label other) a b once same x y =
+one_address labels (destinations.Label name) (destinations.Label other) a b once same x y =
     one_place labels (record { name = name.now; place = a }) (record { name = other.now; place = b }) once same x y
-one_address labels (targets.Address one) (targets.Address other) a b once same x y = x ∙ same ∙ sym y
+one_address labels (destinations.Address one) (destinations.Address other) a b once same x y = x ∙ same ∙ sym y
 one_address labels to too a b once same x y = absurd same
 
 beyond_or_code : (labels : List Label) (one other : Operation) (at : ℕ) (bytes : List ℕ) → AreOnce (names_of labels) → AreAlikeOperations one other →
@@ -272,8 +273,9 @@ beyond_or_bytes labels once before line after stops goes =
 one_labels : {text : List ℕ} {ss ts : List Statement} {ls ms : List Label} → AreOfText text ss ls → AreOfText text ts ms → ls ≡ ms
 one_labels {text} {ss} {ts} x y = x.labels_are ∙ (same_names 0 (lines_of text) ss ts x.read y.read).0 ∙ sym y.labels_are
 
-one_targets : {text : List ℕ} {ss ts : List Statement} {ls ms : List Label} → AreOfText text ss ls → AreOfText text ts ms → targets_of ss ≡ targets_of ts
-one_targets {text} {ss} {ts} x y = (same_names 0 (lines_of text) ss ts x.read y.read).1
+one_destinations : {text : List ℕ} {ss ts : List Statement} {ls ms : List Label} → AreOfText text ss ls → AreOfText text ts ms →
+    destinations_of ss ≡ destinations_of ts
+one_destinations {text} {ss} {ts} x y = (same_names 0 (lines_of text) ss ts x.read y.read).1
 
 first_bad : {lines : List (List ℕ)} {line : ℕ} → IsFirstBad lines line → IsFirst AreReadAs IsBadBehind lines
 first_bad is = record {
@@ -288,10 +290,10 @@ first_bad is = record {
 first_twice : {names : List (List ℕ)} {name : List ℕ} → IsFirstTwice names name → IsFirst AreOnce Contains names
 first_twice {names} {name} is = record { before = is.earlier; here = name; after = is.later; whole_is = is.names_are; goes = is.once; stops = is.twice }
 
-first_missing : {targets names : List (List ℕ)} {name : List ℕ} → IsFirstMissing targets names name
-    → IsFirst (All (Contains names)) (λ earlier name. Contains names name → ⊥) targets
-first_missing {targets} {names} {name} is =
-    record { before = is.earlier; here = name; after = is.later; whole_is = is.targets_are; goes = is.there; stops = is.missing }
+first_missing : {destinations names : List (List ℕ)} {name : List ℕ} → IsFirstMissing destinations names name
+    → IsFirst (All (Contains names)) (λ earlier name. Contains names name → ⊥) destinations
+first_missing {destinations} {names} {name} is =
+    record { before = is.earlier; here = name; after = is.later; whole_is = is.destinations_are; goes = is.there; stops = is.missing }
 
 -- the same in lines
 first_beyond : {lines : List (List ℕ)} {statements : List Statement} {labels : List Label} {line : ℕ} → AreRead 0 lines statements →
@@ -318,12 +320,12 @@ no_bad {text} {line} {ss} is has = no_first (first_bad is) bad_or_read (record {
 no_twice : {text name : List ℕ} {ss : List Statement} {ls : List Label} → HasTwiceLabel text name → HasLabelsOnce text ss ls → ⊥
 no_twice is has = no_first (first_twice is.twice) twice_or_once (subst (λ (ls : List Label). AreOnce (names_of ls)) (one_labels has.read is.read) has.once)
 
-no_missing : {text name : List ℕ} {ss : List Statement} {ls : List Label} → HasNoLabel text name → HasTargets text ss ls → ⊥
+no_missing : {text name : List ℕ} {ss : List Statement} {ls : List Label} → HasNoLabel text name → HasDestinations text ss ls → ⊥
 no_missing {text} {name} {ss} is has =
-    let there : All (Contains (names_of is.labels)) (targets_of ss) = subst (λ (ls : List Label). All (Contains (names_of ls)) (targets_of ss))
+    let there : All (Contains (names_of is.labels)) (destinations_of ss) = subst (λ (ls : List Label). All (Contains (names_of ls)) (destinations_of ss))
     (one_labels has.read.read is.read.read) has.there in
     no_first (first_missing is.missing) (missing_or_there (names_of is.labels))
-    (subst (λ (ns : List (List ℕ)). All (Contains (names_of is.labels)) ns) (one_targets has.read.read is.read.read) there)
+    (subst (λ (ns : List (List ℕ)). All (Contains (names_of is.labels)) ns) (one_destinations has.read.read is.read.read) there)
 
 no_beyond : {text : List ℕ} {line : ℕ} {code : Code} → HasOutOfReach text line → IsAssembled text code → ⊥
 no_beyond {text} {line} {code} is has =
@@ -349,8 +351,8 @@ one_twice {text} {a} {b} x y =
 one_missing : {text a b : List ℕ} → HasNoLabel text a → HasNoLabel text b → a ≡ b
 unfolding first_missing
 one_missing {text} {a} {b} x y =
-    let too = subst (λ (ls : List Label). IsFirstMissing (targets_of y.statements) (names_of ls) b) (one_labels y.read.read x.read.read) y.missing in
-    let also = subst (λ (ts : List (List ℕ)). IsFirstMissing ts (names_of x.labels) b) (one_targets y.read.read x.read.read) too in
+    let too = subst (λ (ls : List Label). IsFirstMissing (destinations_of y.statements) (names_of ls) b) (one_labels y.read.read x.read.read) y.missing in
+    let also = subst (λ (ts : List (List ℕ)). IsFirstMissing ts (names_of x.labels) b) (one_destinations y.read.read x.read.read) too in
     (one_first (first_missing x.missing) (first_missing also) (missing_or_there (names_of x.labels))).1
 
 one_beyond : {text : List ℕ} {a b : ℕ} → HasOutOfReach text a → HasOutOfReach text b → a ≡ b

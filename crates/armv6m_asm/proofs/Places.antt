@@ -3,7 +3,7 @@ use Rattle.std.proofs.Common.{◌≡◌, ◌≤◌, ◌<◌, ◌+◌, ℕ, suc, 
 use Rattle.std.proofs.lemmas.List.{append-nil, take_more, drop_more, take-append-drop}
 use Rattle.armv6m_asm.specs.declared.statement.Statement.{Statement}
 use Rattle.armv6m_asm.specs.declared.labels.Label.{Label}
-use Rattle.armv6m_asm.specs.Assembly.{size_of, place_after, label_at, labels_of, named_by, targets_of, IsRight, AreRead, AreBytesOf, AreBytes}
+use Rattle.armv6m_asm.specs.Assembly.{size_of, place_after, label_at, labels_of, named_by, destinations_of, IsRight, AreRead, AreBytesOf, AreBytes}
 
 pub place_after-append : (from : ℕ) (first second : List Statement) → place_after from (first ++ second) ≡ place_after (place_after from first) second
 place_after-append from [] second = refl
@@ -21,10 +21,10 @@ labels_of-append from (s ∷ first) second =
     ap (λ (ls : List Label). label_at s.label from ++ ls) (labels_of-append next first second) ∙
     sym (append_assoc (label_at s.label from) (labels_of next first) (labels_of (place_after next first) second))
 
-pub targets_of-append : (first second : List Statement) → targets_of (first ++ second) ≡ targets_of first ++ targets_of second
-targets_of-append [] second = refl
-targets_of-append (s ∷ first) second = ap (λ (ns : List (List ℕ)). named_by s.operation ++ ns) (targets_of-append first second) ∙
-    sym (append_assoc (named_by s.operation) (targets_of first) (targets_of second))
+pub destinations_of-append : (first second : List Statement) → destinations_of (first ++ second) ≡ destinations_of first ++ destinations_of second
+destinations_of-append [] second = refl
+destinations_of-append (s ∷ first) second = ap (λ (ns : List (List ℕ)). named_by s.operation ++ ns) (destinations_of-append first second) ∙
+    sym (append_assoc (named_by s.operation) (destinations_of first) (destinations_of second))
 
 pub read_append : (from : ℕ) (lines : List (List ℕ)) (statements : List Statement) (line : List ℕ) (s : Statement) → AreRead from lines statements →
     IsRight line (place_after from statements) s → AreRead from (lines ++ line ∷ []) (statements ++ s ∷ [])

@@ -1,4 +1,4 @@
--- Lemmas on names, targets, operations and statements.
+-- Lemmas on names, destinations, operations and statements.
 use Rattle.std.proofs.Common.{◌≡◌, ◌≢◌, ◌<◌, ◌≤◌, ◌-◌, ◌&&◌, ◌||◌, ◌∙◌, sym, ap, subst, refl, ℕ, true, false, List, [], ◌∷◌, length, get_or, take, drop, map}
 use Rattle.std.proofs.Common.{codes, Option, Some, None, MatchOption, arith}
 use Rattle.std.specs.List.{list_all}
@@ -12,19 +12,20 @@ use Rattle.armv6m_forms.specs.declared.form.Form.TheVariants as forms
 use Rattle.armv6m_forms.specs.Form.{StandsFor, HasNoInstruction}
 use Rattle.armv6m_forms.specs.Text.{text_of, aim_text, register_text, IsBranch}
 use Rattle.armv6m_forms.proofs.TextLemmas.{one_mnemonic}
-use Rattle.armv6m_asm.specs.declared.statement.Target.{Target}
-use Rattle.armv6m_asm.specs.declared.statement.Target.TheVariants as targets
+use Rattle.armv6m_asm.specs.declared.statement.Destination.{Destination}
+use Rattle.armv6m_asm.specs.declared.statement.Destination.TheVariants as destinations
 use Rattle.armv6m_asm.specs.declared.statement.Operation.{Operation}
 use Rattle.armv6m_asm.specs.declared.statement.Operation.TheVariants as operations
 use Rattle.armv6m_asm.specs.Token.{Token, word, mark, is_letter, is_digit}
-use Rattle.armv6m_asm.specs.Statement.{is_name, IsNumber, IsAddress, Are, exactly, number, low_register, comma, target, Spell, ArePlain, AreAimed, AreOperation}
+use Rattle.armv6m_asm.specs.Statement.{is_name, IsNumber, IsAddress, Are, exactly, number, low_register, comma, destination, Spell, ArePlain, AreAimed}
+use Rattle.armv6m_asm.specs.Statement.{AreOperation}
 use Rattle.armv6m_asm.specs.Statement.{AreStatement}
 use Rattle.armv6m_asm.specs.Reading.{register_of, operands_of, symbol_of}
 use Rattle.armv6m_asm.proofs.WordLemmas.{register_of-text}
 use Rattle.armv6m_asm.proofs.TokenLemmas.{lent_rest}
 use Rattle.armv6m_asm.proofs.OperandLemmas.{operands_of-spell, one_spelling}
 
--- ---- names and targets
+-- ---- names and destinations
 
 pub is_name-first : (bytes : List ℕ) → 0 < length bytes
     → is_name bytes ≡ is_letter (get_or bytes 0 0) && list_all (λ byte. is_letter byte || is_digit byte) (take (length bytes - 1) (drop 1 bytes))
@@ -32,13 +33,14 @@ is_name-first [] some = absurd (omega arith)
 is_name-first (first ∷ rest) some =
     ap (λ (r : List ℕ). is_letter first && list_all (λ byte. is_letter byte || is_digit byte) r) (sym (lent_rest (first ∷ rest) 1))
 
-pub no_target : (bytes : List ℕ) → is_name bytes ≡ false → ((address : ℕ) → IsAddress bytes address → ⊥) → (to : Target) → target to (word bytes) → ⊥
-no_target bytes no_name no_address (targets.Label label) is =
+pub no_destination : (bytes : List ℕ) → is_name bytes ≡ false → ((address : ℕ) → IsAddress bytes address → ⊥) →
+    (to : Destination) → destination to (word bytes) → ⊥
+no_destination bytes no_name no_address (destinations.Label label) is =
     let same : bytes ≡ label.now = let e = is.0 in cc in
     let named : is_name label.now ≡ true = is.1 in
     let e = ap is_name same in
     cc
-no_target bytes no_name no_address (targets.Address address) is = no_address address is
+no_destination bytes no_name no_address (destinations.Address address) is = no_address address is
 
 pub one_register : (a b : ℕ) → a < 16 → b < 16 → register_text a ≡ register_text b → a ≡ b
 one_register a b low high same =
@@ -57,10 +59,11 @@ no_low tokens rest bytes r begins is below high t first others low again =
     omega arith
 
 pub no_pair : (tokens behind rest : List Token) (first : Token) → tokens ≡ first ∷ behind → behind ≡ mark 44 ∷ rest →
-    ((to : Target) → Are (target to ∷ []) rest → ⊥)
-    → (t : ℕ) (to : Target) → Are (low_register t ∷ comma ∷ target to ∷ []) tokens → ⊥
+    ((to : Destination) → Are (destination to ∷ []) rest → ⊥)
+    → (t : ℕ) (to : Destination) → Are (low_register t ∷ comma ∷ destination to ∷ []) tokens → ⊥
 no_pair tokens behind rest first begins then_comma none t to are =
-    none to (subst (λ (all : List Token). Are (low_register t ∷ comma ∷ target to ∷ []) all) (begins ∙ ap (λ (r : List Token). first ∷ r) then_comma) are).1.1
+    none to (subst (λ (all : List Token). Are (low_register t ∷ comma ∷ destination to ∷ []) all) (begins ∙ ap (λ (r : List Token). first ∷ r) then_comma)
+    are).1.1
 
 -- ---- words of data
 
@@ -74,7 +77,7 @@ value_exact bytes number_bytes tokens behind None is all nothing none = λ value
 value_exact bytes number_bytes tokens behind (Some value) is all nothing some =
     (ap word is, subst (λ (t : List Token). Are (number value ∷ []) t) (sym all) (some, nothing))
 
--- ---- instructions without a target
+-- ---- instructions without a destination
 
 pub no_mnemonic : (bytes : List ℕ) (tokens : List Token) → ((m : Mnemonic) → text_of m ≢ bytes) → (instr : Instr) → ArePlain instr (word bytes ∷ tokens) → ⊥
 no_mnemonic bytes tokens none instr is = none is.mnemonic (let e = is.spelled.0 in cc)
@@ -91,7 +94,7 @@ plain_exact bytes tokens m o None is spelled none = λ instr it.
     none 0 instr (subst (λ x. StandsFor instr 0 (forms.Plain m x)) operands (subst (λ x. StandsFor instr 0 (forms.Plain x it.operands)) mnemonic (it.stands 0)))
 plain_exact bytes tokens m o (Some instr) is spelled stands = record { mnemonic = m; operands = o; spelled = (ap word (sym is), spelled); stands = stands }
 
--- ---- instructions with a target
+-- ---- instructions with a destination
 
 pub load_text : (t : ℕ) → aim_text (aims.Load t) ≡ codes "LDR"
 unfolding aim_text
@@ -112,8 +115,9 @@ branch_begins (aims.Address d) is = absurd is
 no_branch : (bytes : List ℕ) (n : ℕ) → get_or bytes 0 0 ≡ n → n ≢ 66 → (aim : Aim) → IsBranch aim → aim_text aim ≢ bytes
 no_branch bytes n first other aim is same = other (sym first ∙ ap (λ (b : List ℕ). get_or b 0 0) (sym same) ∙ branch_begins aim is)
 
--- a branch and its target
-pub branch_aimed : (aim : Aim) (to : Target) (bytes : List ℕ) (tokens : List Token) → IsBranch aim → aim_text aim ≡ bytes → Are (target to ∷ []) tokens
+-- a branch and its destination
+pub branch_aimed : (aim : Aim) (to : Destination) (bytes : List ℕ) (tokens : List Token) → IsBranch aim → aim_text aim ≡ bytes →
+    Are (destination to ∷ []) tokens
     → AreAimed aim to (word bytes ∷ tokens)
 branch_aimed aims.Branch to bytes tokens branch is aimed = (ap word (sym is), aimed)
 branch_aimed (aims.BranchIf condition) to bytes tokens branch is aimed = (ap word (sym is), aimed)
@@ -124,12 +128,12 @@ branch_aimed (aims.Address d) to bytes tokens branch is aimed = absurd branch
 same_word : (a b : List ℕ) → word a ≡ word b → a ≡ b
 same_word a b is = cc
 
--- what an instruction with a target comes to
+-- what an instruction with a destination comes to
 pub no_aimed : (bytes : List ℕ) (tokens : List Token)
-    → (bytes ≡ codes "LDR" → (t : ℕ) (to : Target) → Are (low_register t ∷ comma ∷ target to ∷ []) tokens → ⊥)
-    → (bytes ≡ codes "ADR" → (d : ℕ) (to : Target) → Are (low_register d ∷ comma ∷ target to ∷ []) tokens → ⊥)
-    → ((aim : Aim) → IsBranch aim → aim_text aim ≡ bytes → (to : Target) → Are (target to ∷ []) tokens → ⊥)
-    → (aim : Aim) (to : Target) → AreAimed aim to (word bytes ∷ tokens) → ⊥
+    → (bytes ≡ codes "LDR" → (t : ℕ) (to : Destination) → Are (low_register t ∷ comma ∷ destination to ∷ []) tokens → ⊥)
+    → (bytes ≡ codes "ADR" → (d : ℕ) (to : Destination) → Are (low_register d ∷ comma ∷ destination to ∷ []) tokens → ⊥)
+    → ((aim : Aim) → IsBranch aim → aim_text aim ≡ bytes → (to : Destination) → Are (destination to ∷ []) tokens → ⊥)
+    → (aim : Aim) (to : Destination) → AreAimed aim to (word bytes ∷ tokens) → ⊥
 no_aimed bytes tokens load address branch aims.Branch to is = branch aims.Branch tt (sym (same_word bytes (aim_text aims.Branch) is.0)) to is.1
 no_aimed bytes tokens load address branch (aims.BranchIf condition) to is =
     branch (aims.BranchIf condition) tt (sym (same_word bytes (aim_text (aims.BranchIf condition)) is.0)) to is.1
@@ -141,15 +145,16 @@ load_is_no_address : (bytes : List ℕ) → bytes ≡ codes "LDR" → bytes ≡ 
 load_is_no_address bytes load address = omega (arith, ap (λ (b : List ℕ). get_or b 0 0) load, ap (λ (b : List ℕ). get_or b 0 0) address)
 
 -- `LDR` and `ADR` are no branches, and differ
-pub no_load : (bytes : List ℕ) (tokens : List Token) → bytes ≡ codes "LDR" → ((t : ℕ) (to : Target) → Are (low_register t ∷ comma ∷ target to ∷ []) tokens → ⊥)
-    → (aim : Aim) (to : Target) → AreAimed aim to (word bytes ∷ tokens) → ⊥
+pub no_load : (bytes : List ℕ) (tokens : List Token) → bytes ≡ codes "LDR" →
+    ((t : ℕ) (to : Destination) → Are (low_register t ∷ comma ∷ destination to ∷ []) tokens → ⊥)
+    → (aim : Aim) (to : Destination) → AreAimed aim to (word bytes ∷ tokens) → ⊥
 no_load bytes tokens is none =
     no_aimed bytes tokens (λ _. none) (λ other. absurd (load_is_no_address bytes is other))
     (λ aim branch same to aimed. no_branch bytes 76 (ap (λ (b : List ℕ). get_or b 0 0) is) (λ e. omega (arith, e)) aim branch same)
 
 pub no_address : (bytes : List ℕ) (tokens : List Token) → bytes ≡ codes "ADR" →
-    ((d : ℕ) (to : Target) → Are (low_register d ∷ comma ∷ target to ∷ []) tokens → ⊥)
-    → (aim : Aim) (to : Target) → AreAimed aim to (word bytes ∷ tokens) → ⊥
+    ((d : ℕ) (to : Destination) → Are (low_register d ∷ comma ∷ destination to ∷ []) tokens → ⊥)
+    → (aim : Aim) (to : Destination) → AreAimed aim to (word bytes ∷ tokens) → ⊥
 no_address bytes tokens is none =
     no_aimed bytes tokens (λ other. absurd (load_is_no_address bytes other is)) (λ _. none)
     (λ aim branch same to aimed. no_branch bytes 65 (ap (λ (b : List ℕ). get_or b 0 0) is) (λ e. omega (arith, e)) aim branch same)
@@ -159,7 +164,7 @@ no_address bytes tokens is none =
 pub no_operation : (bytes : List ℕ) (tokens : List Token) → (Are (exactly (codes ".align") ∷ []) (word bytes ∷ tokens) → ⊥)
     → ((value : ℕ) → Are (exactly (codes ".word") ∷ number value ∷ []) (word bytes ∷ tokens) → ⊥)
     → ((instr : Instr) → ArePlain instr (word bytes ∷ tokens) → ⊥)
-    → ((aim : Aim) (to : Target) → AreAimed aim to (word bytes ∷ tokens) → ⊥)
+    → ((aim : Aim) (to : Destination) → AreAimed aim to (word bytes ∷ tokens) → ⊥)
     → (operation : Operation) → AreOperation operation (word bytes ∷ tokens) → ⊥
 no_operation bytes tokens align value plain aimed operations.Nothing is = absurd (cc)
 no_operation bytes tokens align value plain aimed (operations.Word v) is = value v is
@@ -172,9 +177,9 @@ colon_is_no_operand : (rest : List Token) → operands_of (map symbol_of (mark 5
 unfolding operands_of symbol_of
 colon_is_no_operand rest = refl
 
-pub no_colon_target : (to : Target) → target to (mark 58) → ⊥
-no_colon_target (targets.Label label) is = let e = is.0 in cc
-no_colon_target (targets.Address address) is = is
+pub no_colon_destination : (to : Destination) → destination to (mark 58) → ⊥
+no_colon_destination (destinations.Label label) is = let e = is.0 in cc
+no_colon_destination (destinations.Address address) is = is
 
 -- no operation has a colon as its second token
 pub no_colon : (bytes : List ℕ) (rest : List Token) (operation : Operation) → AreOperation operation (word bytes ∷ mark 58 ∷ rest) → ⊥
@@ -185,9 +190,9 @@ no_colon bytes rest (operations.Plain instr) is =
     let some = operands_of-spell is.operands (mark 58 ∷ rest) is.spelled.1 in
     let none = colon_is_no_operand rest in
     cc
-no_colon bytes rest (operations.Aimed aims.Branch to) is = no_colon_target to is.1.0
-no_colon bytes rest (operations.Aimed (aims.BranchIf condition) to) is = no_colon_target to is.1.0
-no_colon bytes rest (operations.Aimed aims.BranchLink to) is = no_colon_target to is.1.0
+no_colon bytes rest (operations.Aimed aims.Branch to) is = no_colon_destination to is.1.0
+no_colon bytes rest (operations.Aimed (aims.BranchIf condition) to) is = no_colon_destination to is.1.0
+no_colon bytes rest (operations.Aimed aims.BranchLink to) is = no_colon_destination to is.1.0
 no_colon bytes rest (operations.Aimed (aims.Load t) to) is = let e = is.1.0.0 in cc
 no_colon bytes rest (operations.Aimed (aims.Address d) to) is = let e = is.1.0.0 in cc
 

@@ -10,7 +10,7 @@ use Rattle.armv6m_encode.specs.Encoding.{IsEncodedAs}
 use Rattle.armv6m_forms.specs.declared.form.Aim.{Aim}
 use Rattle.armv6m_forms.specs.declared.form.Form.TheVariants as form
 use Rattle.armv6m_forms.specs.Form.{StandsFor}
-use Rattle.armv6m_asm.specs.declared.statement.Target.{Target}
+use Rattle.armv6m_asm.specs.declared.statement.Destination.{Destination}
 use Rattle.armv6m_asm.specs.declared.statement.Operation.TheVariants as operation
 use Rattle.armv6m_asm.specs.declared.statement.Statement.{Statement}
 use Rattle.armv6m_asm.specs.declared.labels.Label.{Label}
@@ -19,12 +19,13 @@ use Rattle.armv6m_asm.specs.declared.fault.AsmFault.{AsmFault}
 use Rattle.armv6m_asm.specs.declared.fault.AsmFault.TheVariants.{BadWord, TwiceLabel, NoLabel, OutOfReach, OutOfMemory}
 use Rattle.armv6m_asm.specs.Usable.{IsUsable}
 use Rattle.armv6m_asm.specs.Label.{names_of}
-use Rattle.armv6m_asm.specs.Assembly.{size_of, place_after, label_at, labels_of, AreOnce, named_by, targets_of, LeadsTo, code_of, AreBytes, GoesBeyond, IsRight}
-use Rattle.armv6m_asm.specs.Assembly.{IsBad, AreRead, IsFirstBad, AreOfText, HasLabelsOnce, HasTargets, IsAssembled, IsRefused}
-use Rattle.armv6m_asm.specs.Passes.{ReadsAll, IsReadFault, FindsLabels, AddsLabels, IsAddFault, IsLabelFault, IsMissingFault, IsTargetFault, AddsCode}
+use Rattle.armv6m_asm.specs.Assembly.{size_of, place_after, label_at, labels_of, AreOnce, named_by, destinations_of, LeadsTo, code_of, AreBytes, GoesBeyond}
+use Rattle.armv6m_asm.specs.Assembly.{IsRight}
+use Rattle.armv6m_asm.specs.Assembly.{IsBad, AreRead, IsFirstBad, AreOfText, HasLabelsOnce, HasDestinations, IsAssembled, IsRefused}
+use Rattle.armv6m_asm.specs.Passes.{ReadsAll, IsReadFault, FindsLabels, AddsLabels, IsAddFault, IsLabelFault, IsMissingFault, IsDestinationFault, AddsCode}
 use Rattle.armv6m_asm.specs.Passes.{AddsBytes, IsBeyondFault, IsCodeFault}
 use Rattle.armv6m_asm.proofs.Widths.{length-code_of, aimed_width}
-use Rattle.armv6m_asm.proofs.Places.{place_after-append, labels_of-append, targets_of-append, read_append, read_long, bytes_append, split_at, end_more}
+use Rattle.armv6m_asm.proofs.Places.{place_after-append, labels_of-append, destinations_of-append, read_append, read_long, bytes_append, split_at, end_more}
 use Rattle.armv6m_asm.proofs.Places.{place_after-take}
 use Rattle.armv6m_asm.proofs.Names.{no_name_twice, once_more}
 
@@ -174,49 +175,52 @@ found_fault statements k place d labels (TwiceLabel name) lt h is =
       twice = is.already;
     }
 
--- ---- targets
+-- ---- destinations
 
-targets_split : (statements : List Statement) (k : ℕ) (d : Statement) → k < length statements →
-    targets_of statements ≡ targets_of (take k statements) ++ (named_by (get_or statements k d).operation ++ targets_of (drop (k + 1) statements))
-targets_split statements k d lt = ap targets_of (split_at statements k d lt) ∙
-    targets_of-append (take k statements) (get_or statements k d ∷ drop (k + 1) statements)
+destinations_split : (statements : List Statement) (k : ℕ) (d : Statement) → k < length statements →
+    destinations_of statements ≡ destinations_of (take k statements) ++
+    (named_by (get_or statements k d).operation ++ destinations_of (drop (k + 1) statements))
+destinations_split statements k d lt = ap destinations_of (split_at statements k d lt) ∙
+    destinations_of-append (take k statements) (get_or statements k d ∷ drop (k + 1) statements)
 
 names_behind : (names : List (List ℕ)) → names ++ [] ≡ names
 names_behind [] = refl
 names_behind (name ∷ names) = ap (λ (ns : List (List ℕ)). name ∷ ns) (names_behind names)
 
-pub targets_more : (P : List ℕ → Type 0) (statements : List Statement) (k : ℕ) (d : Statement) → k < length statements →
-    All P (targets_of (take k statements)) → All P (named_by (get_or statements k d).operation) → All P (targets_of (take (k + 1) statements))
-targets_more P statements k d lt before here =
-    let more : targets_of (take (k + 1) statements) ≡ targets_of (take k statements) ++ named_by (get_or statements k d).operation =
-    ap targets_of (take_more statements k d lt) ∙ targets_of-append (take k statements) (get_or statements k d ∷ []) ∙
-    ap (λ (ns : List (List ℕ)). targets_of (take k statements) ++ ns) (names_behind (named_by (get_or statements k d).operation)) in
-    subst (λ (ns : List (List ℕ)). All P ns) (sym more) (All-append P (targets_of (take k statements)) (named_by (get_or statements k d).operation) before here)
+pub destinations_more : (P : List ℕ → Type 0) (statements : List Statement) (k : ℕ) (d : Statement) → k < length statements →
+    All P (destinations_of (take k statements)) → All P (named_by (get_or statements k d).operation) → All P (destinations_of (take (k + 1) statements))
+destinations_more P statements k d lt before here =
+    let more : destinations_of (take (k + 1) statements) ≡ destinations_of (take k statements) ++ named_by (get_or statements k d).operation =
+    ap destinations_of (take_more statements k d lt) ∙ destinations_of-append (take k statements) (get_or statements k d ∷ []) ∙
+    ap (λ (ns : List (List ℕ)). destinations_of (take k statements) ++ ns) (names_behind (named_by (get_or statements k d).operation)) in
+    subst (λ (ns : List (List ℕ)). All P ns) (sym more) (All-append P (destinations_of (take k statements)) (named_by (get_or statements k d).operation) before
+    here)
 
-pub targets_here : (P : List ℕ → Type 0) (statements : List Statement) (k : ℕ) (d : Statement) → k < length statements → All P (targets_of statements) →
+pub destinations_here : (P : List ℕ → Type 0) (statements : List Statement) (k : ℕ) (d : Statement) → k < length statements →
+    All P (destinations_of statements) →
     All P (named_by (get_or statements k d).operation)
-targets_here P statements k d lt all =
-    let before = targets_of (take k statements) in
+destinations_here P statements k d lt all =
+    let before = destinations_of (take k statements) in
     let here = named_by (get_or statements k d).operation in
-    let after = targets_of (drop (k + 1) statements) in
-    let whole : All P (before ++ (here ++ after)) = subst (λ (ns : List (List ℕ)). All P ns) (targets_split statements k d lt) all in
+    let after = destinations_of (drop (k + 1) statements) in
+    let whole : All P (before ++ (here ++ after)) = subst (λ (ns : List (List ℕ)). All P ns) (destinations_split statements k d lt) all in
     λ j name inside. All-contains P (before ++ (here ++ after)) (get_or here j name) whole
     (Contains-append_right before (here ++ after) (get_or here j name)
     (Contains-append_left here after (get_or here j name) (Contains-get_or here j name inside)))
 
-pub target_fault : (statements : List Statement) (k : ℕ) (d : Statement) (names : List (List ℕ)) (fault : AsmFault) → k < length statements →
-    All (Contains names) (targets_of (take k statements)) → IsMissingFault (get_or statements k d).operation names fault →
-    IsTargetFault (targets_of statements) names fault
-target_fault statements k d names (BadWord line) lt before is = is
-target_fault statements k d names (TwiceLabel name) lt before is = is
-target_fault statements k d names (OutOfReach line) lt before is = is
-target_fault statements k d names OutOfMemory lt before is = tt
-target_fault statements k d names (NoLabel name) lt before is =
+pub destination_fault : (statements : List Statement) (k : ℕ) (d : Statement) (names : List (List ℕ)) (fault : AsmFault) → k < length statements →
+    All (Contains names) (destinations_of (take k statements)) → IsMissingFault (get_or statements k d).operation names fault →
+    IsDestinationFault (destinations_of statements) names fault
+destination_fault statements k d names (BadWord line) lt before is = is
+destination_fault statements k d names (TwiceLabel name) lt before is = is
+destination_fault statements k d names (OutOfReach line) lt before is = is
+destination_fault statements k d names OutOfMemory lt before is = tt
+destination_fault statements k d names (NoLabel name) lt before is =
     record {
-      earlier = targets_of (take k statements);
-      later = targets_of (drop (k + 1) statements);
-      targets_are = targets_split statements k d lt ∙ ap (λ (ns : List (List ℕ)). targets_of (take k statements) ++
-          (ns ++ targets_of (drop (k + 1) statements))) is.named;
+      earlier = destinations_of (take k statements);
+      later = destinations_of (drop (k + 1) statements);
+      destinations_are = destinations_split statements k d lt ∙ ap (λ (ns : List (List ℕ)). destinations_of (take k statements) ++
+          (ns ++ destinations_of (drop (k + 1) statements))) is.named;
       there = before;
       missing = is.missing;
     }
@@ -232,7 +236,7 @@ code_added old new i encoding encoded added = record {
       record { encoding = encoding; encoded = encoded; bytes_are = refl };
 }
 
-pub aimed_added : (labels : List Label) (aim : Aim) (t : Target) (at address : ℕ) (old new : List ℕ) (i : Instr) → LeadsTo labels t address →
+pub aimed_added : (labels : List Label) (aim : Aim) (t : Destination) (at address : ℕ) (old new : List ℕ) (i : Instr) → LeadsTo labels t address →
     StandsFor i at (form.Aimed aim address) → AddsCode old new i → AddsBytes labels (operation.Aimed aim t) at old new
 aimed_added labels aim t at address old new i leads stands adds =
     record {
@@ -328,29 +332,29 @@ has_once : (text : List ℕ) (statements : List Statement) (labels : List Label)
     HasLabelsOnce text statements labels
 has_once text statements labels read found = record { read = record { read = read.read; labels_are = found.labels_are }; once = found.once }
 
-pub text_target_fault : (text : List ℕ) (statements : List Statement) (labels : List Label) (fault : AsmFault) → ReadsAll (lines_of text) statements →
-    FindsLabels statements labels → IsTargetFault (targets_of statements) (names_of labels) fault → IsRefused text fault
-text_target_fault text statements labels (BadWord line) read found is = absurd is
-text_target_fault text statements labels (TwiceLabel name) read found is = absurd is
-text_target_fault text statements labels (NoLabel name) read found is =
+pub text_destination_fault : (text : List ℕ) (statements : List Statement) (labels : List Label) (fault : AsmFault) → ReadsAll (lines_of text) statements →
+    FindsLabels statements labels → IsDestinationFault (destinations_of statements) (names_of labels) fault → IsRefused text fault
+text_destination_fault text statements labels (BadWord line) read found is = absurd is
+text_destination_fault text statements labels (TwiceLabel name) read found is = absurd is
+text_destination_fault text statements labels (NoLabel name) read found is =
     record { statements = statements; labels = labels; read = has_once text statements labels read found; missing = is }
-text_target_fault text statements labels (OutOfReach line) read found is = absurd is
-text_target_fault text statements labels OutOfMemory read found is = tt
+text_destination_fault text statements labels (OutOfReach line) read found is = absurd is
+text_destination_fault text statements labels OutOfMemory read found is = tt
 
-has_targets : (text : List ℕ) (statements : List Statement) (labels : List Label) → ReadsAll (lines_of text) statements → FindsLabels statements labels →
-    All (Contains (names_of labels)) (targets_of statements) → HasTargets text statements labels
-has_targets text statements labels read found there = record { read = has_once text statements labels read found; there = there }
+has_destinations : (text : List ℕ) (statements : List Statement) (labels : List Label) → ReadsAll (lines_of text) statements → FindsLabels statements labels →
+    All (Contains (names_of labels)) (destinations_of statements) → HasDestinations text statements labels
+has_destinations text statements labels read found there = record { read = has_once text statements labels read found; there = there }
 
 pub text_code_fault : (text : List ℕ) (statements : List Statement) (labels : List Label) (fault : AsmFault) → ReadsAll (lines_of text) statements →
-    FindsLabels statements labels → All (Contains (names_of labels)) (targets_of statements) → IsCodeFault labels statements fault → IsRefused text fault
+    FindsLabels statements labels → All (Contains (names_of labels)) (destinations_of statements) → IsCodeFault labels statements fault → IsRefused text fault
 text_code_fault text statements labels (BadWord line) read found there is = absurd is
 text_code_fault text statements labels (TwiceLabel name) read found there is = absurd is
 text_code_fault text statements labels (NoLabel name) read found there is = absurd is
 text_code_fault text statements labels (OutOfReach line) read found there is =
-    record { statements = statements; labels = labels; read = has_targets text statements labels read found there; beyond = is }
+    record { statements = statements; labels = labels; read = has_destinations text statements labels read found there; beyond = is }
 text_code_fault text statements labels OutOfMemory read found there is = tt
 
 pub text_assembled : (text : List ℕ) (statements : List Statement) (code : Code) → ReadsAll (lines_of text) statements → FindsLabels statements code.labels →
-    All (Contains (names_of code.labels)) (targets_of statements) → AreBytes code.labels 0 statements code.bytes → IsAssembled text code
+    All (Contains (names_of code.labels)) (destinations_of statements) → AreBytes code.labels 0 statements code.bytes → IsAssembled text code
 text_assembled text statements code read found there bytes =
-    record { statements = statements; read = has_targets text statements code.labels read found there; bytes = bytes }
+    record { statements = statements; read = has_destinations text statements code.labels read found there; bytes = bytes }

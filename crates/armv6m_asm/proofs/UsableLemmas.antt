@@ -7,12 +7,12 @@ use Rattle.std.specs.Str.{IsAscii}
 use Rattle.std.proofs.lemmas.Bool.Decides.{nat_tests}
 use Rattle.armv6m_forms.specs.declared.form.Aim.{Aim}
 use Rattle.armv6m_forms.specs.declared.form.Aim.TheVariants as aims
-use Rattle.armv6m_asm.specs.declared.statement.Target.TheVariants as targets
+use Rattle.armv6m_asm.specs.declared.statement.Destination.TheVariants as destinations
 use Rattle.armv6m_asm.specs.declared.statement.Operation.{Operation}
 use Rattle.armv6m_asm.specs.declared.statement.Operation.TheVariants as operations
 use Rattle.armv6m_asm.specs.declared.statement.Statement.{Statement}
 use Rattle.armv6m_asm.specs.Token.{Token, is_letter, is_digit, tokens_of}
-use Rattle.armv6m_asm.specs.Statement.{is_name, exactly, low_register, name, target, comma, colon, Are, Begin, AreAimed, AreOperation, AreStatement}
+use Rattle.armv6m_asm.specs.Statement.{is_name, exactly, low_register, name, destination, comma, colon, Are, Begin, AreAimed, AreOperation, AreStatement}
 use Rattle.armv6m_asm.specs.Statement.{IsStatement}
 use Rattle.armv6m_asm.specs.Usable.{IsUsableOperation, IsUsable}
 
@@ -43,22 +43,23 @@ name_ascii [] is i = absurd (cc)
 name_ascii (first ∷ rest) is zero = letter_small first (first_part _ (list_all (λ byte. is_letter byte || is_digit byte) rest) is)
 name_ascii (first ∷ rest) is (suc i) = rest_ascii rest (second_part (is_letter first) _ is) i
 
--- ---- targets
+-- ---- destinations
 
-branch_name : (text : List ℕ) (label : Bor (List ℕ)) (tokens : List Token) → Are (exactly text ∷ target (targets.Label label) ∷ []) tokens → IsAscii label.now
+branch_name : (text : List ℕ) (label : Bor (List ℕ)) (tokens : List Token) → Are (exactly text ∷ destination (destinations.Label label) ∷ []) tokens →
+    IsAscii label.now
 branch_name text label [] are = absurd are
 branch_name text label (t ∷ []) are = absurd are.1
 branch_name text label (t ∷ u ∷ tokens) are = name_ascii label.now are.1.0.1
 
 load_name : (text : List ℕ) (r : ℕ) (label : Bor (List ℕ)) (tokens : List Token) →
-    Are (exactly text ∷ low_register r ∷ comma ∷ target (targets.Label label) ∷ []) tokens → IsAscii label.now
+    Are (exactly text ∷ low_register r ∷ comma ∷ destination (destinations.Label label) ∷ []) tokens → IsAscii label.now
 load_name text r label [] are = absurd are
 load_name text r label (t ∷ []) are = absurd are.1
 load_name text r label (t ∷ u ∷ []) are = absurd are.1.1
 load_name text r label (t ∷ u ∷ v ∷ []) are = absurd are.1.1.1
 load_name text r label (t ∷ u ∷ v ∷ w ∷ tokens) are = name_ascii label.now are.1.1.1.0.1
 
-aimed_name : (aim : Aim) (label : Bor (List ℕ)) (tokens : List Token) → AreAimed aim (targets.Label label) tokens → IsAscii label.now
+aimed_name : (aim : Aim) (label : Bor (List ℕ)) (tokens : List Token) → AreAimed aim (destinations.Label label) tokens → IsAscii label.now
 aimed_name aims.Branch label tokens are = branch_name _ label tokens are
 aimed_name (aims.BranchIf condition) label tokens are = branch_name _ label tokens are
 aimed_name aims.BranchLink label tokens are = branch_name _ label tokens are
@@ -72,8 +73,8 @@ operation_usable operations.Nothing tokens are = tt
 operation_usable (operations.Word value) tokens are = tt
 operation_usable operations.Align tokens are = tt
 operation_usable (operations.Plain instr) tokens are = (are.stands 0).fields
-operation_usable (operations.Aimed aim (targets.Label label)) tokens are = aimed_name aim label tokens are
-operation_usable (operations.Aimed aim (targets.Address address)) tokens are = tt
+operation_usable (operations.Aimed aim (destinations.Label label)) tokens are = aimed_name aim label tokens are
+operation_usable (operations.Aimed aim (destinations.Address address)) tokens are = tt
 
 labelled : (label : Bor (List ℕ)) (operation : Operation) (tokens : List Token) → Begin (name label.now ∷ colon ∷ []) (AreOperation operation) tokens →
     IsAscii label.now × IsUsableOperation operation

@@ -1,5 +1,5 @@
 -- How many bytes the code of an instruction has.
-use Rattle.std.proofs.Common.{◌≡◌, ℕ, Bool, true, false, cond, List, [], ◌∷◌, length, Option, Some, None, refl, sym, ap, subst, ◌∙◌, inl, inr}
+use Rattle.std.proofs.Common.{◌≡◌, ℕ, Bool, true, false, cond, List, [], ◌∷◌, length, drop, Option, Some, None, refl, sym, ap, subst, ◌∙◌, inl, inr}
 use Rattle.std.specs.Prelude.{nat_le, nat_eq, ◌/◌, ◌^◌}
 use Rattle.armv6m_decode.specs.declared.instr.Instr.{Instr}
 use Rattle.armv6m_decode.specs.declared.instr.Instr.TheVariants as instr
@@ -38,6 +38,103 @@ AreNarrow (r ∷ rs) = ((half : ℕ) → width (r.form half) ≡ 2) × (AreNarro
 abbrev AreWide : List PairRow → Type 0
 AreWide [] = Unit {0}
 AreWide (r ∷ rs) = ((first second : ℕ) → width (r.form first second) ≡ 4) × (AreWide rs)
+
+last_narrow : AreNarrow (drop 39 rows)
+unfolding rows
+last_narrow = (
+  λ h. refl,
+  (
+    λ h. refl,
+    (
+      λ h. refl,
+      (
+        λ h. refl,
+        (
+          λ h. refl,
+          (
+            λ h. refl,
+            (
+              λ h. refl,
+              (
+                λ h. refl,
+                (
+                  λ h. refl,
+                  (
+                    λ h. refl,
+                    (
+                      λ h. refl,
+                      (
+                        λ h. refl,
+                        (
+                          λ h. refl,
+                          (
+                            λ h. refl,
+                            (
+                              λ h. refl,
+                              (
+                                λ h. refl,
+                                (
+                                  λ h. refl,
+                                  (
+                                    λ h. refl,
+                                    (
+                                      λ h. refl,
+                                      (
+                                        λ h. refl,
+                                        (
+                                          λ h. refl,
+                                          (
+                                            λ h. refl,
+                                            (
+                                              λ h. refl,
+                                              (
+                                                λ h. refl,
+                                                (
+                                                  λ h. refl,
+                                                  (
+                                                    λ h. refl,
+                                                    (
+                                                      λ h. refl,
+                                                      (
+                                                        λ h. refl,
+                                                        (
+                                                          λ h. refl,
+                                                          (
+                                                            λ h. refl,
+                                                            (
+                                                              λ h. refl,
+                                                              (λ h. refl, (λ h. refl, (λ h. refl, (λ h. refl, (λ h. refl, (λ h. refl, (λ h. refl, (λ h. refl, tt)))))))),
+                                                            ),
+                                                          ),
+                                                        ),
+                                                      ),
+                                                    ),
+                                                  ),
+                                                ),
+                                              ),
+                                            ),
+                                          ),
+                                        ),
+                                      ),
+                                    ),
+                                  ),
+                                ),
+                              ),
+                            ),
+                          ),
+                        ),
+                      ),
+                    ),
+                  ),
+                ),
+              ),
+            ),
+          ),
+        ),
+      ),
+    ),
+  ),
+)
 
 rows_narrow : AreNarrow rows
 unfolding rows
@@ -103,124 +200,7 @@ rows_narrow = (
                                                             λ h. refl,
                                                             (
                                                               λ h. refl,
-                                                              (
-                                                                λ h. refl,
-                                                                (
-                                                                  λ h. refl,
-                                                                  (
-                                                                    λ h. refl,
-                                                                    (
-                                                                      λ h. refl,
-                                                                      (
-                                                                        λ h. refl,
-                                                                        (
-                                                                          λ h. refl,
-                                                                          (
-                                                                            λ h. refl,
-                                                                            (
-                                                                              λ h. refl,
-                                                                              (
-                                                                                λ h. refl,
-                                                                                (
-                                                                                  λ h. refl,
-                                                                                  (
-                                                                                    λ h. refl,
-                                                                                    (
-                                                                                      λ h. refl,
-                                                                                      (
-                                                                                        λ h. refl,
-                                                                                        (
-                                                                                          λ h. refl,
-                                                                                          (
-                                                                                            λ h. refl,
-                                                                                            (
-                                                                                              λ h. refl,
-                                                                                              (
-                                                                                                λ h. refl,
-                                                                                                (
-                                                                                                  λ h. refl,
-                                                                                                  (
-                                                                                                    λ h. refl,
-                                                                                                    (
-                                                                                                      λ h. refl,
-                                                                                                      (
-                                                                                                        λ h. refl,
-                                                                                                        (
-                                                                                                          λ h. refl,
-                                                                                                          (
-                                                                                                            λ h. refl,
-                                                                                                            (
-                                                                                                              λ h. refl,
-                                                                                                              (
-                                                                                                                λ h. refl,
-                                                                                                                (
-                                                                                                                  λ h. refl,
-                                                                                                                  (
-                                                                                                                    λ h. refl,
-                                                                                                                    (
-                                                                                                                      λ h. refl,
-                                                                                                                      (
-                                                                                                                        λ h. refl,
-                                                                                                                        (
-                                                                                                                          λ h. refl,
-                                                                                                                          (
-                                                                                                                            λ h. refl,
-                                                                                                                            (
-                                                                                                                              λ h. refl,
-                                                                                                                              (
-                                                                                                                                λ h. refl,
-                                                                                                                                (
-                                                                                                                                  λ h. refl,
-                                                                                                                                  (
-                                                                                                                                    λ h. refl,
-                                                                                                                                    (
-                                                                                                                                      λ h. refl,
-                                                                                                                                      (
-                                                                                                                                        λ h. refl,
-                                                                                                                                        (
-                                                                                                                                          λ h. refl,
-                                                                                                                                          (
-                                                                                                                                            λ h. refl,
-                                                                                                                                            (λ h. refl, (λ h. refl, (λ h. refl, (λ h. refl, (λ h. refl, (λ h. refl, (λ h. refl, (λ h. refl, tt)))))))),
-                                                                                                                                          ),
-                                                                                                                                        ),
-                                                                                                                                      ),
-                                                                                                                                    ),
-                                                                                                                                  ),
-                                                                                                                                ),
-                                                                                                                              ),
-                                                                                                                            ),
-                                                                                                                          ),
-                                                                                                                        ),
-                                                                                                                      ),
-                                                                                                                    ),
-                                                                                                                  ),
-                                                                                                                ),
-                                                                                                              ),
-                                                                                                            ),
-                                                                                                          ),
-                                                                                                        ),
-                                                                                                      ),
-                                                                                                    ),
-                                                                                                  ),
-                                                                                                ),
-                                                                                              ),
-                                                                                            ),
-                                                                                          ),
-                                                                                        ),
-                                                                                      ),
-                                                                                    ),
-                                                                                  ),
-                                                                                ),
-                                                                              ),
-                                                                            ),
-                                                                          ),
-                                                                        ),
-                                                                      ),
-                                                                    ),
-                                                                  ),
-                                                                ),
-                                                              ),
+                                                              (λ h. refl, (λ h. refl, (λ h. refl, (λ h. refl, (λ h. refl, (λ h. refl, (λ h. refl, (λ h. refl, last_narrow)))))))),
                                                             ),
                                                           ),
                                                         ),
@@ -298,7 +278,7 @@ length-code_of i (Pair first second) is = sym (pair_width first second i is.1)
 
 abbrev HasWidth : Form → ℕ → Type 0
 HasWidth (Plain mnemonic operands) n = Unit {0}
-HasWidth (Aimed aim target) n = n ≡ aim_width aim
+HasWidth (Aimed aim destination) n = n ≡ aim_width aim
 
 plain_width : (b : Bool) (first second : Form) (n : ℕ) → HasWidth first n → HasWidth second n → HasWidth (cond b first second) n
 plain_width true first second n f s = f
@@ -389,50 +369,50 @@ form_width (instr.Other Dsb) at = tt
 form_width (instr.Other Dmb) at = tt
 form_width (instr.Other Isb) at = tt
 
-clash : (a : Aim) (target : ℕ) (m : Mnemonic) (operands : Operands) → Aimed a target ≡ Plain m operands → ⊥
-clash a target m operands is = cc
+clash : (a : Aim) (destination : ℕ) (m : Mnemonic) (operands : Operands) → Aimed a destination ≡ Plain m operands → ⊥
+clash a destination m operands is = cc
 
--- an instruction that is written with a target isn't read as another form
-not_plain : (i : Instr) (a : Aim) (target : ℕ) → IsReadToo i (Aimed a target) → ⊥
-not_plain (instr.Alu (LslsImmediate d m immediate)) a target is = clash a target _ _ is.1
-not_plain (instr.Alu (LsrsImmediate d m immediate)) a target is = is
-not_plain (instr.Alu (AsrsImmediate d m immediate)) a target is = is
-not_plain (instr.Alu (AddsRegister d n m)) a target is = is
-not_plain (instr.Alu (SubsRegister d n m)) a target is = is
-not_plain (instr.Alu (AddsImmediate3 d n immediate)) a target is = is
-not_plain (instr.Alu (SubsImmediate3 d n immediate)) a target is = is
-not_plain (instr.Alu (MovsImmediate d immediate)) a target is = is
-not_plain (instr.Alu (CmpImmediate n immediate)) a target is = is
-not_plain (instr.Alu (AddsImmediate8 d immediate)) a target is = is
-not_plain (instr.Alu (SubsImmediate8 d immediate)) a target is = is
-not_plain (instr.Alu (Ands d m)) a target is = is
-not_plain (instr.Alu (Eors d m)) a target is = is
-not_plain (instr.Alu (LslsRegister d m)) a target is = is
-not_plain (instr.Alu (LsrsRegister d m)) a target is = is
-not_plain (instr.Alu (AsrsRegister d m)) a target is = is
-not_plain (instr.Alu (Adcs d m)) a target is = is
-not_plain (instr.Alu (Sbcs d m)) a target is = is
-not_plain (instr.Alu (Rors d m)) a target is = is
-not_plain (instr.Alu (Tst d m)) a target is = is
-not_plain (instr.Alu (Rsbs d n)) a target is = is
-not_plain (instr.Alu (CmpRegister d m)) a target is = is
-not_plain (instr.Alu (Cmn d m)) a target is = is
-not_plain (instr.Alu (Orrs d m)) a target is = is
-not_plain (instr.Alu (Muls d m)) a target is = is
-not_plain (instr.Alu (Bics d m)) a target is = is
-not_plain (instr.Alu (Mvns d m)) a target is = is
-not_plain (instr.Alu (AddHigh d m)) a target is = is
-not_plain (instr.Alu (CmpHigh n m)) a target is = is
-not_plain (instr.Alu (MovHigh d m)) a target is = is
-not_plain (instr.Memory op) a target is = is
-not_plain (instr.Many op) a target is = is
-not_plain (instr.Branch op) a target is = is
-not_plain (instr.Other op) a target is = is
+-- an instruction that is written with a destination isn't read as another form
+not_plain : (i : Instr) (a : Aim) (destination : ℕ) → IsReadToo i (Aimed a destination) → ⊥
+not_plain (instr.Alu (LslsImmediate d m immediate)) a destination is = clash a destination _ _ is.1
+not_plain (instr.Alu (LsrsImmediate d m immediate)) a destination is = is
+not_plain (instr.Alu (AsrsImmediate d m immediate)) a destination is = is
+not_plain (instr.Alu (AddsRegister d n m)) a destination is = is
+not_plain (instr.Alu (SubsRegister d n m)) a destination is = is
+not_plain (instr.Alu (AddsImmediate3 d n immediate)) a destination is = is
+not_plain (instr.Alu (SubsImmediate3 d n immediate)) a destination is = is
+not_plain (instr.Alu (MovsImmediate d immediate)) a destination is = is
+not_plain (instr.Alu (CmpImmediate n immediate)) a destination is = is
+not_plain (instr.Alu (AddsImmediate8 d immediate)) a destination is = is
+not_plain (instr.Alu (SubsImmediate8 d immediate)) a destination is = is
+not_plain (instr.Alu (Ands d m)) a destination is = is
+not_plain (instr.Alu (Eors d m)) a destination is = is
+not_plain (instr.Alu (LslsRegister d m)) a destination is = is
+not_plain (instr.Alu (LsrsRegister d m)) a destination is = is
+not_plain (instr.Alu (AsrsRegister d m)) a destination is = is
+not_plain (instr.Alu (Adcs d m)) a destination is = is
+not_plain (instr.Alu (Sbcs d m)) a destination is = is
+not_plain (instr.Alu (Rors d m)) a destination is = is
+not_plain (instr.Alu (Tst d m)) a destination is = is
+not_plain (instr.Alu (Rsbs d n)) a destination is = is
+not_plain (instr.Alu (CmpRegister d m)) a destination is = is
+not_plain (instr.Alu (Cmn d m)) a destination is = is
+not_plain (instr.Alu (Orrs d m)) a destination is = is
+not_plain (instr.Alu (Muls d m)) a destination is = is
+not_plain (instr.Alu (Bics d m)) a destination is = is
+not_plain (instr.Alu (Mvns d m)) a destination is = is
+not_plain (instr.Alu (AddHigh d m)) a destination is = is
+not_plain (instr.Alu (CmpHigh n m)) a destination is = is
+not_plain (instr.Alu (MovHigh d m)) a destination is = is
+not_plain (instr.Memory op) a destination is = is
+not_plain (instr.Many op) a destination is = is
+not_plain (instr.Branch op) a destination is = is
+not_plain (instr.Other op) a destination is = is
 
--- an instruction with a target is as wide as its mnemonic says
-pub aimed_width : (i : Instr) (at : ℕ) (a : Aim) (target : ℕ) → StandsFor i at (Aimed a target) → width i ≡ aim_width a
-aimed_width i at a target stands =
+-- an instruction with a destination is as wide as its mnemonic says
+pub aimed_width : (i : Instr) (at : ℕ) (a : Aim) (destination : ℕ) → StandsFor i at (Aimed a destination) → width i ≡ aim_width a
+aimed_width i at a destination stands =
     elim stands.written [
       | inl written ↦ subst (λ (f : Form). HasWidth f (width i)) written (form_width i at)
-      | inr too ↦ absurd (not_plain i a target too)
+      | inr too ↦ absurd (not_plain i a destination too)
     ]

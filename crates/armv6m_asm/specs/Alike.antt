@@ -1,24 +1,24 @@
 -- Statements that say the same, wherever the bytes of their names lie.
 use Rattle.std.specs.Prelude.{◌≡◌, ℕ, List, Option, Some, None}
 use Rattle.std.specs.Borrow.{Bor}
-use Rattle.armv6m_asm.specs.declared.statement.Target.{Target}
-use Rattle.armv6m_asm.specs.declared.statement.Target.TheVariants.{Label, Address}
+use Rattle.armv6m_asm.specs.declared.statement.Destination.{Destination}
+use Rattle.armv6m_asm.specs.declared.statement.Destination.TheVariants.{Label, Address}
 use Rattle.armv6m_asm.specs.declared.statement.Operation.{Operation}
 use Rattle.armv6m_asm.specs.declared.statement.Operation.TheVariants.{Nothing, Word, Align, Plain, Aimed}
 use Rattle.armv6m_asm.specs.declared.statement.Statement.{Statement}
 use Rattle.armv6m_asm.specs.Statement.{IsStatement}
 
-abbrev pub AreAlikeTargets : Target → Target → Type 0
-AreAlikeTargets (Label one) (Label other) = one.now ≡ other.now
-AreAlikeTargets (Address one) (Address other) = one ≡ other
-AreAlikeTargets one other = ⊥
+abbrev pub AreAlikeDestinations : Destination → Destination → Type 0
+AreAlikeDestinations (Label one) (Label other) = one.now ≡ other.now
+AreAlikeDestinations (Address one) (Address other) = one ≡ other
+AreAlikeDestinations one other = ⊥
 
 abbrev pub AreAlikeOperations : Operation → Operation → Type 0
 AreAlikeOperations Nothing Nothing = Unit {0}
 AreAlikeOperations (Word one) (Word other) = one ≡ other
 AreAlikeOperations Align Align = Unit {0}
 AreAlikeOperations (Plain one) (Plain other) = one ≡ other
-AreAlikeOperations (Aimed one to) (Aimed other too) = (one ≡ other) × AreAlikeTargets to too
+AreAlikeOperations (Aimed one to) (Aimed other too) = (one ≡ other) × AreAlikeDestinations to too
 AreAlikeOperations one other = ⊥
 
 abbrev pub AreAlikeLabels : Option (Bor (List ℕ)) → Option (Bor (List ℕ)) → Type 0

@@ -15,8 +15,8 @@ use Rattle.armv6m_forms.specs.declared.form.Aim.{Aim}
 use Rattle.armv6m_forms.specs.declared.form.Aim.TheVariants.{BranchLink}
 use Rattle.armv6m_forms.specs.declared.form.Form.TheVariants as form
 use Rattle.armv6m_forms.specs.Form.{StandsFor, HasNoInstruction}
-use Rattle.armv6m_asm.specs.declared.statement.Target.{Target}
-use Rattle.armv6m_asm.specs.declared.statement.Target.TheVariants as target
+use Rattle.armv6m_asm.specs.declared.statement.Destination.{Destination}
+use Rattle.armv6m_asm.specs.declared.statement.Destination.TheVariants as destination
 use Rattle.armv6m_asm.specs.declared.statement.Operation.{Operation}
 use Rattle.armv6m_asm.specs.declared.statement.Operation.TheVariants.{Nothing, Word, Align, Plain, Aimed}
 use Rattle.armv6m_asm.specs.declared.statement.Statement.{Statement}
@@ -43,7 +43,7 @@ is_wide _ = false
 abbrev pub width : Instr → ℕ
 width i = if is_wide i then 4 else 2
 
--- the same of one with a target
+-- the same of one with a destination
 abbrev pub aim_width : Aim → ℕ
 aim_width BranchLink = 4
 aim_width _ = 2
@@ -96,33 +96,33 @@ pub record IsFirstTwice (names : List (List ℕ)) (name : List ℕ) : Type 0 whe
   pub once : AreOnce earlier
   pub twice : Contains earlier name
 
--- ---- targets
+-- ---- destinations
 
-abbrev pub name_in : Target → List (List ℕ)
-name_in (target.Label name) = name.now ∷ []
-name_in (target.Address address) = []
+abbrev pub name_in : Destination → List (List ℕ)
+name_in (destination.Label name) = name.now ∷ []
+name_in (destination.Address address) = []
 
 abbrev pub named_by : Operation → List (List ℕ)
 named_by (Aimed aim t) = name_in t
 named_by _ = []
 
--- the names that some statements have as targets, in their order
-abbrev pub targets_of : List Statement → List (List ℕ)
-targets_of [] = []
-targets_of (s ∷ statements) = named_by s.operation ++ targets_of statements
+-- the names that some statements have as destinations, in their order
+abbrev pub destinations_of : List Statement → List (List ℕ)
+destinations_of [] = []
+destinations_of (s ∷ statements) = named_by s.operation ++ destinations_of statements
 
--- the first target that is no label
-pub record IsFirstMissing (targets names : List (List ℕ)) (name : List ℕ) : Type 0 where
+-- the first destination that is no label
+pub record IsFirstMissing (destinations names : List (List ℕ)) (name : List ℕ) : Type 0 where
   pub earlier : List (List ℕ)
   pub later : List (List ℕ)
-  pub targets_are : targets ≡ earlier ++ name ∷ later
+  pub destinations_are : destinations ≡ earlier ++ name ∷ later
   pub there : All (Contains names) earlier
   pub missing : Contains names name → ⊥
 
--- the address that a target stands for
-abbrev pub LeadsTo : List Label → Target → ℕ → Type 0
-LeadsTo labels (target.Label name) address = Contains labels (record { name = name.now; place = address })
-LeadsTo labels (target.Address written) address = address ≡ written
+-- the address that a destination stands for
+abbrev pub LeadsTo : List Label → Destination → ℕ → Type 0
+LeadsTo labels (destination.Label name) address = Contains labels (record { name = name.now; place = address })
+LeadsTo labels (destination.Address written) address = address ≡ written
 
 -- ---- code
 
@@ -137,14 +137,14 @@ pub record IsCodeOf (i : Instr) (bytes : List ℕ) : Type 0 where
   pub encoded : IsEncodedAs i encoding
   pub bytes_are : bytes ≡ code_of encoding
 
--- the code of an instruction whose target is an address
+-- the code of an instruction whose destination is an address
 pub record IsAimedCode (aim : Aim) (address at : ℕ) (bytes : List ℕ) : Type 0 where
   pub instr : Instr
   pub stands : StandsFor instr at (form.Aimed aim address)
   pub code : IsCodeOf instr bytes
 
--- the code of one whose target may be a label
-pub record LeadsByCode (labels : List Label) (aim : Aim) (t : Target) (at : ℕ) (bytes : List ℕ) : Type 0 where
+-- the code of one whose destination may be a label
+pub record LeadsByCode (labels : List Label) (aim : Aim) (t : Destination) (at : ℕ) (bytes : List ℕ) : Type 0 where
   pub address : ℕ
   pub leads : LeadsTo labels t address
   pub code : IsAimedCode aim address at bytes
@@ -165,8 +165,8 @@ AreBytes labels from (s ∷ statements) bytes =
     (own : List ℕ) × (rest : List ℕ) × (bytes ≡ own ++ rest) × (length own ≡ size_of s.operation from) × AreBytesOf labels s.operation from own
     × AreBytes labels (from + size_of s.operation from) statements rest
 
--- an instruction whose target is out of its reach
-pub record IsBeyond (labels : List Label) (aim : Aim) (t : Target) (at : ℕ) : Type 0 where
+-- an instruction whose destination is out of its reach
+pub record IsBeyond (labels : List Label) (aim : Aim) (t : Destination) (at : ℕ) : Type 0 where
   pub address : ℕ
   pub leads : LeadsTo labels t address
   pub none : HasNoInstruction at (form.Aimed aim address)
@@ -240,15 +240,15 @@ pub record HasLabelsOnce (text : List ℕ) (statements : List Statement) (labels
   pub read : AreOfText text statements labels
   pub once : AreOnce (names_of labels)
 
--- and each target that is a name is a label
-pub record HasTargets (text : List ℕ) (statements : List Statement) (labels : List Label) : Type 0 where
+-- and each destination that is a name is a label
+pub record HasDestinations (text : List ℕ) (statements : List Statement) (labels : List Label) : Type 0 where
   pub read : HasLabelsOnce text statements labels
-  pub there : All (Contains (names_of labels)) (targets_of statements)
+  pub there : All (Contains (names_of labels)) (destinations_of statements)
 
 -- the code of a text
 pub record IsAssembled (text : List ℕ) (code : Code) : Type 0 where
   pub statements : List Statement
-  pub read : HasTargets text statements code.labels
+  pub read : HasDestinations text statements code.labels
   pub bytes : AreBytes code.labels 0 statements code.bytes
 
 pub record HasTwiceLabel (text name : List ℕ) : Type 0 where
@@ -261,12 +261,12 @@ pub record HasNoLabel (text name : List ℕ) : Type 0 where
   pub statements : List Statement
   pub labels : List Label
   pub read : HasLabelsOnce text statements labels
-  pub missing : IsFirstMissing (targets_of statements) (names_of labels) name
+  pub missing : IsFirstMissing (destinations_of statements) (names_of labels) name
 
 pub record HasOutOfReach (text : List ℕ) (line : ℕ) : Type 0 where
   pub statements : List Statement
   pub labels : List Label
-  pub read : HasTargets text statements labels
+  pub read : HasDestinations text statements labels
   pub beyond : IsFirstBeyond labels statements line
 
 -- why a text isn't assembled: the four checks go over the whole text, one behind the other

@@ -56,9 +56,9 @@ IsLabelFault statements (NoLabel name) = ⊥
 IsLabelFault statements (OutOfReach line) = ⊥
 IsLabelFault statements OutOfMemory = Unit {0}
 
--- ---- targets
+-- ---- destinations
 
--- a statement's target is no label
+-- a statement's destination is no label
 pub record IsMissing (operation : Operation) (names : List (List ℕ)) (name : List ℕ) : Type 0 where
   pub named : named_by operation ≡ name ∷ []
   pub missing : Contains names name → ⊥
@@ -70,12 +70,12 @@ IsMissingFault operation names (NoLabel name) = IsMissing operation names name
 IsMissingFault operation names (OutOfReach line) = ⊥
 IsMissingFault operation names OutOfMemory = Unit {0}
 
-abbrev pub IsTargetFault : List (List ℕ) → List (List ℕ) → AsmFault → Type 0
-IsTargetFault targets names (BadWord line) = ⊥
-IsTargetFault targets names (TwiceLabel name) = ⊥
-IsTargetFault targets names (NoLabel name) = IsFirstMissing targets names name
-IsTargetFault targets names (OutOfReach line) = ⊥
-IsTargetFault targets names OutOfMemory = Unit {0}
+abbrev pub IsDestinationFault : List (List ℕ) → List (List ℕ) → AsmFault → Type 0
+IsDestinationFault destinations names (BadWord line) = ⊥
+IsDestinationFault destinations names (TwiceLabel name) = ⊥
+IsDestinationFault destinations names (NoLabel name) = IsFirstMissing destinations names name
+IsDestinationFault destinations names (OutOfReach line) = ⊥
+IsDestinationFault destinations names OutOfMemory = Unit {0}
 
 -- ---- code
 

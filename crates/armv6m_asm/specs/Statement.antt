@@ -13,8 +13,8 @@ use Rattle.armv6m_forms.specs.declared.form.Aim.TheVariants as aims
 use Rattle.armv6m_forms.specs.declared.form.Form.TheVariants as forms
 use Rattle.armv6m_forms.specs.Form.{StandsFor}
 use Rattle.armv6m_forms.specs.Text.{text_of, aim_text, register_text, special_text, IsSpecial}
-use Rattle.armv6m_asm.specs.declared.statement.Target.{Target}
-use Rattle.armv6m_asm.specs.declared.statement.Target.TheVariants as targets
+use Rattle.armv6m_asm.specs.declared.statement.Destination.{Destination}
+use Rattle.armv6m_asm.specs.declared.statement.Destination.TheVariants as destinations
 use Rattle.armv6m_asm.specs.declared.statement.Operation.{Operation}
 use Rattle.armv6m_asm.specs.declared.statement.Operation.TheVariants as operations
 use Rattle.armv6m_asm.specs.declared.statement.Statement.{Statement}
@@ -70,10 +70,10 @@ number value (mark byte) = ⊥
 abbrev pub name : List ℕ → Token → Type 0
 name bytes token = (token ≡ word bytes) × IsTrue (is_name bytes)
 
-abbrev pub target : Target → Token → Type 0
-target (targets.Label label) token = name label.now token
-target (targets.Address address) (word bytes) = IsAddress bytes address
-target (targets.Address address) (mark byte) = ⊥
+abbrev pub destination : Destination → Token → Type 0
+destination (destinations.Label label) token = name label.now token
+destination (destinations.Address address) (word bytes) = IsAddress bytes address
+destination (destinations.Address address) (mark byte) = ⊥
 
 abbrev pub comma : Token → Type 0
 comma token = token ≡ mark 44
@@ -141,20 +141,20 @@ Spell (operands.ToSpecial special n) = Are (special_register special ∷ comma �
 
 -- ---- statements
 
--- an instruction without a target: the one that stands for the mnemonic and the operands, wherever it stands
+-- an instruction without a destination: the one that stands for the mnemonic and the operands, wherever it stands
 pub record ArePlain (instr : Instr) (tokens : List Token) : Type 0 where
   pub mnemonic : Mnemonic
   pub operands : Operands
   pub spelled : Begin (exactly (text_of mnemonic) ∷ []) (Spell operands) tokens
   pub stands : (at : ℕ) → StandsFor instr at (forms.Plain mnemonic operands)
 
--- an instruction with a target
-abbrev pub AreAimed : Aim → Target → List Token → Type 0
-AreAimed aims.Branch to tokens = Are (exactly (aim_text aims.Branch) ∷ target to ∷ []) tokens
-AreAimed (aims.BranchIf condition) to tokens = Are (exactly (aim_text (aims.BranchIf condition)) ∷ target to ∷ []) tokens
-AreAimed aims.BranchLink to tokens = Are (exactly (aim_text aims.BranchLink) ∷ target to ∷ []) tokens
-AreAimed (aims.Load t) to tokens = Are (exactly (aim_text (aims.Load t)) ∷ low_register t ∷ comma ∷ target to ∷ []) tokens
-AreAimed (aims.Address d) to tokens = Are (exactly (aim_text (aims.Address d)) ∷ low_register d ∷ comma ∷ target to ∷ []) tokens
+-- an instruction with a destination
+abbrev pub AreAimed : Aim → Destination → List Token → Type 0
+AreAimed aims.Branch to tokens = Are (exactly (aim_text aims.Branch) ∷ destination to ∷ []) tokens
+AreAimed (aims.BranchIf condition) to tokens = Are (exactly (aim_text (aims.BranchIf condition)) ∷ destination to ∷ []) tokens
+AreAimed aims.BranchLink to tokens = Are (exactly (aim_text aims.BranchLink) ∷ destination to ∷ []) tokens
+AreAimed (aims.Load t) to tokens = Are (exactly (aim_text (aims.Load t)) ∷ low_register t ∷ comma ∷ destination to ∷ []) tokens
+AreAimed (aims.Address d) to tokens = Are (exactly (aim_text (aims.Address d)) ∷ low_register d ∷ comma ∷ destination to ∷ []) tokens
 
 -- the tokens of an operation
 abbrev pub AreOperation : Operation → List Token → Type 0

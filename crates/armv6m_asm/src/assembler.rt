@@ -5,7 +5,7 @@ ghost use Rattle.armv6m_asm.specs.Assembly.{AlignPads, IsAssembled, IsRefused};
 
 use crate::code::{Code, write_code};
 use crate::fault::AsmFault;
-use crate::find::{check_targets, find_labels};
+use crate::find::{check_destinations, find_labels};
 use crate::read::read_all;
 use std::alloc::Global;
 
@@ -16,7 +16,7 @@ pub fn assemble(alloc: Global, text: &[u8]) -> Result<Code, AsmFault>
 {
     let statements = read_all(alloc, text)?;
     let labels = find_labels(alloc, statements.as_slice())?;
-    check_targets(alloc, statements.as_slice(), &labels)?;
+    check_destinations(alloc, statements.as_slice(), &labels)?;
     let bytes = write_code(alloc, statements.as_slice(), &labels)?;
     Ok(Code { bytes, labels })
 }

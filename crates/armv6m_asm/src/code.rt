@@ -4,13 +4,13 @@ ghost use Rattle.std.specs.Prelude.{◌≡◌, ◌<◌, ◌^◌, ◌++◌, All, 
 ghost use Rattle.armv6m_encode.specs.Encoding.{fields_fit};
 ghost use Rattle.armv6m_asm.specs.Usable.{IsUsable, IsUsableOperation};
 ghost use Rattle.armv6m_asm.specs.Label.{names_of};
-ghost use Rattle.armv6m_asm.specs.Assembly.{place_after, name_in, named_by, targets_of, padding, LeadsTo, code_of, AreBytes};
+ghost use Rattle.armv6m_asm.specs.Assembly.{place_after, name_in, named_by, destinations_of, padding, LeadsTo, code_of, AreBytes};
 ghost use Rattle.armv6m_asm.specs.Passes.{AddsCode, AddsBytes, IsBeyondFault, IsCodeFault};
 
 use crate::fault::AsmFault;
 use crate::labels::Labels;
 use crate::size::size;
-use crate::statement::{Operation, Statement, Target};
+use crate::statement::{Destination, Operation, Statement};
 use armv6m_decode::Instr;
 use armv6m_encode::{Encoding, encode};
 use armv6m_forms::{Aim, reach};
@@ -24,7 +24,7 @@ pub struct Code {
     pub labels: Labels,
 }
 
-/// The bytes of the statements; the first whose target is out of reach is at fault.
+/// The bytes of the statements; the first whose destination is out of reach is at fault.
 pub(crate) fn write_code(
     alloc: Global,
     statements: &[Statement],
@@ -32,7 +32,7 @@ pub(crate) fn write_code(
 ) -> Result<Bytes, AsmFault>
     requires usable { All IsUsable statements.now }
     requires fits { place_after 0 statements.now < 2 ^ 32 }
-    requires there { All (Contains (names_of labels.now)) (targets_of statements.now) }
+    requires there { All (Contains (names_of labels.now)) (destinations_of statements.now) }
     ensures ok { IfOk result (AreBytes labels.now 0 statements.now) }
     ensures err { IfErr result (IsCodeFault labels.now statements.now) }
 {
@@ -65,7 +65,14 @@ fn add_operation(
         Operation::Word { value } => Ok(add(bytes, &value.to_le_bytes())?),
         Operation::Align => Ok(add_padding(bytes, place)?),
         Operation::Plain { instr } => Ok(add_instr(bytes, &instr)?),
-        Operation::Aimed { aim, target } => add_aimed(bytes, aim, target, place, line, labels),
+        Operation::Aimed { aim, destination } => add_aimed(
+            bytes,
+            aim,
+            destination,
+            place,
+            line,
+            labels,
+        ),
     }
 }
 
@@ -105,32 +112,32 @@ fn add(bytes: &mut Vec<u8>, own: &[u8]) -> Result<(), AllocError>
     bytes.extend_from_slice(own)
 }
 
-/// Adds the code of an instruction with a target.
+/// Adds the code of an instruction with a destination.
 fn add_aimed(
     bytes: &mut Vec<u8>,
     aim: Aim,
-    target: Target,
+    destination: Destination,
     place: u32,
     line: u64,
     labels: &Labels,
 ) -> Result<(), AsmFault>
-    requires { All (Contains (names_of labels.now)) (name_in target) }
-    ensures ok { OnOk result (AddsBytes labels.now (Operation.Aimed aim target.entry) place bytes.old.items bytes.new.items) }
-    ensures err { IfErr result (IsBeyondFault labels.now (Operation.Aimed aim target.entry) place line) }
+    requires { All (Contains (names_of labels.now)) (name_in destination) }
+    ensures ok { OnOk result (AddsBytes labels.now (Operation.Aimed aim destination.entry) place bytes.old.items bytes.new.items) }
+    ensures err { IfErr result (IsBeyondFault labels.now (Operation.Aimed aim destination.entry) place line) }
 {
-    match reach(aim, place, address_of(target, labels)) {
+    match reach(aim, place, address_of(destination, labels)) {
         Some(instr) => Ok(add_instr(bytes, &instr)?),
         None => Err(AsmFault::OutOfReach { line }),
     }
 }
 
-/// The address that a target stands for.
-fn address_of(target: Target, labels: &Labels) -> u32
-    requires { All (Contains (names_of labels.now)) (name_in target) }
-    ensures { LeadsTo labels.now target.entry result }
+/// The address that a destination stands for.
+fn address_of(destination: Destination, labels: &Labels) -> u32
+    requires { All (Contains (names_of labels.now)) (name_in destination) }
+    ensures { LeadsTo labels.now destination.entry result }
 {
-    match target {
-        Target::Label { name } => labels.get(name).unwrap(),
-        Target::Address { address } => address,
+    match destination {
+        Destination::Label { name } => labels.get(name).unwrap(),
+        Destination::Address { address } => address,
     }
 }

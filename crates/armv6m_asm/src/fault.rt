@@ -8,17 +8,17 @@ use thiserror::Error;
 /// order, but for want of memory.
 #[derive(Debug, Drop, Error)]
 pub enum AsmFault {
-    /// The line is no statement, an operand that is no target doesn't fit its field, or a `.word` doesn't stand at a
+    /// The line is no statement, an operand that is no destination doesn't fit its field, or a `.word` doesn't stand at a
     /// multiple of 4.
     #[error("BadWord {line}")]
     BadWord { line: u64 },
     /// The line's label stands on an earlier line too.
     #[error("TwiceLabel {}", .name.text())]
     TwiceLabel { name: Word },
-    /// The label that a line names as its target stands on no line.
+    /// The label that a line names as its destination stands on no line.
     #[error("NoLabel {}", .name.text())]
     NoLabel { name: Word },
-    /// The distance to the line's target doesn't fit its field.
+    /// The distance to the line's destination doesn't fit its field.
     #[error("OutOfReach {line}")]
     OutOfReach { line: u64 },
     /// No memory was left, or the code is longer than 4,294,967,295 bytes.

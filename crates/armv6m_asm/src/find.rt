@@ -1,16 +1,16 @@
-//! The labels of the statements, and whether each target is one of them.
+//! The labels of the statements, and whether each destination is one of them.
 
 ghost use Rattle.std.specs.Prelude.{◌≡◌, ◌<◌, ◌^◌, All, Contains, IfOk, IfErr, IfSome, OnOk};
 ghost use Rattle.std.specs.Str.{IsAscii};
 ghost use Rattle.armv6m_asm.specs.Usable.{IsUsable, IsUsableOperation};
 ghost use Rattle.armv6m_asm.specs.Label.{names_of};
-ghost use Rattle.armv6m_asm.specs.Assembly.{place_after, label_at, named_by, targets_of};
-ghost use Rattle.armv6m_asm.specs.Passes.{FindsLabels, AddsLabels, IsAddFault, IsLabelFault, IsMissingFault, IsTargetFault};
+ghost use Rattle.armv6m_asm.specs.Assembly.{place_after, label_at, named_by, destinations_of};
+ghost use Rattle.armv6m_asm.specs.Passes.{FindsLabels, AddsLabels, IsAddFault, IsLabelFault, IsMissingFault, IsDestinationFault};
 
 use crate::fault::AsmFault;
 use crate::labels::{Label, Labels};
 use crate::size::size;
-use crate::statement::{Operation, Statement, Target};
+use crate::statement::{Destination, Operation, Statement};
 use faults::OutOfMemory;
 use octets::Word;
 use std::alloc::Global;
@@ -53,31 +53,31 @@ fn add_label(
     Ok(())
 }
 
-/// Whether each target that is a name is a label; the first that isn't is at fault.
-pub(crate) fn check_targets(
+/// Whether each destination that is a name is a label; the first that isn't is at fault.
+pub(crate) fn check_destinations(
     alloc: Global,
     statements: &[Statement],
     labels: &Labels,
 ) -> Result<(), AsmFault>
     requires { All IsUsable statements.now }
-    ensures ok { OnOk result (All (Contains (names_of labels.now)) (targets_of statements.now)) }
-    ensures err { IfErr result (IsTargetFault (targets_of statements.now) (names_of labels.now)) }
+    ensures ok { OnOk result (All (Contains (names_of labels.now)) (destinations_of statements.now)) }
+    ensures err { IfErr result (IsDestinationFault (destinations_of statements.now) (names_of labels.now)) }
 {
     for statement in statements {
-        check_target(alloc, &statement.operation, labels)?;
+        check_destination(alloc, &statement.operation, labels)?;
     }
     Ok(())
 }
 
-/// Whether a statement's target is a label, where it is a name.
-fn check_target(alloc: Global, operation: &Operation, labels: &Labels) -> Result<(), AsmFault>
+/// Whether a statement's destination is a label, where it is a name.
+fn check_destination(alloc: Global, operation: &Operation, labels: &Labels) -> Result<(), AsmFault>
     requires { IsUsableOperation operation.now }
     ensures ok { OnOk result (All (Contains (names_of labels.now)) (named_by operation.now)) }
     ensures err { IfErr result (IsMissingFault operation.now (names_of labels.now)) }
 {
     let Operation::Aimed {
         aim: _,
-        target: Target::Label { name },
+        destination: Destination::Label { name },
     } = *operation
     else {
         return Ok(());

@@ -3,6 +3,7 @@
 
 mod assembler;
 mod code;
+mod destination;
 mod fault;
 mod find;
 mod labels;
@@ -15,7 +16,6 @@ mod read;
 mod size;
 mod statement;
 mod symbol;
-mod target;
 mod token;
 
 pub use armv6m_forms::{Line, disassemble};
@@ -24,4 +24,4 @@ pub use code::Code;
 pub use fault::AsmFault;
 pub use labels::{Label, Labels};
 pub use law::{one_refusal, one_statement_for_each_line, refused_or_assembled};
-pub use statement::{Operation, Statement, Target};
+pub use statement::{Destination, Operation, Statement};

@@ -6,12 +6,12 @@ ghost use Rattle.armv6m_forms.specs.declared.form.Aim.{Aim};
 ghost use Rattle.armv6m_asm.specs.Statement.{Are, exactly, number, ArePlain, AreAimed, AreOperation};
 ghost use Rattle.armv6m_asm.specs.Token.{word, tokens_of};
 ghost use Rattle.armv6m_asm.specs.declared.statement.Operation.{Operation};
-ghost use Rattle.armv6m_asm.specs.declared.statement.Target.{Target};
+ghost use Rattle.armv6m_asm.specs.declared.statement.Destination.{Destination};
 
+use crate::destination::{last_destination, last_pair};
 use crate::number::read_number;
 use crate::operands::read_operands;
-use crate::statement::{Operation, Target};
-use crate::target::{last_pair, last_target};
+use crate::statement::{Destination, Operation};
 use crate::token::{is_end, split_word};
 use armv6m_decode::Instr;
 use armv6m_forms::{Aim, instruction, read_branch, read_mnemonic};
@@ -39,8 +39,8 @@ fn operation_of<'a>(first: &[u8], rest: &'a [u8]) -> Option<Operation<'a>>
         Some(Operation::Word { value })
     } else if let Some(instr) = read_plain(first, rest) {
         Some(Operation::Plain { instr })
-    } else if let Some((aim, target)) = read_aimed(first, rest) {
-        Some(Operation::Aimed { aim, target })
+    } else if let Some((aim, destination)) = read_aimed(first, rest) {
+        Some(Operation::Aimed { aim, destination })
     } else {
         None
     }
@@ -69,7 +69,7 @@ fn read_word(first: &[u8], rest: &[u8]) -> Option<u32>
     }
 }
 
-/// The instruction without a target.
+/// The instruction without a destination.
 fn read_plain(first: &[u8], rest: &[u8]) -> Option<Instr>
     ensures { MatchOption result ((instr : Instr) → ArePlain instr (word first.now ∷ tokens_of rest.now) → ⊥)
         (λ instr. ArePlain instr (word first.now ∷ tokens_of rest.now)) }
@@ -79,20 +79,20 @@ fn read_plain(first: &[u8], rest: &[u8]) -> Option<Instr>
     instruction(mnemonic, operands)
 }
 
-/// The instruction with a target.
-fn read_aimed<'a>(first: &[u8], rest: &'a [u8]) -> Option<(Aim, Target<'a>)>
-    ensures { MatchOption result ((aim : Aim) (to : Target) → AreAimed aim to (word first.now ∷ tokens_of rest.now) → ⊥)
+/// The instruction with a destination.
+fn read_aimed<'a>(first: &[u8], rest: &'a [u8]) -> Option<(Aim, Destination<'a>)>
+    ensures { MatchOption result ((aim : Aim) (to : Destination) → AreAimed aim to (word first.now ∷ tokens_of rest.now) → ⊥)
         (λ aimed. AreAimed aimed.0 aimed.1 (word first.now ∷ tokens_of rest.now)) }
 {
     if first == b"LDR".as_slice() {
-        let (t, target) = last_pair(rest)?;
-        Some((Aim::Load { t }, target))
+        let (t, destination) = last_pair(rest)?;
+        Some((Aim::Load { t }, destination))
     } else if first == b"ADR".as_slice() {
-        let (d, target) = last_pair(rest)?;
-        Some((Aim::Address { d }, target))
+        let (d, destination) = last_pair(rest)?;
+        Some((Aim::Address { d }, destination))
     } else {
         let aim = read_branch(first)?;
-        let target = last_target(rest)?;
-        Some((aim, target))
+        let destination = last_destination(rest)?;
+        Some((aim, destination))
     }
 }

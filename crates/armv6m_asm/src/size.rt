@@ -29,7 +29,10 @@ pub(crate) fn size(operation: &Operation, place: u32) -> u32
         Operation::Word { value: _ } => 4,
         Operation::Align => padding_len(place),
         Operation::Plain { instr } => instr_width(instr),
-        Operation::Aimed { aim, target: _ } => width_of_aim(aim),
+        Operation::Aimed {
+            aim,
+            destination: _,
+        } => width_of_aim(aim),
     }
 }
 
@@ -57,7 +60,7 @@ fn instr_width(instr: Instr) -> u32
     }
 }
 
-/// How many bytes an instruction with a target has.
+/// How many bytes an instruction with a destination has.
 fn width_of_aim(aim: Aim) -> u32
     ensures { result ≡ aim_width aim }
 {

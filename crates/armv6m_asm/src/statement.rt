@@ -4,15 +4,15 @@ ghost use Rattle.armv6m_asm.specs.Token.{Token, word, mark, tokens_of};
 ghost use Rattle.armv6m_asm.specs.Statement.{IsStatement};
 ghost use Rattle.armv6m_asm.specs.declared.statement.Statement.{Statement};
 
+use crate::destination::is_name;
 use crate::operation::read_operation;
-use crate::target::is_name;
 use crate::token::{skip_mark, split_word};
 use armv6m_decode::Instr;
 use armv6m_forms::Aim;
 
-/// What an instruction's target is written as.
+/// What an instruction's destination is written as.
 #[derive(Clone, Copy, PartialEq, Eq, Debug)]
-pub enum Target<'a> {
+pub enum Destination<'a> {
     /// The name of a label.
     Label { name: &'a [u8] },
     /// `0x` and eight hexadecimal digits.
@@ -25,13 +25,20 @@ pub enum Operation<'a> {
     /// Nothing: there is only a label, or a comment, or neither.
     Nothing,
     /// `.word value`: four bytes.
-    Word { value: u32 },
+    Word {
+        value: u32,
+    },
     /// `.align`: pads to a multiple of 4 with `NOP`.
     Align,
-    /// An instruction without a target.
-    Plain { instr: Instr },
-    /// An instruction with a target.
-    Aimed { aim: Aim, target: Target<'a> },
+    /// An instruction without a destination.
+    Plain {
+        instr: Instr,
+    },
+    /// An instruction with a destination.
+    Aimed {
+        aim: Aim,
+        destination: Destination<'a>,
+    },
 }
 
 /// A line's statement.

@@ -2,3 +2,4 @@ pub mod AnswerLemmas
 pub mod FileLemmas
 pub mod ReadingLemmas
 pub mod PlaceLemmas
+pub mod RefusalLemmas

@@ -2,4 +2,4 @@ pub mod FilesLemmas
 pub mod ImageLemmas
 pub mod TakeLemmas
 pub mod WantedLemmas
-pub mod TaskLemmas
+pub mod TargetFilesLemmas

@@ -22,7 +22,7 @@ use Rattle.command_files.specs.Files.{IsForBoard, IsOneFor, AreFor, IsUnionOf, f
 use Rattle.command_files.specs.Refused.{IsUnfit, IsNoneFor, AreNotFor, Clashes, IsImageRefused}
 use Rattle.command_files.specs.Refused.{IsRefused}
 use Rattle.command_files.specs.declared.take.Files.{Files}
-use Rattle.command_files.specs.declared.task.Task.{Task}
+use Rattle.command_files.specs.declared.target_files.TargetFiles.{TargetFiles}
 use Rattle.command_files.specs.declared.wanted.Wanted.{Wanted}
 
 -- Taking the files of some names.
@@ -123,15 +123,15 @@ ReadsFiles asked files (Err e) = IsFilesRefusal asked files (shown e)
 
 -- Taking and reading the files of a command on a target.
 
--- what the task wants
-abbrev pub task_aim : Task → Aim
-task_aim task = aim_of task.wanted
+-- what the files want
+abbrev pub said_aim : TargetFiles → Aim
+said_aim said = aim_of said.wanted
 
--- the task is what the files say, and has the bytes of the board's text and of the FLM file of each region
-pub record IsTask (raw_at : Option ℕ) (files : FilesGiven) (task : Task) : Type 0 where
-  pub is_aim : IsAim raw_at files (task_aim task)
-  pub board_text : files.board ≡ task.board_text
-  pub flms : flm_files files.flm files.images (task_aim task).board ≡ task.flm ∷ option_to_list task.second
+-- it is what the files say, and has the bytes of the board's text and of the FLM file of each region
+pub record AreTargetFiles (raw_at : Option ℕ) (files : FilesGiven) (said : TargetFiles) : Type 0 where
+  pub is_aim : IsAim raw_at files (said_aim said)
+  pub board_text : files.board ≡ said.board_text
+  pub flms : flm_files files.flm files.images (said_aim said).board ≡ said.flm ∷ option_to_list said.second
 
 -- The files were taken, and no take failed.
 pub record TookFiles (inputs : InputsCall) (asked : FilesAsked) (Holds : FilesGiven → Type 0) : Type 0 where
@@ -139,7 +139,7 @@ pub record TookFiles (inputs : InputsCall) (asked : FilesAsked) (Holds : FilesGi
   pub none_failed : NoneFailed inputs
 
 -- a file can't be taken, or else the files are refused
-abbrev pub ReadsTask : InputsCall → FilesAsked → Result Task Refusal → Type 0
-ReadsTask inputs asked (Ok task) = TookFiles inputs asked (λ files. IsTask asked.raw_at files task)
-ReadsTask inputs asked (Err e) =
+abbrev pub ReadsTargetFiles : InputsCall → FilesAsked → Result TargetFiles Refusal → Type 0
+ReadsTargetFiles inputs asked (Ok said) = TookFiles inputs asked (λ files. AreTargetFiles asked.raw_at files said)
+ReadsTargetFiles inputs asked (Err e) =
     IsTakeFault inputs (names_in asked) (shown e) ⊎ TookFiles inputs asked (λ files. IsFilesRefusal asked files (shown e))

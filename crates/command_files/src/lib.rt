@@ -4,10 +4,10 @@
 
 mod law;
 mod take;
-mod task;
+mod target_files;
 mod wanted;
 
 pub use law::files_say_one_thing;
 pub use take::{Files, take_files, take_one};
-pub use task::{Task, read_task};
+pub use target_files::{TargetFiles, read_target_files};
 pub use wanted::{Wanted, cells_of, read_algorithms, read_files, read_text};

@@ -1,7 +1,7 @@
 pub mod GeneratorLemmas
 pub mod MadeLemmas
 pub mod PlanLemmas
-pub mod TargetLemmas
+pub mod FixtureLemmas
 pub mod RunLemmas
 pub mod ShowLemmas
 pub mod EndLemmas

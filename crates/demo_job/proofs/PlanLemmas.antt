@@ -17,7 +17,7 @@ use Rattle.erase_planner.specs.Plans.{chosen}
 use Rattle.job_text.specs.Fits.{is_device_of, fits, all_fit}
 use Rattle.job_text.specs.Laid.{overlaid}
 use Rattle.demo_job.specs.Made.{base, cells_of, image_of, laid_of}
-use Rattle.demo_job.specs.Target.{Target}
+use Rattle.demo_job.specs.Fixture.{Fixture}
 use Rattle.demo_job.specs.Run.{work_of}
 use Rattle.demo_job.proofs.MadeLemmas.{length-cells}
 
@@ -64,7 +64,7 @@ one_overlaid image region cells long =
     ∙ append-nil (over image region.base cells)
 
 -- the image laid over the cells of the board is that over the cells
-pub laid_over : (seed : ℕ) (t : Target) → all_fit t.board t.board.regions (t.algorithm ∷ []) ≡ true → t.algorithm.device.base ≡ 0x08000000
+pub laid_over : (seed : ℕ) (t : Fixture) → all_fit t.board t.board.regions (t.algorithm ∷ []) ≡ true → t.algorithm.device.base ≡ 0x08000000
     → t.algorithm.device.size ≡ 65536 → (work_of seed t).goal ≡ laid_of seed
 laid_over seed t fit base_is size_is =
     let only = only_of t.board t.board.regions t.algorithm fit in

@@ -30,16 +30,16 @@ use Rattle.command_answers.specs.Call.{bench_call, Answer, done, refused}
 use Rattle.command_answers.specs.Answered.{yields, Refuses, OnlyLooked}
 use Rattle.job_commands.specs.GoOn.{work_to, GoesOnFrom}
 use Rattle.demo_job.specs.Made.{cells_of, image_of, laid_of}
-use Rattle.demo_job.specs.Target.{board_text, Target, IsTarget}
+use Rattle.demo_job.specs.Fixture.{board_text, Fixture, IsFixture}
 use Rattle.demo_job.specs.Run.{IsFresh, IsLost, job_of, work_of, stopping_of, silence, answer_in, status_in}
 use Rattle.demo_job.proofs.PlanLemmas.{laid_over}
 
 -- the pair that is left: untouched, whole, or at the close
-pub LeftPair : (seed : ℕ) (t : Target) (old : BenchState) (file cells : List ℕ) → Type 0
+pub LeftPair : (seed : ℕ) (t : Fixture) (old : BenchState) (file cells : List ℕ) → Type 0
 LeftPair seed t old file cells = (IsUntouched old file cells ⊎ IsWhole (body_of (job_of seed t)) file)
     ⊎ IsAtClose (body_of (job_of seed t)) (work_of seed t).goal file cells
 
-pub left_pair : (seed : ℕ) (t : Target) (fresh lost : MemoryBench) (is : IsLost seed t fresh lost)
+pub left_pair : (seed : ℕ) (t : Fixture) (fresh lost : MemoryBench) (is : IsLost seed t fresh lost)
     → LeftPair seed t (stopping_of is.first) (bench_of lost).file (bench_of lost).cells
 unfolding LeftPair
 left_pair seed t fresh lost is =
@@ -69,7 +69,7 @@ not_done Did reason either = ⊎_elim
     either
 
 -- a resume that is done leaves the image laid over the cells
-pub done_laid : (seed : ℕ) (t : Target) (fresh lost after : MemoryBench) → IsFresh seed (bench_of fresh) → IsLost seed t fresh lost
+pub done_laid : (seed : ℕ) (t : Fixture) (fresh lost after : MemoryBench) → IsFresh seed (bench_of fresh) → IsLost seed t fresh lost
     → t.algorithm.device.base ≡ 0x08000000 → t.algorithm.device.size ≡ 65536
     → GoesOnFrom New (bench_call true (bench_of lost) (bench_of after)) silence done → (bench_of after).cells ≡ laid_of seed
 unfolding LeftPair
@@ -124,7 +124,7 @@ short_text : length board_text < 2 ^ 32
 unfolding board_text
 short_text = omega arith
 
-pub parts_of : (t : Target) (parts : JobParts) → IsTarget t → Suits t.board (t.algorithm ∷ []) parts.image.now → parts.board.now ≡ board_text
+pub parts_of : (t : Fixture) (parts : JobParts) → IsFixture t → Suits t.board (t.algorithm ∷ []) parts.image.now → parts.board.now ≡ board_text
     → parts.flm.now ≡ t.file
     → parts.second ≡ None → size_of t.board.regions ≡ parts.size → AreParts parts
 parts_of t parts is suits board_is flm_is second_is size =
@@ -151,12 +151,12 @@ one_job {a} {b} {c} {d} {i} {j} {s} {u} boards flms images snapshots =
     ∙ ap (λ (x : List Run). let k : Job = record { format = Second; board = b; flms = d; image = x; snapshot = s } in k) images
     ∙ ap (λ (x : List ℕ). let k : Job = record { format = Second; board = b; flms = d; image = j; snapshot = x } in k) snapshots
 
-pub record Begun (seed : ℕ) (t : Target) (first begun : StopBench MemoryBench) (answer : Answer) : Type 0 where
+pub record Begun (seed : ℕ) (t : Fixture) (first begun : StopBench MemoryBench) (answer : Answer) : Type 0 where
   pub is_job : IsJob (job_of seed t) t.board (t.algorithm ∷ [])
   pub carries : Carries (bench_call true (stopping_of first) (stopping_of begun)) silence (IsUntouched (stopping_of first)) (work_of seed t) answer
 
-pub begun_of : (seed : ℕ) (t : Target) (first begun : StopBench MemoryBench) (fresh : MemoryBench) (answer : Answer) (parts : JobParts)
-    → first.inner ≡ fresh → IsFresh seed (bench_of fresh) → (is : IsTarget t) → (suits : Suits t.board (t.algorithm ∷ []) parts.image.now)
+pub begun_of : (seed : ℕ) (t : Fixture) (first begun : StopBench MemoryBench) (fresh : MemoryBench) (answer : Answer) (parts : JobParts)
+    → first.inner ≡ fresh → IsFresh seed (bench_of fresh) → (is : IsFixture t) → (suits : Suits t.board (t.algorithm ∷ []) parts.image.now)
     → (board_is : parts.board.now ≡ board_text)
     → (flm_is : parts.flm.now ≡ t.file) → (second_is : parts.second ≡ None) → parts.image.now ≡ image_of seed → (size : size_of t.board.regions ≡ parts.size)
     → parts.size ≡ 65536 → length (cells_of seed) ≡ 65536

@@ -4,7 +4,7 @@ use Rattle.algo_calls.specs.Duties.{device_of}
 use Rattle.bench_model.specs.Shown.{bench_of}
 use Rattle.bench_model.specs.declared.memory.MemoryBench.{MemoryBench}
 use Rattle.demo_job.specs.Made.{laid_of, stop_of}
-use Rattle.demo_job.specs.Target.{Target, IsTarget}
+use Rattle.demo_job.specs.Fixture.{Fixture, IsFixture}
 use Rattle.demo_job.specs.Plan.{erased, programmed}
 use Rattle.demo_job.specs.Run.{plan_of, IsLost, Resumes, status_in}
 use Rattle.demo_job.specs.declared.run.Demo.{Demo}
@@ -13,15 +13,15 @@ use Rattle.demo_job.specs.declared.run.Demo.{Demo}
 -- calls after which the job was stopped, and how the resume ended, on what the loss of the power left. The cells are the image laid over
 -- those that the seed makes exactly where it says so, and with status 0.
 pub record Shows (seed : ℕ) (fresh : MemoryBench) (demo : Demo) : Type 0 where
-  pub target : Target
-  pub is_target : IsTarget target
+  pub fixture : Fixture
+  pub is_fixture : IsFixture fixture
   pub seed_is : demo.lines.seed ≡ seed
-  pub sectors_are : demo.lines.sectors ≡ erased (device_of target.algorithm) (plan_of seed target)
-  pub pages_are : demo.lines.pages ≡ programmed (device_of target.algorithm) (plan_of seed target)
-  pub cost_is : demo.lines.cost ≡ (plan_of seed target).cost
+  pub sectors_are : demo.lines.sectors ≡ erased (device_of fixture.algorithm) (plan_of seed fixture)
+  pub pages_are : demo.lines.pages ≡ programmed (device_of fixture.algorithm) (plan_of seed fixture)
+  pub cost_is : demo.lines.cost ≡ (plan_of seed fixture).cost
   pub calls_are : demo.lines.calls ≡ stop_of seed
   pub lost : MemoryBench
-  pub is_lost : IsLost seed target fresh lost
+  pub is_lost : IsLost seed fixture fresh lost
   pub resumes : Resumes lost demo.bench demo.refusal
   pub status_is : demo.lines.status ≡ status_in demo.refusal
   pub same : IsTrue demo.lines.same ↔ ((bench_of demo.bench).cells ≡ laid_of seed)

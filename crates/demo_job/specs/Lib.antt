@@ -1,6 +1,6 @@
 pub mod Generator
 pub mod Made
-pub mod Target
+pub mod Fixture
 pub mod Plan
 pub mod Scene
 pub mod Run

@@ -30,7 +30,7 @@ use Rattle.job_text.specs.declared.parts.JobParts.{JobParts}
 use Rattle.job_file.specs.First.{SyncsFirst}
 use Rattle.job_commands.specs.Steps.{has_work, BenchCounted, BeginsParts}
 use Rattle.demo_job.specs.Made.{cells_of, image_of, stop_of}
-use Rattle.demo_job.specs.Target.{board_text, Target}
+use Rattle.demo_job.specs.Fixture.{board_text, Fixture}
 
 -- What a sink that keeps nothing means, and a call on it.
 
@@ -51,22 +51,22 @@ pub record IsFresh (seed : ℕ) (now : BenchState) : Type 0 where
 
 -- The job of a seed, whose snapshot is the cells that the seed makes, and the work on it.
 
-abbrev pub job_of : ℕ → Target → Job
+abbrev pub job_of : ℕ → Fixture → Job
 job_of seed t = record { format = Second; board = board_text; flms = t.file ∷ []; image = image_of seed; snapshot = cells_of seed }
 
-abbrev pub work_of : ℕ → Target → Work
+abbrev pub work_of : ℕ → Fixture → Work
 work_of seed t = work_to New (job_of seed t) t.board (t.algorithm ∷ []) (cells_of seed)
 
 -- the plan of its one region
-abbrev pub plan_of : ℕ → Target → Chosen
+abbrev pub plan_of : ℕ → Fixture → Chosen
 plan_of seed t = (plan_in t.board 0 t.algorithm (cells_of seed) (work_of seed t).goal).plan
 
 -- a bench in memory that stops, as a bench
 abbrev pub stopping_of : StopBench MemoryBench → BenchState
 stopping_of s = stopped bench_of s
 
--- The parts of the job of a seed, on a target.
-pub record ArePartsOf (seed : ℕ) (t : Target) (parts : JobParts) : Type 0 where
+-- The parts of the job of a seed, on a fixture.
+pub record ArePartsOf (seed : ℕ) (t : Fixture) (parts : JobParts) : Type 0 where
   pub board : parts.board.now ≡ board_text
   pub flm : parts.flm.now ≡ t.file
   pub second : parts.second ≡ None
@@ -76,7 +76,7 @@ pub record ArePartsOf (seed : ℕ) (t : Target) (parts : JobParts) : Type 0 wher
 
 -- The job of a seed was begun over a bench round this one that lets as many calls through as the seed says. The first call on it is the
 -- job's: it syncs the job file.
-pub record BeginsOver {B : Type 0} (tells : Bool) (acts : B → Act → B → Type 0) (state : B → BenchState) (seed : ℕ) (t : Target) (fresh : B)
+pub record BeginsOver {B : Type 0} (tells : Bool) (acts : B → Act → B → Type 0) (state : B → BenchState) (seed : ℕ) (t : Fixture) (fresh : B)
     (begun : StopBench B) (answer : Answer) : Type 0 where
   pub first : StopBench B
   pub inner : first.inner ≡ fresh
@@ -91,7 +91,7 @@ pub record BeginsOver {B : Type 0} (tells : Bool) (acts : B → Act → B → Ty
 
 -- The job was begun over a bench that lets as many calls through as the seed says, with no fault of its own yet, and carried on until it
 -- ended or was stopped, by a fault that this bench counted, but not for want of memory. Then the power was lost.
-pub record IsLost (seed : ℕ) (t : Target) (fresh lost : MemoryBench) : Type 0 where
+pub record IsLost (seed : ℕ) (t : Fixture) (fresh lost : MemoryBench) : Type 0 where
   pub first : StopBench MemoryBench
   pub inner : first.inner ≡ fresh
   pub calls : first.calls ≡ stop_of seed

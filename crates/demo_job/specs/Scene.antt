@@ -6,26 +6,26 @@ use Rattle.page_geometry.specs.Geometry.{Geometry}
 use Rattle.erase_planner.specs.Plans.{Chosen}
 use Rattle.job_text.specs.Fits.{Suits}
 use Rattle.demo_job.specs.Made.{cells_of, image_of, laid_of, stop_of}
-use Rattle.demo_job.specs.Target as target
-use Rattle.demo_job.specs.Target.{IsTarget}
+use Rattle.demo_job.specs.Fixture as fixture
+use Rattle.demo_job.specs.Fixture.{IsFixture}
 use Rattle.demo_job.specs.Plan.{erased, programmed}
-use Rattle.demo_job.specs.declared.target.Target.{Target}
+use Rattle.demo_job.specs.declared.fixture.Fixture.{Fixture}
 use Rattle.demo_job.specs.declared.scene.Scene.{Scene}
 use Rattle.demo_job.specs.declared.first_plan.Counts.{Counts}
 
-abbrev pub target_of : Target → target.Target
-target_of t = record { board = board.shown t.board; file = t.flm; algorithm = flm.shown t.algorithm }
+abbrev pub fixture_of : Fixture → fixture.Fixture
+fixture_of t = record { board = board.shown t.board; file = t.flm; algorithm = flm.shown t.algorithm }
 
 -- it is that of a seed, and its parts suit
 pub record IsScene (seed : ℕ) (scene : Scene) : Type 0 where
   pub cells : scene.made.cells.items ≡ cells_of seed
   pub image : scene.made.image ≡ image_of seed
   pub calls : scene.made.calls ≡ stop_of seed
-  pub target : IsTarget (target_of scene.target)
-  pub suits : Suits (board.shown scene.target.board) (flm.shown scene.target.algorithm ∷ []) scene.made.image
+  pub fixture : IsFixture (fixture_of scene.fixture)
+  pub suits : Suits (board.shown scene.fixture.board) (flm.shown scene.fixture.algorithm ∷ []) scene.made.image
   pub goal : scene.goal.items ≡ laid_of seed
-  pub base : scene.target.algorithm.device.base ≡ 0x08000000
-  pub size : scene.target.algorithm.device.size ≡ 65536
+  pub base : scene.fixture.algorithm.device.base ≡ 0x08000000
+  pub size : scene.fixture.algorithm.device.size ≡ 65536
 
 -- the counts of a plan
 pub record IsCounted (l : Geometry) (plan : Chosen) (counts : Counts) : Type 0 where

@@ -4,7 +4,7 @@ ghost use Rattle.algo_calls.specs.Duties.{device_of};
 ghost use Rattle.flm_descriptor.specs.Shown.{shown as flm_shown};
 ghost use Rattle.demo_job.specs.Plan.{erased, programmed};
 ghost use Rattle.demo_job.specs.Run.{plan_of};
-ghost use Rattle.demo_job.specs.Scene.{IsScene, target_of, IsCounted};
+ghost use Rattle.demo_job.specs.Scene.{IsScene, fixture_of, IsCounted};
 
 use crate::made::SECTORS;
 use crate::scene::Scene;
@@ -25,9 +25,9 @@ pub(crate) struct Counts {
 /// The counts of the plan that is chosen from the cells of a scene to its goal.
 pub(crate) fn first_plan(alloc: Global, seed: u32, scene: &Scene) -> Result<Counts, OutOfMemory>
     requires { IsScene seed scene.now }
-    ensures { IfOk result (IsCounted (device_of (flm_shown scene.now.target.algorithm)) (plan_of seed (target_of scene.now.target))) }
+    ensures { IfOk result (IsCounted (device_of (flm_shown scene.now.fixture.algorithm)) (plan_of seed (fixture_of scene.now.fixture))) }
 {
-    let geometry = Geometry::of(alloc, &scene.target.algorithm)?;
+    let geometry = Geometry::of(alloc, &scene.fixture.algorithm)?;
     let plan = choose(alloc, seed, scene, &geometry)?;
     Ok(Counts {
         sectors: sectors(&geometry, &plan),
@@ -39,15 +39,15 @@ pub(crate) fn first_plan(alloc: Global, seed: u32, scene: &Scene) -> Result<Coun
 /// The plan.
 fn choose(alloc: Global, seed: u32, scene: &Scene, geometry: &Geometry) -> Result<Plan, OutOfMemory>
     requires scene { IsScene seed scene.now }
-    requires geometry { geometry.now ≡ device_of (flm_shown scene.now.target.algorithm) }
-    ensures { IfOk result (λ plan. plan.made ≡ plan_of seed (target_of scene.now.target)) }
+    requires geometry { geometry.now ≡ device_of (flm_shown scene.now.fixture.algorithm) }
+    ensures { IfOk result (λ plan. plan.made ≡ plan_of seed (fixture_of scene.now.fixture)) }
 {
     let mut plan = Plan::new(alloc);
     plan.reserve(geometry)?;
-    let algorithm: &Algorithm = &scene.target.algorithm;
+    let algorithm: &Algorithm = &scene.fixture.algorithm;
     plan_into(
         geometry,
-        &scene.target.board.weights,
+        &scene.fixture.board.weights,
         algorithm.entries.erase_chip.is_some(),
         &scene.made.cells,
         &scene.goal,

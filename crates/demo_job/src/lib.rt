@@ -5,12 +5,12 @@
 mod command;
 mod draws;
 mod first_plan;
+mod fixture;
 mod lines;
 mod made;
 mod nowhere;
 mod run;
 mod scene;
-mod target;
 
 pub use command::demo;
 pub use lines::{DemoLines, put_demo};

@@ -5,7 +5,7 @@ ghost use Rattle.demo_job.specs.Demo.{Shows};
 ghost use Rattle.algo_calls.specs.Duties.{device_of};
 ghost use Rattle.command_answers.specs.Shown.{answer_of};
 ghost use Rattle.demo_job.specs.Run.{BeginsOver, IsFresh, IsLost, answer_in, plan_of, status_in};
-ghost use Rattle.demo_job.specs.Scene.{IsScene, IsCounted, target_of};
+ghost use Rattle.demo_job.specs.Scene.{IsScene, IsCounted, fixture_of};
 ghost use Rattle.bench_model.specs.declared.memory.MemoryBench.{MemoryBench};
 
 use crate::first_plan::{Counts, first_plan};
@@ -64,7 +64,7 @@ pub(crate) struct Stopped<B> {
 /// Begins the job over a bench that stops. The calls that go through are all the job's own.
 fn begin_stopped<B: Bench>(alloc: Global, seed: u32, scene: &Scene, bench: B) -> Stopped<B>
     requires { IsScene seed scene.now }
-    ensures { BeginsOver B.tells B.acts B.state seed (target_of scene.now.target) bench result.bench (answer_in result.refusal) }
+    ensures { BeginsOver B.tells B.acts B.state seed (fixture_of scene.now.fixture) bench result.bench (answer_in result.refusal) }
 {
     let mut stopping = StopBench::new(bench, scene.made.calls);
     let refusal = refusal_of(begin_job(alloc, &scene.parts(), &mut stopping, &mut Nowhere));
@@ -83,7 +83,7 @@ fn lose(
 ) -> Result<MemoryBench, OutOfMemory>
     requires scene { IsScene seed scene.now }
     requires fresh { IsFresh seed (bench_of bench) }
-    ensures { IfOk result (IsLost seed (target_of scene.now.target) bench) }
+    ensures { IfOk result (IsLost seed (fixture_of scene.now.fixture) bench) }
 {
     let stopped = begin_stopped(alloc, seed, scene, bench);
     let Stopped { bench, refusal } = stopped;
@@ -98,8 +98,8 @@ fn lose(
 /// Resumes the job on what is left.
 fn resume(alloc: Global, seed: u32, scene: &Scene, counts: Counts, bench: MemoryBench) -> Demo
     requires scene { IsScene seed scene.now }
-    requires counts { IsCounted (device_of (target_of scene.now.target).algorithm) (plan_of seed (target_of scene.now.target)) counts }
-    ensures { (fresh : MemoryBench) → IsFresh seed (bench_of fresh) → IsLost seed (target_of scene.now.target) fresh bench → Shows seed fresh result }
+    requires counts { IsCounted (device_of (fixture_of scene.now.fixture).algorithm) (plan_of seed (fixture_of scene.now.fixture)) counts }
+    ensures { (fresh : MemoryBench) → IsFresh seed (bench_of fresh) → IsLost seed (fixture_of scene.now.fixture) fresh bench → Shows seed fresh result }
 {
     let mut bench = bench;
     let refusal = refusal_of(go_on(alloc, Goal::New, &mut bench, &mut Nowhere));

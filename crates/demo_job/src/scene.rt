@@ -6,21 +6,21 @@ ghost use Rattle.job_text.specs.Fits.{Suits};
 ghost use Rattle.byte_map.specs.Image.{over};
 ghost use Rattle.job_text.specs.Parts.{AreParts};
 ghost use Rattle.demo_job.specs.Made.{base};
-ghost use Rattle.demo_job.specs.Target.{board_text};
+ghost use Rattle.demo_job.specs.Fixture.{board_text};
 ghost use Rattle.demo_job.specs.Scene.{IsScene};
 
+use crate::fixture::{BOARD, Fixture, make_fixture};
 use crate::made::{BASE, Made, make};
-use crate::target::{BOARD, Target, make_target};
 use faults::OutOfMemory;
 use job_text::{JobParts, suits};
 use std::alloc::Global;
 use std::slice::from_ref;
 
-/// What the seed makes, the target, and the cells with the image laid over them.
+/// What the seed makes, the fixture, and the cells with the image laid over them.
 #[derive(Drop)]
 pub(crate) struct Scene {
     pub(crate) made: Made,
-    pub(crate) target: Target,
+    pub(crate) fixture: Fixture,
     pub(crate) goal: Vec<u8>,
 }
 
@@ -29,24 +29,28 @@ pub(crate) fn set_scene(alloc: Global, seed: u32) -> Result<Scene, OutOfMemory>
     ensures { IfOk result (IsScene seed) }
 {
     let made = make(alloc, seed)?;
-    let target = make_target(alloc)?;
-    if !fits(&target, &made) {
+    let fixture = make_fixture(alloc)?;
+    if !fits(&fixture, &made) {
         return Err(OutOfMemory);
     }
     let goal = goal(alloc, &made)?;
-    Ok(Scene { made, target, goal })
+    Ok(Scene {
+        made,
+        fixture,
+        goal,
+    })
 }
 
-/// Whether the device of a target is the cells, and board, algorithm and image go together in a job. Those of a demonstration do.
-fn fits(target: &Target, made: &Made) -> bool
-    ensures base { IsTrue result → target.now.algorithm.device.base ≡ base }
-    ensures size { IsTrue result → target.now.algorithm.device.size ≡ length made.now.cells.items }
-    ensures suits { IsTrue result → Suits (board_shown target.now.board) (flm_shown target.now.algorithm ∷ []) made.now.image }
+/// Whether the device of a fixture is the cells, and board, algorithm and image go together in a job. Those of a demonstration do.
+fn fits(fixture: &Fixture, made: &Made) -> bool
+    ensures base { IsTrue result → fixture.now.algorithm.device.base ≡ base }
+    ensures size { IsTrue result → fixture.now.algorithm.device.size ≡ length made.now.cells.items }
+    ensures suits { IsTrue result → Suits (board_shown fixture.now.board) (flm_shown fixture.now.algorithm ∷ []) made.now.image }
 {
-    let device = &target.algorithm.device;
+    let device = &fixture.algorithm.device;
     device.base == BASE
         && device.size as usize == made.cells.len()
-        && suits(&target.board, from_ref(&target.algorithm), &made.image)
+        && suits(&fixture.board, from_ref(&fixture.algorithm), &made.image)
 }
 
 /// The image laid over the cells.
@@ -61,20 +65,20 @@ fn goal(alloc: Global, made: &Made) -> Result<Vec<u8>, OutOfMemory>
 
 impl Scene {
     /// The parts of the job.
-    #[tactic(auto, unfolding(crate::specs::Target::board_text))]
+    #[tactic(auto, unfolding(crate::specs::Fixture::board_text))]
     pub(crate) fn parts(&self) -> JobParts<'_>
         ensures board { result.board.now ≡ board_text }
-        ensures flm { result.flm.now ≡ self.now.target.flm }
+        ensures flm { result.flm.now ≡ self.now.fixture.flm }
         ensures second { result.second ≡ None }
         ensures image { result.image.now ≡ self.now.made.image }
-        ensures size { result.size ≡ self.now.target.algorithm.device.size }
+        ensures size { result.size ≡ self.now.fixture.algorithm.device.size }
     {
         JobParts {
             board: BOARD,
-            flm: self.target.flm.bytes(),
+            flm: self.fixture.flm.bytes(),
             second: None,
             image: &self.made.image,
-            size: self.target.algorithm.device.size,
+            size: self.fixture.algorithm.device.size,
         }
     }
 }

@@ -1,12 +1,12 @@
 -- Whole writes of cells, in as many calls as they take. `write_range` and `fill_range` go on by them.
 use Rattle.std.proofs.Common.{replicate, ◌≡◌, ◌≤◌, ◌+◌, ◌∙◌, ap, sym, subst, refl, ℕ, List, Bool, IsTrue, ◌++◌, length, take, drop, arith, append_assoc}
-use Rattle.std.proofs.Common.{append-nil, length-take, length-drop, length-append, Option, Some, None}
-use Rattle.std.proofs.lemmas.List.{take-append-drop, take_all, take_at, drop_at, drop-drop, length-replicate, replicate-append-replicate}
+use Rattle.std.proofs.Common.{length-take, length-drop, length-append, Option, Some, None}
+use Rattle.std.proofs.lemmas.List.{take_at, drop_at, drop-drop, length-replicate, replicate-append-replicate}
 use Rattle.bench_model.specs.Calls.{written, Torn}
 use Rattle.bench_model.proofs.Moments.{adds_nothing_here, adds_nothing_then, stays_here, stays_then}
 use Rattle.disk_files.specs.DiskState.{DiskState, job_half, range_half, JobAsWas}
 use Rattle.disk_files.specs.DiskDoes.{WritesBytes, ReadsBytes, InRange}
-use Rattle.disk_files.proofs.WriteLemmas.{torn_here, torn_then, take_split}
+use Rattle.disk_files.proofs.WriteLemmas.{torn_here, torn_then, stand_none, stand_place, stand_more, stand_still, stand_all}
 
 pub job_as_was_here : (d : DiskState) → JobAsWas d d
 job_as_was_here d = record { file = refl; entry = refl; whole = refl; half = stays_here (job_half d) }
@@ -64,7 +64,7 @@ pub record IsPutTo (tells : Bool) (old new : DiskState) (at : ℕ) (bytes : List
 pub put_none : (tells : Bool) (d : DiskState) (at : ℕ) (bytes : List ℕ) → IsPutTo tells d d at bytes 0
 put_none tells d at bytes = record {
   within = omega arith;
-  some = λ told. let e : at + 0 ≡ at = omega arith in ap (λ (m : ℕ). take m d.bytes) e ∙ sym (append-nil (take at d.bytes));
+  some = λ told. stand_none at bytes d.bytes;
   torn = λ told. torn_here at (length bytes) d.bytes;
   does = writes_here tells d;
 }
@@ -72,18 +72,7 @@ put_none tells d at bytes = record {
 module _ (tells : Bool) (old mid new : DiskState) (at : ℕ) (bytes : List ℕ) (done : ℕ) (so_far : IsPutTo tells old mid at bytes done) where
   -- where the next call begins
   pub place_of : IsTrue tells → at ≤ length old.bytes → at + done ≤ length mid.bytes
-  place_of told inside =
-      let same = ap length (so_far.some told) in
-      omega (
-        arith,
-        inside,
-        same,
-        length-take (at + done) mid.bytes,
-        length-append (take at old.bytes) (take done bytes),
-        length-take at old.bytes,
-        length-take done bytes,
-        so_far.within,
-      )
+  place_of told inside = stand_place at bytes done old.bytes mid.bytes so_far.within (so_far.some told) inside
 
   module _ (rest : List ℕ) (is_rest : rest ≡ drop done bytes) (does : WritesBytes tells mid new)
       (torn : IsTrue tells → Torn (at + done) (length rest) mid.bytes new.bytes) where
@@ -98,11 +87,7 @@ module _ (tells : Bool) (old mid new : DiskState) (at : ℕ) (bytes : List ℕ) 
         → IsPutTo tells old new at bytes (done + n)
     put_more n le some = record {
       within = omega (arith, le, ap length is_rest, length-drop done bytes, so_far.within);
-      some = λ told. let e : at + (done + n) ≡ at + done + n = omega arith in ap (λ (m : ℕ). take m new.bytes) e ∙ some told
-          ∙ ap (λ (l : List ℕ). l ++ take n rest) (so_far.some told)
-          ∙ append_assoc (take at old.bytes) (take done bytes) (take n rest)
-          ∙ ap (λ (l : List ℕ). take at old.bytes ++ (take done bytes ++ take n l)) is_rest
-          ∙ ap (λ (l : List ℕ). take at old.bytes ++ l) (sym (take_split done n bytes));
+      some = λ told. stand_more at bytes done n old.bytes mid.bytes new.bytes rest is_rest (so_far.some told) (some told);
       torn = λ told. torn_then at (length bytes) (at + done) (length rest) old.bytes mid.bytes new.bytes from to (so_far.torn told) (torn told);
       does = writes_then so_far.does does;
     }
@@ -111,20 +96,14 @@ module _ (tells : Bool) (old mid new : DiskState) (at : ℕ) (bytes : List ℕ) 
     pub put_no_more : IsPutTo tells old new at bytes done
     put_no_more =
         let e : done + 0 ≡ done = omega arith in
-        subst (λ (m : ℕ). IsPutTo tells old new at bytes m) e (put_more 0 (omega arith) (λ told.
-        let z : at + done + 0 ≡ at + done = omega arith in
-        ap (λ (m : ℕ). take m new.bytes) z ∙ (torn told).before ∙ sym (append-nil (take (at + done) mid.bytes))))
+        subst (λ (m : ℕ). IsPutTo tells old new at bytes m) e
+        (put_more 0 (omega arith) (λ told. stand_still at done mid.bytes new.bytes rest (torn told).before))
 
 -- once all are written
 pub put_all : (tells : Bool) (old new : DiskState) (at : ℕ) (bytes : List ℕ) (done : ℕ) → IsPutTo tells old new at bytes done → done ≡ length bytes
     → IsTrue tells → new.bytes ≡ written at bytes old.bytes
 put_all tells old new at bytes done so_far is told =
-    let whole : take (at + length bytes) new.bytes ≡ take at old.bytes ++ bytes
-    = ap (λ (m : ℕ). take (at + m) new.bytes) (sym is) ∙ so_far.some told
-    ∙ ap (λ (l : List ℕ). take at old.bytes ++ l) (take_all done bytes (omega (arith, is))) in
-    sym (take-append-drop (at + length bytes) new.bytes)
-    ∙ ap (λ (l : List ℕ). l ++ drop (at + length bytes) new.bytes) whole
-    ∙ ap (λ (l : List ℕ). (take at old.bytes ++ bytes) ++ l) (so_far.torn told).after
+    stand_all at bytes done old.bytes new.bytes is (so_far.some told) (so_far.torn told)
 
 -- one more piece of a fill
 pub filled_more : (at done size value place : ℕ) (piece mid old : List ℕ) → place ≡ at + done → at + done ≤ length old → piece ≡ replicate size value →

@@ -31,6 +31,56 @@ take_split n m xs =
     ∙ ap (λ (l : List ℕ). l ++ drop n (take (n + m) xs)) (take-take n (n + m) xs shorter)
     ∙ ap (λ (l : List ℕ). take n xs ++ l) (drop-take n m xs)
 
+-- ---- a list of which so many bytes are written from a place on
+
+pub stand_none : (at : ℕ) (bytes old : List ℕ) → take (at + 0) old ≡ take at old ++ take 0 bytes
+stand_none at bytes old = let e : at + 0 ≡ at = omega arith in ap (λ (m : ℕ). take m old) e ∙ sym (append-nil (take at old))
+
+-- where the next call begins
+pub stand_place : (at : ℕ) (bytes : List ℕ) (done : ℕ) (old mid : List ℕ) → done ≤ length bytes → take (at + done) mid ≡ take at old ++ take done bytes
+    → at ≤ length old → at + done ≤ length mid
+stand_place at bytes done old mid within some inside =
+    let same = ap length some in
+    omega (
+      arith,
+      inside,
+      same,
+      length-take (at + done) mid,
+      length-append (take at old) (take done bytes),
+      length-take at old,
+      length-take done bytes,
+      within,
+    )
+
+-- once more of the bytes are written
+pub stand_more : (at : ℕ) (bytes : List ℕ) (done n : ℕ) (old mid new rest : List ℕ) → rest ≡ drop done bytes
+    → take (at + done) mid ≡ take at old ++ take done bytes → take (at + done + n) new ≡ take (at + done) mid ++ take n rest
+    → take (at + (done + n)) new ≡ take at old ++ take (done + n) bytes
+stand_more at bytes done n old mid new rest is_rest some more =
+    let e : at + (done + n) ≡ at + done + n = omega arith in ap (λ (m : ℕ). take m new) e ∙ more
+    ∙ ap (λ (l : List ℕ). l ++ take n rest) some
+    ∙ append_assoc (take at old) (take done bytes) (take n rest)
+    ∙ ap (λ (l : List ℕ). take at old ++ (take done bytes ++ take n l)) is_rest
+    ∙ ap (λ (l : List ℕ). take at old ++ l) (sym (take_split done n bytes))
+
+-- after an error
+pub stand_still : (at done : ℕ) (mid new rest : List ℕ) → take (at + done) new ≡ take (at + done) mid
+    → take (at + done + 0) new ≡ take (at + done) mid ++ take 0 rest
+stand_still at done mid new rest before =
+    let z : at + done + 0 ≡ at + done = omega arith in
+    ap (λ (m : ℕ). take m new) z ∙ before ∙ sym (append-nil (take (at + done) mid))
+
+-- once all are written
+pub stand_all : (at : ℕ) (bytes : List ℕ) (done : ℕ) (old new : List ℕ) → done ≡ length bytes → take (at + done) new ≡ take at old ++ take done bytes
+    → Torn at (length bytes) old new → new ≡ written at bytes old
+stand_all at bytes done old new is some torn =
+    let whole : take (at + length bytes) new ≡ take at old ++ bytes
+    = ap (λ (m : ℕ). take (at + m) new) (sym is) ∙ some
+    ∙ ap (λ (l : List ℕ). take at old ++ l) (take_all done bytes (omega (arith, is))) in
+    sym (take-append-drop (at + length bytes) new)
+    ∙ ap (λ (l : List ℕ). l ++ drop (at + length bytes) new) whole
+    ∙ ap (λ (l : List ℕ). (take at old ++ bytes) ++ l) torn.after
+
 pub cells_as_were_here : (d : DiskState) → CellsAsWere d d
 cells_as_were_here d = record { bytes = refl; cells = refl; operation = refl; unsynced = refl; earlier = refl; whole = refl; half = stays_here (range_half d) }
 
@@ -57,7 +107,7 @@ pub record IsWrittenTo (tells : Bool) (old new : DiskState) (at : ℕ) (bytes : 
 pub written_none : (tells : Bool) (d : DiskState) (at : ℕ) (bytes : List ℕ) → IsWrittenTo tells d d at bytes 0
 written_none tells d at bytes = record {
   within = omega arith;
-  some = λ told. let e : at + 0 ≡ at = omega arith in ap (λ (m : ℕ). take m d.file) e ∙ sym (append-nil (take at d.file));
+  some = λ told. stand_none at bytes d.file;
   torn = λ told. torn_here at (length bytes) d.file;
   entry = λ told. refl;
   moments = leaves_here (job_half d) (Follows (Torn at (length bytes)) (job_half d)) (λ x is. (x, is, torn_here at (length bytes) x));
@@ -67,18 +117,7 @@ written_none tells d at bytes = record {
 module _ (tells : Bool) (old mid new : DiskState) (at : ℕ) (bytes : List ℕ) (done : ℕ) (so_far : IsWrittenTo tells old mid at bytes done) where
   -- where the next call begins
   pub place : IsTrue tells → at ≤ length old.file → at + done ≤ length mid.file
-  place told inside =
-      let same = ap length (so_far.some told) in
-      omega (
-        arith,
-        inside,
-        same,
-        length-take (at + done) mid.file,
-        length-append (take at old.file) (take done bytes),
-        length-take at old.file,
-        length-take done bytes,
-        so_far.within,
-      )
+  place told inside = stand_place at bytes done old.file mid.file so_far.within (so_far.some told) inside
 
   module _ (rest : List ℕ) (is_rest : rest ≡ drop done bytes) (does : WritesJob tells mid new (at + done) (length rest))
       (torn : IsTrue tells → Torn (at + done) (length rest) mid.file new.file) where
@@ -97,11 +136,7 @@ module _ (tells : Bool) (old mid new : DiskState) (at : ℕ) (bytes : List ℕ) 
         → IsWrittenTo tells old new at bytes (done + n)
     written_more n le some = record {
       within = omega (arith, le, ap length is_rest, length-drop done bytes, so_far.within);
-      some = λ told. let e : at + (done + n) ≡ at + done + n = omega arith in ap (λ (m : ℕ). take m new.file) e ∙ some told
-          ∙ ap (λ (l : List ℕ). l ++ take n rest) (so_far.some told)
-          ∙ append_assoc (take at old.file) (take done bytes) (take n rest)
-          ∙ ap (λ (l : List ℕ). take at old.file ++ (take done bytes ++ take n l)) is_rest
-          ∙ ap (λ (l : List ℕ). take at old.file ++ l) (sym (take_split done n bytes));
+      some = λ told. stand_more at bytes done n old.file mid.file new.file rest is_rest (so_far.some told) (some told);
       torn = λ told. torn_then at (length bytes) (at + done) (length rest) old.file mid.file new.file from to (so_far.torn told) (torn told);
       entry = λ told. does.entry told ∙ so_far.entry told;
       moments = leaves_then (Follows (Torn at (length bytes)) (job_half old)) so_far.moments
@@ -114,17 +149,11 @@ module _ (tells : Bool) (old mid new : DiskState) (at : ℕ) (bytes : List ℕ) 
     pub written_no_more : IsWrittenTo tells old new at bytes done
     written_no_more =
         let e : done + 0 ≡ done = omega arith in
-        subst (λ (m : ℕ). IsWrittenTo tells old new at bytes m) e (written_more 0 (omega arith) (λ told.
-        let z : at + done + 0 ≡ at + done = omega arith in
-        ap (λ (m : ℕ). take m new.file) z ∙ (torn told).before ∙ sym (append-nil (take (at + done) mid.file))))
+        subst (λ (m : ℕ). IsWrittenTo tells old new at bytes m) e
+        (written_more 0 (omega arith) (λ told. stand_still at done mid.file new.file rest (torn told).before))
 
 -- once all are written
 pub written_all : (tells : Bool) (old new : DiskState) (at : ℕ) (bytes : List ℕ) (done : ℕ) → IsWrittenTo tells old new at bytes done → done ≡ length bytes
     → IsTrue tells → new.file ≡ written at bytes old.file
 written_all tells old new at bytes done so_far is told =
-    let whole : take (at + length bytes) new.file ≡ take at old.file ++ bytes
-    = ap (λ (m : ℕ). take (at + m) new.file) (sym is) ∙ so_far.some told
-    ∙ ap (λ (l : List ℕ). take at old.file ++ l) (take_all done bytes (omega (arith, is))) in
-    sym (take-append-drop (at + length bytes) new.file)
-    ∙ ap (λ (l : List ℕ). l ++ drop (at + length bytes) new.file) whole
-    ∙ ap (λ (l : List ℕ). (take at old.file ++ bytes) ++ l) (so_far.torn told).after
+    stand_all at bytes done old.file new.file is (so_far.some told) (so_far.torn told)

@@ -193,7 +193,8 @@ module _ (l : Geometry) (good : IsGeometry l) (w : Weights) (empty : ℕ) (cells
         (slice_index cells j) =
         λ j hj. once_at l empty cells want j (omega (arith, long, hj.1, below)) in
         let x = good.nested p hp in
-        let in_sector : (j : ℕ) → In j (range_at l.pages p) → In j (range_at l.sectors x.0) = λ j hj. (omega (arith, x.2.0, hj.0), omega (arith, x.2.1, hj.1)) in
+        let in_sector : (j : ℕ) → In j (range_at l.pages p) → In j (range_at l.sectors x.0) =
+        λ j hj. (omega (arith, x.2.0, hj.0), omega (arith, x.2.1, hj.1)) in
         elim (cases_Bool (must_erase l empty cells want x.0)) [
           | inl is ↦ value i hi ∙ cond-true _ _ _ (is_erased_from l empty cells want x.0 i x.1 is (in_sector i hi))
           | inr isnt ↦

@@ -13,15 +13,15 @@ use Rattle.algo_calls.specs.Shows.{AgreesAt, Fits}
 use Rattle.flash_session.specs.Moves.{Move, Stand}
 use Rattle.flash_session.specs.declared.phase.Phase.{Phase}
 use Rattle.flash_session.specs.declared.phase.Phase.TheVariants as stage
-use Rattle.flash_session.specs.declared.part.Task.{Task}
+use Rattle.flash_session.specs.declared.region_plan.SessionWork.{SessionWork}
 use Rattle.flash_session.specs.declared.player.Player.{Player}
 use Rattle.flash_session.specs.declared.target_end.TargetEnd.{TargetEnd}
 use Rattle.flash_session.specs.declared.target_end.TargetEnd.TheVariants as ended
-use Rattle.flash_session.specs.Fit.{legs_of, calls_ahead, turns_ahead, togo, IsScriptEnd, IsSoundEnd, IsPlace, IsPartOn, AreTwins, IsScripted, Fit}
+use Rattle.flash_session.specs.Fit.{legs_of, calls_ahead, turns_ahead, togo, IsScriptEnd, IsSoundEnd, IsPlace, IsRegionPlanOn, AreTwins, IsScripted, Fit}
 use Rattle.flash_session.specs.Rest.{Legs, with_torn, unbroken}
 use Rattle.flash_session.specs.Stands.{Stands, StandsOn}
 use Rattle.flash_session.specs.Goals.{goal_in}
-use Rattle.flash_session.specs.Targets.{setup_on, map_of, setup_now, part_in, point_for, legs_for, has_second, size_for, goal_for}
+use Rattle.flash_session.specs.Targets.{setup_on, map_of, setup_now, region_in, point_for, legs_for, has_second, size_for, goal_for}
 use Rattle.flash_session.specs.Turns.{SameTarget, GoesOn, Turns, FileTurn, place_fault}
 use Rattle.flash_session.proofs.MachineLemmas.{has_same, legs_same}
 
@@ -60,16 +60,16 @@ pub size_same : (old new : Player) → SameTarget old new → size_for new ≡ s
 size_same old new same = ap (λ (m : FlashMap). cells_in m.areas) (same.maps false)
 
 pub goal_same : (j : Job) (old new : Player) (file : List ℕ) → SameTarget old new → goal_for j new file ≡ goal_for j old file
-goal_same j old new file same = ap (λ (t : Task). goal_in j t.goal file) same.task
+goal_same j old new file same = ap (λ (t : SessionWork). goal_in j t.goal file) same.work
 
 part_same : (old new : Player) (r : Bool) → SameTarget old new → length new.page.items ≡ length old.page.items
-    → IsPartOn (setup_on old r) (size_for old) (length old.page.items) (part_in old.task r)
-    → IsPartOn (setup_on new r) (size_for new) (length new.page.items) (part_in new.task r)
+    → IsRegionPlanOn (setup_on old r) (size_for old) (length old.page.items) (region_in old.work r)
+    → IsRegionPlanOn (setup_on new r) (size_for new) (length new.page.items) (region_in new.work r)
 part_same old new r same page is =
-    subst (λ (s : Setup). IsPartOn s (size_for new) (length new.page.items) (part_in new.task r)) (sym (same.setups r))
-    (subst (λ (t : Task). IsPartOn (setup_on old r) (size_for new) (length new.page.items) (part_in t r)) (sym same.task)
-    (subst (λ (m : ℕ). IsPartOn (setup_on old r) m (length new.page.items) (part_in old.task r)) (sym (size_same old new same))
-    (subst (λ (n : ℕ). IsPartOn (setup_on old r) (size_for old) n (part_in old.task r)) (sym page) is)))
+    subst (λ (s : Setup). IsRegionPlanOn s (size_for new) (length new.page.items) (region_in new.work r)) (sym (same.setups r))
+    (subst (λ (t : SessionWork). IsRegionPlanOn (setup_on old r) (size_for new) (length new.page.items) (region_in t r)) (sym same.work)
+    (subst (λ (m : ℕ). IsRegionPlanOn (setup_on old r) m (length new.page.items) (region_in old.work r)) (sym (size_same old new same))
+    (subst (λ (n : ℕ). IsRegionPlanOn (setup_on old r) (size_for old) n (region_in old.work r)) (sym page) is)))
 
 pub scripted_same : (old new : Player) → SameTarget old new → length new.page.items ≡ length old.page.items → AreTwins new → IsScripted old → IsScripted new
 scripted_same old new same page twins is = record {

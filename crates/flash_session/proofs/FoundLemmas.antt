@@ -14,7 +14,7 @@ use Rattle.erase_planner.specs.Plans.{IsLeastPlan}
 use Rattle.algo_calls.specs.Duties.{cells_before}
 use Rattle.job_text.specs.Fits.{all_fit}
 use Rattle.job_text.specs.declared.job.Job.{Job}
-use Rattle.flash_session.specs.declared.part.Part.{Part as RegionSurvey}
+use Rattle.flash_session.specs.declared.region_plan.RegionPlan.{RegionPlan}
 use Rattle.flash_session.specs.declared.fault.SurveyFault.{SurveyFault}
 use Rattle.bench_model.specs.Counted.{BenchFault, fault_in, IsCounted}
 use Rattle.flash_session.specs.Found.{IsFound, AreFound}
@@ -22,9 +22,9 @@ use Rattle.flash_session.specs.Script.{Planned}
 use Rattle.flash_session.specs.Surveys.{planned_of, IsPlannedFor, ArePlannedFor, survey_fault, HasSurveyed}
 use Rattle.job_text.specs.Said.{algorithms_shown}
 use Rattle.flash_session.specs.declared.goal.Goal.{Goal}
-use Rattle.flash_session.specs.declared.part.Task.{Task}
+use Rattle.flash_session.specs.declared.region_plan.SessionWork.{SessionWork}
 use Rattle.flash_session.specs.Goals.{goal_in}
-use Rattle.flash_session.specs.RegionPlans.{IsPartFor}
+use Rattle.flash_session.specs.RegionPlans.{IsRegionPlanFor}
 use Rattle.flash_session.specs.Sources.{IsMadeFrom}
 use Rattle.flash_session.specs.declared.region_survey.Source.TheVariants as from
 use Rattle.flash_session.specs.SurveyFacts.{AreRegionSurveys}
@@ -45,7 +45,7 @@ plan_still tells b a c d g h p one two is = record {
   entry = is.entry;
 }
 
-found_still : (tells : Bool) (j : Job) (a : AlgorithmShown) (start : ℕ) (c d g h : List ℕ) (r : RegionSurvey) → (IsTrue tells → c ≡ d) → (IsTrue tells → g ≡ h)
+found_still : (tells : Bool) (j : Job) (a : AlgorithmShown) (start : ℕ) (c d g h : List ℕ) (r : RegionPlan) → (IsTrue tells → c ≡ d) → (IsTrue tells → g ≡ h)
     → IsFound tells j a start c g r → IsFound tells j a start d h r
 found_still tells j a start c d g h r one two is =
     let mine : (x y : List ℕ) → x ≡ y → take a.device.size (drop start x) ≡ take a.device.size (drop start y) =
@@ -60,7 +60,8 @@ found_still tells j a start c d g h r one two is =
     }
 
 -- what a survey to the goal of a job made of the memory for a region
-pub found_by : (tells : Bool) (j : Bor Job) (g : Goal) (a : AlgorithmShown) (start : ℕ) (s : BenchState) (r : RegionSurvey) → IsPartFor a r → r.start ≡ start
+pub found_by : (tells : Bool) (j : Bor Job) (g : Goal) (a : AlgorithmShown) (start : ℕ) (s : BenchState) (r : RegionPlan) → IsRegionPlanFor a r →
+    r.start ≡ start
     → IsMadeFrom tells (from.Job j g) j.now.board.weights a r.geometry r.start s r.plan.made → IsFound tells j.now a start s.cells (goal_in j.now g s.file) r
 found_by tells j g a start s r part place made =
     let b = board_of j.now.board in
@@ -93,7 +94,7 @@ found_by tells j g a start s r part place made =
     }
 
 -- cells and file that were only read are the same
-pub later_still : (tells : Bool) (j : Job) (start : ℕ) (algorithms : List AlgorithmShown) (c d g h : List ℕ) (works : List RegionSurvey)
+pub later_still : (tells : Bool) (j : Job) (start : ℕ) (algorithms : List AlgorithmShown) (c d g h : List ℕ) (works : List RegionPlan)
     → (IsTrue tells → c ≡ d) → (IsTrue tells → g ≡ h)
     → AreFound tells j start algorithms c g works → AreFound tells j start algorithms d h works
 later_still tells j start [] c d g h [] one two are = tt
@@ -103,13 +104,13 @@ later_still tells j start (a ∷ rest) c d g h (r ∷ more) one two are =
     (found_still tells j a start c d g h r one two are.0, later_still tells j (start + a.device.size) rest c d g h more one two are.1)
 
 -- one region, and those behind it
-pub found_then : (tells : Bool) (j : Job) (a : AlgorithmShown) (rest : List AlgorithmShown) (cells goal : List ℕ) (r : RegionSurvey) (more : List RegionSurvey)
+pub found_then : (tells : Bool) (j : Job) (a : AlgorithmShown) (rest : List AlgorithmShown) (cells goal : List ℕ) (r : RegionPlan) (more : List RegionPlan)
     → IsFound tells j a 0 cells goal r → AreFound tells j a.device.size rest cells goal more
     → AreFound tells j 0 (a ∷ rest) cells goal (r ∷ more)
 found_then tells j a rest cells goal r more one later = let e : a.device.size ≡ 0 + a.device.size = omega arith in
     (one, subst (λ (n : ℕ). AreFound tells j n rest cells goal more) e later)
 
-pub works_found : (tells : Bool) (j : Job) (start : ℕ) (algorithms : List AlgorithmShown) (cells goal : List ℕ) (works : List RegionSurvey)
+pub works_found : (tells : Bool) (j : Job) (start : ℕ) (algorithms : List AlgorithmShown) (cells goal : List ℕ) (works : List RegionPlan)
     → AreFound tells j start algorithms cells goal works → AreRegionSurveys algorithms start works
 works_found tells j start [] cells goal [] are = tt
 works_found tells j start [] cells goal (r ∷ more) are = absurd are
@@ -131,16 +132,16 @@ both_bytes n m at cells long is one two =
     (All-append (λ v. v < 2 ^ 8) (take n cells) (take m (drop n cells)) one (subst (λ (k : ℕ). AreBytes (take m (drop k cells))) is two))
 
 module _ (tells : Bool) (j : Job) (cells goal : List ℕ) (long : IsTrue tells → length cells ≡ size_of j.board.regions)
-    (goal_long : IsTrue tells → length goal ≡ size_of j.board.regions) (first : RegionSurvey) where
+    (goal_long : IsTrue tells → length goal ≡ size_of j.board.regions) (first : RegionPlan) where
   abbrev b : BoardShown
   b = board_of j.board
 
-  pub record IsWhole (algorithms : List AlgorithmShown) (second : Option RegionSurvey) : Type 0 where
+  pub record IsWhole (algorithms : List AlgorithmShown) (second : Option RegionPlan) : Type 0 where
     pub plans : ArePlannedFor tells b 0 algorithms cells goal (map planned_of (first ∷ option_to_list second))
     pub bytes : IsTrue tells → AreBytes cells
     pub wanted : IsTrue tells → AreBytes goal
 
-  pub whole_found : (algorithms : List AlgorithmShown) (second : Option RegionSurvey) → IsTrue (all_fit b j.board.regions algorithms)
+  pub whole_found : (algorithms : List AlgorithmShown) (second : Option RegionPlan) → IsTrue (all_fit b j.board.regions algorithms)
       → AreFound tells j 0 algorithms cells goal (first ∷ option_to_list second) → IsWhole algorithms second
   whole_found [] second fit are = absurd are
   whole_found (a ∷ []) None fit are =
@@ -171,7 +172,7 @@ module _ (tells : Bool) (j : Job) (cells goal : List ℕ) (long : IsTrue tells �
 
 -- the work on all regions is what a survey of the job finds
 pub surveyed_all : (tells : Bool) (j : Job) (g : Goal) (file cells : List ℕ) → (IsTrue tells → length cells ≡ size_of j.board.regions)
-    → (IsTrue tells → length (goal_in j g file) ≡ size_of j.board.regions) → (t : Task) → t.goal ≡ g
+    → (IsTrue tells → length (goal_in j g file) ≡ size_of j.board.regions) → (t : SessionWork) → t.goal ≡ g
     → AreFound tells j 0 (algorithms_shown j.algorithms) cells (goal_in j g file) (t.first ∷ option_to_list t.second)
     → HasSurveyed tells j g file cells (record { regions = map planned_of (t.first ∷ option_to_list t.second); goal = t.goal })
 surveyed_all tells j g file cells long goal_long t is are =

@@ -8,24 +8,24 @@ use Rattle.algo_calls.specs.declared.call.Call.TheVariants as call
 use Rattle.algo_calls.specs.Setups.{Setup}
 use Rattle.algo_calls.specs.Shows.{MayAsk}
 use Rattle.flash_session.specs.Moves.{Move, Make}
-use Rattle.flash_session.specs.Script.{Errand, IsErrand, sector_moves, page_at, page_call, bytes_of, has_verify}
+use Rattle.flash_session.specs.Script.{RegionWork, IsRegionWork, sector_moves, page_at, page_call, bytes_of, has_verify}
 use Rattle.flash_session.proofs.Lists.{one_of}
 use Rattle.flash_session.specs.declared.phase.Phase.TheVariants as stage
 use Rattle.flash_session.specs.declared.cursor.Item.{Item}
-use Rattle.flash_session.specs.declared.part.Part.{Part}
+use Rattle.flash_session.specs.declared.region_plan.RegionPlan.{RegionPlan}
 use Rattle.flash_session.specs.Items.{sectors_on, pages_on, calls_on_phase}
 use Rattle.flash_session.specs.Rest.{chip_from}
 use Rattle.flash_session.specs.Steps.{bytes_at, IsNext, IsItem}
-use Rattle.flash_session.specs.Targets.{planned_in, errand_in}
+use Rattle.flash_session.specs.Targets.{planned_in, work_in}
 use Rattle.flash_session.proofs.RestLemmas.{from_take}
 
 pub no_bytes : (bytes : List ℕ) → length bytes ≡ 0 → bytes ≡ []
 no_bytes [] none = refl
 no_bytes (x ∷ bytes) none = absurd (omega (arith, none))
 
-module _ (s : Setup) (g : Part) where
-  abbrev t : List ℕ → Errand
-  t goal = errand_in g goal
+module _ (s : Setup) (g : RegionPlan) where
+  abbrev t : List ℕ → RegionWork
+  t goal = work_in g goal
 
   -- ---- the next sector
 
@@ -52,17 +52,17 @@ module _ (s : Setup) (g : Part) where
   may_page true place bytes entry fit = (entry refl, fit)
   may_page false place bytes entry fit = fit
 
-  pub page_next : (v : Bool) (index k place len : ℕ) (c : Call) → c ≡ page_call v (g.base + place) → IsErrand s (planned_in g)
+  pub page_next : (v : Bool) (index k place len : ℕ) (c : Call) → c ≡ page_call v (g.base + place) → IsRegionWork s (planned_in g)
       → (IsTrue v → IsTrue (is_some s.algorithm.entries.verify)) → IsGeometry g.geometry
       → k < length g.geometry.pages → get_or g.plan.made.pages k false ≡ true → ((goal : List ℕ) → pages_on v s g goal index ≡ pages_on v s g goal k)
       → IsAt (range_at g.geometry.pages k) place len → k + 1 < 2 ^ 32
       → IsNext s g (pages_on v s g) index (record { call = c; from = place; len = len; index = k })
-  page_next v index k place len c call_is errand entry lawful less is same range room =
+  page_next v index k place len c call_is region_work entry lawful less is same range room =
       let r = range_at g.geometry.pages k in
       let m = λ (goal : List ℕ). Make s (page_call v (g.base + r.start)) (bytes_of r (t goal).goal) in
       let span : r.stop - r.start ≡ len = omega (arith, range.0, range.1) in
       let within : place + len ≤ g.geometry.size = omega (arith, range.1, lawful.pages_part.below k less) in
-      let fits : len ≤ s.algorithm.device.page = omega (arith, range.0, range.1, errand.pages k less) in
+      let fits : len ≤ s.algorithm.device.page = omega (arith, range.0, range.1, region_work.pages k less) in
       let bytes = λ (goal : List ℕ). ap (λ (n : ℕ). take n (drop r.start (t goal).goal)) span ∙ ap (λ (n : ℕ). take len (drop n (t goal).goal)) (sym range.0) in
       record {
         moves = λ goal. same goal ∙ from_take (page_at v s (t goal)) (length g.geometry.pages) k less
@@ -106,14 +106,14 @@ module _ (s : Setup) (g : Part) where
   by_chip : g.plan.made.chip ≡ true → (goal : List ℕ) (k : ℕ) → calls_on_phase stage.Erase s g goal k ≡ chip_from s k
   by_chip chip goal k = when g.plan.made.chip (chip_from s k) (sectors_on s g goal k) chip
 
-  pub chip_next : (index : ℕ) → g.plan.made.chip ≡ true → IsErrand s (planned_in g) → index ≡ 0
+  pub chip_next : (index : ℕ) → g.plan.made.chip ≡ true → IsRegionWork s (planned_in g) → index ≡ 0
       → IsNext s g (calls_on_phase stage.Erase s g) index (record { call = call.EraseChip; from = 0; len = 0; index = index })
-  chip_next index chip errand first = record {
+  chip_next index chip region_work first = record {
     moves = λ goal. by_chip chip goal index ∙ ap (chip_from s) first
         ∙ ap (λ (l : List Move). Make s call.EraseChip [] ∷ l) (sym (by_chip chip goal (index + 1) ∙ ap (λ (k : ℕ). chip_from s (k + 1)) first));
     within = omega arith;
     fits = omega arith;
-    may = λ bytes none. (no_bytes bytes none, errand.chip chip);
+    may = λ bytes none. (no_bytes bytes none, region_work.chip chip);
     room = omega (arith, first);
   }
 

@@ -18,7 +18,7 @@ use Rattle.algo_calls.proofs.KeptLemmas.{board_in}
 use Rattle.flash_session.specs.declared.session.SessionEnd.{SessionEnd}
 use Rattle.flash_session.specs.declared.session.SessionEnd.TheVariants as end
 use Rattle.flash_session.specs.Moves.{Move, Reset, Stand, run, IsWithin, IsLeftOnWay}
-use Rattle.flash_session.specs.Script.{Planned, errand, Leg, leg, Torn, Broken, torn_first, torn_rest, phases, legs_of, script}
+use Rattle.flash_session.specs.Script.{Planned, region_work, Leg, leg, Torn, Broken, torn_first, torn_rest, phases, legs_of, script}
 use Rattle.flash_session.specs.Outcome.{GoTo, Follows, end_fault, IsReached}
 use Rattle.bench_model.specs.Counted.{is_store_fault, is_device_fault}
 use Rattle.flash_session.specs.Local.{SameBut}
@@ -34,7 +34,7 @@ no_legs : (torn : List Torn) → legs_of [] torn ≡ []
 unfolding legs_of
 no_legs torn = refl
 
-more_legs : (l : Leg) (rest : List Leg) (torn : List Torn) → legs_of (l ∷ rest) torn ≡ phases l.setup l.errand (torn_first torn) ++ legs_of rest
+more_legs : (l : Leg) (rest : List Leg) (torn : List Torn) → legs_of (l ∷ rest) torn ≡ phases l.setup l.region_work (torn_first torn) ++ legs_of rest
     (torn_rest torn)
 unfolding legs_of
 more_legs l rest torn = refl
@@ -44,9 +44,9 @@ unfolding script
 script_is l rest b = refl
 
 planned_is : (x : Setup) (p : Planned) (l : Geometry) (base : ℕ) (goal : List ℕ) → p.layout ≡ l → p.base ≡ base
-    → leg x (errand l base p.plan goal) ≡ leg x (record { planned = p; goal = goal })
+    → leg x (region_work l base p.plan goal) ≡ leg x (record { planned = p; goal = goal })
 planned_is x p l base goal one two =
-    ap (λ (k : Geometry). leg x (errand k base p.plan goal)) (sym one) ∙ ap (λ (c : ℕ). leg x (errand p.layout c p.plan goal)) (sym two)
+    ap (λ (k : Geometry). leg x (region_work k base p.plan goal)) (sym one) ∙ ap (λ (c : ℕ). leg x (region_work p.layout c p.plan goal)) (sym two)
 
 module _ (b : BoardShown) (goal : List ℕ) where
   -- a region is served on the cells that those before it leave, to its part of the goal
@@ -86,12 +86,12 @@ module _ (b : BoardShown) (goal : List ℕ) where
         let l = leg_for b region a goal p in
         let later = legs_for b (region + 1) rest goal more in
         let mid : List ℕ = put site mine cells in
-        let one : Passes P x (phases l.setup l.errand (torn_first torn)) mid old =
-        subst (λ (k : Leg). Passes P x (phases k.setup k.errand (torn_first torn)) mid old)
+        let one : Passes P x (phases l.setup l.region_work (torn_first torn)) mid old =
+        subst (λ (k : Leg). Passes P x (phases k.setup k.region_work (torn_first torn)) mid old)
         (planned_is (setup_of a b) p (device_of a) a.device.base mine served.0.layout served.0.base)
         (phases_pass P old b region a b.weights p.plan mine cells served.0.served covered.0 x (torn_first torn) same board idle start) in
-        let all : Passes P x (phases l.setup l.errand (torn_first torn) ++ legs_of later (torn_rest torn)) (reached_by (region + 1) rest more mid) old =
-        passes_then P old x (phases l.setup l.errand (torn_first torn)) (legs_of later (torn_rest torn)) mid (reached_by (region + 1) rest more mid) one
+        let all : Passes P x (phases l.setup l.region_work (torn_first torn) ++ legs_of later (torn_rest torn)) (reached_by (region + 1) rest more mid) old =
+        passes_then P old x (phases l.setup l.region_work (torn_first torn)) (legs_of later (torn_rest torn)) mid (reached_by (region + 1) rest more mid) one
         (λ y y_idle y_is y_board. legs_pass (region + 1) rest more (torn_rest torn) mid y served.1 covered.1 y_is (y_board ∙ board) y_idle one.same) in
         subst (λ (m : List Move). Passes P x m (reached_by (region + 1) rest more mid) old) (sym (more_legs l later torn)) all
 

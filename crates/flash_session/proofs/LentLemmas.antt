@@ -4,7 +4,7 @@ use Rattle.board_file.specs.Shown.{shown as board_of}
 use Rattle.flm_descriptor.specs.Shown.{Shown as AlgorithmShown}
 use Rattle.job_text.specs.Said.{algorithms_shown}
 use Rattle.job_text.specs.declared.job.Job.{Job}
-use Rattle.flash_session.specs.declared.part.Part.{Part as RegionSurvey}
+use Rattle.flash_session.specs.declared.region_plan.RegionPlan.{RegionPlan}
 use Rattle.flash_session.specs.declared.ready.Survey.{Survey}
 use Rattle.flash_session.specs.Script.{Planned}
 use Rattle.flash_session.specs.Sessions.{shown_in}
@@ -12,7 +12,7 @@ use Rattle.flash_session.specs.Surveys.{planned_of, regions_of}
 use Rattle.flash_session.specs.SurveyFacts.{AreRegionSurveys, IsSurvey}
 use Rattle.flash_session.proofs.JobLemmas.{counts_are}
 
-works_count : (algorithms : List AlgorithmShown) (start : ℕ) (works : List RegionSurvey) → AreRegionSurveys algorithms start works
+works_count : (algorithms : List AlgorithmShown) (start : ℕ) (works : List RegionPlan) → AreRegionSurveys algorithms start works
     → length works ≡ length algorithms
 works_count [] start [] are = refl
 works_count [] start (r ∷ more) are = absurd are
@@ -29,14 +29,14 @@ region_inside j w region is less =
       counts_are (board_of j.board) j.board.regions (algorithms_shown j.algorithms) j.fit,
     )
 
-planned_at : (works : List RegionSurvey) (k : ℕ) (other : Planned) (r : RegionSurvey) → k < length works
+planned_at : (works : List RegionPlan) (k : ℕ) (other : Planned) (r : RegionPlan) → k < length works
     → get_or (map planned_of works) k other ≡ planned_of (get_or works k r)
 planned_at [] k other r less = absurd (omega (arith, less))
 planned_at (w ∷ works) zero other r less = refl
 planned_at (w ∷ works) (suc k) other r less = planned_at works k other r (omega (arith, less))
 
-module _ (o : Option Survey) (w : Survey) (k : ℕ) (r : RegionSurvey) (is : o ≡ Some w) (less : k < length (regions_of w))
-    (there : (other : RegionSurvey) → r ≡ get_or (regions_of w) k other) where
+module _ (o : Option Survey) (w : Survey) (k : ℕ) (r : RegionPlan) (is : o ≡ Some w) (less : k < length (regions_of w))
+    (there : (other : RegionPlan) → r ≡ get_or (regions_of w) k other) where
   found : (other : Planned) → planned_of r ≡ get_or (map planned_of (regions_of w)) k other
   found other = ap planned_of (there r) ∙ sym (planned_at (regions_of w) k other r less)
 

@@ -13,12 +13,12 @@ use Rattle.algo_calls.specs.Shows.{setup_at, world_at, Fits}
 use Rattle.flash_session.specs.declared.cursor.Cursor.TheVariants as at
 use Rattle.flash_session.specs.declared.cursor.Place.TheVariants as place
 use Rattle.flash_session.specs.declared.phase.Phase.TheVariants as stage
-use Rattle.flash_session.specs.declared.part.Task.{Task}
+use Rattle.flash_session.specs.declared.region_plan.SessionWork.{SessionWork}
 use Rattle.flash_session.specs.declared.player.Player.{Player}
 use Rattle.flash_session.specs.Fit.{AreTwins}
 use Rattle.flash_session.specs.Rest.{Legs}
 use Rattle.flash_session.specs.Script.{leg}
-use Rattle.flash_session.specs.Targets.{errand_in, later_leg, of_region, calls_on, setup_on, map_of, map_on, setup_now, has_second, legs_for}
+use Rattle.flash_session.specs.Targets.{work_in, later_leg, of_region, calls_on, setup_on, map_of, map_on, setup_now, has_second, legs_for}
 use Rattle.flash_session.specs.Turned.{IsExchanged, TurnsTo, Restarts}
 use Rattle.flash_session.specs.Turns.{SameTarget}
 use Rattle.flash_session.proofs.StepLemmas.{moved_region, setup_moved}
@@ -26,13 +26,13 @@ use Rattle.flash_session.proofs.StepLemmas.{moved_region, setup_moved}
 -- ---- what stays
 
 pub same_here : (g : Player) → SameTarget g g
-same_here g = record { setups = λ r. refl; maps = λ r. refl; task = refl; window = refl }
+same_here g = record { setups = λ r. refl; maps = λ r. refl; work = refl; window = refl }
 
 pub same_then : (a b c : Player) → SameTarget a b → SameTarget b c → SameTarget a c
 same_then a b c one two = record {
   setups = λ r. two.setups r ∙ one.setups r;
   maps = λ r. two.maps r ∙ one.maps r;
-  task = two.task ∙ one.task;
+  work = two.work ∙ one.work;
   window =
       two.window ∙ one.window;
 }
@@ -56,21 +56,21 @@ of_map true false here there None e = e
 of_map true false here there (Some o) e = refl
 
 -- the calls at hand changed, and nothing else of its script
-pub same_by : (a b : Player) → setup_at b.calls ≡ setup_at a.calls → map_of b.calls ≡ map_of a.calls → b.second ≡ a.second → b.other ≡ a.other → b.task ≡ a.task
+pub same_by : (a b : Player) → setup_at b.calls ≡ setup_at a.calls → map_of b.calls ≡ map_of a.calls → b.second ≡ a.second → b.other ≡ a.other → b.work ≡ a.work
     → b.window ≡ a.window → SameTarget a b
-same_by a b setup map second other task window = record {
+same_by a b setup map second other work window = record {
   setups = λ r.
       ap (λ (m : Bool). setup_at (of_region r m b.calls b.other)) second ∙ ap (λ (o : Option CallsIn). setup_at (of_region r a.second b.calls o)) other
       ∙ of_setup r a.second a.calls b.calls a.other setup;
   maps = λ r.
       ap (λ (m : Bool). map_of (of_region r m b.calls b.other)) second ∙ ap (λ (o : Option CallsIn). map_of (of_region r a.second b.calls o)) other
       ∙ of_map r a.second a.calls b.calls a.other map;
-  task = task;
+  work = work;
   window = window;
 }
 
 pub has_same : (a b : Player) → SameTarget a b → has_second b ≡ has_second a
-has_same a b same = ap (λ (t : Task). is_some t.second) same.task
+has_same a b same = ap (λ (t : SessionWork). is_some t.second) same.work
 
 twins_by : (a b : Player) → SameTarget a b → AreTwins a → is_some b.other ≡ has_second b → (IsTrue b.second → IsTrue (has_second b)) → AreTwins b
 twins_by a b same is there moved = record {
@@ -88,10 +88,10 @@ twins_still a b same second other is =
 
 pub legs_same : (a b : Player) → SameTarget a b → (goal : List ℕ) → legs_for b goal ≡ legs_for a goal
 legs_same a b same goal =
-    let legs = λ (t : Task) (x y : Setup). let l : Legs = record { first = leg x (errand_in t.first goal); second = later_leg y t.second goal } in l in
-    ap (λ (t : Task). legs t (setup_on b false) (setup_on b true)) same.task
-    ∙ ap (λ (x : Setup). legs a.task x (setup_on b true)) (same.setups false)
-    ∙ ap (λ (y : Setup). legs a.task (setup_on a false) y) (same.setups true)
+    let legs = λ (t : SessionWork) (x y : Setup). let l : Legs = record { first = leg x (work_in t.first goal); second = later_leg y t.second goal } in l in
+    ap (λ (t : SessionWork). legs t (setup_on b false) (setup_on b true)) same.work
+    ∙ ap (λ (x : Setup). legs a.work x (setup_on b true)) (same.setups false)
+    ∙ ap (λ (y : Setup). legs a.work (setup_on a false) y) (same.setups true)
 
 -- ---- twins
 
@@ -196,7 +196,7 @@ module _ (a : Player) (arena : List (List ℕ)) (b : Player) (arena' : List (Lis
         ap (λ (m : Bool). map_of (of_region r m b.calls b.other)) second_is
         ∙ ap (λ (o : Option CallsIn). map_of (of_region r (not a.second) b.calls o)) other_is
         ∙ turned_map r a.second a.calls c b.calls turned.map ∙ sym (ap (λ (o : Option CallsIn). map_of (of_region r a.second a.calls o)) is);
-    task = ap (λ (g : Player). g.task) turned.rest;
+    work = ap (λ (g : Player). g.work) turned.rest;
     window = ap (λ (g : Player). g.window) turned.rest;
   }
 
@@ -276,7 +276,7 @@ restarts_by a arena mid arena1 b arena2 setup map world turns =
     let both = same_then a (record a { calls = mid }) b (hand_same a mid setup map) turns.same in
     let window_is : b.window ≡ a.window = ap (λ (g : Player). g.window) turns.rest in
     record {
-      same = record { setups = both.setups; maps = both.maps; task = both.task; window = both.window };
+      same = record { setups = both.setups; maps = both.maps; work = both.work; window = both.window };
       twins = record { base = turns.twins.base; size = turns.twins.size; map = turns.twins.map; there = turns.twins.there; moved = turns.twins.moved };
       moved = turns.moved;
       made = refl;

@@ -1,5 +1,5 @@
 -- A region's part of all cells: bytes of it are bytes of all cells, and the parts of all regions are all of them.
--- Surveys and errands are of regions, and the goal and the comparison of all cells: so each is a part of the other.
+-- Surveys and work are of regions, and the goal and the comparison of all cells: so each is a part of the other.
 use Rattle.std.proofs.Common.{◌≡◌, ◌≤◌, ◌+◌, ◌-◌, ◌++◌, ◌∙◌, ℕ, List, length, take, drop, sym, ap, arith}
 use Rattle.std.proofs.lemmas.List.{drop-drop, drop-take, take-take, take-append-drop, take_all}
 use Rattle.algo_calls.specs.Duties.{part}

@@ -5,7 +5,8 @@ use Rattle.std.proofs.lemmas.List.{append-nil}
 use Rattle.algo_calls.specs.declared.call.Call.TheVariants as call
 use Rattle.algo_calls.specs.Setups.{Setup}
 use Rattle.flash_session.specs.Moves.{Move, Reset, Load, Make}
-use Rattle.flash_session.specs.Script.{Errand, Torn, Leg, Broken, torn_first, torn_rest, each_below, sector_moves, erase_moves, page_at, page_moves, has_verify}
+use Rattle.flash_session.specs.Script.{RegionWork, Torn, Leg, Broken, torn_first, torn_rest, each_below, sector_moves, erase_moves, page_at, page_moves}
+use Rattle.flash_session.specs.Script.{has_verify}
 use Rattle.flash_session.specs.Script.{verify_moves, phase, phases, legs_of, script, kind_of}
 use Rattle.flash_session.proofs.Lists.{each_none, each_more, phase_none, phase_is}
 use Rattle.flash_session.specs.declared.phase.Phase.{Phase}
@@ -65,7 +66,7 @@ same_either d x y z is = ap (λ (l : List Move). cond d x l) is
 same_whether : (d : Bool) (x y z : List Move) → x ≡ y → cond d x z ≡ cond d y z
 same_whether d x y z is = ap (λ (l : List Move). cond d l z) is
 
-pub calls_all : (s : Setup) (t : Errand) (p : Phase) → calls_from s t p 0 ≡ phase_calls s t p
+pub calls_all : (s : Setup) (t : RegionWork) (p : Phase) → calls_from s t p 0 ≡ phase_calls s t p
 unfolding erase_moves page_moves
 calls_all s t stage.Erase = same_either t.planned.plan.chip (Make s call.EraseChip [] ∷ []) _ _
     (on_all (sector_moves s t.planned) (length t.planned.layout.sectors))
@@ -81,33 +82,33 @@ opened s kind torn calls later some =
     ∙ ap (λ (l : List Move). Reset s torn ∷ Load s ∷ Make s (call.Init kind) [] ∷ l) (append_assoc calls (Make s (call.UnInit kind) [] ∷ []) later)
 
 -- a phase that has calls begins with a reset and a load, whatever the reset leaves
-pub begin_is : (l : Legs) (r : Bool) (p : Phase) → (phase_calls (leg_at l r).setup (leg_at l r).errand p ≡ [] → ⊥) → (b : Broken) (torn : List ℕ)
+pub begin_is : (l : Legs) (r : Bool) (p : Phase) → (phase_calls (leg_at l r).setup (leg_at l r).region_work p ≡ [] → ⊥) → (b : Broken) (torn : List ℕ)
     → rest_of l (at.Begin r p) (with_torn r p torn b) ≡ Reset (leg_at l r).setup torn ∷ Load (leg_at l r).setup ∷ rest_of l (at.Init r p) b
 begin_is l false stage.Erase some b torn =
-    opened l.first.setup 1 torn (phase_calls l.first.setup l.first.errand stage.Erase)
-    (after_phase l.first.setup l.first.errand stage.Erase (torn_at false b) (later_than l false b)) some
+    opened l.first.setup 1 torn (phase_calls l.first.setup l.first.region_work stage.Erase)
+    (after_phase l.first.setup l.first.region_work stage.Erase (torn_at false b) (later_than l false b)) some
 begin_is l false stage.Program some b torn =
-    opened l.first.setup 2 torn (phase_calls l.first.setup l.first.errand stage.Program)
-    (after_phase l.first.setup l.first.errand stage.Program (torn_at false b) (later_than l false b)) some
+    opened l.first.setup 2 torn (phase_calls l.first.setup l.first.region_work stage.Program)
+    (after_phase l.first.setup l.first.region_work stage.Program (torn_at false b) (later_than l false b)) some
 begin_is l false stage.Verify some b torn =
-    opened l.first.setup 3 torn (phase_calls l.first.setup l.first.errand stage.Verify)
-    (after_phase l.first.setup l.first.errand stage.Verify (torn_at false b) (later_than l false b)) some
+    opened l.first.setup 3 torn (phase_calls l.first.setup l.first.region_work stage.Verify)
+    (after_phase l.first.setup l.first.region_work stage.Verify (torn_at false b) (later_than l false b)) some
 begin_is l true stage.Erase some b torn =
-    opened (leg_at l true).setup 1 torn (phase_calls (leg_at l true).setup (leg_at l true).errand stage.Erase)
-    (after_phase (leg_at l true).setup (leg_at l true).errand stage.Erase (torn_at true b) (later_than l true b)) some
+    opened (leg_at l true).setup 1 torn (phase_calls (leg_at l true).setup (leg_at l true).region_work stage.Erase)
+    (after_phase (leg_at l true).setup (leg_at l true).region_work stage.Erase (torn_at true b) (later_than l true b)) some
 begin_is l true stage.Program some b torn =
-    opened (leg_at l true).setup 2 torn (phase_calls (leg_at l true).setup (leg_at l true).errand stage.Program)
-    (after_phase (leg_at l true).setup (leg_at l true).errand stage.Program (torn_at true b) (later_than l true b)) some
+    opened (leg_at l true).setup 2 torn (phase_calls (leg_at l true).setup (leg_at l true).region_work stage.Program)
+    (after_phase (leg_at l true).setup (leg_at l true).region_work stage.Program (torn_at true b) (later_than l true b)) some
 begin_is l true stage.Verify some b torn =
-    opened (leg_at l true).setup 3 torn (phase_calls (leg_at l true).setup (leg_at l true).errand stage.Verify)
-    (after_phase (leg_at l true).setup (leg_at l true).errand stage.Verify (torn_at true b) (later_than l true b)) some
+    opened (leg_at l true).setup 3 torn (phase_calls (leg_at l true).setup (leg_at l true).region_work stage.Verify)
+    (after_phase (leg_at l true).setup (leg_at l true).region_work stage.Verify (torn_at true b) (later_than l true b)) some
 
 -- one that has none is left out
-pub skip_is : (l : Legs) (r : Bool) (p : Phase) → phase_calls (leg_at l r).setup (leg_at l r).errand p ≡ [] → (b : Broken)
-    → rest_of l (at.Begin r p) b ≡ after_phase (leg_at l r).setup (leg_at l r).errand p (torn_at r b) (later_than l r b)
+pub skip_is : (l : Legs) (r : Bool) (p : Phase) → phase_calls (leg_at l r).setup (leg_at l r).region_work p ≡ [] → (b : Broken)
+    → rest_of l (at.Begin r p) b ≡ after_phase (leg_at l r).setup (leg_at l r).region_work p (torn_at r b) (later_than l r b)
 skip_is l r p nothing b =
-    ap (λ (m : List Move). m ++ after_phase (leg_at l r).setup (leg_at l r).errand p (torn_at r b) (later_than l r b))
-    (phase_none (leg_at l r).setup (kind_of p) (torn_of p (torn_at r b)) (phase_calls (leg_at l r).setup (leg_at l r).errand p) nothing)
+    ap (λ (m : List Move). m ++ after_phase (leg_at l r).setup (leg_at l r).region_work p (torn_at r b) (later_than l r b))
+    (phase_none (leg_at l r).setup (kind_of p) (torn_of p (torn_at r b)) (phase_calls (leg_at l r).setup (leg_at l r).region_work p) nothing)
 
 -- what follows the first region is the second one, where there is one
 behind_first : (first : Leg) (second : Option Leg) (b : Broken) → let l : Legs = record { first = first; second = second } in
@@ -120,7 +121,7 @@ behind_is l false b = behind_first l.first l.second b
 behind_is l true b = refl
 
 pub after_is : (l : Legs) (r : Bool) (p : Phase) (b : Broken)
-    → after_phase (leg_at l r).setup (leg_at l r).errand p (torn_at r b) (later_than l r b) ≡ rest_of l (after (is_some l.second) r p) b
+    → after_phase (leg_at l r).setup (leg_at l r).region_work p (torn_at r b) (later_than l r b) ≡ rest_of l (after (is_some l.second) r p) b
 after_is l r stage.Erase b = refl
 after_is l r stage.Program b = refl
 after_is l r stage.Verify b = behind_is l r b
@@ -130,23 +131,23 @@ pub init_is : (l : Legs) (r : Bool) (p : Phase) (b : Broken) → rest_of l (at.I
     (at.Calls r p 0) b
 init_is l r p b =
     ap (λ (m : List Move). Make (leg_at l r).setup (call.Init (kind_of p)) [] ∷
-    (m ++ closing (leg_at l r).setup (leg_at l r).errand p (torn_at r b) (later_than l r b)))
-    (sym (calls_all (leg_at l r).setup (leg_at l r).errand p))
+    (m ++ closing (leg_at l r).setup (leg_at l r).region_work p (torn_at r b) (later_than l r b)))
+    (sym (calls_all (leg_at l r).setup (leg_at l r).region_work p))
 
 pub call_is : (l : Legs) (r : Bool) (p : Phase) (k next : ℕ) (m : Move)
-    → calls_from (leg_at l r).setup (leg_at l r).errand p k ≡ m ∷ calls_from (leg_at l r).setup (leg_at l r).errand p next → (b : Broken)
+    → calls_from (leg_at l r).setup (leg_at l r).region_work p k ≡ m ∷ calls_from (leg_at l r).setup (leg_at l r).region_work p next → (b : Broken)
     → rest_of l (at.Calls r p k) b ≡ m ∷ rest_of l (at.Calls r p next) b
-call_is l r p k next m is b = ap (λ (n : List Move). n ++ closing (leg_at l r).setup (leg_at l r).errand p (torn_at r b) (later_than l r b)) is
+call_is l r p k next m is b = ap (λ (n : List Move). n ++ closing (leg_at l r).setup (leg_at l r).region_work p (torn_at r b) (later_than l r b)) is
 
-pub uninit_is : (l : Legs) (r : Bool) (p : Phase) (k : ℕ) → calls_from (leg_at l r).setup (leg_at l r).errand p k ≡ [] → (b : Broken)
+pub uninit_is : (l : Legs) (r : Bool) (p : Phase) (k : ℕ) → calls_from (leg_at l r).setup (leg_at l r).region_work p k ≡ [] → (b : Broken)
     → rest_of l (at.Calls r p k) b ≡ Make (leg_at l r).setup (call.UnInit (kind_of p)) [] ∷ rest_of l (after (is_some l.second) r p) b
 uninit_is l r p k nothing b =
-    ap (λ (n : List Move). n ++ closing (leg_at l r).setup (leg_at l r).errand p (torn_at r b) (later_than l r b)) nothing
+    ap (λ (n : List Move). n ++ closing (leg_at l r).setup (leg_at l r).region_work p (torn_at r b) (later_than l r b)) nothing
     ∙ ap (λ (n : List Move). Make (leg_at l r).setup (call.UnInit (kind_of p)) [] ∷ n) (after_is l r p b)
 
 -- ---- a script is the rest of it from its first phase on
 
-three_of : (s : Setup) (t : Errand) (b : Torn) (later : List Move) → phases s t b ++ later ≡ from_phase s t stage.Erase b later
+three_of : (s : Setup) (t : RegionWork) (b : Torn) (later : List Move) → phases s t b ++ later ≡ from_phase s t stage.Erase b later
 unfolding phases
 three_of s t b later =
     append_assoc (phase s 1 b.erase (erase_moves s t.planned)) (phase s 2 b.program (page_moves false s t) ++ phase s 3 b.verify (verify_moves s t)) later
@@ -157,7 +158,7 @@ legs_none : (torn : List Torn) → legs_of [] torn ≡ []
 unfolding legs_of
 legs_none torn = refl
 
-legs_more : (l : Leg) (rest : List Leg) (torn : List Torn) → legs_of (l ∷ rest) torn ≡ phases l.setup l.errand (torn_first torn) ++ legs_of rest
+legs_more : (l : Leg) (rest : List Leg) (torn : List Torn) → legs_of (l ∷ rest) torn ≡ phases l.setup l.region_work (torn_first torn) ++ legs_of rest
     (torn_rest torn)
 unfolding legs_of
 legs_more l rest torn = refl
@@ -166,9 +167,9 @@ second_is : (second : Option Leg) (torn : List Torn) (later : List Move)
     → legs_of (option_to_list second) torn ++ later ≡ second_rest second (torn_first torn) later
 second_is None torn later = ap (λ (m : List Move). m ++ later) (legs_none torn)
 second_is (Some m) torn later =
-    ap (λ (x : List Move). x ++ later) (legs_more m [] torn ∙ ap (λ (x : List Move). phases m.setup m.errand (torn_first torn) ++ x)
-    (legs_none (torn_rest torn)) ∙ append-nil (phases m.setup m.errand (torn_first torn)))
-    ∙ three_of m.setup m.errand (torn_first torn) later
+    ap (λ (x : List Move). x ++ later) (legs_more m [] torn ∙ ap (λ (x : List Move). phases m.setup m.region_work (torn_first torn) ++ x)
+    (legs_none (torn_rest torn)) ∙ append-nil (phases m.setup m.region_work (torn_first torn)))
+    ∙ three_of m.setup m.region_work (torn_first torn) later
 
 script_more : (l : Legs) (b : Broken) → script (all_legs l) b ≡ legs_of (all_legs l) b.legs ++ last_reset l b
 unfolding script
@@ -176,10 +177,10 @@ script_more l b = refl
 
 pub script_is : (l : Legs) (b : Broken) → script (all_legs l) b ≡ rest_of l (at.Begin false stage.Erase) b
 script_is l b =
-    let one : List Move = phases l.first.setup l.first.errand (torn_first b.legs) in
+    let one : List Move = phases l.first.setup l.first.region_work (torn_first b.legs) in
     let two : List Move = legs_of (option_to_list l.second) (torn_rest b.legs) in
     script_more l b
     ∙ ap (λ (m : List Move). m ++ last_reset l b) (legs_more l.first (option_to_list l.second) b.legs)
     ∙ append_assoc one two (last_reset l b)
     ∙ ap (λ (m : List Move). one ++ m) (second_is l.second (torn_rest b.legs) (last_reset l b))
-    ∙ three_of l.first.setup l.first.errand (torn_first b.legs) (later_than l false b)
+    ∙ three_of l.first.setup l.first.region_work (torn_first b.legs) (later_than l false b)

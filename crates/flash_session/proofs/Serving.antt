@@ -24,7 +24,7 @@ use Rattle.algo_calls.specs.Duties.{Site, part, Acting, span, KeepAll, Phase, Er
 use Rattle.algo_calls.specs.Duties.{device_of, ready, site_of, Serves}
 use Rattle.algo_calls.proofs.KeptLemmas.{board_in}
 use Rattle.flash_session.specs.Moves.{Move, Stand}
-use Rattle.flash_session.specs.Script.{Errand, errand, erase_moves, page_moves, has_verify, verify_moves, phase, Torn, phases}
+use Rattle.flash_session.specs.Script.{RegionWork, region_work, erase_moves, page_moves, has_verify, verify_moves, phase, Torn, phases}
 use Rattle.flash_session.specs.Local.{IsInRegionPlan, SameBut}
 use Rattle.flash_session.proofs.Lists.{phase_none}
 use Rattle.flash_session.proofs.Members.{move_of, erasing_phase, erase_list, program_list, check_list}
@@ -204,7 +204,7 @@ erasing_kind true set = refl
 erasing_kind false set = refl
 
 -- what a region is to go through, phase by phase
-phases_are : (s : Setup) (t : Errand) (b : Torn) → phases s t b ≡ phase s 1 b.erase (erase_moves s t.planned) ++
+phases_are : (s : Setup) (t : RegionWork) (b : Torn) → phases s t b ≡ phase s 1 b.erase (erase_moves s t.planned) ++
     (phase s 2 b.program (page_moves false s t) ++ phase s 3 b.verify (verify_moves s t))
 unfolding phases
 phases_are s t b = refl
@@ -282,8 +282,8 @@ module _ (P : ℕ → Type 0) (old : List ℕ) (b : BoardShown) (region : ℕ) (
   sectors_long : length plan.sectors ≡ length (device_of a).sectors
   sectors_long = ap (λ (p : Chosen). length p.sectors) is.least.chosen ∙ chosen_sectors (device_of a) w (is_some a.entries.erase_chip) a.device.empty mine goal
 
-  abbrev region_errand : Errand
-  region_errand = errand (device_of a) a.device.base plan goal
+  abbrev own_work : RegionWork
+  own_work = region_work (device_of a) a.device.base plan goal
 
   -- the cells that the script is to reach in this region
   abbrev reached : List ℕ
@@ -296,11 +296,11 @@ module _ (P : ℕ → Type 0) (old : List ℕ) (b : BoardShown) (region : ℕ) (
   -- the third phase, where the algorithm can verify, changes nothing
   check_passes : (d : Bool) (x : Stand) (torn : List ℕ) → d ≡ has_verify (setup_of a b) → x.world.cells ≡ reached → board_in x.world ≡ (b.ram_base, board_map b)
       → state_op x.world.state ≡ None → SameBut P old reached
-      → Passes P x (phase (setup_of a b) 3 torn (cond d (page_moves true (setup_of a b) region_errand) [])) reached old
+      → Passes P x (phase (setup_of a b) 3 torn (cond d (page_moves true (setup_of a b) own_work) [])) reached old
   check_passes true x torn entry same board idle start =
       let s = setup_of a b in
       let l = device_of a in
-      work (Verifies plan.pages) x torn (page_moves true s region_errand) reached reached goal same (put_part here goal cells is.among is.goal_size) board idle
+      work (Verifies plan.pages) x torn (page_moves true s own_work) reached reached goal same (put_part here goal cells is.among is.goal_size) board idle
       (check_list s l plan goal is.lawful is.goal_size pages_long) reached_long (put_bytes here goal cells is.among is.goal_size is.bytes is.goal_bytes)
       (pages_long, sym entry) (led_verifies s here goal reached plan.pages) (verifying_places P s here goal plan.pages) start
   check_passes false x torn entry same board idle start = passes_none P old x (phase (setup_of a b) 3 torn []) reached
@@ -309,7 +309,7 @@ module _ (P : ℕ → Type 0) (old : List ℕ) (b : BoardShown) (region : ℕ) (
   -- the phases of the plan from these cells on, which leave the cells of the other regions
   pub phases_pass : (x : Stand) (torn : Torn) → x.world.cells ≡ cells → board_in x.world ≡ (b.ram_base, board_map b) → state_op x.world.state ≡ None
       → SameBut P old cells
-      → Passes P x (phases (setup_of a b) region_errand torn) reached old
+      → Passes P x (phases (setup_of a b) own_work torn) reached old
   phases_pass x torn same board idle start =
       let s = setup_of a b in
       let l = device_of a in
@@ -327,11 +327,11 @@ module _ (P : ℕ → Type 0) (old : List ℕ) (b : BoardShown) (region : ℕ) (
       let half_bytes : AreBytes half = erased_bytes l a.device.empty plan.chip plan.sectors mine half is.empty (part_bytes here cells is.among is.bytes)
       parts.1 in
       let entry : plan.chip ≡ true → is_some a.entries.erase_chip ≡ true = λ chip. is.least.leads.lawful (chip_first l goal plan chip) in
-      let second : List Move = phase s 2 torn.program (page_moves false s region_errand) in
-      let third : List Move = phase s 3 torn.verify (verify_moves s region_errand) in
-      let one : Passes P x (phase s 1 torn.erase (erase_moves s region_errand.planned)) mid old =
-      subst (λ (n : ℕ). Passes P x (phase s n torn.erase (erase_moves s region_errand.planned)) mid old) (erasing_kind plan.chip plan.sectors)
-      (work (erasing_phase plan) x torn.erase (erase_moves s region_errand.planned) mid cells mine same refl board idle
+      let second : List Move = phase s 2 torn.program (page_moves false s own_work) in
+      let third : List Move = phase s 3 torn.verify (verify_moves s own_work) in
+      let one : Passes P x (phase s 1 torn.erase (erase_moves s own_work.planned)) mid old =
+      subst (λ (n : ℕ). Passes P x (phase s n torn.erase (erase_moves s own_work.planned)) mid old) (erasing_kind plan.chip plan.sectors)
+      (work (erasing_phase plan) x torn.erase (erase_moves s own_work.planned) mid cells mine same refl board idle
       (erase_list s l plan goal mine sectors_long) refl is.bytes
       (may_erase s l plan.chip plan.sectors entry sectors_long) (erasing_led s here cells half plan.chip plan.sectors is.among parts.1)
       (erasing_places P s here plan mine plan.chip is.lawful sectors_long covers (λ chip. chip)) start) in
@@ -339,10 +339,10 @@ module _ (P : ℕ → Type 0) (old : List ℕ) (b : BoardShown) (region : ℕ) (
       subst (λ (c : List ℕ). Led s here mid (works_of s l half (Programs plan.pages goal)) c) (put_again here goal half cells is.among half_size)
       (subst (λ (c : List ℕ). Led s here mid (works_of s l c (Programs plan.pages goal)) (put here goal mid)) mid_part
       (programming_led s here mid goal plan.pages mid_among (subst (λ (c : List ℕ). Leads l a.device.empty c ws goal) (sym mid_part) parts.2))) in
-      subst (λ (m : List Move). Passes P x m reached old) (sym (phases_are s region_errand torn))
-      (passes_then P old x (phase s 1 torn.erase (erase_moves s region_errand.planned)) (second ++ third) mid reached one (λ y y_idle y_is y_board.
+      subst (λ (m : List Move). Passes P x m reached old) (sym (phases_are s own_work torn))
+      (passes_then P old x (phase s 1 torn.erase (erase_moves s own_work.planned)) (second ++ third) mid reached one (λ y y_idle y_is y_board.
       let two : Passes P y second reached old =
-      work (Programs plan.pages goal) y torn.program (page_moves false s region_errand) reached mid half y_is mid_part (y_board ∙ board) y_idle
+      work (Programs plan.pages goal) y torn.program (page_moves false s own_work) reached mid half y_is mid_part (y_board ∙ board) y_idle
       (program_list s l plan goal is.lawful is.goal_size pages_long half) mid_long (put_bytes here half cells is.among half_size is.bytes half_bytes)
       (pages_long, is.goal_size, is.goal_bytes) written (programming_places P s here plan half goal is.lawful pages_long covers) one.same in
       passes_then P old y second third reached reached two (λ z z_idle z_is z_board.

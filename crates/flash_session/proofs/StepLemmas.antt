@@ -14,13 +14,13 @@ use Rattle.flash_session.specs.declared.cursor.Cursor.TheVariants as at
 use Rattle.flash_session.specs.declared.cursor.Step.{Step}
 use Rattle.flash_session.specs.declared.cursor.Step.TheVariants as step
 use Rattle.flash_session.specs.declared.cursor.Item.{Item}
-use Rattle.flash_session.specs.declared.part.Part.{Part}
+use Rattle.flash_session.specs.declared.region_plan.RegionPlan.{RegionPlan}
 use Rattle.flash_session.specs.declared.player.Player.{Player}
-use Rattle.flash_session.specs.Fit.{IsPartOn, IsScripted}
+use Rattle.flash_session.specs.Fit.{IsRegionPlanOn, IsScripted}
 use Rattle.flash_session.specs.Items.{calls_on_phase}
 use Rattle.flash_session.specs.Rest.{calls_from, phase_calls, Legs, leg_at, later_than, rest_of, with_torn, with_last, after, after_region}
 use Rattle.flash_session.specs.Steps.{bytes_at, IsAsked, IsNext, IsItem, IsCursor, IsStep, IsStepBehind, IsPhaseFrom, has_phase}
-use Rattle.flash_session.specs.Targets.{of_region, setup_on, setup_now, part_in, errand_in, later_leg, legs_for, has_second, size_for}
+use Rattle.flash_session.specs.Targets.{of_region, setup_on, setup_now, region_in, work_in, later_leg, legs_for, has_second, size_for}
 use Rattle.flash_session.proofs.ItemLemmas.{no_bytes}
 use Rattle.flash_session.proofs.PartLemmas.{part_at}
 use Rattle.flash_session.proofs.RestLemmas.{calls_all, begin_is, skip_is, behind_is, init_is, call_is, uninit_is}
@@ -35,12 +35,12 @@ moved_region true here other = refl
 pub setup_moved : (g : Player) (r : Bool) → g.second ≡ r → setup_on g r ≡ setup_now g
 setup_moved g r is = ap (λ (m : Bool). setup_at (of_region r m g.calls g.other)) is ∙ ap (λ (c : CallsIn). setup_at c) (moved_region r g.calls g.other)
 
-second_leg : (o : Option Part) (s : Setup) (goal : List ℕ) (m : Leg) (p : Part) → IsTrue (is_some o)
-    → unwrap_or (later_leg s o goal) m ≡ leg s (errand_in (unwrap_or o p) goal)
+second_leg : (o : Option RegionPlan) (s : Setup) (goal : List ℕ) (m : Leg) (p : RegionPlan) → IsTrue (is_some o)
+    → unwrap_or (later_leg s o goal) m ≡ leg s (work_in (unwrap_or o p) goal)
 second_leg None s goal m p there = cc
 second_leg (Some q) s goal m p there = refl
 
-second_there : (o : Option Part) (s : Setup) (goal : List ℕ) → is_some (later_leg s o goal) ≡ is_some o
+second_there : (o : Option RegionPlan) (s : Setup) (goal : List ℕ) → is_some (later_leg s o goal) ≡ is_some o
 second_there None s goal = refl
 second_there (Some q) s goal = refl
 
@@ -55,14 +55,15 @@ module _ (g : Player) where
   abbrev legs : List ℕ → Legs
   legs goal = legs_for g goal
 
-  pub leg_is : (r : Bool) → (IsTrue r → IsTrue (has_second g)) → (goal : List ℕ) → leg_at (legs goal) r ≡ leg (setup_on g r) (errand_in (part_in g.task r) goal)
+  pub leg_is : (r : Bool) → (IsTrue r → IsTrue (has_second g)) → (goal : List ℕ) → leg_at (legs goal) r ≡ leg (setup_on g r) (work_in (region_in g.work r) goal)
   leg_is false there goal = refl
-  leg_is true there goal = second_leg g.task.second (setup_on g true) goal (legs goal).first g.task.first (there refl)
+  leg_is true there goal = second_leg g.work.second (setup_on g true) goal (legs goal).first g.work.first (there refl)
 
   has_is : (goal : List ℕ) → is_some (legs goal).second ≡ has_second g
-  has_is goal = second_there g.task.second (setup_on g true) goal
+  has_is goal = second_there g.work.second (setup_on g true) goal
 
-  pub part_on : IsScripted g → (r : Bool) → (IsTrue r → IsTrue (has_second g)) → IsPartOn (setup_on g r) (size_for g) (length g.page.items) (part_in g.task r)
+  pub part_on : IsScripted g → (r : Bool) → (IsTrue r → IsTrue (has_second g)) → IsRegionPlanOn (setup_on g r) (size_for g) (length g.page.items)
+      (region_in g.work r)
   part_on scripted false there = scripted.first
   part_on scripted true there = scripted.second (there refl)
 
@@ -72,15 +73,15 @@ module _ (g : Player) where
   nonempty m l is = cc
 
   pub any_item : (r : Bool) (p : Phase) → (IsTrue r → IsTrue (has_second g)) → (o : Option Item)
-      → IsItem (setup_on g r) (part_in g.task r) (calls_on_phase p (setup_on g r) (part_in g.task r)) 0 o → has_phase g r p (is_some o)
+      → IsItem (setup_on g r) (region_in g.work r) (calls_on_phase p (setup_on g r) (region_in g.work r)) 0 o → has_phase g r p (is_some o)
   any_item r p there None is = λ goal.
-      subst (λ (m : Leg). phase_calls m.setup m.errand p ≡ []) (sym (leg_is r there goal))
-      (sym (calls_all (setup_on g r) (errand_in (part_in g.task r) goal) p) ∙ is goal)
+      subst (λ (m : Leg). phase_calls m.setup m.region_work p ≡ []) (sym (leg_is r there goal))
+      (sym (calls_all (setup_on g r) (work_in (region_in g.work r) goal) p) ∙ is goal)
   any_item r p there (Some item) is = λ goal.
-      subst (λ (m : Leg). phase_calls m.setup m.errand p ≡ [] → ⊥) (sym (leg_is r there goal))
-      (λ none. nonempty (Make (setup_on g r) item.call (bytes_at (errand_in (part_in g.task r) goal).goal item.from item.len))
-      (calls_on_phase p (setup_on g r) (part_in g.task r) goal (item.index + 1))
-      (sym (is.moves goal) ∙ calls_all (setup_on g r) (errand_in (part_in g.task r) goal) p ∙ none))
+      subst (λ (m : Leg). phase_calls m.setup m.region_work p ≡ [] → ⊥) (sym (leg_is r there goal))
+      (λ none. nonempty (Make (setup_on g r) item.call (bytes_at (work_in (region_in g.work r) goal).goal item.from item.len))
+      (calls_on_phase p (setup_on g r) (region_in g.work r) goal (item.index + 1))
+      (sym (is.moves goal) ∙ calls_all (setup_on g r) (work_in (region_in g.work r) goal) p ∙ none))
 
   -- ---- the first phase that has some
 
@@ -154,11 +155,11 @@ module _ (g : Player) where
   )
 
   pub step_uninit : (r : Bool) (p : Phase) (index : ℕ) → IsCursor (has_second g) g.second (at.Calls r p index)
-      → ((goal : List ℕ) → calls_on_phase p (setup_on g r) (part_in g.task r) goal index ≡ [])
+      → ((goal : List ℕ) → calls_on_phase p (setup_on g r) (region_in g.work r) goal index ≡ [])
       → IsStep g (at.Calls r p index) (step.Call (call.UnInit (kind_of p)) 0 0 (after (has_second g) r p))
   step_uninit r p index is none = (
     λ goal b.
-        uninit_is (legs goal) r p index (subst (λ (m : Leg). calls_from m.setup m.errand p index ≡ []) (sym (leg_is r is.1 goal)) (none goal)) b
+        uninit_is (legs goal) r p index (subst (λ (m : Leg). calls_from m.setup m.region_work p index ≡ []) (sym (leg_is r is.1 goal)) (none goal)) b
         ∙ ap (λ (s : Setup). Make s (call.UnInit (kind_of p)) [] ∷ rest_of (legs goal) (after (is_some (legs goal).second) r p) b) (setup_here r is.0 is.1 goal)
         ∙ ap (λ (h : Bool). Make (setup_now g) (call.UnInit (kind_of p)) [] ∷ rest_of (legs goal) (after h r p) b) (has_is goal),
     without (call.UnInit (kind_of p)) (λ bytes none. none),
@@ -166,20 +167,20 @@ module _ (g : Player) where
   )
 
   pub step_item : IsScripted g → (r : Bool) (p : Phase) (index : ℕ) (item : Item) → IsCursor (has_second g) g.second (at.Calls r p index)
-      → IsNext (setup_on g r) (part_in g.task r) (calls_on_phase p (setup_on g r) (part_in g.task r)) index item
-      → IsStep g (at.Calls r p index) (step.Call item.call ((part_in g.task r).start + item.from) item.len (at.Calls r p (item.index + 1)))
+      → IsNext (setup_on g r) (region_in g.work r) (calls_on_phase p (setup_on g r) (region_in g.work r)) index item
+      → IsStep g (at.Calls r p index) (step.Call item.call ((region_in g.work r).start + item.from) item.len (at.Calls r p (item.index + 1)))
   step_item scripted r p index item is next =
       let on = part_on scripted r is.1 in
-      let there = part_in g.task r in
+      let there = region_in g.work r in
       let moves = λ (goal : List ℕ).
       next.moves goal
-      ∙ ap (λ (s : Setup). Make s item.call (bytes_at (errand_in there goal).goal item.from item.len) ∷ calls_on_phase p (setup_on g r) there goal
+      ∙ ap (λ (s : Setup). Make s item.call (bytes_at (work_in there goal).goal item.from item.len) ∷ calls_on_phase p (setup_on g r) there goal
       (item.index + 1)) (setup_moved g r is.0)
       ∙ ap (λ (l : List ℕ). Make (setup_now g) item.call l ∷ calls_on_phase p (setup_on g r) there goal (item.index + 1))
       (sym (part_at there.start there.geometry.size item.from item.len goal next.within)) in (
         λ goal b. call_is (legs goal) r p index (item.index + 1) (Make (setup_now g) item.call (bytes_at goal (there.start + item.from) item.len))
-            (subst (λ (m : Leg). calls_from m.setup m.errand p index ≡ Make (setup_now g) item.call (bytes_at goal (there.start + item.from) item.len) ∷
-            calls_from m.setup m.errand p (item.index + 1)) (sym (leg_is r is.1 goal)) (moves goal)) b,
+            (subst (λ (m : Leg). calls_from m.setup m.region_work p index ≡ Make (setup_now g) item.call (bytes_at goal (there.start + item.from) item.len) ∷
+            calls_from m.setup m.region_work p (item.index + 1)) (sym (leg_is r is.1 goal)) (moves goal)) b,
         record {
           within = omega (arith, on.range, next.within);
           fits = omega (arith, on.buffer, next.fits);

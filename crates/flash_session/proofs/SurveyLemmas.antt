@@ -16,8 +16,8 @@ use Rattle.erase_planner.specs.Plans.{Chosen, IsLeastPlan}
 use Rattle.job_text.specs.declared.job.Job.{Job}
 use Rattle.flash_session.specs.declared.goal.Goal.{Goal}
 use Rattle.flash_session.specs.Goals.{goal_in}
-use Rattle.flash_session.specs.RegionPlans.{IsPartFor, IsPlannedOver}
-use Rattle.flash_session.specs.declared.part.Part.{Part}
+use Rattle.flash_session.specs.RegionPlans.{IsRegionPlanFor, IsPlannedOver}
+use Rattle.flash_session.specs.declared.region_plan.RegionPlan.{RegionPlan}
 use Rattle.flash_session.specs.Sources.{AreWanted, IsMadeFrom, IsOverCells, IsSource}
 use Rattle.flash_session.specs.declared.region_survey.Source.{Source}
 use Rattle.flash_session.specs.declared.region_survey.Source.TheVariants as from
@@ -121,9 +121,10 @@ none_wanted tells (from.Job job goal) place address file = λ told. refl
 none_wanted tells (from.Cells image) place address file = refl
 
 -- the work on a region whose plan was made
-pub part_after : {T E : Type 0} (r : Result T E) (a : AlgorithmShown) (old new : Part) → new.geometry ≡ old.geometry → new.base ≡ old.base → IsPartFor a old
+pub part_after : {T E : Type 0} (r : Result T E) (a : AlgorithmShown) (old new : RegionPlan) → new.geometry ≡ old.geometry → new.base ≡ old.base →
+    IsRegionPlanFor a old
     → OnOk r (Covers new.geometry new.plan)
-    → OnOk r (IsPartFor a new)
+    → OnOk r (IsRegionPlanFor a new)
 part_after (Ok v) a old new geometry base is room = record {
   layout = geometry ∙ is.layout;
   lawful = subst (λ (l : Geometry). IsGeometry l) (sym geometry) is.lawful;
@@ -136,7 +137,7 @@ part_after (Ok v) a old new geometry base is room = record {
 part_after (Err e) a old new geometry base is room = tt
 
 -- a plan to an image over the cells
-pub planned_over : (tells : Bool) (w : Weights) (image : Bor (List Run)) (a : AlgorithmShown) (s : BenchState) (p : Part)
+pub planned_over : (tells : Bool) (w : Weights) (image : Bor (List Run)) (a : AlgorithmShown) (s : BenchState) (p : RegionPlan)
     → IsMadeFrom tells (from.Cells image) w a p.geometry p.start s p.plan.made
     → IsPlannedOver tells w image.now s.cells a p
 planned_over tells w image a s p made = record {

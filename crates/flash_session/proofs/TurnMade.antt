@@ -126,8 +126,8 @@ module _ (tells : Bool) (goal : List ℕ) (old : Player) (arena : List (List ℕ
 
   -- the calls at hand alone changed
   kept : (new : Player) → setup_at new.calls ≡ setup_at old.calls → map_of new.calls ≡ map_of old.calls → new.second ≡ old.second → new.other ≡ old.other
-      → new.task ≡ old.task → new.window ≡ old.window → SameTarget old new
-  kept new setup map second other task window = same_by old new setup map second other task window
+      → new.work ≡ old.work → new.window ≡ old.window → SameTarget old new
+  kept new setup map second other work window = same_by old new setup map second other work window
 
   -- ---- a phase begins
 
@@ -358,7 +358,7 @@ module _ (tells : Bool) (goal : List ℕ) (old : Player) (arena : List (List ℕ
 
       ready_same : SameTarget old ready
       ready_same = kept ready prepared.setup (ap (λ (u : ControlUnit). unit_map u) prepared.unit) ready_second_is ready_other_is
-          (ap (λ (g : Player). g.task) ready_is) ready_window_is
+          (ap (λ (g : Player). g.work) ready_is) ready_window_is
 
       ready_told : IsTrue tells → (a : Stand) (way : List Move) → StandsOn a way goal old arena start → GoesOn a way goal ready arena1 start end
       ready_told told a way stands =
@@ -368,7 +368,8 @@ module _ (tells : Bool) (goal : List ℕ) (old : Player) (arena : List (List ℕ
           let rest = λ (b : Broken). next.0 goal b ∙ ap (λ (l : List ℕ). Make s call l ∷ rest_of legs nx b) (sym (prepared.are told)) in
           let there : Point = point_for ready arena1 end.cells in
           let first : Point = first_point s here.world (asked call bytes) in
-          let stands' : Stands legs goal (setup_now ready) a (way ++ more) (place.In call len left_over nx) ready.made there ready.calls.machine.return_at end = (
+          let stands' :
+          Stands legs goal (setup_now ready) a (way ++ more) (place.In call len left_over nx) ready.made there ready.calls.machine.return_at end = (
             way_on legs way (rest_of legs c) (rest_of legs nx) (Make s call bytes) on.0 rest,
             subst (λ (y : Setup). InCall y a (way ++ more) call len left_over ready.made there ready.calls.machine.return_at) (sym prepared.setup) (record {
               done = way;
@@ -442,7 +443,7 @@ module _ (tells : Bool) (goal : List ℕ) (old : Player) (arena : List (List ℕ
 
       unread_same : SameTarget old unread
       unread_same = kept unread (ap (λ (k : CallsIn). setup_at k) same.0) (ap (λ (k : CallsIn). map_of k) same.0) (ap (λ (g : Player). g.second) unread_is)
-          (ap (λ (g : Player). g.other) unread_is) (ap (λ (g : Player). g.task) unread_is) unread_window
+          (ap (λ (g : Player). g.other) unread_is) (ap (λ (g : Player). g.work) unread_is) unread_window
 
       unread_told : IsTrue tells → (a : Stand) (way : List Move) → StandsOn a way goal old arena start → GoesOn a way goal unread arena1 start end
       unread_told told a way stands =

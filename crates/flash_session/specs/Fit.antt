@@ -6,17 +6,17 @@ use Rattle.algo_calls.specs.Frames.{fuel_of}
 use Rattle.algo_calls.specs.Shows.{Fits, AgreesAt}
 use Rattle.flash_session.specs.Moves.{Move, Reset, Load, Make, calls_in}
 use Rattle.flash_session.specs.Plays.{IsNotDone}
-use Rattle.flash_session.specs.Script.{IsErrand}
+use Rattle.flash_session.specs.Script.{IsRegionWork}
 use Rattle.target_core.specs.Units.{unit_cells}
 use Rattle.flash_session.specs.declared.cursor.Place.{Place}
 use Rattle.flash_session.specs.declared.cursor.Place.TheVariants as place
 use Rattle.flash_session.specs.declared.target_end.TargetEnd.{TargetEnd}
 use Rattle.flash_session.specs.declared.target_end.TargetEnd.TheVariants as ended
-use Rattle.flash_session.specs.declared.part.Part.{Part}
+use Rattle.flash_session.specs.declared.region_plan.RegionPlan.{RegionPlan}
 use Rattle.flash_session.specs.declared.player.Player.{Player}
 use Rattle.flash_session.specs.Rest.{Legs, rest_of, unbroken}
 use Rattle.flash_session.specs.Steps.{IsCursor}
-use Rattle.flash_session.specs.Targets.{setup_on, map_on, legs_for, part_in, planned_in, has_second, size_for}
+use Rattle.flash_session.specs.Targets.{setup_on, map_on, legs_for, region_in, planned_in, has_second, size_for}
 
 -- the calls that may still be made
 abbrev pub calls_ahead : Legs → Place → ℕ
@@ -79,8 +79,8 @@ IsPlace tells has moved place.Closing size b = IsTrue tells → b.operation ≡ 
 IsPlace tells has moved (place.Ended e) size b = IsSoundEnd tells size e b
 
 -- the work on a region is that of its calls, its cells are cells of the board, and the buffer has room for a page
-pub record IsPartOn (s : Setup) (size page : ℕ) (p : Part) : Type 0 where
-  pub errand : IsErrand s (planned_in p)
+pub record IsRegionPlanOn (s : Setup) (size page : ℕ) (p : RegionPlan) : Type 0 where
+  pub region_work : IsRegionWork s (planned_in p)
   pub range : p.start + p.geometry.size ≤ size
   pub buffer : s.algorithm.device.page ≤ page
 
@@ -95,8 +95,8 @@ pub record AreTwins (t : Player) : Type 0 where
 
 -- its script is one of its calls
 pub record IsScripted (t : Player) : Type 0 where
-  pub first : IsPartOn (setup_on t false) (size_for t) (length t.page.items) (part_in t.task false)
-  pub second : IsTrue (has_second t) → IsPartOn (setup_on t true) (size_for t) (length t.page.items) (part_in t.task true)
+  pub first : IsRegionPlanOn (setup_on t false) (size_for t) (length t.page.items) (region_in t.work false)
+  pub second : IsTrue (has_second t) → IsRegionPlanOn (setup_on t true) (size_for t) (length t.page.items) (region_in t.work true)
   pub twins : AreTwins t
 
 -- a target fits its window and its bench

@@ -4,21 +4,21 @@ use Rattle.algo_calls.specs.Setups.{Setup}
 use Rattle.flash_session.specs.Moves.{Move}
 use Rattle.flash_session.specs.Script.{sector_moves, page_at}
 use Rattle.flash_session.specs.declared.phase.Phase.{Phase}
-use Rattle.flash_session.specs.declared.part.Part.{Part}
+use Rattle.flash_session.specs.declared.region_plan.RegionPlan.{RegionPlan}
 use Rattle.flash_session.specs.Rest.{from_on, calls_from}
-use Rattle.flash_session.specs.Targets.{planned_in, errand_in}
+use Rattle.flash_session.specs.Targets.{planned_in, work_in}
 
 -- the erasures of sectors from a number on
-abbrev pub sectors_on : Setup → Part → List ℕ → ℕ → List Move
+abbrev pub sectors_on : Setup → RegionPlan → List ℕ → ℕ → List Move
 sectors_on s p goal = from_on (sector_moves s (planned_in p)) (length p.geometry.sectors)
 
 -- the pages that are programmed or verified from a number on
-abbrev pub pages_on : Bool → Setup → Part → List ℕ → ℕ → List Move
-pages_on v s p goal = from_on (page_at v s (errand_in p goal)) (length p.geometry.pages)
+abbrev pub pages_on : Bool → Setup → RegionPlan → List ℕ → ℕ → List Move
+pages_on v s p goal = from_on (page_at v s (work_in p goal)) (length p.geometry.pages)
 
-abbrev pub calls_on_phase : Phase → Setup → Part → List ℕ → ℕ → List Move
-calls_on_phase phase s p goal = calls_from s (errand_in p goal) phase
+abbrev pub calls_on_phase : Phase → Setup → RegionPlan → List ℕ → ℕ → List Move
+calls_on_phase phase s p goal = calls_from s (work_in p goal) phase
 
 -- it has so few sectors and pages that its calls can be counted
-abbrev pub IsSmall : Part → Type 0
+abbrev pub IsSmall : RegionPlan → Type 0
 IsSmall p = (length p.geometry.sectors ≤ 65536) × (length p.geometry.pages ≤ 1048576)

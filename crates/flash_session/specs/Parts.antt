@@ -23,7 +23,7 @@ use Rattle.flash_session.specs.Targets.{setup_now, legs_for, size_for}
 pub record IsPlayerOf (j : Job) (w : Surveyed) (p : Player) : Type 0 where
   pub place : p.place ≡ place.At (at.Begin false stage.Erase)
   pub made : p.made ≡ 0
-  pub goal : p.task.goal ≡ w.goal
+  pub goal : p.work.goal ≡ w.goal
   pub scripted : IsScripted p
   pub size : size_of j.board.regions ≡ size_for p
   pub some : 0 < size_for p

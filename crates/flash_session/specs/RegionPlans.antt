@@ -7,10 +7,10 @@ use Rattle.page_geometry.specs.Geometry.{IsGeometry, PagesFit}
 use Rattle.erase_planner.specs.Marks.{Covers}
 use Rattle.erase_planner.specs.Plans.{IsLeastPlan}
 use Rattle.algo_calls.specs.Duties.{device_of}
-use Rattle.flash_session.specs.declared.part.Part.{Part}
+use Rattle.flash_session.specs.declared.region_plan.RegionPlan.{RegionPlan}
 
 -- the sectors and pages are those of an algorithm's device, and there is room for a plan of them
-pub record IsPartFor (a : AlgorithmShown) (p : Part) : Type 0 where
+pub record IsRegionPlanFor (a : AlgorithmShown) (p : RegionPlan) : Type 0 where
   pub layout : p.geometry ≡ device_of a
   pub lawful : IsGeometry p.geometry
   pub fit : PagesFit a.device.page p.geometry
@@ -22,7 +22,7 @@ pub record IsPartFor (a : AlgorithmShown) (p : Part) : Type 0 where
 
 -- The plan is made from the region's cells, as they were read, to an image laid over them. Where all cells are told they are these from the
 -- region's place on.
-pub record IsPlannedOver (tells : Bool) (w : Weights) (image : List Run) (all : List ℕ) (a : AlgorithmShown) (p : Part) : Type 0 where
+pub record IsPlannedOver (tells : Bool) (w : Weights) (image : List Run) (all : List ℕ) (a : AlgorithmShown) (p : RegionPlan) : Type 0 where
   pub cells : List ℕ
   pub long : length cells ≡ a.device.size
   pub told : IsTrue tells → cells ≡ take a.device.size (drop p.start all)

@@ -4,7 +4,7 @@ use Rattle.std.specs.Prelude.{length, option_to_list}
 use Rattle.algo_calls.specs.declared.call.Call.TheVariants as call
 use Rattle.algo_calls.specs.Setups.{Setup}
 use Rattle.flash_session.specs.Moves.{Move, Reset, Load, Make}
-use Rattle.flash_session.specs.Script.{Errand, Torn, Leg, Broken, torn_first, torn_rest, sector_moves, erase_moves, page_at, page_moves, has_verify}
+use Rattle.flash_session.specs.Script.{RegionWork, Torn, Leg, Broken, torn_first, torn_rest, sector_moves, erase_moves, page_at, page_moves, has_verify}
 use Rattle.flash_session.specs.Script.{verify_moves, phase, kind_of}
 use Rattle.flash_session.specs.declared.phase.Phase.{Phase}
 use Rattle.flash_session.specs.declared.phase.Phase.TheVariants as stage
@@ -27,13 +27,13 @@ abbrev pub chip_from : Setup → ℕ → List Move
 chip_from s k = if nat_eq k 0 then Make s call.EraseChip [] ∷ [] else []
 
 -- the calls of a phase from a sector or page on
-abbrev pub calls_from : Setup → Errand → Phase → ℕ → List Move
+abbrev pub calls_from : Setup → RegionWork → Phase → ℕ → List Move
 calls_from s t stage.Erase k = if t.planned.plan.chip then chip_from s k else from_on (sector_moves s t.planned) (length t.planned.layout.sectors) k
 calls_from s t stage.Program k = from_on (page_at false s t) (length t.planned.layout.pages) k
 calls_from s t stage.Verify k = if has_verify s then from_on (page_at true s t) (length t.planned.layout.pages) k else []
 
 -- all of them
-abbrev pub phase_calls : Setup → Errand → Phase → List Move
+abbrev pub phase_calls : Setup → RegionWork → Phase → List Move
 phase_calls s t stage.Erase = erase_moves s t.planned
 phase_calls s t stage.Program = page_moves false s t
 phase_calls s t stage.Verify = verify_moves s t
@@ -52,16 +52,16 @@ set_torn stage.Program torn b = record b { program = torn }
 set_torn stage.Verify torn b = record b { verify = torn }
 
 -- what follows a phase, with what follows the region
-abbrev pub after_phase : Setup → Errand → Phase → Torn → List Move → List Move
+abbrev pub after_phase : Setup → RegionWork → Phase → Torn → List Move → List Move
 after_phase s t stage.Erase b later = phase s 2 b.program (page_moves false s t) ++ (phase s 3 b.verify (verify_moves s t) ++ later)
 after_phase s t stage.Program b later = phase s 3 b.verify (verify_moves s t) ++ later
 after_phase s t stage.Verify b later = later
 
-abbrev pub from_phase : Setup → Errand → Phase → Torn → List Move → List Move
+abbrev pub from_phase : Setup → RegionWork → Phase → Torn → List Move → List Move
 from_phase s t p b later = phase s (kind_of p) (torn_of p b) (phase_calls s t p) ++ after_phase s t p b later
 
 -- UnInit, and what follows
-abbrev pub closing : Setup → Errand → Phase → Torn → List Move → List Move
+abbrev pub closing : Setup → RegionWork → Phase → Torn → List Move → List Move
 closing s t p b later = Make s (call.UnInit (kind_of p)) [] ∷ after_phase s t p b later
 
 -- ---- the whole
@@ -105,7 +105,7 @@ last_reset l b = Reset l.first.setup b.last ∷ []
 -- the second region, where there is one, and what follows
 abbrev pub second_rest : Option Leg → Torn → List Move → List Move
 second_rest None b later = later
-second_rest (Some m) b later = from_phase m.setup m.errand stage.Erase b later
+second_rest (Some m) b later = from_phase m.setup m.region_work stage.Erase b later
 
 -- what follows a region
 abbrev pub later_than : Legs → Bool → Broken → List Move
@@ -114,12 +114,12 @@ later_than l true b = last_reset l b
 
 -- The rest of the script, once it is given what the resets in it leave.
 abbrev pub rest_of : Legs → Cursor → Broken → List Move
-rest_of l (at.Begin r p) b = from_phase (leg_at l r).setup (leg_at l r).errand p (torn_at r b) (later_than l r b)
+rest_of l (at.Begin r p) b = from_phase (leg_at l r).setup (leg_at l r).region_work p (torn_at r b) (later_than l r b)
 rest_of l (at.Init r p) b =
     Make (leg_at l r).setup (call.Init (kind_of p)) []
-    ∷ (phase_calls (leg_at l r).setup (leg_at l r).errand p ++ closing (leg_at l r).setup (leg_at l r).errand p (torn_at r b) (later_than l r b))
+    ∷ (phase_calls (leg_at l r).setup (leg_at l r).region_work p ++ closing (leg_at l r).setup (leg_at l r).region_work p (torn_at r b) (later_than l r b))
 rest_of l (at.Calls r p k) b =
-    calls_from (leg_at l r).setup (leg_at l r).errand p k ++ closing (leg_at l r).setup (leg_at l r).errand p (torn_at r b) (later_than l r b)
+    calls_from (leg_at l r).setup (leg_at l r).region_work p k ++ closing (leg_at l r).setup (leg_at l r).region_work p (torn_at r b) (later_than l r b)
 rest_of l at.Last b = last_reset l b
 
 -- where a target stands after a region, and after a phase, by whether there is a second region

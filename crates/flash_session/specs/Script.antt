@@ -17,16 +17,16 @@ pub record Planned : Type 0 where
   pub base : ℕ
   pub plan : Chosen
 
--- and the contents of the region to reach
-pub record Errand : Type 0 where
+-- the work on a region: its plan, and the contents to reach
+pub record RegionWork : Type 0 where
   pub planned : Planned
   pub goal : List ℕ
 
 abbrev pub planned : Geometry → ℕ → Chosen → Planned
 planned layout base plan = record { layout = layout; base = base; plan = plan }
 
-abbrev pub errand : Geometry → ℕ → Chosen → List ℕ → Errand
-errand layout base plan goal = record { planned = planned layout base plan; goal = goal }
+abbrev pub region_work : Geometry → ℕ → Chosen → List ℕ → RegionWork
+region_work layout base plan goal = record { planned = planned layout base plan; goal = goal }
 
 -- the moves for each number below this, in rising order
 unfoldable pub each_below : ℕ → (ℕ → List Move) → List Move
@@ -59,19 +59,19 @@ page_call verifies at = if verifies then Verify at else ProgramPage at
 abbrev pub bytes_of : Range → List ℕ → List ℕ
 bytes_of r cells = take (r.stop - r.start) (drop r.start cells)
 
-abbrev pub page_at : Bool → Setup → Errand → ℕ → List Move
+abbrev pub page_at : Bool → Setup → RegionWork → ℕ → List Move
 page_at verifies s t k =
     if get_or t.planned.plan.pages k false
     then Make s (page_call verifies (t.planned.base + (range_at t.planned.layout.pages k).start)) (bytes_of (range_at t.planned.layout.pages k) t.goal) ∷ []
     else []
 
-unfoldable pub page_moves : Bool → Setup → Errand → List Move
+unfoldable pub page_moves : Bool → Setup → RegionWork → List Move
 page_moves verifies s t = each_below (length t.planned.layout.pages) (page_at verifies s t)
 
 abbrev pub has_verify : Setup → Bool
 has_verify s = is_some s.algorithm.entries.verify
 
-abbrev pub verify_moves : Setup → Errand → List Move
+abbrev pub verify_moves : Setup → RegionWork → List Move
 verify_moves s t = if has_verify s then page_moves true s t else []
 
 -- ---- the whole
@@ -88,17 +88,17 @@ pub record Torn : Type 0 where
   pub verify : List ℕ
 
 -- the phases of a region
-unfoldable pub phases : Setup → Errand → Torn → List Move
+unfoldable pub phases : Setup → RegionWork → Torn → List Move
 phases s t b =
     phase s 1 b.erase (erase_moves s t.planned) ++ (phase s 2 b.program (page_moves false s t) ++ phase s 3 b.verify (verify_moves s t))
 
 -- what is to be done in a region, and what the calls of its algorithm rest on
 pub record Leg : Type 0 where
   pub setup : Setup
-  pub errand : Errand
+  pub region_work : RegionWork
 
-abbrev pub leg : Setup → Errand → Leg
-leg s t = record { setup = s; errand = t }
+abbrev pub leg : Setup → RegionWork → Leg
+leg s t = record { setup = s; region_work = t }
 
 -- the same of the resets of each region in order, and of the last reset
 pub record Broken : Type 0 where
@@ -116,7 +116,7 @@ torn_rest (b ∷ rest) = rest
 -- region after region
 unfoldable pub legs_of : List Leg → List Torn → List Move
 legs_of [] torn = []
-legs_of (l ∷ rest) torn = phases l.setup l.errand (torn_first torn) ++ legs_of rest (torn_rest torn)
+legs_of (l ∷ rest) torn = phases l.setup l.region_work (torn_first torn) ++ legs_of rest (torn_rest torn)
 
 -- The whole: the regions in order, of which a board has one at least, and a reset. The targets of all regions have the board's RAM, so
 -- it is that of any of them.
@@ -125,7 +125,7 @@ script [] b = []
 script (l ∷ rest) b = legs_of (l ∷ rest) b.legs ++ (Reset l.setup b.last ∷ [])
 
 -- the plan is one for this algorithm
-pub record IsErrand (s : Setup) (p : Planned) : Type 0 where
+pub record IsRegionWork (s : Setup) (p : Planned) : Type 0 where
   pub end : p.base + p.layout.size ≤ 2 ^ 32
   pub pages : PagesFit s.algorithm.device.page p.layout
   pub chip : IsTrue p.plan.chip → IsTrue (is_some s.algorithm.entries.erase_chip)

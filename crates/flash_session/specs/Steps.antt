@@ -4,17 +4,17 @@ use Rattle.algo_calls.specs.declared.call.Call.{Call}
 use Rattle.algo_calls.specs.Setups.{Setup}
 use Rattle.algo_calls.specs.Shows.{MayAsk}
 use Rattle.flash_session.specs.Moves.{Move, Reset, Load, Make}
-use Rattle.flash_session.specs.Script.{Errand, Broken}
+use Rattle.flash_session.specs.Script.{Broken}
 use Rattle.flash_session.specs.declared.phase.Phase.{Phase}
 use Rattle.flash_session.specs.declared.cursor.Cursor.{Cursor}
 use Rattle.flash_session.specs.declared.cursor.Cursor.TheVariants as at
 use Rattle.flash_session.specs.declared.cursor.Item.{Item}
 use Rattle.flash_session.specs.declared.cursor.Step.{Step}
 use Rattle.flash_session.specs.declared.cursor.Step.TheVariants as step
-use Rattle.flash_session.specs.declared.part.Part.{Part}
+use Rattle.flash_session.specs.declared.region_plan.RegionPlan.{RegionPlan}
 use Rattle.flash_session.specs.declared.player.Player.{Player}
 use Rattle.flash_session.specs.Rest.{phase_calls, leg_at, later_than, rest_of, with_torn, with_last}
-use Rattle.flash_session.specs.Targets.{setup_now, setup_on, legs_for, size_for, has_second, errand_in}
+use Rattle.flash_session.specs.Targets.{setup_now, setup_on, legs_for, size_for, has_second, work_in}
 
 -- the bytes of a call
 abbrev pub bytes_at : List ℕ → ℕ → ℕ → List ℕ
@@ -23,22 +23,22 @@ bytes_at goal from len = take len (drop from goal)
 -- ---- in a region
 
 -- the next of some calls, that with each goal is this one with these bytes of the region
-pub record IsNext (s : Setup) (p : Part) (calls : List ℕ → ℕ → List Move) (index : ℕ) (item : Item) : Type 0 where
-  pub moves : (goal : List ℕ) → calls goal index ≡ Make s item.call (bytes_at (errand_in p goal).goal item.from item.len) ∷ calls goal (item.index + 1)
+pub record IsNext (s : Setup) (p : RegionPlan) (calls : List ℕ → ℕ → List Move) (index : ℕ) (item : Item) : Type 0 where
+  pub moves : (goal : List ℕ) → calls goal index ≡ Make s item.call (bytes_at (work_in p goal).goal item.from item.len) ∷ calls goal (item.index + 1)
   pub within : item.from + item.len ≤ p.geometry.size
   pub fits : item.len ≤ s.algorithm.device.page
   pub may : (bytes : List ℕ) → length bytes ≡ item.len → MayAsk s item.call bytes
   pub room : item.index + 1 < 2 ^ 32
 
 -- the first call from a number on, or none
-abbrev pub IsItem : Setup → Part → (List ℕ → ℕ → List Move) → ℕ → Option Item → Type 0
+abbrev pub IsItem : Setup → RegionPlan → (List ℕ → ℕ → List Move) → ℕ → Option Item → Type 0
 IsItem s p calls index None = (goal : List ℕ) → calls goal index ≡ []
 IsItem s p calls index (Some item) = IsNext s p calls index item
 
 -- whether a phase of a region has calls
 abbrev pub has_phase : Player → Bool → Phase → Bool → Type 0
-has_phase t r p true = (goal : List ℕ) → phase_calls (leg_at (legs_for t goal) r).setup (leg_at (legs_for t goal) r).errand p ≡ [] → ⊥
-has_phase t r p false = (goal : List ℕ) → phase_calls (leg_at (legs_for t goal) r).setup (leg_at (legs_for t goal) r).errand p ≡ []
+has_phase t r p true = (goal : List ℕ) → phase_calls (leg_at (legs_for t goal) r).setup (leg_at (legs_for t goal) r).region_work p ≡ [] → ⊥
+has_phase t r p false = (goal : List ℕ) → phase_calls (leg_at (legs_for t goal) r).setup (leg_at (legs_for t goal) r).region_work p ≡ []
 
 -- ---- over all regions
 

@@ -10,9 +10,9 @@ use Rattle.algo_calls.specs.Shows.{setup_at, point_at}
 use Rattle.flash_layout.specs.Areas.{cells_in}
 use Rattle.job_text.specs.declared.job.Job.{Job}
 use Rattle.flash_session.specs.Goals.{goal_in}
-use Rattle.flash_session.specs.Script.{Planned, planned, Errand, errand, Leg, leg}
-use Rattle.flash_session.specs.declared.part.Part.{Part}
-use Rattle.flash_session.specs.declared.part.Task.{Task}
+use Rattle.flash_session.specs.Script.{Planned, planned, RegionWork, region_work, Leg, leg}
+use Rattle.flash_session.specs.declared.region_plan.RegionPlan.{RegionPlan}
+use Rattle.flash_session.specs.declared.region_plan.SessionWork.{SessionWork}
 use Rattle.flash_session.specs.declared.player.Player.{Player}
 use Rattle.flash_session.specs.Rest.{Legs}
 
@@ -54,32 +54,32 @@ point_for t arena cells = point_at t.calls arena t.window cells
 
 -- ---- what its script is made of
 
--- the work on the first region, or on the second where there is one
-abbrev pub part_in : Task → Bool → Part
-part_in t false = t.first
-part_in t true = unwrap_or t.second t.first
+-- the plan of the first region, or of the second where there is one
+abbrev pub region_in : SessionWork → Bool → RegionPlan
+region_in t false = t.first
+region_in t true = unwrap_or t.second t.first
 
-abbrev pub planned_in : Part → Planned
+abbrev pub planned_in : RegionPlan → Planned
 planned_in p = planned p.geometry p.base p.plan.made
 
 -- where its cells are
-abbrev pub site_in : Part → Site
+abbrev pub site_in : RegionPlan → Site
 site_in p = record { start = p.start; layout = p.geometry }
 
 -- with the bytes of the goal of all cells
-abbrev pub errand_in : Part → List ℕ → Errand
-errand_in p goal = errand p.geometry p.base p.plan.made (part (site_in p) goal)
+abbrev pub work_in : RegionPlan → List ℕ → RegionWork
+work_in p goal = region_work p.geometry p.base p.plan.made (part (site_in p) goal)
 
-abbrev pub later_leg : Setup → Option Part → List ℕ → Option Leg
+abbrev pub later_leg : Setup → Option RegionPlan → List ℕ → Option Leg
 later_leg s None goal = None
-later_leg s (Some p) goal = Some (leg s (errand_in p goal))
+later_leg s (Some p) goal = Some (leg s (work_in p goal))
 
 -- what is to be done in each region, with this goal of all cells
 abbrev pub legs_for : Player → List ℕ → Legs
-legs_for t goal = record { first = leg (setup_on t false) (errand_in t.task.first goal); second = later_leg (setup_on t true) t.task.second goal }
+legs_for t goal = record { first = leg (setup_on t false) (work_in t.work.first goal); second = later_leg (setup_on t true) t.work.second goal }
 
 abbrev pub has_second : Player → Bool
-has_second t = is_some t.task.second
+has_second t = is_some t.work.second
 
 -- how many cells its board has
 abbrev pub size_for : Player → ℕ
@@ -87,4 +87,4 @@ size_for t = cells_in (map_on t false).areas
 
 -- the goal of its job that this file gives
 abbrev pub goal_for : Job → Player → List ℕ → List ℕ
-goal_for j t file = goal_in j t.task.goal file
+goal_for j t file = goal_in j t.work.goal file

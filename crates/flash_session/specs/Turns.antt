@@ -36,7 +36,7 @@ pub record GoesOn (a : Stand) (way : List Move) (goal : List ℕ) (new : Player)
 pub record SameTarget (old new : Player) : Type 0 where
   pub setups : (second : Bool) → setup_on new second ≡ setup_on old second
   pub maps : (second : Bool) → map_on new second ≡ map_on old second
-  pub task : new.task ≡ old.task
+  pub work : new.work ≡ old.work
   pub window : new.window ≡ old.window
 
 abbrev pub IsUnended : Place → Type 0

@@ -30,7 +30,7 @@ pub(crate) fn carry_out<B: Bench>(survey: &mut Survey, job: &Job, bench: &mut B)
     ensures store { IsCounted (B.state bench.old).store_faults (B.state bench.new).store_faults (is_store_fault (end_fault result)) }
     ensures cause { IsCounted (B.state bench.old).device_faults (B.state bench.new).device_faults (is_device_fault (end_fault result)) }
 {
-    survey.player.task.count();
+    survey.player.work.count();
     survey.player.restart(&mut survey.arena);
     survey.player.go(job, &mut survey.arena, bench)
 }

@@ -25,15 +25,15 @@ ghost use Rattle.flash_session.specs.Prepared.{Prepares};
 ghost use Rattle.flash_session.specs.Rest.{after, all_legs};
 ghost use Rattle.flash_session.specs.Steps.{IsItem, IsCursor, IsStep, IsStepBehind, IsPhaseFrom, has_phase};
 ghost use Rattle.flash_session.specs.Takes.{IsNoCall, IsCall, IsKind, FromCursor, FromCall, FromCells, IsOver, TakesOn, IsHost, IsStill, Slice, SliceOf};
-ghost use Rattle.flash_session.specs.Targets.{calls_on, setup_on, part_in, has_second, size_for, goal_for, legs_for, point_for};
+ghost use Rattle.flash_session.specs.Targets.{calls_on, setup_on, region_in, has_second, size_for, goal_for, legs_for, point_for};
 ghost use Rattle.flash_session.specs.Turned.{IsExchanged, TurnsTo, Restarts};
 ghost use Rattle.flash_session.specs.Turns.{Turns, SameTarget, IsUnended, turn_of, Judges};
 ghost use Rattle.flash_session.specs.Whole.{at_close, IsPlaying, IsPlayed, IsEndOf, IsStop};
 
 use crate::cursor::{Cursor, Item, Place, Step};
 use crate::goal::{Goal, WINDOW};
-use crate::part::Task;
 use crate::phase::Phase;
+use crate::region_plan::SessionWork;
 use crate::session::{Reached, SessionEnd};
 use crate::target_end::{TargetEnd, Turn};
 use crate::windows::{Unread, compare_window, read_bytes};
@@ -56,7 +56,7 @@ pub struct Player {
     /// The calls of the other region, where the board has two.
     pub other: Option<CallsIn>,
     pub window: usize,
-    pub task: Task,
+    pub work: SessionWork,
     pub page: Vec<u8>,
     pub made: u32,
     pub place: Place,
@@ -87,11 +87,11 @@ impl Player {
     fn item(&self, second: bool, phase: Phase, index: u32) -> Option<Item>
         requires scripted { IsScripted self.now }
         requires there { IsTrue second → IsTrue (has_second self.now) }
-        ensures { IsItem (setup_on self.now second) (part_in self.now.task second)
-            (calls_on_phase phase (setup_on self.now second) (part_in self.now.task second)) index result }
+        ensures { IsItem (setup_on self.now second) (region_in self.now.work second)
+            (calls_on_phase phase (setup_on self.now second) (region_in self.now.work second)) index result }
     {
         let can_verify = self.can_verify(second);
-        self.task.part(second).item(can_verify, phase, index)
+        self.work.region(second).item(can_verify, phase, index)
     }
 
     /// Whether a phase of a region has calls.
@@ -177,7 +177,7 @@ impl Player {
         if second {
             return Step::Last;
         }
-        if self.task.second.is_some() {
+        if self.work.second.is_some() {
             return self.second_region();
         }
         Step::Last
@@ -210,7 +210,7 @@ impl Player {
                 phase: Phase::Verify,
             },
             Phase::Verify => {
-                if second || self.task.second.is_none() {
+                if second || self.work.second.is_none() {
                     Cursor::Last
                 } else {
                     Cursor::Begin {
@@ -232,7 +232,7 @@ impl Player {
         match self.item(second, phase, index) {
             Some(item) => Step::Call {
                 call: item.call,
-                from: self.task.part(second).start + item.from,
+                from: self.work.region(second).start + item.from,
                 len: item.len,
                 next: Cursor::Calls {
                     second,
@@ -468,7 +468,7 @@ impl Player {
             self.window,
             bench,
             job,
-            self.task.goal,
+            self.work.goal,
             &mut self.page,
             call,
             from,
@@ -599,7 +599,7 @@ impl Player {
         match compare_window(
             bench,
             job,
-            self.task.goal,
+            self.work.goal,
             at,
             &mut wanted[..len],
             &mut cells[..len],

@@ -1,8 +1,8 @@
 //! What a survey leaves.
 ghost use Rattle.target_core.specs.Windows.{IsRam};
 
-use crate::part::Part;
 use crate::player::Player;
+use crate::region_plan::RegionPlan;
 use ram_arena::Arena;
 
 /// The player of the plans that a survey made to a goal, in the first region and, where the board has two, in the second; and its RAM.
@@ -17,21 +17,21 @@ pub(crate) struct Survey {
 impl Survey {
     ghost use Rattle.std.specs.Prelude.{◌≡◌, ◌<◌, length, get_or};
     ghost use Rattle.job_text.specs.declared.job.Job.{Job};
-    ghost use Rattle.flash_session.specs.declared.part.Part.{Part};
+    ghost use Rattle.flash_session.specs.declared.region_plan.RegionPlan.{RegionPlan};
     ghost use Rattle.flash_session.specs.Fit.{AreTwins};
     ghost use Rattle.flash_session.specs.Parts.{IsPlayerOf};
     ghost use Rattle.flash_session.specs.Surveys.{regions_of, survey_shown};
     ghost use Rattle.flash_session.specs.SurveyFacts.{IsSurvey};
 
     /// What was found in a region.
-    pub fn region(&self, region: usize) -> &Part
+    pub fn region(&self, region: usize) -> &RegionPlan
         requires { region < length (regions_of self.now) }
-        ensures { (other : Part) → result.now ≡ get_or (regions_of self.now) region other }
+        ensures { (other : RegionPlan) → result.now ≡ get_or (regions_of self.now) region other }
     {
         if region == 0 {
-            return &self.player.task.first;
+            return &self.player.work.first;
         }
-        match &self.player.task.second {
+        match &self.player.work.second {
             Some(second) => second,
             None => unreachable!(),
         }
@@ -45,7 +45,7 @@ impl Survey {
         let Survey { player, arena } = self;
         let mut player = player;
         let mut arena = arena;
-        player.task.count();
+        player.work.count();
         player.restart(&mut arena);
         player
     }

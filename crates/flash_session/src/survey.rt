@@ -15,11 +15,11 @@ ghost use Rattle.flash_session.specs.SurveyFacts.{HasRoom, IsSurvey, AreRegionSu
 use crate::cursor::{Cursor, Place};
 use crate::fault::SurveyFault;
 use crate::goal::Goal;
-use crate::part::{Part, Task};
 use crate::phase::Phase;
 use crate::player::Player;
 use crate::ready::Survey;
 use crate::region_calls::{algorithms_of, calls_of_job};
+use crate::region_plan::{RegionPlan, SessionWork};
 use crate::region_survey::{Source, survey_region};
 use crate::windows::Unread;
 use bench_model::Bench;
@@ -45,7 +45,7 @@ fn survey_part<B: Bench>(
     algorithm: &Algorithm,
     start: u32,
     goal: Goal,
-) -> Result<Part, SurveyFault>
+) -> Result<RegionPlan, SurveyFault>
     requires inside { start + algorithm.now.device.size ≤ size_of job.now.board.regions }
     requires count { (B.state bench.old).cell_count ≡ size_of job.now.board.regions }
     requires idle { IsTrue B.tells → (B.state bench.old).operation ≡ None }
@@ -56,7 +56,7 @@ fn survey_part<B: Bench>(
     ensures store { IsCounted (B.state bench.old).store_faults (B.state bench.new).store_faults (is_store_fault (fault_in survey_fault result)) }
     ensures device { IsCounted (B.state bench.old).device_faults (B.state bench.new).device_faults (is_device_fault (fault_in survey_fault result)) }
 {
-    let mut part = Part::new(alloc, algorithm, start)?;
+    let mut part = RegionPlan::new(alloc, algorithm, start)?;
     let source = Source::Job { job, goal };
     match survey_region(bench, source, &job.board.weights, algorithm, &mut part) {
         Ok(()) => Ok(part),
@@ -77,12 +77,12 @@ fn longest_page(first: &Algorithm, second: Option<&Algorithm>) -> u32
 }
 
 /// Surveys the regions of a job: reads the cells, and makes the plans from them to a goal.
-fn survey_task<B: Bench>(
+fn survey_work<B: Bench>(
     alloc: Global,
     bench: &mut B,
     job: &Job,
     goal: Goal,
-) -> Result<Task, SurveyFault>
+) -> Result<SessionWork, SurveyFault>
     requires count { (B.state bench.old).cell_count ≡ size_of job.now.board.regions }
     requires idle { IsTrue B.tells → (B.state bench.old).operation ≡ None }
     requires stands { IsTrue B.tells → StandsFor job.now (B.state bench.old).file }
@@ -96,7 +96,7 @@ fn survey_task<B: Bench>(
     let (algorithm, other) = algorithms_of(job);
     let first = survey_part(alloc, bench, job, algorithm, 0, goal)?;
     let Some(other) = other else {
-        return Ok(Task {
+        return Ok(SessionWork {
             goal,
             first,
             second: None,
@@ -104,7 +104,7 @@ fn survey_task<B: Bench>(
     };
     let start = algorithm.device.size;
     let second = survey_part(alloc, bench, job, other, start, goal)?;
-    Ok(Task {
+    Ok(SessionWork {
         goal,
         first,
         second: Some(second),
@@ -112,9 +112,9 @@ fn survey_task<B: Bench>(
 }
 
 /// The player of the work on a job's regions, on new machines of the job's board, with its RAM and a buffer for a page.
-fn player_for(alloc: Global, job: &Job, task: Task) -> Result<Survey, OutOfMemory>
-    ensures task { IfOk result (λ w. w.player.task ≡ task) }
-    ensures work { IfOk result (λ w. AreRegionSurveys (algorithms_shown job.now.algorithms) 0 (task.first ∷ option_to_list task.second)
+fn player_for(alloc: Global, job: &Job, work: SessionWork) -> Result<Survey, OutOfMemory>
+    ensures session { IfOk result (λ w. w.player.work ≡ work) }
+    ensures work { IfOk result (λ w. AreRegionSurveys (algorithms_shown job.now.algorithms) 0 (work.first ∷ option_to_list work.second)
         → IsSurvey job.now w) }
 {
     let (algorithm, other) = algorithms_of(job);
@@ -127,7 +127,7 @@ fn player_for(alloc: Global, job: &Job, task: Task) -> Result<Survey, OutOfMemor
         second: false,
         other: other_calls,
         window: 0,
-        task,
+        work,
         page,
         made: 0,
         place: Place::At(Cursor::Begin {
@@ -154,8 +154,8 @@ pub(crate) fn survey_for<B: Bench>(
     ensures store { IsCounted (B.state bench.old).store_faults (B.state bench.new).store_faults (is_store_fault (fault_in survey_fault result)) }
     ensures device { IsCounted (B.state bench.old).device_faults (B.state bench.new).device_faults (is_device_fault (fault_in survey_fault result)) }
 {
-    let task = survey_task(alloc, bench, job, goal)?;
-    match player_for(alloc, job, task) {
+    let work = survey_work(alloc, bench, job, goal)?;
+    match player_for(alloc, job, work) {
         Ok(survey) => Ok(survey),
         Err(OutOfMemory) => Err(SurveyFault::OutOfMemory),
     }

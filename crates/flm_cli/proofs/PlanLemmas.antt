@@ -23,8 +23,8 @@ use Rattle.page_geometry.specs.Geometry.{Geometry}
 use Rattle.erase_planner.specs.Plans.{Chosen, chosen}
 use Rattle.readback.specs.Readback.{OnlyReadsCells}
 use Rattle.readback.proofs.ReadbackLemmas.{only_reads_cells_here, only_reads_cells_then}
-use Rattle.flash_session.specs.declared.part.Part.{Part}
-use Rattle.flash_session.specs.RegionPlans.{IsPartFor, IsPlannedOver}
+use Rattle.flash_session.specs.declared.region_plan.RegionPlan.{RegionPlan}
+use Rattle.flash_session.specs.RegionPlans.{IsRegionPlanFor, IsPlannedOver}
 use Rattle.flash_session.proofs.JobLemmas.{size_of-cons}
 use Rattle.report_text.specs.Plan.{plan_text}
 use Rattle.report_text.specs.Region.{region_text, plans_text}
@@ -341,7 +341,8 @@ module _ (bench : BenchCall) (inputs : InputsCall) (out : SinkCall) (asked : Fil
 
 -- The memory.
 
-parts_more : (algorithms : List flm.Shown) (start : ℕ) (parts : List Part) (a : flm.Shown) (p : Part) → AreParts algorithms start parts → IsPartFor a p
+parts_more : (algorithms : List flm.Shown) (start : ℕ) (parts : List RegionPlan) (a : flm.Shown) (p : RegionPlan) → AreParts algorithms start parts →
+    IsRegionPlanFor a p
     → p.start ≡ start + cells_on algorithms
     → AreParts (algorithms ++ a ∷ []) start (parts ++ p ∷ [])
 parts_more [] start [] a p are is at = let here : p.start ≡ start = omega (arith, at) in (is, here, tt)
@@ -367,13 +368,13 @@ one_more algorithms i a less is =
     ∙ map-append flm.shown (take i algorithms) (a ∷ [])
 
 -- the memory for the first algorithms was taken
-pub record TakenTo (algorithms : List Algorithm) (parts : List Part) (start i : ℕ) : Type 0 where
+pub record TakenTo (algorithms : List Algorithm) (parts : List RegionPlan) (start i : ℕ) : Type 0 where
   pub are : AreParts (map flm.shown (take i algorithms)) 0 parts
   pub start_is : start ≡ cells_on (map flm.shown (take i algorithms))
 
-module _ (algorithms : List Algorithm) (parts : List Part) (start i : ℕ) (a : Algorithm) (so_far : TakenTo algorithms parts start i)
+module _ (algorithms : List Algorithm) (parts : List RegionPlan) (start i : ℕ) (a : Algorithm) (so_far : TakenTo algorithms parts start i)
     (less : i < length algorithms) (is : a ≡ get_or algorithms i a) where
-  pub taken_more : (p : Part) → IsPartFor (flm.shown a) p → p.start ≡ start → TakenTo algorithms (parts ++ p ∷ []) (start + a.device.size) (i + 1)
+  pub taken_more : (p : RegionPlan) → IsRegionPlanFor (flm.shown a) p → p.start ≡ start → TakenTo algorithms (parts ++ p ∷ []) (start + a.device.size) (i + 1)
   taken_more p for_it at =
       let before = map flm.shown (take i algorithms) in
       let here : p.start ≡ 0 + cells_on before = omega (arith, at, so_far.start_is) in
@@ -393,13 +394,13 @@ module _ (algorithms : List Algorithm) (parts : List Part) (start i : ℕ) (a : 
     cells_within (i + 1) algorithms,
   )
 
-pub taken_all : (algorithms : List Algorithm) (parts : List Part) (start i : ℕ) → TakenTo algorithms parts start i → length algorithms ≤ i
+pub taken_all : (algorithms : List Algorithm) (parts : List RegionPlan) (start i : ℕ) → TakenTo algorithms parts start i → length algorithms ≤ i
     → AreParts (map flm.shown algorithms) 0 parts
 taken_all algorithms parts start i so_far past = subst (λ (l : List Algorithm). AreParts (map flm.shown l) 0 parts) (take_all i algorithms past) so_far.are
 
 -- The survey.
 
-pub many_parts : (algorithms : List Algorithm) (start : ℕ) (parts : List Part) → AreParts (map flm.shown algorithms) start parts
+pub many_parts : (algorithms : List Algorithm) (start : ℕ) (parts : List RegionPlan) → AreParts (map flm.shown algorithms) start parts
     → length parts ≡ length algorithms
 many_parts [] start [] are = refl
 many_parts [] start (p ∷ parts) are = absurd are
@@ -407,11 +408,11 @@ many_parts (a ∷ algorithms) start [] are = absurd are
 many_parts (a ∷ algorithms) start (p ∷ parts) are = ap suc (many_parts algorithms (start + a.device.size) parts are.2)
 
 -- one of them, within all cells
-pub record IsOneOf (a : flm.Shown) (p : Part) (end : ℕ) : Type 0 where
-  pub is : IsPartFor a p
+pub record IsOneOf (a : flm.Shown) (p : RegionPlan) (end : ℕ) : Type 0 where
+  pub is : IsRegionPlanFor a p
   pub inside : p.start + a.device.size ≤ end
 
-pub part_at : (algorithms : List Algorithm) (start : ℕ) (parts : List Part) (i : ℕ) (d : Algorithm) (e : Part) → i < length parts
+pub part_at : (algorithms : List Algorithm) (start : ℕ) (parts : List RegionPlan) (i : ℕ) (d : Algorithm) (e : RegionPlan) → i < length parts
     → AreParts (map flm.shown algorithms) start parts
     → IsOneOf (flm.shown (get_or algorithms i d)) (get_or parts i e) (start + cells_on (map flm.shown algorithms))
 part_at [] start [] i d e less are = absurd (omega (arith, less))
@@ -422,9 +423,9 @@ part_at (a ∷ algorithms) start (p ∷ parts) (suc i) d e less are =
     let rest = part_at algorithms (start + a.device.size) parts i d e (omega (arith, less)) are.2 in
     record { is = rest.is; inside = omega (arith, rest.inside) }
 
-parts_set : (algorithms : List Algorithm) (start : ℕ) (parts : List Part) (i : ℕ) (d : Algorithm) (e p : Part) → i < length parts
+parts_set : (algorithms : List Algorithm) (start : ℕ) (parts : List RegionPlan) (i : ℕ) (d : Algorithm) (e p : RegionPlan) → i < length parts
     → AreParts (map flm.shown algorithms) start parts
-    → IsPartFor (flm.shown (get_or algorithms i d)) p → p.start ≡ (get_or parts i e).start → AreParts (map flm.shown algorithms) start (set parts i p)
+    → IsRegionPlanFor (flm.shown (get_or algorithms i d)) p → p.start ≡ (get_or parts i e).start → AreParts (map flm.shown algorithms) start (set parts i p)
 parts_set [] start [] i d e p less are is at = absurd (omega (arith, less))
 parts_set [] start (q ∷ parts) i d e p less are is at = absurd are
 parts_set (a ∷ algorithms) start [] i d e p less are is at = absurd are
@@ -433,7 +434,7 @@ parts_set (a ∷ algorithms) start (q ∷ parts) (suc i) d e p less are is at =
     (are.0, are.1, parts_set algorithms (start + a.device.size) parts i d e p (omega (arith, less)) are.2 is at)
 
 module _ (tells : Bool) (weights : Weights) (image : List Run) where
-  plan_still : (all cells : List ℕ) (a : flm.Shown) (p : Part) → (IsTrue tells → all ≡ cells) → IsPlannedOver tells weights image all a p
+  plan_still : (all cells : List ℕ) (a : flm.Shown) (p : RegionPlan) → (IsTrue tells → all ≡ cells) → IsPlannedOver tells weights image all a p
       → IsPlannedOver tells weights image cells a p
   plan_still all cells a p same is = record {
     cells = is.cells;
@@ -442,7 +443,7 @@ module _ (tells : Bool) (weights : Weights) (image : List Run) where
     plan = is.plan;
   }
 
-  plans_still : (all cells : List ℕ) (algorithms : List flm.Shown) (parts : List Part) → (IsTrue tells → all ≡ cells)
+  plans_still : (all cells : List ℕ) (algorithms : List flm.Shown) (parts : List RegionPlan) → (IsTrue tells → all ≡ cells)
       → ArePlanned tells weights image all algorithms parts
       → ArePlanned tells weights image cells algorithms parts
   plans_still all cells [] [] same are = tt
@@ -451,12 +452,13 @@ module _ (tells : Bool) (weights : Weights) (image : List Run) where
   plans_still all cells (a ∷ algorithms) (p ∷ parts) same are = (plan_still all cells a p same are.0, plans_still all cells algorithms parts same are.1)
 
   -- the cells were only read since
-  pub plans_since : {T E : Type 0} (r : Result T E) (all cells : List ℕ) (algorithms : List flm.Shown) (parts : List Part) → (IsTrue tells → cells ≡ all)
+  pub plans_since : {T E : Type 0} (r : Result T E) (all cells : List ℕ) (algorithms : List flm.Shown) (parts : List RegionPlan) → (IsTrue tells → cells ≡ all)
       → OnOk r (ArePlanned tells weights image all algorithms parts) → OnOk r (ArePlanned tells weights image cells algorithms parts)
   plans_since (Ok v) all cells algorithms parts same are = plans_still all cells algorithms parts (λ told. sym (same told)) are
   plans_since (Err e) all cells algorithms parts same are = tt
 
-  plans_more : (all : List ℕ) (algorithms : List flm.Shown) (parts : List Part) (a : flm.Shown) (p : Part) → ArePlanned tells weights image all algorithms parts
+  plans_more : (all : List ℕ) (algorithms : List flm.Shown) (parts : List RegionPlan) (a : flm.Shown) (p : RegionPlan) →
+      ArePlanned tells weights image all algorithms parts
       → IsPlannedOver tells weights image all a p → ArePlanned tells weights image all (algorithms ++ a ∷ []) (parts ++ p ∷ [])
   plans_more all [] [] a p are is = (is, tt)
   plans_more all [] (q ∷ parts) a p are is = absurd are
@@ -464,20 +466,20 @@ module _ (tells : Bool) (weights : Weights) (image : List Run) where
   plans_more all (b ∷ algorithms) (q ∷ parts) a p are is = (are.0, plans_more all algorithms parts a p are.1 is)
 
   -- the first regions were surveyed
-  pub record SurveyedTo (algorithms : List Algorithm) (before now : BenchState) (parts : List Part) (i : ℕ) : Type 0 where
+  pub record SurveyedTo (algorithms : List Algorithm) (before now : BenchState) (parts : List RegionPlan) (i : ℕ) : Type 0 where
     pub are : AreParts (map flm.shown algorithms) 0 parts
     pub plans : ArePlanned tells weights image before.cells (map flm.shown (take i algorithms)) (take i parts)
     pub reads : OnlyReadsCells tells before now
     pub faults : now.device_faults ≡ before.device_faults
 
-  pub surveyed_none : (algorithms : List Algorithm) (s : BenchState) (parts : List Part) → AreParts (map flm.shown algorithms) 0 parts
+  pub surveyed_none : (algorithms : List Algorithm) (s : BenchState) (parts : List RegionPlan) → AreParts (map flm.shown algorithms) 0 parts
       → SurveyedTo algorithms s s parts 0
   surveyed_none algorithms s parts are = record { are = are; plans = tt; reads = only_reads_cells_here tells s; faults = refl }
 
-  module _ (algorithms : List Algorithm) (before now later : BenchState) (parts : List Part) (i : ℕ) (a : Algorithm) (old new : Part)
+  module _ (algorithms : List Algorithm) (before now later : BenchState) (parts : List RegionPlan) (i : ℕ) (a : Algorithm) (old new : RegionPlan)
       (so_far : SurveyedTo algorithms before now parts i) (less : i < length parts)
       (is : a ≡ get_or algorithms i a) (was : old ≡ get_or parts i old) where
-    pub surveyed_more : IsPartFor (flm.shown a) new → new.start ≡ old.start → IsPlannedOver tells weights image now.cells (flm.shown a) new
+    pub surveyed_more : IsRegionPlanFor (flm.shown a) new → new.start ≡ old.start → IsPlannedOver tells weights image now.cells (flm.shown a) new
         → OnlyReadsCells tells now later
         → later.device_faults ≡ now.device_faults → SurveyedTo algorithms before later (set parts i new) (i + 1)
     surveyed_more for_it at plan reads faults =
@@ -485,11 +487,11 @@ module _ (tells : Bool) (weights : Weights) (image : List Run) where
         let more = plans_more before.cells (map flm.shown (take i algorithms)) (take i parts) (flm.shown a) new so_far.plans
         (plan_still now.cells before.cells (flm.shown a) new so_far.reads.cells plan) in
         record {
-          are = parts_set algorithms 0 parts i a old new less so_far.are (subst (λ (x : Algorithm). IsPartFor (flm.shown x) new) is for_it)
-              (at ∙ ap (λ (p : Part). p.start) was);
+          are = parts_set algorithms 0 parts i a old new less so_far.are (subst (λ (x : Algorithm). IsRegionPlanFor (flm.shown x) new) is for_it)
+              (at ∙ ap (λ (p : RegionPlan). p.start) was);
           plans = subst (λ (l : List flm.Shown). ArePlanned tells weights image before.cells l (take (i + 1) (set parts i new)))
               (sym (one_more algorithms i a within is))
-              (subst (λ (l : List Part). ArePlanned tells weights image before.cells (map flm.shown (take i algorithms) ++ flm.shown a ∷ []) l)
+              (subst (λ (l : List RegionPlan). ArePlanned tells weights image before.cells (map flm.shown (take i algorithms) ++ flm.shown a ∷ []) l)
               (sym (take_more_set parts i new less)) more);
           reads = only_reads_cells_then so_far.reads reads;
           faults = faults ∙ so_far.faults;
@@ -500,28 +502,28 @@ module _ (tells : Bool) (weights : Weights) (image : List Run) where
         let end = cells_on (map flm.shown algorithms) in
         let one = part_at algorithms 0 parts i a old less so_far.are in
         let its = subst (λ (x : Algorithm). IsOneOf (flm.shown x) old (0 + end)) (sym is)
-        (subst (λ (p : Part). IsOneOf (flm.shown (get_or algorithms i a)) p (0 + end)) (sym was) one) in
+        (subst (λ (p : RegionPlan). IsOneOf (flm.shown (get_or algorithms i a)) p (0 + end)) (sym was) one) in
         record { is = its.is; inside = omega (arith, its.inside) }
 
-  pub surveyed_all : (algorithms : List Algorithm) (before now : BenchState) (parts : List Part) (i : ℕ) → SurveyedTo algorithms before now parts i
+  pub surveyed_all : (algorithms : List Algorithm) (before now : BenchState) (parts : List RegionPlan) (i : ℕ) → SurveyedTo algorithms before now parts i
       → length parts ≤ i
       → ArePlanned tells weights image before.cells (map flm.shown algorithms) parts
   surveyed_all algorithms before now parts i so_far past =
       subst (λ (l : List Algorithm). ArePlanned tells weights image before.cells (map flm.shown l) parts)
       (take_all i algorithms (omega (arith, past, many_parts algorithms 0 parts so_far.are)))
-      (subst (λ (l : List Part). ArePlanned tells weights image before.cells (map flm.shown (take i algorithms)) l) (take_all i parts past) so_far.plans)
+      (subst (λ (l : List RegionPlan). ArePlanned tells weights image before.cells (map flm.shown (take i algorithms)) l) (take_all i parts past) so_far.plans)
 
 -- What is printed.
 
 next_cells : (start n m : ℕ) (all : List ℕ) → take n (drop start all) ++ take m (drop (start + n) all) ≡ take (n + m) (drop start all)
 next_cells start n m all = ap (λ (l : List ℕ). take n (drop start all) ++ take m l) (sym (drop-drop n start all)) ∙ sym (take-add n m (drop start all))
 
-abbrev told_of : Part → ℕ × List ℕ
+abbrev told_of : RegionPlan → ℕ × List ℕ
 told_of p = (p.base, plan_text p.geometry p.base p.plan.made)
 
 module _ (tells : Bool) (weights : Weights) (image : List Run) (all : List ℕ) where
   -- the text of the plan of a region
-  one_text : (r : Region) (a : flm.Shown) (p : Part) → a.device.base ≡ r.base → IsPartFor a p → (is : IsPlannedOver tells weights image all a p)
+  one_text : (r : Region) (a : flm.Shown) (p : RegionPlan) → a.device.base ≡ r.base → IsRegionPlanFor a p → (is : IsPlannedOver tells weights image all a p)
       → plan_text p.geometry p.base p.plan.made ≡ text_for weights a image r.base is.cells
   one_text r a p base part is =
       let chip = is_some a.entries.erase_chip in
@@ -532,13 +534,13 @@ module _ (tells : Bool) (weights : Weights) (image : List Run) (all : List ℕ) 
       ∙ ap (λ (n : ℕ). plan_text (device_of a) r.base (chosen (device_of a) weights chip empty is.cells (over image n is.cells))) base
 
   -- some cells, from a place on, whose plans these are
-  pub record AreOf (regions : List Region) (algorithms : List flm.Shown) (start : ℕ) (parts : List Part) : Type 0 where
+  pub record AreOf (regions : List Region) (algorithms : List flm.Shown) (start : ℕ) (parts : List RegionPlan) : Type 0 where
     pub cells : List ℕ
     pub long : length cells ≡ size_of regions
     pub told : IsTrue tells → cells ≡ take (size_of regions) (drop start all)
     pub texts : map told_of parts ≡ plans_for weights image regions algorithms cells
 
-  are_of : (regions : List Region) (algorithms : List flm.Shown) (start : ℕ) (parts : List Part) → AreDevices regions algorithms
+  are_of : (regions : List Region) (algorithms : List flm.Shown) (start : ℕ) (parts : List RegionPlan) → AreDevices regions algorithms
       → AreParts algorithms start parts
       → ArePlanned tells weights image all algorithms parts → AreOf regions algorithms start parts
   are_of [] [] start [] devices are plans = record { cells = []; long = refl; told = λ told. refl; texts = refl }
@@ -569,7 +571,7 @@ module _ (tells : Bool) (weights : Weights) (image : List Run) (all : List ℕ) 
             (rest.texts ∙ ap (λ (l : List ℕ). plans_for weights image regions algorithms l) (sym (drop_at one.cells rest.cells r.size (one.long ∙ size))));
       }
 
-module _ (tells : Bool) (wanted : Wanted) (s : BenchState) (parts : List Part)
+module _ (tells : Bool) (wanted : Wanted) (s : BenchState) (parts : List RegionPlan)
     (devices : AreDevices wanted.board.regions (map flm.shown wanted.algorithms.items))
     (are : AreParts (map flm.shown wanted.algorithms.items) 0 parts)
     (plans : ArePlanned tells wanted.board.weights wanted.image s.cells (map flm.shown wanted.algorithms.items) parts) where
@@ -584,23 +586,23 @@ module _ (tells : Bool) (wanted : Wanted) (s : BenchState) (parts : List Part)
   pub read_text : parts_text parts ≡ text_of (aim_of wanted) read_of.cells
   read_text = ap (λ (l : List (ℕ × List ℕ)). plans_text l) read_of.texts
 
-pub parts_end : (algorithms : List flm.Shown) (start : ℕ) (parts : List Part) → AreParts algorithms start parts
+pub parts_end : (algorithms : List flm.Shown) (start : ℕ) (parts : List RegionPlan) → AreParts algorithms start parts
     → All (λ p. p.base + p.geometry.size ≤ 2 ^ 32) parts
-parts_end [] start [] are = All-nil (λ (p : Part). p.base + p.geometry.size ≤ 2 ^ 32)
+parts_end [] start [] are = All-nil (λ (p : RegionPlan). p.base + p.geometry.size ≤ 2 ^ 32)
 parts_end [] start (p ∷ parts) are = absurd are
 parts_end (a ∷ algorithms) start [] are = absurd are
 parts_end (a ∷ algorithms) start (p ∷ parts) are =
-    All-cons (λ (p : Part). p.base + p.geometry.size ≤ 2 ^ 32) p parts are.0.end (parts_end algorithms (start + a.device.size) parts are.2)
+    All-cons (λ (p : RegionPlan). p.base + p.geometry.size ≤ 2 ^ 32) p parts are.0.end (parts_end algorithms (start + a.device.size) parts are.2)
 
-named_texts : (parts : List Part) → flat_map (λ (p : Part). part_text true p) parts ≡ flat_map (λ (plan : ℕ × List ℕ). region_text plan.0 ++ plan.1)
+named_texts : (parts : List RegionPlan) → flat_map (λ (p : RegionPlan). part_text true p) parts ≡ flat_map (λ (plan : ℕ × List ℕ). region_text plan.0 ++ plan.1)
     (map told_of parts)
 named_texts [] = refl
 named_texts (p ∷ parts) = ap (λ (l : List ℕ). part_text true p ++ l) (named_texts parts)
 
 -- the texts of all, one after the other
-pub all_texts : (parts : List Part) → flat_map (λ (p : Part). part_text (nat_lt 1 (length parts)) p) parts ≡ parts_text parts
+pub all_texts : (parts : List RegionPlan) → flat_map (λ (p : RegionPlan). part_text (nat_lt 1 (length parts)) p) parts ≡ parts_text parts
 all_texts [] = refl
 all_texts (p ∷ []) = append-nil (part_text false p)
 all_texts (p ∷ q ∷ parts) =
     let many = lt-ltb 1 (length (p ∷ q ∷ parts)) (omega arith) in
-    ap (λ (b : Bool). flat_map (λ (x : Part). part_text b x) (p ∷ q ∷ parts)) many ∙ named_texts (p ∷ q ∷ parts)
+    ap (λ (b : Bool). flat_map (λ (x : RegionPlan). part_text b x) (p ∷ q ∷ parts)) many ∙ named_texts (p ∷ q ∷ parts)

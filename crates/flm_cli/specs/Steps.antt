@@ -7,8 +7,8 @@ use Rattle.board_file.specs.declared.region.Region.{Region}
 use Rattle.readback.specs.declared.compare.Difference.{Difference}
 use Rattle.flm_descriptor.specs.Shown as flm
 use Rattle.board_file.specs.declared.board.Weights.{Weights}
-use Rattle.flash_session.specs.declared.part.Part.{Part}
-use Rattle.flash_session.specs.RegionPlans.{IsPartFor, IsPlannedOver}
+use Rattle.flash_session.specs.declared.region_plan.RegionPlan.{RegionPlan}
+use Rattle.flash_session.specs.RegionPlans.{IsRegionPlanFor, IsPlannedOver}
 use Rattle.report_text.specs.Plan.{plan_text}
 use Rattle.report_text.specs.Region.{region_text, plans_text}
 use Rattle.report_text.specs.Refusal.{out_of_memory, device_fault, output_fault, differs}
@@ -80,26 +80,26 @@ cells_on [] = 0
 cells_on (algorithm ∷ algorithms) = algorithm.device.size + cells_on algorithms
 
 -- memory for a plan by each algorithm, for cells that follow those of the one before it, the first of them at this place
-abbrev pub AreParts : List flm.Shown → ℕ → List Part → Type 0
+abbrev pub AreParts : List flm.Shown → ℕ → List RegionPlan → Type 0
 AreParts [] start [] = Unit {0}
-AreParts (algorithm ∷ algorithms) start (part ∷ parts) = IsPartFor algorithm part ×
+AreParts (algorithm ∷ algorithms) start (part ∷ parts) = IsRegionPlanFor algorithm part ×
     (part.start ≡ start) × AreParts algorithms (start + algorithm.device.size) parts
 AreParts algorithms start parts = ⊥
 
 -- each has the plan from its own of all cells to an image laid over them
-abbrev pub ArePlanned : Bool → Weights → List Run → List ℕ → List flm.Shown → List Part → Type 0
+abbrev pub ArePlanned : Bool → Weights → List Run → List ℕ → List flm.Shown → List RegionPlan → Type 0
 ArePlanned tells weights image all [] [] = Unit {0}
 ArePlanned tells weights image all (algorithm ∷ algorithms) (part ∷ parts) =
     IsPlannedOver tells weights image all algorithm part × ArePlanned tells weights image all algorithms parts
 ArePlanned tells weights image all algorithms parts = ⊥
 
 -- the text of a plan, behind the line of its region where that is named
-abbrev pub part_text : Bool → Part → List ℕ
+abbrev pub part_text : Bool → RegionPlan → List ℕ
 part_text false part = plan_text part.geometry part.base part.plan.made
 part_text true part = region_text part.base ++ plan_text part.geometry part.base part.plan.made
 
 -- the text of all
-abbrev pub parts_text : List Part → List ℕ
+abbrev pub parts_text : List RegionPlan → List ℕ
 parts_text parts = plans_text (map (λ part. (part.base, plan_text part.geometry part.base part.plan.made)) parts)
 
 -- the text for cells that were read

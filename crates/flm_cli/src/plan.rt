@@ -19,7 +19,7 @@ use bench_model::{Bench, DeviceFault};
 use command_files::{Wanted, cells_of, read_files, take_files};
 use command_words::FileNames;
 use faults::OutOfMemory;
-use flash_session::{Part, survey_cells};
+use flash_session::{RegionPlan, survey_cells};
 use flm_descriptor::Algorithm;
 use outside_io::{Inputs, OutputFault, Sink};
 use report_text::{Refusal, put_plan, put_region};
@@ -73,7 +73,7 @@ fn print_from<'a, B: Bench, O: Sink>(
     wanted: &Wanted,
     bench: &mut B,
     out: &mut O,
-    parts: &mut [Part],
+    parts: &mut [RegionPlan],
 ) -> Result<(), Refusal<'a>>
     requires devices { AreDevices wanted.now.board.regions (map shown wanted.now.algorithms.items) }
     requires cells { size_of wanted.now.board.regions ≡ (B.state bench.old).cell_count }
@@ -87,21 +87,25 @@ fn print_from<'a, B: Bench, O: Sink>(
 }
 
 /// Takes the memory for the plans by these algorithms, each for its own region.
-fn make_parts(alloc: Global, algorithms: &[Algorithm]) -> Result<Vec<Part>, OutOfMemory>
+fn make_parts(alloc: Global, algorithms: &[Algorithm]) -> Result<Vec<RegionPlan>, OutOfMemory>
     requires { cells_on (map shown algorithms.now) < 2 ^ 32 }
     ensures { IfOk result (λ parts. AreParts (map shown algorithms.now) 0 parts.items) }
 {
     let mut parts = Vec::new(alloc);
     let mut start = 0;
     for algorithm in algorithms {
-        parts.push(Part::new(alloc, algorithm, start)?)?;
+        parts.push(RegionPlan::new(alloc, algorithm, start)?)?;
         start += algorithm.device.size;
     }
     Ok(parts)
 }
 
 /// Breaks off an open operation, and makes the plans from the cells as they are to the image laid over them.
-fn survey<B: Bench>(bench: &mut B, wanted: &Wanted, parts: &mut [Part]) -> Result<(), DeviceFault>
+fn survey<B: Bench>(
+    bench: &mut B,
+    wanted: &Wanted,
+    parts: &mut [RegionPlan],
+) -> Result<(), DeviceFault>
     requires parts { AreParts (map shown wanted.now.algorithms.items) 0 parts.old }
     requires cells { cells_on (map shown wanted.now.algorithms.items) ≡ (B.state bench.old).cell_count }
     ensures parts { OnOk result (AreParts (map shown wanted.now.algorithms.items) 0 parts.new) }
@@ -117,7 +121,7 @@ fn survey<B: Bench>(bench: &mut B, wanted: &Wanted, parts: &mut [Part]) -> Resul
 fn survey_parts<B: Bench>(
     bench: &mut B,
     wanted: &Wanted,
-    parts: &mut [Part],
+    parts: &mut [RegionPlan],
 ) -> Result<(), DeviceFault>
     requires parts { AreParts (map shown wanted.now.algorithms.items) 0 parts.old }
     requires cells { cells_on (map shown wanted.now.algorithms.items) ≡ (B.state bench.old).cell_count }
@@ -137,7 +141,7 @@ fn survey_parts<B: Bench>(
 }
 
 /// Puts the plans: the text of the plan where there is one region, else for each in turn the line of the region and the text.
-fn put_parts<O: Sink>(out: &mut O, parts: &[Part]) -> Result<(), OutputFault>
+fn put_parts<O: Sink>(out: &mut O, parts: &[RegionPlan]) -> Result<(), OutputFault>
     requires { All (λ p. p.base + p.geometry.size ≤ 2 ^ 32) parts.now }
     ensures { Puts O.tells (O.state out.old) (O.state out.new) (parts_text parts.now) result }
 {
@@ -149,7 +153,7 @@ fn put_parts<O: Sink>(out: &mut O, parts: &[Part]) -> Result<(), OutputFault>
 }
 
 /// Puts the text of a plan, behind the line of its region where that is named.
-fn put_part<O: Sink>(out: &mut O, named: bool, part: &Part) -> Result<(), OutputFault>
+fn put_part<O: Sink>(out: &mut O, named: bool, part: &RegionPlan) -> Result<(), OutputFault>
     requires { part.now.base + part.now.geometry.size ≤ 2 ^ 32 }
     ensures { Puts O.tells (O.state out.old) (O.state out.new) (part_text named part.now) result }
 {
@@ -160,7 +164,7 @@ fn put_part<O: Sink>(out: &mut O, named: bool, part: &Part) -> Result<(), Output
 }
 
 /// Puts the line of a region and its plan.
-fn put_named<O: Sink>(out: &mut O, part: &Part) -> Result<(), OutputFault>
+fn put_named<O: Sink>(out: &mut O, part: &RegionPlan) -> Result<(), OutputFault>
     requires { part.now.base + part.now.geometry.size ≤ 2 ^ 32 }
     ensures { Puts O.tells (O.state out.old) (O.state out.new) (part_text true part.now) result }
 {

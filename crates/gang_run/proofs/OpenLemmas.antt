@@ -82,7 +82,7 @@ module _ (tells : Bool) (j : Job) (window : ℕ) (s t : BenchState) (reads : IsR
       (found : HasSurveyed tells j goal.New s.file s.cells w)
       (x : GangTarget) (job_is : x.job ≡ j) (window_is : x.player.window ≡ window) (is : IsPlayerOf j w x.player) where
     goal_file : goal_for x.job x.player t.file ≡ goal_in j goal.New t.file
-    goal_file = ap (λ (k : Job). goal_in k x.player.task.goal t.file) job_is ∙ ap (λ (g : Goal). goal_in j g t.file) (is.goal ∙ found.goal)
+    goal_file = ap (λ (k : Job). goal_in k x.player.work.goal t.file) job_is ∙ ap (λ (g : Goal). goal_in j g t.file) (is.goal ∙ found.goal)
 
     legs_is : all_legs (legs_for x.player (goal_for x.job x.player t.file)) ≡ job_legs x.job w t.file
     legs_is =

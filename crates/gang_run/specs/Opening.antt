@@ -66,7 +66,7 @@ IsRefused tells _ s t = ⊥
 pub record Begins (tells : Bool) (x : GangTarget) (arena : List (List ℕ)) (s t : BenchState) : Type 0 where
   pub place : x.player.place ≡ place.At (at.Begin false stage.Erase)
   pub made : x.player.made ≡ 0
-  pub goal : x.player.task.goal ≡ to_goal.New
+  pub goal : x.player.work.goal ≡ to_goal.New
   pub stands : IsTrue tells → StandsFor x.job s.file
   pub only : IsTrue tells → LeftOnly t.file (file_half t)
   pub idle : IsTrue tells → t.operation ≡ None

@@ -1,5 +1,5 @@
 -- What a call answers is what a campaign asks of it. For the law `calls_keep`.
-use Rattle.std.proofs.Common.{◌≡◌, ◌≢◌, ⊎_elim, inl, inr, refl, ◌⊎◌, ◌≤◌, ◌+◌, ◌∙◌, ℕ, Bool, true, List, ◌∷◌, replicate, IsTrue, sym, ap, subst, arith}
+use Rattle.std.proofs.Common.{◌≡◌, ◌≢◌, ⊎_elim, inl, inr, refl, ◌⊎◌, ◌≤◌, ◌+◌, ◌∙◌, ℕ, Bool, List, ◌∷◌, replicate, IsTrue, sym, ap, subst, arith}
 use Rattle.std.proofs.lemmas.Bool.{cases_eq}
 use Rattle.std.proofs.lemmas.List.{length-replicate}
 use Rattle.bench_model.specs.History.{left}
@@ -16,13 +16,14 @@ use Rattle.campaign.specs.Stops.{IsUntouched, IsAtClose}
 use Rattle.campaign.specs.Campaign.{WorkStops, goal_of}
 use Rattle.flash_session.specs.declared.goal.Goal.{Goal}
 use Rattle.flash_session.specs.declared.goal.Goal.TheVariants.{New, Old}
-use Rattle.report_text.specs.Refusal.{Refusal, no_job, cells_differ}
+use Rattle.report_text.specs.Refusal.{no_job, cells_differ}
 use Rattle.command_words.specs.Files.{FilesAsked}
 use Rattle.command_files.specs.Inputs.{FilesGiven}
 use Rattle.command_files.specs.Files.{Aim, IsAim}
-use Rattle.command_answers.specs.Call.{BenchCall, SinkCall, Call, Answer, done, refused}
-use Rattle.command_answers.specs.Answered.{yields, Refuses, OnlyLooked, StandsEarly, on_job_file}
+use Rattle.command_answers.specs.Call.{Call, Answer, done}
+use Rattle.command_answers.specs.Answered.{OnlyLooked, StandsEarly, on_job_file}
 use Rattle.command_answers.proofs.FileLemmas.{not_free}
+use Rattle.command_answers.proofs.RefusalLemmas.{looks, not_done}
 use Rattle.job_commands.specs.Work.{Work, body}
 use Rattle.job_commands.specs.Carry.{Comes, Carries}
 use Rattle.job_commands.specs.GoOn.{goal_in, work_to, GoOnAnswers}
@@ -31,21 +32,6 @@ use Rattle.job_commands.specs.Program.{Begins, ProgramAnswers}
 use Rattle.job_commands.specs.Begin.{Starts, BeginAnswers}
 use Rattle.job_commands.specs.Law.{aim_of, asked_by, KeepsFor, LaterKeeps, FirstAnswers, FirstStops, FirstKeeps}
 use Rattle.job_commands.proofs.RegionLemmas.{aim_job}
-
--- A refusal of a job file only looks at it, whether it is answered or yields.
-looks : (bench : BenchCall) (out : SinkCall) (answer : Answer) (refusal : Refusal)
-    → (StandsEarly on_job_file bench out (refused refusal) → OnlyLooked bench out)
-    → StandsEarly on_job_file bench out answer → Refuses (OnlyLooked bench out) answer refusal → OnlyLooked bench out
-looks bench out answer refusal early stands either = ⊎_elim
-    (λ (is : answer ≡ refused refusal). early (subst (λ (a : Answer). StandsEarly on_job_file bench out a) is stands))
-    (λ (yield : (yields answer ≡ true) × OnlyLooked bench out). yield.1)
-    either
-
-not_done : (Did : Type 0) (answer : Answer) (refusal : Refusal) → Refuses Did answer refusal → answer ≡ done → ⊥
-not_done Did answer refusal either is = ⊎_elim
-    (λ (other : answer ≡ refused refusal). let e : done ≡ refused refusal = sym is ∙ other in cc)
-    (λ (yield : (yields answer ≡ true) × Did). let e : yields done ≡ true = ap yields (sym is) ∙ yield.0 in cc)
-    either
 
 -- where the file was only read, a stop leaves nothing new
 only_left : (tells : Bool) (a b : BenchState) → OnlyReads tells a b → (k : ℕ) (f c : List ℕ) → a.moment ≤ k → k ≤ b.moment → b.files_at k f → b.cells_at k c

@@ -21,8 +21,8 @@ use Rattle.command_words.specs.Files.{FilesAsked, names_in}
 use Rattle.command_files.specs.Inputs.{InputsCall, FilesGiven, AreFiles, NoneFailed}
 use Rattle.command_files.specs.Files.{flm_files, Aim, IsAim}
 use Rattle.command_files.specs.Refused.{IsRefused}
-use Rattle.command_files.specs.Steps.{IsTakeFault, IsFilesRefusal, TookFiles, task_aim, IsTask}
-use Rattle.command_files.specs.declared.task.Task.{Task}
+use Rattle.command_files.specs.Steps.{IsTakeFault, IsFilesRefusal, TookFiles, said_aim, AreTargetFiles}
+use Rattle.command_files.specs.declared.target_files.TargetFiles.{TargetFiles}
 use Rattle.command_answers.specs.Call.{BenchCall, SinkCall, Answer, done, refused, bench_call, sink_call}
 use Rattle.command_answers.specs.Answered.{fault_in, Refuses, OnlyLooked, StandsEarly, IsOf, on_job_file}
 use Rattle.command_answers.specs.Reading.{ShowsFiles}
@@ -38,7 +38,7 @@ use Rattle.job_commands.specs.Steps.{has_alone, has_work, BenchCounted, StartsPa
 use Rattle.job_commands.proofs.CountLemmas.{worked_lawful}
 use Rattle.job_commands.proofs.KindLemmas.{program_kind, begin_command, alone_work, begin_of_program}
 use Rattle.job_commands.proofs.EntryLemmas.{IsEarly, program_unread, begin_unread}
-use Rattle.job_commands.proofs.RegionLemmas.{task_parts, flms_are}
+use Rattle.job_commands.proofs.RegionLemmas.{said_parts, flms_are}
 
 -- Before any work, of each command that has the refusals of `begin`.
 module _ (has : Refusal → Bool) (Prints : ℕ → SinkCall → Answer → Type 0) (Goes : BenchCall → SinkCall → FilesGiven → Aim → Answer → Type 0)
@@ -130,7 +130,7 @@ module _ (tells sinks : Bool) (b : BenchState) (o : SinkState) (inputs : InputsC
       → BeginEnds asked (bench_call tells b b) inputs (sink_call sinks o o) (refused r)
   begin_early r is = ends_early has_begin PrintsBegun Starts (λ r its. its) tells sinks b o inputs asked unread_begin r is
 
--- What began with the parts of a task began with its files.
+-- What began with the parts that files of a target make began with its files.
 module _ (bench : BenchCall) (out : SinkCall) (answer : Answer) (files : FilesGiven) (aim : Aim) (parts : JobParts) (are : AreParts parts)
     (board_is : files.board ≡ parts.board.now) (flms_are : flms_of parts ≡ flm_files files.flm files.images aim.board) (image_is : aim.image ≡ parts.image.now)
     (size_is : size_of aim.board.regions ≡ parts.size) (board_says : are.board ≡ aim.board) (algorithms_say : are.algorithms ≡ aim.algorithms) where
@@ -183,28 +183,29 @@ module _ (bench : BenchCall) (out : SinkCall) (answer : Answer) (files : FilesGi
       })
       over
 
--- So with the parts of a task, and what its files want.
-module _ (bench : BenchCall) (out : SinkCall) (answer : Answer) (raw_at : Option ℕ) (files : FilesGiven) (task : Task) (is : IsTask raw_at files task)
-    (short_board : length task.board_text ≤ 67108864) (short_flm : length task.flm ≤ 67108864)
-    (short_second : ForSome task.second (λ (bytes : List ℕ). length bytes ≤ 67108864))
-    (parts : JobParts) (board_is : parts.board.now ≡ task.board_text) (flm_is : parts.flm.now ≡ task.flm) (second_is : option_copied parts.second ≡ task.second)
-    (image_is : parts.image.now ≡ (task_aim task).image) (size_is : parts.size ≡ size_of (task_aim task).board.regions) where
-  pub task_begins : BeginsParts bench out parts answer
-      → OverFile bench out (size_of (task_aim task).board.regions) answer (HasTexts files (task_aim task))
-      (λ has. Begins bench out files (task_aim task) answer)
-  task_begins begins =
-      begins_on_parts bench out answer files (task_aim task) parts
-      (task_parts raw_at files task is short_board short_flm short_second parts board_is flm_is second_is image_is size_is)
-      (is.board_text ∙ sym board_is) (flms_are raw_at files task is short_board short_flm short_second parts board_is flm_is second_is image_is size_is)
+-- So with these parts, and what the files want.
+module _ (bench : BenchCall) (out : SinkCall) (answer : Answer) (raw_at : Option ℕ) (files : FilesGiven) (said : TargetFiles)
+    (is : AreTargetFiles raw_at files said)
+    (short_board : length said.board_text ≤ 67108864) (short_flm : length said.flm ≤ 67108864)
+    (short_second : ForSome said.second (λ (bytes : List ℕ). length bytes ≤ 67108864))
+    (parts : JobParts) (board_is : parts.board.now ≡ said.board_text) (flm_is : parts.flm.now ≡ said.flm) (second_is : option_copied parts.second ≡ said.second)
+    (image_is : parts.image.now ≡ (said_aim said).image) (size_is : parts.size ≡ size_of (said_aim said).board.regions) where
+  pub said_begins : BeginsParts bench out parts answer
+      → OverFile bench out (size_of (said_aim said).board.regions) answer (HasTexts files (said_aim said))
+      (λ has. Begins bench out files (said_aim said) answer)
+  said_begins begins =
+      begins_on_parts bench out answer files (said_aim said) parts
+      (said_parts raw_at files said is short_board short_flm short_second parts board_is flm_is second_is image_is size_is)
+      (is.board_text ∙ sym board_is) (flms_are raw_at files said is short_board short_flm short_second parts board_is flm_is second_is image_is size_is)
       (sym image_is) (sym size_is) refl refl begins
 
-  pub task_starts : StartsParts bench out begun_text parts answer
-      → OverFile bench out (size_of (task_aim task).board.regions) answer (HasTexts files (task_aim task))
-      (λ has. Starts bench out files (task_aim task) answer)
-  task_starts starts =
-      starts_on_parts bench out answer files (task_aim task) parts
-      (task_parts raw_at files task is short_board short_flm short_second parts board_is flm_is second_is image_is size_is)
-      (is.board_text ∙ sym board_is) (flms_are raw_at files task is short_board short_flm short_second parts board_is flm_is second_is image_is size_is)
+  pub said_starts : StartsParts bench out begun_text parts answer
+      → OverFile bench out (size_of (said_aim said).board.regions) answer (HasTexts files (said_aim said))
+      (λ has. Starts bench out files (said_aim said) answer)
+  said_starts starts =
+      starts_on_parts bench out answer files (said_aim said) parts
+      (said_parts raw_at files said is short_board short_flm short_second parts board_is flm_is second_is image_is size_is)
+      (is.board_text ∙ sym board_is) (flms_are raw_at files said is short_board short_flm short_second parts board_is flm_is second_is image_is size_is)
       (sym image_is) (sym size_is) refl refl starts
 
 -- The work on files that are right.

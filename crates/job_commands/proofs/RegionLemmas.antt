@@ -22,8 +22,8 @@ use Rattle.job_text.specs.Parts.{files_with, flms_of, AreParts}
 use Rattle.job_text.specs.declared.parts.JobParts.{JobParts}
 use Rattle.command_files.specs.Inputs.{FilesGiven}
 use Rattle.command_files.specs.Files.{others_of, flm_files, image_files, AreFor, ranges_of, Aim, IsAim}
-use Rattle.command_files.specs.Steps.{task_aim, IsTask}
-use Rattle.command_files.specs.declared.task.Task.{Task}
+use Rattle.command_files.specs.Steps.{said_aim, AreTargetFiles}
+use Rattle.command_files.specs.declared.target_files.TargetFiles.{TargetFiles}
 use Rattle.command_files.proofs.ImageLemmas.{maximal_union}
 use Rattle.job_commands.specs.Beginning.{HasTexts, job_for}
 
@@ -153,7 +153,7 @@ aim_job raw_at files aim has snapshot is many = record {
   short_second = short_len (flm_files files.flm files.images aim.board) 1 has.short_flms;
 }
 
--- ---- a task
+-- ---- what the files of a target say
 
 files_are : (first : List ℕ) (second : Option (List ℕ)) → files_with first second ≡ first ∷ option_to_list second
 files_are first None = refl
@@ -170,35 +170,35 @@ some_first : (first : Option (List ℕ)) (others : List (List ℕ)) (b : board.S
 some_first None others b file files algorithms is = absurd (omega (arith, ap length is, length-take-le 0 others (omega arith)))
 some_first (Some first) others b file files algorithms is = refl
 
-module _ (raw_at : Option ℕ) (files : FilesGiven) (task : Task) (is : IsTask raw_at files task) (short_board : length task.board_text ≤ 67108864)
-    (short_flm : length task.flm ≤ 67108864) (short_second : ForSome task.second (λ (bytes : List ℕ). length bytes ≤ 67108864)) where
+module _ (raw_at : Option ℕ) (files : FilesGiven) (said : TargetFiles) (is : AreTargetFiles raw_at files said) (short_board : length said.board_text ≤ 67108864)
+    (short_flm : length said.flm ≤ 67108864) (short_second : ForSome said.second (λ (bytes : List ℕ). length bytes ≤ 67108864)) where
   abbrev aim : Aim
-  aim = task_aim task
+  aim = said_aim said
 
   pub some : IsSome files.flm
-  some = some_first files.flm files.images aim.board task.flm (option_to_list task.second) aim.algorithms is.flms
+  some = some_first files.flm files.images aim.board said.flm (option_to_list said.second) aim.algorithms is.flms
 
   short_flms : All (λ (file : List ℕ). length file ≤ 67108864) (flm_files files.flm files.images aim.board)
   short_flms = subst (λ (l : List (List ℕ)). All (λ (file : List ℕ). length file ≤ 67108864) l) (sym is.flms)
-      (both_short task.flm task.second short_flm short_second)
+      (both_short said.flm said.second short_flm short_second)
 
   -- it has the texts of a job
-  pub task_texts : HasTexts files aim
-  task_texts = record { has_flm = some; short_board = omega (arith, short_board, ap (λ (l : List ℕ). length l) is.board_text); short_flms = short_flms }
+  pub said_texts : HasTexts files aim
+  said_texts = record { has_flm = some; short_board = omega (arith, short_board, ap (λ (l : List ℕ). length l) is.board_text); short_flms = short_flms }
 
-  module _ (parts : JobParts) (board_is : parts.board.now ≡ task.board_text) (flm_is : parts.flm.now ≡ task.flm)
-      (second_is : option_copied parts.second ≡ task.second)
+  module _ (parts : JobParts) (board_is : parts.board.now ≡ said.board_text) (flm_is : parts.flm.now ≡ said.flm)
+      (second_is : option_copied parts.second ≡ said.second)
       (image_is : parts.image.now ≡ aim.image) (size_is : parts.size ≡ size_of aim.board.regions) where
     pub flms_are : flms_of parts ≡ flm_files files.flm files.images aim.board
-    flms_are = ap (λ (f : List ℕ). files_with f (option_copied parts.second)) flm_is ∙ ap (λ (o : Option (List ℕ)). files_with task.flm o) second_is
-        ∙ files_are task.flm task.second ∙ sym is.flms
+    flms_are = ap (λ (f : List ℕ). files_with f (option_copied parts.second)) flm_is ∙ ap (λ (o : Option (List ℕ)). files_with said.flm o) second_is
+        ∙ files_are said.flm said.second ∙ sym is.flms
 
     pub short : All (λ (file : List ℕ). length file ≤ 67108864) (flms_of parts)
     short = subst (λ (l : List (List ℕ)). All (λ (file : List ℕ). length file ≤ 67108864) l) (sym flms_are) short_flms
 
-    -- A task makes the parts of a job.
-    abbrev pub task_parts : AreParts parts
-    task_parts = record {
+    -- What they say makes the parts of a job.
+    abbrev pub said_parts : AreParts parts
+    said_parts = record {
       board = aim.board;
       algorithms = aim.algorithms;
       is_board = subst (λ (text : List ℕ). IsBoard text aim.board) (is.board_text ∙ sym board_is) is.is_aim.are_read.board.is_board;

@@ -4,7 +4,7 @@ ghost use Rattle.board_file.specs.Limits.{size_of};
 ghost use Rattle.command_words.specs.Files.{names_in};
 ghost use Rattle.command_words.specs.Requested.{files_of};
 ghost use Rattle.command_files.specs.Inputs.{inputs_call};
-ghost use Rattle.command_files.specs.Steps.{task_aim};
+ghost use Rattle.command_files.specs.Steps.{said_aim};
 ghost use Rattle.command_answers.specs.Call.{bench_call, sink_call};
 ghost use Rattle.command_answers.specs.Shown.{answer_of};
 ghost use Rattle.job_commands.specs.Program.{ProgramEnds};
@@ -12,7 +12,7 @@ ghost use Rattle.job_commands.specs.Begin.{BeginEnds};
 
 use crate::job_begin::{begin_alone, begin_job};
 use bench_model::Bench;
-use command_files::{Task, cells_of, read_task};
+use command_files::{TargetFiles, cells_of, read_target_files};
 use command_words::FileNames;
 use job_text::JobParts;
 use octets::Bytes;
@@ -34,8 +34,8 @@ pub fn program<'a, B: Bench, I: Inputs, O: Sink>(
     ensures { ProgramEnds (files_of names.now) (bench_call B.tells (B.state bench.old) (B.state bench.new))
         (inputs_call I.tells (I.state inputs.old) (I.state inputs.new)) (sink_call O.tells (O.state out.old) (O.state out.new)) (answer_of result) }
 {
-    let task = read_task(alloc, names, inputs)?;
-    begin_job(alloc, &parts_of(&task), bench, out)
+    let said = read_target_files(alloc, names, inputs)?;
+    begin_job(alloc, &parts_of(&said), bench, out)
 }
 
 /// `begin [--raw-at ADDR] BOARD FLM... IMAGE...`: begins the job that `program` begins with these names, prints `begun`, and ends: no call
@@ -52,24 +52,24 @@ pub fn begin<'a, B: Bench, I: Inputs, O: Sink>(
     ensures { BeginEnds (files_of names.now) (bench_call B.tells (B.state bench.old) (B.state bench.new))
         (inputs_call I.tells (I.state inputs.old) (I.state inputs.new)) (sink_call O.tells (O.state out.old) (O.state out.new)) (answer_of result) }
 {
-    let task = read_task(alloc, names, inputs)?;
-    begin_alone(alloc, &parts_of(&task), bench, out)
+    let said = read_target_files(alloc, names, inputs)?;
+    begin_alone(alloc, &parts_of(&said), bench, out)
 }
 
-/// The parts of the job that a task wants.
-fn parts_of(task: &Task) -> JobParts<'_>
-    ensures board { result.board.now ≡ task.now.board_text }
-    ensures flm { result.flm.now ≡ task.now.flm }
-    ensures second { option_copied result.second ≡ task.now.second }
-    ensures image { result.image.now ≡ (task_aim task.now).image }
-    ensures size { result.size ≡ size_of (task_aim task.now).board.regions }
+/// The parts of the job that the files want.
+fn parts_of(said: &TargetFiles) -> JobParts<'_>
+    ensures board { result.board.now ≡ said.now.board_text }
+    ensures flm { result.flm.now ≡ said.now.flm }
+    ensures second { option_copied result.second ≡ said.now.second }
+    ensures image { result.image.now ≡ (said_aim said.now).image }
+    ensures size { result.size ≡ size_of (said_aim said.now).board.regions }
 {
     JobParts {
-        board: task.board_text.bytes(),
-        flm: task.flm.bytes(),
-        second: text_of(&task.second),
-        image: &task.wanted.image,
-        size: cells_of(&task.wanted.board),
+        board: said.board_text.bytes(),
+        flm: said.flm.bytes(),
+        second: text_of(&said.second),
+        image: &said.wanted.image,
+        size: cells_of(&said.wanted.board),
     }
 }
 

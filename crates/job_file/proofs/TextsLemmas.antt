@@ -1,9 +1,10 @@
 -- The texts of a job, one behind the other. `read_said` takes them so.
 use Rattle.std.proofs.Common.{◌≡◌, ◌≢◌, ◌≤◌, ◌+◌, ◌∙◌, ℕ, Bool, true, false, not, ◌||◌, cond, nat_eq, List, length, take, drop, slice_get, Option}
-use Rattle.std.proofs.Common.{Some, None, Result, Ok, Err, refl, sym, ap, arith}
+use Rattle.std.proofs.Common.{Some, None, Result, Ok, Err, refl, sym, ap, subst, arith}
 use Rattle.std.proofs.lemmas.Bool.{eq-eqb, ne_eqb}
 use Rattle.std.proofs.lemmas.List.{length-drop, drop-drop}
 use Rattle.faults.specs.Results.{◌>>=◌}
+use Rattle.board_file.specs.declared.region.Region.{Region}
 use Rattle.board_file.specs.Shown as board
 use Rattle.board_file.specs.Text.{reading}
 use Rattle.flm_descriptor.specs.declared.algorithm.Algorithm.{Algorithm}
@@ -18,7 +19,7 @@ use Rattle.job_text.proofs.Steps.{bind_is, holds}
 use Rattle.job_text.proofs.BodyLemmas.{all_fitting}
 use Rattle.job_file.specs.declared.fault.ReadFault.{ReadFault}
 use Rattle.job_file.specs.declared.fault.ReadFault.TheVariants.{OutOfMemory, StoreFault, NotAJob}
-use Rattle.job_file.specs.Readers.{Fails, board_read, algorithm_read, files_checked, CountsFiles, SecondFits}
+use Rattle.job_file.specs.Readers.{Fails, board_read, algorithm_read, files_checked, file_there, CountsFiles, SecondFits}
 use Rattle.job_file.proofs.StepLemmas.{text_here, fails, err_through, bind_err}
 
 -- what fails in a part fails in the whole
@@ -185,6 +186,16 @@ pub record AreCounted (d : ℕ) (places : Places) (h : Head) (file : List ℕ) (
   pub files : are_files h.files (length b.regions) ≡ true
   pub none : (not (nat_eq h.files 1) || nat_eq h.second 0) ≡ true
 
+-- so they were, by as many regions as a board has
+pub counted_by : (d : ℕ) (places : Places) (h : Head) (file : List ℕ) (b : board.Shown) {regions : List Region} → regions ≡ b.regions
+    → IsBoardRead d places h file b → are_files h.files (length regions) ≡ true → (not (nat_eq h.files 1) || nat_eq h.second 0) ≡ true
+    → AreCounted d places h file b
+counted_by d places h file b many r files none = record {
+  board = r;
+  files = subst (λ (rs : List Region). are_files h.files (length rs) ≡ true) many files;
+  none = none;
+}
+
 counted_behind : (d : ℕ) (places : Places) (h : Head) (file : List ℕ) (b : board.Shown) → AreCounted d places h file b
     → texts_at d places h (drop places.front file) ≡ first_behind d places h (take h.board (drop places.front file)) (drop (places.front + h.board) file) b
 counted_behind d places h file b r =
@@ -208,6 +219,22 @@ first_unread d places h file b e r =
 pub record IsFirstRead (d : ℕ) (places : Places) (h : Head) (file : List ℕ) (b : board.Shown) (f : File) : Type 0 where
   pub counted : AreCounted d places h file b
   pub first : file_at d (places.front + h.board) b 0 h.first (drop (places.front + h.board) file) ≡ Ok (f, drop (places.front + h.board + h.first) file)
+
+-- so it was, where the bytes are those of the file and its place is behind the board's text
+pub first_by : (d : ℕ) (places : Places) (h : Head) (file : List ℕ) (b : board.Shown) (one : List ℕ) (k : ℕ) (a : Algorithm) → one ≡ file → k ≡ h.board
+    → AreCounted d places h file b
+    → file_at d (places.front + k) b 0 h.first (drop (places.front + k) one) ≡ Ok (
+      file_there one (places.front + k) h.first a,
+      drop (places.front + k + h.first) one,
+    )
+    → IsFirstRead d places h file b (file_there file (places.front + h.board) h.first a)
+first_by d places h file b one k a same at counted first = record {
+  counted = counted;
+  first = subst (λ (f : List ℕ). file_at d (places.front + h.board) b 0 h.first (drop (places.front + h.board) f) ≡ Ok
+      (file_there f (places.front + h.board) h.first a, drop (places.front + h.board + h.first) f)) same
+      (subst (λ (k : ℕ). file_at d (places.front + k) b 0 h.first (drop (places.front + k) one) ≡ Ok
+      (file_there one (places.front + k) h.first a, drop (places.front + k + h.first) one)) at first);
+}
 
 read_behind : (d : ℕ) (places : Places) (h : Head) (file : List ℕ) (b : board.Shown) (f : File) → IsFirstRead d places h file b f
     → texts_at d places h (drop places.front file) ≡ second_behind d places h (take h.board (drop places.front file)) b

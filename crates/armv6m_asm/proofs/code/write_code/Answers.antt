@@ -3,12 +3,12 @@ use Rattle.std.proofs.Common.{◌+◌, ℕ, subst, sym, arith}
 use Rattle.std.specs.Prelude.{Contains}
 use Rattle.std.proofs.lemmas.Result.{err_from_is_err_and}
 use Rattle.armv6m_asm.specs.Label.{names_of}
-use Rattle.armv6m_asm.proofs.Steps.{HasWritten, nothing, place_fits, targets_here, written_more, written_fault}
+use Rattle.armv6m_asm.proofs.Steps.{HasWritten, nothing, place_fits, destinations_here, written_more, written_fault}
 use Rattle.armv6m_asm.proofs.code.write_code.Goals as goal
 
 pub add_operation-requires-clause-there : goal.add_operation-requires-clause-there
 add_operation-requires-clause-there c =
-    targets_here (Contains (names_of c.args.labels.now)) c.args.statements.now c.loop-statement.statement-index nothing (omega arith) c.requires.there
+    destinations_here (Contains (names_of c.args.labels.now)) c.args.statements.now c.loop-statement.statement-index nothing (omega arith) c.requires.there
 
 pub returns-in_err-add_operation-clause-err : goal.returns-in_err-add_operation-clause-err
 returns-in_err-add_operation-clause-err c =

@@ -3,36 +3,37 @@ use Rattle.std.proofs.Common.{◌≡◌, ◌≢◌, codes, rules, ap, sym, ◌�
 use Rattle.armv6m_forms.specs.declared.form.Aim.{Aim}
 use Rattle.armv6m_asm.specs.Token.{word, tokens_of}
 use Rattle.armv6m_asm.specs.Statement.{AreAimed}
-use Rattle.armv6m_asm.specs.declared.statement.Target.{Target}
+use Rattle.armv6m_asm.specs.declared.statement.Destination.{Destination}
 use Rattle.armv6m_asm.proofs.StatementLemmas.{no_aimed, no_load, no_address, load_text, address_text}
 use Rattle.armv6m_asm.proofs.operation.read_aimed.Goals as goal
 
 pub returns-in_err-t : goal.returns-in_err-t
 returns-in_err-t c =
     let is : c.args.first.now ≡ codes "LDR" = search rules in
-    let none : (aim : Aim) (to : Target) → AreAimed aim to (word c.args.first.now ∷ tokens_of c.args.rest.now) → ⊥ = no_load _ _ is c.in_err-t.ensures in
+    let none : (aim : Aim) (to : Destination) → AreAimed aim to (word c.args.first.now ∷ tokens_of c.args.rest.now) → ⊥ = no_load _ _ is c.in_err-t.ensures in
     search rules
 
 pub returns-in_err-d : goal.returns-in_err-d
 returns-in_err-d c =
     let is : c.args.first.now ≡ codes "ADR" = search rules in
-    let none : (aim : Aim) (to : Target) → AreAimed aim to (word c.args.first.now ∷ tokens_of c.args.rest.now) → ⊥ = no_address _ _ is c.in_err-d.ensures in
+    let none : (aim : Aim) (to : Destination) → AreAimed aim to (word c.args.first.now ∷ tokens_of c.args.rest.now) → ⊥ =
+    no_address _ _ is c.in_err-d.ensures in
     search rules
 
 pub returns-in_err-aim : goal.returns-in_err-aim
 returns-in_err-aim c =
     let load : c.args.first.now ≢ codes "LDR" = search rules in
     let address : c.args.first.now ≢ codes "ADR" = search rules in
-    let none : (aim : Aim) (to : Target) → AreAimed aim to (word c.args.first.now ∷ tokens_of c.args.rest.now) → ⊥ =
+    let none : (aim : Aim) (to : Destination) → AreAimed aim to (word c.args.first.now ∷ tokens_of c.args.rest.now) → ⊥ =
     no_aimed _ _ (λ is. absurd (load is)) (λ is. absurd (address is)) (λ aim branch is. absurd (c.in_err-aim.ensures.none aim branch is)) in
     search rules
 
-pub returns-in_err-target : goal.returns-in_err-target
-returns-in_err-target c =
+pub returns-in_err-destination : goal.returns-in_err-destination
+returns-in_err-destination c =
     let load : c.args.first.now ≢ codes "LDR" = search rules in
     let address : c.args.first.now ≢ codes "ADR" = search rules in
-    let none : (aim : Aim) (to : Target) → AreAimed aim to (word c.args.first.now ∷ tokens_of c.args.rest.now) → ⊥ =
-    no_aimed _ _ (λ is. absurd (load is)) (λ is. absurd (address is)) (λ aim branch is. c.in_err-target.ensures) in
+    let none : (aim : Aim) (to : Destination) → AreAimed aim to (word c.args.first.now ∷ tokens_of c.args.rest.now) → ⊥ =
+    no_aimed _ _ (λ is. absurd (load is)) (λ is. absurd (address is)) (λ aim branch is. c.in_err-destination.ensures) in
     search rules
 
 pub returns-in_ok-t : goal.returns-in_ok-t

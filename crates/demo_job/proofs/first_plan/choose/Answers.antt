@@ -3,7 +3,7 @@ use Rattle.std.proofs.Common.{◌≡◌, ◌∙◌, sym, ap, ℕ, List, length}
 use Rattle.page_geometry.specs.Geometry.{Geometry}
 use Rattle.demo_job.specs.Made.{cells_of}
 use Rattle.demo_job.specs.Run.{work_of}
-use Rattle.demo_job.specs.Scene.{target_of}
+use Rattle.demo_job.specs.Scene.{fixture_of}
 use Rattle.demo_job.proofs.MadeLemmas.{length-cells}
 use Rattle.demo_job.proofs.PlanLemmas.{chosen_as, length-laid, laid_over, all_part}
 use Rattle.demo_job.proofs.first_plan.choose.Goals as goal
@@ -23,10 +23,10 @@ pub returns : goal.returns
 returns c =
     let seed = c.args.seed in
     let scene = c.requires.scene in
-    let t = target_of c.args.scene.now.target in
+    let t = fixture_of c.args.scene.now.fixture in
     let goal_is = laid_over seed t scene.suits.fit scene.base scene.size in
     c.plan_into.ensures.least.chosen
-    ∙ chosen_as c.args.scene.now.target.board.weights c.args.scene.now.target.algorithm.device.empty c.requires.geometry c.is_some.ensures
+    ∙ chosen_as c.args.scene.now.fixture.board.weights c.args.scene.now.fixture.algorithm.device.empty c.requires.geometry c.is_some.ensures
     (c.deref.ensures.value ∙ scene.cells ∙ sym (all_part t.board t.algorithm (cells_of seed) scene.size (length-cells seed)))
     (c.deref-2.ensures.value ∙ scene.goal ∙ sym goal_is
     ∙ sym (all_part t.board t.algorithm (work_of seed t).goal scene.size (ap (λ (l : List ℕ). length l) goal_is ∙ length-laid seed)))

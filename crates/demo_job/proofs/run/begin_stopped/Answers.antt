@@ -7,16 +7,16 @@ use Rattle.command_answers.specs.Answered.{IsOf}
 use Rattle.command_answers.specs.Call.{bench_call, Answer}
 use Rattle.job_commands.specs.Steps.{BeginsParts, BenchCounted, has_work}
 use Rattle.demo_job.specs.Run.{silence}
-use Rattle.demo_job.specs.Scene.{target_of}
+use Rattle.demo_job.specs.Scene.{fixture_of}
 use Rattle.demo_job.proofs.PlanLemmas.{board_size}
 use Rattle.demo_job.proofs.RunLemmas.{parts_of}
 use Rattle.demo_job.proofs.run.begin_stopped.Goals as goal
 
 pub begin_job-requires : goal.begin_job-requires
 begin_job-requires g c =
-    let t = target_of c.args.scene.now.target in
+    let t = fixture_of c.args.scene.now.fixture in
     let scene = c.requires in
-    parts_of t c.parts.result scene.target (subst (λ (i : List Run). Suits t.board (t.algorithm ∷ []) i) (sym c.parts.ensures.image) scene.suits)
+    parts_of t c.parts.result scene.fixture (subst (λ (i : List Run). Suits t.board (t.algorithm ∷ []) i) (sym c.parts.ensures.image) scene.suits)
     c.parts.ensures.board c.parts.ensures.flm c.parts.ensures.second (board_size t.board t.algorithm scene.suits.fit ∙ sym c.parts.ensures.size)
 
 pub returns : goal.returns

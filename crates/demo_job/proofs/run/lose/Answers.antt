@@ -8,7 +8,7 @@ use Rattle.bench_model.specs.declared.pick.Pick.TheVariants.{Filled}
 use Rattle.byte_map.specs.Image.{Run}
 use Rattle.job_text.specs.Fits.{Suits}
 use Rattle.demo_job.specs.Run.{answer_in}
-use Rattle.demo_job.specs.Scene.{target_of}
+use Rattle.demo_job.specs.Scene.{fixture_of}
 use Rattle.demo_job.proofs.MadeLemmas.{length-cells}
 use Rattle.demo_job.proofs.PlanLemmas.{board_size}
 use Rattle.demo_job.proofs.RunLemmas.{begun_of, want_is_one}
@@ -17,7 +17,7 @@ use Rattle.demo_job.proofs.run.lose.Goals as goal
 pub returns : goal.returns
 returns c =
     let seed = c.args.seed in
-    let t = target_of c.args.scene.now.target in
+    let t = fixture_of c.args.scene.now.fixture in
     let scene = c.requires.scene in
     let over = c.begin_stopped-stopped.ensures in
     let its = over.its_parts in
@@ -25,7 +25,7 @@ returns c =
     let lost = c.power_loss.new.self in
     let answer = answer_in c.begin_stopped-stopped.result.refusal in
     let suits = subst (λ (i : List Run). Suits t.board (t.algorithm ∷ []) i) (sym (its.image ∙ sym scene.image)) scene.suits in
-    let of = begun_of seed t over.first begun c.args.bench answer over.parts over.inner c.requires.fresh scene.target suits its.board its.flm its.second
+    let of = begun_of seed t over.first begun c.args.bench answer over.parts over.inner c.requires.fresh scene.fixture suits its.board its.flm its.second
     its.image (board_size t.board t.algorithm scene.suits.fit ∙ its.size) its.all (length-cells seed)
     (over.begins refl) in
     let inner = c.into_inner-bench.ensures.inner in

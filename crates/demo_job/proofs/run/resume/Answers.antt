@@ -5,7 +5,7 @@ use Rattle.flash_session.specs.declared.goal.Goal.TheVariants.{New}
 use Rattle.command_answers.specs.Call.{bench_call, Answer}
 use Rattle.job_commands.specs.GoOn.{GoesOnFrom, GoOnEnds}
 use Rattle.demo_job.specs.Run.{Resumes, silence}
-use Rattle.demo_job.specs.Scene.{target_of}
+use Rattle.demo_job.specs.Scene.{fixture_of}
 use Rattle.demo_job.proofs.RunLemmas.{done_laid, zero_done}
 use Rattle.demo_job.proofs.ShowLemmas.{same_as, no_inputs, takes_none}
 use Rattle.demo_job.proofs.run.resume.Goals as goal
@@ -13,7 +13,7 @@ use Rattle.demo_job.proofs.run.resume.Goals as goal
 pub returns : goal.returns
 returns c fresh is_fresh is_lost =
     let seed = c.args.seed in
-    let t = target_of c.args.scene.now.target in
+    let t = fixture_of c.args.scene.now.fixture in
     let scene = c.requires.scene in
     let lost = c.args.bench in
     let after = c.go_on.new.bench in
@@ -23,8 +23,8 @@ returns c fresh is_fresh is_lost =
     (c.go_on.ensures.ends inputs takes) in
     let same = same_as c.is_same.ensures c.cells.ensures (c.deref.ensures.value ∙ scene.goal) in
     record {
-      target = t;
-      is_target = scene.target;
+      fixture = t;
+      is_fixture = scene.fixture;
       seed_is = refl;
       sectors_are = c.requires.counts.sectors;
       pages_are = c.requires.counts.pages;

@@ -15,7 +15,7 @@ returns c = record {
   cells = c.in_ok-made.ensures.cells;
   image = c.in_ok-made.ensures.image;
   calls = c.in_ok-made.ensures.calls;
-  target = c.in_ok-target.ensures;
+  fixture = c.in_ok-fixture.ensures;
   suits = c.if-not-fits.ensures.suits refl;
   goal = c.in_ok-goal.ensures
       ∙ ap (λ (i : List Run). over i base c.in_ok-made.made.cells.items) c.in_ok-made.ensures.image

@@ -3,7 +3,7 @@ use Rattle.std.proofs.Common.{rules, ◌≡◌, inl, Err}
 use Rattle.command_words.specs.Requested.{files_of}
 use Rattle.command_files.specs.Inputs.{inputs_call}
 use Rattle.command_files.specs.Steps.{bytes_of}
-use Rattle.command_files.proofs.TaskLemmas.{has_file}
+use Rattle.command_files.proofs.TargetFilesLemmas.{has_file}
 use Rattle.flm_check.proofs.TargetLemmas.{takes_read}
 use Rattle.flm_check.proofs.take.take_target.Goals as goal
 

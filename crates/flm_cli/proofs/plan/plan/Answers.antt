@@ -4,7 +4,7 @@ use Rattle.board_file.specs.Limits.{size_of}
 use Rattle.command_words.specs.Requested.{files_of}
 use Rattle.command_files.specs.Inputs.{inputs_call}
 use Rattle.command_files.specs.Steps.{bytes_of, aim_of}
-use Rattle.command_files.proofs.TaskLemmas.{has_file}
+use Rattle.command_files.proofs.TargetFilesLemmas.{has_file}
 use Rattle.report_text.specs.Refusal.{cells_differ}
 use Rattle.report_text.specs.Shown.{shown}
 use Rattle.command_answers.specs.Call.{bench_call, sink_call, refused}

@@ -1,6 +1,6 @@
 -- `survey_parts`: its clause `plans`, that its loop keeps what it has to, and what `index` and `survey_cells` ask for.
 use Rattle.std.proofs.Common.{◌<◌, get_or, length, ap, refl, arith}
-use Rattle.flash_session.specs.declared.part.Part.{Part}
+use Rattle.flash_session.specs.declared.region_plan.RegionPlan.{RegionPlan}
 use Rattle.flm_cli.proofs.PlanLemmas.{many_parts, surveyed_none, surveyed_more, one_of, surveyed_all}
 use Rattle.flm_cli.proofs.plan.survey_parts.Goals as goal
 
@@ -27,7 +27,7 @@ survey_cells-requires-clause-part g c =
     let less : l.index < length l.parts = omega (arith, l.auto.parts, c.loop-index-test.true) in
     (one_of g.B.Bench.tells wanted.board.weights wanted.image wanted.algorithms.items s now now l.parts l.index c.index-algorithm.result.now old old l.invariant
     less c.index-algorithm.ensures
-    (ap (λ (p : Part). get_or l.parts l.index p) c.index-parts-index.is)).is
+    (ap (λ (p : RegionPlan). get_or l.parts l.index p) c.index-parts-index.is)).is
 
 pub survey_cells-requires-clause-inside : goal.survey_cells-requires-clause-inside
 survey_cells-requires-clause-inside g c =
@@ -39,7 +39,7 @@ survey_cells-requires-clause-inside g c =
     let less : l.index < length l.parts = omega (arith, l.auto.parts, c.loop-index-test.true) in
     let one = one_of g.B.Bench.tells wanted.board.weights wanted.image wanted.algorithms.items s now now l.parts l.index c.index-algorithm.result.now old old
     l.invariant less c.index-algorithm.ensures
-    (ap (λ (p : Part). get_or l.parts l.index p) c.index-parts-index.is) in
+    (ap (λ (p : RegionPlan). get_or l.parts l.index p) c.index-parts-index.is) in
     omega (arith, one.inside, l.invariant.reads.count, c.requires.cells)
 
 pub loop-index-preserved : goal.loop-index-preserved
@@ -52,7 +52,7 @@ loop-index-preserved g c =
     surveyed_more g.B.Bench.tells wanted.board.weights wanted.image wanted.algorithms.items (g.B.Bench.state c.args.bench.now) (g.B.Bench.state l.bench)
     (g.B.Bench.state c.survey_cells.new.bench)
     l.parts l.index c.index-algorithm.result.now old c.survey_cells.new.part l.invariant less c.index-algorithm.ensures
-    (ap (λ (p : Part). get_or l.parts l.index p) c.index-parts-index.is)
+    (ap (λ (p : RegionPlan). get_or l.parts l.index p) c.index-parts-index.is)
     e.part e.place e.plan e.reads (e.cause.on_ok refl)
 
 pub returns-clause-plans : goal.returns-clause-plans

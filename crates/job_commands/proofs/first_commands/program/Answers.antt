@@ -3,48 +3,48 @@ use Rattle.std.proofs.Common.{rules, ◌≡◌, ◌∙◌, sym, Err}
 use Rattle.report_text.specs.Shown.{shown}
 use Rattle.command_words.specs.Requested.{files_of}
 use Rattle.command_files.specs.Inputs.{inputs_call}
-use Rattle.command_files.specs.Steps.{task_aim}
+use Rattle.command_files.specs.Steps.{said_aim}
 use Rattle.command_answers.specs.Call.{bench_call, sink_call}
 use Rattle.command_answers.specs.Shown.{answer_of}
-use Rattle.job_commands.proofs.RegionLemmas.{task_parts, task_texts}
-use Rattle.job_commands.proofs.ProgramLemmas.{program_early, task_begins, program_worked}
+use Rattle.job_commands.proofs.RegionLemmas.{said_parts, said_texts}
+use Rattle.job_commands.proofs.ProgramLemmas.{program_early, said_begins, program_worked}
 use Rattle.job_commands.proofs.first_commands.program.Goals as goal
 
-pub returns-in_err-task : goal.returns-in_err-task
-returns-in_err-task g c =
+pub returns-in_err-said : goal.returns-in_err-said
+returns-in_err-said g c =
     let u = c.from_residual.ensures in
-    let is : c.from_residual.result ≡ Err c.in_err-task.field-0.0 = search rules in
+    let is : c.from_residual.result ≡ Err c.in_err-said.field-0.0 = search rules in
     rw is (program_early g.B.Bench.tells g.O.Sink.tells (g.B.Bench.state c.args.bench.now) (g.O.Sink.state c.args.out.now)
-    (inputs_call g.I.Inputs.tells (g.I.Inputs.state c.args.inputs.now) (g.I.Inputs.state c.read_task.new.inputs)) (files_of c.args.names.now)
+    (inputs_call g.I.Inputs.tells (g.I.Inputs.state c.args.inputs.now) (g.I.Inputs.state c.read_target_files.new.inputs)) (files_of c.args.names.now)
     (λ told. g.met.B.Bench.all_told c.args.bench.now told) (λ told x at. (g.met.B.Bench.as_told c.args.bench.now x told).0 at)
-    (shown c.in_err-task.field-0.0) c.in_err-task.ensures.reads)
+    (shown c.in_err-said.field-0.0) c.in_err-said.ensures.reads)
 
 pub begin_job-requires : goal.begin_job-requires
 begin_job-requires g c =
-    let given = c.in_ok-task.ensures.reads.given in
-    task_parts c.args.names.now.raw_at given.files c.in_ok-task.task given.holds c.in_ok-task.ensures.short_board c.in_ok-task.ensures.short_flm
-    c.in_ok-task.ensures.short_second _ c.parts_of.ensures.board c.parts_of.ensures.flm c.parts_of.ensures.second c.parts_of.ensures.image
+    let given = c.in_ok-said.ensures.reads.given in
+    said_parts c.args.names.now.raw_at given.files c.in_ok-said.said given.holds c.in_ok-said.ensures.short_board c.in_ok-said.ensures.short_flm
+    c.in_ok-said.ensures.short_second _ c.parts_of.ensures.board c.parts_of.ensures.flm c.parts_of.ensures.second c.parts_of.ensures.image
     c.parts_of.ensures.size
 
 pub returns : goal.returns
 returns g c =
     let asked = files_of c.args.names.now in
     let bench = bench_call g.B.Bench.tells (g.B.Bench.state c.args.bench.now) (g.B.Bench.state c.begin_job.new.bench) in
-    let inputs = inputs_call g.I.Inputs.tells (g.I.Inputs.state c.args.inputs.now) (g.I.Inputs.state c.read_task.new.inputs) in
+    let inputs = inputs_call g.I.Inputs.tells (g.I.Inputs.state c.args.inputs.now) (g.I.Inputs.state c.read_target_files.new.inputs) in
     let out = sink_call g.O.Sink.tells (g.O.Sink.state c.args.out.now) (g.O.Sink.state c.begin_job.new.out) in
-    let took = c.in_ok-task.ensures.reads in
-    let task = c.in_ok-task.task in
+    let took = c.in_ok-said.ensures.reads in
+    let said = c.in_ok-said.said in
     let is = took.given.holds in
-    let aim = task_aim task in
-    let short = c.in_ok-task.ensures in
+    let aim = said_aim said in
+    let short = c.in_ok-said.ensures in
     program_worked bench inputs out asked took.given.files aim took.given.are_files is.is_aim took.none_failed (answer_of c.begin_job.result)
     c.begin_job.ensures.kind c.begin_job.ensures.counts c.begin_job.ensures.early
     (record {
-      has_texts = task_texts c.args.names.now.raw_at took.given.files task is short.short_board short.short_flm short.short_second;
+      has_texts = said_texts c.args.names.now.raw_at took.given.files said is short.short_board short.short_flm short.short_second;
       sized = λ its. sym c.parts_of.ensures.size ∙ c.begin_job.ensures.sized its;
       sound = c.begin_job.ensures.sound;
       prints = c.begin_job.ensures.prints;
-      works = λ told. task_begins bench out (answer_of c.begin_job.result) c.args.names.now.raw_at took.given.files task is short.short_board short.short_flm
+      works = λ told. said_begins bench out (answer_of c.begin_job.result) c.args.names.now.raw_at took.given.files said is short.short_board short.short_flm
           short.short_second _ c.parts_of.ensures.board c.parts_of.ensures.flm c.parts_of.ensures.second c.parts_of.ensures.image c.parts_of.ensures.size
           (c.begin_job.ensures.told told);
     })

@@ -4,7 +4,7 @@ use Rattle.board_file.specs.declared.region.Region.{Region}
 use Rattle.board_file.specs.Shown as board
 use Rattle.job_text.specs.Reading.{are_files, file_at, second_at}
 use Rattle.job_file.specs.Readers.{Fails, files_checked, file_there, second_there}
-use Rattle.job_file.proofs.TextsLemmas.{IsBoardRead, AreCounted, IsFirstRead, board_unread, files_uncounted, unchecked, first_unread, second_unread, texts_read}
+use Rattle.job_file.proofs.TextsLemmas.{IsBoardRead, counted_by, first_by, board_unread, files_uncounted, unchecked, first_unread, second_unread, texts_read}
 use Rattle.job_file.proofs.TextsLemmas.{both_fit}
 use Rattle.job_file.proofs.texts.read_said.Goals as goal
 
@@ -32,12 +32,8 @@ returns-in-Err-check_files-clause-gives g c = λ told.
     let p = c.args.places.now in
     let file = (g.B.Bench.state c.args.bench.now).file in
     let b = board.shown c.in-Ok.board in
-    let br : IsBoardRead c.args.whole p h file b = record {
-      long = c.requires.told told;
-      inside = c.in-Ok.ensures.fits refl;
-      read =
-          c.in-Ok.ensures.gives told;
-    } in
+    let br : IsBoardRead c.args.whole p h file b =
+    record { long = c.requires.told told; inside = c.in-Ok.ensures.fits refl; read = c.in-Ok.ensures.gives told } in
     let many = ap (λ (rs : List Region). length rs) c.as_slice.ensures in
     files_uncounted c.args.whole p h file b c.in-Err-check_files.fault br
     (subst (λ (n : ℕ). Fails c.in-Err-check_files.fault (files_checked p h n)) many
@@ -49,18 +45,9 @@ returns-in-Err-read_file-clause-gives g c = λ told.
     let p = c.args.places.now in
     let file = (g.B.Bench.state c.args.bench.now).file in
     let b = board.shown c.in-Ok.board in
-    let br : IsBoardRead c.args.whole p h file b = record {
-      long = c.requires.told told;
-      inside = c.in-Ok.ensures.fits refl;
-      read =
-          c.in-Ok.ensures.gives told;
-    } in
-    let many = ap (λ (rs : List Region). length rs) c.as_slice.ensures in
-    let counted : AreCounted c.args.whole p h file b = record {
-      board = br;
-      files = subst (λ (n : ℕ). are_files h.files n ≡ true) many c.in-Ok-check_files.ensures.0;
-      none = c.in-Ok-check_files.ensures.1;
-    } in
+    let br : IsBoardRead c.args.whole p h file b =
+    record { long = c.requires.told told; inside = c.in-Ok.ensures.fits refl; read = c.in-Ok.ensures.gives told } in
+    let counted = counted_by c.args.whole p h file b c.as_slice.ensures br c.in-Ok-check_files.ensures.0 c.in-Ok-check_files.ensures.1 in
     let one = (g.B.Bench.state c.read_board.new.bench).file in
     let same : one ≡ file = c.read_board.ensures.reads.file told in
     let at : c.from.result ≡ h.board = omega arith in
@@ -75,29 +62,14 @@ returns-in-Err-read_second-clause-gives g c = λ told.
     let p = c.args.places.now in
     let file = (g.B.Bench.state c.args.bench.now).file in
     let b = board.shown c.in-Ok.board in
-    let br : IsBoardRead c.args.whole p h file b = record {
-      long = c.requires.told told;
-      inside = c.in-Ok.ensures.fits refl;
-      read =
-          c.in-Ok.ensures.gives told;
-    } in
-    let many = ap (λ (rs : List Region). length rs) c.as_slice.ensures in
-    let counted : AreCounted c.args.whole p h file b = record {
-      board = br;
-      files = subst (λ (n : ℕ). are_files h.files n ≡ true) many c.in-Ok-check_files.ensures.0;
-      none = c.in-Ok-check_files.ensures.1;
-    } in
+    let br : IsBoardRead c.args.whole p h file b =
+    record { long = c.requires.told told; inside = c.in-Ok.ensures.fits refl; read = c.in-Ok.ensures.gives told } in
+    let counted = counted_by c.args.whole p h file b c.as_slice.ensures br c.in-Ok-check_files.ensures.0 c.in-Ok-check_files.ensures.1 in
     let one = (g.B.Bench.state c.read_board.new.bench).file in
     let same : one ≡ file = c.read_board.ensures.reads.file told in
     let at : c.from.result ≡ h.board = omega arith in
     let a = c.in-Ok-read_file.first in
-    let first : IsFirstRead c.args.whole p h file b (file_there file (p.front + h.board) h.first a) = record {
-      counted = counted;
-      first = subst (λ (f : List ℕ). file_at c.args.whole (p.front + h.board) b 0 h.first (drop (p.front + h.board) f) ≡ Ok
-          (file_there f (p.front + h.board) h.first a, drop (p.front + h.board + h.first) f)) same
-          (subst (λ (k : ℕ). file_at c.args.whole (p.front + k) b 0 h.first (drop (p.front + k) one) ≡ Ok
-          (file_there one (p.front + k) h.first a, drop (p.front + k + h.first) one)) at (c.in-Ok-read_file.ensures.gives told));
-    } in
+    let first = first_by c.args.whole p h file b one c.from.result a same at counted (c.in-Ok-read_file.ensures.gives told) in
     let two = (g.B.Bench.state c.read_file.new.bench).file in
     let same_two : two ≡ file = c.read_file.ensures.reads.file told ∙ same in
     let next : c.from-2.result ≡ h.first = omega arith in
@@ -114,29 +86,14 @@ returns-in-Ok-read_second-clause-gives g c = λ told.
     let p = c.args.places.now in
     let file = (g.B.Bench.state c.args.bench.now).file in
     let b = board.shown c.in-Ok.board in
-    let br : IsBoardRead c.args.whole p h file b = record {
-      long = c.requires.told told;
-      inside = c.in-Ok.ensures.fits refl;
-      read =
-          c.in-Ok.ensures.gives told;
-    } in
-    let many = ap (λ (rs : List Region). length rs) c.as_slice.ensures in
-    let counted : AreCounted c.args.whole p h file b = record {
-      board = br;
-      files = subst (λ (n : ℕ). are_files h.files n ≡ true) many c.in-Ok-check_files.ensures.0;
-      none = c.in-Ok-check_files.ensures.1;
-    } in
+    let br : IsBoardRead c.args.whole p h file b =
+    record { long = c.requires.told told; inside = c.in-Ok.ensures.fits refl; read = c.in-Ok.ensures.gives told } in
+    let counted = counted_by c.args.whole p h file b c.as_slice.ensures br c.in-Ok-check_files.ensures.0 c.in-Ok-check_files.ensures.1 in
     let one = (g.B.Bench.state c.read_board.new.bench).file in
     let same : one ≡ file = c.read_board.ensures.reads.file told in
     let at : c.from.result ≡ h.board = omega arith in
     let a = c.in-Ok-read_file.first in
-    let first : IsFirstRead c.args.whole p h file b (file_there file (p.front + h.board) h.first a) = record {
-      counted = counted;
-      first = subst (λ (f : List ℕ). file_at c.args.whole (p.front + h.board) b 0 h.first (drop (p.front + h.board) f) ≡ Ok
-          (file_there f (p.front + h.board) h.first a, drop (p.front + h.board + h.first) f)) same
-          (subst (λ (k : ℕ). file_at c.args.whole (p.front + k) b 0 h.first (drop (p.front + k) one) ≡ Ok
-          (file_there one (p.front + k) h.first a, drop (p.front + k + h.first) one)) at (c.in-Ok-read_file.ensures.gives told));
-    } in
+    let first = first_by c.args.whole p h file b one c.from.result a same at counted (c.in-Ok-read_file.ensures.gives told) in
     let two = (g.B.Bench.state c.read_file.new.bench).file in
     let same_two : two ≡ file = c.read_file.ensures.reads.file told ∙ same in
     let next : c.from-2.result ≡ h.first = omega arith in

@@ -4,7 +4,7 @@ use Rattle.algo_calls.specs.declared.call.Call.TheVariants.{UnInit}
 use Rattle.flash_session.specs.declared.cursor.Cursor.{Cursor}
 use Rattle.flash_session.specs.declared.cursor.Cursor.TheVariants as at
 use Rattle.flash_session.specs.declared.cursor.Step.TheVariants as step
-use Rattle.flash_session.specs.declared.part.Part.{Part}
+use Rattle.flash_session.specs.declared.region_plan.RegionPlan.{RegionPlan}
 use Rattle.flash_session.specs.Rest.{after}
 use Rattle.flash_session.specs.Steps.{IsStep}
 use Rattle.flash_session.specs.Targets.{has_second}
@@ -13,9 +13,9 @@ use Rattle.flash_session.proofs.player.Player.call_step.Goals as goal
 
 pub returns-in-Some-clause-step : goal.returns-in-Some-clause-step
 returns-in-Some-clause-step c =
-    subst (λ (p : Part). IsStep c.args.self.now (at.Calls c.args.second c.args.phase c.args.index)
+    subst (λ (p : RegionPlan). IsStep c.args.self.now (at.Calls c.args.second c.args.phase c.args.index)
     (step.Call c.in-Some.item.call (p.start + c.in-Some.item.from) c.in-Some.item.len (at.Calls c.args.second c.args.phase (c.in-Some.item.index + 1))))
-    (sym c.part.ensures)
+    (sym c.region.ensures)
     (step_item c.args.self.now c.requires.scripted c.args.second c.args.phase c.args.index c.in-Some.item c.requires.cursor c.in-Some.ensures)
 
 pub returns-in-None-clause-step : goal.returns-in-None-clause-step

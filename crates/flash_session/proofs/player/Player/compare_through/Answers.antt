@@ -42,7 +42,7 @@ returns-in-Ok-Some-clause-turns g c =
     c.args.at c.requires.place (g.B.Bench.state c.compare_window.new.bench) c.compare_window.ensures.reads
     (λ told y. g.met.B.Bench.as_told c.args.bench.now y told)
     len c.in-Ok-Some.difference (omega (arith, c.min-len.ensures, c.cells_len-count.ensures, count, less))
-    (λ told. goal_length c.args.job.now x.task.goal s.file (c.requires.stands told) ∙ c.requires.size)
+    (λ told. goal_length c.args.job.now x.work.goal s.file (c.requires.stands told) ∙ c.requires.size)
     (subst (λ (n : ℕ). FindsIn g.B.Bench.tells s.cells (goal_for c.args.job.now x s.file) c.args.at n (Some c.in-Ok-Some.difference)) long
     (subst (λ (o : Option Difference). FindsIn g.B.Bench.tells s.cells (goal_for c.args.job.now x s.file) c.args.at (length (take len c.args.wanted.now)) o)
     c.in-Ok-Some.field-0-is c.in-Ok-Some.ensures.ok))
@@ -65,7 +65,7 @@ returns-then-at-len-clause-turns g c =
     c.in-Ok-None.field-0-is c.in-Ok-None.ensures.ok))
     (c.in-Ok-None.ensures.device.on_other refl) (c.in-Ok-None.ensures.store.on_other refl)
     (c.if-at-len.true ∙ c.cells_len-count.ensures ∙ count) (λ told. g.met.B.Bench.all_told c.args.bench.now told ∙ count)
-    (λ told. goal_length c.args.job.now x.task.goal s.file (c.requires.stands told) ∙ c.requires.size)
+    (λ told. goal_length c.args.job.now x.work.goal s.file (c.requires.stands told) ∙ c.requires.size)
 
 pub returns-else-at-len-clause-turns : goal.returns-else-at-len-clause-turns
 returns-else-at-len-clause-turns g c =

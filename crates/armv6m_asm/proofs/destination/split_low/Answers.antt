@@ -1,0 +1,7 @@
+-- `split_low`: its contract, `Token`.
+use Rattle.armv6m_asm.proofs.StatementLemmas.{no_low}
+use Rattle.armv6m_asm.proofs.destination.split_low.Goals as goal
+
+pub returns-else-register-lt-LOW : goal.returns-else-register-lt-LOW
+returns-else-register-lt-LOW c =
+    no_low _ _ _ _ c.in_ok-bytes.ensures c.in_ok-register.ensures.some c.in_ok-register.ensures.below c.if-register-lt-LOW.false

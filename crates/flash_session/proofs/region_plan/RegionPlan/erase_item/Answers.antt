@@ -1,0 +1,8 @@
+-- `RegionPlan::erase_item`: its contract, `IsItem`.
+use Rattle.std.proofs.Common.{◌∙◌, sym}
+use Rattle.flash_session.proofs.ItemLemmas.{by_sectors}
+use Rattle.flash_session.proofs.region_plan.RegionPlan.erase_item.Goals as goal
+
+pub returns-then-not-is_chip : goal.returns-then-not-is_chip
+returns-then-not-is_chip c = λ s region_work. by_sectors s c.args.self.now c.args.index c.sector_item.result (sym c.is_chip.ensures ∙ c.if-not-is_chip.true)
+    (c.sector_item.ensures s)
