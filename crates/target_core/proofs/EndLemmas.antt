@@ -62,6 +62,7 @@ broke_off return_at fuel steps first made start end runs broke = ⊎_elim
       moments = so_far (2 * made) (omega arith);
       stands = step.stands;
       idle = λ even. step.idle;
+      due = λ odd. absurd (omega (arith, odd));
     })
     (λ (tick : FailsInTick first made end). record {
       number = 2 * made - 1;
@@ -69,6 +70,7 @@ broke_off return_at fuel steps first made start end runs broke = ⊎_elim
       moments = so_far (2 * made - 1) (omega (arith, tick.some));
       stands = tick.stands;
       idle = λ even. absurd (omega (arith, even, tick.some));
+      due = λ odd. tick.due;
     })
     broke
   where

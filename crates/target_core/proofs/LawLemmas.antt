@@ -1,5 +1,5 @@
 -- Runs and slices as wholes: one start has one end, and a run that is cut into slices ends as the run that it is.
-use Rattle.std.proofs.Common.{◌≡◌, ◌≤◌, ◌+◌, ◌-◌, ◌*◌, ◌/◌, ◌%◌, ℕ, false, List, [], ◌∷◌, ⊎_elim, refl, sym, ap, subst, arith, ◌∙◌}
+use Rattle.std.proofs.Common.{◌≡◌, ◌≤◌, ◌+◌, ◌-◌, ◌*◌, ◌/◌, ◌%◌, ℕ, true, false, List, [], ◌∷◌, ⊎_elim, refl, sym, ap, subst, arith, ◌∙◌}
 use Rattle.bench_model.specs.History.{Leaves}
 use Rattle.bench_model.specs.State.{BenchState, cells_half}
 use Rattle.bench_model.proofs.Moments.{leaves_as, leaves_then}
@@ -7,6 +7,7 @@ use Rattle.target_core.specs.declared.run.RunEnd.{RunEnd}
 use Rattle.target_core.specs.declared.run.RunEnd.TheVariants as run
 use Rattle.target_core.specs.declared.run.SliceEnd.TheVariants as slice
 use Rattle.target_core.specs.Units.{state_op}
+use Rattle.target_core.specs.World.{is_due}
 use Rattle.target_core.specs.Path.{Point, whole, point, is_device_end, GoesTo, IsLeftOnPath, LeftAt}
 use Rattle.target_core.specs.Runs.{steps_made, run_end_of, run_last, run_path, last_point, BreaksOffOn, RunEndsAs, RunGives, HasOneEnd, GoesOnAs}
 use Rattle.target_core.specs.Targets.{SliceFrom, Sliced}
@@ -97,6 +98,7 @@ module _ (return_at fuel : ℕ) (first : Point) (made : ℕ) (le : made ≤ fuel
       operation = broke.stands.operation ∙ ap (λ (p : Point). state_op p.world.state) (there broke.number);
     };
     idle = λ even. broke.idle (omega (arith, even));
+    due = λ odd. subst (λ (p : Point). is_due p.world ≡ true) (there broke.number) (broke.due (omega (arith, odd)));
   }
 
   same_end : run_end_of return_at rest here ≡ run_end_of return_at fuel first
