@@ -1,0 +1,7 @@
+-- `runs_from`: what its loop keeps.
+use Rattle.std.proofs.Common.{arith}
+use Rattle.std.proofs.lemmas.Grind.{common_steps}
+use Rattle.board_file.proofs.arrays.runs_from.Goals as goal
+
+pub values-preserved : goal.values-preserved
+values-preserved c = grind (arith, common_steps)

@@ -1,0 +1,7 @@
+-- `counted_regions`: what its loop keeps.
+use Rattle.std.proofs.Common.{arith}
+use Rattle.std.proofs.lemmas.Grind.{common_steps}
+use Rattle.board_file.proofs.limits.counted_regions.Goals as goal
+
+pub written-preserved : goal.written-preserved
+written-preserved c = grind (arith, common_steps)

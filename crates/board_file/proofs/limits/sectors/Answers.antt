@@ -1,0 +1,7 @@
+-- `sectors`: what its loop keeps.
+use Rattle.std.proofs.Common.{arith}
+use Rattle.std.proofs.lemmas.Grind.{common_steps}
+use Rattle.board_file.proofs.limits.sectors.Goals as goal
+
+pub written-preserved : goal.written-preserved
+written-preserved c = grind (arith, common_steps)

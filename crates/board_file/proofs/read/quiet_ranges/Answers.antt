@@ -1,0 +1,7 @@
+-- `quiet_ranges`: what its loop keeps.
+use Rattle.std.proofs.Common.{arith}
+use Rattle.std.proofs.lemmas.Grind.{common_steps}
+use Rattle.board_file.proofs.read.quiet_ranges.Goals as goal
+
+pub tables-preserved : goal.tables-preserved
+tables-preserved c = grind (arith, common_steps)
