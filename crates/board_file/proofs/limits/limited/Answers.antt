@@ -1,5 +1,7 @@
 -- `limited`: what `quiet_ranges` asks for.
-use Rattle.std.proofs.Common.{◌≡◌, ◌≤◌, ◌+◌, false, None, rules}
+use Rattle.board_file.specs.Text.{limited}
+use Rattle.std.proofs.lemmas.Grind.{common_steps}
+use Rattle.std.proofs.Common.{◌≡◌, ◌≤◌, ◌+◌, false, None, rules, arith}
 use Rattle.std.specs.List.{list_any}
 use Rattle.board_file.specs.Table.{addresses}
 use Rattle.board_file.specs.Limits.{ends_late, overlap, parts_of}
@@ -16,3 +18,23 @@ quiet_ranges-requires c =
     let early : list_any ends_late quiet ≡ false = search rules in
     let apart : overlap (parts_of parts.ram_base parts.ram_size regions parts.kind parts.controller_base quiet) ≡ None = search rules in
     quiet_short parts.ram_base parts.ram_size regions parts.kind parts.controller_base quiet c.requires.ram ends early apart
+
+pub returns-in_err-regions-clause-said : goal.returns-in_err-regions-clause-said
+unfolding limited
+returns-in_err-regions-clause-said c = grind (arith, common_steps)
+
+pub returns-clause-some_region : goal.returns-clause-some_region
+unfolding limited
+returns-clause-some_region c = grind (arith, common_steps)
+
+pub returns-clause-said : goal.returns-clause-said
+unfolding limited
+returns-clause-said c = grind (arith, common_steps)
+
+pub returns-clause-few_regions : goal.returns-clause-few_regions
+unfolding limited
+returns-clause-few_regions c = grind (arith, common_steps)
+
+pub returns-in-Some-clause-said : goal.returns-in-Some-clause-said
+unfolding limited
+returns-in-Some-clause-said c = grind (arith, common_steps)

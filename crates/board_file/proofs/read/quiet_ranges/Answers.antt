@@ -5,3 +5,9 @@ use Rattle.board_file.proofs.read.quiet_ranges.Goals as goal
 
 pub tables-preserved : goal.tables-preserved
 tables-preserved c = grind (arith, common_steps)
+
+pub returns-in_err-one : goal.returns-in_err-one
+returns-in_err-one c = grind (arith, common_steps)
+
+pub returns : goal.returns
+returns c = grind (arith, common_steps)

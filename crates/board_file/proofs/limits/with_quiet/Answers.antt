@@ -1,0 +1,7 @@
+-- `with_quiet`: that it keeps its contract.
+use Rattle.std.proofs.Common.{arith}
+use Rattle.std.proofs.lemmas.Grind.{common_steps}
+use Rattle.board_file.proofs.limits.with_quiet.Goals as goal
+
+pub written-preserved : goal.written-preserved
+written-preserved c = grind (arith, common_steps)
