@@ -4,7 +4,7 @@ use Rattle.std.proofs.lemmas.List.{get_or_default}
 use Rattle.byte_map.specs.Image.{Run, run_at, AreMaximal}
 use Rattle.byte_map.specs.Tree.{runs_of}
 use Rattle.byte_map.proofs.Runs.{at_rises}
-use Rattle.byte_map.proofs.Cuts.{cut_empty, cut_behind, cut_before, cut_within, cut_of, recut}
+use Rattle.byte_map.proofs.Cuts.{cut_empty, cut_behind, cut_before, cut_within, cut_of, recut, cuts}
 use Rattle.byte_map.proofs.tree.+beginning_below.Goals as goal
 
 pub returns-then-is_empty : goal.returns-then-is_empty
@@ -67,3 +67,15 @@ returns-else-address-from t c =
     (cut_within (λ (r : Run). r.at) (runs_of node.left) node.chunk.items (runs_of node.right) c.args.address c.beginning_in.result rises some
     (omega (arith, c.at-else-from-address.ensures, c.from-else-from-address.ensures, ap (λ (r : Run). r.at) first))
     (omega (arith, c.at.ensures, c.from.ensures, ap (λ (r : Run). r.at) last)) cut)
+
+pub beginning_below-requires-then-address-from : goal.beginning_below-requires-then-address-from
+beginning_below-requires-then-address-from t c = grind (arith, cuts)
+
+pub beginning_below-requires-then-from-address : goal.beginning_below-requires-then-from-address
+beginning_below-requires-then-from-address t c = grind (arith, cuts)
+
+pub beginning_below-requires-then-is_empty : goal.beginning_below-requires-then-is_empty
+beginning_below-requires-then-is_empty t c = grind (arith, cuts)
+
+pub beginning_below-requires : goal.beginning_below-requires
+beginning_below-requires t c = grind (arith, cuts)

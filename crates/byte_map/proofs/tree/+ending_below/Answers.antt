@@ -4,7 +4,7 @@ use Rattle.std.proofs.lemmas.List.{get_or_default}
 use Rattle.byte_map.specs.Image.{Run, run_at, end_of, AreMaximal}
 use Rattle.byte_map.specs.Tree.{runs_of}
 use Rattle.byte_map.proofs.Runs.{end_rises}
-use Rattle.byte_map.proofs.Cuts.{cut_empty, cut_behind, cut_before, cut_within, cut_of, recut}
+use Rattle.byte_map.proofs.Cuts.{cut_empty, cut_behind, cut_before, cut_within, cut_of, recut, cuts}
 use Rattle.byte_map.proofs.tree.+ending_below.Goals as goal
 
 pub returns-then-is_empty : goal.returns-then-is_empty
@@ -66,3 +66,15 @@ returns-else-address-end t c =
     (cut_within (λ (r : Run). end_of r) (runs_of node.left) node.chunk.items (runs_of node.right) c.args.address c.ending_in.result rises some
     (omega (arith, c.end-else-end-address.ensures.end, ap (λ (r : Run). end_of r) first))
     (omega (arith, c.end.ensures.end, ap (λ (r : Run). end_of r) last)) cut)
+
+pub ending_below-requires-then-address-end : goal.ending_below-requires-then-address-end
+ending_below-requires-then-address-end t c = grind (arith, cuts)
+
+pub ending_below-requires-then-end-address : goal.ending_below-requires-then-end-address
+ending_below-requires-then-end-address t c = grind (arith, cuts)
+
+pub ending_below-requires-then-is_empty : goal.ending_below-requires-then-is_empty
+ending_below-requires-then-is_empty t c = grind (arith, cuts)
+
+pub ending_below-requires : goal.ending_below-requires
+ending_below-requires t c = grind (arith, cuts)

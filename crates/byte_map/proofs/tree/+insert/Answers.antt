@@ -1,8 +1,9 @@
 -- `+insert`: its clause `ok`.
 use Rattle.std.proofs.Common.{◌≡◌, ◌-◌, ◌∙◌, ℕ, List, [], ◌∷◌, ◌++◌, length, arith, rules, sym, ap, append_assoc}
+use Rattle.std.proofs.lemmas.Grind.{common_steps}
 use Rattle.byte_map.specs.Image.{Run}
 use Rattle.byte_map.specs.Tree.{runs_of, put_in}
-use Rattle.byte_map.proofs.Sides.{put_second, put_third}
+use Rattle.byte_map.proofs.Sides.{put_second, put_third, sides}
 use Rattle.byte_map.proofs.tree.+insert.Goals as goal
 
 pub returns-then-len-place-clause-ok : goal.returns-then-len-place-clause-ok
@@ -37,3 +38,33 @@ returns-clause-ok t c =
     (let is : c.args.index - c.count_of-before.result ≡ c.args.index - length (runs_of n.left) = omega (arith, before) in is)
     ∙ sym (put_second (runs_of n.left) n.chunk.items (runs_of n.right) new c.args.index (omega (arith, before)) (omega (arith, before, len)))
     ∙ ap (λ (rs : List Run). put_in rs c.args.index new) whole
+
+pub overflow_add-node-2 : goal.overflow_add-node-2
+overflow_add-node-2 t c = grind (arith, sides)
+
+pub overflow_add-node-then-len-place : goal.overflow_add-node-then-len-place
+overflow_add-node-then-len-place t c = grind (arith, sides)
+
+pub overflow_add-node : goal.overflow_add-node
+overflow_add-node t c = grind (arith, sides)
+
+pub insert-requires : goal.insert-requires
+insert-requires t c = grind (arith, sides)
+
+pub invariant_of-node-2 : goal.invariant_of-node-2
+invariant_of-node-2 t c = grind (arith, sides)
+
+pub insert-requires-then-len-place : goal.insert-requires-then-len-place
+insert-requires-then-len-place t c = grind (arith, sides)
+
+pub invariant_of-node-then-len-place : goal.invariant_of-node-then-len-place
+invariant_of-node-then-len-place t c = grind (arith, common_steps)
+
+pub invariant_of-node-then-index-before : goal.invariant_of-node-then-index-before
+invariant_of-node-then-index-before t c = grind (arith, common_steps)
+
+pub returns-then-index-before-clause-ok : goal.returns-then-index-before-clause-ok
+returns-then-index-before-clause-ok t c = grind (arith, common_steps)
+
+pub put_before-requires : goal.put_before-requires
+put_before-requires t c = grind (arith, sides)

@@ -1,0 +1,10 @@
+-- `+append`: that it keeps its contract.
+use Rattle.std.proofs.Common.{arith}
+use Rattle.byte_map.proofs.Sides.{resets}
+use Rattle.byte_map.proofs.tree.+append.Goals as goal
+
+pub append-requires : goal.append-requires
+append-requires t c = grind (arith, resets)
+
+pub append-requires-then-len-place : goal.append-requires-then-len-place
+append-requires-then-len-place t c = grind (arith, resets)

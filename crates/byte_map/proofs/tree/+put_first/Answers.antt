@@ -1,0 +1,13 @@
+-- `+put_first`: that it keeps its contract.
+use Rattle.std.proofs.Common.{arith}
+use Rattle.byte_map.proofs.Sides.{sides}
+use Rattle.byte_map.proofs.tree.+put_first.Goals as goal
+
+pub put_first-requires : goal.put_first-requires
+put_first-requires t c = grind (arith, sides)
+
+pub overflow_add-node : goal.overflow_add-node
+overflow_add-node t c = grind (arith, sides)
+
+pub invariant_of-node : goal.invariant_of-node
+invariant_of-node t c = grind (arith, sides)

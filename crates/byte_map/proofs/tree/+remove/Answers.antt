@@ -1,0 +1,13 @@
+-- `+remove`: that it keeps its contract.
+use Rattle.std.proofs.Common.{arith}
+use Rattle.byte_map.proofs.Sides.{sides}
+use Rattle.byte_map.proofs.tree.+remove.Goals as goal
+
+pub remove-requires-then-len-place : goal.remove-requires-then-len-place
+remove-requires-then-len-place t c = grind (arith, sides)
+
+pub invariant_of-node-then-len-place : goal.invariant_of-node-then-len-place
+invariant_of-node-then-len-place t c = grind (arith, sides)
+
+pub invariant_of-node : goal.invariant_of-node
+invariant_of-node t c = grind (arith, sides)

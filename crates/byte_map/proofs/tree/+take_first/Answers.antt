@@ -1,0 +1,10 @@
+-- `+take_first`: that it keeps its contract.
+use Rattle.std.proofs.Common.{arith}
+use Rattle.byte_map.proofs.Sides.{sides}
+use Rattle.byte_map.proofs.tree.+take_first.Goals as goal
+
+pub invariant_of-node-2 : goal.invariant_of-node-2
+invariant_of-node-2 t c = grind (arith, sides)
+
+pub returns : goal.returns
+returns t c = grind (arith, sides)

@@ -1,0 +1,16 @@
+-- `raise_right`: that it keeps its contract.
+use Rattle.std.proofs.Common.{arith}
+use Rattle.byte_map.proofs.Sides.{sides}
+use Rattle.byte_map.proofs.tree.raise_right.Goals as goal
+
+pub invariant_of-node : goal.invariant_of-node
+invariant_of-node c = grind (arith, sides)
+
+pub overflow_add-lowered-2 : goal.overflow_add-lowered-2
+overflow_add-lowered-2 c = grind (arith, sides)
+
+pub overflow_add-lowered : goal.overflow_add-lowered
+overflow_add-lowered c = grind (arith, sides)
+
+pub returns : goal.returns
+returns c = grind (arith, sides)

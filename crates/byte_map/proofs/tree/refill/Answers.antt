@@ -1,0 +1,7 @@
+-- `refill`: that it keeps its contract.
+use Rattle.std.proofs.Common.{arith}
+use Rattle.byte_map.proofs.Sides.{sides}
+use Rattle.byte_map.proofs.tree.refill.Goals as goal
+
+pub invariant_of-node-2 : goal.invariant_of-node-2
+invariant_of-node-2 c = grind (arith, sides)
