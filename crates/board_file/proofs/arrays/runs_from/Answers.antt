@@ -1,4 +1,4 @@
--- `runs_from`: what its loop keeps.
+-- `runs_from`: that it keeps its contract.
 use Rattle.std.proofs.Common.{arith}
 use Rattle.std.proofs.lemmas.Grind.{common_steps}
 use Rattle.board_file.proofs.arrays.runs_from.Goals as goal

@@ -1,4 +1,4 @@
--- `counted_regions`: what its loop keeps.
+-- `counted_regions`: that it keeps its contract.
 use Rattle.std.proofs.Common.{arith}
 use Rattle.std.proofs.lemmas.Grind.{common_steps}
 use Rattle.board_file.proofs.limits.counted_regions.Goals as goal

@@ -1,4 +1,4 @@
--- `sectors`: what its loop keeps.
+-- `sectors`: that it keeps its contract.
 use Rattle.std.proofs.Common.{arith}
 use Rattle.std.proofs.lemmas.Grind.{common_steps}
 use Rattle.board_file.proofs.limits.sectors.Goals as goal

@@ -1,4 +1,4 @@
--- `small_region`: what its loop keeps.
+-- `small_region`: that it keeps its contract.
 use Rattle.std.proofs.Common.{arith}
 use Rattle.std.proofs.lemmas.Grind.{common_steps}
 use Rattle.board_file.proofs.limits.small_region.Goals as goal

@@ -1,4 +1,4 @@
--- `quiet_ranges`: what its loop keeps.
+-- `quiet_ranges`: that it keeps its contract.
 use Rattle.std.proofs.Common.{arith}
 use Rattle.std.proofs.lemmas.Grind.{common_steps}
 use Rattle.board_file.proofs.read.quiet_ranges.Goals as goal

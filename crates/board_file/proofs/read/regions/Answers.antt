@@ -1,4 +1,4 @@
--- `regions`: what its loop keeps.
+-- `regions`: that it keeps its contract.
 use Rattle.std.proofs.Common.{arith}
 use Rattle.std.proofs.lemmas.Grind.{common_steps}
 use Rattle.board_file.proofs.read.regions.Goals as goal
