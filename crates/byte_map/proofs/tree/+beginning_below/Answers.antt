@@ -1,4 +1,4 @@
--- `+beginning_below`: its contract, `IsCut`.
+-- `+beginning_below`: that it keeps its contract, `IsCut`.
 use Rattle.std.proofs.Common.{◌≡◌, ◌≤◌, ◌-◌, ◌^◌, ◌∙◌, ℕ, [], ◌++◌, length, arith, rules, subst, ap}
 use Rattle.std.proofs.lemmas.List.{get_or_default}
 use Rattle.byte_map.specs.Image.{Run, run_at, AreMaximal}

@@ -1,4 +1,4 @@
--- `+insert`: its clause `ok`.
+-- `+insert`: that it keeps its contract.
 use Rattle.std.proofs.Common.{◌≡◌, ◌-◌, ◌∙◌, ℕ, List, [], ◌∷◌, ◌++◌, length, arith, rules, sym, ap, append_assoc}
 use Rattle.std.proofs.lemmas.Grind.{common_steps}
 use Rattle.byte_map.specs.Image.{Run}
