@@ -2,12 +2,13 @@
 ghost use Rattle.std.specs.Prelude.{◌≡◌, length};
 ghost use Rattle.erase_planner.specs.Marks.{Covers};
 
-use crate::device::{Item, geometry_of};
-use crate::trial::EMPTY;
+use crate::plans::device::{Item, geometry_of};
+use crate::plans::trial::EMPTY;
 use anyhow::Result;
 use board_file::Weights;
 use erase_planner::{Plan, plan_feed, plan_finish, plan_start};
 use page_geometry::Geometry;
+use std::alloc::Global;
 
 /// How many bytes a plan is fed at a time.
 const WINDOW: usize = 4096;
@@ -19,23 +20,28 @@ pub fn plan_all(rt: &HostRuntime, flm: &[u8], bytes: u32) -> Result<()> {
         offset: 0,
     };
     let geometry = geometry_of(rt.alloc(), flm, bytes, 16, &[item])?;
+    let cost = cost_of(rt.alloc(), &geometry)?;
+    println!(rt;
+        "{} sectors, {} pages, cost {cost}",
+        geometry.sectors(),
+        geometry.pages()
+    )?;
+    Ok(())
+}
+
+/// What the plan costs.
+fn cost_of(alloc: Global, geometry: &Geometry) -> Result<u64> {
     let weights = Weights {
         sector: 100,
         page: 10,
         chip: 2000,
     };
-    let mut plan = Plan::new(rt.alloc());
-    plan.reserve(&geometry)?;
-    plan_start(&geometry, &mut plan);
-    feed_all(&geometry, &mut plan);
-    plan_finish(&geometry, &weights, false, &mut plan);
-    println!(rt;
-        "{} sectors, {} pages, cost {}",
-        geometry.sectors(),
-        geometry.pages(),
-        plan.cost()
-    )?;
-    Ok(())
+    let mut plan = Plan::new(alloc);
+    plan.reserve(geometry)?;
+    plan_start(geometry, &mut plan);
+    feed_all(geometry, &mut plan);
+    plan_finish(geometry, &weights, false, &mut plan);
+    Ok(plan.cost())
 }
 
 /// Feeds a plan with as many bytes as the device has, a window at a time, each of which changes.

@@ -30,6 +30,26 @@ fn put(file: &mut [u8], at: usize, number: u32) {
     }
 }
 
+/// Writes the size, the page and the items of a device into an FLM file.
+fn write(file: &mut [u8], size: u32, page: u32, items: &[Item]) {
+    put(file, SIZE_AT, size);
+    put(file, PAGE_AT, page);
+    let mut at = ITEMS_AT;
+    for item in items {
+        put(file, at, item.size);
+        put(file, at.saturating_add(4), item.offset);
+        at = at.saturating_add(8);
+    }
+    put(file, at, u32::MAX);
+    put(file, at.saturating_add(4), u32::MAX);
+}
+
+/// The geometry of the device of an FLM file.
+fn geometry_in(alloc: Global, file: &[u8]) -> Result<Geometry> {
+    let algorithm = read_flm(alloc, file)?;
+    Ok(Geometry::of(alloc, &algorithm)?)
+}
+
 /// The geometry of a device of `size` bytes with pages of `page` bytes and these items.
 pub fn geometry_of(
     alloc: Global,
@@ -39,16 +59,6 @@ pub fn geometry_of(
     items: &[Item],
 ) -> Result<Geometry> {
     let mut file = flm.to_vec(alloc)?;
-    put(&mut file, SIZE_AT, size);
-    put(&mut file, PAGE_AT, page);
-    let mut at = ITEMS_AT;
-    for item in items {
-        put(&mut file, at, item.size);
-        put(&mut file, at.saturating_add(4), item.offset);
-        at = at.saturating_add(8);
-    }
-    put(&mut file, at, u32::MAX);
-    put(&mut file, at.saturating_add(4), u32::MAX);
-    let algorithm = read_flm(alloc, &file)?;
-    Ok(Geometry::of(alloc, &algorithm)?)
+    write(&mut file, size, page, items);
+    geometry_in(alloc, &file)
 }

@@ -20,8 +20,14 @@ pub struct Trial {
     pub want: Vec<u8>,
 }
 
+/// The cost of the plan between two contents.
+pub fn plan_cost(rt: &HostRuntime, trial: &Trial) -> Result<u64> {
+    let plan = plan_whole(rt, trial)?;
+    Ok(plan.cost())
+}
+
 /// The plan between two contents, made in one call.
-pub fn plan_whole(rt: &HostRuntime, trial: &Trial) -> Result<Plan> {
+fn plan_whole(rt: &HostRuntime, trial: &Trial) -> Result<Plan> {
     let geometry = &trial.geometry;
     let old = trial.old.as_slice();
     let want = trial.want.as_slice();
@@ -94,10 +100,57 @@ fn is_same(geometry: &Geometry, a: &Plan, b: &Plan) -> bool {
         && (0..geometry.pages()).all(|page| a.page_in(page) == b.page_in(page))
 }
 
-/// Prints the plan of a trial, and whether it is the same where the contents come in pieces of 100 bytes and of 1.
-pub fn show_plan(rt: &HostRuntime, name: &str, trial: &Trial) -> Result<()> {
-    let geometry = &trial.geometry;
-    let plan = plan_whole(rt, trial)?;
+/// Whether a plan is the same where the contents come in pieces.
+fn is_planned(rt: &HostRuntime, trial: &Trial, plan: &Plan, piece: usize) -> Result<bool>
+    requires { 0 < piece }
+{
+    let other = plan_in_pieces(rt, trial, piece)?;
+    Ok(is_same(&trial.geometry, plan, &other))
+}
+
+/// Fails where a plan is another one when the contents come in pieces of 100 bytes and of 1.
+fn expect_same(rt: &HostRuntime, name: &str, trial: &Trial, plan: &Plan) -> Result<()> {
+    if !is_planned(rt, trial, plan, 100)? || !is_planned(rt, trial, plan, 1)? {
+        bail!("{name}: another plan from pieces");
+    }
+    Ok(())
+}
+
+/// Prints the sectors that a plan erases.
+fn put_sectors(rt: &HostRuntime, geometry: &Geometry, plan: &Plan) -> Result<()> {
+    for index in 0..geometry.sectors() {
+        if plan.sector_in(index) {
+            let (place, len) = geometry.sector(index);
+            println!(rt; "  erase {place} {len}")?;
+        }
+    }
+    Ok(())
+}
+
+/// Prints the pages that a plan programs.
+fn put_pages(rt: &HostRuntime, geometry: &Geometry, plan: &Plan) -> Result<()> {
+    for index in 0..geometry.pages() {
+        if plan.page_in(index) {
+            let (place, len) = geometry.page(index);
+            println!(rt; "  program {place} {len}")?;
+        }
+    }
+    Ok(())
+}
+
+/// Prints what a plan costs.
+fn put_cost(rt: &HostRuntime, plan: &Plan) -> Result<()> {
+    let nothing = if plan.is_empty() {
+        ", nothing to do"
+    } else {
+        ""
+    };
+    println!(rt; "  cost {}{nothing}", plan.cost())?;
+    Ok(())
+}
+
+/// Prints a plan.
+fn put_plan(rt: &HostRuntime, name: &str, geometry: &Geometry, plan: &Plan) -> Result<()> {
     println!(rt;
         "{name}: {} sectors, {} pages",
         geometry.sectors(),
@@ -106,28 +159,14 @@ pub fn show_plan(rt: &HostRuntime, name: &str, trial: &Trial) -> Result<()> {
     if plan.is_chip() {
         println!(rt; "  erase chip")?;
     }
-    for index in 0..geometry.sectors() {
-        if plan.sector_in(index) {
-            let (place, len) = geometry.sector(index);
-            println!(rt; "  erase {place} {len}")?;
-        }
-    }
-    for index in 0..geometry.pages() {
-        if plan.page_in(index) {
-            let (place, len) = geometry.page(index);
-            println!(rt; "  program {place} {len}")?;
-        }
-    }
-    let nothing = if plan.is_empty() {
-        ", nothing to do"
-    } else {
-        ""
-    };
-    println!(rt; "  cost {}{nothing}", plan.cost())?;
-    if !is_same(geometry, &plan, &plan_in_pieces(rt, trial, 100)?)
-        || !is_same(geometry, &plan, &plan_in_pieces(rt, trial, 1)?)
-    {
-        bail!("{name}: another plan from pieces");
-    }
-    Ok(())
+    put_sectors(rt, geometry, plan)?;
+    put_pages(rt, geometry, plan)?;
+    put_cost(rt, plan)
+}
+
+/// Prints the plan of a trial, which has to be the same where the contents come in pieces of 100 bytes and of 1.
+pub fn show_plan(rt: &HostRuntime, name: &str, trial: &Trial) -> Result<()> {
+    let plan = plan_whole(rt, trial)?;
+    put_plan(rt, name, &trial.geometry, &plan)?;
+    expect_same(rt, name, trial, &plan)
 }

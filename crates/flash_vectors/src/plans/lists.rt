@@ -1,6 +1,6 @@
 //! Every list of up to four actions on a small device, tried one by one against the plans.
 
-use crate::trial::{EMPTY, Trial, plan_whole};
+use crate::plans::trial::{EMPTY, Trial, plan_cost};
 use anyhow::{Result, bail};
 use std::alloc::Global;
 
@@ -97,9 +97,8 @@ impl Numbering {
     }
 }
 
-/// The actions that there are: each sector's erasure, the chip's, each page with all bytes of so many values.
-fn steps_of(alloc: Global, trial: &Trial, values: usize) -> Result<Vec<Step>> {
-    let mut steps = Vec::new(alloc);
+/// Appends the actions that erase: the chip's, and each sector's.
+fn push_erasures(steps: &mut Vec<Step>, trial: &Trial) -> Result<()> {
     if trial.has_chip {
         steps.push(Step {
             place: 0,
@@ -117,22 +116,38 @@ fn steps_of(alloc: Global, trial: &Trial, values: usize) -> Result<Vec<Step>> {
             cost: trial.weights.sector,
         })?;
     }
+    Ok(())
+}
+
+/// Appends the actions that program a page from a place on, with all bytes of so many values.
+fn push_page(steps: &mut Vec<Step>, place: usize, pages: Numbering, cost: u32) -> Result<()> {
+    for number in 0..pages.count() {
+        steps.push(Step {
+            place,
+            len: pages.size,
+            kind: Kind::Program(pages.cells(number)),
+            cost,
+        })?;
+    }
+    Ok(())
+}
+
+/// Appends the actions that program.
+fn push_pages(steps: &mut Vec<Step>, trial: &Trial, values: usize) -> Result<()> {
     for index in 0..trial.geometry.pages() {
         let (place, len) = trial.geometry.page(index);
-        let pages = Numbering {
-            values,
-            size: len as usize,
-        };
-        for number in 0..pages.count() {
-            let bytes = pages.cells(number);
-            steps.push(Step {
-                place: place as usize,
-                len: len as usize,
-                kind: Kind::Program(bytes),
-                cost: trial.weights.page,
-            })?;
-        }
+        let size = len as usize;
+        let pages = Numbering { values, size };
+        push_page(steps, place as usize, pages, trial.weights.page)?;
     }
+    Ok(())
+}
+
+/// The actions that there are: each sector's erasure, the chip's, each page with all bytes of so many values.
+fn steps_of(alloc: Global, trial: &Trial, values: usize) -> Result<Vec<Step>> {
+    let mut steps = Vec::new(alloc);
+    push_erasures(&mut steps, trial)?;
+    push_pages(&mut steps, trial, values)?;
     Ok(steps)
 }
 
@@ -207,50 +222,71 @@ fn compare(
         let Some(cost) = cost else {
             continue;
         };
-        let want = numbering.cells(number);
-        set(&mut trial.want, &want);
-        let plan = plan_whole(rt, trial)?;
-        if *cost < plan.cost() {
-            bail!(
-                "a list to {number} costs {cost}, and the plan {}",
-                plan.cost()
-            );
+        set(&mut trial.want, &numbering.cells(number));
+        let planned = plan_cost(rt, trial)?;
+        if *cost < planned {
+            bail!("a list to {number} costs {cost}, and the plan {planned}");
         }
         tally.reached = tally.reached.saturating_add(1);
-        if *cost == plan.cost() {
+        if *cost == planned {
             tally.equal = tally.equal.saturating_add(1);
         }
     }
     Ok(tally)
 }
 
+/// A place for the least cost of each contents.
+fn no_costs(alloc: Global, count: usize) -> Result<Vec<Option<u64>>> {
+    let mut least = Vec::new(alloc);
+    for _number in 0..count {
+        least.push(None)?;
+    }
+    Ok(least)
+}
+
+/// Tries every list of up to four actions from one contents.
+fn try_from(
+    rt: &HostRuntime,
+    trial: &mut Trial,
+    steps: &[Step],
+    numbering: Numbering,
+    start: &Cells,
+) -> Result<Tally> {
+    let mut least = no_costs(rt.alloc(), numbering.count())?;
+    for len in 0..=MOST {
+        try_each(start, len, steps, numbering, &mut least);
+    }
+    set(&mut trial.old, start);
+    compare(rt, trial, numbering, &least)
+}
+
+/// Tries every list of up to four actions from each contents.
+fn try_all(
+    rt: &HostRuntime,
+    trial: &mut Trial,
+    steps: &[Step],
+    numbering: Numbering,
+) -> Result<Tally> {
+    let mut all = Tally {
+        reached: 0,
+        equal: 0,
+    };
+    for number in 0..numbering.count() {
+        let tally = try_from(rt, trial, steps, numbering, &numbering.cells(number))?;
+        all.reached = all.reached.saturating_add(tally.reached);
+        all.equal = all.equal.saturating_add(tally.equal);
+    }
+    Ok(all)
+}
+
 /// Tries every list of up to four actions from each contents of so many values, and holds the least cost that leads to each contents against the plan's.
 pub fn try_lists(rt: &HostRuntime, trial: &mut Trial, values: usize) -> Result<()> {
     let steps = steps_of(rt.alloc(), trial, values)?;
-    let numbering = Numbering {
-        values,
-        size: trial.old.len(),
-    };
-    let mut reached: u32 = 0;
-    let mut equal: u32 = 0;
-    for number in 0..numbering.count() {
-        let start = numbering.cells(number);
-        let mut least = Vec::new(rt.alloc());
-        for _number in 0..numbering.count() {
-            least.push(None)?;
-        }
-        for len in 0..=MOST {
-            try_each(&start, len, &steps, numbering, &mut least);
-        }
-        set(&mut trial.old, &start);
-        let tally = compare(rt, trial, numbering, &least)?;
-        reached = reached.saturating_add(tally.reached);
-        equal = equal.saturating_add(tally.equal);
-    }
+    let size = trial.old.len();
+    let Tally { reached, equal } = try_all(rt, trial, &steps, Numbering { values, size })?;
     println!(rt;
-        "lists of {} actions on {} bytes: {reached} pairs of contents, none below its plan, {equal} equal",
-        steps.len(),
-        numbering.size
+        "lists of {} actions on {size} bytes: {reached} pairs of contents, none below its plan, {equal} equal",
+        steps.len()
     )?;
     Ok(())
 }

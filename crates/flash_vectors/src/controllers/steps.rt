@@ -1,7 +1,7 @@
 //! The steps of the rows.
 
-use crate::made::driver;
-use crate::trial::Trial;
+use crate::controllers::made::driver;
+use crate::controllers::trial::Trial;
 use anyhow::{Result, bail};
 use bench_model::BusEnd;
 use board_file::ControllerKind;
@@ -39,6 +39,12 @@ fn loaded(found: result::Result<u32, BusEnd>, due: &str) -> Result<bool> {
     }
 }
 
+/// Whether cells hold these bytes.
+fn has(cells: &[u8], alloc: Global, due: &str) -> Result<bool> {
+    let due = bytes_of(alloc, due)?;
+    Ok(cells == due.as_slice())
+}
+
 /// Whether a step answers what is due.
 fn holds<R: Registers>(trial: &mut Trial<R>, words: &[&str], alloc: Global) -> Result<bool> {
     match words {
@@ -49,9 +55,21 @@ fn holds<R: Registers>(trial: &mut Trial<R>, words: &[&str], alloc: Global) -> R
         ["load", at, width, due] => loaded(trial.load(number(at)?, number(width)?), due),
         ["tick", count, due] => Ok(ended(trial.ticks(number(count)?), due)),
         ["reset", due] => Ok(ended(trial.reset(), due)),
-        ["cells", due] => Ok(trial.cells() == bytes_of(alloc, due)?.as_slice()),
+        ["cells", due] => has(trial.cells(), alloc, due),
         _ => Ok(false),
     }
+}
+
+/// The trial over a board and these cells, of which a cell call fails.
+fn trial_of<R: Registers>(
+    rt: &HostRuntime,
+    kind: ControllerKind,
+    board: &str,
+    cells: &[u8],
+    fail: u32,
+) -> Result<Trial<R>> {
+    let driver = driver(rt, kind, board)?;
+    Trial::new(rt.alloc(), driver, cells, fail)
 }
 
 /// The trial of a line that begins with this word.
@@ -63,31 +81,61 @@ fn made<R: Registers>(
 ) -> Result<Option<Trial<R>>> {
     match words {
         [first, board, cells, fail] if *first == new => {
+            let fail = number(fail)?;
             let cells = bytes_of(rt.alloc(), cells)?;
-            let driver = driver(rt, kind, board)?;
-            Ok(Some(Trial::new(rt.alloc(), driver, &cells, number(fail)?)?))
+            Ok(Some(trial_of(rt, kind, board, &cells, fail)?))
         }
         _ => Ok(None),
     }
 }
 
-/// Goes through the lines, and prints the name of each row.
+/// Does what the words of a line say: another trial, or a step.
+fn follow<R: Registers>(
+    rt: &HostRuntime,
+    kind: ControllerKind,
+    new: &str,
+    trial: &mut Trial<R>,
+    words: &[&str],
+) -> Result<bool> {
+    if let Some(made) = made(rt, kind, new, words)? {
+        *trial = made;
+        return Ok(true);
+    }
+    if words.is_empty() {
+        return Ok(true);
+    }
+    holds(trial, words, rt.alloc())
+}
+
+/// Goes through a line, and prints the name of a row.
+fn check_line<R: Registers>(
+    rt: &HostRuntime,
+    kind: ControllerKind,
+    new: &str,
+    trial: &mut Trial<R>,
+    line: &str,
+) -> Result<()> {
+    if let Some(name) = line.strip_prefix("row ") {
+        println!(rt; "{name}")?;
+        return Ok(());
+    }
+    let words = line.split_whitespace().collect::<Vec<&str>>(rt.alloc())?;
+    if !follow(rt, kind, new, trial, &words)? {
+        bail!("{line}");
+    }
+    Ok(())
+}
+
+/// Goes through the lines.
 fn check_all<R: Registers>(
     rt: &HostRuntime,
     kind: ControllerKind,
     new: &str,
     text: &str,
 ) -> Result<()> {
-    let mut trial = Trial::<R>::new(rt.alloc(), driver(rt, kind, "areas")?, &[0; 8], 0)?;
+    let mut trial = trial_of::<R>(rt, kind, "areas", &[0; 8], 0)?;
     for line in text.lines() {
-        let words = line.split_whitespace().collect::<Vec<&str>>(rt.alloc())?;
-        if let Some(name) = line.strip_prefix("row ") {
-            println!(rt; "{name}")?;
-        } else if let Some(made) = made(rt, kind, new, &words)? {
-            trial = made;
-        } else if !words.is_empty() && !holds(&mut trial, &words, rt.alloc())? {
-            bail!("{line}");
-        }
+        check_line(rt, kind, new, &mut trial, line)?;
     }
     Ok(())
 }

@@ -7,11 +7,12 @@
 //! - `plan NAME`: prints the plan
 //! - `lists VALUES`: tries every list of up to four actions between contents of so many values
 
-use crate::device::{Item, geometry_of};
-use crate::lists::try_lists;
-use crate::trial::{EMPTY, Trial, show_plan};
+use crate::plans::device::{Item, geometry_of};
+use crate::plans::lists::try_lists;
+use crate::plans::trial::{EMPTY, Trial, show_plan};
 use anyhow::{Result, bail};
 use board_file::Weights;
+use page_geometry::Geometry;
 use std::alloc::Global;
 
 /// Does what each line says.
@@ -37,11 +38,7 @@ fn run_line(rt: &HostRuntime, flm: &[u8], line: &str, trial: &mut Trial) -> Resu
         bail!("no command: {line}");
     };
     match command {
-        "device" => {
-            let has_chip = trial.has_chip;
-            *trial = device(rt.alloc(), flm, trial.weights, rest)?;
-            trial.has_chip = has_chip;
-        }
+        "device" => change_device(rt.alloc(), flm, rest, trial)?,
         "weights" => trial.weights = weights(rest)?,
         "entry" => trial.has_chip = rest == "yes",
         "old" => {
@@ -56,27 +53,54 @@ fn run_line(rt: &HostRuntime, flm: &[u8], line: &str, trial: &mut Trial) -> Resu
     Ok(())
 }
 
-/// A blank device: its size, its page and its items.
-fn device(alloc: Global, flm: &[u8], weights: Weights, text: &str) -> Result<Trial> {
+/// Puts a blank device in place of a trial's; all else stays.
+fn change_device(alloc: Global, flm: &[u8], text: &str, trial: &mut Trial) -> Result<()> {
+    let has_chip = trial.has_chip;
+    *trial = device(alloc, flm, trial.weights, text)?;
+    trial.has_chip = has_chip;
+    Ok(())
+}
+
+/// A sector item: its size and its offset.
+fn item(word: &str) -> Result<Item> {
+    let Some((size, offset)) = word.split_once('@') else {
+        bail!("no item: {word}");
+    };
+    Ok(Item {
+        size: number(Some(size))?,
+        offset: number(Some(offset))?,
+    })
+}
+
+/// The sector items behind the size and the page of a device.
+fn items_of(alloc: Global, text: &str) -> Result<Vec<Item>> {
+    let mut items = Vec::new(alloc);
+    for word in text.split_whitespace().skip(2) {
+        items.push(item(word)?)?;
+    }
+    Ok(items)
+}
+
+/// The geometry of a device: its size, its page and its items.
+fn shape(alloc: Global, flm: &[u8], text: &str) -> Result<Geometry> {
     let mut words = text.split_whitespace();
     let size = number(words.next())?;
     let page = number(words.next())?;
-    let mut items = Vec::new(alloc);
-    for word in words {
-        let Some((size, offset)) = word.split_once('@') else {
-            bail!("no item: {word}");
-        };
-        items.push(Item {
-            size: number(Some(size))?,
-            offset: number(Some(offset))?,
-        })?;
-    }
+    let items = items_of(alloc, text)?;
+    geometry_of(alloc, flm, size, page, &items)
+}
+
+/// A blank device.
+fn device(alloc: Global, flm: &[u8], weights: Weights, text: &str) -> Result<Trial> {
+    let geometry = shape(alloc, flm, text)?;
+    let old = blank(alloc, geometry.size())?;
+    let want = blank(alloc, geometry.size())?;
     Ok(Trial {
-        geometry: geometry_of(alloc, flm, size, page, &items)?,
+        geometry,
         weights,
         has_chip: false,
-        old: blank(alloc, size)?,
-        want: blank(alloc, size)?,
+        old,
+        want,
     })
 }
 

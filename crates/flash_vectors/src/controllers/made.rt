@@ -1,7 +1,7 @@
 //! The controllers that are driven.
 
 use anyhow::Result;
-use board_file::{ControllerKind, SectorRun, read_board};
+use board_file::{Board, ControllerKind, SectorRun, read_board};
 use flash_driver::{Driver, Registers, State};
 use flash_layout::{Area, FlashMap};
 use std::alloc::Global;
@@ -49,6 +49,12 @@ fn over_areas<R: Registers>(alloc: Global, kind: ControllerKind) -> Result<Drive
     })
 }
 
+/// The board of a file.
+fn board(rt: &HostRuntime, name: &str) -> Result<Board> {
+    let text = fs::read(rt, name)?;
+    Ok(read_board(rt.alloc(), &text)?)
+}
+
 /// The controller of a board's file, or that over two areas.
 pub fn driver<R: Registers>(
     rt: &HostRuntime,
@@ -58,6 +64,6 @@ pub fn driver<R: Registers>(
     if name == "areas" {
         return over_areas(rt.alloc(), kind);
     }
-    let board = read_board(rt.alloc(), &fs::read(rt, name)?)?;
+    let board = board(rt, name)?;
     Ok(Driver::new(rt.alloc(), &board)?)
 }
