@@ -4,6 +4,7 @@ use Rattle.std.proofs.lemmas.List.{set-get_or}
 use Rattle.armv6m_decode.specs.declared.instr.Alu.{Alu}
 use Rattle.armv6m_decode.specs.declared.instr.Branch.{Branch}
 use Rattle.armv6m_decode.specs.declared.instr.Instr.{Instr}
+use Rattle.armv6m_decode.specs.declared.instr.Other.{Other}
 use Rattle.armv6m_decode.specs.declared.instr.Instr.TheVariants as instr
 use Rattle.armv6m_decode.specs.declared.instr.Decoded.{Decoded}
 use Rattle.armv6m_decode.specs.declared.instr.Decoded.TheVariants.{Op}
@@ -18,6 +19,7 @@ use Rattle.armv6m_step.specs.declared.ends.StepEnd.{StepEnd}
 use Rattle.armv6m_step.specs.declared.ends.StepEnd.TheVariants as end
 use Rattle.armv6m_step.specs.Meaning.{Gives, Acts, Runs}
 use Rattle.armv6m_step.specs.Numbers.{sum}
+use Rattle.armv6m_step.specs.OtherRows.{other}
 use Rattle.armv6m_step.specs.Quick.{Goes, Steps}
 use Rattle.armv6m_step.specs.Registers.{pc_of, moved}
 use Rattle.armv6m_step.specs.Step.{meaning, of_halfword, instruction}
@@ -44,6 +46,10 @@ module _ {B : Type 0} (acts : Acts B) (core core' : Core) (half pc : ℕ) (bus :
   pub branch_goes : (result : Quick) (op : Branch) → decoded half ≡ Op (instr.Branch op) → pc ≡ pc_of core → Goes (branch core (sum pc 2) op) core' result
       → Steps acts (of_halfword core half (decoded half)) core bus result core' bus
   branch_goes result op is at done = fetched result bus (instr.Branch op) is at (goes result (branch core (sum pc 2) op) done)
+
+  pub other_goes : (result : Quick) (op : Other) → decoded half ≡ Op (instr.Other op) → pc ≡ pc_of core → Goes (other core (sum pc 2) op) core' result
+      → Steps acts (of_halfword core half (decoded half)) core bus result core' bus
+  other_goes result op is at done = fetched result bus (instr.Other op) is at (goes result (other core (sum pc 2) op) done)
 
 -- a core with the PC that it has
 pub moved_here : (core : Core) → moved core (pc_of core) ≡ core

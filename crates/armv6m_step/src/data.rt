@@ -97,6 +97,36 @@ fn is_lost(x_sign: bool, y_sign: bool, value_sign: bool) -> bool
     }
 }
 
+/// x - y, as `subtract`: of two registers, a signed comparison costs less than the three signs.
+#[inline(always)]
+#[tactic(auto, using(std::proofs::lemmas::Bool::Decides::nat_tests, std::proofs::lemmas::Int::ints), unfolding(armv6m_alu::specs::Sums::sum_with_carry))]
+pub(crate) fn difference(x: u32, y: u32) -> Sum
+    ensures { result ≡ subtraction x y }
+{
+    let value = x.wrapping_sub(y);
+    let is_less = x.cast_signed() < y.cast_signed();
+    Sum {
+        value,
+        carry: x >= y,
+        overflow: is_less != (value >= 0x8000_0000),
+    }
+}
+
+/// x + y.
+#[inline(always)]
+#[tactic(auto, using(std::proofs::lemmas::Bool::Decides::nat_tests, std::proofs::lemmas::Int::ints), unfolding(armv6m_alu::specs::Sums::sum_with_carry))]
+pub(crate) fn add(x: u32, y: u32) -> Sum
+    ensures { result ≡ sum_with_carry x y false }
+{
+    let (value, carry) = x.overflowing_add(y);
+    let is_less = value.cast_signed() < x.cast_signed();
+    Sum {
+        value,
+        carry,
+        overflow: is_less != (y >= 0x8000_0000),
+    }
+}
+
 pub(crate) fn amount(immediate: u8) -> u32
     ensures { result ≡ shift_amount immediate }
 {

@@ -11,6 +11,7 @@ mod bus;
 mod core_state;
 mod data;
 mod ends;
+mod fields;
 mod instruction;
 mod many;
 mod memory;

@@ -5,7 +5,7 @@
 ghost use Rattle.std.specs.Prelude.{◌≡◌, ◌*◌, if◌then◌else◌};
 ghost use Rattle.armv6m_alu.specs.Bits.{is_bit_set};
 ghost use Rattle.armv6m_decode.specs.Rows.{bits};
-ghost use Rattle.armv6m_decode.specs.Table.{decoded};
+ghost use Rattle.armv6m_decode.specs.Table.{decoded, high_register};
 ghost use Rattle.armv6m_decode.specs.Targets.{branch_target};
 ghost use Rattle.bench_model.specs.Counted.{IsCounted};
 ghost use Rattle.armv6m_step.specs.BranchRows.{branch};
@@ -15,21 +15,23 @@ ghost use Rattle.armv6m_step.specs.ListRows.{many};
 ghost use Rattle.armv6m_step.specs.Meaning.{Runs};
 ghost use Rattle.armv6m_step.specs.MemoryRows.{load_word, load_half, load_byte, store_word, store_half, store_byte, memory};
 ghost use Rattle.armv6m_step.specs.Numbers.{sum};
+ghost use Rattle.armv6m_step.specs.OtherRows.{other};
 ghost use Rattle.armv6m_step.specs.Quick.{Goes, Steps, Reads};
 ghost use Rattle.armv6m_step.specs.Registers.{pc_of, reg, written, moved, with_nz, with_carry, with_nzcv};
 ghost use Rattle.armv6m_step.specs.Step.{of_halfword, instruction};
 
 use crate::access::{byte_at, byte_to, half_at, half_to, peek16, word_at, word_to};
 use crate::arms::{self, arm_of};
-use crate::data::{amount, subtract};
+use crate::data::{add, amount, difference, subtract};
 use crate::ends::step_end;
+use crate::fields::{any_low, any_middle, byte, five, low, middle, three, top, upper};
 use crate::many::{pop, push};
 use crate::memory::{at_offset, bytes, halves, words};
 use crate::{Bus, Core, StepEnd, Stop, step};
 use armv6m_alu::{Shifted, Sum, add_with_carry, rotate_right, shift_left, shift_right};
 use armv6m_decode::registers::{LR, PC, SP};
 use armv6m_decode::targets::{far, literal, near, short};
-use armv6m_decode::{Alu, Branch, Condition, Decoded, Instr, Many, Memory, decode32};
+use armv6m_decode::{Alu, Branch, Condition, Decoded, Instr, Many, Memory, Other, decode32};
 
 /// What a quick step came to.
 #[derive(Clone, Copy)]
@@ -50,54 +52,6 @@ fn stopped(stop: Stop) -> Quick
     Quick::Done {
         end: step_end(Err(stop)),
     }
-}
-
-/// The register in bits 2 to 0.
-#[inline(always)]
-fn low(half: u16) -> usize
-    ensures { result ≡ bits 2 0 half }
-{
-    usize::from(half % 8)
-}
-
-/// The register in bits 5 to 3.
-#[inline(always)]
-fn middle(half: u16) -> usize
-    ensures { result ≡ bits 5 3 half }
-{
-    usize::from((half >> 3) % 8)
-}
-
-/// The register in bits 8 to 6.
-#[inline(always)]
-fn upper(half: u16) -> usize
-    ensures { result ≡ bits 8 6 half }
-{
-    usize::from((half >> 6) % 8)
-}
-
-/// The register in bits 10 to 8.
-#[inline(always)]
-fn top(half: u16) -> usize
-    ensures { result ≡ bits 10 8 half }
-{
-    usize::from((half >> 8) % 8)
-}
-
-/// The immediate in bits 7 to 0.
-#[inline(always)]
-fn byte(half: u16) -> u8
-    ensures { result ≡ bits 7 0 half }
-{
-    (half % 256) as u8
-}
-
-/// The immediate in bits 10 to 6.
-#[inline(always)]
-fn five(half: u16) -> u8
-    ensures { result ≡ bits 10 6 half }
-{
-    ((half >> 6) % 32) as u8
 }
 
 /// The address of a register and an offset in bytes.
@@ -163,11 +117,7 @@ fn lsrs_immediate(core: &mut Core, pc: u32, half: u16) -> Quick
 fn adds_register(core: &mut Core, pc: u32, half: u16) -> Quick
     ensures { Goes (alu core.old (sum pc 2) (Alu.AddsRegister (bits 2 0 half) (bits 5 3 half) (bits 8 6 half))) core.new result }
 {
-    let sum = add_with_carry(
-        core.read_wide(middle(half)),
-        core.read_wide(upper(half)),
-        false,
-    );
+    let sum = add(core.read_wide(middle(half)), core.read_wide(upper(half)));
     put_sum(core, low(half), sum);
     let next = pc.wrapping_add(2);
     Quick::Went { pc: next }
@@ -178,7 +128,29 @@ fn adds_register(core: &mut Core, pc: u32, half: u16) -> Quick
 fn subs_register(core: &mut Core, pc: u32, half: u16) -> Quick
     ensures { Goes (alu core.old (sum pc 2) (Alu.SubsRegister (bits 2 0 half) (bits 5 3 half) (bits 8 6 half))) core.new result }
 {
-    let sum = subtract(core.read_wide(middle(half)), core.read_wide(upper(half)));
+    let sum = difference(core.read_wide(middle(half)), core.read_wide(upper(half)));
+    put_sum(core, low(half), sum);
+    let next = pc.wrapping_add(2);
+    Quick::Went { pc: next }
+}
+
+/// ADD of an immediate of three bits.
+#[inline(always)]
+fn adds_immediate3(core: &mut Core, pc: u32, half: u16) -> Quick
+    ensures { Goes (alu core.old (sum pc 2) (Alu.AddsImmediate3 (bits 2 0 half) (bits 5 3 half) (bits 8 6 half))) core.new result }
+{
+    let sum = add(core.read_wide(middle(half)), u32::from(three(half)));
+    put_sum(core, low(half), sum);
+    let next = pc.wrapping_add(2);
+    Quick::Went { pc: next }
+}
+
+/// SUB of an immediate of three bits.
+#[inline(always)]
+fn subs_immediate3(core: &mut Core, pc: u32, half: u16) -> Quick
+    ensures { Goes (alu core.old (sum pc 2) (Alu.SubsImmediate3 (bits 2 0 half) (bits 5 3 half) (bits 8 6 half))) core.new result }
+{
+    let sum = subtract(core.read_wide(middle(half)), u32::from(three(half)));
     put_sum(core, low(half), sum);
     let next = pc.wrapping_add(2);
     Quick::Went { pc: next }
@@ -210,7 +182,7 @@ fn adds_immediate(core: &mut Core, pc: u32, half: u16) -> Quick
     ensures { Goes (alu core.old (sum pc 2) (Alu.AddsImmediate8 (bits 10 8 half) (bits 7 0 half))) core.new result }
 {
     let d = top(half);
-    let sum = add_with_carry(core.read_wide(d), u32::from(byte(half)), false);
+    let sum = add(core.read_wide(d), u32::from(byte(half)));
     put_sum(core, d, sum);
     let next = pc.wrapping_add(2);
     Quick::Went { pc: next }
@@ -304,7 +276,7 @@ fn rsbs(core: &mut Core, pc: u32, half: u16) -> Quick
 fn cmp_register(core: &mut Core, pc: u32, half: u16) -> Quick
     ensures { Goes (alu core.old (sum pc 2) (Alu.CmpRegister (bits 2 0 half) (bits 5 3 half))) core.new result }
 {
-    core.set_nzcv(subtract(core.read_wide(low(half)), core.read_wide(middle(half))));
+    core.set_nzcv(difference(core.read_wide(low(half)), core.read_wide(middle(half))));
     let next = pc.wrapping_add(2);
     Quick::Went { pc: next }
 }
@@ -328,6 +300,22 @@ fn muls(core: &mut Core, pc: u32, half: u16) -> Quick
     let d = low(half);
     let value = core.read_wide(d).wrapping_mul(core.read_wide(middle(half)));
     put_value(core, d, value);
+    let next = pc.wrapping_add(2);
+    Quick::Went { pc: next }
+}
+
+/// MOV of any two registers; into the PC it is a branch.
+#[inline(always)]
+fn mov_high(core: &mut Core, pc: u32, half: u16) -> Quick
+    ensures { Goes (alu core.old (sum pc 2) (Alu.MovHigh (high_register half) (bits 6 3 half))) core.new result }
+{
+    let value = core.read_wide(any_middle(half));
+    let d = any_low(half);
+    if d == PC as usize {
+        let to = value / 2 * 2;
+        return Quick::Went { pc: to };
+    }
+    core.write_wide(d, value);
     let next = pc.wrapping_add(2);
     Quick::Went { pc: next }
 }
@@ -450,6 +438,32 @@ fn ldrh_immediate<B: Bus>(core: &mut Core, bus: &mut B, pc: u32, half: u16) -> Q
     half_into(core, bus, pc.wrapping_add(2), low(half), at)
 }
 
+/// The address of two low registers.
+#[inline(always)]
+fn at_registers(core: &Core, half: u16) -> u32
+    ensures { result ≡ sum (reg core.now (bits 5 3 half)) (reg core.now (bits 8 6 half)) }
+{
+    at_register(core, middle(half), core.read_wide(upper(half)))
+}
+
+/// STR at two registers.
+#[inline(always)]
+fn str_register<B: Bus>(core: &Core, bus: &mut B, pc: u32, half: u16) -> Quick
+    ensures { Steps B.acts (memory core.now (sum pc 2) (Memory.StrRegister (bits 2 0 half) (bits 5 3 half) (bits 8 6 half))) core.now bus.old result core.now bus.new }
+{
+    let at = at_registers(core, half);
+    word_from(core, bus, pc.wrapping_add(2), low(half), at)
+}
+
+/// LDR at two registers.
+#[inline(always)]
+fn ldr_register<B: Bus>(core: &mut Core, bus: &mut B, pc: u32, half: u16) -> Quick
+    ensures { Steps B.acts (memory core.old (sum pc 2) (Memory.LdrRegister (bits 2 0 half) (bits 5 3 half) (bits 8 6 half))) core.old bus.old result core.new bus.new }
+{
+    let at = at_registers(core, half);
+    word_into(core, bus, pc.wrapping_add(2), low(half), at)
+}
+
 /// STR at a register and an immediate.
 #[inline(always)]
 fn str_immediate<B: Bus>(core: &Core, bus: &mut B, pc: u32, half: u16) -> Quick
@@ -501,6 +515,17 @@ fn ldr_sp<B: Bus>(core: &mut Core, bus: &mut B, pc: u32, half: u16) -> Quick
 {
     let at = at_sp(core, half);
     word_into(core, bus, pc.wrapping_add(2), top(half), at)
+}
+
+/// ADD of SP and an immediate.
+#[inline(always)]
+fn add_from_sp(core: &mut Core, pc: u32, half: u16) -> Quick
+    ensures { Goes (other core.old (sum pc 2) (Other.AddFromSp (bits 10 8 half) (bits 7 0 half))) core.new result }
+{
+    let at = at_sp(core, half);
+    core.write_wide(top(half), at);
+    let next = pc.wrapping_add(2);
+    Quick::Went { pc: next }
 }
 
 /// PUSH.
@@ -629,6 +654,8 @@ fn arm<B: Bus>(core: &mut Core, bus: &mut B, pc: u32, half: u16) -> Quick
         arms::LSRS_IMMEDIATE => lsrs_immediate(core, pc, half),
         arms::ADDS_REGISTER => adds_register(core, pc, half),
         arms::SUBS_REGISTER => subs_register(core, pc, half),
+        arms::ADDS_IMMEDIATE3 => adds_immediate3(core, pc, half),
+        arms::SUBS_IMMEDIATE3 => subs_immediate3(core, pc, half),
         arms::MOVS_IMMEDIATE => movs_immediate(core, pc, half),
         arms::CMP_IMMEDIATE => cmp_immediate(core, pc, half),
         arms::ADDS_IMMEDIATE => adds_immediate(core, pc, half),
@@ -642,7 +669,10 @@ fn arm<B: Bus>(core: &mut Core, bus: &mut B, pc: u32, half: u16) -> Quick
         arms::CMP_REGISTER => cmp_register(core, pc, half),
         arms::ORRS => orrs(core, pc, half),
         arms::MULS => muls(core, pc, half),
+        arms::MOV_HIGH => mov_high(core, pc, half),
         arms::LDR_LITERAL => ldr_literal(core, bus, pc, half),
+        arms::STR_REGISTER => str_register(core, bus, pc, half),
+        arms::LDR_REGISTER => ldr_register(core, bus, pc, half),
         arms::STR_IMMEDIATE => str_immediate(core, bus, pc, half),
         arms::LDR_IMMEDIATE => ldr_immediate(core, bus, pc, half),
         arms::STRB_IMMEDIATE => strb_immediate(core, bus, pc, half),
@@ -651,6 +681,7 @@ fn arm<B: Bus>(core: &mut Core, bus: &mut B, pc: u32, half: u16) -> Quick
         arms::LDRH_IMMEDIATE => ldrh_immediate(core, bus, pc, half),
         arms::STR_SP => str_sp(core, bus, pc, half),
         arms::LDR_SP => ldr_sp(core, bus, pc, half),
+        arms::ADD_FROM_SP => add_from_sp(core, pc, half),
         arms::PUSH => push_list(core, bus, pc, half),
         arms::POP => pop_list(core, bus, pc, half),
         arms::BRANCH_EQUAL => branch_equal(core, pc, half),
@@ -660,7 +691,7 @@ fn arm<B: Bus>(core: &mut Core, bus: &mut B, pc: u32, half: u16) -> Quick
         arms::BRANCH_HIGHER => branch_higher(core, pc, half),
         arms::BRANCH => branch_always(core, pc, half),
         arms::CALL => call(core, bus, pc, half),
-        _ => Quick::Left,
+        _ => unreachable!(),
     }
 }
 
