@@ -13,6 +13,9 @@ use flash_layout::{Area, FlashMap, Found, Operation, unit_work};
 /// The bytes of the block of registers.
 const BLOCK: u32 = 32;
 
+/// The offset of STATUS.
+const STATUS: u32 = 4;
+
 /// CMD that erases a sector.
 const ERASE_SECTOR: u32 = 2;
 
@@ -70,6 +73,14 @@ impl Registers for State {
             12 => Some(self.address),
             _ => None,
         }
+    }
+
+    #[inline(always)]
+    fn peek(&self, operation: Option<Operation>, offset: u32) -> Option<u32> {
+        if offset != STATUS {
+            return None;
+        }
+        Some(self.status(operation))
     }
 
     #[inline(always)]

@@ -1,5 +1,5 @@
 -- A register answers a load of its word, whatever the cells are.
-use Rattle.std.proofs.Common.{◌≡◌, ◌<◌, ◌≤◌, ◌-◌, ℕ, Bool, true, false, List, Option, Some, None, IfSome, Result, Ok, refl, ap, sym, ◌∙◌}
+use Rattle.std.proofs.Common.{◌≡◌, ◌<◌, ◌≤◌, ◌+◌, ◌-◌, ℕ, Bool, true, false, List, Option, Some, None, IfSome, Result, Ok, refl, ap, sym, arith, ◌∙◌}
 use Rattle.std.proofs.lemmas.Bool.{le-leb, lt-ltb}
 use Rattle.bench_model.specs.declared.bench_fault.BusEnd.{BusEnd}
 use Rattle.flash_layout.specs.Maps.{FlashMap, in_quiet}
@@ -25,7 +25,11 @@ module _ {R : Type 0} (t : Table R) (map : FlashMap) (s : State R) (at : ℕ) (a
       ∙ ap (λ (o : Option ℕ). or_quiet 0 (in_quiet map.quiet at) (answered o)) (sym is)
       ∙ taken value (in_quiet map.quiet at)
 
-  pub register_loads : (answer : Option ℕ) → answer ≡ t.load s.registers s.operation (at - map.base) →
-      IfSome answer (λ value. (cells : List ℕ) → bus_load t map s cells at 4 ≡ Ok value)
-  register_loads None is = tt
-  register_loads (Some value) is = λ cells. one_load value cells is
+pub register_peeks : {R : Type 0} (t : Table R) (map : FlashMap) (s : State R) (offset : ℕ) → offset < map.block → (answer : Option ℕ)
+    → IfSome answer (λ value. Some value ≡ t.load s.registers s.operation offset)
+    → IfSome answer (λ value. (cells : List ℕ) → bus_load t map s cells (map.base + offset) 4 ≡ Ok value)
+register_peeks t map s offset within None is = tt
+register_peeks t map s offset within (Some value) is =
+    let there : offset ≡ map.base + offset - map.base = omega arith in
+    λ cells. one_load t map s (map.base + offset) (omega arith) (omega (arith, within)) value cells
+    (is ∙ ap (λ (n : ℕ). t.load s.registers s.operation n) there)

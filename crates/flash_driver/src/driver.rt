@@ -251,16 +251,15 @@ impl<R: Registers> Driver<R> {
         }
     }
 
-    /// What a register answers to a load of the word at an address, which asks no bench; none where no register is there.
+    /// What a load of the word at an offset of the block answers, where that is a register that programs read while they wait: it asks no bench.
     #[inline(always)]
-    pub fn peek(&self, at: u32) -> Option<u32>
-        ensures { IfSome result (λ value. (cells : List ℕ) → bus_load R.table (map_of self.now.layout) self.now.state cells at 4 ≡ Ok value) }
+    pub fn peek(&self, offset: u32) -> Option<u32>
+        requires { offset < self.now.layout.block }
+        ensures even { IfSome result (λ value. offset % 4 ≡ 0) }
+        ensures value { IfSome result (λ value. (cells : List ℕ) → bus_load R.table (map_of self.now.layout) self.now.state cells
+            (self.now.layout.base + offset) 4 ≡ Ok value) }
     {
-        if at < self.layout.base || at - self.layout.base >= self.layout.block {
-            return None;
-        }
-        let offset = at - self.layout.base;
-        self.state.registers.load(self.state.operation, offset)
+        self.state.registers.peek(self.state.operation, offset)
     }
 
     /// A store outside the RAM: as `store`, but nothing in a quiet range where nothing else takes it.

@@ -1,4 +1,4 @@
-//! What drives the bench for a flash controller of whichever kind. A controller is its registers alone, by the trait `Registers`: seven functions
+//! What drives the bench for a flash controller of whichever kind. A controller is its registers alone, by the trait `Registers`: eight functions
 //! that touch no bench. `Driver` stands between the core's loads and stores and the bench that holds the cells. Nothing else opens, settles or
 //! breaks off an operation on the cells.
 #![tactic(auto)]

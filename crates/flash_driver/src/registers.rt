@@ -1,5 +1,5 @@
 //! The registers of a controller.
-ghost use Rattle.std.specs.Prelude.{◌≡◌, ◌≤◌, ◌+◌, ◌⊎◌, None};
+ghost use Rattle.std.specs.Prelude.{◌≡◌, ◌≤◌, ◌+◌, ◌%◌, ◌⊎◌, None, Some, IfSome};
 
 use crate::state::Effect;
 use board_file::ControllerKind;
@@ -26,6 +26,14 @@ pub trait Registers: Copy {
     /// What the register at an offset answers to a load, while this operation runs; none where there is no register.
     fn load(&self, operation: Option<Operation>, offset: u32) -> Option<u32>
         ensures { result ≡ table.load self.now operation offset };
+
+    /// What the register answers that programs read while they wait; none for every other.
+    fn peek(&self, operation: Option<Operation>, offset: u32) -> Option<u32>
+        ensures even { IfSome result (λ value. offset % 4 ≡ 0) }
+        ensures value { IfSome result (λ value. Some value ≡ table.load self.now operation offset) }
+    {
+        None
+    }
 
     /// A store to the register at an offset, while this operation runs.
     fn store(

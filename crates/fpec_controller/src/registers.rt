@@ -13,6 +13,9 @@ use flash_layout::{Area, FlashMap, Found, Lock, Operation, Work};
 /// The bytes of the block of registers.
 const BLOCK: u32 = 64;
 
+/// The offset of SR.
+const STATUS: u32 = 0x0C;
+
 /// WRPR: no sector is protected.
 const UNPROTECTED: u32 = 0xFFFF_FFFF;
 
@@ -100,6 +103,14 @@ impl Registers for State {
             0x20 => Some(UNPROTECTED),
             _ => None,
         }
+    }
+
+    #[inline(always)]
+    fn peek(&self, operation: Option<Operation>, offset: u32) -> Option<u32> {
+        if offset != STATUS {
+            return None;
+        }
+        Some(self.status(operation))
     }
 
     #[inline(always)]

@@ -128,39 +128,39 @@ impl Arena {
     }
 
     /// The byte at a place of a window, of which it is known where it begins.
-    pub fn load8_from(&self, from: usize, window: usize, offset: u32) -> u32
+    pub fn load8_from(&self, from: usize, window: usize, offset: usize) -> u32
         requires from { from ≡ begin_of self.now window }
         requires window { window < length self.now }
         requires range { offset + 1 ≤ length (slice_index_or self.now window []) }
         ensures value { result ≡ slice_index (slice_index_or self.now window []) offset }
         ensures fits { result < 2 ^ 8 }
     {
-        self.bytes.load8(from + offset as usize)
+        self.bytes.load8(from + offset)
     }
 
     /// The two bytes from a place of a window that begins there on, little-endian.
-    pub fn load16_from(&self, from: usize, window: usize, offset: u32) -> u32
+    pub fn load16_from(&self, from: usize, window: usize, offset: usize) -> u32
         requires from { from ≡ begin_of self.now window }
         requires window { window < length self.now }
         requires range { offset + 2 ≤ length (slice_index_or self.now window []) }
         ensures value { result ≡ word16 (slice_index_or self.now window []) offset }
         ensures fits { result < 2 ^ 16 }
     {
-        self.bytes.load16(from + offset as usize)
+        self.bytes.load16(from + offset)
     }
 
     /// The four bytes from a place of a window that begins there on, little-endian.
-    pub fn load32_from(&self, from: usize, window: usize, offset: u32) -> u32
+    pub fn load32_from(&self, from: usize, window: usize, offset: usize) -> u32
         requires from { from ≡ begin_of self.now window }
         requires window { window < length self.now }
         requires range { offset + 4 ≤ length (slice_index_or self.now window []) }
         ensures value { result ≡ word32 (slice_index_or self.now window []) offset }
     {
-        self.bytes.load32(from + offset as usize)
+        self.bytes.load32(from + offset)
     }
 
     /// Stores a byte at a place of a window, of which it is known where it begins.
-    pub fn store8_from(&mut self, from: usize, window: usize, offset: u32, value: u32)
+    pub fn store8_from(&mut self, from: usize, window: usize, offset: usize, value: u32)
         requires from { from ≡ begin_of self.old window }
         requires window { window < length self.old }
         requires range { offset + 1 ≤ length (slice_index_or self.old window []) }
@@ -168,11 +168,11 @@ impl Arena {
         ensures set { self.new ≡ slice_set self.old window (slice_set (slice_index_or self.old window []) offset value) }
         ensures begin { begin_of self.new window ≡ begin_of self.old window }
     {
-        self.bytes.store8(from + offset as usize, value);
+        self.bytes.store8(from + offset, value);
     }
 
     /// Stores two bytes from a place of a window that begins there on, little-endian.
-    pub fn store16_from(&mut self, from: usize, window: usize, offset: u32, value: u32)
+    pub fn store16_from(&mut self, from: usize, window: usize, offset: usize, value: u32)
         requires from { from ≡ begin_of self.old window }
         requires window { window < length self.old }
         requires range { offset + 2 ≤ length (slice_index_or self.old window []) }
@@ -180,18 +180,18 @@ impl Arena {
         ensures set { self.new ≡ slice_set self.old window (with16 (slice_index_or self.old window []) offset value) }
         ensures begin { begin_of self.new window ≡ begin_of self.old window }
     {
-        self.bytes.store16(from + offset as usize, value);
+        self.bytes.store16(from + offset, value);
     }
 
     /// Stores four bytes from a place of a window that begins there on, little-endian.
-    pub fn store32_from(&mut self, from: usize, window: usize, offset: u32, value: u32)
+    pub fn store32_from(&mut self, from: usize, window: usize, offset: usize, value: u32)
         requires from { from ≡ begin_of self.old window }
         requires window { window < length self.old }
         requires range { offset + 4 ≤ length (slice_index_or self.old window []) }
         ensures set { self.new ≡ slice_set self.old window (with32 (slice_index_or self.old window []) offset value) }
         ensures begin { begin_of self.new window ≡ begin_of self.old window }
     {
-        self.bytes.store32(from + offset as usize, value);
+        self.bytes.store32(from + offset, value);
     }
 
     /// Makes each byte of a window this one.

@@ -1,5 +1,5 @@
 -- A load that lies in the RAM, and one of a register. For the loads of `Line`.
-use Rattle.std.proofs.Common.{◌≡◌, ℕ, List, length, Option, Some, None, IfSome, option_map, Result, Ok, refl, sym, ap, subst, arith, ◌∙◌, inr}
+use Rattle.std.proofs.Common.{◌≡◌, ◌+◌, ℕ, List, length, Option, Some, None, IfSome, option_map, Result, Ok, refl, sym, ap, subst, arith, ◌∙◌, inr}
 use Rattle.std.proofs.lemmas.Bool.{false≢true}
 use Rattle.bench_model.specs.declared.bench.Bench.{Ghosts}
 use Rattle.bench_model.specs.declared.bench_fault.BusEnd.{BusEnd}
@@ -64,8 +64,10 @@ quiet_load {B} {G} law l at v place is =
       same = same_here l;
     }
 
-pub peeks : {B : Type 0} {G : Ghosts B} → Law G → (l : Line B G) (at : ℕ) (answer : Option ℕ) → None ≡ place_of l.ram_base l.ram_size at 4
-    → IfSome answer (λ v. (cells : List ℕ) → bus_load (unit_map l.unit.now) (unit_state l.unit.now) cells at 4 ≡ Ok v) →
-    IfSome answer (λ v. line_acts l (Load 4 at) (Ok v) l)
-peeks law l at None place is = tt
-peeks law l at (Some v) place is = quiet_load law l at v place is
+pub peeks : {B : Type 0} {G : Ghosts B} → Law G → (l : Line B G) (at offset : ℕ) (answer : Option ℕ) → at ≡ (unit_map l.unit.now).base + offset
+    → None ≡ place_of l.ram_base l.ram_size at 4
+    → IfSome answer (λ v. (cells : List ℕ) → bus_load (unit_map l.unit.now) (unit_state l.unit.now) cells ((unit_map l.unit.now).base + offset) 4 ≡ Ok v)
+    → IfSome answer (λ v. line_acts l (Load 4 at) (Ok v) l)
+peeks law l at offset None there place is = tt
+peeks law l at offset (Some v) there place is = quiet_load law l at v place
+    (λ cells. ap (λ (n : ℕ). bus_load (unit_map l.unit.now) (unit_state l.unit.now) cells n 4) there ∙ is cells)

@@ -5,6 +5,7 @@ use Rattle.std.specs.Int.{w32, rotate_right}
 use Rattle.std.specs.Int.Bits.{or_add_and, and_le_l, and_zero_r}
 use Rattle.std.proofs.lemmas.Bool.{cases_lt, lt-ltb, le-ltb}
 use Rattle.armv6m_step.specs.Ram.{place_of}
+use Rattle.target_core.specs.Windows.{LiesApart}
 
 first_of : (a b : Bool) (n : ℕ) → a ≡ true → ◌≡◌ {A = Option ℕ} None (if a || b then None else Some n)
 first_of true b n is = refl
@@ -43,6 +44,21 @@ inside base size reach at width offset small fits is reaches some ends within = 
     let in_ram : at + width ≤ base + size = omega (arith, place, reaches, within, high) in
     neither (nat_lt at base) (nat_lt (base + size) (at + width)) (at - base) offset (le-ltb at base high) (le-ltb (base + size) (at + width) in_ram) place)
     (cases_lt at base)
+
+pub apart_there : (base size block bytes at offset : ℕ) → LiesApart base size block bytes → block < 2 ^ 32 → at < 2 ^ 32 →
+    offset ≡ (at + (2 ^ 32 - block)) % 2 ^ 32 → offset < bytes → (at ≡ block + offset) × (block % 4 ≡ 0) × (None ≡ place_of base size at 4)
+apart_there base size block bytes at offset apart small fits is within =
+    let lies = apart (omega (arith, within)) in
+    let place : at ≡ block + offset = omega (arith, is, within, lies.1, small, fits) in (
+      place,
+      lies.0,
+      ⊎_elim
+          (λ (below : block < base + size).
+          first_of (nat_lt at base) (nat_lt (base + size) (at + 4)) (at - base) (lt-ltb at base (omega (arith, place, within, lies.2 below))))
+          (λ (above : base + size ≤ block).
+          second_of (nat_lt at base) (nat_lt (base + size) (at + 4)) (at - base) (lt-ltb (base + size) (at + 4) (omega (arith, place, above))))
+          (cases_lt block (base + size)),
+    )
 
 -- A number that is rotated right by one bit or two lies below a half or a quarter of all numbers where it was even or a multiple of 4.
 

@@ -1,7 +1,7 @@
 //! What the core sees: the RAM, and the controller with its flash.
-ghost use Rattle.std.specs.Prelude.{◌≡◌, ◌-◌, ◌/◌, ◌%◌, ◌^◌, min, nat_eq, if◌then◌else◌, true, IsTrue};
+ghost use Rattle.std.specs.Prelude.{◌≡◌, ◌≤◌, ◌-◌, ◌/◌, ◌%◌, ◌^◌, min, nat_eq, if◌then◌else◌, true, IsTrue};
 ghost use Rattle.ram_arena.specs.Windows.{begin_of};
-ghost use Rattle.target_core.specs.Windows.{IsRam};
+ghost use Rattle.target_core.specs.Windows.{IsRam, LiesApart};
 ghost use Rattle.target_core.specs.Units.{UnitAgrees, unit_state, state_runs};
 
 use crate::unit::Unit;
@@ -11,14 +11,17 @@ use ram_arena::Arena;
 
 /// The bus of the target, for as long as a slice runs. The RAM is a window of an arena. The bench has the controller's cells, and its open
 /// operation is the controller's. So that a step costs little, it keeps where the window begins, how much of the RAM lies below the end of all
-/// addresses, and whether an operation runs.
+/// addresses, where the controller's block begins, how many bytes of it are apart from the RAM (none, where it meets the RAM), and whether an
+/// operation runs.
 #[derive(Drop)]
 pub(crate) struct Line<'a, B: Bench> {
     pub ram_base: u32,
     pub ram_size: u32,
-    pub reach: u32,
-    pub halves: u32,
-    pub words: u32,
+    pub reach: usize,
+    pub halves: usize,
+    pub words: usize,
+    pub block: u32,
+    pub apart: u32,
     pub from: usize,
     pub window: usize,
     pub arena: &'a mut Arena,
@@ -29,6 +32,9 @@ pub(crate) struct Line<'a, B: Bench> {
     ghost reaches: { reach ≡ min ram_size (2 ^ 32 - ram_base) },
     ghost by_halves: { halves ≡ (if nat_eq (ram_base % 2) 0 then reach / 2 else 0) },
     ghost by_words: { words ≡ (if nat_eq (ram_base % 4) 0 then reach / 4 else 0) },
+    ghost in_block: { apart ≤ unit.now.layout.block },
+    ghost at_block: { block ≡ unit.now.layout.base },
+    ghost is_apart: { LiesApart ram_base ram_size block apart },
     ghost begins: { from ≡ begin_of arena.now window },
     ghost ram: { IsRam arena.now window ram_size },
     ghost agrees: { UnitAgrees B.tells unit.now (B.state bench.now) },
@@ -40,19 +46,17 @@ impl<'a, B: Bench> Line<'a, B> {
     ghost use Rattle.armv6m_step.specs.Access.{Load};
     ghost use Rattle.target_core.specs.Line.{line_acts};
 
-    /// The word of a register, which answers without the bench.
+    /// The word of a register that programs read while they wait, which answers without the bench.
     #[inline(always)]
     fn peek_register(&self, at: u32) -> Option<u32>
         ensures even { IfSome result (λ v. at % 4 ≡ 0) }
         ensures acts { IfSome result (λ v. line_acts self.now (Load 4 at) (Ok v) self.now) }
     {
-        if at % 4 != 0 {
+        let offset = at.wrapping_sub(self.block);
+        if offset >= self.apart {
             return None;
         }
-        match self.place(at, 4) {
-            Some(_) => None,
-            None => self.unit.peek(at),
-        }
+        self.unit.peek(offset)
     }
 }
 

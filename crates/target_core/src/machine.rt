@@ -14,7 +14,7 @@ ghost use Rattle.target_core.specs.Targets.{core_at, fresh_core, with_ram, over,
 ghost use Rattle.target_core.specs.Units.{fresh, UnitAgrees, unit_cells, unit_map, unit_state, state_reset};
 
 use crate::line::Line;
-use crate::place::{reach, steps_in};
+use crate::place::{apart, reach, steps_in};
 use crate::run::{RunEnd, SliceEnd, slice};
 use crate::unit::Unit;
 use armv6m_decode::registers::PC;
@@ -228,14 +228,17 @@ impl Machine {
     {
         let from = arena.begin(window);
         let reach = reach(self.ram_base, self.ram_size);
+        let block = self.unit.layout.base;
         let runs = self.unit.is_running();
         let mut line = Line {
             from,
             ram_base: self.ram_base,
             ram_size: self.ram_size,
-            reach,
+            reach: reach as usize,
             halves: steps_in(self.ram_base, reach, 2),
             words: steps_in(self.ram_base, reach, 4),
+            block,
+            apart: apart(self.ram_base, self.ram_size, block, self.unit.layout.block),
             runs,
             window,
             arena,
