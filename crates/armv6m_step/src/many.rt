@@ -30,6 +30,7 @@ fn first_of(list: u8) -> (u8, u8)
     (list.trailing_zeros() as u8, list & (list - 1))
 }
 
+#[inline(always)]
 #[tactic(auto, using(crate::proofs::ListLemmas::stored_so_far, std::proofs::lemmas::Bool::Decides::nat_tests))]
 fn store_list<B: Bus>(core: &Core, bus: &mut B, at: u32, list: u8) -> Result<(), Stop>
     ensures { StoresEach B.acts core.now at (low_registers list) bus.old result bus.new }
@@ -56,6 +57,7 @@ fn restore(core: &mut Core, before: Core, made: Result<(), Stop>)
 }
 
 /// Loads the registers. After a fault some are loaded.
+#[inline(always)]
 #[tactic(auto, using(crate::proofs::ListLemmas::loaded_so_far, std::proofs::lemmas::Bool::Decides::nat_tests))]
 fn load_list<B: Bus>(core: &mut Core, bus: &mut B, at: u32, list: u8) -> Result<(), Stop>
     ensures { LoadsEach B.acts core.old at (low_registers list) bus.old (all_loaded core.new result) bus.new }
@@ -136,6 +138,7 @@ fn load_many<B: Bus>(core: &mut Core, bus: &mut B, next: u32, n: u8, list: u8) -
     made
 }
 
+#[inline(always)]
 #[tactic(auto, using(crate::proofs::ListLemmas::each, crate::proofs::RunLemmas::asks, std::proofs::lemmas::Bool::Decides::nat_tests))]
 pub(crate) fn push<B: Bus>(
     core: &mut Core,
@@ -162,6 +165,7 @@ pub(crate) fn push<B: Bus>(
 }
 
 /// POP, which after a fault leaves some registers loaded.
+#[inline(always)]
 #[tactic(auto, using(crate::proofs::ListLemmas::each, crate::proofs::RunLemmas::asks, std::proofs::lemmas::Bool::Decides::nat_tests))]
 fn pop_into<B: Bus>(core: &mut Core, bus: &mut B, next: u32, pc: bool, list: u8) -> Result<(), Stop>
     ensures { Runs B.acts (many core.old next (Many.Pop pc list)) core.old bus.old (end_of result) (unless_stopped core.old core.new result) bus.new }
@@ -187,6 +191,7 @@ fn pop_into<B: Bus>(core: &mut Core, bus: &mut B, next: u32, pc: bool, list: u8)
     Ok(())
 }
 
+#[inline(always)]
 #[tactic(auto, using(crate::proofs::RunLemmas::asks))]
 pub(crate) fn pop<B: Bus>(
     core: &mut Core,
