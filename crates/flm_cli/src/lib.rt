@@ -1,4 +1,4 @@
-//! The top calls of the flash programmer, from the words of a command line to a status: `flmprog` for one target, `flmgang` for several.
+//! The top call of the flash programmer for one target, from the words of a command line to a status.
 #![tactic(auto)]
 
 mod compare;
@@ -10,6 +10,5 @@ mod top;
 mod verify;
 
 pub use demo_job::{Demo, DemoLines, demo_run, made_cells, put_demo};
-pub use gang_commands::flmgang;
 pub use law::calls_of_flmprog_are_safe;
 pub use top::flmprog;

@@ -6,7 +6,8 @@ ghost use Rattle.promise.specs.Promise.{Keeps, GangKeeps, call_of};
 ghost use Rattle.promise.specs.Complete.{Completes};
 
 use bench_model::Bench;
-use flm_cli::{flmgang, flmprog};
+use flm_cli::flmprog;
+use gang_commands::flmgang;
 use octets::Word;
 use outside_io::{Inputs, Sink};
 use std::alloc::Global;
