@@ -1,5 +1,5 @@
 -- A target that has ended, and where one begins.
-use Rattle.std.proofs.Common.{◌≡◌, ◌≤◌, ◌+◌, ◌*◌, ◌∙◌, ◌↔◌, ℕ, Bool, false, IsTrue, Option, List, [], ◌∷◌, ◌++◌, refl, sym, ap, subst, arith}
+use Rattle.std.proofs.Common.{◌≡◌, ◌≤◌, ◌+◌, ◌*◌, ◌∙◌, ◌↔◌, ℕ, Bool, IsTrue, Option, List, [], ◌∷◌, ◌++◌, refl, sym, ap, subst, arith}
 use Rattle.bench_model.specs.History.{left, Leaves}
 use Rattle.bench_model.specs.State.{SameOutside, BenchState, cells_half}
 use Rattle.bench_model.proofs.Moments.{leaves_here, leaves_as}
@@ -12,6 +12,7 @@ use Rattle.algo_calls.specs.declared.call.Call.{Call}
 use Rattle.algo_calls.specs.Frames.{Request, asked, fuel_of, first_point, path_of}
 use Rattle.algo_calls.specs.Setups.{Setup}
 use Rattle.flash_session.specs.Moves.{Move, Make, Stand, stand_at, IsPointOf, IsOnPath, IsLeftOnWay}
+use Rattle.flash_session.specs.Regions.{First}
 use Rattle.flash_session.specs.Script.{Leg, Broken, script}
 use Rattle.flash_session.specs.declared.phase.Phase.TheVariants as stage
 use Rattle.flash_session.specs.declared.cursor.Cursor.TheVariants as at
@@ -32,7 +33,7 @@ use Rattle.flash_session.proofs.RestLemmas.{script_is}
 use Rattle.flash_session.proofs.TurnLemmas.{no_more}
 
 -- before its first turn a target has done nothing, and the whole script is left
-pub first_way : (l : Legs) → OnWay l [] (rest_of l (at.Begin false stage.Erase))
+pub first_way : (l : Legs) → OnWay l [] (rest_of l (at.Begin First stage.Erase))
 first_way l b = (b, script_is l b)
 
 module _ (legs : List Leg) (goal : List ℕ) (a : Stand) (way : List Move) (start now : BenchState)
@@ -95,13 +96,13 @@ goes_here tells told a way goal x arena now going fit law stands =
       left = subst (λ (o : Option (ℕ × ℕ)). SameOutside o now.cells c) (fit.agrees.operation told) ((law c).0 at);
     }))
 
-pub stands_first : (x : Player) (goal : List ℕ) (arena : List (List ℕ)) (now : BenchState) → x.place ≡ place.At (at.Begin false stage.Erase) → x.made ≡ 0
+pub stands_first : (x : Player) (goal : List ℕ) (arena : List (List ℕ)) (now : BenchState) → x.place ≡ place.At (at.Begin First stage.Erase) → x.made ≡ 0
     → StandsOn (stand_at 0 (point_for x arena now.cells).world) [] goal x arena now
 stands_first x goal arena now is made =
     let here : Point = point_for x arena now.cells in
     let a : Stand = stand_at 0 here.world in
     let P : Place → ℕ → Type 0 = λ p n. Stands (legs_for x goal) goal (setup_now x) a [] p n here x.calls.machine.return_at now in
-    subst (λ (p : Place). P p x.made) (sym is) (subst (λ (n : ℕ). P (place.At (at.Begin false stage.Erase)) n) (sym made)
+    subst (λ (p : Place). P p x.made) (sym is) (subst (λ (n : ℕ). P (place.At (at.Begin First stage.Erase)) n) (sym made)
     (first_way (legs_for x goal), run_none a))
 
 -- ---- a target that goes on stands at a point of its own script's path, whatever the resets to come leave

@@ -1,5 +1,5 @@
 -- A turn from its parts.
-use Rattle.std.proofs.Common.{◌≡◌, ◌<◌, ◌+◌, ◌^◌, ◌∙◌, ℕ, Bool, true, false, IsTrue, List, [], length, refl, sym, ap, subst, arith}
+use Rattle.std.proofs.Common.{◌≡◌, ◌<◌, ◌+◌, ◌^◌, ◌∙◌, ℕ, Bool, IsTrue, List, [], length, refl, sym, ap, subst, arith}
 use Rattle.bench_model.specs.State.{BenchState}
 use Rattle.bench_model.specs.Calls.{FileStays, FileIsRead}
 use Rattle.bench_model.specs.Counted.{is_store_fault, is_device_fault, IsCounted}
@@ -18,6 +18,7 @@ use Rattle.flash_session.specs.declared.player.Player.{Player}
 use Rattle.flash_session.specs.declared.target_end.TargetEnd.{TargetEnd}
 use Rattle.flash_session.specs.declared.target_end.TargetEnd.TheVariants as ended
 use Rattle.flash_session.specs.Fit.{legs_of, calls_ahead, turns_ahead, togo, IsScriptEnd, IsSoundEnd, IsPlace, IsRegionPlanOn, AreTwins, IsScripted, Fit}
+use Rattle.flash_session.specs.Regions.{RegionIndex, First, Second}
 use Rattle.flash_session.specs.Rest.{Legs, with_torn, unbroken}
 use Rattle.flash_session.specs.Stands.{Stands, StandsOn}
 use Rattle.flash_session.specs.Goals.{goal_in}
@@ -25,13 +26,13 @@ use Rattle.flash_session.specs.Targets.{setup_on, map_of, setup_now, region_in, 
 use Rattle.flash_session.specs.Turns.{SameTarget, GoesOn, Turns, FileTurn, place_fault}
 use Rattle.flash_session.proofs.MachineLemmas.{has_same, legs_same}
 
-pub unbroken_is : (r : Bool) (p : Phase) → with_torn r p [] unbroken ≡ unbroken
-unbroken_is false stage.Erase = refl
-unbroken_is false stage.Program = refl
-unbroken_is false stage.Verify = refl
-unbroken_is true stage.Erase = refl
-unbroken_is true stage.Program = refl
-unbroken_is true stage.Verify = refl
+pub unbroken_is : (r : RegionIndex) (p : Phase) → with_torn r p [] unbroken ≡ unbroken
+unbroken_is First stage.Erase = refl
+unbroken_is First stage.Program = refl
+unbroken_is First stage.Verify = refl
+unbroken_is Second stage.Erase = refl
+unbroken_is Second stage.Program = refl
+unbroken_is Second stage.Verify = refl
 
 -- a sound end is one of a script
 pub of_script : (tells : Bool) (size : ℕ) (e : TargetEnd) (b : BenchState) → IsSoundEnd tells size e b → IsScriptEnd e
@@ -57,12 +58,12 @@ stands_same old new a way goal arena now same stands =
     (sym (legs_same old new same goal)) stands
 
 pub size_same : (old new : Player) → SameTarget old new → size_for new ≡ size_for old
-size_same old new same = ap (λ (m : FlashMap). cells_in m.areas) (same.maps false)
+size_same old new same = ap (λ (m : FlashMap). cells_in m.areas) (same.maps First)
 
 pub goal_same : (j : Job) (old new : Player) (file : List ℕ) → SameTarget old new → goal_for j new file ≡ goal_for j old file
 goal_same j old new file same = ap (λ (t : SessionWork). goal_in j t.goal file) same.work
 
-part_same : (old new : Player) (r : Bool) → SameTarget old new → length new.page.items ≡ length old.page.items
+part_same : (old new : Player) (r : RegionIndex) → SameTarget old new → length new.page.items ≡ length old.page.items
     → IsRegionPlanOn (setup_on old r) (size_for old) (length old.page.items) (region_in old.work r)
     → IsRegionPlanOn (setup_on new r) (size_for new) (length new.page.items) (region_in new.work r)
 part_same old new r same page is =
@@ -73,15 +74,15 @@ part_same old new r same page is =
 
 pub scripted_same : (old new : Player) → SameTarget old new → length new.page.items ≡ length old.page.items → AreTwins new → IsScripted old → IsScripted new
 scripted_same old new same page twins is = record {
-  first = part_same old new false same page is.first;
-  second = λ there. part_same old new true same page (is.second (sym (has_same old new same) ∙ there));
+  first = part_same old new First same page is.first;
+  second = λ there. part_same old new Second same page (is.second (sym (has_same old new same) ∙ there));
   twins = twins;
 }
 
 pub turn_made : (tells : Bool) (goal : List ℕ) (old new : Player) (arena arena' : List (List ℕ)) (start end : BenchState)
     → Fit tells old arena start → SameTarget old new → length new.page.items ≡ length old.page.items → AreTwins new → map_of new.calls ≡ map_of old.calls
     → OnlyIn old.window arena arena' → Fits new.calls arena' new.window
-    → AgreesAt tells new.calls end → IsPlace tells (has_second old) new.second new.place (size_for old) end
+    → AgreesAt tells new.calls end → IsPlace tells (has_second old) new.moved new.place (size_for old) end
     → new.made + calls_ahead (legs_of old) new.place < 2 ^ 32
     → turns_ahead (legs_of old) (size_for old) new.place < togo old → end.cell_count ≡ start.cell_count → FileTurn tells old.place new.place start end
     → IsCounted start.device_faults end.device_faults (is_device_fault (place_fault new.place))
@@ -102,8 +103,8 @@ turn_made tells goal old new arena arena' start end fit same page twins map only
         agrees = agrees;
         wanted = ap (λ (m : FlashMap). cells_in m.areas) map ∙ fit.wanted ∙ sym size;
         some = subst (λ (n : ℕ). 0 < n) (sym size) fit.some;
-        place = subst (λ (n : ℕ). IsPlace tells (has_second new) new.second new.place n end) (sym size)
-            (subst (λ (h : Bool). IsPlace tells h new.second new.place (size_for old) end) (sym (has_same old new same)) place);
+        place = subst (λ (n : ℕ). IsPlace tells (has_second new) new.moved new.place n end) (sym size)
+            (subst (λ (h : Bool). IsPlace tells h new.moved new.place (size_for old) end) (sym (has_same old new same)) place);
         room = omega (arith, ap (λ (l : Legs). calls_ahead l new.place) legs, room);
       };
       nearer = omega (arith, ap (λ (l : Legs). turns_ahead l (size_for new) new.place) legs, ap (λ (n : ℕ). turns_ahead (legs_of old) n new.place) size, near);

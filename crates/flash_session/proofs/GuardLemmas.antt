@@ -106,7 +106,7 @@ module _ (tells : Bool) (told : IsTrue tells) (goal : List ℕ) (a : Stand) (way
   at_close is closes whole before =
       let standing = subst (λ (q : Place). Stands (legs_for x goal) goal (setup_now x) a way q x.made (point_for x arena t.cells) x.calls.machine.return_at t)
       is stands in
-      let idle : t.operation ≡ None = subst (λ (q : Place). IsPlace tells (has_second x) x.second q (size_for x) t) is fit.place told in
+      let idle : t.operation ≡ None = subst (λ (q : Place). IsPlace tells (has_second x) x.moved q (size_for x) t) is fit.place told in
       let files : Leaves (file_half t) (file_half u) (IsWholeOrClosed body) =
       subst (λ (b : List ℕ). Leaves (file_half t) (file_half u) (IsWholeOrClosed b)) (ap (λ (f : List ℕ). drop 1 f) whole) (closes.moments told) in
       let cells : Leaves (cells_half t) (cells_half u) (λ c. c ≡ goal) =

@@ -5,6 +5,7 @@ use Rattle.std.proofs.lemmas.List.{append-nil}
 use Rattle.algo_calls.specs.declared.call.Call.TheVariants as call
 use Rattle.algo_calls.specs.Setups.{Setup}
 use Rattle.flash_session.specs.Moves.{Move, Reset, Load, Make}
+use Rattle.flash_session.specs.Regions.{RegionIndex, First, Second}
 use Rattle.flash_session.specs.Script.{RegionWork, Torn, Leg, Broken, torn_first, torn_rest, each_below, sector_moves, erase_moves, page_at, page_moves}
 use Rattle.flash_session.specs.Script.{has_verify}
 use Rattle.flash_session.specs.Script.{verify_moves, phase, phases, legs_of, script, kind_of}
@@ -82,29 +83,29 @@ opened s kind torn calls later some =
     ∙ ap (λ (l : List Move). Reset s torn ∷ Load s ∷ Make s (call.Init kind) [] ∷ l) (append_assoc calls (Make s (call.UnInit kind) [] ∷ []) later)
 
 -- a phase that has calls begins with a reset and a load, whatever the reset leaves
-pub begin_is : (l : Legs) (r : Bool) (p : Phase) → (phase_calls (leg_at l r).setup (leg_at l r).region_work p ≡ [] → ⊥) → (b : Broken) (torn : List ℕ)
+pub begin_is : (l : Legs) (r : RegionIndex) (p : Phase) → (phase_calls (leg_at l r).setup (leg_at l r).region_work p ≡ [] → ⊥) → (b : Broken) (torn : List ℕ)
     → rest_of l (at.Begin r p) (with_torn r p torn b) ≡ Reset (leg_at l r).setup torn ∷ Load (leg_at l r).setup ∷ rest_of l (at.Init r p) b
-begin_is l false stage.Erase some b torn =
+begin_is l First stage.Erase some b torn =
     opened l.first.setup 1 torn (phase_calls l.first.setup l.first.region_work stage.Erase)
-    (after_phase l.first.setup l.first.region_work stage.Erase (torn_at false b) (later_than l false b)) some
-begin_is l false stage.Program some b torn =
+    (after_phase l.first.setup l.first.region_work stage.Erase (torn_at First b) (later_than l First b)) some
+begin_is l First stage.Program some b torn =
     opened l.first.setup 2 torn (phase_calls l.first.setup l.first.region_work stage.Program)
-    (after_phase l.first.setup l.first.region_work stage.Program (torn_at false b) (later_than l false b)) some
-begin_is l false stage.Verify some b torn =
+    (after_phase l.first.setup l.first.region_work stage.Program (torn_at First b) (later_than l First b)) some
+begin_is l First stage.Verify some b torn =
     opened l.first.setup 3 torn (phase_calls l.first.setup l.first.region_work stage.Verify)
-    (after_phase l.first.setup l.first.region_work stage.Verify (torn_at false b) (later_than l false b)) some
-begin_is l true stage.Erase some b torn =
-    opened (leg_at l true).setup 1 torn (phase_calls (leg_at l true).setup (leg_at l true).region_work stage.Erase)
-    (after_phase (leg_at l true).setup (leg_at l true).region_work stage.Erase (torn_at true b) (later_than l true b)) some
-begin_is l true stage.Program some b torn =
-    opened (leg_at l true).setup 2 torn (phase_calls (leg_at l true).setup (leg_at l true).region_work stage.Program)
-    (after_phase (leg_at l true).setup (leg_at l true).region_work stage.Program (torn_at true b) (later_than l true b)) some
-begin_is l true stage.Verify some b torn =
-    opened (leg_at l true).setup 3 torn (phase_calls (leg_at l true).setup (leg_at l true).region_work stage.Verify)
-    (after_phase (leg_at l true).setup (leg_at l true).region_work stage.Verify (torn_at true b) (later_than l true b)) some
+    (after_phase l.first.setup l.first.region_work stage.Verify (torn_at First b) (later_than l First b)) some
+begin_is l Second stage.Erase some b torn =
+    opened (leg_at l Second).setup 1 torn (phase_calls (leg_at l Second).setup (leg_at l Second).region_work stage.Erase)
+    (after_phase (leg_at l Second).setup (leg_at l Second).region_work stage.Erase (torn_at Second b) (later_than l Second b)) some
+begin_is l Second stage.Program some b torn =
+    opened (leg_at l Second).setup 2 torn (phase_calls (leg_at l Second).setup (leg_at l Second).region_work stage.Program)
+    (after_phase (leg_at l Second).setup (leg_at l Second).region_work stage.Program (torn_at Second b) (later_than l Second b)) some
+begin_is l Second stage.Verify some b torn =
+    opened (leg_at l Second).setup 3 torn (phase_calls (leg_at l Second).setup (leg_at l Second).region_work stage.Verify)
+    (after_phase (leg_at l Second).setup (leg_at l Second).region_work stage.Verify (torn_at Second b) (later_than l Second b)) some
 
 -- one that has none is left out
-pub skip_is : (l : Legs) (r : Bool) (p : Phase) → phase_calls (leg_at l r).setup (leg_at l r).region_work p ≡ [] → (b : Broken)
+pub skip_is : (l : Legs) (r : RegionIndex) (p : Phase) → phase_calls (leg_at l r).setup (leg_at l r).region_work p ≡ [] → (b : Broken)
     → rest_of l (at.Begin r p) b ≡ after_phase (leg_at l r).setup (leg_at l r).region_work p (torn_at r b) (later_than l r b)
 skip_is l r p nothing b =
     ap (λ (m : List Move). m ++ after_phase (leg_at l r).setup (leg_at l r).region_work p (torn_at r b) (later_than l r b))
@@ -112,34 +113,34 @@ skip_is l r p nothing b =
 
 -- what follows the first region is the second one, where there is one
 behind_first : (first : Leg) (second : Option Leg) (b : Broken) → let l : Legs = record { first = first; second = second } in
-    later_than l false b ≡ rest_of l (after_region (is_some second) false) b
+    later_than l First b ≡ rest_of l (after_region (is_some second) First) b
 behind_first first None b = refl
 behind_first first (Some m) b = refl
 
-pub behind_is : (l : Legs) (r : Bool) (b : Broken) → later_than l r b ≡ rest_of l (after_region (is_some l.second) r) b
-behind_is l false b = behind_first l.first l.second b
-behind_is l true b = refl
+pub behind_is : (l : Legs) (r : RegionIndex) (b : Broken) → later_than l r b ≡ rest_of l (after_region (is_some l.second) r) b
+behind_is l First b = behind_first l.first l.second b
+behind_is l Second b = refl
 
-pub after_is : (l : Legs) (r : Bool) (p : Phase) (b : Broken)
+pub after_is : (l : Legs) (r : RegionIndex) (p : Phase) (b : Broken)
     → after_phase (leg_at l r).setup (leg_at l r).region_work p (torn_at r b) (later_than l r b) ≡ rest_of l (after (is_some l.second) r p) b
 after_is l r stage.Erase b = refl
 after_is l r stage.Program b = refl
 after_is l r stage.Verify b = behind_is l r b
 
 -- after its Init come its calls, and after them its UnInit
-pub init_is : (l : Legs) (r : Bool) (p : Phase) (b : Broken) → rest_of l (at.Init r p) b ≡ Make (leg_at l r).setup (call.Init (kind_of p)) [] ∷ rest_of l
+pub init_is : (l : Legs) (r : RegionIndex) (p : Phase) (b : Broken) → rest_of l (at.Init r p) b ≡ Make (leg_at l r).setup (call.Init (kind_of p)) [] ∷ rest_of l
     (at.Calls r p 0) b
 init_is l r p b =
     ap (λ (m : List Move). Make (leg_at l r).setup (call.Init (kind_of p)) [] ∷
     (m ++ closing (leg_at l r).setup (leg_at l r).region_work p (torn_at r b) (later_than l r b)))
     (sym (calls_all (leg_at l r).setup (leg_at l r).region_work p))
 
-pub call_is : (l : Legs) (r : Bool) (p : Phase) (k next : ℕ) (m : Move)
+pub call_is : (l : Legs) (r : RegionIndex) (p : Phase) (k next : ℕ) (m : Move)
     → calls_from (leg_at l r).setup (leg_at l r).region_work p k ≡ m ∷ calls_from (leg_at l r).setup (leg_at l r).region_work p next → (b : Broken)
     → rest_of l (at.Calls r p k) b ≡ m ∷ rest_of l (at.Calls r p next) b
 call_is l r p k next m is b = ap (λ (n : List Move). n ++ closing (leg_at l r).setup (leg_at l r).region_work p (torn_at r b) (later_than l r b)) is
 
-pub uninit_is : (l : Legs) (r : Bool) (p : Phase) (k : ℕ) → calls_from (leg_at l r).setup (leg_at l r).region_work p k ≡ [] → (b : Broken)
+pub uninit_is : (l : Legs) (r : RegionIndex) (p : Phase) (k : ℕ) → calls_from (leg_at l r).setup (leg_at l r).region_work p k ≡ [] → (b : Broken)
     → rest_of l (at.Calls r p k) b ≡ Make (leg_at l r).setup (call.UnInit (kind_of p)) [] ∷ rest_of l (after (is_some l.second) r p) b
 uninit_is l r p k nothing b =
     ap (λ (n : List Move). n ++ closing (leg_at l r).setup (leg_at l r).region_work p (torn_at r b) (later_than l r b)) nothing
@@ -175,7 +176,7 @@ script_more : (l : Legs) (b : Broken) → script (all_legs l) b ≡ legs_of (all
 unfolding script
 script_more l b = refl
 
-pub script_is : (l : Legs) (b : Broken) → script (all_legs l) b ≡ rest_of l (at.Begin false stage.Erase) b
+pub script_is : (l : Legs) (b : Broken) → script (all_legs l) b ≡ rest_of l (at.Begin First stage.Erase) b
 script_is l b =
     let one : List Move = phases l.first.setup l.first.region_work (torn_first b.legs) in
     let two : List Move = legs_of (option_to_list l.second) (torn_rest b.legs) in
@@ -183,4 +184,4 @@ script_is l b =
     ∙ ap (λ (m : List Move). m ++ last_reset l b) (legs_more l.first (option_to_list l.second) b.legs)
     ∙ append_assoc one two (last_reset l b)
     ∙ ap (λ (m : List Move). one ++ m) (second_is l.second (torn_rest b.legs) (last_reset l b))
-    ∙ three_of l.first.setup l.first.region_work (torn_first b.legs) (later_than l false b)
+    ∙ three_of l.first.setup l.first.region_work (torn_first b.legs) (later_than l First b)

@@ -1,5 +1,5 @@
 -- The next move of a script.
-use Rattle.std.proofs.Common.{◌≡◌, ◌+◌, ◌∙◌, ℕ, Bool, true, false, IsTrue, is_some, unwrap_or, Option, Some, None, List, [], ◌∷◌, length}
+use Rattle.std.proofs.Common.{◌≡◌, ◌+◌, ◌∙◌, ℕ, Bool, true, false, cond, IsTrue, is_some, unwrap_or, Option, Some, None, List, [], ◌∷◌, length}
 use Rattle.std.proofs.Common.{refl, sym, ap, subst, arith}
 use Rattle.algo_calls.specs.declared.call.Call.{Call}
 use Rattle.algo_calls.specs.declared.call.Call.TheVariants as call
@@ -7,6 +7,7 @@ use Rattle.algo_calls.specs.Setups.{Setup}
 use Rattle.algo_calls.specs.Shows.{setup_at, MayAsk}
 use Rattle.algo_calls.specs.declared.calls_in.CallsIn.{CallsIn}
 use Rattle.flash_session.specs.Moves.{Move, Reset, Load, Make}
+use Rattle.flash_session.specs.Regions.{RegionIndex, First, Second, IsThere, is_last}
 use Rattle.flash_session.specs.Script.{Broken, Leg, leg, kind_of}
 use Rattle.flash_session.specs.declared.phase.Phase.{Phase}
 use Rattle.flash_session.specs.declared.phase.Phase.TheVariants as stage
@@ -28,12 +29,12 @@ use Rattle.flash_session.proofs.RestLemmas.{calls_all, begin_is, skip_is, behind
 -- ---- what is done in a region
 
 -- the region that moved last has the calls at hand
-pub moved_region : (moved : Bool) (here : CallsIn) (other : Option CallsIn) → of_region moved moved here other ≡ here
-moved_region false here other = refl
-moved_region true here other = refl
+pub moved_region : (moved : RegionIndex) (here : CallsIn) (other : Option CallsIn) → of_region moved moved here other ≡ here
+moved_region First here other = refl
+moved_region Second here other = refl
 
-pub setup_moved : (g : Player) (r : Bool) → g.second ≡ r → setup_on g r ≡ setup_now g
-setup_moved g r is = ap (λ (m : Bool). setup_at (of_region r m g.calls g.other)) is ∙ ap (λ (c : CallsIn). setup_at c) (moved_region r g.calls g.other)
+pub setup_moved : (g : Player) (r : RegionIndex) → g.moved ≡ r → setup_on g r ≡ setup_now g
+setup_moved g r is = ap (λ (m : RegionIndex). setup_at (of_region r m g.calls g.other)) is ∙ ap (λ (c : CallsIn). setup_at c) (moved_region r g.calls g.other)
 
 second_leg : (o : Option RegionPlan) (s : Setup) (goal : List ℕ) (m : Leg) (p : RegionPlan) → IsTrue (is_some o)
     → unwrap_or (later_leg s o goal) m ≡ leg s (work_in (unwrap_or o p) goal)
@@ -44,35 +45,40 @@ second_there : (o : Option RegionPlan) (s : Setup) (goal : List ℕ) → is_some
 second_there None s goal = refl
 second_there (Some q) s goal = refl
 
-after_cursor : (has moved r : Bool) (p : Phase) → (IsTrue r → IsTrue has) → IsCursor has moved (after has r p)
+after_cursor : (has : Bool) (moved r : RegionIndex) (p : Phase) → IsThere has r → IsCursor has moved (after has r p)
 after_cursor has moved r stage.Erase there = there
 after_cursor has moved r stage.Program there = there
-after_cursor has moved true stage.Verify there = tt
-after_cursor false moved false stage.Verify there = tt
-after_cursor true moved false stage.Verify there = λ second. refl
+after_cursor has moved Second stage.Verify there = tt
+after_cursor false moved First stage.Verify there = tt
+after_cursor true moved First stage.Verify there = refl
+
+pub not_last : (has : Bool) (r : RegionIndex) → is_last has r ≡ false → (r ≡ First) × IsTrue has
+not_last false First is = cc
+not_last true First is = (refl, refl)
+not_last has Second is = cc
 
 module _ (g : Player) where
   abbrev legs : List ℕ → Legs
   legs goal = legs_for g goal
 
-  pub leg_is : (r : Bool) → (IsTrue r → IsTrue (has_second g)) → (goal : List ℕ) → leg_at (legs goal) r ≡ leg (setup_on g r) (work_in (region_in g.work r) goal)
-  leg_is false there goal = refl
-  leg_is true there goal = second_leg g.work.second (setup_on g true) goal (legs goal).first g.work.first (there refl)
+  pub leg_is : (r : RegionIndex) → IsThere (has_second g) r → (goal : List ℕ) → leg_at (legs goal) r ≡ leg (setup_on g r) (work_in (region_in g.work r) goal)
+  leg_is First there goal = refl
+  leg_is Second there goal = second_leg g.work.second (setup_on g Second) goal (legs goal).first g.work.first there
 
   has_is : (goal : List ℕ) → is_some (legs goal).second ≡ has_second g
-  has_is goal = second_there g.work.second (setup_on g true) goal
+  has_is goal = second_there g.work.second (setup_on g Second) goal
 
-  pub part_on : IsScripted g → (r : Bool) → (IsTrue r → IsTrue (has_second g)) → IsRegionPlanOn (setup_on g r) (size_for g) (length g.page.items)
+  pub part_on : IsScripted g → (r : RegionIndex) → IsThere (has_second g) r → IsRegionPlanOn (setup_on g r) (size_for g) (length g.page.items)
       (region_in g.work r)
-  part_on scripted false there = scripted.first
-  part_on scripted true there = scripted.second (there refl)
+  part_on scripted First there = scripted.first
+  part_on scripted Second there = scripted.second there
 
   -- ---- whether there are calls
 
   nonempty : (m : Move) (l : List Move) → m ∷ l ≡ [] → ⊥
   nonempty m l is = cc
 
-  pub any_item : (r : Bool) (p : Phase) → (IsTrue r → IsTrue (has_second g)) → (o : Option Item)
+  pub any_item : (r : RegionIndex) (p : Phase) → IsThere (has_second g) r → (o : Option Item)
       → IsItem (setup_on g r) (region_in g.work r) (calls_on_phase p (setup_on g r) (region_in g.work r)) 0 o → has_phase g r p (is_some o)
   any_item r p there None is = λ goal.
       subst (λ (m : Leg). phase_calls m.setup m.region_work p ≡ []) (sym (leg_is r there goal))
@@ -85,67 +91,65 @@ module _ (g : Player) where
 
   -- ---- the first phase that has some
 
-  pub phase_here : (r : Bool) (p : Phase) → has_phase g r p true → IsPhaseFrom g r p (Some p)
+  pub phase_here : (r : RegionIndex) (p : Phase) → has_phase g r p true → IsPhaseFrom g r p (Some p)
   phase_here r p some = (λ goal b. refl, some)
 
-  pub phase_none : (r : Bool) → has_phase g r stage.Verify false → IsPhaseFrom g r stage.Verify None
+  pub phase_none : (r : RegionIndex) → has_phase g r stage.Verify false → IsPhaseFrom g r stage.Verify None
   phase_none r none = λ goal b. skip_is (legs goal) r stage.Verify (none goal) b
 
-  phase_on : (r : Bool) (p q : Phase) → ((goal : List ℕ) (b : Broken) → rest_of (legs goal) (at.Begin r p) b ≡ rest_of (legs goal) (at.Begin r q) b)
+  phase_on : (r : RegionIndex) (p q : Phase) → ((goal : List ℕ) (b : Broken) → rest_of (legs goal) (at.Begin r p) b ≡ rest_of (legs goal) (at.Begin r q) b)
       → (o : Option Phase) → IsPhaseFrom g r q o → IsPhaseFrom g r p o
   phase_on r p q same None is = λ goal b. same goal b ∙ is goal b
   phase_on r p q same (Some x) is = (λ goal b. same goal b ∙ is.0 goal b, is.1)
 
-  pub erase_on : (r : Bool) → has_phase g r stage.Erase false → (o : Option Phase) → IsPhaseFrom g r stage.Program o → IsPhaseFrom g r stage.Erase o
+  pub erase_on : (r : RegionIndex) → has_phase g r stage.Erase false → (o : Option Phase) → IsPhaseFrom g r stage.Program o → IsPhaseFrom g r stage.Erase o
   erase_on r none o is = phase_on r stage.Erase stage.Program (λ goal b. skip_is (legs goal) r stage.Erase (none goal) b) o is
 
-  pub program_on : (r : Bool) → has_phase g r stage.Program false → (o : Option Phase) → IsPhaseFrom g r stage.Verify o → IsPhaseFrom g r stage.Program o
+  pub program_on : (r : RegionIndex) → has_phase g r stage.Program false → (o : Option Phase) → IsPhaseFrom g r stage.Verify o → IsPhaseFrom g r stage.Program o
   program_on r none o is = phase_on r stage.Program stage.Verify (λ goal b. skip_is (legs goal) r stage.Program (none goal) b) o is
 
   -- ---- where a phase begins
 
-  begins : (r : Bool) (p : Phase) → (IsTrue r → IsTrue (has_second g)) → has_phase g r p true → (goal : List ℕ) (b : Broken) (torn : List ℕ)
+  begins : (r : RegionIndex) (p : Phase) → IsThere (has_second g) r → has_phase g r p true → (goal : List ℕ) (b : Broken) (torn : List ℕ)
       → rest_of (legs goal) (at.Begin r p) (with_torn r p torn b) ≡ Reset (setup_on g r) torn ∷ Load (setup_on g r) ∷ rest_of (legs goal) (at.Init r p) b
   begins r p there some goal b torn = begin_is (legs goal) r p (some goal) b torn
       ∙ ap (λ (m : Leg). Reset m.setup torn ∷ Load m.setup ∷ rest_of (legs goal) (at.Init r p) b) (leg_is r there goal)
 
-  second_behind : IsTrue (has_second g) → (goal : List ℕ) (b : Broken) → later_than (legs goal) false b ≡ rest_of (legs goal) (at.Begin true stage.Erase) b
-  second_behind has goal b = behind_is (legs goal) false b ∙ ap (λ (h : Bool). rest_of (legs goal) (after_region h false) b) (has_is goal ∙ has)
+  second_behind : IsTrue (has_second g) → (goal : List ℕ) (b : Broken) → later_than (legs goal) First b ≡ rest_of (legs goal) (at.Begin Second stage.Erase) b
+  second_behind has goal b = behind_is (legs goal) First b ∙ ap (λ (h : Bool). rest_of (legs goal) (after_region h First) b) (has_is goal ∙ has)
 
-  pub second_begins : (p : Phase) → IsTrue (has_second g) → IsPhaseFrom g true stage.Erase (Some p) → IsStepBehind g false (step.Begin true p)
+  pub second_begins : (p : Phase) → IsTrue (has_second g) → IsPhaseFrom g Second stage.Erase (Some p) → IsStepBehind g First (step.Begin Second p)
   second_begins p has is = (
-    λ goal b torn. second_behind has goal (with_torn true p torn b) ∙ is.0 goal (with_torn true p torn b)
-        ∙ begins true p (λ second. has) is.1 goal b torn,
-    λ second. has,
+    λ goal b torn. second_behind has goal (with_torn Second p torn b) ∙ is.0 goal (with_torn Second p torn b)
+        ∙ begins Second p has is.1 goal b torn,
+    has,
   )
 
-  pub second_ends : IsTrue (has_second g) → IsPhaseFrom g true stage.Erase None → IsStepBehind g false step.Last
+  pub second_ends : IsTrue (has_second g) → IsPhaseFrom g Second stage.Erase None → IsStepBehind g First step.Last
   second_ends has is = λ goal b torn. second_behind has goal (with_last torn b) ∙ is goal (with_last torn b)
 
-  pub behind_second : IsStepBehind g true step.Last
-  behind_second = λ goal b torn. refl
+  pub behind_last : (r : RegionIndex) → is_last (has_second g) r ≡ true → IsStepBehind g r step.Last
+  behind_last r last = λ goal b torn. behind_is (legs goal) r (with_last torn b)
+      ∙ ap (λ (h : Bool). rest_of (legs goal) (after_region h r) (with_last torn b)) (has_is goal)
+      ∙ ap (λ (d : Bool). rest_of (legs goal) (cond d at.Last (at.Begin Second stage.Erase)) (with_last torn b)) last
 
-  pub behind_alone : has_second g ≡ false → IsStepBehind g false step.Last
-  behind_alone alone = λ goal b torn. behind_is (legs goal) false (with_last torn b)
-      ∙ ap (λ (h : Bool). rest_of (legs goal) (after_region h false) (with_last torn b)) (has_is goal ∙ alone)
-
-  pub step_begins : (r : Bool) (p q : Phase) → (IsTrue r → IsTrue (has_second g)) → IsPhaseFrom g r p (Some q) → IsStep g (at.Begin r p) (step.Begin r q)
+  pub step_begins : (r : RegionIndex) (p q : Phase) → IsThere (has_second g) r → IsPhaseFrom g r p (Some q) → IsStep g (at.Begin r p) (step.Begin r q)
   step_begins r p q there is = (λ goal b torn. is.0 goal (with_torn r q torn b) ∙ begins r q there is.1 goal b torn, there)
 
-  pub step_behind : (r : Bool) (p : Phase) (x : Step) → IsPhaseFrom g r p None → IsStepBehind g r x → IsStep g (at.Begin r p) x
+  pub step_behind : (r : RegionIndex) (p : Phase) (x : Step) → IsPhaseFrom g r p None → IsStepBehind g r x → IsStep g (at.Begin r p) x
   step_behind r p (step.Begin q k) none is = (λ goal b torn. none goal (with_torn q k torn b) ∙ is.0 goal b torn, is.1)
   step_behind r p (step.Call c from len next) none is = (λ goal b. none goal b ∙ is.0 goal b, is.1, is.2)
   step_behind r p step.Last none is = λ goal b torn. none goal (with_last torn b) ∙ is goal b torn
 
   -- ---- a call
 
-  setup_here : (r : Bool) → g.second ≡ r → (IsTrue r → IsTrue (has_second g)) → (goal : List ℕ) → (leg_at (legs goal) r).setup ≡ setup_now g
+  setup_here : (r : RegionIndex) → g.moved ≡ r → IsThere (has_second g) r → (goal : List ℕ) → (leg_at (legs goal) r).setup ≡ setup_now g
   setup_here r moved there goal = ap (λ (m : Leg). m.setup) (leg_is r there goal) ∙ setup_moved g r moved
 
   without : (c : Call) → ((bytes : List ℕ) → bytes ≡ [] → MayAsk (setup_now g) c bytes) → IsAsked g c 0 0
   without c may = record { within = omega arith; fits = omega arith; may = λ bytes none. may bytes (no_bytes bytes none) }
 
-  pub step_init : (r : Bool) (p : Phase) → IsCursor (has_second g) g.second (at.Init r p)
+  pub step_init : (r : RegionIndex) (p : Phase) → IsCursor (has_second g) g.moved (at.Init r p)
       → IsStep g (at.Init r p) (step.Call (call.Init (kind_of p)) 0 0 (at.Calls r p 0))
   step_init r p is = (
     λ goal b. init_is (legs goal) r p b ∙ ap (λ (s : Setup). Make s (call.Init (kind_of p)) [] ∷ rest_of (legs goal) (at.Calls r p 0) b)
@@ -154,7 +158,7 @@ module _ (g : Player) where
     is,
   )
 
-  pub step_uninit : (r : Bool) (p : Phase) (index : ℕ) → IsCursor (has_second g) g.second (at.Calls r p index)
+  pub step_uninit : (r : RegionIndex) (p : Phase) (index : ℕ) → IsCursor (has_second g) g.moved (at.Calls r p index)
       → ((goal : List ℕ) → calls_on_phase p (setup_on g r) (region_in g.work r) goal index ≡ [])
       → IsStep g (at.Calls r p index) (step.Call (call.UnInit (kind_of p)) 0 0 (after (has_second g) r p))
   step_uninit r p index is none = (
@@ -163,10 +167,10 @@ module _ (g : Player) where
         ∙ ap (λ (s : Setup). Make s (call.UnInit (kind_of p)) [] ∷ rest_of (legs goal) (after (is_some (legs goal).second) r p) b) (setup_here r is.0 is.1 goal)
         ∙ ap (λ (h : Bool). Make (setup_now g) (call.UnInit (kind_of p)) [] ∷ rest_of (legs goal) (after h r p) b) (has_is goal),
     without (call.UnInit (kind_of p)) (λ bytes none. none),
-    after_cursor (has_second g) g.second r p is.1,
+    after_cursor (has_second g) g.moved r p is.1,
   )
 
-  pub step_item : IsScripted g → (r : Bool) (p : Phase) (index : ℕ) (item : Item) → IsCursor (has_second g) g.second (at.Calls r p index)
+  pub step_item : IsScripted g → (r : RegionIndex) (p : Phase) (index : ℕ) (item : Item) → IsCursor (has_second g) g.moved (at.Calls r p index)
       → IsNext (setup_on g r) (region_in g.work r) (calls_on_phase p (setup_on g r) (region_in g.work r)) index item
       → IsStep g (at.Calls r p index) (step.Call item.call ((region_in g.work r).start + item.from) item.len (at.Calls r p (item.index + 1)))
   step_item scripted r p index item is next =

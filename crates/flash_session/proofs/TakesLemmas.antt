@@ -18,10 +18,11 @@ use Rattle.flash_session.specs.declared.cursor.Place.TheVariants as place
 use Rattle.flash_session.specs.declared.cursor.Step.TheVariants as step
 use Rattle.flash_session.specs.declared.target_end.TargetEnd.TheVariants as ended
 use Rattle.flash_session.specs.declared.player.Player.{Player}
+use Rattle.flash_session.specs.Regions.{RegionIndex}
 use Rattle.flash_session.specs.Takes.{IsKind, FromCursor, FromCall, TakesOn, Slice, SliceOf, IsStill}
 use Rattle.flash_session.specs.Turns.{judged, Judges}
 
-pub begins_so : (c : Cursor) (r : Bool) (p : Phase) → IsKind c (step.Begin r p) → FromCursor c (place.At (at.Init r p))
+pub begins_so : (c : Cursor) (r : RegionIndex) (p : Phase) → IsKind c (step.Begin r p) → FromCursor c (place.At (at.Init r p))
 begins_so (at.Begin q k) r p is = tt
 begins_so (at.Init q k) r p is = absurd is
 begins_so (at.Calls q k i) r p is = absurd is
@@ -40,7 +41,7 @@ resets_so (at.Init q k) is = absurd is
 resets_so (at.Calls q k i) is = absurd is
 resets_so at.Last is = refl
 
-pub breaks_so : (c : Cursor) (r : Bool) (p : Phase) → IsKind c (step.Begin r p) → FromCursor c (place.Ended ended.DeviceFault)
+pub breaks_so : (c : Cursor) (r : RegionIndex) (p : Phase) → IsKind c (step.Begin r p) → FromCursor c (place.Ended ended.DeviceFault)
 breaks_so (at.Begin q k) r p is = refl
 breaks_so (at.Init q k) r p is = absurd is
 breaks_so (at.Calls q k i) r p is = absurd is

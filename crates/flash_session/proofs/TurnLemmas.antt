@@ -20,6 +20,7 @@ use Rattle.flash_session.specs.Moves.{Move, Reset, Load, Stand, stand_at, Failur
 use Rattle.flash_session.specs.Differs.{DiffersFirst, FindsIn}
 use Rattle.flash_session.specs.Outcome.{GoTo}
 use Rattle.flash_session.specs.Plays.{BreaksOff}
+use Rattle.flash_session.specs.Regions.{RegionIndex}
 use Rattle.flash_session.specs.Script.{Broken, script}
 use Rattle.flash_session.proofs.Playing.{left_more}
 use Rattle.flash_session.proofs.Runs.{run_one, run_then, run_stops, on_more, end_on}
@@ -42,7 +43,7 @@ pub way_on : (l : Legs) (way : List Move) (later next : Broken → List Move) (m
 way_on l way later next m on is b = ((on b).0, (on b).1 ∙ ap (λ (x : List Move). way ++ x) (is b) ∙ sym (append_assoc way (m ∷ []) (next b)))
 
 -- by the reset and the load of a phase, which left these bytes
-pub way_begun : (l : Legs) (s : Setup) (way : List Move) (c : Cursor) (r : Bool) (p : Phase) (torn : List ℕ) → OnWay l way (rest_of l c)
+pub way_begun : (l : Legs) (s : Setup) (way : List Move) (c : Cursor) (r : RegionIndex) (p : Phase) (torn : List ℕ) → OnWay l way (rest_of l c)
     → ((b : Broken) (torn : List ℕ) → rest_of l c (with_torn r p torn b) ≡ Reset s torn ∷ Load s ∷ rest_of l (at.Init r p) b)
     → OnWay l (way ++ (Reset s torn ∷ Load s ∷ [])) (rest_of l (at.Init r p))
 way_begun l s way c r p torn on is b = (

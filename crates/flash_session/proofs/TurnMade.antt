@@ -40,6 +40,7 @@ use Rattle.algo_calls.proofs.ResetLemmas.{reset_idle}
 use Rattle.flash_session.specs.Differs.{DiffersFirst, FindsIn}
 use Rattle.flash_session.specs.Moves.{Move, Reset, Load, Make, Stand, stand_at, Failure, run, IsLeftOnWay, calls_in}
 use Rattle.flash_session.specs.Plays.{BreaksOff}
+use Rattle.flash_session.specs.Regions.{RegionIndex, First}
 use Rattle.flash_session.specs.Script.{Broken}
 use Rattle.flash_session.proofs.Playing.{left_more}
 use Rattle.flash_session.specs.declared.phase.Phase.{Phase}
@@ -125,14 +126,14 @@ module _ (tells : Bool) (goal : List ℕ) (old : Player) (arena : List (List ℕ
   turns_before p is = ap (turns_ahead (legs_of old) (size_for old)) is
 
   -- the calls at hand alone changed
-  kept : (new : Player) → setup_at new.calls ≡ setup_at old.calls → map_of new.calls ≡ map_of old.calls → new.second ≡ old.second → new.other ≡ old.other
+  kept : (new : Player) → setup_at new.calls ≡ setup_at old.calls → map_of new.calls ≡ map_of old.calls → new.moved ≡ old.moved → new.other ≡ old.other
       → new.work ≡ old.work → new.window ≡ old.window → SameTarget old new
-  kept new setup map second other work window = same_by old new setup map second other work window
+  kept new setup map moved other work window = same_by old new setup map moved other work window
 
   -- ---- a phase begins
 
-  module _ (c : Cursor) (is : old.place ≡ place.At c) (r : Bool) (p : Phase) (next : IsStep old c (step.Begin r p)) (mid : CallsIn) (arena1 : List (List ℕ))
-      (turned : Player) (arena2 : List (List ℕ)) (fin : CallsIn) (arena3 : List (List ℕ)) (end : BenchState)
+  module _ (c : Cursor) (is : old.place ≡ place.At c) (r : RegionIndex) (p : Phase) (next : IsStep old c (step.Begin r p)) (mid : CallsIn)
+      (arena1 : List (List ℕ)) (turned : Player) (arena2 : List (List ℕ)) (fin : CallsIn) (arena3 : List (List ℕ)) (end : BenchState)
       (reset_setup : setup_at mid ≡ setup_at old.calls) (reset_map : map_of mid ≡ map_of old.calls) (reset_only : OnlyIn old.window arena arena1)
       (settles : Settles tells start end) (counted : end.device_faults ≡ start.device_faults) (now : AgreesAt tells mid end)
       (gives : IsTrue tells → ResetGives s here.world start.operation (world_at mid arena1 old.window end.cells))
@@ -278,13 +279,13 @@ module _ (tells : Bool) (goal : List ℕ) (old : Player) (arena : List (List ℕ
     last_is = kept last reset_setup reset_map refl refl refl refl
 
     abbrev first_setup : Setup
-    first_setup = setup_on old false
+    first_setup = setup_on old First
 
     -- it is the reset of the first region's machine
     first_gives : IsTrue tells → ResetGives first_setup here.world start.operation (world_at fin arena1 old.window end.cells)
     first_gives told = let reset = gives told in record {
       torn = reset.torn;
-      leaves = reset.leaves ∙ sym (reset_same first_setup s here.world start.operation reset.torn (size_on old fit.scripted.twins false));
+      leaves = reset.leaves ∙ sym (reset_same first_setup s here.world start.operation reset.torn (size_on old fit.scripted.twins First));
     }
 
     last_told : IsTrue tells → (a : Stand) (way : List Move) → StandsOn a way goal old arena start → GoesOn a way goal last arena1 start end
@@ -341,8 +342,8 @@ module _ (tells : Bool) (goal : List ℕ) (old : Player) (arena : List (List ℕ
         (page : length ready.page.items ≡ length old.page.items)
         (ready_is : ready ≡ record old { calls = ready.calls; page = ready.page; place = place.In call len left_over nx })
         (counted : end.store_faults ≡ start.store_faults) where
-      ready_second_is : ready.second ≡ old.second
-      ready_second_is = ap (λ (g : Player). g.second) ready_is
+      ready_moved_is : ready.moved ≡ old.moved
+      ready_moved_is = ap (λ (g : Player). g.moved) ready_is
 
       ready_other_is : ready.other ≡ old.other
       ready_other_is = ap (λ (g : Player). g.other) ready_is
@@ -357,7 +358,7 @@ module _ (tells : Bool) (goal : List ℕ) (old : Player) (arena : List (List ℕ
       ready_place_is = ap (λ (g : Player). g.place) ready_is
 
       ready_same : SameTarget old ready
-      ready_same = kept ready prepared.setup (ap (λ (u : ControlUnit). unit_map u) prepared.unit) ready_second_is ready_other_is
+      ready_same = kept ready prepared.setup (ap (λ (u : ControlUnit). unit_map u) prepared.unit) ready_moved_is ready_other_is
           (ap (λ (g : Player). g.work) ready_is) ready_window_is
 
       ready_told : IsTrue tells → (a : Stand) (way : List Move) → StandsOn a way goal old arena start → GoesOn a way goal ready arena1 start end
@@ -401,12 +402,12 @@ module _ (tells : Bool) (goal : List ℕ) (old : Player) (arena : List (List ℕ
 
       pub ready_turn : Turns tells goal old arena start ready arena1 end
       ready_turn = turn_made tells goal old ready arena arena1 start end fit ready_same page
-          (twins_still old ready ready_same ready_second_is ready_other_is fit.scripted.twins) (ap (λ (u : ControlUnit). unit_map u) prepared.unit)
+          (twins_still old ready ready_same ready_moved_is ready_other_is fit.scripted.twins) (ap (λ (u : ControlUnit). unit_map u) prepared.unit)
           prepared.only
           (subst (λ (w : ℕ). Fits ready.calls arena1 w) (sym ready_window_is) prepared.fits)
           (agrees_by tells old.calls ready.calls end prepared.unit unmoved)
-          (subst (λ (p : Place). IsPlace tells (has_second old) ready.second p (size_for old) end) (sym ready_place_is)
-          (subst (λ (m : Bool). IsCursor (has_second old) m nx) (sym ready_second_is) next.2))
+          (subst (λ (p : Place). IsPlace tells (has_second old) ready.moved p (size_for old) end) (sym ready_place_is)
+          (subst (λ (m : RegionIndex). IsCursor (has_second old) m nx) (sym ready_moved_is) next.2))
           (omega (
             arith,
             fit.room,
@@ -442,7 +443,7 @@ module _ (tells : Bool) (goal : List ℕ) (old : Player) (arena : List (List ℕ
       unread_window = ap (λ (g : Player). g.window) unread_is
 
       unread_same : SameTarget old unread
-      unread_same = kept unread (ap (λ (k : CallsIn). setup_at k) same.0) (ap (λ (k : CallsIn). map_of k) same.0) (ap (λ (g : Player). g.second) unread_is)
+      unread_same = kept unread (ap (λ (k : CallsIn). setup_at k) same.0) (ap (λ (k : CallsIn). map_of k) same.0) (ap (λ (g : Player). g.moved) unread_is)
           (ap (λ (g : Player). g.other) unread_is) (ap (λ (g : Player). g.work) unread_is) unread_window
 
       unread_told : IsTrue tells → (a : Stand) (way : List Move) → StandsOn a way goal old arena start → GoesOn a way goal unread arena1 start end
@@ -458,14 +459,14 @@ module _ (tells : Bool) (goal : List ℕ) (old : Player) (arena : List (List ℕ
 
       pub prepare_unread : Turns tells goal old arena start unread arena1 end
       prepare_unread = turn_made tells goal old unread arena arena1 start end fit unread_same page
-          (twins_still old unread unread_same (ap (λ (g : Player). g.second) unread_is) (ap (λ (g : Player). g.other) unread_is) fit.scripted.twins)
+          (twins_still old unread unread_same (ap (λ (g : Player). g.moved) unread_is) (ap (λ (g : Player). g.other) unread_is) fit.scripted.twins)
           (ap (λ (k : CallsIn). map_of k) same.0)
           (subst (λ (l : List (List ℕ)). OnlyIn old.window arena l) (sym same.1) (only_here arena old.window))
           (subst (λ (w : ℕ). Fits unread.calls arena1 w) (sym unread_window)
           (subst (λ (l : List (List ℕ)). Fits unread.calls l old.window) (sym same.1)
           (subst (λ (k : CallsIn). Fits k arena old.window) (sym same.0) fit.fits)))
           (agrees_by tells old.calls unread.calls end (ap (λ (k : CallsIn). k.machine.unit) same.0) unmoved)
-          (subst (λ (p : Place). IsPlace tells (has_second old) unread.second p (size_for old) end) (sym unread_place) tt)
+          (subst (λ (p : Place). IsPlace tells (has_second old) unread.moved p (size_for old) end) (sym unread_place) tt)
           (omega (arith, fit.room, ap (λ (g : Player). g.made) unread_is, ap (λ (p : Place). calls_ahead (legs_of old) p) unread_place))
           (omega (arith, turns_before (place.At c) is, ap (λ (p : Place). turns_ahead (legs_of old) (size_for old) p) unread_place))
           reads.cells.count
@@ -492,8 +493,8 @@ module _ (tells : Bool) (goal : List ℕ) (old : Player) (arena : List (List ℕ
         end → SliceFrom return_at here start rest less steps e there end
     sliced e return_at back one = subst (λ (n : ℕ). SliceFrom n here start rest less steps e there end) back one
 
-    cursor_in : IsCursor (has_second old) old.second nx
-    cursor_in = subst (λ (p : Place). IsPlace tells (has_second old) old.second p (size_for old) start) is fit.place
+    cursor_in : IsCursor (has_second old) old.moved nx
+    cursor_in = subst (λ (p : Place). IsPlace tells (has_second old) old.moved p (size_for old) start) is fit.place
 
     module _ (one : Slices tells old.calls arena old.window start rest less steps slice.More fin arena1 end) (some : 1 ≤ steps) where
       abbrev further : Player
@@ -538,7 +539,7 @@ module _ (tells : Bool) (goal : List ℕ) (old : Player) (arena : List (List ℕ
           (record { read = file_kept tells start end one.file; other = λ z. z })) one.cause
           (none_counted start.store_faults end.store_faults one.file.faults) further_told
 
-    judged_place : (x : CallEnd) (size : ℕ) → IsPlace tells (has_second old) old.second (judged old.made call nx x) size end
+    judged_place : (x : CallEnd) (size : ℕ) → IsPlace tells (has_second old) old.moved (judged old.made call nx x) size end
     judged_place call_end.Done size = cursor_in
     judged_place (call_end.Refused r0) size = record { numbered = omega arith; failed = refl; other = refl }
     judged_place (call_end.Ended e) size = record { numbered = omega arith; failed = refl; other = refl }
@@ -606,8 +607,8 @@ module _ (tells : Bool) (goal : List ℕ) (old : Player) (arena : List (List ℕ
 
   -- ---- where a comparison stands
 
-  compare_place : (at : ℕ) → old.place ≡ place.Comparing at → IsPlace tells (has_second old) old.second (place.Comparing at) (size_for old) start
-  compare_place at is = subst (λ (p : Place). IsPlace tells (has_second old) old.second p (size_for old) start) is fit.place
+  compare_place : (at : ℕ) → old.place ≡ place.Comparing at → IsPlace tells (has_second old) old.moved (place.Comparing at) (size_for old) start
+  compare_place at is = subst (λ (p : Place). IsPlace tells (has_second old) old.moved p (size_for old) start) is fit.place
 
   pub compare_at : (at : ℕ) → old.place ≡ place.Comparing at → at < start.cell_count
   compare_at at is = omega (arith, (compare_place at is).0, fit.agrees.count, fit.wanted)
@@ -630,7 +631,7 @@ module _ (tells : Bool) (goal : List ℕ) (old : Player) (arena : List (List ℕ
     stays_idle told = reads.cells.operation told ∙ compare_idle at is told
 
     -- where the place after it holds of the cells as they were
-    compare_turn : (p : Place) → IsPlace tells (has_second old) old.second p (size_for old) end → calls_ahead (legs_of old) p ≡ 0
+    compare_turn : (p : Place) → IsPlace tells (has_second old) old.moved p (size_for old) end → calls_ahead (legs_of old) p ≡ 0
         → turns_ahead (legs_of old) (size_for old) p < (size_for old - at) + 2
         → IsCounted start.device_faults end.device_faults (is_device_fault (place_fault p))
         → IsCounted start.store_faults end.store_faults (is_store_fault (place_fault p)) → (IsDone p → ⊥)

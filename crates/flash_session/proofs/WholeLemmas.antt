@@ -11,6 +11,7 @@ use Rattle.flash_session.specs.declared.session.SessionEnd.{SessionEnd}
 use Rattle.flash_session.specs.declared.session.SessionEnd.TheVariants as end
 use Rattle.flash_session.specs.Moves.{Move, Stand, stand_at, run, IsLeftOnWay}
 use Rattle.flash_session.specs.Outcome.{EndsIn, Follows, IsReached}
+use Rattle.flash_session.specs.Regions.{RegionIndex, First}
 use Rattle.flash_session.specs.Script.{Leg, Broken, script}
 use Rattle.flash_session.proofs.Playing.{left_more, file_then}
 use Rattle.flash_session.specs.declared.phase.Phase.TheVariants as stage
@@ -75,7 +76,7 @@ read_by tells (place.Comparing at) q s t playing turn = turn
 read_by tells place.Closing q s t playing turn = absurd playing
 read_by tells (place.Ended e) q s t playing turn = absurd playing
 
-before_close : (tells has moved : Bool) (p : Place) (size : ℕ) (b : BenchState) → IsPlace tells has moved p size b → (IsDone p → ⊥) → IsPlayed p
+before_close : (tells has : Bool) (moved : RegionIndex) (p : Place) (size : ℕ) (b : BenchState) → IsPlace tells has moved p size b → (IsDone p → ⊥) → IsPlayed p
 before_close tells has moved (place.At c) size b is other = tt
 before_close tells has moved (place.In call len left next) size b is other = tt
 before_close tells has moved (place.Comparing at) size b is other = tt
@@ -116,7 +117,7 @@ played_here tells goal x arena s law fit playing =
       same = same_here x;
       page = refl;
       fit = fit;
-      before = before_close tells (has_second x) x.second x.place (size_for x) s fit.place (λ done. absurd (not_done x.place playing done));
+      before = before_close tells (has_second x) x.moved x.place (size_for x) s fit.place (λ done. absurd (not_done x.place playing done));
       count = refl;
       file = record { file = λ told. refl; moments = adds_nothing_here (file_half s) };
       device = subst (λ (b : Bool). IsCounted s.device_faults s.device_faults b) (sym (ap is_device_fault still))
@@ -141,7 +142,7 @@ played_then tells goal x y z arena arena1 arena2 s t u so_far playing turn =
       same = same_then x y z so_far.same turn.same;
       page = turn.page ∙ so_far.page;
       fit = turn.fit;
-      before = before_close tells (has_second z) z.second z.place (size_for z) u turn.fit.place read.other;
+      before = before_close tells (has_second z) z.moved z.place (size_for z) u turn.fit.place read.other;
       count = turn.count ∙ so_far.count;
       file = file_then so_far.file read.read;
       device = counted_then s.device_faults t.device_faults u.device_faults (is_device_fault (place_fault y.place)) (is_device_fault (place_fault z.place))
@@ -232,7 +233,7 @@ module _ (tells : Bool) (told : IsTrue tells) (goal : List ℕ) (a : Stand) (way
       follows_ended (all_legs (legs_for y goal)) goal a way start now moments t e (subst (λ (x : Option SessionEnd). IsStop (place.Ended t) x) is stop) on
 
 pub follows_stop : (tells : Bool) (told : IsTrue tells) (goal : List ℕ) (x y : Player) (arena arena' : List (List ℕ)) (start now : BenchState)
-    → x.place ≡ place.At (at.Begin false stage.Erase) → x.made ≡ 0 → Played tells goal x arena start y arena' now
+    → x.place ≡ place.At (at.Begin First stage.Erase) → x.made ≡ 0 → Played tells goal x arena start y arena' now
     → (e : SessionEnd) (o : Option SessionEnd) → IsStop y.place o → o ≡ Some e
     → Follows (all_legs (legs_for x goal)) goal (stand_at 0 (point_for x arena start.cells).world) e start now
 follows_stop tells told goal x y arena arena' start now first made played e o stop is =

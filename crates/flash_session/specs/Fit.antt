@@ -1,11 +1,12 @@
 -- What holds of a target on every bench, and how far it is from its end.
-use Rattle.std.specs.Prelude.{◌≡◌, ◌≢◌, ◌<◌, ◌≤◌, ◌+◌, ◌-◌, ◌^◌, ℕ, Bool, false, true, IsTrue, is_some, List, [], ◌∷◌, length, None}
+use Rattle.std.specs.Prelude.{◌≡◌, ◌≢◌, ◌<◌, ◌≤◌, ◌+◌, ◌-◌, ◌^◌, ℕ, Bool, IsTrue, is_some, List, [], ◌∷◌, length, None}
 use Rattle.bench_model.specs.State.{BenchState}
 use Rattle.algo_calls.specs.Setups.{Setup}
 use Rattle.algo_calls.specs.Frames.{fuel_of}
 use Rattle.algo_calls.specs.Shows.{Fits, AgreesAt}
 use Rattle.flash_session.specs.Moves.{Move, Reset, Load, Make, calls_in}
 use Rattle.flash_session.specs.Plays.{IsNotDone}
+use Rattle.flash_session.specs.Regions.{RegionIndex, First, Second, IsThere}
 use Rattle.flash_session.specs.Script.{IsRegionWork}
 use Rattle.target_core.specs.Units.{unit_cells}
 use Rattle.flash_session.specs.declared.cursor.Place.{Place}
@@ -71,7 +72,7 @@ IsSoundEnd tells size ended.StoreFault b = Unit {0}
 IsSoundEnd tells size ended.DeviceFault b = Unit {0}
 
 -- it may stand here: the comparison has cells left, and no operation is open in it
-abbrev pub IsPlace : Bool → (has moved : Bool) → Place → ℕ → BenchState → Type 0
+abbrev pub IsPlace : Bool → (has : Bool) → (moved : RegionIndex) → Place → ℕ → BenchState → Type 0
 IsPlace tells has moved (place.At c) size b = IsCursor has moved c
 IsPlace tells has moved (place.In call len left next) size b = IsCursor has moved next
 IsPlace tells has moved (place.Comparing at) size b = (at < size) × (IsTrue tells → b.operation ≡ None)
@@ -87,16 +88,16 @@ pub record IsRegionPlanOn (s : Setup) (size page : ℕ) (p : RegionPlan) : Type 
 -- The calls of both regions have a RAM of the same place and size, and one board. There are those of a second region exactly where there
 -- is work on one.
 pub record AreTwins (t : Player) : Type 0 where
-  pub base : (setup_on t true).layout.return_at ≡ (setup_on t false).layout.return_at
-  pub size : (setup_on t true).ram_size ≡ (setup_on t false).ram_size
-  pub map : map_on t true ≡ map_on t false
+  pub base : (setup_on t Second).layout.return_at ≡ (setup_on t First).layout.return_at
+  pub size : (setup_on t Second).ram_size ≡ (setup_on t First).ram_size
+  pub map : map_on t Second ≡ map_on t First
   pub there : is_some t.other ≡ has_second t
-  pub moved : IsTrue t.second → IsTrue (has_second t)
+  pub moved : IsThere (has_second t) t.moved
 
 -- its script is one of its calls
 pub record IsScripted (t : Player) : Type 0 where
-  pub first : IsRegionPlanOn (setup_on t false) (size_for t) (length t.page.items) (region_in t.work false)
-  pub second : IsTrue (has_second t) → IsRegionPlanOn (setup_on t true) (size_for t) (length t.page.items) (region_in t.work true)
+  pub first : IsRegionPlanOn (setup_on t First) (size_for t) (length t.page.items) (region_in t.work First)
+  pub second : IsTrue (has_second t) → IsRegionPlanOn (setup_on t Second) (size_for t) (length t.page.items) (region_in t.work Second)
   pub twins : AreTwins t
 
 -- a target fits its window and its bench
@@ -106,5 +107,5 @@ pub record Fit (tells : Bool) (t : Player) (arena : List (List ℕ)) (b : BenchS
   pub agrees : AgreesAt tells t.calls b
   pub wanted : unit_cells t.calls.machine.unit ≡ size_for t
   pub some : 0 < size_for t
-  pub place : IsPlace tells (has_second t) t.second t.place (size_for t) b
+  pub place : IsPlace tells (has_second t) t.moved t.place (size_for t) b
   pub room : t.made + calls_ahead (legs_of t) t.place < 2 ^ 32

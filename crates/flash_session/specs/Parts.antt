@@ -1,5 +1,5 @@
 -- What a session gives up.
-use Rattle.std.specs.Prelude.{◌≡◌, ◌<◌, ◌+◌, ◌^◌, ℕ, false, List, replicate}
+use Rattle.std.specs.Prelude.{◌≡◌, ◌<◌, ◌+◌, ◌^◌, ℕ, List, replicate}
 use Rattle.board_file.specs.Shown.{shown as board_of}
 use Rattle.board_file.specs.Limits.{size_of}
 use Rattle.job_text.specs.Said.{algorithms_shown}
@@ -12,6 +12,7 @@ use Rattle.flash_session.specs.declared.cursor.Place.TheVariants as place
 use Rattle.flash_session.specs.declared.phase.Phase.TheVariants as stage
 use Rattle.flash_session.specs.declared.player.Player.{Player}
 use Rattle.flash_session.specs.Fit.{calls_ahead, legs_of, IsScripted}
+use Rattle.flash_session.specs.Regions.{First}
 use Rattle.flash_session.specs.Rest.{all_legs}
 use Rattle.flash_session.specs.Sessions.{legs_for as session_legs}
 use Rattle.flash_session.specs.Starts.{start_of}
@@ -21,7 +22,7 @@ use Rattle.flash_session.specs.Targets.{setup_now, legs_for, size_for}
 -- A player of the script that a survey of a job planned, before its first move. With a RAM of zero bytes its machine is the board's target
 -- as after a reset.
 pub record IsPlayerOf (j : Job) (w : Surveyed) (p : Player) : Type 0 where
-  pub place : p.place ≡ place.At (at.Begin false stage.Erase)
+  pub place : p.place ≡ place.At (at.Begin First stage.Erase)
   pub made : p.made ≡ 0
   pub goal : p.work.goal ≡ w.goal
   pub scripted : IsScripted p

@@ -1,9 +1,10 @@
 -- The rest of a script from where a target stands in it, as the list of its moves.
-use Rattle.std.specs.Prelude.{◌+◌, ◌-◌, ℕ, zero, suc, Bool, true, false, nat_eq, if◌then◌else◌, is_some, unwrap_or, Option, Some, None, List, [], ◌∷◌, ◌++◌}
+use Rattle.std.specs.Prelude.{◌+◌, ◌-◌, ℕ, zero, suc, Bool, true, false, nat_eq, if◌then◌else◌, unwrap_or, Option, Some, None, List, [], ◌∷◌, ◌++◌}
 use Rattle.std.specs.Prelude.{length, option_to_list}
 use Rattle.algo_calls.specs.declared.call.Call.TheVariants as call
 use Rattle.algo_calls.specs.Setups.{Setup}
 use Rattle.flash_session.specs.Moves.{Move, Reset, Load, Make}
+use Rattle.flash_session.specs.Regions.{RegionIndex, First, Second, is_last}
 use Rattle.flash_session.specs.Script.{RegionWork, Torn, Leg, Broken, torn_first, torn_rest, sector_moves, erase_moves, page_at, page_moves, has_verify}
 use Rattle.flash_session.specs.Script.{verify_moves, phase, kind_of}
 use Rattle.flash_session.specs.declared.phase.Phase.{Phase}
@@ -75,19 +76,19 @@ abbrev pub all_legs : Legs → List Leg
 all_legs l = l.first ∷ option_to_list l.second
 
 -- in one of them
-abbrev pub leg_at : Legs → Bool → Leg
-leg_at l false = l.first
-leg_at l true = unwrap_or l.second l.first
+abbrev pub leg_at : Legs → RegionIndex → Leg
+leg_at l First = l.first
+leg_at l Second = unwrap_or l.second l.first
 
 -- what the resets of a region leave
-abbrev pub torn_at : Bool → Broken → Torn
-torn_at false b = torn_first b.legs
-torn_at true b = torn_first (torn_rest b.legs)
+abbrev pub torn_at : RegionIndex → Broken → Torn
+torn_at First b = torn_first b.legs
+torn_at Second b = torn_first (torn_rest b.legs)
 
 -- another list for the reset of a phase
-abbrev pub with_torn : Bool → Phase → List ℕ → Broken → Broken
-with_torn false p torn b = record b { legs = set_torn p torn (torn_first b.legs) ∷ torn_rest b.legs }
-with_torn true p torn b = record b { legs = torn_first b.legs ∷ (set_torn p torn (torn_first (torn_rest b.legs)) ∷ torn_rest (torn_rest b.legs)) }
+abbrev pub with_torn : RegionIndex → Phase → List ℕ → Broken → Broken
+with_torn First p torn b = record b { legs = set_torn p torn (torn_first b.legs) ∷ torn_rest b.legs }
+with_torn Second p torn b = record b { legs = torn_first b.legs ∷ (set_torn p torn (torn_first (torn_rest b.legs)) ∷ torn_rest (torn_rest b.legs)) }
 
 abbrev pub with_last : List ℕ → Broken → Broken
 with_last torn b = record b { last = torn }
@@ -108,9 +109,9 @@ second_rest None b later = later
 second_rest (Some m) b later = from_phase m.setup m.region_work stage.Erase b later
 
 -- what follows a region
-abbrev pub later_than : Legs → Bool → Broken → List Move
-later_than l false b = second_rest l.second (torn_at true b) (last_reset l b)
-later_than l true b = last_reset l b
+abbrev pub later_than : Legs → RegionIndex → Broken → List Move
+later_than l First b = second_rest l.second (torn_at Second b) (last_reset l b)
+later_than l Second b = last_reset l b
 
 -- The rest of the script, once it is given what the resets in it leave.
 abbrev pub rest_of : Legs → Cursor → Broken → List Move
@@ -123,12 +124,10 @@ rest_of l (at.Calls r p k) b =
 rest_of l at.Last b = last_reset l b
 
 -- where a target stands after a region, and after a phase, by whether there is a second region
-abbrev pub after_region : (has r : Bool) → Cursor
-after_region has true = at.Last
-after_region false false = at.Last
-after_region true false = at.Begin true stage.Erase
+abbrev pub after_region : (has : Bool) → RegionIndex → Cursor
+after_region has r = if is_last has r then at.Last else at.Begin Second stage.Erase
 
-abbrev pub after : (has r : Bool) → Phase → Cursor
+abbrev pub after : (has : Bool) → RegionIndex → Phase → Cursor
 after has r stage.Erase = at.Begin r stage.Program
 after has r stage.Program = at.Begin r stage.Verify
 after has r stage.Verify = after_region has r

@@ -1,9 +1,10 @@
 -- The next move of a script, read off the rest of it.
-use Rattle.std.specs.Prelude.{◌≡◌, ◌<◌, ◌≤◌, ◌+◌, ◌^◌, ℕ, Bool, true, false, IsTrue, List, [], ◌∷◌, length, take, drop, Option, Some, None}
+use Rattle.std.specs.Prelude.{◌≡◌, ◌<◌, ◌≤◌, ◌+◌, ◌^◌, ℕ, Bool, true, false, List, [], ◌∷◌, length, take, drop, Option, Some, None}
 use Rattle.algo_calls.specs.declared.call.Call.{Call}
 use Rattle.algo_calls.specs.Setups.{Setup}
 use Rattle.algo_calls.specs.Shows.{MayAsk}
 use Rattle.flash_session.specs.Moves.{Move, Reset, Load, Make}
+use Rattle.flash_session.specs.Regions.{RegionIndex, First, IsThere}
 use Rattle.flash_session.specs.Script.{Broken}
 use Rattle.flash_session.specs.declared.phase.Phase.{Phase}
 use Rattle.flash_session.specs.declared.cursor.Cursor.{Cursor}
@@ -36,7 +37,7 @@ IsItem s p calls index None = (goal : List ℕ) → calls goal index ≡ []
 IsItem s p calls index (Some item) = IsNext s p calls index item
 
 -- whether a phase of a region has calls
-abbrev pub has_phase : Player → Bool → Phase → Bool → Type 0
+abbrev pub has_phase : Player → RegionIndex → Phase → Bool → Type 0
 has_phase t r p true = (goal : List ℕ) → phase_calls (leg_at (legs_for t goal) r).setup (leg_at (legs_for t goal) r).region_work p ≡ [] → ⊥
 has_phase t r p false = (goal : List ℕ) → phase_calls (leg_at (legs_for t goal) r).setup (leg_at (legs_for t goal) r).region_work p ≡ []
 
@@ -48,11 +49,11 @@ pub record IsAsked (t : Player) (call : Call) (from len : ℕ) : Type 0 where
   pub fits : len ≤ length t.page.items
   pub may : (bytes : List ℕ) → length bytes ≡ len → MayAsk (setup_now t) call bytes
 
--- a target whose second region's machine moved last, or whose first one's did, may stand here
-abbrev pub IsCursor : (has moved : Bool) → Cursor → Type 0
-IsCursor has moved (at.Begin r p) = IsTrue r → IsTrue has
-IsCursor has moved (at.Init r p) = (moved ≡ r) × (IsTrue r → IsTrue has)
-IsCursor has moved (at.Calls r p k) = (moved ≡ r) × (IsTrue r → IsTrue has)
+-- a target may stand here, by the region whose machine moved last
+abbrev pub IsCursor : (has : Bool) → (moved : RegionIndex) → Cursor → Type 0
+IsCursor has moved (at.Begin r p) = IsThere has r
+IsCursor has moved (at.Init r p) = (moved ≡ r) × IsThere has r
+IsCursor has moved (at.Calls r p k) = (moved ≡ r) × IsThere has r
 IsCursor has moved at.Last = Unit {0}
 
 -- the first move of these, with each goal and whatever the resets that are still to come leave
@@ -60,22 +61,22 @@ abbrev pub IsStepOf : Player → (rest : List ℕ → Broken → List Move) → 
 IsStepOf t rest (step.Begin r p) =
     ((goal : List ℕ) (b : Broken) (torn : List ℕ) → rest goal (with_torn r p torn b) ≡ Reset (setup_on t r) torn ∷ Load (setup_on t r)
     ∷ rest_of (legs_for t goal) (at.Init r p) b)
-    × (IsTrue r → IsTrue (has_second t))
+    × IsThere (has_second t) r
 IsStepOf t rest (step.Call call from len next) =
     ((goal : List ℕ) (b : Broken) → rest goal b ≡ Make (setup_now t) call (bytes_at goal from len) ∷ rest_of (legs_for t goal) next b)
-    × IsAsked t call from len × IsCursor (has_second t) t.second next
-IsStepOf t rest step.Last = (goal : List ℕ) (b : Broken) (torn : List ℕ) → rest goal (with_last torn b) ≡ Reset (setup_on t false) torn ∷ []
+    × IsAsked t call from len × IsCursor (has_second t) t.moved next
+IsStepOf t rest step.Last = (goal : List ℕ) (b : Broken) (torn : List ℕ) → rest goal (with_last torn b) ≡ Reset (setup_on t First) torn ∷ []
 
 -- what comes next
 abbrev pub IsStep : Player → Cursor → Step → Type 0
 IsStep t cursor x = IsStepOf t (λ goal. rest_of (legs_for t goal) cursor) x
 
 -- what comes behind a region
-abbrev pub IsStepBehind : Player → Bool → Step → Type 0
+abbrev pub IsStepBehind : Player → RegionIndex → Step → Type 0
 IsStepBehind t r x = IsStepOf t (λ goal. later_than (legs_for t goal) r) x
 
 -- the first phase of a region from one on that has calls, or none
-abbrev pub IsPhaseFrom : Player → Bool → Phase → Option Phase → Type 0
+abbrev pub IsPhaseFrom : Player → RegionIndex → Phase → Option Phase → Type 0
 IsPhaseFrom t r p None = (goal : List ℕ) (b : Broken) → rest_of (legs_for t goal) (at.Begin r p) b ≡ later_than (legs_for t goal) r b
 IsPhaseFrom t r p (Some q) = ((goal : List ℕ) (b : Broken) → rest_of (legs_for t goal) (at.Begin r p) b ≡ rest_of (legs_for t goal) (at.Begin r q) b)
     × has_phase t r q true

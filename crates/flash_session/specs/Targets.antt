@@ -14,35 +14,36 @@ use Rattle.flash_session.specs.Script.{Planned, planned, RegionWork, region_work
 use Rattle.flash_session.specs.declared.region_plan.RegionPlan.{RegionPlan}
 use Rattle.flash_session.specs.declared.region_plan.SessionWork.{SessionWork}
 use Rattle.flash_session.specs.declared.player.Player.{Player}
+use Rattle.flash_session.specs.Regions.{RegionIndex, First, Second}
 use Rattle.flash_session.specs.Rest.{Legs}
 
 -- ---- its calls
 
 -- the calls of the region that is asked for, where these are of the region that moved last
-abbrev pub of_region : (second moved : Bool) → CallsIn → Option CallsIn → CallsIn
-of_region false false here other = here
-of_region true true here other = here
-of_region false true here None = here
-of_region false true here (Some other) = other
-of_region true false here None = here
-of_region true false here (Some other) = other
+abbrev pub of_region : (r moved : RegionIndex) → CallsIn → Option CallsIn → CallsIn
+of_region First First here other = here
+of_region Second Second here other = here
+of_region First Second here None = here
+of_region First Second here (Some other) = other
+of_region Second First here None = here
+of_region Second First here (Some other) = other
 
 -- what the calls of each region rest on, in order
 abbrev pub one_or_both : Bool → Setup → Setup → List Setup
 one_or_both false first second = first ∷ []
 one_or_both true first second = first ∷ second ∷ []
 
-abbrev pub calls_on : Player → Bool → CallsIn
-calls_on t second = of_region second t.second t.calls t.other
+abbrev pub calls_on : Player → RegionIndex → CallsIn
+calls_on t r = of_region r t.moved t.calls t.other
 
-abbrev pub setup_on : Player → Bool → Setup
-setup_on t second = setup_at (calls_on t second)
+abbrev pub setup_on : Player → RegionIndex → Setup
+setup_on t r = setup_at (calls_on t r)
 
 abbrev pub map_of : CallsIn → FlashMap
 map_of c = unit_map c.machine.unit
 
-abbrev pub map_on : Player → Bool → FlashMap
-map_on t second = map_of (calls_on t second)
+abbrev pub map_on : Player → RegionIndex → FlashMap
+map_on t r = map_of (calls_on t r)
 
 -- what the calls of the region that moved last rest on
 abbrev pub setup_now : Player → Setup
@@ -55,9 +56,9 @@ point_for t arena cells = point_at t.calls arena t.window cells
 -- ---- what its script is made of
 
 -- the plan of the first region, or of the second where there is one
-abbrev pub region_in : SessionWork → Bool → RegionPlan
-region_in t false = t.first
-region_in t true = unwrap_or t.second t.first
+abbrev pub region_in : SessionWork → RegionIndex → RegionPlan
+region_in t First = t.first
+region_in t Second = unwrap_or t.second t.first
 
 abbrev pub planned_in : RegionPlan → Planned
 planned_in p = planned p.geometry p.base p.plan.made
@@ -76,14 +77,14 @@ later_leg s (Some p) goal = Some (leg s (work_in p goal))
 
 -- what is to be done in each region, with this goal of all cells
 abbrev pub legs_for : Player → List ℕ → Legs
-legs_for t goal = record { first = leg (setup_on t false) (work_in t.work.first goal); second = later_leg (setup_on t true) t.work.second goal }
+legs_for t goal = record { first = leg (setup_on t First) (work_in t.work.first goal); second = later_leg (setup_on t Second) t.work.second goal }
 
 abbrev pub has_second : Player → Bool
 has_second t = is_some t.work.second
 
 -- how many cells its board has
 abbrev pub size_for : Player → ℕ
-size_for t = cells_in (map_on t false).areas
+size_for t = cells_in (map_on t First).areas
 
 -- the goal of its job that this file gives
 abbrev pub goal_for : Job → Player → List ℕ → List ℕ

@@ -21,6 +21,7 @@ use Rattle.flash_session.specs.declared.target_end.Turn.TheVariants as turn
 use Rattle.flash_session.specs.Moves.{Move, Stand, IsLeftOnWay}
 use Rattle.flash_session.specs.declared.player.Player.{Player}
 use Rattle.flash_session.specs.Opened.{session_fault}
+use Rattle.flash_session.specs.Regions.{RegionIndex}
 use Rattle.flash_session.specs.Surveys.{survey_fault}
 use Rattle.flash_session.specs.Fit.{Fit, togo}
 use Rattle.flash_session.specs.Stands.{StandsOn}
@@ -34,8 +35,8 @@ pub record GoesOn (a : Stand) (way : List Move) (goal : List ℕ) (new : Player)
 
 -- its script stays
 pub record SameTarget (old new : Player) : Type 0 where
-  pub setups : (second : Bool) → setup_on new second ≡ setup_on old second
-  pub maps : (second : Bool) → map_on new second ≡ map_on old second
+  pub setups : (r : RegionIndex) → setup_on new r ≡ setup_on old r
+  pub maps : (r : RegionIndex) → map_on new r ≡ map_on old r
   pub work : new.work ≡ old.work
   pub window : new.window ≡ old.window
 

@@ -1,24 +1,46 @@
 //! Where a target stands.
+ghost use Rattle.std.specs.Prelude.{◌≡◌};
+ghost use Rattle.flash_session.specs.Regions.{other_than};
+
 use crate::phase::Phase;
 use crate::target_end::TargetEnd;
 use algo_calls::Call;
 
-/// Where a target stands in its script, between two moves. Each phase is of the first region, or of the second.
+/// A region of a board that has one or two.
+#[derive(Clone, Copy, Debug, PartialEq, Eq)]
+pub enum RegionIndex {
+    First,
+    Second,
+}
+
+impl RegionIndex {
+    /// The other one of two.
+    pub(crate) fn other(self) -> RegionIndex
+        ensures { result ≡ other_than self }
+    {
+        match self {
+            RegionIndex::First => RegionIndex::Second,
+            RegionIndex::Second => RegionIndex::First,
+        }
+    }
+}
+
+/// Where a target stands in its script, between two moves. Each phase is of a region.
 #[derive(Clone, Copy, Debug, PartialEq, Eq)]
 pub enum Cursor {
     /// Before a phase, or what follows it where it is left out.
     Begin {
-        second: bool,
+        region: RegionIndex,
         phase: Phase,
     },
     /// Loaded, before its Init.
     Init {
-        second: bool,
+        region: RegionIndex,
         phase: Phase,
     },
     /// Among its calls, before the one for this sector or page, or a later one.
     Calls {
-        second: bool,
+        region: RegionIndex,
         phase: Phase,
         index: u32,
     },
@@ -53,7 +75,7 @@ pub enum Place {
 pub(crate) enum Step {
     /// A phase begins, with a reset and a load.
     Begin {
-        second: bool,
+        region: RegionIndex,
         phase: Phase,
     },
     /// A call with so many bytes of the goal from this place on.

@@ -1,5 +1,5 @@
 //! The player of a script, and its turns.
-ghost use Rattle.std.specs.Prelude.{◌≡◌, ◌<◌, ◌≤◌, ◌+◌, ◌^◌, ℕ, List, true, false, drop, length, IsTrue, IsSomeAnd, is_some, None};
+ghost use Rattle.std.specs.Prelude.{◌≡◌, ◌<◌, ◌≤◌, ◌+◌, ◌^◌, ℕ, List, drop, length, IsTrue, IsSomeAnd, is_some, None};
 ghost use Rattle.algo_calls.specs.Setups.{Setup};
 ghost use Rattle.algo_calls.specs.Shows.{setup_at, Fits, MayAsk};
 ghost use Rattle.bench_model.specs.Calls.{OnlyReads, FileIsRead};
@@ -22,6 +22,7 @@ ghost use Rattle.flash_session.specs.Ended.{IsEndAt};
 ghost use Rattle.flash_session.specs.Fit.{AreTwins, IsScripted, Fit};
 ghost use Rattle.flash_session.specs.Items.{calls_on_phase};
 ghost use Rattle.flash_session.specs.Prepared.{Prepares};
+ghost use Rattle.flash_session.specs.Regions.{First, IsThere, is_last};
 ghost use Rattle.flash_session.specs.Rest.{after, all_legs};
 ghost use Rattle.flash_session.specs.Steps.{IsItem, IsCursor, IsStep, IsStepBehind, IsPhaseFrom, has_phase};
 ghost use Rattle.flash_session.specs.Takes.{IsNoCall, IsCall, IsKind, FromCursor, FromCall, FromCells, IsOver, TakesOn, IsHost, IsStill, Slice, SliceOf};
@@ -30,7 +31,7 @@ ghost use Rattle.flash_session.specs.Turned.{IsExchanged, TurnsTo, Restarts};
 ghost use Rattle.flash_session.specs.Turns.{Turns, SameTarget, IsUnended, turn_of, Judges};
 ghost use Rattle.flash_session.specs.Whole.{at_close, IsPlaying, IsPlayed, IsEndOf, IsStop};
 
-use crate::cursor::{Cursor, Item, Place, Step};
+use crate::cursor::{Cursor, Item, Place, RegionIndex, Step};
 use crate::goal::{Goal, WINDOW};
 use crate::phase::Phase;
 use crate::region_plan::SessionWork;
@@ -51,8 +52,8 @@ use target_core::{RunEnd, SliceEnd};
 #[derive(Drop)]
 pub struct Player {
     pub calls: CallsIn,
-    /// Whether the second region's machine moved last.
-    pub second: bool,
+    /// The region whose machine moved last.
+    pub moved: RegionIndex,
     /// The calls of the other region, where the board has two.
     pub other: Option<CallsIn>,
     pub window: usize,
@@ -64,10 +65,10 @@ pub struct Player {
 
 impl Player {
     /// The calls of a region.
-    fn calls_on(&self, second: bool) -> &CallsIn
-        ensures { result.now ≡ calls_on self.now second }
+    fn calls_on(&self, region: RegionIndex) -> &CallsIn
+        ensures { result.now ≡ calls_on self.now region }
     {
-        if second == self.second {
+        if region == self.moved {
             return &self.calls;
         }
         match &self.other {
@@ -77,78 +78,78 @@ impl Player {
     }
 
     /// Whether the algorithm of a region can verify.
-    fn can_verify(&self, second: bool) -> bool
-        ensures { result ≡ has_verify (setup_on self.now second) }
+    fn can_verify(&self, region: RegionIndex) -> bool
+        ensures { result ≡ has_verify (setup_on self.now region) }
     {
-        self.calls_on(second).algorithm().entries.verify.is_some()
+        self.calls_on(region).algorithm().entries.verify.is_some()
     }
 
     /// The next call of a phase of a region.
-    fn item(&self, second: bool, phase: Phase, index: u32) -> Option<Item>
+    fn item(&self, region: RegionIndex, phase: Phase, index: u32) -> Option<Item>
         requires scripted { IsScripted self.now }
-        requires there { IsTrue second → IsTrue (has_second self.now) }
-        ensures { IsItem (setup_on self.now second) (region_in self.now.work second)
-            (calls_on_phase phase (setup_on self.now second) (region_in self.now.work second)) index result }
+        requires there { IsThere (has_second self.now) region }
+        ensures { IsItem (setup_on self.now region) (region_in self.now.work region)
+            (calls_on_phase phase (setup_on self.now region) (region_in self.now.work region)) index result }
     {
-        let can_verify = self.can_verify(second);
-        self.work.region(second).item(can_verify, phase, index)
+        let can_verify = self.can_verify(region);
+        self.work.region(region).item(can_verify, phase, index)
     }
 
     /// Whether a phase of a region has calls.
-    fn has_calls(&self, second: bool, phase: Phase) -> bool
+    fn has_calls(&self, region: RegionIndex, phase: Phase) -> bool
         requires scripted { IsScripted self.now }
-        requires there { IsTrue second → IsTrue (has_second self.now) }
-        ensures { has_phase self.now second phase result }
+        requires there { IsThere (has_second self.now) region }
+        ensures { has_phase self.now region phase result }
     {
-        self.item(second, phase, 0).is_some()
+        self.item(region, phase, 0).is_some()
     }
 
     /// The last phase of a region where it has calls.
-    fn from_verify(&self, second: bool) -> Option<Phase>
+    fn from_verify(&self, region: RegionIndex) -> Option<Phase>
         requires scripted { IsScripted self.now }
-        requires there { IsTrue second → IsTrue (has_second self.now) }
-        ensures { IsPhaseFrom self.now second stage.Verify result }
+        requires there { IsThere (has_second self.now) region }
+        ensures { IsPhaseFrom self.now region stage.Verify result }
     {
-        if self.has_calls(second, Phase::Verify) {
+        if self.has_calls(region, Phase::Verify) {
             return Some(Phase::Verify);
         }
         None
     }
 
     /// The second phase of a region where it has calls, or the last one.
-    fn from_program(&self, second: bool) -> Option<Phase>
+    fn from_program(&self, region: RegionIndex) -> Option<Phase>
         requires scripted { IsScripted self.now }
-        requires there { IsTrue second → IsTrue (has_second self.now) }
-        ensures { IsPhaseFrom self.now second stage.Program result }
+        requires there { IsThere (has_second self.now) region }
+        ensures { IsPhaseFrom self.now region stage.Program result }
     {
-        if self.has_calls(second, Phase::Program) {
+        if self.has_calls(region, Phase::Program) {
             return Some(Phase::Program);
         }
-        self.from_verify(second)
+        self.from_verify(region)
     }
 
     /// The first phase of a region that has calls.
-    fn from_erase(&self, second: bool) -> Option<Phase>
+    fn from_erase(&self, region: RegionIndex) -> Option<Phase>
         requires scripted { IsScripted self.now }
-        requires there { IsTrue second → IsTrue (has_second self.now) }
-        ensures { IsPhaseFrom self.now second stage.Erase result }
+        requires there { IsThere (has_second self.now) region }
+        ensures { IsPhaseFrom self.now region stage.Erase result }
     {
-        if self.has_calls(second, Phase::Erase) {
+        if self.has_calls(region, Phase::Erase) {
             return Some(Phase::Erase);
         }
-        self.from_program(second)
+        self.from_program(region)
     }
 
     /// The first phase of a region from this one on that has calls.
-    fn phase_from(&self, second: bool, phase: Phase) -> Option<Phase>
+    fn phase_from(&self, region: RegionIndex, phase: Phase) -> Option<Phase>
         requires scripted { IsScripted self.now }
-        requires there { IsTrue second → IsTrue (has_second self.now) }
-        ensures { IsPhaseFrom self.now second phase result }
+        requires there { IsThere (has_second self.now) region }
+        ensures { IsPhaseFrom self.now region phase result }
     {
         match phase {
-            Phase::Erase => self.from_erase(second),
-            Phase::Program => self.from_program(second),
-            Phase::Verify => self.from_verify(second),
+            Phase::Erase => self.from_erase(region),
+            Phase::Program => self.from_program(region),
+            Phase::Verify => self.from_verify(region),
         }
     }
 
@@ -156,65 +157,72 @@ impl Player {
     fn second_region(&self) -> Step
         requires scripted { IsScripted self.now }
         requires there { IsTrue (has_second self.now) }
-        ensures step { IsStepBehind self.now false result }
+        ensures step { IsStepBehind self.now First result }
         ensures kind { IsNoCall result }
     {
-        match self.phase_from(true, Phase::Erase) {
+        match self.phase_from(RegionIndex::Second, Phase::Erase) {
             Some(phase) => Step::Begin {
-                second: true,
+                region: RegionIndex::Second,
                 phase,
             },
             None => Step::Last,
         }
     }
 
+    /// Whether no region follows this one.
+    fn is_last(&self, region: RegionIndex) -> bool
+        ensures { result ≡ is_last (has_second self.now) region }
+    {
+        match region {
+            RegionIndex::First => self.work.second.is_none(),
+            RegionIndex::Second => true,
+        }
+    }
+
     /// What follows a region.
-    fn behind(&self, second: bool) -> Step
+    fn behind(&self, region: RegionIndex) -> Step
         requires { IsScripted self.now }
-        ensures step { IsStepBehind self.now second result }
+        ensures step { IsStepBehind self.now region result }
         ensures kind { IsNoCall result }
     {
-        if second {
+        if self.is_last(region) {
             return Step::Last;
         }
-        if self.work.second.is_some() {
-            return self.second_region();
-        }
-        Step::Last
+        self.second_region()
     }
 
     /// The first phase from this one on that has calls, or the last reset.
-    fn begin(&self, second: bool, phase: Phase) -> Step
+    fn begin(&self, region: RegionIndex, phase: Phase) -> Step
         requires scripted { IsScripted self.now }
-        requires there { IsTrue second → IsTrue (has_second self.now) }
-        ensures step { IsStep self.now (at.Begin second phase) result }
+        requires there { IsThere (has_second self.now) region }
+        ensures step { IsStep self.now (at.Begin region phase) result }
         ensures kind { IsNoCall result }
     {
-        match self.phase_from(second, phase) {
-            Some(phase) => Step::Begin { second, phase },
-            None => self.behind(second),
+        match self.phase_from(region, phase) {
+            Some(phase) => Step::Begin { region, phase },
+            None => self.behind(region),
         }
     }
 
     /// What follows a phase.
-    fn after(&self, second: bool, phase: Phase) -> Cursor
-        ensures { result ≡ after (has_second self.now) second phase }
+    fn after(&self, region: RegionIndex, phase: Phase) -> Cursor
+        ensures { result ≡ after (has_second self.now) region phase }
     {
         match phase {
             Phase::Erase => Cursor::Begin {
-                second,
+                region,
                 phase: Phase::Program,
             },
             Phase::Program => Cursor::Begin {
-                second,
+                region,
                 phase: Phase::Verify,
             },
             Phase::Verify => {
-                if second || self.work.second.is_none() {
+                if self.is_last(region) {
                     Cursor::Last
                 } else {
                     Cursor::Begin {
-                        second: true,
+                        region: RegionIndex::Second,
                         phase: Phase::Erase,
                     }
                 }
@@ -223,19 +231,19 @@ impl Player {
     }
 
     /// The next call among those of a phase, or its UnInit.
-    fn call_step(&self, second: bool, phase: Phase, index: u32) -> Step
+    fn call_step(&self, region: RegionIndex, phase: Phase, index: u32) -> Step
         requires scripted { IsScripted self.now }
-        requires cursor { IsCursor (has_second self.now) self.now.second (at.Calls second phase index) }
-        ensures step { IsStep self.now (at.Calls second phase index) result }
+        requires cursor { IsCursor (has_second self.now) self.now.moved (at.Calls region phase index) }
+        ensures step { IsStep self.now (at.Calls region phase index) result }
         ensures kind { IsCall result }
     {
-        match self.item(second, phase, index) {
+        match self.item(region, phase, index) {
             Some(item) => Step::Call {
                 call: item.call,
-                from: self.work.region(second).start + item.from,
+                from: self.work.region(region).start + item.from,
                 len: item.len,
                 next: Cursor::Calls {
-                    second,
+                    region,
                     phase,
                     index: item.index + 1,
                 },
@@ -244,7 +252,7 @@ impl Player {
                 call: Call::UnInit { kind: phase.kind() },
                 from: 0,
                 len: 0,
-                next: self.after(second, phase),
+                next: self.after(region, phase),
             },
         }
     }
@@ -252,27 +260,27 @@ impl Player {
     /// The next move of the script.
     fn step(&self, cursor: Cursor) -> Step
         requires scripted { IsScripted self.now }
-        requires cursor { IsCursor (has_second self.now) self.now.second cursor }
+        requires cursor { IsCursor (has_second self.now) self.now.moved cursor }
         ensures step { IsStep self.now cursor result }
         ensures kind { IsKind cursor result }
     {
         match cursor {
-            Cursor::Begin { second, phase } => self.begin(second, phase),
-            Cursor::Init { second, phase } => Step::Call {
+            Cursor::Begin { region, phase } => self.begin(region, phase),
+            Cursor::Init { region, phase } => Step::Call {
                 call: Call::Init { kind: phase.kind() },
                 from: 0,
                 len: 0,
                 next: Cursor::Calls {
-                    second,
+                    region,
                     phase,
                     index: 0,
                 },
             },
             Cursor::Calls {
-                second,
+                region,
                 phase,
                 index,
-            } => self.call_step(second, phase, index),
+            } => self.call_step(region, phase, index),
             Cursor::Last => Step::Last,
         }
     }
@@ -362,20 +370,20 @@ impl Player {
             Some(other) => {
                 mem::swap(&mut self.calls, other);
                 self.calls.restart(arena, self.window);
-                self.second = !self.second;
+                self.moved = self.moved.other();
             }
             None => unreachable!(),
         }
     }
 
     /// Puts the machine of a region in the place of the one that moved last, which was just reset.
-    fn turn_to(&mut self, arena: &mut Arena, second: bool)
+    fn turn_to(&mut self, arena: &mut Arena, region: RegionIndex)
         requires twins { AreTwins self.old }
-        requires there { IsTrue second → IsTrue (has_second self.old) }
+        requires there { IsThere (has_second self.old) region }
         requires fits { Fits self.old.calls arena.old self.old.window }
-        ensures { TurnsTo second self.old arena.old self.new arena.new }
+        ensures { TurnsTo region self.old arena.old self.new arena.new }
     {
-        if second != self.second {
+        if region != self.moved {
             self.exchange(arena);
         }
     }
@@ -387,10 +395,10 @@ impl Player {
         ensures { Restarts self.old arena.old self.new arena.new }
     {
         self.calls.restart(arena, self.window);
-        self.turn_to(arena, false);
+        self.turn_to(arena, RegionIndex::First);
         self.made = 0;
         self.place = Place::At(Cursor::Begin {
-            second: false,
+            region: RegionIndex::First,
             phase: Phase::Erase,
         });
     }
@@ -401,22 +409,22 @@ impl Player {
         arena: &mut Arena,
         bench: &mut B,
         cursor: Cursor,
-        second: bool,
+        region: RegionIndex,
         phase: Phase,
     )
         requires fit { Fit B.tells self.old arena.old (B.state bench.old) }
         requires place { self.old.place ≡ place.At cursor }
-        requires step { IsStep self.old cursor (step.Begin second phase) }
-        requires kind { IsKind cursor (step.Begin second phase) }
+        requires step { IsStep self.old cursor (step.Begin region phase) }
+        requires kind { IsKind cursor (step.Begin region phase) }
         ensures turns { (goal : List ℕ) → Turns B.tells goal self.old arena.old (B.state bench.old) self.new arena.new (B.state bench.new) }
         ensures host { (goal : List ℕ) → IsHost B.tells goal self.old arena.old (B.state bench.old) cursor self.new arena.new (B.state bench.new) }
         ensures one { FromCursor cursor self.new.place }
     {
         match self.calls.reset(arena, self.window, bench) {
             Ok(()) => {
-                self.turn_to(arena, second);
+                self.turn_to(arena, region);
                 self.calls.load(arena, self.window);
-                self.place = Place::At(Cursor::Init { second, phase });
+                self.place = Place::At(Cursor::Init { region, phase });
             }
             Err(DeviceFault) => self.place = Place::Ended(TargetEnd::DeviceFault),
         }
@@ -499,7 +507,7 @@ impl Player {
         ensures one { FromCursor cursor self.new.place }
     {
         match self.step(cursor) {
-            Step::Begin { second, phase } => self.begin_phase(arena, bench, cursor, second, phase),
+            Step::Begin { region, phase } => self.begin_phase(arena, bench, cursor, region, phase),
             Step::Call {
                 call,
                 from,
@@ -724,7 +732,7 @@ impl Player {
     /// Plays the whole script, each call in one turn, and compares all cells with the goal. It takes no memory.
     pub fn go<B: Bench>(&mut self, job: &Job, arena: &mut Arena, bench: &mut B) -> SessionEnd
         requires fit { Fit B.tells self.old arena.old (B.state bench.old) }
-        requires first { self.old.place ≡ place.At (at.Begin false stage.Erase) }
+        requires first { self.old.place ≡ place.At (at.Begin First stage.Erase) }
         requires made { self.old.made ≡ 0 }
         requires size { size_of job.now.board.regions ≡ size_for self.old }
         requires stands { IsTrue B.tells → StandsFor job.now (B.state bench.old).file }

@@ -1,5 +1,5 @@
 //! The calls of a job's algorithms.
-ghost use Rattle.std.specs.Prelude.{◌≡◌, ◌∷◌, false, IsTrue, IfOk};
+ghost use Rattle.std.specs.Prelude.{◌≡◌, ◌∷◌, IsTrue, IfOk};
 ghost use Rattle.algo_calls.specs.Shows.{setup_at};
 ghost use Rattle.algo_calls.specs.Setups.{setup_of};
 ghost use Rattle.algo_loader.specs.Places.{has_room};
@@ -7,6 +7,7 @@ ghost use Rattle.board_file.specs.Shown.{shown as board_of};
 ghost use Rattle.flash_layout.specs.Maps.{board_map};
 ghost use Rattle.flm_descriptor.specs.Shown.{shown as algorithm_of};
 ghost use Rattle.job_text.specs.Said.{algorithms_shown};
+ghost use Rattle.flash_session.specs.Regions.{First};
 ghost use Rattle.flash_session.specs.Starts.{AreCallsFor, later_shown};
 ghost use Rattle.flash_session.specs.Targets.{map_of};
 
@@ -50,7 +51,7 @@ pub(crate) fn calls_of_job(
     alloc: Global,
     job: &Job,
 ) -> Result<(CallsIn, Option<CallsIn>), OutOfMemory>
-    ensures { IfOk result (λ calls. AreCallsFor job.now false calls.0 calls.1) }
+    ensures { IfOk result (λ calls. AreCallsFor job.now First calls.0 calls.1) }
 {
     let (first, second) = algorithms_of(job);
     let calls = calls_for(alloc, &job.board, first)?;

@@ -2,7 +2,7 @@
 ghost use Rattle.std.specs.Prelude.{◌≡◌, ◌<◌, ◌^◌, IfSome};
 ghost use Rattle.flash_session.specs.Items.{IsSmall};
 
-use crate::cursor::Item;
+use crate::cursor::{Item, RegionIndex};
 use crate::goal::Goal;
 use crate::phase::Phase;
 use algo_calls::Call;
@@ -47,15 +47,12 @@ impl SessionWork {
     }
 
     /// The plan of a region.
-    pub fn region(&self, second: bool) -> &RegionPlan
-        ensures { result.now ≡ region_in self.now second }
+    pub fn region(&self, region: RegionIndex) -> &RegionPlan
+        ensures { result.now ≡ region_in self.now region }
     {
-        if !second {
-            return &self.first;
-        }
-        match &self.second {
-            Some(part) => part,
-            None => &self.first,
+        match (region, &self.second) {
+            (RegionIndex::Second, Some(part)) => part,
+            (RegionIndex::First, _) | (RegionIndex::Second, None) => &self.first,
         }
     }
 }

@@ -12,7 +12,7 @@ ghost use Rattle.flash_session.specs.Starts.{later_shown};
 ghost use Rattle.flash_session.specs.Surveys.{HasSurveyed, survey_shown, survey_fault};
 ghost use Rattle.flash_session.specs.SurveyFacts.{HasRoom, IsSurvey, AreRegionSurveys};
 
-use crate::cursor::{Cursor, Place};
+use crate::cursor::{Cursor, Place, RegionIndex};
 use crate::fault::SurveyFault;
 use crate::goal::Goal;
 use crate::phase::Phase;
@@ -124,14 +124,14 @@ fn player_for(alloc: Global, job: &Job, work: SessionWork) -> Result<Survey, Out
     let page = zeros(alloc, longest_page(algorithm, other) as usize)?;
     let player = Player {
         calls,
-        second: false,
+        moved: RegionIndex::First,
         other: other_calls,
         window: 0,
         work,
         page,
         made: 0,
         place: Place::At(Cursor::Begin {
-            second: false,
+            region: RegionIndex::First,
             phase: Phase::Erase,
         }),
     };

@@ -1,5 +1,5 @@
 //! The laws on turns.
-ghost use Rattle.std.specs.Prelude.{◌≡◌, false, ℕ, List, []};
+ghost use Rattle.std.specs.Prelude.{◌≡◌, ℕ, List, []};
 ghost use Rattle.bench_model.specs.History.{Leaves};
 ghost use Rattle.bench_model.specs.State.{cells_half};
 ghost use Rattle.flash_session.specs.Moves.{Move, Stand, stand_at, IsOnPath, IsLeftOnWay};
@@ -10,6 +10,7 @@ ghost use Rattle.flash_session.specs.declared.cursor.Place.TheVariants as place;
 ghost use Rattle.flash_session.specs.declared.target_end.TargetEnd.{TargetEnd};
 ghost use Rattle.flash_session.specs.declared.player.Player.{Player};
 ghost use Rattle.flash_session.specs.Alone.{FollowsAs};
+ghost use Rattle.flash_session.specs.Regions.{First};
 ghost use Rattle.flash_session.specs.Rest.{all_legs};
 ghost use Rattle.flash_session.specs.Stands.{HasEnded, StandsOn};
 ghost use Rattle.flash_session.specs.Targets.{legs_for, point_for};
@@ -25,7 +26,7 @@ pub fn targets_end_as_alone<B: Bench>()
 
 /// Before its first turn a target has made no move of its script.
 pub fn targets_begin<B: Bench>()
-    ensures { (x : Player) (goal : List ℕ) (arena : List (List ℕ)) (now : B) → x.place ≡ place.At (at.Begin false stage.Erase) → x.made ≡ 0
+    ensures { (x : Player) (goal : List ℕ) (arena : List (List ℕ)) (now : B) → x.place ≡ place.At (at.Begin First stage.Erase) → x.made ≡ 0
         → StandsOn (stand_at 0 (point_for x arena (B.state now).cells).world) [] goal x arena (B.state now) }
 {}
 

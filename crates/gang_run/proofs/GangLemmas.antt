@@ -33,6 +33,7 @@ use Rattle.gang_run.specs.declared.target.GangTarget.{GangTarget}
 use Rattle.flash_session.specs.Alone.{FollowsAs}
 use Rattle.flash_session.specs.Fit.{IsPlace, Fit, togo}
 use Rattle.flash_session.specs.Guarded.{Guarded}
+use Rattle.flash_session.specs.Regions.{RegionIndex}
 use Rattle.flash_session.specs.Rest.{Legs, all_legs}
 use Rattle.flash_session.specs.Stands.{HasEnded, Stands, StandsOn}
 use Rattle.flash_session.specs.Takes.{TakesOn, SliceOf}
@@ -391,7 +392,7 @@ module _ {B : Type 0} (G : Ghosts B) (arena arena' : List (List ℕ)) (bench ben
       by_place (place.Ended e) is = by_read (by (place.Ended e) is).read
 
   -- an end is one by its script, or a refusal
-  place_lawful : (has moved : Bool) (p : Place) (size : ℕ) (b : BenchState) → IsPlace G.tells has moved p size b → EndsByScript p
+  place_lawful : (has : Bool) (moved : RegionIndex) (p : Place) (size : ℕ) (b : BenchState) → IsPlace G.tells has moved p size b → EndsByScript p
   place_lawful has moved (place.At c) size b is = tt
   place_lawful has moved (place.In call len left next) size b is = tt
   place_lawful has moved (place.Comparing at) size b is = tt
@@ -404,7 +405,7 @@ module _ {B : Type 0} (G : Ghosts B) (arena arena' : List (List ℕ)) (bench ben
       (λ (over : turn_of x.player.place ≡ turn.Ended). subst IsSlot (sym (turns.ended over).0) is)
       (λ (going : IsUnended x.player.place).
       let went = turns.goes going in
-      subst IsSlot (sym went.1) (place_lawful (has_second went.0.player) went.0.player.second went.0.player.place (size_for went.0.player)
+      subst IsSlot (sym went.1) (place_lawful (has_second went.0.player) went.0.player.moved went.0.player.place (size_for went.0.player)
       (G.state bench') went.2.turns.fit.place))
       (either_turn x.player.place)
 

@@ -1,5 +1,5 @@
 -- What the opening of a gang leaves.
-use Rattle.std.specs.Prelude.{◌≡◌, ◌<◌, ℕ, Bool, false, IsTrue, List, length, get_or, Result, Err, None}
+use Rattle.std.specs.Prelude.{◌≡◌, ◌<◌, ℕ, Bool, IsTrue, List, length, get_or, Result, Err, None}
 use Rattle.bench_model.specs.declared.bench.Bench.{Ghosts}
 use Rattle.bench_model.specs.Counted.{is_store_fault, is_device_fault, IsCounted}
 use Rattle.bench_model.specs.State.{SameOutside, BenchState, Left, file_half}
@@ -21,6 +21,7 @@ use Rattle.flash_session.specs.declared.cursor.Cursor.TheVariants as at
 use Rattle.flash_session.specs.declared.phase.Phase.TheVariants as stage
 use Rattle.flash_session.specs.declared.cursor.Place.TheVariants as place
 use Rattle.gang_run.specs.declared.target.GangTarget.{GangTarget}
+use Rattle.flash_session.specs.Regions.{First}
 use Rattle.flash_session.specs.Rest.{all_legs}
 use Rattle.flash_session.specs.Targets.{legs_for, goal_for, point_for}
 use Rattle.gang_run.specs.declared.gang.Gang.{Gang}
@@ -64,7 +65,7 @@ IsRefused tells _ s t = ⊥
 -- A target has made no move of the script that a session which opened and surveyed the same would play, to the new goal, and its machine
 -- stands where that script starts. No fault was counted.
 pub record Begins (tells : Bool) (x : GangTarget) (arena : List (List ℕ)) (s t : BenchState) : Type 0 where
-  pub place : x.player.place ≡ place.At (at.Begin false stage.Erase)
+  pub place : x.player.place ≡ place.At (at.Begin First stage.Erase)
   pub made : x.player.made ≡ 0
   pub goal : x.player.work.goal ≡ to_goal.New
   pub stands : IsTrue tells → StandsFor x.job s.file

@@ -8,7 +8,7 @@ use Rattle.flash_session.proofs.player.Player.begin_phase.Goals as goal
 pub returns-in-Ok-clause-turns : goal.returns-in-Ok-clause-turns
 returns-in-Ok-clause-turns g c = λ goal_now.
     begin_turn g.B.Bench.tells goal_now c.args.self.now c.args.arena.now (g.B.Bench.state c.args.bench.now) c.requires.fit c.args.cursor c.requires.place
-    c.args.second c.args.phase c.requires.step c.reset.new.self c.reset.new.arena c.turn_to.new.self c.turn_to.new.arena c.load.new.self c.load.new.arena
+    c.args.region c.args.phase c.requires.step c.reset.new.self c.reset.new.arena c.turn_to.new.self c.turn_to.new.arena c.load.new.self c.load.new.arena
     (g.B.Bench.state c.reset.new.bench)
     c.reset.ensures.setup c.reset.ensures.map c.reset.ensures.others c.reset.ensures.bench (c.in-Ok.ensures.cause.on_ok refl) c.in-Ok.ensures.agrees
     c.in-Ok.ensures.ok c.turn_to.ensures
@@ -32,7 +32,7 @@ returns-in-Err-clause-host g c = λ goal_now. record {
 }
 
 pub returns-in-Ok-clause-one : goal.returns-in-Ok-clause-one
-returns-in-Ok-clause-one g c = begins_so c.args.cursor c.args.second c.args.phase c.requires.kind
+returns-in-Ok-clause-one g c = begins_so c.args.cursor c.args.region c.args.phase c.requires.kind
 
 pub returns-in-Err-clause-one : goal.returns-in-Err-clause-one
-returns-in-Err-clause-one g c = breaks_so c.args.cursor c.args.second c.args.phase c.requires.kind
+returns-in-Err-clause-one g c = breaks_so c.args.cursor c.args.region c.args.phase c.requires.kind

@@ -13,15 +13,15 @@ use Rattle.flash_session.proofs.player.Player.call_step.Goals as goal
 
 pub returns-in-Some-clause-step : goal.returns-in-Some-clause-step
 returns-in-Some-clause-step c =
-    subst (λ (p : RegionPlan). IsStep c.args.self.now (at.Calls c.args.second c.args.phase c.args.index)
-    (step.Call c.in-Some.item.call (p.start + c.in-Some.item.from) c.in-Some.item.len (at.Calls c.args.second c.args.phase (c.in-Some.item.index + 1))))
+    subst (λ (p : RegionPlan). IsStep c.args.self.now (at.Calls c.args.region c.args.phase c.args.index)
+    (step.Call c.in-Some.item.call (p.start + c.in-Some.item.from) c.in-Some.item.len (at.Calls c.args.region c.args.phase (c.in-Some.item.index + 1))))
     (sym c.region.ensures)
-    (step_item c.args.self.now c.requires.scripted c.args.second c.args.phase c.args.index c.in-Some.item c.requires.cursor c.in-Some.ensures)
+    (step_item c.args.self.now c.requires.scripted c.args.region c.args.phase c.args.index c.in-Some.item c.requires.cursor c.in-Some.ensures)
 
 pub returns-in-None-clause-step : goal.returns-in-None-clause-step
 returns-in-None-clause-step c =
-    subst (λ (x : Cursor). IsStep c.args.self.now (at.Calls c.args.second c.args.phase c.args.index) (step.Call (UnInit c.kind.result) 0 0 x))
+    subst (λ (x : Cursor). IsStep c.args.self.now (at.Calls c.args.region c.args.phase c.args.index) (step.Call (UnInit c.kind.result) 0 0 x))
     (sym c.after.ensures)
-    (subst (λ (n : ℕ). IsStep c.args.self.now (at.Calls c.args.second c.args.phase c.args.index)
-    (step.Call (UnInit n) 0 0 (after (has_second c.args.self.now) c.args.second c.args.phase))) (sym c.kind.ensures)
-    (step_uninit c.args.self.now c.args.second c.args.phase c.args.index c.requires.cursor c.in-None.ensures))
+    (subst (λ (n : ℕ). IsStep c.args.self.now (at.Calls c.args.region c.args.phase c.args.index)
+    (step.Call (UnInit n) 0 0 (after (has_second c.args.self.now) c.args.region c.args.phase))) (sym c.kind.ensures)
+    (step_uninit c.args.self.now c.args.region c.args.phase c.args.index c.requires.cursor c.in-None.ensures))

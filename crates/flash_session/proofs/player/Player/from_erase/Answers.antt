@@ -6,9 +6,9 @@ use Rattle.flash_session.proofs.StepLemmas.{phase_here, erase_on}
 use Rattle.flash_session.proofs.player.Player.from_erase.Goals as goal
 
 pub returns-then-has_calls : goal.returns-then-has_calls
-returns-then-has_calls c = phase_here c.args.self.now c.args.second stage.Erase
-    (subst (λ (b : Bool). has_phase c.args.self.now c.args.second stage.Erase b) c.if-has_calls.true c.has_calls.ensures)
+returns-then-has_calls c = phase_here c.args.self.now c.args.region stage.Erase
+    (subst (λ (b : Bool). has_phase c.args.self.now c.args.region stage.Erase b) c.if-has_calls.true c.has_calls.ensures)
 
 pub returns : goal.returns
-returns c = erase_on c.args.self.now c.args.second (subst (λ (b : Bool). has_phase c.args.self.now c.args.second stage.Erase b) c.if-has_calls.false
+returns c = erase_on c.args.self.now c.args.region (subst (λ (b : Bool). has_phase c.args.self.now c.args.region stage.Erase b) c.if-has_calls.false
     c.has_calls.ensures) c.from_program.result c.from_program.ensures

@@ -12,7 +12,7 @@ use Rattle.flash_session.proofs.player.Player.step.Goals as goal
 pub returns-in-Init-clause-step : goal.returns-in-Init-clause-step
 returns-in-Init-clause-step c =
     let g = c.args.self.now in
-    subst (λ (x : Cursor). IsStep g x (step.Call (Init c.kind.result) 0 0 (at.Calls c.in-Init.second c.in-Init.phase 0))) (sym c.in-Init.is)
-    (subst (λ (n : ℕ). IsStep g (at.Init c.in-Init.second c.in-Init.phase) (step.Call (Init n) 0 0 (at.Calls c.in-Init.second c.in-Init.phase 0)))
+    subst (λ (x : Cursor). IsStep g x (step.Call (Init c.kind.result) 0 0 (at.Calls c.in-Init.region c.in-Init.phase 0))) (sym c.in-Init.is)
+    (subst (λ (n : ℕ). IsStep g (at.Init c.in-Init.region c.in-Init.phase) (step.Call (Init n) 0 0 (at.Calls c.in-Init.region c.in-Init.phase 0)))
     (sym c.kind.ensures)
-    (step_init g c.in-Init.second c.in-Init.phase (subst (λ (x : Cursor). IsCursor (has_second g) g.second x) c.in-Init.is c.requires.cursor)))
+    (step_init g c.in-Init.region c.in-Init.phase (subst (λ (x : Cursor). IsCursor (has_second g) g.moved x) c.in-Init.is c.requires.cursor)))

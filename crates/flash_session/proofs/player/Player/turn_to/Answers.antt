@@ -1,9 +1,11 @@
 -- `Player::turn_to`: its contract, `TurnsTo`.
-use Rattle.std.proofs.Common.{refl}
-use Rattle.flash_session.proofs.MachineLemmas.{differ_by, turned_to}
+use Rattle.std.proofs.Common.{◌≡◌, refl, rules}
+use Rattle.flash_session.specs.Regions.{other_than}
+use Rattle.flash_session.proofs.MachineLemmas.{turned_to}
 use Rattle.flash_session.proofs.player.Player.turn_to.Goals as goal
 
-pub returns-then-second-self : goal.returns-then-second-self
-returns-then-second-self c =
-    turned_to c.args.self.now.other c.args.self.now c.args.arena.now c.exchange.new.self c.exchange.new.arena c.args.second refl c.exchange.ensures
-    c.requires.twins (differ_by c.args.second c.args.self.now.second c.if-second-self.true)
+pub returns-then-ne : goal.returns-then-ne
+returns-then-ne c =
+    let other : other_than c.args.self.now.moved ≡ c.args.region = search rules in
+    turned_to c.args.self.now.other c.args.self.now c.args.arena.now c.exchange.new.self c.exchange.new.arena c.args.region refl c.exchange.ensures
+    c.requires.twins other
