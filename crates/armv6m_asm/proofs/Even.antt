@@ -13,6 +13,7 @@ use Rattle.armv6m_asm.specs.declared.statement.Statement.{Statement}
 use Rattle.armv6m_asm.specs.declared.labels.Label.{Label}
 use Rattle.armv6m_asm.specs.declared.code.Code.{Code}
 use Rattle.armv6m_asm.specs.Assembly.{is_wide, aim_width, nop, size_of, place_after, label_at, labels_of, AlignPads, AreBytes, IsAssembled}
+use Rattle.armv6m_asm.proofs.Places.{end_above}
 
 sum_even : (a b : ℕ) → a % 2 ≡ 0 → b % 2 ≡ 0 → (a + b) % 2 ≡ 0
 sum_even a b even also = omega arith
@@ -27,10 +28,7 @@ padding_even false = refl
 
 aim_even : (aim : Aim) → aim_width aim % 2 ≡ 0
 aim_even aims.Branch = refl
-aim_even (aims.BranchIf condition) = refl
-aim_even aims.BranchLink = refl
-aim_even (aims.Load t) = refl
-aim_even (aims.Address d) = refl
+aim_even aim = refl
 
 size_even : (operation : Operation) (at : ℕ) → size_of operation at % 2 ≡ 0
 size_even operations.Nothing at = refl
@@ -63,16 +61,12 @@ labels_even from (s ∷ statements) even =
     labels_more (λ (label : Label). label.place % 2 ≡ 0) s.label from (labels_of (from + size_of s.operation from) statements) (λ name. even)
     (labels_even (from + size_of s.operation from) statements (sum_even from (size_of s.operation from) even (size_even s.operation from)))
 
-end_behind : (from : ℕ) (statements : List Statement) → from ≤ place_after from statements
-end_behind from [] = omega arith
-end_behind from (s ∷ statements) = omega (arith, end_behind (from + size_of s.operation from) statements)
-
 labels_within : (from stop : ℕ) (statements : List Statement) → place_after from statements ≤ stop →
     All (λ (label : Label). label.place ≤ stop) (labels_of from statements)
 labels_within from stop [] within = All-nil (λ (label : Label). label.place ≤ stop)
 labels_within from stop (s ∷ statements) within =
     labels_more (λ (label : Label). label.place ≤ stop) s.label from (labels_of (from + size_of s.operation from) statements)
-    (λ name. omega (arith, end_behind from (s ∷ statements), within))
+    (λ name. omega (arith, end_above from (s ∷ statements), within))
     (labels_within (from + size_of s.operation from) stop statements within)
 
 -- the bytes end at the place behind the statements

@@ -64,19 +64,7 @@ key (aims.Address d) = 4
 condition_key : (condition : Condition) → key_of (codes "B" ++ condition_text condition) ≡ 5 + condition_code condition
 unfolding key_of condition_text
 condition_key conditions.Equal = refl
-condition_key conditions.NotEqual = refl
-condition_key conditions.CarrySet = refl
-condition_key conditions.CarryClear = refl
-condition_key conditions.Minus = refl
-condition_key conditions.Plus = refl
-condition_key conditions.Overflow = refl
-condition_key conditions.NoOverflow = refl
-condition_key conditions.Higher = refl
-condition_key conditions.LowerOrSame = refl
-condition_key conditions.GreaterOrEqual = refl
-condition_key conditions.LessThan = refl
-condition_key conditions.GreaterThan = refl
-condition_key conditions.LessOrEqual = refl
+condition_key condition = refl
 
 aimed_key : (aim : Aim) (to : Destination) (bytes : List ℕ) (rest : List Token) → AreAimed aim to (word bytes ∷ rest) → key_of bytes ≡ key aim
 unfolding key key_of aim_text
@@ -90,64 +78,8 @@ aimed_key (aims.Address d) to bytes rest is = let same : bytes ≡ codes "ADR" =
 -- a mnemonic that is no such word, but for `LDR`
 mnemonic_key : (m : Mnemonic) → (m ≡ mnemonics.Ldr) ⊎ (key_of (text_of m) ≡ 0)
 unfolding key_of text_of
-mnemonic_key mnemonics.Lsls = inr refl
-mnemonic_key mnemonics.Lsrs = inr refl
-mnemonic_key mnemonics.Asrs = inr refl
-mnemonic_key mnemonics.Adds = inr refl
-mnemonic_key mnemonics.Subs = inr refl
-mnemonic_key mnemonics.Movs = inr refl
-mnemonic_key mnemonics.Cmp = inr refl
-mnemonic_key mnemonics.Ands = inr refl
-mnemonic_key mnemonics.Eors = inr refl
-mnemonic_key mnemonics.Adcs = inr refl
-mnemonic_key mnemonics.Sbcs = inr refl
-mnemonic_key mnemonics.Rors = inr refl
-mnemonic_key mnemonics.Tst = inr refl
-mnemonic_key mnemonics.Rsbs = inr refl
-mnemonic_key mnemonics.Cmn = inr refl
-mnemonic_key mnemonics.Orrs = inr refl
-mnemonic_key mnemonics.Muls = inr refl
-mnemonic_key mnemonics.Bics = inr refl
-mnemonic_key mnemonics.Mvns = inr refl
-mnemonic_key mnemonics.Add = inr refl
-mnemonic_key mnemonics.Mov = inr refl
-mnemonic_key mnemonics.Bx = inr refl
-mnemonic_key mnemonics.Blx = inr refl
-mnemonic_key mnemonics.Str = inr refl
-mnemonic_key mnemonics.Strh = inr refl
-mnemonic_key mnemonics.Strb = inr refl
-mnemonic_key mnemonics.Ldrsb = inr refl
 mnemonic_key mnemonics.Ldr = inl refl
-mnemonic_key mnemonics.Ldrh = inr refl
-mnemonic_key mnemonics.Ldrb = inr refl
-mnemonic_key mnemonics.Ldrsh = inr refl
-mnemonic_key mnemonics.Sub = inr refl
-mnemonic_key mnemonics.Sxth = inr refl
-mnemonic_key mnemonics.Sxtb = inr refl
-mnemonic_key mnemonics.Uxth = inr refl
-mnemonic_key mnemonics.Uxtb = inr refl
-mnemonic_key mnemonics.Push = inr refl
-mnemonic_key mnemonics.Pop = inr refl
-mnemonic_key mnemonics.Cpsie = inr refl
-mnemonic_key mnemonics.Cpsid = inr refl
-mnemonic_key mnemonics.Rev = inr refl
-mnemonic_key mnemonics.Rev16 = inr refl
-mnemonic_key mnemonics.Revsh = inr refl
-mnemonic_key mnemonics.Bkpt = inr refl
-mnemonic_key mnemonics.Nop = inr refl
-mnemonic_key mnemonics.Yield = inr refl
-mnemonic_key mnemonics.Wfe = inr refl
-mnemonic_key mnemonics.Wfi = inr refl
-mnemonic_key mnemonics.Sev = inr refl
-mnemonic_key mnemonics.Stm = inr refl
-mnemonic_key mnemonics.Ldm = inr refl
-mnemonic_key mnemonics.Udf = inr refl
-mnemonic_key mnemonics.Svc = inr refl
-mnemonic_key mnemonics.Mrs = inr refl
-mnemonic_key mnemonics.Msr = inr refl
-mnemonic_key mnemonics.Dsb = inr refl
-mnemonic_key mnemonics.Dmb = inr refl
-mnemonic_key mnemonics.Isb = inr refl
+mnemonic_key m = inr refl
 
 load_key : key_of (text_of mnemonics.Ldr) ≡ 3
 unfolding key_of text_of
@@ -157,63 +89,7 @@ load_key = refl
 mnemonic_begins : (m : Mnemonic) → (get_or (text_of m) 0 0 == 46) ≡ false
 unfolding text_of
 mnemonic_begins mnemonics.Lsls = refl
-mnemonic_begins mnemonics.Lsrs = refl
-mnemonic_begins mnemonics.Asrs = refl
-mnemonic_begins mnemonics.Adds = refl
-mnemonic_begins mnemonics.Subs = refl
-mnemonic_begins mnemonics.Movs = refl
-mnemonic_begins mnemonics.Cmp = refl
-mnemonic_begins mnemonics.Ands = refl
-mnemonic_begins mnemonics.Eors = refl
-mnemonic_begins mnemonics.Adcs = refl
-mnemonic_begins mnemonics.Sbcs = refl
-mnemonic_begins mnemonics.Rors = refl
-mnemonic_begins mnemonics.Tst = refl
-mnemonic_begins mnemonics.Rsbs = refl
-mnemonic_begins mnemonics.Cmn = refl
-mnemonic_begins mnemonics.Orrs = refl
-mnemonic_begins mnemonics.Muls = refl
-mnemonic_begins mnemonics.Bics = refl
-mnemonic_begins mnemonics.Mvns = refl
-mnemonic_begins mnemonics.Add = refl
-mnemonic_begins mnemonics.Mov = refl
-mnemonic_begins mnemonics.Bx = refl
-mnemonic_begins mnemonics.Blx = refl
-mnemonic_begins mnemonics.Str = refl
-mnemonic_begins mnemonics.Strh = refl
-mnemonic_begins mnemonics.Strb = refl
-mnemonic_begins mnemonics.Ldrsb = refl
-mnemonic_begins mnemonics.Ldr = refl
-mnemonic_begins mnemonics.Ldrh = refl
-mnemonic_begins mnemonics.Ldrb = refl
-mnemonic_begins mnemonics.Ldrsh = refl
-mnemonic_begins mnemonics.Sub = refl
-mnemonic_begins mnemonics.Sxth = refl
-mnemonic_begins mnemonics.Sxtb = refl
-mnemonic_begins mnemonics.Uxth = refl
-mnemonic_begins mnemonics.Uxtb = refl
-mnemonic_begins mnemonics.Push = refl
-mnemonic_begins mnemonics.Pop = refl
-mnemonic_begins mnemonics.Cpsie = refl
-mnemonic_begins mnemonics.Cpsid = refl
-mnemonic_begins mnemonics.Rev = refl
-mnemonic_begins mnemonics.Rev16 = refl
-mnemonic_begins mnemonics.Revsh = refl
-mnemonic_begins mnemonics.Bkpt = refl
-mnemonic_begins mnemonics.Nop = refl
-mnemonic_begins mnemonics.Yield = refl
-mnemonic_begins mnemonics.Wfe = refl
-mnemonic_begins mnemonics.Wfi = refl
-mnemonic_begins mnemonics.Sev = refl
-mnemonic_begins mnemonics.Stm = refl
-mnemonic_begins mnemonics.Ldm = refl
-mnemonic_begins mnemonics.Udf = refl
-mnemonic_begins mnemonics.Svc = refl
-mnemonic_begins mnemonics.Mrs = refl
-mnemonic_begins mnemonics.Msr = refl
-mnemonic_begins mnemonics.Dsb = refl
-mnemonic_begins mnemonics.Dmb = refl
-mnemonic_begins mnemonics.Isb = refl
+mnemonic_begins m = refl
 
 -- which directive a word is: 1 for `.word`, 2 for another with a dot, 3 for none
 directive : List ℕ → ℕ
@@ -321,31 +197,12 @@ one_aimed : (one other : Aim) (to too : Destination) (bytes : List ℕ) (rest : 
     → (one ≡ other) × AreAlikeDestinations to too
 unfolding key
 one_aimed aims.Branch aims.Branch to too bytes rest same x y = (refl, one_last_destination to too rest x.1 y.1)
-one_aimed aims.Branch (aims.BranchIf d) to too bytes rest same x y = absurd (omega (arith, same))
-one_aimed aims.Branch aims.BranchLink to too bytes rest same x y = absurd (omega (arith, same))
-one_aimed aims.Branch (aims.Load d) to too bytes rest same x y = absurd (omega (arith, same))
-one_aimed aims.Branch (aims.Address d) to too bytes rest same x y = absurd (omega (arith, same))
-one_aimed (aims.BranchIf c) aims.Branch to too bytes rest same x y = absurd (omega (arith, same))
 one_aimed (aims.BranchIf c) (aims.BranchIf d) to too bytes rest same x y =
     (ap aims.BranchIf (one_condition c d (omega (arith, same))), one_last_destination to too rest x.1 y.1)
-one_aimed (aims.BranchIf c) aims.BranchLink to too bytes rest same x y = absurd (omega (arith, same))
-one_aimed (aims.BranchIf c) (aims.Load d) to too bytes rest same x y = absurd (omega (arith, same))
-one_aimed (aims.BranchIf c) (aims.Address d) to too bytes rest same x y = absurd (omega (arith, same))
-one_aimed aims.BranchLink aims.Branch to too bytes rest same x y = absurd (omega (arith, same))
-one_aimed aims.BranchLink (aims.BranchIf d) to too bytes rest same x y = absurd (omega (arith, same))
 one_aimed aims.BranchLink aims.BranchLink to too bytes rest same x y = (refl, one_last_destination to too rest x.1 y.1)
-one_aimed aims.BranchLink (aims.Load d) to too bytes rest same x y = absurd (omega (arith, same))
-one_aimed aims.BranchLink (aims.Address d) to too bytes rest same x y = absurd (omega (arith, same))
-one_aimed (aims.Load c) aims.Branch to too bytes rest same x y = absurd (omega (arith, same))
-one_aimed (aims.Load c) (aims.BranchIf d) to too bytes rest same x y = absurd (omega (arith, same))
-one_aimed (aims.Load c) aims.BranchLink to too bytes rest same x y = absurd (omega (arith, same))
 one_aimed (aims.Load c) (aims.Load d) to too bytes rest same x y = one_pair_load c d to too rest x.1 y.1
-one_aimed (aims.Load c) (aims.Address d) to too bytes rest same x y = absurd (omega (arith, same))
-one_aimed (aims.Address c) aims.Branch to too bytes rest same x y = absurd (omega (arith, same))
-one_aimed (aims.Address c) (aims.BranchIf d) to too bytes rest same x y = absurd (omega (arith, same))
-one_aimed (aims.Address c) aims.BranchLink to too bytes rest same x y = absurd (omega (arith, same))
-one_aimed (aims.Address c) (aims.Load d) to too bytes rest same x y = absurd (omega (arith, same))
 one_aimed (aims.Address c) (aims.Address d) to too bytes rest same x y = one_pair_address c d to too rest x.1 y.1
+one_aimed one other to too bytes rest same x y = absurd (omega (arith, same))
 
 with_nothing : (f : ℕ → Option Instr) (field : Option ℕ) (i : Instr) → ((x : ℕ) → f x ≡ None) → with_field f field ≡ Some i → ⊥
 with_nothing f None i nothing is = absurd (cc)
@@ -359,10 +216,6 @@ no_bracket_destination (destinations.Address address) (mark byte) is x = x
 -- `LDR` has a row only where a bracket is
 load_row : (o : Operands) (i : Instr) → row_of (forms.Plain mnemonics.Ldr o) 0 ≡ Some i → (t : ℕ) (to : Destination) (tokens : List Token) → Spell o tokens
     → Are (low_register t ∷ comma ∷ destination to ∷ []) tokens → ⊥
-load_row operands.None i is t to tokens x y = absurd (cc)
-load_row (operands.One m) i is t to tokens x y = absurd (cc)
-load_row (operands.Two d m) i is t to tokens x y = absurd (cc)
-load_row (operands.Three d n m) i is t to tokens x y = absurd (cc)
 load_row (operands.Immediate v) i is t to tokens x y = with_nothing (row_immediate mnemonics.Ldr) _ i (λ field. refl) is
 load_row (operands.OneImmediate d v) i is t to tokens x y = with_nothing (row_one_immediate mnemonics.Ldr d) _ i (λ field. refl) is
 load_row (operands.TwoImmediate d n v) i is t to tokens x y = with_nothing (row_two_immediate mnemonics.Ldr d n) _ i (λ field. refl) is
@@ -374,12 +227,9 @@ load_row (operands.ByOffset a n v) i is t to [] x y = absurd y
 load_row (operands.ByOffset a n v) i is t to (first ∷ []) x y = absurd y.1
 load_row (operands.ByOffset a n v) i is t to (first ∷ second ∷ []) x y = absurd y.1.1
 load_row (operands.ByOffset a n v) i is t to (first ∷ second ∷ third ∷ rest) x y = no_bracket_destination to third x.1.1.0 y.1.1.0
-load_row (operands.List list) i is t to tokens x y = absurd (cc)
 load_row (operands.BaseList n list) i is t to tokens x y = with_nothing (row_base_list mnemonics.Ldr n) _ i (λ field. refl) is
 load_row (operands.UpdatedList n list) i is t to tokens x y = with_nothing (row_updated_list mnemonics.Ldr n) _ i (λ field. refl) is
-load_row operands.Interrupts i is t to tokens x y = absurd (cc)
-load_row (operands.FromSpecial d s) i is t to tokens x y = absurd (cc)
-load_row (operands.ToSpecial s n) i is t to tokens x y = absurd (cc)
+load_row o i is t to tokens x y = absurd (cc)
 
 -- an instruction without a destination is none with one
 plain_or_aimed : (instr : Instr) (aim : Aim) (to : Destination) (bytes : List ℕ) (rest : List Token) → ArePlain instr (word bytes ∷ rest) →
@@ -434,47 +284,24 @@ by_word : (one other : Operation) (bytes : List ℕ) (rest : List Token) → sor
     → AreAlikeOperations one other
 unfolding sort_of
 by_word operations.Nothing operations.Nothing bytes rest same x y = tt
-by_word operations.Nothing (operations.Word b) bytes rest same x y = absurd (omega (arith, same))
-by_word operations.Nothing operations.Align bytes rest same x y = absurd (omega (arith, same))
-by_word operations.Nothing (operations.Plain b) bytes rest same x y = absurd (omega (arith, same))
-by_word operations.Nothing (operations.Aimed b too) bytes rest same x y = absurd (omega (arith, same))
-by_word (operations.Word a) operations.Nothing bytes rest same x y = absurd (omega (arith, same))
 by_word (operations.Word a) (operations.Word b) bytes rest same x y = one_value a b rest x.1 y.1
-by_word (operations.Word a) operations.Align bytes rest same x y = absurd (omega (arith, same))
-by_word (operations.Word a) (operations.Plain b) bytes rest same x y = absurd (omega (arith, same))
-by_word (operations.Word a) (operations.Aimed b too) bytes rest same x y = absurd (omega (arith, same))
-by_word operations.Align operations.Nothing bytes rest same x y = absurd (omega (arith, same))
-by_word operations.Align (operations.Word b) bytes rest same x y = absurd (omega (arith, same))
 by_word operations.Align operations.Align bytes rest same x y = tt
-by_word operations.Align (operations.Plain b) bytes rest same x y = absurd (omega (arith, same))
-by_word operations.Align (operations.Aimed b too) bytes rest same x y = absurd (omega (arith, same))
-by_word (operations.Plain a) operations.Nothing bytes rest same x y = absurd (omega (arith, same))
-by_word (operations.Plain a) (operations.Word b) bytes rest same x y = absurd (omega (arith, same))
-by_word (operations.Plain a) operations.Align bytes rest same x y = absurd (omega (arith, same))
 by_word (operations.Plain a) (operations.Plain b) bytes rest same x y = one_plain a b bytes rest x y
 by_word (operations.Plain a) (operations.Aimed b too) bytes rest same x y = absurd (plain_or_aimed a b too bytes rest x y)
-by_word (operations.Aimed a to) operations.Nothing bytes rest same x y = absurd (omega (arith, same))
-by_word (operations.Aimed a to) (operations.Word b) bytes rest same x y = absurd (omega (arith, same))
-by_word (operations.Aimed a to) operations.Align bytes rest same x y = absurd (omega (arith, same))
 by_word (operations.Aimed a to) (operations.Plain b) bytes rest same x y = absurd (plain_or_aimed b a to bytes rest y x)
 by_word (operations.Aimed a to) (operations.Aimed b too) bytes rest same x y =
     one_aimed a b to too bytes rest (sym (aimed_key a to bytes rest x) ∙ aimed_key b too bytes rest y) x y
+by_word one other bytes rest same x y = absurd (omega (arith, same))
 
 none_of_none : (operation : Operation) → sort_of operation ≡ 0 → operation ≡ operations.Nothing
 unfolding sort_of
 none_of_none operations.Nothing is = refl
-none_of_none (operations.Word value) is = absurd (omega (arith, is))
-none_of_none operations.Align is = absurd (omega (arith, is))
-none_of_none (operations.Plain instr) is = absurd (omega (arith, is))
-none_of_none (operations.Aimed aim to) is = absurd (omega (arith, is))
+none_of_none operation is = absurd (omega (arith, is))
 
 at_most_three : (operation : Operation) → sort_of operation ≤ 3
 unfolding sort_of
 at_most_three operations.Nothing = omega arith
-at_most_three (operations.Word value) = omega arith
-at_most_three operations.Align = omega arith
-at_most_three (operations.Plain instr) = omega arith
-at_most_three (operations.Aimed aim to) = omega arith
+at_most_three operation = omega arith
 
 pub one_operation : (one other : Operation) (tokens : List Token) → AreOperation one tokens → AreOperation other tokens → AreAlikeOperations one other
 unfolding sort

@@ -9,8 +9,8 @@ use Rattle.std.proofs.lemmas.Nat.Bits.{bit_at-lt, bit_at_or, and_pow, bit_at-pow
 use Rattle.armv6m_alu.specs.Bits.{is_bit_set}
 use Rattle.armv6m_forms.specs.Text.{register_text}
 use Rattle.armv6m_asm.specs.declared.symbol.Symbol.{Symbol}
-use Rattle.armv6m_asm.specs.declared.symbol.Symbol.TheVariants.{Register, Special, Number, Interrupts, Comma, Hash, Exclamation, OpenBracket, CloseBracket}
-use Rattle.armv6m_asm.specs.declared.symbol.Symbol.TheVariants.{OpenBrace, CloseBrace, Other}
+use Rattle.armv6m_asm.specs.declared.symbol.Symbol.TheVariants.{Register, Comma}
+use Rattle.armv6m_asm.specs.declared.symbol.Symbol.TheVariants.{CloseBrace}
 use Rattle.armv6m_asm.specs.Token.{Token, word, mark}
 use Rattle.armv6m_asm.specs.Statement.{register, list_tokens, AreList}
 use Rattle.armv6m_asm.specs.Reading.{register_in, with_one_more, is_comma, ends_list, list_of, symbol_of}
@@ -187,46 +187,15 @@ list_of-list list tokens is = at is.registers is.some is.each is.once is.list_is
 
 register_in_is : (symbol : Symbol) (r : ℕ) → register_in symbol ≡ Some r → symbol ≡ Register r
 register_in_is (Register x) r is = let same : x ≡ r = cc in ap Register same
-register_in_is (Special x) r is = absurd (cc)
-register_in_is (Number x) r is = absurd (cc)
-register_in_is Interrupts r is = absurd (cc)
-register_in_is Comma r is = absurd (cc)
-register_in_is Hash r is = absurd (cc)
-register_in_is Exclamation r is = absurd (cc)
-register_in_is OpenBracket r is = absurd (cc)
-register_in_is CloseBracket r is = absurd (cc)
-register_in_is OpenBrace r is = absurd (cc)
-register_in_is CloseBrace r is = absurd (cc)
-register_in_is Other r is = absurd (cc)
+register_in_is symbol r is = absurd (cc)
 
 is_comma_is : (symbol : Symbol) → is_comma symbol ≡ true → symbol ≡ Comma
-is_comma_is (Register x) is = absurd (cc)
-is_comma_is (Special x) is = absurd (cc)
-is_comma_is (Number x) is = absurd (cc)
-is_comma_is Interrupts is = absurd (cc)
 is_comma_is Comma is = refl
-is_comma_is Hash is = absurd (cc)
-is_comma_is Exclamation is = absurd (cc)
-is_comma_is OpenBracket is = absurd (cc)
-is_comma_is CloseBracket is = absurd (cc)
-is_comma_is OpenBrace is = absurd (cc)
-is_comma_is CloseBrace is = absurd (cc)
-is_comma_is Other is = absurd (cc)
+is_comma_is symbol is = absurd (cc)
 
 ends_list_is : (symbol : Symbol) (rest : List Symbol) → ends_list (symbol ∷ rest) ≡ true → (symbol ≡ CloseBrace) × (rest ≡ [])
-ends_list_is (Register x) rest is = absurd (cc)
-ends_list_is (Special x) rest is = absurd (cc)
-ends_list_is (Number x) rest is = absurd (cc)
-ends_list_is Interrupts rest is = absurd (cc)
-ends_list_is Comma rest is = absurd (cc)
-ends_list_is Hash rest is = absurd (cc)
-ends_list_is Exclamation rest is = absurd (cc)
-ends_list_is OpenBracket rest is = absurd (cc)
-ends_list_is CloseBracket rest is = absurd (cc)
-ends_list_is OpenBrace rest is = absurd (cc)
 ends_list_is CloseBrace [] is = (refl, refl)
-ends_list_is CloseBrace (symbol ∷ rest) is = absurd (cc)
-ends_list_is Other rest is = absurd (cc)
+ends_list_is symbol rest is = absurd (cc)
 
 -- the registers of the tokens behind an open brace
 pub record HasRegisters (before list : ℕ) (tokens : List Token) : Type 0 where

@@ -4,7 +4,7 @@ use Rattle.armv6m_forms.specs.declared.form.Operands.{Operands}
 use Rattle.armv6m_forms.specs.declared.form.Operands.TheVariants as operands
 use Rattle.armv6m_asm.specs.declared.symbol.Symbol.{Symbol}
 use Rattle.armv6m_asm.specs.declared.symbol.Symbol.TheVariants.{Register, Special, Number, Interrupts, Comma, Hash, Exclamation, OpenBracket, CloseBracket}
-use Rattle.armv6m_asm.specs.declared.symbol.Symbol.TheVariants.{OpenBrace, CloseBrace, Other}
+use Rattle.armv6m_asm.specs.declared.symbol.Symbol.TheVariants.{OpenBrace}
 use Rattle.armv6m_asm.specs.Reading.{list_of, behind_comma, behind_open_brace, behind_close_bracket, register_first, number_first, at_end, closed, to_special}
 use Rattle.armv6m_asm.specs.Reading.{indexed, in_brackets, immediate, third, after_two, second, updated, after_one, operands_of}
 
@@ -36,21 +36,10 @@ Spelled (operands.ToSpecial special n) symbols = symbols ≡ Special special ∷
 
 pub operands_of-spelled : (o : Operands) (symbols : List Symbol) → Spelled o symbols → operands_of symbols ≡ Some o
 unfolding Spelled operands_of
-operands_of-spelled operands.None symbols is = rw is refl
-operands_of-spelled (operands.One m) symbols is = rw is refl
-operands_of-spelled (operands.Two d m) symbols is = rw is refl
-operands_of-spelled (operands.Three d n m) symbols is = rw is refl
-operands_of-spelled (operands.Immediate value) symbols is = rw is refl
-operands_of-spelled (operands.OneImmediate d value) symbols is = rw is refl
-operands_of-spelled (operands.TwoImmediate d n value) symbols is = rw is refl
-operands_of-spelled (operands.ByRegister t n m) symbols is = rw is refl
-operands_of-spelled (operands.ByOffset t n offset) symbols is = rw is refl
 operands_of-spelled (operands.List list) symbols is = rw (is.symbols_are, is.listed) refl
 operands_of-spelled (operands.BaseList n list) symbols is = rw (is.symbols_are, is.listed) refl
 operands_of-spelled (operands.UpdatedList n list) symbols is = rw (is.symbols_are, is.listed) refl
-operands_of-spelled operands.Interrupts symbols is = rw is refl
-operands_of-spelled (operands.FromSpecial d special) symbols is = rw is refl
-operands_of-spelled (operands.ToSpecial special n) symbols is = rw is refl
+operands_of-spelled o symbols is = rw is refl
 
 -- ---- from the function to the definition
 
@@ -63,81 +52,26 @@ map_is f None u is = absurd (cc)
 map_is f (Some t) u is = (t, (refl, (let same : f t ≡ u = cc in same)))
 
 behind_comma_is : (symbols more : List Symbol) → behind_comma symbols ≡ Some more → symbols ≡ Comma ∷ more
-behind_comma_is [] more is = absurd (cc)
-behind_comma_is (Register x ∷ rest) more is = absurd (cc)
-behind_comma_is (Special x ∷ rest) more is = absurd (cc)
-behind_comma_is (Number x ∷ rest) more is = absurd (cc)
-behind_comma_is (Interrupts ∷ rest) more is = absurd (cc)
 behind_comma_is (Comma ∷ rest) more is = let same : rest ≡ more = cc in ap (λ (r : List Symbol). Comma ∷ r) same
-behind_comma_is (Hash ∷ rest) more is = absurd (cc)
-behind_comma_is (Exclamation ∷ rest) more is = absurd (cc)
-behind_comma_is (OpenBracket ∷ rest) more is = absurd (cc)
-behind_comma_is (CloseBracket ∷ rest) more is = absurd (cc)
-behind_comma_is (OpenBrace ∷ rest) more is = absurd (cc)
-behind_comma_is (CloseBrace ∷ rest) more is = absurd (cc)
-behind_comma_is (Other ∷ rest) more is = absurd (cc)
+behind_comma_is symbols more is = absurd (cc)
 
 behind_open_brace_is : (symbols more : List Symbol) → behind_open_brace symbols ≡ Some more → symbols ≡ OpenBrace ∷ more
-behind_open_brace_is [] more is = absurd (cc)
-behind_open_brace_is (Register x ∷ rest) more is = absurd (cc)
-behind_open_brace_is (Special x ∷ rest) more is = absurd (cc)
-behind_open_brace_is (Number x ∷ rest) more is = absurd (cc)
-behind_open_brace_is (Interrupts ∷ rest) more is = absurd (cc)
-behind_open_brace_is (Comma ∷ rest) more is = absurd (cc)
-behind_open_brace_is (Hash ∷ rest) more is = absurd (cc)
-behind_open_brace_is (Exclamation ∷ rest) more is = absurd (cc)
-behind_open_brace_is (OpenBracket ∷ rest) more is = absurd (cc)
-behind_open_brace_is (CloseBracket ∷ rest) more is = absurd (cc)
 behind_open_brace_is (OpenBrace ∷ rest) more is = let same : rest ≡ more = cc in ap (λ (r : List Symbol). OpenBrace ∷ r) same
-behind_open_brace_is (CloseBrace ∷ rest) more is = absurd (cc)
-behind_open_brace_is (Other ∷ rest) more is = absurd (cc)
+behind_open_brace_is symbols more is = absurd (cc)
 
 behind_close_bracket_is : (symbols more : List Symbol) → behind_close_bracket symbols ≡ Some more → symbols ≡ CloseBracket ∷ more
-behind_close_bracket_is [] more is = absurd (cc)
-behind_close_bracket_is (Register x ∷ rest) more is = absurd (cc)
-behind_close_bracket_is (Special x ∷ rest) more is = absurd (cc)
-behind_close_bracket_is (Number x ∷ rest) more is = absurd (cc)
-behind_close_bracket_is (Interrupts ∷ rest) more is = absurd (cc)
-behind_close_bracket_is (Comma ∷ rest) more is = absurd (cc)
-behind_close_bracket_is (Hash ∷ rest) more is = absurd (cc)
-behind_close_bracket_is (Exclamation ∷ rest) more is = absurd (cc)
-behind_close_bracket_is (OpenBracket ∷ rest) more is = absurd (cc)
 behind_close_bracket_is (CloseBracket ∷ rest) more is = let same : rest ≡ more = cc in ap (λ (r : List Symbol). CloseBracket ∷ r) same
-behind_close_bracket_is (OpenBrace ∷ rest) more is = absurd (cc)
-behind_close_bracket_is (CloseBrace ∷ rest) more is = absurd (cc)
-behind_close_bracket_is (Other ∷ rest) more is = absurd (cc)
+behind_close_bracket_is symbols more is = absurd (cc)
 
 register_first_is : (symbols : List Symbol) (n : ℕ) (more : List Symbol) → register_first symbols ≡ Some (n, more) → symbols ≡ Register n ∷ more
-register_first_is [] n more is = absurd (cc)
 register_first_is (Register x ∷ rest) n more is = let pair : ◌≡◌ {A = ℕ × List Symbol} (x, rest) (n, more) = cc in
     ap (λ (p : ℕ × List Symbol). Register p.0 ∷ p.1) pair
-register_first_is (Special x ∷ rest) n more is = absurd (cc)
-register_first_is (Number x ∷ rest) n more is = absurd (cc)
-register_first_is (Interrupts ∷ rest) n more is = absurd (cc)
-register_first_is (Comma ∷ rest) n more is = absurd (cc)
-register_first_is (Hash ∷ rest) n more is = absurd (cc)
-register_first_is (Exclamation ∷ rest) n more is = absurd (cc)
-register_first_is (OpenBracket ∷ rest) n more is = absurd (cc)
-register_first_is (CloseBracket ∷ rest) n more is = absurd (cc)
-register_first_is (OpenBrace ∷ rest) n more is = absurd (cc)
-register_first_is (CloseBrace ∷ rest) n more is = absurd (cc)
-register_first_is (Other ∷ rest) n more is = absurd (cc)
+register_first_is symbols n more is = absurd (cc)
 
 number_first_is : (symbols : List Symbol) (n : ℕ) (more : List Symbol) → number_first symbols ≡ Some (n, more) → symbols ≡ Number n ∷ more
-number_first_is [] n more is = absurd (cc)
-number_first_is (Register x ∷ rest) n more is = absurd (cc)
-number_first_is (Special x ∷ rest) n more is = absurd (cc)
 number_first_is (Number x ∷ rest) n more is = let pair : ◌≡◌ {A = ℕ × List Symbol} (x, rest) (n, more) = cc in
     ap (λ (p : ℕ × List Symbol). Number p.0 ∷ p.1) pair
-number_first_is (Interrupts ∷ rest) n more is = absurd (cc)
-number_first_is (Comma ∷ rest) n more is = absurd (cc)
-number_first_is (Hash ∷ rest) n more is = absurd (cc)
-number_first_is (Exclamation ∷ rest) n more is = absurd (cc)
-number_first_is (OpenBracket ∷ rest) n more is = absurd (cc)
-number_first_is (CloseBracket ∷ rest) n more is = absurd (cc)
-number_first_is (OpenBrace ∷ rest) n more is = absurd (cc)
-number_first_is (CloseBrace ∷ rest) n more is = absurd (cc)
-number_first_is (Other ∷ rest) n more is = absurd (cc)
+number_first_is symbols n more is = absurd (cc)
 
 at_end_is : (made o : Operands) (symbols : List Symbol) → at_end made symbols ≡ Some o → (symbols ≡ []) × (made ≡ o)
 at_end_is made o [] is = (refl, (let same : made ≡ o = cc in same))
@@ -177,13 +111,8 @@ to_special_is special o symbols is =
 indexed_is : (t n : ℕ) (o : Operands) (symbols : List Symbol) → indexed t n symbols ≡ Some o →
     Spelled o (Register t ∷ Comma ∷ OpenBracket ∷ Register n ∷ Comma ∷ symbols)
 unfolding Spelled
-indexed_is t n o [] is = absurd (cc)
 indexed_is t n o (Register x ∷ rest) is = let it = closed_is (operands.ByRegister t n x) o rest is in
     let end = it.0 in replaced (operands.ByRegister t n x) o _ it.1 (rw end refl)
-indexed_is t n o (Special x ∷ rest) is = absurd (cc)
-indexed_is t n o (Number x ∷ rest) is = absurd (cc)
-indexed_is t n o (Interrupts ∷ rest) is = absurd (cc)
-indexed_is t n o (Comma ∷ rest) is = absurd (cc)
 indexed_is t n o (Hash ∷ rest) is =
     let (value, (first, end)) = and_then_is (λ (offset : ℕ × List Symbol). closed (operands.ByOffset t n offset.0) offset.1) (number_first rest) o is in
     let it = closed_is (operands.ByOffset t n value.0) o value.1 end in
@@ -191,12 +120,7 @@ indexed_is t n o (Hash ∷ rest) is =
     let bracket = it.0 in
     replaced (operands.ByOffset t n value.0) o _ it.1 (ap (λ (r : List Symbol). Register t ∷ Comma ∷ OpenBracket ∷ Register n ∷ Comma ∷ Hash ∷ r)
     (begins ∙ ap (λ (r : List Symbol). Number value.0 ∷ r) bracket))
-indexed_is t n o (Exclamation ∷ rest) is = absurd (cc)
-indexed_is t n o (OpenBracket ∷ rest) is = absurd (cc)
-indexed_is t n o (CloseBracket ∷ rest) is = absurd (cc)
-indexed_is t n o (OpenBrace ∷ rest) is = absurd (cc)
-indexed_is t n o (CloseBrace ∷ rest) is = absurd (cc)
-indexed_is t n o (Other ∷ rest) is = absurd (cc)
+indexed_is t n o symbols is = absurd (cc)
 
 in_brackets_is : (t : ℕ) (o : Operands) (symbols : List Symbol) → in_brackets t symbols ≡ Some o → Spelled o (Register t ∷ Comma ∷ OpenBracket ∷ symbols)
 in_brackets_is t o symbols is =
@@ -209,21 +133,11 @@ in_brackets_is t o symbols is =
 
 third_is : (d n : ℕ) (o : Operands) (symbols : List Symbol) → third d n symbols ≡ Some o → Spelled o (Register d ∷ Comma ∷ Register n ∷ Comma ∷ symbols)
 unfolding Spelled
-third_is d n o [] is = absurd (cc)
 third_is d n o (Register x ∷ rest) is = let it = at_end_is (operands.Three d n x) o rest is in
     let end = it.0 in replaced (operands.Three d n x) o _ it.1 (rw end refl)
-third_is d n o (Special x ∷ rest) is = absurd (cc)
-third_is d n o (Number x ∷ rest) is = absurd (cc)
-third_is d n o (Interrupts ∷ rest) is = absurd (cc)
-third_is d n o (Comma ∷ rest) is = absurd (cc)
 third_is d n o (Hash ∷ rest) is = let (value, (end, same)) = immediate_is (operands.TwoImmediate d n) o rest is in
     replaced (operands.TwoImmediate d n value) o _ same (ap (λ (r : List Symbol). Register d ∷ Comma ∷ Register n ∷ Comma ∷ Hash ∷ r) end)
-third_is d n o (Exclamation ∷ rest) is = absurd (cc)
-third_is d n o (OpenBracket ∷ rest) is = absurd (cc)
-third_is d n o (CloseBracket ∷ rest) is = absurd (cc)
-third_is d n o (OpenBrace ∷ rest) is = absurd (cc)
-third_is d n o (CloseBrace ∷ rest) is = absurd (cc)
-third_is d n o (Other ∷ rest) is = absurd (cc)
+third_is d n o symbols is = absurd (cc)
 
 after_two_is : (d n : ℕ) (o : Operands) (symbols : List Symbol) → after_two d n symbols ≡ Some o → Spelled o (Register d ∷ Comma ∷ Register n ∷ symbols)
 unfolding Spelled
@@ -235,22 +149,15 @@ after_two_is d n o (symbol ∷ rest) is =
 
 second_is : (d : ℕ) (o : Operands) (symbols : List Symbol) → second d symbols ≡ Some o → Spelled o (Register d ∷ Comma ∷ symbols)
 unfolding Spelled
-second_is d o [] is = absurd (cc)
 second_is d o (Register x ∷ rest) is = after_two_is d x o rest is
 second_is d o (Special x ∷ rest) is = let it = at_end_is (operands.FromSpecial d x) o rest is in
     let end = it.0 in replaced (operands.FromSpecial d x) o _ it.1 (rw end refl)
-second_is d o (Number x ∷ rest) is = absurd (cc)
-second_is d o (Interrupts ∷ rest) is = absurd (cc)
-second_is d o (Comma ∷ rest) is = absurd (cc)
 second_is d o (Hash ∷ rest) is = let (value, (end, same)) = immediate_is (operands.OneImmediate d) o rest is in
     replaced (operands.OneImmediate d value) o _ same (ap (λ (r : List Symbol). Register d ∷ Comma ∷ Hash ∷ r) end)
-second_is d o (Exclamation ∷ rest) is = absurd (cc)
 second_is d o (OpenBracket ∷ rest) is = in_brackets_is d o rest is
-second_is d o (CloseBracket ∷ rest) is = absurd (cc)
 second_is d o (OpenBrace ∷ rest) is = let (list, (listed, same)) = map_is (operands.BaseList d) (list_of 0 rest) o is in
     replaced (operands.BaseList d list) o _ same (record { rest = rest; symbols_are = refl; listed = listed })
-second_is d o (CloseBrace ∷ rest) is = absurd (cc)
-second_is d o (Other ∷ rest) is = absurd (cc)
+second_is d o symbols is = absurd (cc)
 
 updated_is : (n : ℕ) (o : Operands) (symbols : List Symbol) → updated n symbols ≡ Some o → Spelled o (Register n ∷ Exclamation ∷ symbols)
 unfolding Spelled
@@ -271,34 +178,19 @@ updated_is n o symbols is =
 after_one_is : (d : ℕ) (o : Operands) (symbols : List Symbol) → after_one d symbols ≡ Some o → Spelled o (Register d ∷ symbols)
 unfolding Spelled
 after_one_is d o [] is = replaced (operands.One d) o _ (let same : operands.One d ≡ o = cc in same) refl
-after_one_is d o (Register x ∷ rest) is = absurd (cc)
-after_one_is d o (Special x ∷ rest) is = absurd (cc)
-after_one_is d o (Number x ∷ rest) is = absurd (cc)
-after_one_is d o (Interrupts ∷ rest) is = absurd (cc)
 after_one_is d o (Comma ∷ rest) is = second_is d o rest is
-after_one_is d o (Hash ∷ rest) is = absurd (cc)
 after_one_is d o (Exclamation ∷ rest) is = updated_is d o rest is
-after_one_is d o (OpenBracket ∷ rest) is = absurd (cc)
-after_one_is d o (CloseBracket ∷ rest) is = absurd (cc)
-after_one_is d o (OpenBrace ∷ rest) is = absurd (cc)
-after_one_is d o (CloseBrace ∷ rest) is = absurd (cc)
-after_one_is d o (Other ∷ rest) is = absurd (cc)
+after_one_is d o symbols is = absurd (cc)
 
 pub operands_of-is : (o : Operands) (symbols : List Symbol) → operands_of symbols ≡ Some o → Spelled o symbols
 unfolding Spelled operands_of
 operands_of-is o [] is = replaced operands.None o _ (let same : operands.None ≡ o = cc in same) refl
 operands_of-is o (Register x ∷ rest) is = after_one_is x o rest is
 operands_of-is o (Special x ∷ rest) is = to_special_is x o rest is
-operands_of-is o (Number x ∷ rest) is = absurd (cc)
 operands_of-is o (Interrupts ∷ rest) is = let it = at_end_is operands.Interrupts o rest is in
     let end = it.0 in replaced operands.Interrupts o _ it.1 (rw end refl)
-operands_of-is o (Comma ∷ rest) is = absurd (cc)
 operands_of-is o (Hash ∷ rest) is = let (value, (end, same)) = immediate_is operands.Immediate o rest is in
     replaced (operands.Immediate value) o _ same (ap (λ (r : List Symbol). Hash ∷ r) end)
-operands_of-is o (Exclamation ∷ rest) is = absurd (cc)
-operands_of-is o (OpenBracket ∷ rest) is = absurd (cc)
-operands_of-is o (CloseBracket ∷ rest) is = absurd (cc)
 operands_of-is o (OpenBrace ∷ rest) is = let (list, (listed, same)) = map_is operands.List (list_of 0 rest) o is in
     replaced (operands.List list) o _ same (record { rest = rest; symbols_are = refl; listed = listed })
-operands_of-is o (CloseBrace ∷ rest) is = absurd (cc)
-operands_of-is o (Other ∷ rest) is = absurd (cc)
+operands_of-is o symbols is = absurd (cc)

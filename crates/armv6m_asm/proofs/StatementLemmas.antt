@@ -106,11 +106,9 @@ address_text d = refl
 
 branch_begins : (aim : Aim) → IsBranch aim → get_or (aim_text aim) 0 0 ≡ 66
 unfolding aim_text
-branch_begins aims.Branch is = refl
-branch_begins (aims.BranchIf condition) is = refl
-branch_begins aims.BranchLink is = refl
 branch_begins (aims.Load t) is = absurd is
 branch_begins (aims.Address d) is = absurd is
+branch_begins aim is = refl
 
 no_branch : (bytes : List ℕ) (n : ℕ) → get_or bytes 0 0 ≡ n → n ≢ 66 → (aim : Aim) → IsBranch aim → aim_text aim ≢ bytes
 no_branch bytes n first other aim is same = other (sym first ∙ ap (λ (b : List ℕ). get_or b 0 0) (sym same) ∙ branch_begins aim is)
@@ -119,11 +117,9 @@ no_branch bytes n first other aim is same = other (sym first ∙ ap (λ (b : Lis
 pub branch_aimed : (aim : Aim) (to : Destination) (bytes : List ℕ) (tokens : List Token) → IsBranch aim → aim_text aim ≡ bytes →
     Are (destination to ∷ []) tokens
     → AreAimed aim to (word bytes ∷ tokens)
-branch_aimed aims.Branch to bytes tokens branch is aimed = (ap word (sym is), aimed)
-branch_aimed (aims.BranchIf condition) to bytes tokens branch is aimed = (ap word (sym is), aimed)
-branch_aimed aims.BranchLink to bytes tokens branch is aimed = (ap word (sym is), aimed)
 branch_aimed (aims.Load t) to bytes tokens branch is aimed = absurd branch
 branch_aimed (aims.Address d) to bytes tokens branch is aimed = absurd branch
+branch_aimed aim to bytes tokens branch is aimed = (ap word (sym is), aimed)
 
 same_word : (a b : List ℕ) → word a ≡ word b → a ≡ b
 same_word a b is = cc

@@ -153,9 +153,6 @@ labels_split statements k d lt = ap (labels_of 0) (split_at statements k d lt) �
 
 pub found_fault : (statements : List Statement) (k place : ℕ) (d : Statement) (labels : List Label) (fault : AsmFault) → k < length statements →
     HasFound statements k place labels → IsAddFault labels (label_at (get_or statements k d).label place) fault → IsLabelFault statements fault
-found_fault statements k place d labels (BadWord line) lt h is = is
-found_fault statements k place d labels (NoLabel name) lt h is = is
-found_fault statements k place d labels (OutOfReach line) lt h is = is
 found_fault statements k place d labels OutOfMemory lt h is = tt
 found_fault statements k place d labels (TwiceLabel name) lt h is =
     let here = label_at (get_or statements k d).label (place_after 0 (take k statements)) in
@@ -174,6 +171,7 @@ found_fault statements k place d labels (TwiceLabel name) lt h is =
       once = h.once;
       twice = is.already;
     }
+found_fault statements k place d labels fault lt h is = is
 
 -- ---- destinations
 
@@ -211,9 +209,6 @@ destinations_here P statements k d lt all =
 pub destination_fault : (statements : List Statement) (k : ℕ) (d : Statement) (names : List (List ℕ)) (fault : AsmFault) → k < length statements →
     All (Contains names) (destinations_of (take k statements)) → IsMissingFault (get_or statements k d).operation names fault →
     IsDestinationFault (destinations_of statements) names fault
-destination_fault statements k d names (BadWord line) lt before is = is
-destination_fault statements k d names (TwiceLabel name) lt before is = is
-destination_fault statements k d names (OutOfReach line) lt before is = is
 destination_fault statements k d names OutOfMemory lt before is = tt
 destination_fault statements k d names (NoLabel name) lt before is =
     record {
@@ -224,6 +219,7 @@ destination_fault statements k d names (NoLabel name) lt before is =
       there = before;
       missing = is.missing;
     }
+destination_fault statements k d names fault lt before is = is
 
 -- ---- code
 
@@ -277,9 +273,6 @@ written_all labels statements k place line bytes h past = subst (λ (ss : List S
 pub written_fault : (labels : List Label) (statements : List Statement) (k place line : ℕ) (d : Statement) (bytes : List ℕ) (fault : AsmFault) →
     k < length statements → HasWritten labels statements k place line bytes → IsBeyondFault labels (get_or statements k d).operation place line fault →
     IsCodeFault labels statements fault
-written_fault labels statements k place line d bytes (BadWord answered) lt h is = is
-written_fault labels statements k place line d bytes (TwiceLabel name) lt h is = is
-written_fault labels statements k place line d bytes (NoLabel name) lt h is = is
 written_fault labels statements k place line d bytes OutOfMemory lt h is = tt
 written_fault labels statements k place line d bytes (OutOfReach answered) lt h is =
     let here = get_or statements k d in
@@ -293,6 +286,7 @@ written_fault labels statements k place line d bytes (OutOfReach answered) lt h 
       beyond = subst (GoesBeyond labels here.operation) h.place_is is.beyond;
       line_is = is.line_is ∙ h.line_is ∙ ap (λ (n : ℕ). n + 1) (sym (length-take-le k statements (omega arith)));
     }
+written_fault labels statements k place line d bytes fault lt h is = is
 
 -- ---- labels, one by one
 
@@ -311,22 +305,18 @@ added_label old new name place not added =
 
 pub text_read_fault : (text : List ℕ) (fault : AsmFault) → IsReadFault (lines_of text) fault → IsRefused text fault
 text_read_fault text (BadWord line) is = is
-text_read_fault text (TwiceLabel name) is = absurd is
-text_read_fault text (NoLabel name) is = absurd is
-text_read_fault text (OutOfReach line) is = absurd is
 text_read_fault text OutOfMemory is = tt
+text_read_fault text fault is = absurd is
 
 is_read : (text : List ℕ) (statements : List Statement) → ReadsAll (lines_of text) statements → AreOfText text statements (labels_of 0 statements)
 is_read text statements read = record { read = read.read; labels_are = refl }
 
 pub text_label_fault : (text : List ℕ) (statements : List Statement) (fault : AsmFault) → ReadsAll (lines_of text) statements → IsLabelFault statements fault →
     IsRefused text fault
-text_label_fault text statements (BadWord line) read is = absurd is
 text_label_fault text statements (TwiceLabel name) read is =
     record { statements = statements; labels = labels_of 0 statements; read = is_read text statements read; twice = is }
-text_label_fault text statements (NoLabel name) read is = absurd is
-text_label_fault text statements (OutOfReach line) read is = absurd is
 text_label_fault text statements OutOfMemory read is = tt
+text_label_fault text statements fault read is = absurd is
 
 has_once : (text : List ℕ) (statements : List Statement) (labels : List Label) → ReadsAll (lines_of text) statements → FindsLabels statements labels →
     HasLabelsOnce text statements labels
@@ -334,12 +324,10 @@ has_once text statements labels read found = record { read = record { read = rea
 
 pub text_destination_fault : (text : List ℕ) (statements : List Statement) (labels : List Label) (fault : AsmFault) → ReadsAll (lines_of text) statements →
     FindsLabels statements labels → IsDestinationFault (destinations_of statements) (names_of labels) fault → IsRefused text fault
-text_destination_fault text statements labels (BadWord line) read found is = absurd is
-text_destination_fault text statements labels (TwiceLabel name) read found is = absurd is
 text_destination_fault text statements labels (NoLabel name) read found is =
     record { statements = statements; labels = labels; read = has_once text statements labels read found; missing = is }
-text_destination_fault text statements labels (OutOfReach line) read found is = absurd is
 text_destination_fault text statements labels OutOfMemory read found is = tt
+text_destination_fault text statements labels fault read found is = absurd is
 
 has_destinations : (text : List ℕ) (statements : List Statement) (labels : List Label) → ReadsAll (lines_of text) statements → FindsLabels statements labels →
     All (Contains (names_of labels)) (destinations_of statements) → HasDestinations text statements labels
@@ -347,12 +335,10 @@ has_destinations text statements labels read found there = record { read = has_o
 
 pub text_code_fault : (text : List ℕ) (statements : List Statement) (labels : List Label) (fault : AsmFault) → ReadsAll (lines_of text) statements →
     FindsLabels statements labels → All (Contains (names_of labels)) (destinations_of statements) → IsCodeFault labels statements fault → IsRefused text fault
-text_code_fault text statements labels (BadWord line) read found there is = absurd is
-text_code_fault text statements labels (TwiceLabel name) read found there is = absurd is
-text_code_fault text statements labels (NoLabel name) read found there is = absurd is
 text_code_fault text statements labels (OutOfReach line) read found there is =
     record { statements = statements; labels = labels; read = has_destinations text statements labels read found there; beyond = is }
 text_code_fault text statements labels OutOfMemory read found there is = tt
+text_code_fault text statements labels fault read found there is = absurd is
 
 pub text_assembled : (text : List ℕ) (statements : List Statement) (code : Code) → ReadsAll (lines_of text) statements → FindsLabels statements code.labels →
     All (Contains (names_of code.labels)) (destinations_of statements) → AreBytes code.labels 0 statements code.bytes → IsAssembled text code

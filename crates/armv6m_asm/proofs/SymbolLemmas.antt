@@ -14,10 +14,8 @@ use Rattle.armv6m_asm.proofs.WordLemmas.{register_of-special, number_in-i, regis
 
 number_symbol : (n r s : Option ℕ) (i : Bool) (value : ℕ) → word_symbol n r s i ≡ Number value → n ≡ Some value
 number_symbol (Some m) r s i value is = let same : m ≡ value = cc in ap Some same
-number_symbol None (Some m) s i value is = absurd (cc)
-number_symbol None None (Some m) i value is = absurd (cc)
 number_symbol None None None true value is = absurd (cc)
-number_symbol None None None false value is = absurd (cc)
+number_symbol None r s i value is = absurd (cc)
 
 register_symbol : (n r s : Option ℕ) (i : Bool) (value : ℕ) → word_symbol n r s i ≡ Register value → r ≡ Some value
 register_symbol (Some m) r s i value is = absurd (cc)
@@ -34,18 +32,13 @@ special_symbol None None None true value is = absurd (cc)
 special_symbol None None None false value is = absurd (cc)
 
 interrupts_symbol : (n r s : Option ℕ) (i : Bool) → word_symbol n r s i ≡ Interrupts → i ≡ true
-interrupts_symbol (Some m) r s i is = absurd (cc)
-interrupts_symbol None (Some m) s i is = absurd (cc)
-interrupts_symbol None None (Some m) i is = absurd (cc)
 interrupts_symbol None None None true is = refl
-interrupts_symbol None None None false is = absurd (cc)
+interrupts_symbol n r s i is = absurd (cc)
 
 -- the byte of a mark that operands have
 byte_of : Symbol → Option ℕ
 byte_of (Register number) = None
 byte_of (Special number) = None
-byte_of (Number value) = None
-byte_of Interrupts = None
 byte_of Comma = Some 44
 byte_of Hash = Some 35
 byte_of Exclamation = Some 33
@@ -53,15 +46,12 @@ byte_of OpenBracket = Some 91
 byte_of CloseBracket = Some 93
 byte_of OpenBrace = Some 123
 byte_of CloseBrace = Some 125
-byte_of Other = None
+byte_of x = None
 
 word_is_no_mark : (n r s : Option ℕ) (i : Bool) → byte_of (word_symbol n r s i) ≡ None
 unfolding byte_of
-word_is_no_mark (Some m) r s i = refl
-word_is_no_mark None (Some m) s i = refl
-word_is_no_mark None None (Some m) i = refl
 word_is_no_mark None None None true = refl
-word_is_no_mark None None None false = refl
+word_is_no_mark n r s i = refl
 
 -- ---- marks
 

@@ -60,21 +60,16 @@ load_name text r label (t ∷ u ∷ v ∷ []) are = absurd are.1.1.1
 load_name text r label (t ∷ u ∷ v ∷ w ∷ tokens) are = name_ascii label.now are.1.1.1.0.1
 
 aimed_name : (aim : Aim) (label : Bor (List ℕ)) (tokens : List Token) → AreAimed aim (destinations.Label label) tokens → IsAscii label.now
-aimed_name aims.Branch label tokens are = branch_name _ label tokens are
-aimed_name (aims.BranchIf condition) label tokens are = branch_name _ label tokens are
-aimed_name aims.BranchLink label tokens are = branch_name _ label tokens are
 aimed_name (aims.Load t) label tokens are = load_name _ t label tokens are
 aimed_name (aims.Address d) label tokens are = load_name _ d label tokens are
+aimed_name aim label tokens are = branch_name _ label tokens are
 
 -- ---- statements
 
 operation_usable : (operation : Operation) (tokens : List Token) → AreOperation operation tokens → IsUsableOperation operation
-operation_usable operations.Nothing tokens are = tt
-operation_usable (operations.Word value) tokens are = tt
-operation_usable operations.Align tokens are = tt
 operation_usable (operations.Plain instr) tokens are = (are.stands 0).fields
 operation_usable (operations.Aimed aim (destinations.Label label)) tokens are = aimed_name aim label tokens are
-operation_usable (operations.Aimed aim (destinations.Address address)) tokens are = tt
+operation_usable operation tokens are = tt
 
 labelled : (label : Bor (List ℕ)) (operation : Operation) (tokens : List Token) → Begin (name label.now ∷ colon ∷ []) (AreOperation operation) tokens →
     IsAscii label.now × IsUsableOperation operation

@@ -3,17 +3,11 @@ use Rattle.std.proofs.Common.{◌≡◌, ℕ, Bool, true, false, cond, List, [],
 use Rattle.std.specs.Prelude.{nat_le, nat_eq, ◌/◌, ◌^◌}
 use Rattle.armv6m_decode.specs.declared.instr.Instr.{Instr}
 use Rattle.armv6m_decode.specs.declared.instr.Instr.TheVariants as instr
-use Rattle.armv6m_decode.specs.declared.instr.Alu.TheVariants.{LslsImmediate, LsrsImmediate, AsrsImmediate, AddsRegister, SubsRegister, AddsImmediate3}
-use Rattle.armv6m_decode.specs.declared.instr.Alu.TheVariants.{SubsImmediate3, MovsImmediate, CmpImmediate, AddsImmediate8, SubsImmediate8, Ands, Eors}
-use Rattle.armv6m_decode.specs.declared.instr.Alu.TheVariants.{LslsRegister, LsrsRegister, AsrsRegister, Adcs, Sbcs, Rors, Tst, Rsbs, CmpRegister, Cmn, Orrs}
-use Rattle.armv6m_decode.specs.declared.instr.Alu.TheVariants.{Muls, Bics, Mvns, AddHigh, CmpHigh, MovHigh}
-use Rattle.armv6m_decode.specs.declared.instr.Memory.TheVariants.{LdrLiteral, StrRegister, StrhRegister, StrbRegister, LdrsbRegister, LdrRegister, LdrhRegister}
-use Rattle.armv6m_decode.specs.declared.instr.Memory.TheVariants.{LdrbRegister, LdrshRegister, StrImmediate, LdrImmediate, StrbImmediate, LdrbImmediate}
-use Rattle.armv6m_decode.specs.declared.instr.Memory.TheVariants.{StrhImmediate, LdrhImmediate, StrSp, LdrSp}
-use Rattle.armv6m_decode.specs.declared.instr.Many.TheVariants.{Push, Pop, Stm, Ldm}
-use Rattle.armv6m_decode.specs.declared.instr.Branch.TheVariants.{Bx, Blx, Bcc, B, Bl}
-use Rattle.armv6m_decode.specs.declared.instr.Other.TheVariants.{Adr, AddFromSp, AddToSp, SubFromSp, Sxth, Sxtb, Uxth, Uxtb, Cpsie, Cpsid, Rev, Rev16, Revsh}
-use Rattle.armv6m_decode.specs.declared.instr.Other.TheVariants.{Bkpt, Nop, Yield, Wfe, Wfi, Sev, Udf, Svc, Mrs, Msr, Dsb, Dmb, Isb}
+use Rattle.armv6m_decode.specs.declared.instr.Alu.TheVariants.{LslsImmediate}
+use Rattle.armv6m_decode.specs.declared.instr.Memory.TheVariants.{LdrLiteral}
+use Rattle.armv6m_decode.specs.declared.instr.Many.TheVariants.{Push}
+use Rattle.armv6m_decode.specs.declared.instr.Branch.TheVariants.{Bcc, B, Bl}
+use Rattle.armv6m_decode.specs.declared.instr.Other.TheVariants.{Adr}
 use Rattle.armv6m_decode.specs.declared.instr.Decoded.TheVariants.{Op, NeedsSecond}
 use Rattle.armv6m_decode.specs.Rows.{Row, fits, first_fit, PairRow, fits_pair, first_fit_pair}
 use Rattle.armv6m_decode.specs.Table.{rows, pair_rows, op_or_undefined, decoded, decoded_pair}
@@ -287,87 +281,13 @@ plain_width false first second n f s = s
 form_width : (i : Instr) (at : ℕ) → HasWidth (form_of i at) (width i)
 unfolding form_of
 form_width (instr.Alu (LslsImmediate d m immediate)) at = plain_width (nat_eq immediate 0) _ _ 2 tt tt
-form_width (instr.Alu (LsrsImmediate d m immediate)) at = tt
-form_width (instr.Alu (AsrsImmediate d m immediate)) at = tt
-form_width (instr.Alu (AddsRegister d n m)) at = tt
-form_width (instr.Alu (SubsRegister d n m)) at = tt
-form_width (instr.Alu (AddsImmediate3 d n immediate)) at = tt
-form_width (instr.Alu (SubsImmediate3 d n immediate)) at = tt
-form_width (instr.Alu (MovsImmediate d immediate)) at = tt
-form_width (instr.Alu (CmpImmediate n immediate)) at = tt
-form_width (instr.Alu (AddsImmediate8 d immediate)) at = tt
-form_width (instr.Alu (SubsImmediate8 d immediate)) at = tt
-form_width (instr.Alu (Ands d m)) at = tt
-form_width (instr.Alu (Eors d m)) at = tt
-form_width (instr.Alu (LslsRegister d m)) at = tt
-form_width (instr.Alu (LsrsRegister d m)) at = tt
-form_width (instr.Alu (AsrsRegister d m)) at = tt
-form_width (instr.Alu (Adcs d m)) at = tt
-form_width (instr.Alu (Sbcs d m)) at = tt
-form_width (instr.Alu (Rors d m)) at = tt
-form_width (instr.Alu (Tst d m)) at = tt
-form_width (instr.Alu (Rsbs d n)) at = tt
-form_width (instr.Alu (CmpRegister d m)) at = tt
-form_width (instr.Alu (Cmn d m)) at = tt
-form_width (instr.Alu (Orrs d m)) at = tt
-form_width (instr.Alu (Muls d m)) at = tt
-form_width (instr.Alu (Bics d m)) at = tt
-form_width (instr.Alu (Mvns d m)) at = tt
-form_width (instr.Alu (AddHigh d m)) at = tt
-form_width (instr.Alu (CmpHigh n m)) at = tt
-form_width (instr.Alu (MovHigh d m)) at = tt
-form_width (instr.Branch (Bx m)) at = tt
-form_width (instr.Branch (Blx m)) at = tt
 form_width (instr.Memory (LdrLiteral t immediate)) at = refl
-form_width (instr.Memory (StrRegister t n m)) at = tt
-form_width (instr.Memory (StrhRegister t n m)) at = tt
-form_width (instr.Memory (StrbRegister t n m)) at = tt
-form_width (instr.Memory (LdrsbRegister t n m)) at = tt
-form_width (instr.Memory (LdrRegister t n m)) at = tt
-form_width (instr.Memory (LdrhRegister t n m)) at = tt
-form_width (instr.Memory (LdrbRegister t n m)) at = tt
-form_width (instr.Memory (LdrshRegister t n m)) at = tt
-form_width (instr.Memory (StrImmediate t n immediate)) at = tt
-form_width (instr.Memory (LdrImmediate t n immediate)) at = tt
-form_width (instr.Memory (StrbImmediate t n immediate)) at = tt
-form_width (instr.Memory (LdrbImmediate t n immediate)) at = tt
-form_width (instr.Memory (StrhImmediate t n immediate)) at = tt
-form_width (instr.Memory (LdrhImmediate t n immediate)) at = tt
-form_width (instr.Memory (StrSp t immediate)) at = tt
-form_width (instr.Memory (LdrSp t immediate)) at = tt
 form_width (instr.Other (Adr d immediate)) at = refl
-form_width (instr.Other (AddFromSp d immediate)) at = tt
-form_width (instr.Other (AddToSp immediate)) at = tt
-form_width (instr.Other (SubFromSp immediate)) at = tt
-form_width (instr.Other (Sxth d m)) at = tt
-form_width (instr.Other (Sxtb d m)) at = tt
-form_width (instr.Other (Uxth d m)) at = tt
-form_width (instr.Other (Uxtb d m)) at = tt
 form_width (instr.Many (Push lr list)) at = tt
-form_width (instr.Many (Pop to_pc list)) at = tt
-form_width (instr.Other Cpsie) at = tt
-form_width (instr.Other Cpsid) at = tt
-form_width (instr.Other (Rev d m)) at = tt
-form_width (instr.Other (Rev16 d m)) at = tt
-form_width (instr.Other (Revsh d m)) at = tt
-form_width (instr.Other (Bkpt immediate)) at = tt
-form_width (instr.Other Nop) at = tt
-form_width (instr.Other Yield) at = tt
-form_width (instr.Other Wfe) at = tt
-form_width (instr.Other Wfi) at = tt
-form_width (instr.Other Sev) at = tt
-form_width (instr.Many (Stm n list)) at = tt
-form_width (instr.Many (Ldm n list)) at = tt
 form_width (instr.Branch (Bcc condition immediate)) at = refl
-form_width (instr.Other (Udf immediate)) at = tt
-form_width (instr.Other (Svc immediate)) at = tt
 form_width (instr.Branch (B immediate)) at = refl
 form_width (instr.Branch (Bl immediate)) at = refl
-form_width (instr.Other (Mrs d special)) at = tt
-form_width (instr.Other (Msr n special)) at = tt
-form_width (instr.Other Dsb) at = tt
-form_width (instr.Other Dmb) at = tt
-form_width (instr.Other Isb) at = tt
+form_width i at = tt
 
 clash : (a : Aim) (destination : ℕ) (m : Mnemonic) (operands : Operands) → Aimed a destination ≡ Plain m operands → ⊥
 clash a destination m operands is = cc
@@ -375,39 +295,7 @@ clash a destination m operands is = cc
 -- an instruction that is written with a destination isn't read as another form
 not_plain : (i : Instr) (a : Aim) (destination : ℕ) → IsReadToo i (Aimed a destination) → ⊥
 not_plain (instr.Alu (LslsImmediate d m immediate)) a destination is = clash a destination _ _ is.1
-not_plain (instr.Alu (LsrsImmediate d m immediate)) a destination is = is
-not_plain (instr.Alu (AsrsImmediate d m immediate)) a destination is = is
-not_plain (instr.Alu (AddsRegister d n m)) a destination is = is
-not_plain (instr.Alu (SubsRegister d n m)) a destination is = is
-not_plain (instr.Alu (AddsImmediate3 d n immediate)) a destination is = is
-not_plain (instr.Alu (SubsImmediate3 d n immediate)) a destination is = is
-not_plain (instr.Alu (MovsImmediate d immediate)) a destination is = is
-not_plain (instr.Alu (CmpImmediate n immediate)) a destination is = is
-not_plain (instr.Alu (AddsImmediate8 d immediate)) a destination is = is
-not_plain (instr.Alu (SubsImmediate8 d immediate)) a destination is = is
-not_plain (instr.Alu (Ands d m)) a destination is = is
-not_plain (instr.Alu (Eors d m)) a destination is = is
-not_plain (instr.Alu (LslsRegister d m)) a destination is = is
-not_plain (instr.Alu (LsrsRegister d m)) a destination is = is
-not_plain (instr.Alu (AsrsRegister d m)) a destination is = is
-not_plain (instr.Alu (Adcs d m)) a destination is = is
-not_plain (instr.Alu (Sbcs d m)) a destination is = is
-not_plain (instr.Alu (Rors d m)) a destination is = is
-not_plain (instr.Alu (Tst d m)) a destination is = is
-not_plain (instr.Alu (Rsbs d n)) a destination is = is
-not_plain (instr.Alu (CmpRegister d m)) a destination is = is
-not_plain (instr.Alu (Cmn d m)) a destination is = is
-not_plain (instr.Alu (Orrs d m)) a destination is = is
-not_plain (instr.Alu (Muls d m)) a destination is = is
-not_plain (instr.Alu (Bics d m)) a destination is = is
-not_plain (instr.Alu (Mvns d m)) a destination is = is
-not_plain (instr.Alu (AddHigh d m)) a destination is = is
-not_plain (instr.Alu (CmpHigh n m)) a destination is = is
-not_plain (instr.Alu (MovHigh d m)) a destination is = is
-not_plain (instr.Memory op) a destination is = is
-not_plain (instr.Many op) a destination is = is
-not_plain (instr.Branch op) a destination is = is
-not_plain (instr.Other op) a destination is = is
+not_plain i a destination is = is
 
 -- an instruction with a destination is as wide as its mnemonic says
 pub aimed_width : (i : Instr) (at : ℕ) (a : Aim) (destination : ℕ) → StandsFor i at (Aimed a destination) → width i ≡ aim_width a

@@ -8,17 +8,11 @@ use Rattle.std.specs.List.{list_all, range_with_len}
 use Rattle.std.specs.Fmt.{digits}
 use Rattle.armv6m_decode.specs.declared.instr.Instr.{Instr}
 use Rattle.armv6m_decode.specs.declared.instr.Instr.TheVariants as instr
-use Rattle.armv6m_decode.specs.declared.instr.Alu.TheVariants.{LslsImmediate, LsrsImmediate, AsrsImmediate, AddsRegister, SubsRegister, AddsImmediate3}
-use Rattle.armv6m_decode.specs.declared.instr.Alu.TheVariants.{SubsImmediate3, MovsImmediate, CmpImmediate, AddsImmediate8, SubsImmediate8, Ands, Eors}
-use Rattle.armv6m_decode.specs.declared.instr.Alu.TheVariants.{LslsRegister, LsrsRegister, AsrsRegister, Adcs, Sbcs, Rors, Tst, Rsbs, CmpRegister, Cmn, Orrs}
-use Rattle.armv6m_decode.specs.declared.instr.Alu.TheVariants.{Muls, Bics, Mvns, AddHigh, CmpHigh, MovHigh}
-use Rattle.armv6m_decode.specs.declared.instr.Memory.TheVariants.{LdrLiteral, StrRegister, StrhRegister, StrbRegister, LdrsbRegister, LdrRegister, LdrhRegister}
-use Rattle.armv6m_decode.specs.declared.instr.Memory.TheVariants.{LdrbRegister, LdrshRegister, StrImmediate, LdrImmediate, StrbImmediate, LdrbImmediate}
-use Rattle.armv6m_decode.specs.declared.instr.Memory.TheVariants.{StrhImmediate, LdrhImmediate, StrSp, LdrSp}
+use Rattle.armv6m_decode.specs.declared.instr.Alu.TheVariants.{LslsImmediate}
+use Rattle.armv6m_decode.specs.declared.instr.Memory.TheVariants.{LdrLiteral}
 use Rattle.armv6m_decode.specs.declared.instr.Many.TheVariants.{Push, Pop, Stm, Ldm}
-use Rattle.armv6m_decode.specs.declared.instr.Branch.TheVariants.{Bx, Blx, Bcc, B, Bl}
-use Rattle.armv6m_decode.specs.declared.instr.Other.TheVariants.{Adr, AddFromSp, AddToSp, SubFromSp, Sxth, Sxtb, Uxth, Uxtb, Cpsie, Cpsid, Rev, Rev16, Revsh}
-use Rattle.armv6m_decode.specs.declared.instr.Other.TheVariants.{Bkpt, Nop, Yield, Wfe, Wfi, Sev, Udf, Svc, Mrs, Msr, Dsb, Dmb, Isb}
+use Rattle.armv6m_decode.specs.declared.instr.Branch.TheVariants.{Bx}
+use Rattle.armv6m_decode.specs.declared.instr.Other.TheVariants.{Adr}
 use Rattle.armv6m_decode.specs.declared.registers.TheConstants.{LR, PC}
 use Rattle.armv6m_forms.specs.declared.mnemonic.Mnemonic.TheVariants as mnemonic
 use Rattle.armv6m_forms.specs.declared.form.Operands.TheVariants.{Two, TwoImmediate}
@@ -73,84 +67,11 @@ lsls false d m immediate = tt
 pub form_has_room : (i : Instr) (at : ℕ) → low_list i < 256 → HasRoom (form_of i at)
 unfolding form_of
 form_has_room (instr.Alu (LslsImmediate d m immediate)) at low = lsls (nat_eq immediate 0) d m immediate
-form_has_room (instr.Alu (LsrsImmediate d m immediate)) at low = tt
-form_has_room (instr.Alu (AsrsImmediate d m immediate)) at low = tt
-form_has_room (instr.Alu (AddsRegister d n m)) at low = tt
-form_has_room (instr.Alu (SubsRegister d n m)) at low = tt
-form_has_room (instr.Alu (AddsImmediate3 d n immediate)) at low = tt
-form_has_room (instr.Alu (SubsImmediate3 d n immediate)) at low = tt
-form_has_room (instr.Alu (MovsImmediate d immediate)) at low = tt
-form_has_room (instr.Alu (CmpImmediate n immediate)) at low = tt
-form_has_room (instr.Alu (AddsImmediate8 d immediate)) at low = tt
-form_has_room (instr.Alu (SubsImmediate8 d immediate)) at low = tt
-form_has_room (instr.Alu (Ands d m)) at low = tt
-form_has_room (instr.Alu (Eors d m)) at low = tt
-form_has_room (instr.Alu (LslsRegister d m)) at low = tt
-form_has_room (instr.Alu (LsrsRegister d m)) at low = tt
-form_has_room (instr.Alu (AsrsRegister d m)) at low = tt
-form_has_room (instr.Alu (Adcs d m)) at low = tt
-form_has_room (instr.Alu (Sbcs d m)) at low = tt
-form_has_room (instr.Alu (Rors d m)) at low = tt
-form_has_room (instr.Alu (Tst d m)) at low = tt
-form_has_room (instr.Alu (Rsbs d n)) at low = tt
-form_has_room (instr.Alu (CmpRegister d m)) at low = tt
-form_has_room (instr.Alu (Cmn d m)) at low = tt
-form_has_room (instr.Alu (Orrs d m)) at low = tt
-form_has_room (instr.Alu (Muls d m)) at low = tt
-form_has_room (instr.Alu (Bics d m)) at low = tt
-form_has_room (instr.Alu (Mvns d m)) at low = tt
-form_has_room (instr.Alu (AddHigh d m)) at low = tt
-form_has_room (instr.Alu (CmpHigh n m)) at low = tt
-form_has_room (instr.Alu (MovHigh d m)) at low = tt
 form_has_room (instr.Branch (Bx m)) at low = tt
-form_has_room (instr.Branch (Blx m)) at low = tt
 form_has_room (instr.Memory (LdrLiteral t immediate)) at low = tt
-form_has_room (instr.Memory (StrRegister t n m)) at low = tt
-form_has_room (instr.Memory (StrhRegister t n m)) at low = tt
-form_has_room (instr.Memory (StrbRegister t n m)) at low = tt
-form_has_room (instr.Memory (LdrsbRegister t n m)) at low = tt
-form_has_room (instr.Memory (LdrRegister t n m)) at low = tt
-form_has_room (instr.Memory (LdrhRegister t n m)) at low = tt
-form_has_room (instr.Memory (LdrbRegister t n m)) at low = tt
-form_has_room (instr.Memory (LdrshRegister t n m)) at low = tt
-form_has_room (instr.Memory (StrImmediate t n immediate)) at low = tt
-form_has_room (instr.Memory (LdrImmediate t n immediate)) at low = tt
-form_has_room (instr.Memory (StrbImmediate t n immediate)) at low = tt
-form_has_room (instr.Memory (LdrbImmediate t n immediate)) at low = tt
-form_has_room (instr.Memory (StrhImmediate t n immediate)) at low = tt
-form_has_room (instr.Memory (LdrhImmediate t n immediate)) at low = tt
-form_has_room (instr.Memory (StrSp t immediate)) at low = tt
-form_has_room (instr.Memory (LdrSp t immediate)) at low = tt
 form_has_room (instr.Other (Adr d immediate)) at low = tt
-form_has_room (instr.Other (AddFromSp d immediate)) at low = tt
-form_has_room (instr.Other (AddToSp immediate)) at low = tt
-form_has_room (instr.Other (SubFromSp immediate)) at low = tt
-form_has_room (instr.Other (Sxth d m)) at low = tt
-form_has_room (instr.Other (Sxtb d m)) at low = tt
-form_has_room (instr.Other (Uxth d m)) at low = tt
-form_has_room (instr.Other (Uxtb d m)) at low = tt
 form_has_room (instr.Many (Push lr list)) at low = short_with_lr lr list low
 form_has_room (instr.Many (Pop to_pc list)) at low = short_with_pc to_pc list low
-form_has_room (instr.Other Cpsie) at low = tt
-form_has_room (instr.Other Cpsid) at low = tt
-form_has_room (instr.Other (Rev d m)) at low = tt
-form_has_room (instr.Other (Rev16 d m)) at low = tt
-form_has_room (instr.Other (Revsh d m)) at low = tt
-form_has_room (instr.Other (Bkpt immediate)) at low = tt
-form_has_room (instr.Other Nop) at low = tt
-form_has_room (instr.Other Yield) at low = tt
-form_has_room (instr.Other Wfe) at low = tt
-form_has_room (instr.Other Wfi) at low = tt
-form_has_room (instr.Other Sev) at low = tt
 form_has_room (instr.Many (Stm n list)) at low = short_alone list low
 form_has_room (instr.Many (Ldm n list)) at low = short_alone list low
-form_has_room (instr.Branch (Bcc condition immediate)) at low = tt
-form_has_room (instr.Other (Udf immediate)) at low = tt
-form_has_room (instr.Other (Svc immediate)) at low = tt
-form_has_room (instr.Branch (B immediate)) at low = tt
-form_has_room (instr.Branch (Bl immediate)) at low = tt
-form_has_room (instr.Other (Mrs d special)) at low = tt
-form_has_room (instr.Other (Msr n special)) at low = tt
-form_has_room (instr.Other Dsb) at low = tt
-form_has_room (instr.Other Dmb) at low = tt
-form_has_room (instr.Other Isb) at low = tt
+form_has_room i at low = tt

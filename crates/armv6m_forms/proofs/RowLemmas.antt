@@ -305,8 +305,6 @@ found (instr.Alu (LslsImmediate d m immediate)) at fields made =
     moved_by (nat_eq immediate 0) d m immediate at refl (third_of_three d m immediate 8 8 32 fields)
 found (instr.Alu (LsrsImmediate d m immediate)) at fields made = shifted_right d m immediate (third_of_three d m immediate 8 8 32 fields)
 found (instr.Alu (AsrsImmediate d m immediate)) at fields made = shifted_right_signed d m immediate (third_of_three d m immediate 8 8 32 fields)
-found (instr.Alu (AddsRegister d n m)) at fields made = refl
-found (instr.Alu (SubsRegister d n m)) at fields made = refl
 found (instr.Alu (AddsImmediate3 d n immediate)) at fields made =
     ap (with_field (λ i. Some (instr.Alu (AddsImmediate3 d n i)))) (counted_1 immediate (omega (arith, third_of_three d n immediate 8 8 8 fields)))
 found (instr.Alu (SubsImmediate3 d n immediate)) at fields made =
@@ -319,37 +317,10 @@ found (instr.Alu (AddsImmediate8 d immediate)) at fields made =
     ap (with_field (λ i. Some (instr.Alu (AddsImmediate8 d i)))) (counted_1 immediate (second_of_two d immediate 8 256 fields))
 found (instr.Alu (SubsImmediate8 d immediate)) at fields made =
     ap (with_field (λ i. Some (instr.Alu (SubsImmediate8 d i)))) (counted_1 immediate (second_of_two d immediate 8 256 fields))
-found (instr.Alu (Ands d m)) at fields made = refl
-found (instr.Alu (Eors d m)) at fields made = refl
-found (instr.Alu (LslsRegister d m)) at fields made = refl
-found (instr.Alu (LsrsRegister d m)) at fields made = refl
-found (instr.Alu (AsrsRegister d m)) at fields made = refl
-found (instr.Alu (Adcs d m)) at fields made = refl
-found (instr.Alu (Sbcs d m)) at fields made = refl
-found (instr.Alu (Rors d m)) at fields made = refl
-found (instr.Alu (Tst d m)) at fields made = refl
-found (instr.Alu (Rsbs d n)) at fields made = refl
 found (instr.Alu (CmpRegister d m)) at fields made = compared_low d m fields
-found (instr.Alu (Cmn d m)) at fields made = refl
-found (instr.Alu (Orrs d m)) at fields made = refl
-found (instr.Alu (Muls d m)) at fields made = refl
-found (instr.Alu (Bics d m)) at fields made = refl
-found (instr.Alu (Mvns d m)) at fields made = refl
-found (instr.Alu (AddHigh d m)) at fields made = refl
 found (instr.Alu (CmpHigh n m)) at fields made = compared n m made
-found (instr.Alu (MovHigh d m)) at fields made = refl
-found (instr.Branch (Bx m)) at fields made = refl
-found (instr.Branch (Blx m)) at fields made = refl
 found (instr.Memory (LdrLiteral t immediate)) at fields made = aimed_literal (λ i. instr.Memory (LdrLiteral t i)) at immediate
     (second_of_two t immediate 8 256 fields)
-found (instr.Memory (StrRegister t n m)) at fields made = refl
-found (instr.Memory (StrhRegister t n m)) at fields made = refl
-found (instr.Memory (StrbRegister t n m)) at fields made = refl
-found (instr.Memory (LdrsbRegister t n m)) at fields made = refl
-found (instr.Memory (LdrRegister t n m)) at fields made = refl
-found (instr.Memory (LdrhRegister t n m)) at fields made = refl
-found (instr.Memory (LdrbRegister t n m)) at fields made = refl
-found (instr.Memory (LdrshRegister t n m)) at fields made = refl
 found (instr.Memory (StrImmediate t n immediate)) at fields made = stored_low t n immediate fields
 found (instr.Memory (LdrImmediate t n immediate)) at fields made = loaded_low t n immediate fields
 found (instr.Memory (StrbImmediate t n immediate)) at fields made = ap (with_field (λ i. Some (instr.Memory (StrbImmediate t n i))))
@@ -371,23 +342,9 @@ found (instr.Other (AddToSp immediate)) at fields made = ap (with_field (λ i. S
     (counted_4 immediate (omega (arith, one_below immediate 128 fields)))
 found (instr.Other (SubFromSp immediate)) at fields made = ap (with_field (λ i. Some (instr.Other (SubFromSp i))))
     (counted_4 immediate (omega (arith, one_below immediate 128 fields)))
-found (instr.Other (Sxth d m)) at fields made = refl
-found (instr.Other (Sxtb d m)) at fields made = refl
-found (instr.Other (Uxth d m)) at fields made = refl
-found (instr.Other (Uxtb d m)) at fields made = refl
 found (instr.Many (Push lr list)) at fields made = pushed lr list fields
 found (instr.Many (Pop to_pc list)) at fields made = popped to_pc list fields
-found (instr.Other Cpsie) at fields made = refl
-found (instr.Other Cpsid) at fields made = refl
-found (instr.Other (Rev d m)) at fields made = refl
-found (instr.Other (Rev16 d m)) at fields made = refl
-found (instr.Other (Revsh d m)) at fields made = refl
 found (instr.Other (Bkpt immediate)) at fields made = ap (with_field (λ i. Some (instr.Other (Bkpt i)))) (counted_1 immediate (one_below immediate 256 fields))
-found (instr.Other Nop) at fields made = refl
-found (instr.Other Yield) at fields made = refl
-found (instr.Other Wfe) at fields made = refl
-found (instr.Other Wfi) at fields made = refl
-found (instr.Other Sev) at fields made = refl
 found (instr.Many (Stm n list)) at fields made = ap (with_field (λ i. Some (instr.Many (Stm n i)))) (counted_1 list (second_of_two n list 8 256 fields))
 found (instr.Many (Ldm n list)) at fields made = ap (with_field (λ i. Some (instr.Many (Ldm n i)))) (counted_1 list (second_of_two n list 8 256 fields))
 found (instr.Branch (Bcc condition immediate)) at fields made = aimed_short condition at immediate (one_below immediate 256 fields)
@@ -395,11 +352,7 @@ found (instr.Other (Udf immediate)) at fields made = of_zero (λ i. instr.Other 
 found (instr.Other (Svc immediate)) at fields made = of_zero (λ i. instr.Other (Svc i)) immediate made
 found (instr.Branch (B immediate)) at fields made = aimed_near at immediate (one_below immediate 2048 fields)
 found (instr.Branch (Bl immediate)) at fields made = aimed_far at immediate (one_below immediate 16777216 fields)
-found (instr.Other (Mrs d special)) at fields made = refl
-found (instr.Other (Msr n special)) at fields made = refl
-found (instr.Other Dsb) at fields made = refl
-found (instr.Other Dmb) at fields made = refl
-found (instr.Other Isb) at fields made = refl
+found i at fields made = refl
 
 read_too : (i : Instr) (at : ℕ) (form : Form) → IsReadToo i form → row_of form at ≡ Some i
 read_too (instr.Alu (LslsImmediate d m immediate)) at form h =

@@ -9,8 +9,7 @@ use Rattle.armv6m_forms.specs.Room.{IsShort}
 use Rattle.armv6m_forms.specs.Text.{text_of, register_text, comma_text, listed_below, list_text, operands_text, form_text}
 use Rattle.armv6m_forms.specs.declared.mnemonic.Mnemonic.{Mnemonic}
 use Rattle.armv6m_forms.specs.declared.form.Operands.{Operands}
-use Rattle.armv6m_forms.specs.declared.form.Operands.TheVariants.{None, One, Two, Three, Immediate, OneImmediate, TwoImmediate, ByRegister, ByOffset}
-use Rattle.armv6m_forms.specs.declared.form.Operands.TheVariants.{List as RegisterList, BaseList, UpdatedList, Interrupts, FromSpecial, ToSpecial}
+use Rattle.armv6m_forms.specs.declared.form.Operands.TheVariants.{None}
 use Rattle.armv6m_forms.specs.declared.form.Form.TheVariants.{Plain}
 
 -- a number that no register has
@@ -111,17 +110,4 @@ pub form_text-plain : (m : Mnemonic) (operands : Operands) → operands ≢ None
     → form_text (Plain m operands) ≡ text_of m ++ codes " " ++ operands_text operands
 unfolding form_text
 form_text-plain m None some = absurd (some refl)
-form_text-plain m (One a) some = refl
-form_text-plain m (Two a b) some = refl
-form_text-plain m (Three a b d) some = refl
-form_text-plain m (Immediate a) some = refl
-form_text-plain m (OneImmediate a b) some = refl
-form_text-plain m (TwoImmediate a b d) some = refl
-form_text-plain m (ByRegister a b d) some = refl
-form_text-plain m (ByOffset a b d) some = refl
-form_text-plain m (RegisterList a) some = refl
-form_text-plain m (BaseList a b) some = refl
-form_text-plain m (UpdatedList a b) some = refl
-form_text-plain m Interrupts some = refl
-form_text-plain m (FromSpecial a b) some = refl
-form_text-plain m (ToSpecial a b) some = refl
+form_text-plain m operands some = refl

@@ -125,17 +125,14 @@ module _ (board : board.Shown) where
       → xs ≡ ys
   one_target [] [] [] [] one two = refl
   one_target [] [] [] (y ∷ ys) one two = absurd two
-  one_target [] [] (x ∷ xs) ys one two = absurd one
   one_target (r ∷ rs) [] [] [] one two = refl
   one_target (r ∷ rs) [] [] (y ∷ ys) one two = absurd two
-  one_target (r ∷ rs) [] (x ∷ xs) ys one two = absurd one
-  one_target [] (f ∷ fs) xs ys one two = absurd one
-  one_target (r ∷ rs) (f ∷ fs) [] ys one two = absurd one
   one_target (r ∷ rs) (f ∷ fs) (x ∷ xs) [] one two = absurd two
   one_target (r ∷ rs) (f ∷ fs) (x ∷ xs) (y ∷ ys) one two =
       let first : x ≡ y = one_for board r f x y one.0 two.0 in
       let rest : xs ≡ ys = one_target rs fs xs ys one.1 two.1 in
       cc
+  one_target regions files xs ys one two = absurd one
 
   target_or_none : (regions : List Region) (files : List (List ℕ)) (xs : List flm.Shown) (s : Refusal) → AreFor board regions files xs
       → AreNotFor board regions files s → ⊥

@@ -35,15 +35,9 @@ union_or_clash image other union at old new maximal one two =
 
 union_or_fault : (image other union : List Run) (fault : ImageFault) → AreMaximal 0 (2 ^ 32) image → IsUnion image other union → IsUnionFault image other fault
     → fault ≢ OutOfMemory → ⊥
-union_or_fault image other union NoForm maximal one two other_fault = two
-union_or_fault image other union (Hex fault) maximal one two other_fault = two
-union_or_fault image other union (Srec fault) maximal one two other_fault = two
-union_or_fault image other union (Elf fault) maximal one two other_fault = two
 union_or_fault image other union (Conflict at old new) maximal one two other_fault = union_or_clash image other union at old new maximal one two
-union_or_fault image other union (PastEnd at) maximal one two other_fault = two
-union_or_fault image other union (OutsideDevice at) maximal one two other_fault = two
-union_or_fault image other union EmptyImage maximal one two other_fault = two
 union_or_fault image other union OutOfMemory maximal one two other_fault = other_fault refl
+union_or_fault image other union fault maximal one two other_fault = two
 
 pub record IsConflict (image other : List Run) (fault : ImageFault) : Type 0 where
   pub at : ℕ
@@ -53,15 +47,9 @@ pub record IsConflict (image other : List Run) (fault : ImageFault) : Type 0 whe
   pub clash : IsLeastClash image other at old new
 
 union_fault : (image other : List Run) (fault : ImageFault) → IsUnionFault image other fault → fault ≢ OutOfMemory → IsConflict image other fault
-union_fault image other NoForm is not_memory = absurd is
-union_fault image other (Hex fault) is not_memory = absurd is
-union_fault image other (Srec fault) is not_memory = absurd is
-union_fault image other (Elf fault) is not_memory = absurd is
 union_fault image other (Conflict at old new) is not_memory = record { at = at; old = old; new = new; is = refl; clash = is }
-union_fault image other (PastEnd at) is not_memory = absurd is
-union_fault image other (OutsideDevice at) is not_memory = absurd is
-union_fault image other EmptyImage is not_memory = absurd is
 union_fault image other OutOfMemory is not_memory = absurd (not_memory refl)
+union_fault image other fault is not_memory = absurd is
 
 earlier_clash : (image other : List Run) (p q old new old' new' : ℕ) → IsLeastClash image other p old new → IsLeastClash image other q old' new' → p < q → ⊥
 earlier_clash image other p q old new old' new' one two less = one.unequal (two.first p old new less one.old_is one.new_is)
@@ -175,15 +163,9 @@ one_image_refused raw_at names files x y a b one two =
 -- The place of an image.
 
 pub inside_or_fault : (image : List Run) (ranges : List (ℕ × ℕ)) (fault : ImageFault) → LiesInside image ranges → IsPlaceFault image ranges fault → ⊥
-inside_or_fault image ranges NoForm one two = two
-inside_or_fault image ranges (Hex fault) one two = two
-inside_or_fault image ranges (Srec fault) one two = two
-inside_or_fault image ranges (Elf fault) one two = two
-inside_or_fault image ranges (Conflict at old new) one two = two
-inside_or_fault image ranges (PastEnd at) one two = two
 inside_or_fault image ranges (OutsideDevice at) one two = let inside = one.inside at two.held in let outside = two.outside in cc
 inside_or_fault image ranges EmptyImage one two = one.some two
-inside_or_fault image ranges OutOfMemory one two = two
+inside_or_fault image ranges fault one two = two
 
 earlier_outside : (image : List Run) (ranges : List (ℕ × ℕ)) (p q : ℕ) → IsLeastOutside image ranges p → IsLeastOutside image ranges q → p < q → ⊥
 earlier_outside image ranges p q one two less = let inside = two.first p less one.held in let outside = one.outside in cc

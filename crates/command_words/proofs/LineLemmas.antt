@@ -55,16 +55,7 @@ is_said (w ∷ ws) c addresses names e = said_so w ws c addresses names (command
 -- the name of a command is found among the names
 named_known : (name : CommandName) → command_of (text_of name) ≡ Some (text_of name)
 named_known Program = refl
-named_known Begin = refl
-named_known Resume = refl
-named_known Revert = refl
-named_known Plan = refl
-named_known Verify = refl
-named_known Compare = refl
-named_known Status = refl
-named_known Inspect = refl
-named_known Dump = refl
-named_known Demo = refl
+named_known name = refl
 
 -- Words that say no line ask for nothing.
 module _ (words : Words) (none : says words ≡ None) where

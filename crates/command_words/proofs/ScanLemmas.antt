@@ -247,11 +247,9 @@ read_word raws names w ws said false None None d l s sound behind e =
 
 read_behind : (raws names : Words) (w : List ℕ) (ws : Words) (said : Said) (d : Bool) (found : Option (List ℕ × Option (List ℕ))) (flags : Option (List ℕ))
     → SoundAt ws → cond d None (address found flags (scan (raws ++ w ∷ []) names ws)) ≡ Some said → IsReadBehind (w ∷ ws) raws names said
-read_behind raws names w ws said true found flags sound e = let bad : None ≡ Some said = e in absurd (cc)
-read_behind raws names w ws said false (Some p) flags sound e = let bad : None ≡ Some said = e in absurd (cc)
-read_behind raws names w ws said false None (Some f) sound e = let bad : None ≡ Some said = e in absurd (cc)
 read_behind raws names w ws said false None None sound e =
     record { word = w; rest = ws; words_are = refl; read = sound (raws ++ w ∷ []) names said e }
+read_behind raws names w ws said d found flags sound e = let bad : None ≡ Some said = e in absurd (cc)
 
 mutual
   sound : (ws : Words) → SoundAt ws
@@ -296,13 +294,10 @@ module _ (words addresses names : Words) (scans : scan [] [] words ≡ Some (add
 -- the words give one address at most
 pub one_given : (addresses : Words) (a b : Option ℕ) → Gives addresses a → Gives addresses b → a ≡ b
 one_given [] None None one two = refl
-one_given [] (Some a) b one two = absurd one
 one_given [] None (Some b) one two = absurd two
-one_given (x ∷ []) None b one two = absurd one
 one_given (x ∷ []) (Some a) None one two = absurd two
 one_given (x ∷ []) (Some a) (Some b) one two = ap (λ (n : ℕ). Some n) (one_address x a b one two)
-one_given (x ∷ y ∷ rest) None b one two = absurd one
-one_given (x ∷ y ∷ rest) (Some a) b one two = absurd one
+one_given addresses a b one two = absurd one
 
 -- Words have one option, or none, and one list of names.
 

@@ -29,16 +29,7 @@ named word =
 named-text_of : (name : CommandName) → named (text_of name) ≡ name
 unfolding named
 named-text_of Program = refl
-named-text_of Begin = refl
-named-text_of Resume = refl
-named-text_of Revert = refl
-named-text_of Plan = refl
-named-text_of Verify = refl
-named-text_of Compare = refl
-named-text_of Status = refl
-named-text_of Inspect = refl
-named-text_of Dump = refl
-named-text_of Demo = refl
+named-text_of name = refl
 
 -- the command that a first word names is the one that the words ask for
 abbrev IsCalled : Command → CommandName → Type 0

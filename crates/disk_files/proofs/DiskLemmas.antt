@@ -1,12 +1,12 @@
 -- Writes over bytes and cells in memory. `end_range` settles a range so.
 use Rattle.std.proofs.Common.{◌≡◌, ◌≤◌, ◌+◌, ◌-◌, ◌∙◌, ap, sym, refl, ℕ, List, ◌++◌, length, take, drop, arith, append_assoc, append-nil, length-take}
 use Rattle.std.proofs.Common.{length-drop, length-append, Option, Some, None}
+use Rattle.std.proofs.Math.Seq.{take-add}
 use Rattle.std.proofs.lemmas.List.{take_at, drop_at, take_all, drop_all, take-take, drop-drop, take-append-drop}
 use Rattle.bench_model.specs.Calls.{written, Torn}
 use Rattle.bench_model.specs.State.{SameOutside}
 use Rattle.disk_files.specs.DiskDoes.{InRange}
 use Rattle.disk_files.specs.Memory.{DiffersInside, differs_inside, outside_of}
-use Rattle.disk_files.proofs.WriteLemmas.{take_split}
 
 -- bytes laid over others, and past their end
 module _ (at : ℕ) (bytes old : List ℕ) (le : at ≤ length old) where
@@ -63,7 +63,7 @@ range_written at n cells x part out inside is =
     ∙ ap (λ (l : List ℕ). (l ++ take n (drop at x)) ++ drop (at + length part) cells) (sym out.1)
     ∙ ap (λ (m : ℕ). (take at x ++ take n (drop at x)) ++ drop (at + m) cells) long
     ∙ ap (λ (l : List ℕ). (take at x ++ take n (drop at x)) ++ l) (sym out.2)
-    ∙ ap (λ (l : List ℕ). l ++ drop (at + n) x) (sym (take_split at n x))
+    ∙ ap (λ (l : List ℕ). l ++ drop (at + n) x) (sym (take-add at n x))
     ∙ take-append-drop (at + n) x
 
 -- the same of what is remembered of a disk in memory

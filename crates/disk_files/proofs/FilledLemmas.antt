@@ -1,10 +1,10 @@
 -- A buffer that is filled from a list in several pieces: what it has in common with the list behind one more piece.
 use Rattle.std.proofs.Common.{◌≡◌, ◌≤◌, ◌+◌, ◌-◌, ◌∙◌, ap, sym, refl, ℕ, List, ◌++◌, length, take, drop, arith, append_assoc, length-take, length-drop}
 use Rattle.std.proofs.Common.{length-append}
+use Rattle.std.proofs.Math.Seq.{take-add}
 use borrow.Rule.Slice.PartMut.{put_mid}
 use Rattle.std.proofs.lemmas.Slice.{take-put_mid, take-put_mid_below, drop-put_mid}
 use Rattle.std.proofs.lemmas.List.{take-take, drop-drop, take_at}
-use Rattle.disk_files.proofs.WriteLemmas.{take_split}
 
 -- the buffer with other bytes from this place on
 abbrev pub filled : List ℕ → ℕ → List ℕ → List ℕ
@@ -51,4 +51,4 @@ module _ (now : List ℕ) (done : ℕ) (after : List ℕ) (inside : done ≤ len
       ∙ take_at (take done now ++ take n D) (drop n rest) (done + n) here
       ∙ ap (λ (l : List ℕ). l ++ take n D) so_far
       ∙ ap (λ (l : List ℕ). take done (drop at all) ++ take n l) (sym (drop-drop done at all))
-      ∙ sym (take_split done n (drop at all))
+      ∙ sym (take-add done n (drop at all))

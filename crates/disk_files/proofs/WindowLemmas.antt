@@ -1,11 +1,11 @@
 -- Windows of cells. A window that was read before answers as the file does.
 use Rattle.std.proofs.Common.{◌≡◌, ◌≤◌, ◌+◌, ◌-◌, ◌∙◌, ⊎_elim, ap, sym, subst, refl, ℕ, List, ◌++◌, length, take, drop, arith, append_assoc, length-take}
 use Rattle.std.proofs.Common.{length-drop, length-append}
+use Rattle.std.proofs.Math.Seq.{take-add}
 use Rattle.std.proofs.lemmas.Bool.{cases_lt}
 use Rattle.std.proofs.lemmas.List.{take-take, drop-drop, drop-take, take-append-drop, take_all, take_at, drop_at}
 use Rattle.bench_model.specs.Calls.{written, Torn}
 use Rattle.disk_files.specs.Window.{IsCopy}
-use Rattle.disk_files.proofs.WriteLemmas.{take_split}
 
 -- a window with no cells
 pub copy_none : (at len : ℕ) (bytes held : List ℕ) → len ≡ 0 → IsCopy at len bytes held
@@ -35,7 +35,7 @@ laid i L part xs inside long =
     let front : i ≤ L = omega (arith, inside) in
     let head : length (take i xs ++ part) ≡ k = omega (arith, length-append (take i xs) part, length-take i xs, inside, long) in
     ap (λ (n : ℕ). take n (written i part xs)) (sym whole)
-    ∙ take_split k m (written i part xs)
+    ∙ take-add k m (written i part xs)
     ∙ ap (λ (l : List ℕ). l ++ take m (drop k (written i part xs))) (take_at (take i xs ++ part) (drop k xs) k head)
     ∙ ap (λ (l : List ℕ). (take i xs ++ part) ++ take m l) (drop_at (take i xs ++ part) (drop k xs) k head)
     ∙ ap (λ (l : List ℕ). (take i xs ++ part) ++ l) (sym (drop-take k m xs))
@@ -51,7 +51,7 @@ moved at i part held inside =
     let D = drop n held in
     let long : length A ≡ at = omega (arith, length-take at held, inside) in
     let further : at + (i + length part) ≡ n = omega arith in
-    ap (λ (l : List ℕ). drop at ((l ++ part) ++ D)) (take_split at i held)
+    ap (λ (l : List ℕ). drop at ((l ++ part) ++ D)) (take-add at i held)
     ∙ ap (λ (l : List ℕ). drop at l) (append_assoc (A ++ B) part D ∙ append_assoc A B (part ++ D))
     ∙ drop_at A (B ++ (part ++ D)) at long
     ∙ sym (append_assoc B part D)

@@ -1,7 +1,8 @@
 -- Whole writes, in as many calls as they take. `write_all` goes on by them, and all that is written in pieces.
 use Rattle.std.proofs.Common.{◌≡◌, ◌≤◌, ◌+◌, ◌-◌, ◌∙◌, ap, sym, subst, refl, ℕ, List, Bool, IsTrue, ◌++◌, length, take, drop, arith, append-nil, append_assoc}
 use Rattle.std.proofs.Common.{length-take, length-drop, length-append}
-use Rattle.std.proofs.lemmas.List.{take-take, drop-drop, drop-take, take-append-drop, take_all}
+use Rattle.std.proofs.Math.Seq.{take-add}
+use Rattle.std.proofs.lemmas.List.{take-take, drop-drop, take-append-drop, take_all}
 use Rattle.bench_model.specs.History.{Leaves}
 use Rattle.bench_model.specs.Calls.{written, Torn, Follows}
 use Rattle.bench_model.proofs.Moments.{leaves_then, leaves_as, leaves_here, leaves_left, stays_here, stays_then}
@@ -23,13 +24,6 @@ torn_then at n at' n' d e f from to one two =
       no_shorter = omega (arith, one.no_shorter, two.no_shorter);
       no_longer = omega (arith, one.no_longer, two.no_longer, to);
     }
-
-pub take_split : (n m : ℕ) (xs : List ℕ) → take (n + m) xs ≡ take n xs ++ take m (drop n xs)
-take_split n m xs =
-    let shorter : n ≤ n + m = omega arith in
-    sym (take-append-drop n (take (n + m) xs))
-    ∙ ap (λ (l : List ℕ). l ++ drop n (take (n + m) xs)) (take-take n (n + m) xs shorter)
-    ∙ ap (λ (l : List ℕ). take n xs ++ l) (drop-take n m xs)
 
 -- ---- a list of which so many bytes are written from a place on
 
@@ -61,7 +55,7 @@ stand_more at bytes done n old mid new rest is_rest some more =
     ∙ ap (λ (l : List ℕ). l ++ take n rest) some
     ∙ append_assoc (take at old) (take done bytes) (take n rest)
     ∙ ap (λ (l : List ℕ). take at old ++ (take done bytes ++ take n l)) is_rest
-    ∙ ap (λ (l : List ℕ). take at old ++ l) (sym (take_split done n bytes))
+    ∙ ap (λ (l : List ℕ). take at old ++ l) (sym (take-add done n bytes))
 
 -- after an error
 pub stand_still : (at done : ℕ) (mid new rest : List ℕ) → take (at + done) new ≡ take (at + done) mid

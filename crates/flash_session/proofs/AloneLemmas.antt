@@ -48,10 +48,7 @@ module _ (legs : List Leg) (goal : List ℕ) (a : Stand) (way : List Move) (star
   ends_alone ended.Done is = λ r. record { broken = is.broken; ends = is.ends; moments = all_moments is.broken is.later is.whole }
   ends_alone (ended.Open fault) is = is.ends
   ends_alone (ended.Survey fault) is = is.ends
-  ends_alone (ended.CallFailed number call e) is = record { broken = is.broken; ends = is.ends; moments = all_moments is.broken is.later is.whole }
-  ends_alone (ended.Mismatch d) is = record { broken = is.broken; ends = is.ends; moments = all_moments is.broken is.later is.whole }
-  ends_alone ended.StoreFault is = record { broken = is.broken; ends = is.ends; moments = all_moments is.broken is.later is.whole }
-  ends_alone ended.DeviceFault is = record { broken = is.broken; ends = is.ends; moments = all_moments is.broken is.later is.whole }
+  ends_alone e is = record { broken = is.broken; ends = is.ends; moments = all_moments is.broken is.later is.whole }
 
 -- ---- before its next turn
 
@@ -76,11 +73,9 @@ in_call s a way call len left made here return_at x =
 
 pub on_now : (l : Legs) (goal : List ℕ) (s : Setup) (a : Stand) (way : List Move) (p : Place) (made : ℕ) (here : Point) (return_at : ℕ) (now : BenchState)
     → IsUnended p → Stands l goal s a way p made here return_at now → IsOnPath a way here.world
-on_now l goal s a way (place.At c) made here return_at now going stands = end_on a (stand_at made here.world) way stands.1
 on_now l goal s a way (place.In call len left next) made here return_at now going stands = in_call s a way call len left made here return_at stands.1
-on_now l goal s a way (place.Comparing at) made here return_at now going stands = end_on a (stand_at made here.world) way stands.1
-on_now l goal s a way place.Closing made here return_at now going stands = end_on a (stand_at made here.world) way stands.1
 on_now l goal s a way (place.Ended e) made here return_at now going stands = absurd going
+on_now l goal s a way p made here return_at now going stands = end_on a (stand_at made here.world) way stands.1
 
 -- with no turn at all it has gone on by no move
 pub goes_here : (tells : Bool) (told : IsTrue tells) (a : Stand) (way : List Move) (goal : List ℕ) (x : Player) (arena : List (List ℕ)) (now : BenchState)

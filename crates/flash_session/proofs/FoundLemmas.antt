@@ -98,10 +98,9 @@ pub later_still : (tells : Bool) (j : Job) (start : ℕ) (algorithms : List Algo
     → (IsTrue tells → c ≡ d) → (IsTrue tells → g ≡ h)
     → AreFound tells j start algorithms c g works → AreFound tells j start algorithms d h works
 later_still tells j start [] c d g h [] one two are = tt
-later_still tells j start [] c d g h (r ∷ more) one two are = absurd are
-later_still tells j start (a ∷ rest) c d g h [] one two are = absurd are
 later_still tells j start (a ∷ rest) c d g h (r ∷ more) one two are =
     (found_still tells j a start c d g h r one two are.0, later_still tells j (start + a.device.size) rest c d g h more one two are.1)
+later_still tells j start algorithms c d g h works one two are = absurd are
 
 -- one region, and those behind it
 pub found_then : (tells : Bool) (j : Job) (a : AlgorithmShown) (rest : List AlgorithmShown) (cells goal : List ℕ) (r : RegionPlan) (more : List RegionPlan)
@@ -113,9 +112,8 @@ found_then tells j a rest cells goal r more one later = let e : a.device.size �
 pub works_found : (tells : Bool) (j : Job) (start : ℕ) (algorithms : List AlgorithmShown) (cells goal : List ℕ) (works : List RegionPlan)
     → AreFound tells j start algorithms cells goal works → AreRegionSurveys algorithms start works
 works_found tells j start [] cells goal [] are = tt
-works_found tells j start [] cells goal (r ∷ more) are = absurd are
-works_found tells j start (a ∷ rest) cells goal [] are = absurd are
 works_found tells j start (a ∷ rest) cells goal (r ∷ more) are = (are.0.work, works_found tells j (start + a.device.size) rest cells goal more are.1)
+works_found tells j start algorithms cells goal works are = absurd are
 
 -- a refusal that is handed on is counted as it was
 abbrev pub refused : (T : Type 0) → SurveyFault → Result T SurveyFault

@@ -13,9 +13,8 @@ use Rattle.job_text.specs.Laid.{overlaid}
 use Rattle.flash_session.proofs.PartLemmas.{part_at}
 
 over_take : (image : List Run) (base n : ℕ) (cells : List ℕ) → take n (over image base cells) ≡ over image base (take n cells)
-over_take image base zero cells = refl
-over_take image base (suc n) [] = refl
 over_take image base (suc n) (c ∷ cells) = ap (λ (l : List ℕ). unwrap_or (byte_at image base) c ∷ l) (over_take image (base + 1) n cells)
+over_take image base n cells = refl
 
 over_drop : (image : List Run) (base n : ℕ) (cells : List ℕ) → drop n (over image base cells) ≡ over image (base + n) (drop n cells)
 over_drop image base zero cells = let z : base ≡ base + 0 = omega arith in ap (λ (k : ℕ). over image k cells) z

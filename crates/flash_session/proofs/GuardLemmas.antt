@@ -19,48 +19,26 @@ use Rattle.flash_session.specs.Turns.{IsUnended, turn_of, ClosedFile, IsDone, Ke
 use Rattle.flash_session.specs.Guarded.{HasBody, IsAtClose, FileAt, Guarded}
 
 pub over_going : (p : Place) → turn_of p ≡ turn.Ended → IsUnended p → ⊥
-over_going (place.At c) over going = cc
-over_going (place.In call len left next) over going = cc
-over_going (place.Comparing at) over going = cc
-over_going place.Closing over going = cc
 over_going (place.Ended e) over going = going
+over_going p over going = cc
 
 -- a file that stays, where the target isn't done
 file_kept : (body : List ℕ) (p : Place) (f : List ℕ) → (IsDone p → ⊥) → IsWhole body f → FileAt body p f
-file_kept body (place.At c) f other whole = whole
-file_kept body (place.In call len left_ next) f other whole = whole
-file_kept body (place.Comparing at) f other whole = whole
-file_kept body place.Closing f other whole = whole
 file_kept body (place.Ended ended.Done) f other whole = absurd (other tt)
-file_kept body (place.Ended (ended.Open fault)) f other whole = whole
-file_kept body (place.Ended (ended.Survey fault)) f other whole = whole
-file_kept body (place.Ended (ended.CallFailed number call e)) f other whole = whole
-file_kept body (place.Ended (ended.Mismatch d)) f other whole = whole
 file_kept body (place.Ended ended.StoreFault) f other whole = inl whole
-file_kept body (place.Ended ended.DeviceFault) f other whole = whole
+file_kept body p f other whole = whole
 
 going_open : (p : Place) → IsUnended p → IsDone p → ⊥
-going_open (place.At c) going is = is
-going_open (place.In call len left_ next) going is = is
-going_open (place.Comparing at) going is = is
-going_open place.Closing going is = is
 going_open (place.Ended e) going is = going
+going_open p going is = is
 
 done_closed : (p : Place) → (IsDone p → ⊥) → p ≡ place.Ended ended.Done → ⊥
 done_closed p other is = other (subst (λ (q : Place). IsDone q) (sym is) tt)
 
 file_closed : (body : List ℕ) (p : Place) (old new : List ℕ) → drop 1 old ≡ body → ClosedFile p old new → FileAt body p new
-file_closed body (place.At c) old new same is = absurd is
-file_closed body (place.In call len left_ next) old new same is = absurd is
-file_closed body (place.Comparing at) old new same is = absurd is
-file_closed body place.Closing old new same is = absurd is
 file_closed body (place.Ended ended.Done) old new same is = is ∙ ap (λ (l : List ℕ). 0 ∷ l) same
-file_closed body (place.Ended (ended.Open fault)) old new same is = absurd is
-file_closed body (place.Ended (ended.Survey fault)) old new same is = absurd is
-file_closed body (place.Ended (ended.CallFailed number call e)) old new same is = absurd is
-file_closed body (place.Ended (ended.Mismatch d)) old new same is = absurd is
 file_closed body (place.Ended ended.StoreFault) old new same is = subst (λ (l : List ℕ). IsWholeOrClosed l new) same is
-file_closed body (place.Ended ended.DeviceFault) old new same is = absurd is
+file_closed body p old new same is = absurd is
 
 -- a job that is whole is whole at each moment before the first turn
 pub guarded_here : (body goal : List ℕ) (p : Place) (s : BenchState) → IsUnended p → IsWhole body s.file → LeftOnly s.file (file_half s)

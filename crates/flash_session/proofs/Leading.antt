@@ -96,9 +96,8 @@ led_quiet s site r cells = (cells, refl, tt, refl)
 ready_action : (s : Setup) (site : Site) (a : Action) (before x : List ℕ) → Acts site.layout s.algorithm.device.empty (part site before) a x
     → IsReady s site before (Acting a)
 unfolding Acts
-ready_action s site (EraseSector k) before x acts = tt
-ready_action s site EraseChip before x acts = tt
 ready_action s site (ProgramPage k bytes) before x acts = acts.2
+ready_action s site a before x acts = tt
 
 -- a plan's actions are such, with the other regions' cells as they were
 pub led_actions : (s : Setup) (site : Site) (actions : List Action) (cells want : List ℕ) → IsAmong site cells

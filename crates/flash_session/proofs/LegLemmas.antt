@@ -27,17 +27,9 @@ use Rattle.flash_session.proofs.OutcomeLemmas.{differs_somewhere, one_cells, not
 use Rattle.flash_session.proofs.LocalLemmas.{but_none}
 use Rattle.flash_session.proofs.Leading.{IsAmong, put, put_outside, put_long, put_bytes, AreBytes}
 use Rattle.flash_session.proofs.PartLemmas.{two_parts}
+use Rattle.flash_session.proofs.RestLemmas.{legs_none, legs_more}
 use Rattle.flash_session.proofs.Passing.{Passes, passes_none, passes_then, passes_reset, idle_local}
 use Rattle.flash_session.proofs.Serving.{Covers, IsRegionServed, phases_pass}
-
-no_legs : (torn : List Torn) → legs_of [] torn ≡ []
-unfolding legs_of
-no_legs torn = refl
-
-more_legs : (l : Leg) (rest : List Leg) (torn : List Torn) → legs_of (l ∷ rest) torn ≡ phases l.setup l.region_work (torn_first torn) ++ legs_of rest
-    (torn_rest torn)
-unfolding legs_of
-more_legs l rest torn = refl
 
 script_is : (l : Leg) (rest : List Leg) (b : Broken) → script (l ∷ rest) b ≡ legs_of (l ∷ rest) b.legs ++ (Reset l.setup b.last ∷ [])
 unfolding script
@@ -57,29 +49,26 @@ module _ (b : BoardShown) (goal : List ℕ) where
 
   -- the cells after the regions from this number on
   abbrev pub reached_by : ℕ → List AlgorithmShown → List Planned → List ℕ → List ℕ
-  reached_by region [] plans cells = cells
-  reached_by region (a ∷ rest) [] cells = cells
   reached_by region (a ∷ rest) (p ∷ more) cells = reached_by (region + 1) rest more (put (site_of b a region) (part (site_of b a region) goal) cells)
+  reached_by region algorithms plans cells = cells
 
   abbrev pub AreServed : ℕ → List AlgorithmShown → List Planned → List ℕ → Type 0
-  AreServed region [] plans cells = Unit {0}
-  AreServed region (a ∷ rest) [] cells = Unit {0}
   AreServed region (a ∷ rest) (p ∷ more) cells = IsLegServed region a p cells
       × AreServed (region + 1) rest more (put (site_of b a region) (part (site_of b a region) goal) cells)
+  AreServed region algorithms plans cells = Unit {0}
 
   abbrev pub AllCovered : (ℕ → Type 0) → ℕ → List AlgorithmShown → List Planned → Type 0
-  AllCovered P region [] plans = Unit {0}
-  AllCovered P region (a ∷ rest) [] = Unit {0}
   AllCovered P region (a ∷ rest) (p ∷ more) = Covers P (site_of b a region) p.plan × AllCovered P (region + 1) rest more
+  AllCovered P region algorithms plans = Unit {0}
 
   module _ (P : ℕ → Type 0) (old : List ℕ) where
     pub legs_pass : (region : ℕ) (algorithms : List AlgorithmShown) (plans : List Planned) (torn : List Torn) (cells : List ℕ) (x : Stand)
         → AreServed region algorithms plans cells → AllCovered P region algorithms plans → x.world.cells ≡ cells
         → board_in x.world ≡ (b.ram_base, board_map b) → state_op x.world.state ≡ None → SameBut P old cells
         → Passes P x (legs_of (legs_for b region algorithms goal plans) torn) (reached_by region algorithms plans cells) old
-    legs_pass region [] plans torn cells x served covered same board idle start = passes_none P old x (legs_of [] torn) cells (no_legs torn) idle same start
+    legs_pass region [] plans torn cells x served covered same board idle start = passes_none P old x (legs_of [] torn) cells (legs_none torn) idle same start
     legs_pass region (a ∷ rest) [] torn cells x served covered same board idle start =
-        passes_none P old x (legs_of [] torn) cells (no_legs torn) idle same start
+        passes_none P old x (legs_of [] torn) cells (legs_none torn) idle same start
     legs_pass region (a ∷ rest) (p ∷ more) torn cells x served covered same board idle start =
         let site = site_of b a region in
         let mine = part site goal in
@@ -93,7 +82,7 @@ module _ (b : BoardShown) (goal : List ℕ) where
         let all : Passes P x (phases l.setup l.region_work (torn_first torn) ++ legs_of later (torn_rest torn)) (reached_by (region + 1) rest more mid) old =
         passes_then P old x (phases l.setup l.region_work (torn_first torn)) (legs_of later (torn_rest torn)) mid (reached_by (region + 1) rest more mid) one
         (λ y y_idle y_is y_board. legs_pass (region + 1) rest more (torn_rest torn) mid y served.1 covered.1 y_is (y_board ∙ board) y_idle one.same) in
-        subst (λ (m : List Move). Passes P x m (reached_by (region + 1) rest more mid) old) (sym (more_legs l later torn)) all
+        subst (λ (m : List Move). Passes P x m (reached_by (region + 1) rest more mid) old) (sym (legs_more l later torn)) all
 
     -- the whole script goes to the cells that the regions reach in turn, with nothing changed outside their plans at any moment
     module _ (a : AlgorithmShown) (rest : List AlgorithmShown) (p : Planned) (more : List Planned) (x : Stand) (served : AreServed 0 (a ∷ rest) (p ∷ more) old)
@@ -130,8 +119,7 @@ module _ (b : BoardShown) (goal : List ℕ) where
         follows_reaches reaches (end.CallFailed number call f) follows other stored =
             let one = script_passes follows.broken in
             absurd (not_both (run x (script legs follows.broken)) _ _ one.ran follows.ends.ran)
-        follows_reaches reaches end.DeviceFault follows other stored = cc
-        follows_reaches reaches end.StoreFault follows other stored = cc
+        follows_reaches reaches x follows other stored = cc
 
         -- and at each moment, whatever the end, a stop leaves what lies outside the plans
         pub follows_local : (e : SessionEnd) → Follows legs goal x e start now → Leaves (cells_half start) (cells_half now) (SameBut P old)

@@ -15,9 +15,8 @@ use Rattle.flash_session.proofs.JobLemmas.{counts_are}
 works_count : (algorithms : List AlgorithmShown) (start : ℕ) (works : List RegionPlan) → AreRegionSurveys algorithms start works
     → length works ≡ length algorithms
 works_count [] start [] are = refl
-works_count [] start (r ∷ more) are = absurd are
-works_count (a ∷ rest) start [] are = absurd are
 works_count (a ∷ rest) start (r ∷ more) are = ap suc (works_count rest (start + a.device.size) more are.1)
+works_count algorithms start works are = absurd are
 
 -- a region of the board is one of the survey
 pub region_inside : (j : Job) (w : Survey) (region : ℕ) → IsSurvey j w → region < length j.board.regions → region < length (regions_of w)

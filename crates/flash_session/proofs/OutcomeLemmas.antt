@@ -61,19 +61,14 @@ one_outcome a moves goal (end.Reached r) (end.Reached s) c d one two = (refl, on
 one_outcome a moves goal (end.Reached r) (end.Mismatch y) c d one two =
     absurd (differs_somewhere goal d y (sym (one_cells a moves c d one.0 two.0) ∙ one.1) two.1)
 one_outcome a moves goal (end.Reached r) (end.CallFailed number call e) c d one two = absurd (not_both (run a moves) _ _ one.0.ran two.ran)
-one_outcome a moves goal (end.Reached r) end.DeviceFault c d one two = absurd two
-one_outcome a moves goal (end.Reached r) end.StoreFault c d one two = absurd two
 one_outcome a moves goal (end.Mismatch x) (end.Reached s) c d one two = absurd (differs_somewhere goal c x (one_cells a moves c d one.0 two.0 ∙ two.1) one.1)
 one_outcome a moves goal (end.Mismatch x) (end.Mismatch y) c d one two =
     let same : c ≡ d = one_cells a moves c d one.0 two.0 in
     (ap end.Mismatch (one_difference goal d x y (subst (λ (l : List ℕ). DiffersFirst goal l x) same one.1) two.1), same)
 one_outcome a moves goal (end.Mismatch x) (end.CallFailed number call e) c d one two = absurd (not_both (run a moves) _ _ one.0.ran two.ran)
-one_outcome a moves goal (end.Mismatch x) end.DeviceFault c d one two = absurd two
-one_outcome a moves goal (end.Mismatch x) end.StoreFault c d one two = absurd two
 one_outcome a moves goal (end.CallFailed number call e) (end.Reached s) c d one two = absurd (not_both (run a moves) _ _ two.0.ran one.ran)
 one_outcome a moves goal (end.CallFailed number call e) (end.Mismatch y) c d one two = absurd (not_both (run a moves) _ _ two.0.ran one.ran)
 one_outcome a moves goal (end.CallFailed n x e) (end.CallFailed m y f) c d one two = one_failure a moves n m x y e f c d one two
-one_outcome a moves goal (end.CallFailed number call e) end.DeviceFault c d one two = absurd two
-one_outcome a moves goal (end.CallFailed number call e) end.StoreFault c d one two = absurd two
 one_outcome a moves goal end.DeviceFault f c d one two = absurd one
 one_outcome a moves goal end.StoreFault f c d one two = absurd one
+one_outcome a moves goal e f c d one two = absurd two

@@ -155,11 +155,11 @@ three_of s t b later =
     ∙ ap (λ (m : List Move). phase s 1 b.erase (erase_moves s t.planned) ++ m)
     (append_assoc (phase s 2 b.program (page_moves false s t)) (phase s 3 b.verify (verify_moves s t)) later)
 
-legs_none : (torn : List Torn) → legs_of [] torn ≡ []
+pub legs_none : (torn : List Torn) → legs_of [] torn ≡ []
 unfolding legs_of
 legs_none torn = refl
 
-legs_more : (l : Leg) (rest : List Leg) (torn : List Torn) → legs_of (l ∷ rest) torn ≡ phases l.setup l.region_work (torn_first torn) ++ legs_of rest
+pub legs_more : (l : Leg) (rest : List Leg) (torn : List Torn) → legs_of (l ∷ rest) torn ≡ phases l.setup l.region_work (torn_first torn) ++ legs_of rest
     (torn_rest torn)
 unfolding legs_of
 legs_more l rest torn = refl

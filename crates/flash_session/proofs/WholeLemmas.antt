@@ -35,46 +35,32 @@ use Rattle.flash_session.proofs.MachineLemmas.{same_here, same_then, legs_same}
 -- ---- where a target stands
 
 pub is_close : (p : Place) → at_close p ≡ true → p ≡ place.Closing
-is_close (place.At c) is = cc
-is_close (place.In call len left next) is = cc
-is_close (place.Comparing at) is = cc
 is_close place.Closing is = refl
-is_close (place.Ended e) is = cc
+is_close p is = cc
 
 pub is_playing : (p : Place) → at_close p ≡ false → IsUnended p → IsPlaying p
-is_playing (place.At c) is going = tt
-is_playing (place.In call len left next) is going = tt
-is_playing (place.Comparing at) is going = tt
 is_playing place.Closing is going = cc
 is_playing (place.Ended e) is going = absurd going
+is_playing p is going = tt
 
 pub goes_where : (p : Place) (o : Option SessionEnd) → o ≡ None → IsPlayed p → IsStop p o → IsPlaying p
-goes_where (place.At c) o is played stop = tt
-goes_where (place.In call len left next) o is played stop = tt
-goes_where (place.Comparing at) o is played stop = tt
 goes_where place.Closing o is played stop = subst (λ (x : Option SessionEnd). IsStop place.Closing x) is stop
 goes_where (place.Ended e) o is played stop = subst (λ (x : Option SessionEnd). IsStop (place.Ended e) x) is stop
+goes_where p o is played stop = tt
 
 unended : (p : Place) → IsPlaying p → IsUnended p
-unended (place.At c) playing = tt
-unended (place.In call len left next) playing = tt
-unended (place.Comparing at) playing = tt
-unended place.Closing playing = tt
 unended (place.Ended e) playing = playing
+unended p playing = tt
 
 quiet : (p : Place) → IsPlaying p → place_fault p ≡ None
-quiet (place.At c) playing = refl
-quiet (place.In call len left next) playing = refl
-quiet (place.Comparing at) playing = refl
 quiet place.Closing playing = absurd playing
 quiet (place.Ended e) playing = absurd playing
+quiet p playing = refl
 
 read_by : (tells : Bool) (p q : Place) (s t : BenchState) → IsPlaying p → FileTurn tells p q s t → KeepsFile tells q s t
-read_by tells (place.At c) q s t playing turn = turn
-read_by tells (place.In call len left next) q s t playing turn = turn
-read_by tells (place.Comparing at) q s t playing turn = turn
 read_by tells place.Closing q s t playing turn = absurd playing
 read_by tells (place.Ended e) q s t playing turn = absurd playing
+read_by tells p q s t playing turn = turn
 
 before_close : (tells has : Bool) (moved : RegionIndex) (p : Place) (size : ℕ) (b : BenchState) → IsPlace tells has moved p size b → (IsDone p → ⊥) → IsPlayed p
 before_close tells has moved (place.At c) size b is other = tt
@@ -190,9 +176,6 @@ module _ (legs : List Leg) (goal : List ℕ) (a : Stand) (way : List Move) (star
 
   -- the script was broken off, or a call of it failed, or a cell is not the goal
   follows_ended : (t : TargetEnd) (e : SessionEnd) → IsEndOf t e → HasEnded legs goal a way t now → Follows legs goal a e start now
-  follows_ended ended.Done e is has = absurd is
-  follows_ended (ended.Open fault) e is has = absurd is
-  follows_ended (ended.Survey fault) e is has = absurd is
   follows_ended (ended.CallFailed number call x) e is has = subst (λ (f : SessionEnd). Follows legs goal a f start now) (sym is)
       (follows_by (end.CallFailed number call x) has.broken has.later has.whole has.ends)
   follows_ended (ended.Mismatch d) e is has = subst (λ (f : SessionEnd). Follows legs goal a f start now) (sym is)
@@ -201,6 +184,7 @@ module _ (legs : List Leg) (goal : List ℕ) (a : Stand) (way : List Move) (star
       (follows_by end.StoreFault has.broken has.later has.whole has.ends)
   follows_ended ended.DeviceFault e is has = subst (λ (f : SessionEnd). Follows legs goal a f start now) (sym is)
       (follows_by end.DeviceFault has.broken has.later has.whole has.ends)
+  follows_ended t e is has = absurd is
 
 -- all calls were done, and the cells are the goal
 follows_closing : (l : Legs) (goal : List ℕ) (a : Stand) (way : List Move) (start now : BenchState) (made : ℕ) (b : Stand)
@@ -210,10 +194,7 @@ follows_closing l goal a way start now made b moments on ran cells same (end.Rea
     let whole : script (all_legs l) (on unbroken).0 ≡ way ++ [] = (on unbroken).1 in
     follows_by (all_legs l) goal a way start now moments (end.Reached r) (on unbroken).0 [] whole
     (record { last = b; ran = subst (λ (m : List Move). run a m ≡ Ok b) (sym (append-nil way) ∙ sym whole) ran; leaves = cells }, same)
-follows_closing l goal a way start now made b moments on ran cells same (end.Mismatch d) is = absurd is
-follows_closing l goal a way start now made b moments on ran cells same (end.CallFailed number call x) is = absurd is
-follows_closing l goal a way start now made b moments on ran cells same end.DeviceFault is = absurd is
-follows_closing l goal a way start now made b moments on ran cells same end.StoreFault is = absurd is
+follows_closing l goal a way start now made b moments on ran cells same x is = absurd is
 
 module _ (tells : Bool) (told : IsTrue tells) (goal : List ℕ) (a : Stand) (way : List Move) (y : Player) (arena : List (List ℕ)) (start now : BenchState)
     (moments : Leaves (cells_half start) (cells_half now) (IsLeftOnWay a way)) (stands : StandsOn a way goal y arena now) where

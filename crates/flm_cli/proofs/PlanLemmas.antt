@@ -267,9 +267,8 @@ devices_by b (r ∷ rs) (f ∷ fs) (a ∷ more) same are = (are.0.fits.base_is, 
 
 each_by : (regions : List Region) (algorithms : List flm.Shown) → AreDevices regions algorithms → length algorithms ≡ length regions
 each_by [] [] devices = refl
-each_by [] (a ∷ more) devices = absurd devices
-each_by (r ∷ rs) [] devices = absurd devices
 each_by (r ∷ rs) (a ∷ more) devices = ap suc (each_by rs more devices.2)
+each_by regions algorithms devices = absurd devices
 
 -- as many FLM files as regions
 as_many : (b : board.Shown) (regions : List Region) (first : Option (List ℕ)) (others : List (List ℕ)) (algorithms : List flm.Shown) → IsSome first
@@ -288,9 +287,8 @@ devices_of raw_at files aim is some any =
 -- their devices have the regions' cells
 pub device_cells : (regions : List Region) (algorithms : List flm.Shown) → AreDevices regions algorithms → cells_on algorithms ≡ size_of regions
 device_cells [] [] devices = refl
-device_cells [] (a ∷ more) devices = absurd devices
-device_cells (r ∷ rs) [] devices = absurd devices
 device_cells (r ∷ rs) (a ∷ more) devices = omega (arith, size_of-cons r rs, devices.1, device_cells rs more devices.2)
+device_cells regions algorithms devices = absurd devices
 
 -- The end of the work on the cells.
 
@@ -346,20 +344,18 @@ parts_more : (algorithms : List flm.Shown) (start : ℕ) (parts : List RegionPla
     → p.start ≡ start + cells_on algorithms
     → AreParts (algorithms ++ a ∷ []) start (parts ++ p ∷ [])
 parts_more [] start [] a p are is at = let here : p.start ≡ start = omega (arith, at) in (is, here, tt)
-parts_more [] start (q ∷ parts) a p are is at = absurd are
-parts_more (b ∷ algorithms) start [] a p are is at = absurd are
 parts_more (b ∷ algorithms) start (q ∷ parts) a p are is at =
     let behind : p.start ≡ start + b.device.size + cells_on algorithms = omega (arith, at) in
     (are.0, are.1, parts_more algorithms (start + b.device.size) parts a p are.2 is behind)
+parts_more algorithms start parts a p are is at = absurd are
 
 cells_more : (algorithms : List flm.Shown) (a : flm.Shown) → cells_on (algorithms ++ a ∷ []) ≡ cells_on algorithms + a.device.size
 cells_more [] a = omega arith
 cells_more (b ∷ algorithms) a = omega (arith, cells_more algorithms a)
 
 cells_within : (n : ℕ) (algorithms : List Algorithm) → cells_on (map flm.shown (take n algorithms)) ≤ cells_on (map flm.shown algorithms)
-cells_within zero algorithms = omega arith
-cells_within (suc n) [] = omega arith
 cells_within (suc n) (a ∷ algorithms) = omega (arith, cells_within n algorithms)
+cells_within n algorithms = omega arith
 
 one_more : (algorithms : List Algorithm) (i : ℕ) (a : Algorithm) → i < length algorithms → a ≡ get_or algorithms i a
     → map flm.shown (take (i + 1) algorithms) ≡ map flm.shown (take i algorithms) ++ flm.shown a ∷ []
@@ -403,9 +399,8 @@ taken_all algorithms parts start i so_far past = subst (λ (l : List Algorithm).
 pub many_parts : (algorithms : List Algorithm) (start : ℕ) (parts : List RegionPlan) → AreParts (map flm.shown algorithms) start parts
     → length parts ≡ length algorithms
 many_parts [] start [] are = refl
-many_parts [] start (p ∷ parts) are = absurd are
-many_parts (a ∷ algorithms) start [] are = absurd are
 many_parts (a ∷ algorithms) start (p ∷ parts) are = ap suc (many_parts algorithms (start + a.device.size) parts are.2)
+many_parts algorithms start parts are = absurd are
 
 -- one of them, within all cells
 pub record IsOneOf (a : flm.Shown) (p : RegionPlan) (end : ℕ) : Type 0 where
@@ -416,22 +411,20 @@ pub part_at : (algorithms : List Algorithm) (start : ℕ) (parts : List RegionPl
     → AreParts (map flm.shown algorithms) start parts
     → IsOneOf (flm.shown (get_or algorithms i d)) (get_or parts i e) (start + cells_on (map flm.shown algorithms))
 part_at [] start [] i d e less are = absurd (omega (arith, less))
-part_at [] start (p ∷ parts) i d e less are = absurd are
-part_at (a ∷ algorithms) start [] i d e less are = absurd are
 part_at (a ∷ algorithms) start (p ∷ parts) zero d e less are = record { is = are.0; inside = omega (arith, are.1) }
 part_at (a ∷ algorithms) start (p ∷ parts) (suc i) d e less are =
     let rest = part_at algorithms (start + a.device.size) parts i d e (omega (arith, less)) are.2 in
     record { is = rest.is; inside = omega (arith, rest.inside) }
+part_at algorithms start parts i d e less are = absurd are
 
 parts_set : (algorithms : List Algorithm) (start : ℕ) (parts : List RegionPlan) (i : ℕ) (d : Algorithm) (e p : RegionPlan) → i < length parts
     → AreParts (map flm.shown algorithms) start parts
     → IsRegionPlanFor (flm.shown (get_or algorithms i d)) p → p.start ≡ (get_or parts i e).start → AreParts (map flm.shown algorithms) start (set parts i p)
 parts_set [] start [] i d e p less are is at = absurd (omega (arith, less))
-parts_set [] start (q ∷ parts) i d e p less are is at = absurd are
-parts_set (a ∷ algorithms) start [] i d e p less are is at = absurd are
 parts_set (a ∷ algorithms) start (q ∷ parts) zero d e p less are is at = (is, at ∙ are.1, are.2)
 parts_set (a ∷ algorithms) start (q ∷ parts) (suc i) d e p less are is at =
     (are.0, are.1, parts_set algorithms (start + a.device.size) parts i d e p (omega (arith, less)) are.2 is at)
+parts_set algorithms start parts i d e p less are is at = absurd are
 
 module _ (tells : Bool) (weights : Weights) (image : List Run) where
   plan_still : (all cells : List ℕ) (a : flm.Shown) (p : RegionPlan) → (IsTrue tells → all ≡ cells) → IsPlannedOver tells weights image all a p
@@ -447,9 +440,8 @@ module _ (tells : Bool) (weights : Weights) (image : List Run) where
       → ArePlanned tells weights image all algorithms parts
       → ArePlanned tells weights image cells algorithms parts
   plans_still all cells [] [] same are = tt
-  plans_still all cells [] (p ∷ parts) same are = absurd are
-  plans_still all cells (a ∷ algorithms) [] same are = absurd are
   plans_still all cells (a ∷ algorithms) (p ∷ parts) same are = (plan_still all cells a p same are.0, plans_still all cells algorithms parts same are.1)
+  plans_still all cells algorithms parts same are = absurd are
 
   -- the cells were only read since
   pub plans_since : {T E : Type 0} (r : Result T E) (all cells : List ℕ) (algorithms : List flm.Shown) (parts : List RegionPlan) → (IsTrue tells → cells ≡ all)
@@ -461,9 +453,8 @@ module _ (tells : Bool) (weights : Weights) (image : List Run) where
       ArePlanned tells weights image all algorithms parts
       → IsPlannedOver tells weights image all a p → ArePlanned tells weights image all (algorithms ++ a ∷ []) (parts ++ p ∷ [])
   plans_more all [] [] a p are is = (is, tt)
-  plans_more all [] (q ∷ parts) a p are is = absurd are
-  plans_more all (b ∷ algorithms) [] a p are is = absurd are
   plans_more all (b ∷ algorithms) (q ∷ parts) a p are is = (are.0, plans_more all algorithms parts a p are.1 is)
+  plans_more all algorithms parts a p are is = absurd are
 
   -- the first regions were surveyed
   pub record SurveyedTo (algorithms : List Algorithm) (before now : BenchState) (parts : List RegionPlan) (i : ℕ) : Type 0 where
@@ -589,10 +580,9 @@ module _ (tells : Bool) (wanted : Wanted) (s : BenchState) (parts : List RegionP
 pub parts_end : (algorithms : List flm.Shown) (start : ℕ) (parts : List RegionPlan) → AreParts algorithms start parts
     → All (λ p. p.base + p.geometry.size ≤ 2 ^ 32) parts
 parts_end [] start [] are = All-nil (λ (p : RegionPlan). p.base + p.geometry.size ≤ 2 ^ 32)
-parts_end [] start (p ∷ parts) are = absurd are
-parts_end (a ∷ algorithms) start [] are = absurd are
 parts_end (a ∷ algorithms) start (p ∷ parts) are =
     All-cons (λ (p : RegionPlan). p.base + p.geometry.size ≤ 2 ^ 32) p parts are.0.end (parts_end algorithms (start + a.device.size) parts are.2)
+parts_end algorithms start parts are = absurd are
 
 named_texts : (parts : List RegionPlan) → flat_map (λ (p : RegionPlan). part_text true p) parts ≡ flat_map (λ (plan : ℕ × List ℕ). region_text plan.0 ++ plan.1)
     (map told_of parts)

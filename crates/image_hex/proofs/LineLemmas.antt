@@ -7,12 +7,11 @@ use Rattle.byte_map.specs.Image.{Run}
 use Rattle.record_lines.specs.Digits.{is_hex_digit, pairs}
 use Rattle.record_lines.specs.Cells.{Cell, Clash, first_clash, IsImageOf}
 use Rattle.record_lines.specs.Clashes.{IsClashFault}
-use Rattle.record_lines.specs.Format.{line_fault, or_clash, line_at, context_before, cells_before, IsFaultOfLine, TakesLine, IsLineFault, IsTextFault}
+use Rattle.record_lines.specs.Format.{line_fault, or_clash, line_at, context_before, cells_before, IsFaultOfLine, TakesLine, IsLineFault}
 use Rattle.record_lines.specs.declared.fault.ClashFault.{ClashFault}
 use Rattle.record_lines.specs.declared.fault.ClashFault.TheVariants as clash
-use Rattle.record_lines.specs.declared.fault.TextFault.{TextFault}
 use Rattle.image_hex.specs.declared.fault.HexKind.{HexKind}
-use Rattle.image_hex.specs.declared.fault.HexKind.TheVariants.{NotRecord, BadDigit, BadLength, BadSum, BadType, Conflict, NoEnd, OutOfMemory}
+use Rattle.image_hex.specs.declared.fault.HexKind.TheVariants.{Conflict, NoEnd, OutOfMemory}
 use Rattle.image_hex.specs.declared.record.Base.{Base}
 use Rattle.image_hex.specs.declared.record.HexRecord.TheVariants.{Data}
 use Rattle.image_hex.specs.Record.{Reading, read_line, checked, record_of, word_of, checksum_of}
@@ -22,14 +21,9 @@ use Rattle.image_hex.proofs.Apart.{consistent_data}
 
 -- a kind that a line may have: no missing end record, and no want of memory
 abbrev pub IsKindOfLine : HexKind → Type 0
-IsKindOfLine NotRecord = Unit {0}
-IsKindOfLine BadDigit = Unit {0}
-IsKindOfLine BadLength = Unit {0}
-IsKindOfLine (BadSum said due) = Unit {0}
-IsKindOfLine (BadType value) = Unit {0}
-IsKindOfLine (Conflict at old new) = Unit {0}
 IsKindOfLine NoEnd = ⊥
 IsKindOfLine OutOfMemory = ⊥
+IsKindOfLine kind = Unit {0}
 
 abbrev pub IsProper : Reading → Type 0
 IsProper (Ok record_) = Unit {0}
@@ -77,14 +71,9 @@ of_line lines line kind is =
 
 -- a fault of a line as the text's fault
 pub line_as_hex : (lines : List (List ℕ)) (line : ℕ) (kind : HexKind) → IsFaultOfLine hex lines line kind → IsHexFault lines line kind
-line_as_hex lines line NotRecord is = is
-line_as_hex lines line BadDigit is = is
-line_as_hex lines line BadLength is = is
-line_as_hex lines line (BadSum said due) is = is
-line_as_hex lines line (BadType value) is = is
-line_as_hex lines line (Conflict at old new) is = is
 line_as_hex lines line NoEnd is = absurd (of_line lines line NoEnd is)
 line_as_hex lines line OutOfMemory is = absurd (of_line lines line OutOfMemory is)
+line_as_hex lines line kind is = is
 
 -- a line that is at fault by itself
 pub faulty : (reading : Reading) (kind : HexKind) (before : List Cell) (base : Base) → reading ≡ Err kind → line_fault hex base before reading ≡ Some kind

@@ -12,14 +12,9 @@ abbrev HexFaultIs : List (List ℕ) → ℕ → HexKind → Type 0
 HexFaultIs lines line kind = IsFaultOfLine hex lines line kind ⊎ ((kind ≡ hex_kind.NoEnd) × HasNoEnd hex lines line)
 
 hex_fault_is : (lines : List (List ℕ)) (line : ℕ) (kind : HexKind) → IsHexFault lines line kind → kind ≢ hex_kind.OutOfMemory → HexFaultIs lines line kind
-hex_fault_is lines line hex_kind.NotRecord is other = inl is
-hex_fault_is lines line hex_kind.BadDigit is other = inl is
-hex_fault_is lines line hex_kind.BadLength is other = inl is
-hex_fault_is lines line (hex_kind.BadSum said due) is other = inl is
-hex_fault_is lines line (hex_kind.BadType value) is other = inl is
-hex_fault_is lines line (hex_kind.Conflict at old new) is other = inl is
 hex_fault_is lines line hex_kind.NoEnd is other = inr (refl, is)
 hex_fault_is lines line hex_kind.OutOfMemory is other = absurd (other refl)
+hex_fault_is lines line kind is other = inl is
 
 -- beside an image there is no fault but want of memory
 pub hex_memory_alone : (lines : List (List ℕ)) (image : List Run) (line : ℕ) (kind : HexKind) → IsImageOfText hex lines image

@@ -70,25 +70,19 @@ same_srec a b same =
 
 none_fault : (bytes : List ℕ) (a : ImageFault) → IsFaultOfForm None bytes a → a ≢ OutOfMemory → a ≡ NoForm
 none_fault bytes NoForm is other = refl
-none_fault bytes (Hex fault) is other = let wrong = is.0 in absurd (cc)
-none_fault bytes (Srec fault) is other = let wrong = is.0 in absurd (cc)
-none_fault bytes (Elf fault) is other = let wrong = is.0 in absurd (cc)
-none_fault bytes (Conflict at old new) is other = let wrong = is.0 in absurd (cc)
 none_fault bytes (PastEnd at) is other = absurd is
 none_fault bytes (OutsideDevice at) is other = absurd is
 none_fault bytes EmptyImage is other = absurd is
 none_fault bytes OutOfMemory is other = absurd (other refl)
+none_fault bytes a is other = let wrong = is.0 in absurd (cc)
 
 raw_fault : (from : ℕ) (bytes : List ℕ) (a : ImageFault) → IsFaultOfForm (Some (form.Raw from)) bytes a → a ≢ OutOfMemory → a ≡ PastEnd from
 raw_fault from bytes NoForm is other = absurd (cc)
-raw_fault from bytes (Hex fault) is other = let wrong = is.0 in absurd (cc)
-raw_fault from bytes (Srec fault) is other = let wrong = is.0 in absurd (cc)
-raw_fault from bytes (Elf fault) is other = let wrong = is.0 in absurd (cc)
-raw_fault from bytes (Conflict at old new) is other = let wrong = is.0 in absurd (cc)
 raw_fault from bytes (PastEnd at) is other = ap PastEnd is.0
 raw_fault from bytes (OutsideDevice at) is other = absurd is
 raw_fault from bytes EmptyImage is other = absurd is
 raw_fault from bytes OutOfMemory is other = absurd (other refl)
+raw_fault from bytes a is other = let wrong = is.0 in absurd (cc)
 
 pub record IsHexOf (bytes : List ℕ) (a : ImageFault) : Type 0 where
   pub fault : HexFault
@@ -98,13 +92,11 @@ pub record IsHexOf (bytes : List ℕ) (a : ImageFault) : Type 0 where
 hex_fault : (bytes : List ℕ) (a : ImageFault) → IsFaultOfForm (Some form.Hex) bytes a → a ≢ OutOfMemory → IsHexOf bytes a
 hex_fault bytes NoForm is other = absurd (cc)
 hex_fault bytes (Hex fault) is other = record { fault = fault; is = refl; of_form = is }
-hex_fault bytes (Srec fault) is other = let wrong = is.0 in absurd (cc)
-hex_fault bytes (Elf fault) is other = let wrong = is.0 in absurd (cc)
-hex_fault bytes (Conflict at old new) is other = let wrong = is.0 in absurd (cc)
 hex_fault bytes (PastEnd at) is other = absurd is
 hex_fault bytes (OutsideDevice at) is other = absurd is
 hex_fault bytes EmptyImage is other = absurd is
 hex_fault bytes OutOfMemory is other = absurd (other refl)
+hex_fault bytes a is other = let wrong = is.0 in absurd (cc)
 
 pub record IsSrecOf (bytes : List ℕ) (a : ImageFault) : Type 0 where
   pub fault : SrecFault
@@ -113,14 +105,12 @@ pub record IsSrecOf (bytes : List ℕ) (a : ImageFault) : Type 0 where
 
 srec_fault : (bytes : List ℕ) (a : ImageFault) → IsFaultOfForm (Some form.Srec) bytes a → a ≢ OutOfMemory → IsSrecOf bytes a
 srec_fault bytes NoForm is other = absurd (cc)
-srec_fault bytes (Hex fault) is other = let wrong = is.0 in absurd (cc)
 srec_fault bytes (Srec fault) is other = record { fault = fault; is = refl; of_form = is }
-srec_fault bytes (Elf fault) is other = let wrong = is.0 in absurd (cc)
-srec_fault bytes (Conflict at old new) is other = let wrong = is.0 in absurd (cc)
 srec_fault bytes (PastEnd at) is other = absurd is
 srec_fault bytes (OutsideDevice at) is other = absurd is
 srec_fault bytes EmptyImage is other = absurd is
 srec_fault bytes OutOfMemory is other = absurd (other refl)
+srec_fault bytes a is other = let wrong = is.0 in absurd (cc)
 
 -- a fault of an ELF file: of the format, or a refused segment
 elf_faults : (bytes : List ℕ) (a b : ImageFault) → IsFaultOfForm (Some form.Elf) bytes a → IsFaultOfForm (Some form.Elf) bytes b
@@ -168,15 +158,8 @@ pub one_fault : (raw_at : Option ℕ) (bytes : List ℕ) (a b : ImageFault) → 
 one_fault raw_at bytes a b one two no_a no_b = one_fault_of (form_of raw_at bytes) bytes a b one two no_a no_b
 
 memory_left : (fault : ImageFault) → (fault ≢ OutOfMemory → ⊥) → fault ≡ OutOfMemory
-memory_left NoForm is = absurd (is (λ same. cc))
-memory_left (Hex fault) is = absurd (is (λ same. cc))
-memory_left (Srec fault) is = absurd (is (λ same. cc))
-memory_left (Elf fault) is = absurd (is (λ same. cc))
-memory_left (Conflict at old new) is = absurd (is (λ same. cc))
-memory_left (PastEnd at) is = absurd (is (λ same. cc))
-memory_left (OutsideDevice at) is = absurd (is (λ same. cc))
-memory_left EmptyImage is = absurd (is (λ same. cc))
 memory_left OutOfMemory is = refl
+memory_left fault is = absurd (is (λ same. cc))
 
 -- a file with an image has no fault but want of memory
 pub memory_alone : (raw_at : Option ℕ) (bytes : List ℕ) (image : List Run) (fault : ImageFault) → IsImage raw_at bytes image → IsFault raw_at bytes fault →

@@ -45,16 +45,12 @@ one_clash piece image p q old old' new new' one two =
 
 right_or_refused : (bytes : List ℕ) (k : ℕ) (fault : ImageFault) → IsRight bytes k → IsSegmentFault bytes k (pieces_before bytes k) fault
     → fault ≢ OutOfMemory → ⊥
-right_or_refused bytes k NoForm right is other = is
-right_or_refused bytes k (Hex fault) right is other = is
-right_or_refused bytes k (Srec fault) right is other = is
 right_or_refused bytes k (Elf fault) right is other = let whole = right.whole in let cut = is.0 in cc
 right_or_refused bytes k (Conflict at old new) right is other =
     agrees_or_clashes (piece_at bytes k) (pieces_before bytes k) at old new right.fits right.agrees is.1.1
 right_or_refused bytes k (PastEnd at) right is other = omega (arith, right.fits, is.1.1)
-right_or_refused bytes k (OutsideDevice at) right is other = is
-right_or_refused bytes k EmptyImage right is other = is
 right_or_refused bytes k OutOfMemory right is other = other refl
+right_or_refused bytes k fault right is other = is
 
 one_segment_fault : (bytes : List ℕ) (k : ℕ) (image : List Run) (a b : ImageFault) → IsSegmentFault bytes k image a → IsSegmentFault bytes k image b
     → a ≢ OutOfMemory → b ≢ OutOfMemory → a ≡ b

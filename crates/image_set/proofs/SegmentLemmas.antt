@@ -17,7 +17,7 @@ use Rattle.image_set.specs.Segments.{is_loaded, piece_at, is_cut_at, pieces_befo
 use Rattle.image_set.specs.Read.{IsFaultOfForm}
 use Rattle.image_set.specs.declared.form.Form.TheVariants as form
 use Rattle.image_set.specs.declared.fault.ImageFault.{ImageFault}
-use Rattle.image_set.specs.declared.fault.ImageFault.TheVariants.{NoForm, Hex, Srec, Elf, Conflict, PastEnd, OutsideDevice, EmptyImage, OutOfMemory}
+use Rattle.image_set.specs.declared.fault.ImageFault.TheVariants.{Elf, Conflict, PastEnd, OutsideDevice, EmptyImage, OutOfMemory}
 
 -- agreement asks for the image's bytes alone
 pub agrees_same : (piece : Run) (image other : List Run) (limit : ℕ) → IsSameMap image other → AgreesBelow piece image limit → AgreesBelow piece other limit
@@ -74,15 +74,8 @@ clash_same piece image other at old new same clash =
 -- a refusal asks for the image's bytes alone
 pub fault_same : (bytes : List ℕ) (k : ℕ) (image other : List Run) (fault : ImageFault) → IsSameMap image other → IsSegmentFault bytes k image fault →
     IsSegmentFault bytes k other fault
-fault_same bytes k image other NoForm same is = is
-fault_same bytes k image other (Hex fault) same is = is
-fault_same bytes k image other (Srec fault) same is = is
-fault_same bytes k image other (Elf fault) same is = is
 fault_same bytes k image other (Conflict at old new) same is = (is.0, (is.1.0, clash_same (piece_at bytes k) image other at old new same is.1.1))
-fault_same bytes k image other (PastEnd at) same is = is
-fault_same bytes k image other (OutsideDevice at) same is = is
-fault_same bytes k image other EmptyImage same is = is
-fault_same bytes k image other OutOfMemory same is = is
+fault_same bytes k image other fault same is = is
 
 part_by : (cut : Bool) (fault : ElfFault) (own lent : List ℕ) → cond cut (Err fault) (Ok own) ≡ Ok lent → lent ≡ own
 part_by true fault own lent is = absurd (cc)
@@ -139,9 +132,6 @@ first_refused bytes k image fault readable inside loaded before is =
 -- a refused segment as a refused file
 pub elf_refused : (bytes : List ℕ) (k : ℕ) (image : List Run) (fault : ImageFault) → file_fault bytes ≡ None → k < e_phnum bytes → is_loaded bytes k ≡ true →
     IsImageBefore bytes k image → IsSegmentFault bytes k image fault → IsFaultOfForm (Some form.Elf) bytes fault
-elf_refused bytes k image NoForm readable inside loaded before is = absurd is
-elf_refused bytes k image (Hex fault) readable inside loaded before is = absurd is
-elf_refused bytes k image (Srec fault) readable inside loaded before is = absurd is
 elf_refused bytes k image (Elf fault) readable inside loaded before is = (refl, inr (first_refused bytes k image (Elf fault) readable inside loaded before is))
 elf_refused bytes k image (Conflict at old new) readable inside loaded before is =
     (refl, first_refused bytes k image (Conflict at old new) readable inside loaded before is)
@@ -149,3 +139,4 @@ elf_refused bytes k image (PastEnd at) readable inside loaded before is = first_
 elf_refused bytes k image (OutsideDevice at) readable inside loaded before is = is
 elf_refused bytes k image EmptyImage readable inside loaded before is = is
 elf_refused bytes k image OutOfMemory readable inside loaded before is = tt
+elf_refused bytes k image fault readable inside loaded before is = absurd is

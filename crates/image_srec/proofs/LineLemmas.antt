@@ -1,6 +1,6 @@
 -- What is at fault with a line of S-records, and what taking it answers.
-use Rattle.std.proofs.Common.{◌≡◌, ◌++◌, ◌+◌, ◌-◌, ◌*◌, ◌∙◌, ◌≤◌, ℕ, Bool, true, false, cond, List, [], ◌∷◌, Option, Some, None, Result, Ok, Err, length}
-use Rattle.std.proofs.Common.{get_or, take, drop, refl, sym, ap, subst, arith}
+use Rattle.std.proofs.Common.{◌≡◌, ◌++◌, ◌+◌, ◌-◌, ◌*◌, ◌∙◌, ◌≤◌, ℕ, Bool, true, false, cond, List, [], ◌∷◌, Option, Some, None, Ok, Err, length}
+use Rattle.std.proofs.Common.{get_or, take, refl, sym, ap, subst, arith}
 use Rattle.std.specs.Prelude.{◌==◌, ◌&&◌, ◌||◌, not, nat_lt, nat_le}
 use Rattle.std.specs.List.{list_all}
 use Rattle.std.proofs.lemmas.Bool.Decides.{nat_tests}
@@ -13,7 +13,7 @@ use Rattle.record_lines.specs.declared.fault.ClashFault.{ClashFault}
 use Rattle.record_lines.specs.declared.fault.ClashFault.TheVariants as clash
 use Rattle.record_lines.proofs.CellLemmas.{consistent_from}
 use Rattle.image_srec.specs.declared.fault.SrecKind.{SrecKind}
-use Rattle.image_srec.specs.declared.fault.SrecKind.TheVariants.{NotRecord, BadDigit, BadLength, BadSum, BadType, CountDiffers, PastEnd, Conflict, NoEnd}
+use Rattle.image_srec.specs.declared.fault.SrecKind.TheVariants.{PastEnd, Conflict, NoEnd}
 use Rattle.image_srec.specs.declared.fault.SrecKind.TheVariants.{OutOfMemory}
 use Rattle.image_srec.specs.declared.record.Seen.{Seen}
 use Rattle.image_srec.specs.declared.record.SrecRecord.{SrecRecord}
@@ -24,16 +24,9 @@ use Rattle.image_srec.specs.Clashes.{line_fault_of}
 
 -- a kind that a line may have: no missing end record, and no want of memory
 abbrev pub IsKindOfLine : SrecKind → Type 0
-IsKindOfLine NotRecord = Unit {0}
-IsKindOfLine BadDigit = Unit {0}
-IsKindOfLine BadLength = Unit {0}
-IsKindOfLine (BadSum said due) = Unit {0}
-IsKindOfLine (BadType value) = Unit {0}
-IsKindOfLine (CountDiffers said seen) = Unit {0}
-IsKindOfLine (PastEnd at) = Unit {0}
-IsKindOfLine (Conflict at old new) = Unit {0}
 IsKindOfLine NoEnd = ⊥
 IsKindOfLine OutOfMemory = ⊥
+IsKindOfLine kind = Unit {0}
 
 abbrev pub IsProper : Reading → Type 0
 IsProper (Ok record_) = Unit {0}
@@ -92,16 +85,9 @@ of_line lines line kind is =
 
 -- a fault of a line as the text's fault
 pub line_as_srec : (lines : List (List ℕ)) (line : ℕ) (kind : SrecKind) → IsFaultOfLine srec lines line kind → IsSrecFault lines line kind
-line_as_srec lines line NotRecord is = is
-line_as_srec lines line BadDigit is = is
-line_as_srec lines line BadLength is = is
-line_as_srec lines line (BadSum said due) is = is
-line_as_srec lines line (BadType value) is = is
-line_as_srec lines line (CountDiffers said seen) is = is
-line_as_srec lines line (PastEnd at) is = is
-line_as_srec lines line (Conflict at old new) is = is
 line_as_srec lines line NoEnd is = absurd (of_line lines line NoEnd is)
 line_as_srec lines line OutOfMemory is = absurd (of_line lines line OutOfMemory is)
+line_as_srec lines line kind is = is
 
 -- a line that is at fault by itself
 pub faulty : (reading : Reading) (kind : SrecKind) (before : List Cell) (seen : Seen) → reading ≡ Err kind → line_fault srec seen before reading ≡ Some kind

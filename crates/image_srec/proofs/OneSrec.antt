@@ -12,16 +12,9 @@ abbrev SrecFaultIs : List (List ℕ) → ℕ → SrecKind → Type 0
 SrecFaultIs lines line kind = IsFaultOfLine srec lines line kind ⊎ ((kind ≡ srec_kind.NoEnd) × HasNoEnd srec lines line)
 
 srec_fault_is : (lines : List (List ℕ)) (line : ℕ) (kind : SrecKind) → IsSrecFault lines line kind → kind ≢ srec_kind.OutOfMemory → SrecFaultIs lines line kind
-srec_fault_is lines line srec_kind.NotRecord is other = inl is
-srec_fault_is lines line srec_kind.BadDigit is other = inl is
-srec_fault_is lines line srec_kind.BadLength is other = inl is
-srec_fault_is lines line (srec_kind.BadSum said due) is other = inl is
-srec_fault_is lines line (srec_kind.BadType value) is other = inl is
-srec_fault_is lines line (srec_kind.CountDiffers said seen) is other = inl is
-srec_fault_is lines line (srec_kind.PastEnd at) is other = inl is
-srec_fault_is lines line (srec_kind.Conflict at old new) is other = inl is
 srec_fault_is lines line srec_kind.NoEnd is other = inr (refl, is)
 srec_fault_is lines line srec_kind.OutOfMemory is other = absurd (other refl)
+srec_fault_is lines line kind is other = inl is
 
 -- beside an image there is no fault but want of memory
 pub srec_memory_alone : (lines : List (List ℕ)) (image : List Run) (line : ℕ) (kind : SrecKind) → IsImageOfText srec lines image

@@ -113,9 +113,8 @@ module _ (tells : Bool) (a b d : BenchState) (out : SinkCall) (w : Work) (idle :
 -- no answer of a job's work is changed once it was begun
 pub begun_is : {bench : BenchCall} {out : SinkCall} {First : List ℕ → List ℕ → Type 0} {w : Work} (answer : Answer) → Carries bench out First w answer
     → begun answer ≡ answer
-begun_is done carries = refl
 begun_is (refused no_job) carries = absurd carries.comes
-begun_is (refused r) carries = refl
+begun_is answer carries = refl
 
 -- after a job was begun its file is never refused, where the bench tells it
 pub begun_stands : (tells sinks : Bool) (a b d : BenchState) (p r : SinkState) (First : List ℕ → List ℕ → Type 0) (w : Work) (answer : Answer)

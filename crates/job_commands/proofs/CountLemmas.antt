@@ -44,9 +44,8 @@ uncounted before after fault counted = ⊎_elim
     (cases_lt before after)
 
 same_fault : (answer : Answer) → fault_in (begun answer) ≡ fault_in answer
-same_fault done = refl
 same_fault (refused no_job) = refl
-same_fault (refused r) = refl
+same_fault answer = refl
 
 counted_then : (first before after : ℕ) (fault : Fault) (answer : Answer) → before ≡ first → IsCounted before after fault answer
     → IsCounted first after fault (begun answer)

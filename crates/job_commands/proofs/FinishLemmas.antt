@@ -125,11 +125,10 @@ module _ (tells : Bool) (told : IsTrue tells) (j : code.Job) (goal : Goal) (text
   all_chosen : (b : board.Shown) (region : ℕ) (algorithms : List flm.Shown) (old new : List ℕ) (plans : List Planned)
       → ArePlannedFor tells b region algorithms old new plans → plans ≡ plans_in b region algorithms old new
   all_chosen b region [] old new [] are = refl
-  all_chosen b region [] old new (p ∷ more) are = absurd are
-  all_chosen b region (a ∷ rest) old new [] are = absurd are
   all_chosen b region (a ∷ rest) old new (p ∷ more) are =
       ap (λ (x : Planned). x ∷ more) (one_chosen b region a old new p are.0)
       ∙ ap (λ (l : List Planned). plan_in b region a old new ∷ l) (all_chosen b (region + 1) rest old new more are.1)
+  all_chosen b region algorithms old new plans are = absurd are
 
   module _ (v : Surveyed) (has : HasSurveyed tells j goal file cells v) where
     pub goal_is : goal_in j v.goal file ≡ its_work.goal

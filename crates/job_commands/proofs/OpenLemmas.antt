@@ -1,5 +1,5 @@
 -- What the class of the file at entry says of the answer.
-use Rattle.std.proofs.Common.{◌≡◌, ◌⊎◌, inl, inr, refl, ◌∙◌, ℕ, Bool, List, Err, sym, ap, subst}
+use Rattle.std.proofs.Common.{◌≡◌, ◌⊎◌, inl, inr, refl, ◌∙◌, ℕ, Bool, true, List, Err, sym, ap, subst}
 use Rattle.outside_io.specs.State.{SinkState}
 use Rattle.bench_model.specs.State.{BenchState, Left, SameOutside}
 use Rattle.bench_model.specs.Calls.{OnlyReads}
@@ -19,10 +19,10 @@ use Rattle.flash_session.specs.declared.fault.SurveyFault.TheVariants as survey
 use Rattle.flash_session.specs.declared.session.Session.{Session}
 use Rattle.flash_session.specs.declared.goal.Goal.{Goal}
 use Rattle.flash_session.specs.Opened.{IsSessionFault, ReadsIfRefused}
-use Rattle.report_text.specs.Refusal.{not_a_job}
+use Rattle.report_text.specs.Refusal.{Refusal, not_a_job, out_of_memory, store_fault, device_fault}
 use Rattle.command_answers.specs.Call.{BenchCall, SinkCall, Answer, refused, bench_call, sink_call}
 use Rattle.command_answers.specs.Said.{TookNothing}
-use Rattle.command_answers.specs.Answered.{OnlyLooked, StandsEarly, on_job_file}
+use Rattle.command_answers.specs.Answered.{OnlyLooked, StandsEarly, yields, on_job_file}
 use Rattle.command_answers.proofs.FileLemmas.{not_free, damaged_open, one_reason, one_kept, one_found, one_job}
 use Rattle.job_commands.specs.Work.{Work, body}
 use Rattle.job_commands.specs.Carry.{Carries, BrokenOff}
@@ -63,39 +63,35 @@ module _ (tells sinks : Bool) (a b : BenchState) (p : SinkState) (goal : Goal) w
       → StandsEarly on_job_file (bench_call tells a b) (sink_call sinks p p) (refused (of_session fault))
   open_stands session.OutOfMemory reads = nothing
   open_stands (session.Open opening.OutOfMemory) reads = nothing
-  open_stands (session.Open opening.NoJob) reads = only_looked reads
-  open_stands (session.Open (opening.NotAJob at)) reads = only_looked reads
-  open_stands (session.Open (opening.Damaged kept found)) reads = only_looked reads
   open_stands (session.Open opening.StoreFault) reads = tt
-  open_stands (session.Open (opening.CellsDiffer said found)) reads = only_looked reads
   open_stands session.DeviceFault reads = tt
+  open_stands fault reads = only_looked reads
 
   module _ (file : b.file ≡ a.file) (same : SameOutside a.operation a.cells b.cells) (pairs : PairsLeave a b (Left a)) (off : BrokenOff a b b.cells) where
+    -- one that comes of any file, which was only looked at
+    looked : (r : Refusal) → yields (refused r) ≡ true → OnlyReads tells a b
+        → ((job : Job) (c : board.Shown) (xs : List flm.Shown) → IsWhole (body_of job) a.file
+        → Carries (bench_call tells a b) (sink_call sinks p p) (Left a) (work_to goal job c xs b.cells) (refused r))
+        → GoesOnFrom goal (bench_call tells a b) (sink_call sinks p p) (refused r)
+    looked r one reads carries = record {
+      free = λ is_free. inr (one, only_looked reads);
+      not_job = λ at no. inr (one, only_looked reads);
+      is_damaged = λ kept found damage. inr (one, only_looked reads);
+      other_size = λ some unequal. inr (one, only_looked reads);
+      stands = λ job c xs is_job whole size. (b.cells, carries job c xs whole);
+    }
+
     pub refuses_open : (fault : SessionFault) → IsSessionFault a.file a.cell_count fault → ReadsIfRefused {T = Session} tells a b (Err fault)
         → GoesOnFrom goal (bench_call tells a b) (sink_call sinks p p) (refused (of_session fault))
-    refuses_open session.OutOfMemory is reads = record {
-      free = λ is_free. inr (refl, only_looked reads);
-      not_job = λ at no. inr (refl, only_looked reads);
-      is_damaged = λ kept found damage. inr (refl, only_looked reads);
-      other_size = λ some unequal. inr (refl, only_looked reads);
-      stands = λ job c xs is_job whole size. (
-        b.cells,
-        no_memory tells sinks a b p (work_to goal job c xs b.cells) whole same file same
-            (opened (body_of job) pairs) off,
-      );
-    }
+    refuses_open session.OutOfMemory is reads = looked out_of_memory refl reads
+        (λ job c xs whole. no_memory tells sinks a b p (work_to goal job c xs b.cells) whole same file same (opened (body_of job) pairs) off)
     refuses_open (session.Open opening.OutOfMemory) is reads = absurd is
-    refuses_open (session.Open opening.StoreFault) is reads = record {
-      free = λ is_free. inr (refl, only_looked reads);
-      not_job = λ at no. inr (refl, only_looked reads);
-      is_damaged = λ kept found damage. inr (refl, only_looked reads);
-      other_size = λ some unequal. inr (refl, only_looked reads);
-      stands = λ job c xs is_job whole size. (
-        b.cells,
-        no_store tells sinks a b p (work_to goal job c xs b.cells) whole same file same
-            (opened (body_of job) pairs) off,
-      );
-    }
+    refuses_open (session.Open opening.StoreFault) is reads = looked store_fault refl reads
+        (λ job c xs whole. no_store tells sinks a b p (work_to goal job c xs b.cells) whole same file same (opened (body_of job) pairs) off)
+    refuses_open session.DeviceFault is reads =
+        only_stands tells a b (sink_call sinks p p) goal (refused device_fault) is.some is.size b.cells
+        (no_device tells sinks a b p (work_to goal is.some.job is.some.board is.some.algorithms b.cells) is.some.whole same file same
+        (opened (body_of is.some.job) pairs) off)
     refuses_open (session.Open opening.NoJob) is reads = record {
       free = λ is_free. inl refl;
       not_job = λ at no. absurd (no.none.not_free is);
@@ -133,19 +129,6 @@ module _ (tells sinks : Bool) (a b : BenchState) (p : SinkState) (goal : Goal) w
           let one = one_job a.file is.some.is is_job is.some.whole whole in
           absurd (is.differ (is.said_is ∙ ap (λ (y : board.Shown). size_of y.regions) one.board ∙ size ∙ sym is.found_is));
     }
-    refuses_open session.DeviceFault is reads = record {
-      free = λ is_free. absurd (not_free is.some.job a.file is.some.whole is_free);
-      not_job = λ at no. absurd (no.none.no_job is.some.job is.some.board is.some.algorithms is.some.is is.some.whole);
-      is_damaged = λ kept was damage. absurd (never_jobs a.file kept was damage is.some.job is.some.board is.some.algorithms is.some.is is.some.whole);
-      other_size = λ some unequal.
-          let one = one_job a.file some.is is.some.is some.whole is.some.whole in
-          absurd (unequal (ap (λ (y : board.Shown). size_of y.regions) one.board ∙ is.size));
-      stands = λ job c xs is_job whole size. (
-        b.cells,
-        no_device tells sinks a b p (work_to goal job c xs b.cells) whole same file same
-            (opened (body_of job) pairs) off,
-      );
-    }
 
 -- a survey that could not be made
 pub refuses_survey : (tells sinks : Bool) (a m : BenchState) (p : SinkState) (w : Work) → IsWhole (body w) a.file → SameOutside a.operation a.cells w.surveyed
@@ -160,5 +143,4 @@ refuses_survey tells sinks a m p w whole surveyed same outside pairs off survey.
 
 pub survey_stands : (bench : BenchCall) (out : SinkCall) (fault : SurveyFault) → TookNothing out → StandsEarly on_job_file bench out (refused (of_survey fault))
 survey_stands bench out survey.OutOfMemory none = none
-survey_stands bench out survey.DeviceFault none = tt
-survey_stands bench out survey.StoreFault none = tt
+survey_stands bench out fault none = tt

@@ -44,19 +44,13 @@ use Rattle.job_commands.proofs.FitLemmas.{shown_length, some_algorithm, few_algo
 -- Before the plan.
 
 pub session_prints : (count : ℕ) (out : SinkCall) (fault : SessionFault) → TookNothing out → PrintsWork count out (refused (of_session fault))
-session_prints count out session.OutOfMemory none = none
-session_prints count out (session.Open opening.OutOfMemory) none = none
-session_prints count out (session.Open opening.NoJob) none = none
-session_prints count out (session.Open (opening.NotAJob at)) none = none
-session_prints count out (session.Open (opening.Damaged kept found)) none = none
 session_prints count out (session.Open opening.StoreFault) none = inl none
-session_prints count out (session.Open (opening.CellsDiffer said found)) none = none
 session_prints count out session.DeviceFault none = inl none
+session_prints count out fault none = none
 
 pub survey_prints : (count : ℕ) (out : SinkCall) (fault : SurveyFault) → TookNothing out → PrintsWork count out (refused (of_survey fault))
 survey_prints count out survey.OutOfMemory none = none
-survey_prints count out survey.DeviceFault none = inl none
-survey_prints count out survey.StoreFault none = inl none
+survey_prints count out fault none = inl none
 
 pub start_prints : (count : ℕ) (out : SinkCall) (r : Refusal) → IsOf has_start (refused r) → TookNothing out → PrintsWork count out (refused r)
 start_prints count out store_fault kind none = inl none
@@ -71,19 +65,17 @@ start_prints_begun count out output_fault kind none = absurd (cc)
 start_prints_begun count out r kind none = none
 
 pub begun_prints : (count : ℕ) (out : SinkCall) (answer : Answer) → PrintsWork count out answer → PrintsWork count out (begun answer)
-begun_prints count out done prints = prints
 begun_prints count out (refused no_job) prints = prints
-begun_prints count out (refused r) prints = prints
+begun_prints count out answer prints = prints
 
 -- The plans of a survey.
 
 pub plans_for : (tells : Bool) (b : board.Shown) (region : ℕ) (algorithms : List flm.Shown) (cells goal : List ℕ) (plans : List Planned)
     → ArePlannedFor tells b region algorithms cells goal plans → ArePlansFor algorithms plans
 plans_for tells b region [] cells goal [] are = tt
-plans_for tells b region [] cells goal (p ∷ more) are = absurd are
-plans_for tells b region (a ∷ rest) cells goal [] are = absurd are
 plans_for tells b region (a ∷ rest) cells goal (p ∷ more) are =
     (record { layout = are.0.layout; lawful = are.0.lawful; base = are.0.base }, plans_for tells b (region + 1) rest cells goal more are.1)
+plans_for tells b region algorithms cells goal plans are = absurd are
 
 pub surveyed_plans : (tells : Bool) (j : code.Job) (goal : Goal) (file cells : List ℕ) (o : Option Surveyed)
     → IsSomeAnd o (λ v. HasSurveyed tells j goal file cells v)
@@ -94,19 +86,17 @@ surveyed_plans tells j goal file cells (Some v) has = plans_for tells (board.sho
 
 pub as_many : (algorithms : List flm.Shown) (plans : List Planned) → ArePlansFor algorithms plans → length plans ≡ length algorithms
 as_many [] [] are = refl
-as_many [] (p ∷ more) are = absurd are
-as_many (a ∷ rest) [] are = absurd are
 as_many (a ∷ rest) (p ∷ more) are = ap suc (as_many rest more are.1)
+as_many algorithms plans are = absurd are
 
 are_chosen : (tells : Bool) (b : board.Shown) (region : ℕ) (algorithms : List flm.Shown) (cells goal : List ℕ) (plans : List Planned)
     → ArePlannedFor tells b region algorithms cells goal plans → AreChosen b.weights algorithms plans
 are_chosen tells b region [] cells goal [] are = tt
-are_chosen tells b region [] cells goal (p ∷ more) are = absurd are
-are_chosen tells b region (a ∷ rest) cells goal [] are = absurd are
 are_chosen tells b region (a ∷ rest) cells goal (p ∷ more) are = (
   record { device = record { layout = are.0.layout; lawful = are.0.lawful; base = are.0.base }; plan = are.0.some },
   are_chosen tells b (region + 1) rest cells goal more are.1,
 )
+are_chosen tells b region algorithms cells goal plans are = absurd are
 
 -- they have as many cells as the regions
 fill : (b : board.Shown) (regions : List Region) (algorithms : List flm.Shown) (plans : List Planned) → ArePlansFor algorithms plans
@@ -235,18 +225,16 @@ base_text algorithms region a less is (Some v) are = λ other. ap region_text (s
 
 -- the text of one region or two
 one_shown : (plans : List Planned) (other : Planned) → length plans ≡ 1 → (shown_region (get_or plans 0 other)).1 ≡ plans_shown plans
-one_shown [] other one = absurd (omega (arith, one))
 one_shown (p ∷ []) other one = refl
-one_shown (p ∷ q ∷ more) other one = absurd (omega (arith, one))
+one_shown plans other one = absurd (omega (arith, one))
 
 abbrev pub told_at : List Planned → ℕ → Planned → List ℕ
 told_at plans region other = region_text (get_or plans region other).base ++ (shown_region (get_or plans region other)).1
 
 two_shown : (plans : List Planned) (other : Planned) → length plans ≡ 2 → told_at plans 0 other ++ told_at plans 1 other ≡ plans_shown plans
-two_shown [] other two = absurd (omega (arith, two))
 two_shown (p ∷ []) other two = absurd (omega (arith, two))
 two_shown (p ∷ q ∷ []) other two = ap (λ (l : List ℕ). told_at (p ∷ q ∷ []) 0 other ++ l) (sym (append-nil (told_at (p ∷ q ∷ []) 1 other)))
-two_shown (p ∷ q ∷ x ∷ more) other two = absurd (omega (arith, two))
+two_shown plans other two = absurd (omega (arith, two))
 
 pub nothing_planned : Planned
 nothing_planned = planned (record { size = 0; sectors = []; pages = [] }) 0 (record { chip = false; sectors = []; pages = []; cost = 0 })

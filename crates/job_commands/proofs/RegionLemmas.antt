@@ -34,7 +34,7 @@ is_held None byte is = absurd (cc)
 is_held (Some x) byte is = refl
 
 -- an address in the range of a region is held by it
-in_some : (regions : List Region) (a : ℕ) → is_inside (ranges_of regions) a ≡ list_any (λ (region : Region). holds region a) regions
+pub in_some : (regions : List Region) (a : ℕ) → is_inside (ranges_of regions) a ≡ list_any (λ (region : Region). holds region a) regions
 in_some [] a = refl
 in_some (r ∷ rs) a = ap (λ (b : Bool). holds r a || b) (in_some rs a)
 

@@ -1,5 +1,5 @@
 -- A job is begun (a to b), by a call of the job file. `start` is the same for both commands that begin a job.
-use Rattle.std.proofs.Common.{◌≡◌, ◌⊎◌, ⊎_elim, inl, inr, refl, ◌∙◌, append-nil, ℕ, Bool, List, [], ◌∷◌, length, IsTrue, None, Err, sym, ap, subst}
+use Rattle.std.proofs.Common.{◌≡◌, ◌⊎◌, ⊎_elim, inl, inr, refl, ◌∙◌, append-nil, ℕ, Bool, true, List, [], ◌∷◌, length, IsTrue, None, Err, sym, ap, subst}
 use Rattle.outside_io.specs.State.{SinkState}
 use Rattle.bench_model.specs.History.{left, Leaves, LeftOnly}
 use Rattle.bench_model.specs.State.{BenchState, file_half, SameOutside}
@@ -23,9 +23,10 @@ use Rattle.campaign.specs.Stops.{IsUntouched}
 use Rattle.report_text.specs.Refusal.{Refusal, out_of_memory, input_fault, not_a_job, store_fault, device_fault, output_fault}
 use Rattle.command_answers.specs.Call.{BenchCall, SinkCall, Answer, done, refused, bench_call, sink_call}
 use Rattle.command_answers.specs.Said.{TookNothing, TookAll, TookPart}
-use Rattle.command_answers.specs.Answered.{OnlyLooked, StandsEarly, IsOf, on_job_file}
+use Rattle.command_answers.specs.Answered.{OnlyLooked, StandsEarly, IsOf, yields, on_job_file}
 use Rattle.command_answers.proofs.FileLemmas.{not_free, damaged_open, one_reason, one_kept, one_found}
 use Rattle.job_commands.specs.Carry.{EndsInBegin, BrokenOff}
+use Rattle.job_commands.specs.Answers.{is_of_free}
 use Rattle.job_commands.specs.Beginning.{OverFile}
 use Rattle.job_commands.specs.Begin.{HasBegun, BegunComes, BeginsAlone}
 use Rattle.job_commands.specs.Steps.{has_start, StartsParts}
@@ -68,12 +69,9 @@ module _ (tells sinks : Bool) (a b : BenchState) (p : SinkState) (parts : JobPar
   pub begin_stands : (fault : BeginFault) → ReadsUnlessFault {T = Unit {0}} tells a b (Err fault)
       → StandsEarly on_job_file (bench_call tells a b) (sink_call sinks p p) (refused (of_begin fault))
   begin_stands beginning.OutOfMemory reads = nothing
-  begin_stands beginning.JobOpen reads = only_looked reads
   begin_stands beginning.StoreFault reads = tt
   begin_stands beginning.DeviceFault reads = tt
-  begin_stands (beginning.CellsDiffer said found) reads = only_looked reads
-  begin_stands (beginning.NotAJob at) reads = only_looked reads
-  begin_stands (beginning.Damaged kept found) reads = only_looked reads
+  begin_stands fault reads = only_looked reads
 
   module _ (told : IsTrue tells) (looks : (IsFree a.file × (parts.size ≡ a.cell_count) → ⊥) → OnlyReads tells a b)
       (same : SameOutside a.operation a.cells b.cells)
@@ -112,33 +110,26 @@ module _ (tells sinks : Bool) (a b : BenchState) (p : SinkState) (parts : JobPar
       prints = nothing;
     }
 
+    -- one that comes of any file, all of which but a free one of so many cells was only looked at
+    looked : (r : Refusal) → yields (refused r) ≡ true → (is_of_free (refused r) ≡ true → ⊥)
+        → ((IsFree a.file × (parts.size ≡ a.cell_count) → ⊥) → OnlyReads tells a b)
+        → (IsFree a.file → BegunComes (bench_call tells a b) (sink_call sinks p p) [] its_job (refused r))
+        → StartsParts (bench_call tells a b) (sink_call sinks p p) [] parts (refused r)
+    looked r one other reads comes = record {
+      free = λ its. absurd (other its);
+      some_job = λ some. inr (one, only_looked (reads (λ both. not_free some.job a.file some.whole both.0)));
+      not_job = λ at no. inr (one, only_looked (reads (λ both. no.none.not_free both.0)));
+      is_damaged = λ kept found damage. inr (one, only_looked (reads (λ both. damaged_open a.file kept found damage both.0)));
+      other_size = λ is_free unequal. inr (one, only_looked (reads (λ both. unequal both.1)));
+      begins = comes_to (refused r) comes;
+    }
+
     pub refuses_begin : (fault : BeginFault) → IsBeginFault a.file parts.size a.cell_count fault → ReadsUnlessFault {T = Unit {0}} tells a b (Err fault)
         → UnopenedAtDeviceFault {T = Unit {0}} (file_half a) (file_half b) (Err fault)
         → StartsParts (bench_call tells a b) (sink_call sinks p p) [] parts (refused (of_begin fault))
-    refuses_begin beginning.OutOfMemory is reads never = record {
-      free = λ its. absurd (cc);
-      some_job = λ some. inr (refl, only_looked reads);
-      not_job = λ at no. inr (refl, only_looked reads);
-      is_damaged = λ kept found damage. inr (refl, only_looked reads);
-      other_size = λ is_free unequal. inr (refl, only_looked reads);
-      begins = comes_to (refused out_of_memory) (λ is_free. only_looked reads);
-    }
-    refuses_begin beginning.StoreFault is reads never = record {
-      free = λ its. absurd (cc);
-      some_job = λ some. inr (refl, only_looked (looks (λ both. not_free some.job a.file some.whole both.0)));
-      not_job = λ at no. inr (refl, only_looked (looks (λ both. no.none.not_free both.0)));
-      is_damaged = λ kept found damage. inr (refl, only_looked (looks (λ both. damaged_open a.file kept found damage both.0)));
-      other_size = λ is_free unequal. inr (refl, only_looked (looks (λ both. unequal both.1)));
-      begins = comes_to (refused store_fault) in_begin;
-    }
-    refuses_begin beginning.DeviceFault is reads never = record {
-      free = λ its. absurd (cc);
-      some_job = λ some. inr (refl, only_looked (looks (λ both. not_free some.job a.file some.whole both.0)));
-      not_job = λ at no. inr (refl, only_looked (looks (λ both. no.none.not_free both.0)));
-      is_damaged = λ kept found damage. inr (refl, only_looked (looks (λ both. damaged_open a.file kept found damage both.0)));
-      other_size = λ is_free unequal. inr (refl, only_looked (looks (λ both. unequal both.1)));
-      begins = comes_to (refused device_fault) (λ is_free. (in_begin is_free, never));
-    }
+    refuses_begin beginning.OutOfMemory is reads never = looked out_of_memory refl (λ its. cc) (λ none. reads) (λ is_free. only_looked reads)
+    refuses_begin beginning.StoreFault is reads never = looked store_fault refl (λ its. cc) looks in_begin
+    refuses_begin beginning.DeviceFault is reads never = looked device_fault refl (λ its. cc) looks (λ is_free. (in_begin is_free, never))
     refuses_begin beginning.JobOpen is reads never = record {
       free = λ its. absurd (cc);
       some_job = λ some. inl refl;

@@ -7,7 +7,7 @@ use Rattle.report_text.specs.Faults.{any_text, faulty_line, place_text}
 use Rattle.report_text.specs.Lines.{difference_text, reason_of}
 use Rattle.report_text.specs.Refusal.{Refusal, out_of_memory, usage, input_fault, image_too_long, image_refused, image_misplaced}
 use Rattle.report_text.specs.Refusal.{flm_refused, other_device, no_room}
-use Rattle.report_text.specs.Refusal.{board_refused, job_open, no_job, not_a_job, damaged, cells_differ, store_fault, device_fault, output_fault, call_failed}
+use Rattle.report_text.specs.Refusal.{board_refused, store_fault, device_fault, output_fault, call_failed}
 use Rattle.report_text.specs.Refusal.{mismatch, differs}
 use Rattle.report_text.specs.Target.{outcome_text, target_line}
 
@@ -41,17 +41,13 @@ never_done (flm_refused fault) is = other_first 102 _ is refl (λ e. omega (arit
 never_done (other_device base size) is = other_first 102 _ is refl (λ e. omega (arith, e))
 never_done (no_room need have) is = other_first 102 _ is refl (λ e. omega (arith, e))
 never_done (board_refused fault) is = other_first 98 _ is refl (λ e. omega (arith, e))
-never_done job_open is = other_first 106 _ is refl (λ e. omega (arith, e))
-never_done no_job is = other_first 106 _ is refl (λ e. omega (arith, e))
-never_done (not_a_job at) is = other_first 106 _ is refl (λ e. omega (arith, e))
-never_done (damaged kept found) is = other_first 106 _ is refl (λ e. omega (arith, e))
-never_done (cells_differ wanted found) is = other_first 106 _ is refl (λ e. omega (arith, e))
 never_done store_fault is = other_first 115 _ is refl (λ e. omega (arith, e))
 never_done device_fault is = other_second 101 _ is refl (λ e. omega (arith, e))
 never_done output_fault is = other_first 111 _ is refl (λ e. omega (arith, e))
 never_done (call_failed number call end) is = other_first 99 _ is refl (λ e. omega (arith, e))
 never_done (mismatch at wanted found) is = other_first 109 _ is refl (λ e. omega (arith, e))
 never_done (differs place wanted found) is = other_second 105 _ is refl (λ e. omega (arith, e))
+never_done r is = other_first 106 _ is refl (λ e. omega (arith, e))
 
 pub only_done : (index : ℕ) (r : Option Refusal) → target_line index r ≡ done_line index → r ≡ None
 only_done index None is = refl

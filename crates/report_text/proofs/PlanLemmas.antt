@@ -87,10 +87,8 @@ all_none (true ∷ set) none = let isn't : true ≡ false = none 0 in absurd (cc
 all_none (false ∷ set) none = all_none set (λ k. none (suc k))
 
 all_three : (a b c : Bool) → (not a && (b && c)) ≡ true → (a ≡ false) × (b ≡ true) × (c ≡ true)
-all_three true b c is = absurd (cc)
 all_three false true true is = (refl, refl, refl)
-all_three false true false is = absurd (cc)
-all_three false false c is = absurd (cc)
+all_three a b c is = absurd (cc)
 
 three : (a b c : Bool) → a ≡ false → b ≡ true → c ≡ true → (not a && (b && c)) ≡ true
 three a b c x y z = rw (x, y, z) refl

@@ -28,7 +28,7 @@ use Rattle.serve_law.proofs.Computed.{computed, after_in, answer_in, goes_by}
 use Rattle.serve_law.proofs.HomeLemmas.{IsHome}
 use Rattle.serve_law.proofs.GoesLemmas.{Goes, goes_then, all_idle, idle_goes, run_goes, step_goes, AllIn}
 use Rattle.serve_law.proofs.DoneLemmas.{IsDone, run_done}
-use Rattle.serve_law.proofs.Setup.{Given, a1_setup, a1_world, a1_area, a1_map, len_of, regs, resting, unlocked, IsQuick, sector_count, sector_fuel, chip_fuel}
+use Rattle.serve_law.proofs.Setup.{Given, a1_setup, a1_world, a1_area, len_of, regs, resting, unlocked, IsQuick, sector_count, sector_fuel, chip_fuel}
 use Rattle.serve_law.proofs.Setup.{need}
 
 abbrev pub running : ℕ → ℕ → Work → ℕ → ℕ → UnitState
@@ -60,10 +60,8 @@ module _ (g : Given) (r : Option (ℕ × ℕ)) (r0 c a place : ℕ) (w : Work) (
   -- with so many ticks left, before the status is seen to be settled
   wait_steps : ℕ → ℕ
   wait_steps zero = 0
-  wait_steps (suc zero) = 3
-  wait_steps (suc (suc zero)) = 3
-  wait_steps (suc (suc (suc zero))) = 3
   wait_steps (suc (suc (suc (suc t)))) = 3 + wait_steps (suc t)
+  wait_steps x = 3
 
   more_goes : (t r2 : ℕ) (cells : List ℕ) → Goes r 3 (waiting r2 (running c a w place (suc (suc (suc (suc t))))) cells)
       (waiting 1 (running c a w place (suc t)) cells)
@@ -91,11 +89,8 @@ module _ (g : Given) (r : Option (ℕ × ℕ)) (r0 c a place : ℕ) (w : Work) (
 
   wait_bound : (t : ℕ) → wait_steps t ≤ t + 2
   unfolding wait_steps
-  wait_bound zero = omega arith
-  wait_bound (suc zero) = omega arith
-  wait_bound (suc (suc zero)) = omega arith
-  wait_bound (suc (suc (suc zero))) = omega arith
   wait_bound (suc (suc (suc (suc t)))) = omega (arith, wait_bound (suc t))
+  wait_bound t = omega arith
 
   -- from the settled operation to the return
   abbrev returned : List ℕ → Point
@@ -110,21 +105,18 @@ module _ (g : Given) (r : Option (ℕ × ℕ)) (r0 c a place : ℕ) (w : Work) (
   begun r2 e cells = record { core = erase_core g r0 1 r2 false false 0x20000046; world = world_tick (a1_world g ram (running c a w place e) cells) }
 
   erase_steps : ℕ → ℕ
-  erase_steps zero = 10
-  erase_steps (suc zero) = 10
   erase_steps (suc (suc t)) = wait_steps (suc t) + 10
+  erase_steps x = 10
 
   begun_goes : (r2 e : ℕ) (cells : List ℕ) → Goes r (erase_steps e) (begun r2 e cells) (returned (left cells))
   unfolding erase_steps tick_row
-  begun_goes r2 zero cells = ends_goes r2 (left cells)
-  begun_goes r2 (suc zero) cells = ends_goes r2 (left cells)
   begun_goes r2 (suc (suc t)) cells = goes_then r (wait_steps (suc t)) 10 _ _ _ (waits t r2 cells) (ends_goes 1 (left cells))
+  begun_goes r2 e cells = ends_goes r2 (left cells)
 
   erase_bound : (e : ℕ) → erase_steps e ≤ e + 12
   unfolding erase_steps
-  erase_bound zero = omega arith
-  erase_bound (suc zero) = omega arith
   erase_bound (suc (suc t)) = omega (arith, wait_bound (suc t))
+  erase_bound e = omega arith
 
 -- a sector of the region
 module _ (g : Given) (x : Range) (c a : ℕ) (ram cells : List ℕ) (home : IsHome 0x20000000 (written 176 [] ram)) (quick : IsQuick g)

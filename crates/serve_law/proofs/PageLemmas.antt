@@ -57,18 +57,13 @@ busy a d value place t = record (ready a d) { operation = Some (record { work = 
 -- with so many ticks left, before the status is seen to be settled
 poll_steps : ℕ → ℕ
 poll_steps zero = 0
-poll_steps (suc zero) = 3
-poll_steps (suc (suc zero)) = 3
-poll_steps (suc (suc (suc zero))) = 3
 poll_steps (suc (suc (suc (suc t)))) = 3 + poll_steps (suc t)
+poll_steps x = 3
 
 poll_bound : (t : ℕ) → poll_steps t ≤ t + 2
 unfolding poll_steps
-poll_bound zero = omega arith
-poll_bound (suc zero) = omega arith
-poll_bound (suc (suc zero)) = omega arith
-poll_bound (suc (suc (suc zero))) = omega arith
 poll_bound (suc (suc (suc (suc t)))) = omega (arith, poll_bound (suc t))
+poll_bound t = omega arith
 
 even_at : (b : ℕ) → b % 2 ≡ 0 → (0x20000000 + b) % 2 ≡ 0
 even_at b even = omega arith
@@ -281,27 +276,23 @@ module _ (g : Given) (r : Option (ℕ × ℕ)) (a low : ℕ) (ram : List ℕ) (f
 
   -- the units
   begun_steps : ℕ → ℕ
-  begun_steps zero = 10
-  begun_steps (suc zero) = 10
   begun_steps (suc (suc t)) = poll_steps (suc t) + 10
+  begun_steps x = 10
 
   begun_bound : (t : ℕ) → begun_steps t ≤ t + 12
   unfolding begun_steps
-  begun_bound zero = omega arith
-  begun_bound (suc zero) = omega arith
   begun_bound (suc (suc t)) = omega (arith, poll_bound (suc t))
+  begun_bound t = omega arith
 
   -- the steps for so many bytes
   unit_steps : ℕ → ℕ → ℕ
-  unit_steps t zero = 7
-  unit_steps t (suc zero) = 7
   unit_steps t (suc (suc n)) = 1 + (1 + (1 + (1 + (begun_steps t + unit_steps t n))))
+  unit_steps t x = 7
 
   unit_bound : (t n : ℕ) → 2 * unit_steps t n ≤ n * (t + 16) + 14
   unfolding unit_steps
-  unit_bound t zero = omega arith
-  unit_bound t (suc zero) = omega arith
   unit_bound t (suc (suc n)) = grind (arith, unit_bound t n, begun_bound t)
+  unit_bound t n = omega arith
 
   -- a unit that was begun, to the head of the loop
   module _ (r1 b value p : ℕ) (n z c v : Bool) (lies : OpensIn r (Some (p, 2))) where
@@ -320,10 +311,6 @@ module _ (g : Given) (r : Option (ℕ × ℕ)) (a low : ℕ) (ram : List ℕ) (f
     begun_goes : (d : Bool) (t : ℕ) (cells : List ℕ) → Goes r (begun_steps t) (begun d t cells)
         (next_head (left (0x08000000 + p) r1 (0x20000000 + b) value p c v lies cells))
     unfolding begun_steps tick_row
-    begun_goes d zero cells = settles (0x08000000 + p) r1 (0x20000000 + b) value p c v lies value n z
-        (left (0x08000000 + p) r1 (0x20000000 + b) value p c v lies cells)
-    begun_goes d (suc zero) cells = settles (0x08000000 + p) r1 (0x20000000 + b) value p c v lies value n z
-        (left (0x08000000 + p) r1 (0x20000000 + b) value p c v lies cells)
     begun_goes d (suc (suc t)) cells =
         let after : (r5' : ℕ) × Goes r (poll_steps (suc t)) (polling (0x08000000 + p) r1 (0x20000000 + b) value p c v lies value n z
         (busy a d value p (suc t)) cells) (polling (0x08000000 + p) r1 (0x20000000 + b) value p c v lies r5' false false (ready a true)
@@ -331,6 +318,8 @@ module _ (g : Given) (r : Option (ℕ × ℕ)) (a low : ℕ) (ram : List ℕ) (f
         polls (0x08000000 + p) r1 (0x20000000 + b) value p c v lies d t value n z cells in
         goes_then r (poll_steps (suc t)) 10 _ _ _ after.1 (settles (0x08000000 + p) r1 (0x20000000 + b) value p c v lies after.0 false false
         (left (0x08000000 + p) r1 (0x20000000 + b) value p c v lies cells))
+    begun_goes d t cells = settles (0x08000000 + p) r1 (0x20000000 + b) value p c v lies value n z
+        (left (0x08000000 + p) r1 (0x20000000 + b) value p c v lies cells)
 
 -- what a page needs before the rest of its bytes is programmed
 pub record Rest (g : Given) (x : Range) (ram : List ℕ) (p b : ℕ) (bytes cells : List ℕ) : Type 0 where

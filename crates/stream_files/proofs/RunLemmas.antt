@@ -7,16 +7,10 @@ use Rattle.std.specs.IoError.{error_kind}
 use Rattle.std.specs.declared.io.Error.{Error}
 use Rattle.std.specs.declared.io.ErrorKind.TheVariants.{OutOfMemory}
 use Rattle.faults.specs.Counts.{Rose}
-use Rattle.std.proofs.lemmas.List.{take-take, drop-take, take-append-drop}
+use Rattle.std.proofs.Math.Seq.{take-add}
+use Rattle.std.proofs.lemmas.List.{take-append-drop}
 use Rattle.outside_io.specs.Appends.{AppendsPart}
 use Rattle.stream_files.specs.Outside.{StreamState, SourceState, WritesOn, ReadsOn, IsExcused}
-
-take_split : (n m : ℕ) (xs : List ℕ) → take (n + m) xs ≡ take n xs ++ take m (drop n xs)
-take_split n m xs =
-    let shorter : n ≤ n + m = omega arith in
-    sym (take-append-drop n (take (n + m) xs))
-    ∙ ap (λ (l : List ℕ). l ++ drop n (take (n + m) xs)) (take-take n (n + m) xs shorter)
-    ∙ ap (λ (l : List ℕ). take n xs ++ l) (drop-take n m xs)
 
 -- so many bytes were taken, and so many calls interrupted
 pub record IsTaken (tells : Bool) (old now : StreamState) (bytes : List ℕ) (done stops : ℕ) : Type 0 where
@@ -42,7 +36,7 @@ module _ (tells : Bool) (old mid new : StreamState) (bytes : List ℕ) (done sto
     taken = λ told. some told ∙ ap (λ (l : List ℕ). l ++ take n rest) (so_far.taken told)
         ∙ append_assoc old.taken (take done bytes) (take n rest)
         ∙ ap (λ (l : List ℕ). old.taken ++ (take done bytes ++ take n l)) is_rest
-        ∙ ap (λ (l : List ℕ). old.taken ++ l) (sym (take_split done n bytes));
+        ∙ ap (λ (l : List ℕ). old.taken ++ l) (sym (take-add done n bytes));
     errors = λ told. (calls told).0 ∙ so_far.errors told;
     signals = λ told. omega (arith, so_far.signals told, (calls told).1);
   }

@@ -1,49 +1,35 @@
 -- `run`: its contract, `EndsOf`, and what `program`, `begin`, `plan`, `verify`, `compare`, `inspect` and `dump` ask for.
-use Rattle.std.proofs.Common.{refl, subst, Option, Some, None, []}
+use Rattle.std.proofs.Common.{refl, Some, None, []}
 use Rattle.std.proofs.lemmas.List.Elements.{All-head}
-use Rattle.command_words.specs.Words.{Command, program, begin, resume, revert, plan, verify, compare, status, inspect, dump, demo, Asked}
+use Rattle.command_words.specs.Words.{program, begin, resume, revert, plan, verify, compare, status, inspect, dump, demo, Asked}
 use Rattle.command_words.specs.Requested.{files_of}
-use Rattle.command_words.proofs.WordsLemmas.{one_asked}
 use Rattle.command_files.specs.Inputs.{inputs_call}
 use Rattle.command_answers.specs.Call.{bench_call, sink_call}
 use Rattle.command_answers.specs.Shown.{answer_of}
 use Rattle.command_answers.proofs.AnswerLemmas.{untouched_here}
 use Rattle.demo_job.proofs.EndLemmas.{demo_ends}
-use Rattle.flm_cli.specs.Answers.{EndsOf}
 use Rattle.flm_cli.proofs.TopLemmas.{ends_as, unfit}
 use Rattle.flm_cli.proofs.top.run.Goals as goal
 
 pub returns-in-None : goal.returns-in-None
 returns-in-None g c = λ asked given. ends_as c.args.words.now None asked _ _ _ _ (c.in-None.ensures c.args.words.now c.requires.read) given (unfit _ _ _ _ _ _)
 
-pub program-requires-clause-has_flm : goal.program-requires-clause-has_flm
-program-requires-clause-has_flm g c =
+pub program-requires : goal.program-requires
+program-requires g c =
     let read : Asked c.args.words.now (Some (program (files_of c.in-Some-Program.names))) =
     rw c.in-Some-Program.field-0-is at (c.in-Some-Program.ensures c.args.words.now c.requires.read) in
-    read.names.has_flm
-
-pub program-requires-clause-may_take : goal.program-requires-clause-may_take
-program-requires-clause-may_take g c =
-    let read : Asked c.args.words.now (Some (program (files_of c.in-Some-Program.names))) =
-    rw c.in-Some-Program.field-0-is at (c.in-Some-Program.ensures c.args.words.now c.requires.read) in
-    c.requires.may_take (program (files_of c.in-Some-Program.names)) read
+    record { has_flm = read.names.has_flm; may_take = c.requires.may_take (program (files_of c.in-Some-Program.names)) read }
 
 pub returns-in-Some-Program : goal.returns-in-Some-Program
 returns-in-Some-Program g c = λ asked given.
     ends_as c.args.words.now (Some (program (files_of c.in-Some-Program.names))) asked _ _ _ _
     (rw c.in-Some-Program.field-0-is at (c.in-Some-Program.ensures c.args.words.now c.requires.read)) given c.program.ensures
 
-pub begin-requires-clause-has_flm : goal.begin-requires-clause-has_flm
-begin-requires-clause-has_flm g c =
+pub begin-requires : goal.begin-requires
+begin-requires g c =
     let read : Asked c.args.words.now (Some (begin (files_of c.in-Some-Begin.names))) =
     rw c.in-Some-Begin.field-0-is at (c.in-Some-Begin.ensures c.args.words.now c.requires.read) in
-    read.names.has_flm
-
-pub begin-requires-clause-may_take : goal.begin-requires-clause-may_take
-begin-requires-clause-may_take g c =
-    let read : Asked c.args.words.now (Some (begin (files_of c.in-Some-Begin.names))) =
-    rw c.in-Some-Begin.field-0-is at (c.in-Some-Begin.ensures c.args.words.now c.requires.read) in
-    c.requires.may_take (begin (files_of c.in-Some-Begin.names)) read
+    record { has_flm = read.names.has_flm; may_take = c.requires.may_take (begin (files_of c.in-Some-Begin.names)) read }
 
 pub returns-in-Some-Begin : goal.returns-in-Some-Begin
 returns-in-Some-Begin g c = λ asked given.
@@ -78,47 +64,27 @@ returns-in-Some-Demo g c = λ asked given.
     (untouched_here g.B.Bench.tells (g.B.Bench.state c.args.bench.now)) (record { stands = λ name. refl; faults = refl; failed = refl }) c.in-Some-Demo.seed
     (answer_of c.demo.result) c.demo.ensures)
 
-pub plan-requires-clause-has_flm : goal.plan-requires-clause-has_flm
-plan-requires-clause-has_flm g c =
+pub plan-requires : goal.plan-requires
+plan-requires g c =
     let read : Asked c.args.words.now (Some (plan (files_of c.in-Some-Plan.names))) =
     rw c.in-Some-Plan.field-0-is at (c.in-Some-Plan.ensures c.args.words.now c.requires.read) in
-    read.names.has_flm
-
-pub plan-requires-clause-may_take : goal.plan-requires-clause-may_take
-plan-requires-clause-may_take g c =
-    let read : Asked c.args.words.now (Some (plan (files_of c.in-Some-Plan.names))) =
-    rw c.in-Some-Plan.field-0-is at (c.in-Some-Plan.ensures c.args.words.now c.requires.read) in
-    c.requires.may_take (plan (files_of c.in-Some-Plan.names)) read
+    record { has_flm = read.names.has_flm; may_take = c.requires.may_take (plan (files_of c.in-Some-Plan.names)) read }
 
 pub returns-in-Some-Plan : goal.returns-in-Some-Plan
 returns-in-Some-Plan g c = λ asked given.
-    let read : Asked c.args.words.now (Some (plan (files_of c.in-Some-Plan.names))) =
-    rw c.in-Some-Plan.field-0-is at (c.in-Some-Plan.ensures c.args.words.now c.requires.read) in
-    subst (λ (a : Option Command). EndsOf a (bench_call g.B.Bench.tells (g.B.Bench.state c.args.bench.now) (g.B.Bench.state c.plan.new.bench))
-    (inputs_call g.I.Inputs.tells (g.I.Inputs.state c.args.inputs.now) (g.I.Inputs.state c.plan.new.inputs))
-    (sink_call g.O.Sink.tells (g.O.Sink.state c.args.out.now) (g.O.Sink.state c.plan.new.out)) (answer_of c.plan.result))
-    (one_asked c.args.words.now (Some (plan (files_of c.in-Some-Plan.names))) asked read given) c.plan.ensures
+    ends_as c.args.words.now (Some (plan (files_of c.in-Some-Plan.names))) asked _ _ _ _
+    (rw c.in-Some-Plan.field-0-is at (c.in-Some-Plan.ensures c.args.words.now c.requires.read)) given c.plan.ensures
 
-pub verify-requires-clause-no_flm : goal.verify-requires-clause-no_flm
-verify-requires-clause-no_flm g c =
+pub verify-requires : goal.verify-requires
+verify-requires g c =
     let read : Asked c.args.words.now (Some (verify (files_of c.in-Some-Verify.names))) =
     rw c.in-Some-Verify.field-0-is at (c.in-Some-Verify.ensures c.args.words.now c.requires.read) in
-    read.names.no_flm
-
-pub verify-requires-clause-may_take : goal.verify-requires-clause-may_take
-verify-requires-clause-may_take g c =
-    let read : Asked c.args.words.now (Some (verify (files_of c.in-Some-Verify.names))) =
-    rw c.in-Some-Verify.field-0-is at (c.in-Some-Verify.ensures c.args.words.now c.requires.read) in
-    c.requires.may_take (verify (files_of c.in-Some-Verify.names)) read
+    record { no_flm = read.names.no_flm; may_take = c.requires.may_take (verify (files_of c.in-Some-Verify.names)) read }
 
 pub returns-in-Some-Verify : goal.returns-in-Some-Verify
 returns-in-Some-Verify g c = λ asked given.
-    let read : Asked c.args.words.now (Some (verify (files_of c.in-Some-Verify.names))) =
-    rw c.in-Some-Verify.field-0-is at (c.in-Some-Verify.ensures c.args.words.now c.requires.read) in
-    subst (λ (a : Option Command). EndsOf a (bench_call g.B.Bench.tells (g.B.Bench.state c.args.bench.now) (g.B.Bench.state c.verify.new.bench))
-    (inputs_call g.I.Inputs.tells (g.I.Inputs.state c.args.inputs.now) (g.I.Inputs.state c.verify.new.inputs))
-    (sink_call g.O.Sink.tells (g.O.Sink.state c.args.out.now) (g.O.Sink.state c.verify.new.out)) (answer_of c.verify.result))
-    (one_asked c.args.words.now (Some (verify (files_of c.in-Some-Verify.names))) asked read given) c.verify.ensures
+    ends_as c.args.words.now (Some (verify (files_of c.in-Some-Verify.names))) asked _ _ _ _
+    (rw c.in-Some-Verify.field-0-is at (c.in-Some-Verify.ensures c.args.words.now c.requires.read)) given c.verify.ensures
 
 pub compare-requires : goal.compare-requires
 compare-requires g c =
@@ -128,12 +94,8 @@ compare-requires g c =
 
 pub returns-in-Some-Compare : goal.returns-in-Some-Compare
 returns-in-Some-Compare g c = λ asked given.
-    let read : Asked c.args.words.now (Some (compare c.in-Some-Compare.image.now)) =
-    rw c.in-Some-Compare.field-0-is at (c.in-Some-Compare.ensures c.args.words.now c.requires.read) in
-    subst (λ (a : Option Command). EndsOf a (bench_call g.B.Bench.tells (g.B.Bench.state c.args.bench.now) (g.B.Bench.state c.compare.new.bench))
-    (inputs_call g.I.Inputs.tells (g.I.Inputs.state c.args.inputs.now) (g.I.Inputs.state c.compare.new.inputs))
-    (sink_call g.O.Sink.tells (g.O.Sink.state c.args.out.now) (g.O.Sink.state c.compare.new.out)) (answer_of c.compare.result))
-    (one_asked c.args.words.now (Some (compare c.in-Some-Compare.image.now)) asked read given) c.compare.ensures
+    ends_as c.args.words.now (Some (compare c.in-Some-Compare.image.now)) asked _ _ _ _
+    (rw c.in-Some-Compare.field-0-is at (c.in-Some-Compare.ensures c.args.words.now c.requires.read)) given c.compare.ensures
 
 pub inspect-requires : goal.inspect-requires
 inspect-requires g c =
@@ -143,12 +105,8 @@ inspect-requires g c =
 
 pub returns-in-Some-Inspect : goal.returns-in-Some-Inspect
 returns-in-Some-Inspect g c = λ asked given.
-    let read : Asked c.args.words.now (Some (inspect c.in-Some-Inspect.flm.now)) =
-    rw c.in-Some-Inspect.field-0-is at (c.in-Some-Inspect.ensures c.args.words.now c.requires.read) in
-    subst (λ (a : Option Command). EndsOf a (bench_call g.B.Bench.tells (g.B.Bench.state c.args.bench.now) (g.B.Bench.state c.inspect.new.bench))
-    (inputs_call g.I.Inputs.tells (g.I.Inputs.state c.args.inputs.now) (g.I.Inputs.state c.inspect.new.inputs))
-    (sink_call g.O.Sink.tells (g.O.Sink.state c.args.out.now) (g.O.Sink.state c.inspect.new.out)) (answer_of c.inspect.result))
-    (one_asked c.args.words.now (Some (inspect c.in-Some-Inspect.flm.now)) asked read given) c.inspect.ensures
+    ends_as c.args.words.now (Some (inspect c.in-Some-Inspect.flm.now)) asked _ _ _ _
+    (rw c.in-Some-Inspect.field-0-is at (c.in-Some-Inspect.ensures c.args.words.now c.requires.read)) given c.inspect.ensures
 
 pub dump-requires : goal.dump-requires
 dump-requires g c =
@@ -158,9 +116,5 @@ dump-requires g c =
 
 pub returns-in-Some-Dump : goal.returns-in-Some-Dump
 returns-in-Some-Dump g c = λ asked given.
-    let read : Asked c.args.words.now (Some (dump c.in-Some-Dump.form c.in-Some-Dump.board.now)) =
-    rw c.in-Some-Dump.field-0-is at (c.in-Some-Dump.ensures c.args.words.now c.requires.read) in
-    subst (λ (a : Option Command). EndsOf a (bench_call g.B.Bench.tells (g.B.Bench.state c.args.bench.now) (g.B.Bench.state c.dump.new.bench))
-    (inputs_call g.I.Inputs.tells (g.I.Inputs.state c.args.inputs.now) (g.I.Inputs.state c.dump.new.inputs))
-    (sink_call g.O.Sink.tells (g.O.Sink.state c.args.out.now) (g.O.Sink.state c.dump.new.out)) (answer_of c.dump.result))
-    (one_asked c.args.words.now (Some (dump c.in-Some-Dump.form c.in-Some-Dump.board.now)) asked read given) c.dump.ensures
+    ends_as c.args.words.now (Some (dump c.in-Some-Dump.form c.in-Some-Dump.board.now)) asked _ _ _ _
+    (rw c.in-Some-Dump.field-0-is at (c.in-Some-Dump.ensures c.args.words.now c.requires.read)) given c.dump.ensures

@@ -10,47 +10,24 @@ use Rattle.job_commands.proofs.CountLemmas.{put_counted, unput_counted}
 use Rattle.job_commands.proofs.StartLemmas.{starts_with, starts_put, starts_cut}
 use Rattle.job_commands.proofs.job_begin.begin_alone.Goals as goal
 
-pub returns-in_err-start-clause-told : goal.returns-in_err-start-clause-told
-returns-in_err-start-clause-told g c =
+pub returns-in_err-start : goal.returns-in_err-start
+returns-in_err-start g c =
     let a = g.B.Bench.state c.args.bench.now in
     let b = g.B.Bench.state c.start.new.bench in
     let o = g.O.Sink.state c.args.out.now in
+    let out = sink_call g.O.Sink.tells o o in
+    let r = shown c.in_err-start.field-0.0 in
     let is : c.from_residual.result ≡ Err c.in_err-start.field-0.0 = search rules in
-    rw is (λ told. starts_with (bench_call g.B.Bench.tells a b) (sink_call g.O.Sink.tells o o) begun_text c.args.parts.now (shown c.in_err-start.field-0.0)
-    c.in_err-start.ensures.kind (c.in_err-start.ensures.told told g.O.Sink.tells o))
-
-pub returns-in_err-start-clause-early : goal.returns-in_err-start-clause-early
-returns-in_err-start-clause-early g c =
-    let is : c.from_residual.result ≡ Err c.in_err-start.field-0.0 = search rules in
-    rw is (c.in_err-start.ensures.early g.O.Sink.tells (g.O.Sink.state c.args.out.now))
-
-pub returns-in_err-start-clause-kind : goal.returns-in_err-start-clause-kind
-returns-in_err-start-clause-kind g c =
-    let is : c.from_residual.result ≡ Err c.in_err-start.field-0.0 = search rules in
-    rw is (start_alone (shown c.in_err-start.field-0.0) c.in_err-start.ensures.kind)
-
-pub returns-in_err-start-clause-prints : goal.returns-in_err-start-clause-prints
-returns-in_err-start-clause-prints g c =
-    let o = g.O.Sink.state c.args.out.now in
-    let is : c.from_residual.result ≡ Err c.in_err-start.field-0.0 = search rules in
-    rw is (start_prints_begun (g.B.Bench.state c.args.bench.now).cell_count (sink_call g.O.Sink.tells o o) (shown c.in_err-start.field-0.0)
-    c.in_err-start.ensures.kind
-    (record { taken = refl; faults = refl }))
-
-pub returns-in_err-start-clause-sized : goal.returns-in_err-start-clause-sized
-returns-in_err-start-clause-sized g c =
-    let is : c.from_residual.result ≡ Err c.in_err-start.field-0.0 = search rules in
-    rw is (λ its. absurd (start_before (shown c.in_err-start.field-0.0) c.in_err-start.ensures.kind its))
-
-pub returns-in_err-start-clause-sound : goal.returns-in_err-start-clause-sound
-returns-in_err-start-clause-sound g c =
-    let is : c.from_residual.result ≡ Err c.in_err-start.field-0.0 = search rules in
-    rw is c.in_err-start.ensures.sound
-
-pub returns-in_err-start-clause-counts : goal.returns-in_err-start-clause-counts
-returns-in_err-start-clause-counts g c =
-    let is : c.from_residual.result ≡ Err c.in_err-start.field-0.0 = search rules in
-    rw is (c.in_err-start.ensures.counts g.O.Sink.tells (g.O.Sink.state c.args.out.now))
+    rw is (record {
+      told = λ told. starts_with (bench_call g.B.Bench.tells a b) out begun_text c.args.parts.now r c.in_err-start.ensures.kind
+          (c.in_err-start.ensures.told told g.O.Sink.tells o);
+      early = c.in_err-start.ensures.early g.O.Sink.tells o;
+      kind = start_alone r c.in_err-start.ensures.kind;
+      prints = start_prints_begun a.cell_count out r c.in_err-start.ensures.kind (record { taken = refl; faults = refl });
+      sized = λ its. absurd (start_before r c.in_err-start.ensures.kind its);
+      sound = c.in_err-start.ensures.sound;
+      counts = c.in_err-start.ensures.counts g.O.Sink.tells o;
+    })
 
 pub returns-in_err-put_end-clause-told : goal.returns-in_err-put_end-clause-told
 returns-in_err-put_end-clause-told g c =

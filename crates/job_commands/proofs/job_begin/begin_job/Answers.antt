@@ -17,47 +17,25 @@ use Rattle.job_commands.proofs.CountLemmas.{uncounted, begun_counted}
 use Rattle.job_commands.proofs.BeginLemmas.{begun_of, begins_refused, carried, begins_whole, begun_stands}
 use Rattle.job_commands.proofs.job_begin.begin_job.Goals as goal
 
-pub returns-in_err-start-clause-told : goal.returns-in_err-start-clause-told
-returns-in_err-start-clause-told g c =
+pub returns-in_err-start : goal.returns-in_err-start
+returns-in_err-start g c =
     let a = g.B.Bench.state c.args.bench.now in
     let b = g.B.Bench.state c.start.new.bench in
     let o = g.O.Sink.state c.args.out.now in
+    let out = sink_call g.O.Sink.tells o o in
+    let r = shown c.in_err-start.field-0.0 in
     let is : c.from_residual.result ≡ Err c.in_err-start.field-0.0 = search rules in
-    rw is (λ told. begins_refused g.B.Bench.tells g.O.Sink.tells a b o c.args.parts.now (shown c.in_err-start.field-0.0) told c.in_err-start.ensures.kind
-    (c.in_err-start.ensures.told told g.O.Sink.tells o))
-
-pub returns-in_err-start-clause-early : goal.returns-in_err-start-clause-early
-returns-in_err-start-clause-early g c =
-    let is : c.from_residual.result ≡ Err c.in_err-start.field-0.0 = search rules in
-    rw is (c.in_err-start.ensures.early g.O.Sink.tells (g.O.Sink.state c.args.out.now))
-
-pub returns-in_err-start-clause-kind : goal.returns-in_err-start-clause-kind
-returns-in_err-start-clause-kind g c =
-    let is : c.from_residual.result ≡ Err c.in_err-start.field-0.0 = search rules in
-    rw is (start_work (shown c.in_err-start.field-0.0) c.in_err-start.ensures.kind)
-
-pub returns-in_err-start-clause-prints : goal.returns-in_err-start-clause-prints
-returns-in_err-start-clause-prints g c =
-    let o = g.O.Sink.state c.args.out.now in
-    let is : c.from_residual.result ≡ Err c.in_err-start.field-0.0 = search rules in
-    rw is (start_prints (g.B.Bench.state c.args.bench.now).cell_count (sink_call g.O.Sink.tells o o) (shown c.in_err-start.field-0.0)
-    c.in_err-start.ensures.kind
-    (record { taken = refl; faults = refl }))
-
-pub returns-in_err-start-clause-sized : goal.returns-in_err-start-clause-sized
-returns-in_err-start-clause-sized g c =
-    let is : c.from_residual.result ≡ Err c.in_err-start.field-0.0 = search rules in
-    rw is (λ its. absurd (start_before (shown c.in_err-start.field-0.0) c.in_err-start.ensures.kind its))
-
-pub returns-in_err-start-clause-sound : goal.returns-in_err-start-clause-sound
-returns-in_err-start-clause-sound g c =
-    let is : c.from_residual.result ≡ Err c.in_err-start.field-0.0 = search rules in
-    rw is c.in_err-start.ensures.sound
-
-pub returns-in_err-start-clause-counts : goal.returns-in_err-start-clause-counts
-returns-in_err-start-clause-counts g c =
-    let is : c.from_residual.result ≡ Err c.in_err-start.field-0.0 = search rules in
-    rw is (c.in_err-start.ensures.counts g.O.Sink.tells (g.O.Sink.state c.args.out.now))
+    rw is (record {
+      told = λ told. begins_refused g.B.Bench.tells g.O.Sink.tells a b o c.args.parts.now r told c.in_err-start.ensures.kind
+          (c.in_err-start.ensures.told told g.O.Sink.tells o);
+      early = c.in_err-start.ensures.early g.O.Sink.tells o;
+      kind = start_work r c.in_err-start.ensures.kind;
+      prints = start_prints a.cell_count out r c.in_err-start.ensures.kind (record { taken = refl; faults = refl });
+      sized = λ its. absurd (start_before r c.in_err-start.ensures.kind its);
+      sound = c.in_err-start.ensures.sound;
+      first = c.start.ensures.first;
+      counts = c.in_err-start.ensures.counts g.O.Sink.tells o;
+    })
 
 pub returns-clause-told : goal.returns-clause-told
 returns-clause-told g c = λ told.
