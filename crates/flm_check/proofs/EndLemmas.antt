@@ -23,8 +23,8 @@ use Rattle.duty_rounds.proofs.RoundLemmas.{breaks_refutes}
 use Rattle.flm_check.specs.declared.ending.Ending.{Ending}
 use Rattle.flm_check.specs.declared.ending.Ending.TheVariants as ending
 use Rattle.flm_check.specs.Words.{Asked, Asks, AsksNothing}
-use Rattle.flm_check.specs.Target.{IsTarget}
-use Rattle.flm_check.specs.Steps.{IsTargetRefusal}
+use Rattle.flm_check.specs.BoardAlgorithms.{AreBoardAlgorithms}
+use Rattle.flm_check.specs.Steps.{IsReadRefusal}
 use Rattle.flm_check.specs.Endings.{first_line}
 use Rattle.flm_check.specs.Verdicts.{IsTold, IsInside}
 use Rattle.flm_check.specs.Answers.{Claims, ClaimsOf, ComesRefused, PutsRefused, Works, refused_line}
@@ -59,13 +59,12 @@ proved_told ending.Proved told = refl
 proved_told (ending.Tried lists calls) told = absurd told
 proved_told (ending.Broken duty) told = absurd told
 
-pub claims_of : (files : FilesGiven) (b : board.Shown) (algorithms : List flm.Shown) (v : Verdict) (e : Ending) → IsTarget files b algorithms →
-    IsTrueOf b algorithms v
-    → ((a : flm.Shown) → algorithms ≡ a ∷ [] → IsA1On b a → v ≡ verdict.Proved) → IsTold v e → ClaimsOf files e
-claims_of files b algorithms v e target is proved told = record {
+pub claims_of : (files : FilesGiven) (b : board.Shown) (algorithms : List flm.Shown) (v : Verdict) (e : Ending) → AreBoardAlgorithms files b algorithms
+    → IsTrueOf b algorithms v → ((a : flm.Shown) → algorithms ≡ a ∷ [] → IsA1On b a → v ≡ verdict.Proved) → IsTold v e → ClaimsOf files e
+claims_of files b algorithms v e are is proved told = record {
   board = b;
   algorithms = algorithms;
-  is_target = target;
+  are_algorithms = are;
   claims = claims b algorithms v e is told;
   proved = λ a only on. proved_told e (subst (λ (x : Verdict). IsTold x e) (proved a only on) told);
 }
@@ -93,7 +92,7 @@ comes_untaken words inputs asked r asks is = absurd is
 
 -- files that are refused
 pub comes_refused : (words : List (List ℕ)) (inputs : InputsCall) (asked : Asked) (r : Refusal) → Asks words asked
-    → TookFiles inputs asked.files (λ files. IsTargetRefusal files r) → ComesRefused words inputs r
+    → TookFiles inputs asked.files (λ files. IsReadRefusal files r) → ComesRefused words inputs r
 comes_refused words inputs asked refusal.out_of_memory asks took = took.none_failed
 comes_refused words inputs asked refusal.usage asks took = inr (record { asked = asked; asks = asks; took = took })
 comes_refused words inputs asked (refusal.board_refused fault) asks took = record { asked = asked; asks = asks; took = took }
@@ -107,9 +106,9 @@ pub take_no_output : (inputs : InputsCall) (names : List (List ℕ)) (r : Refusa
 take_no_output inputs names refusal.output_fault is same = is
 take_no_output inputs names r is same = absurd cc
 
-pub target_no_output : (files : FilesGiven) (r : Refusal) → IsTargetRefusal files r → r ≡ refusal.output_fault → ⊥
-target_no_output files refusal.output_fault is same = is
-target_no_output files r is same = absurd cc
+pub read_no_output : (files : FilesGiven) (r : Refusal) → IsReadRefusal files r → r ≡ refusal.output_fault → ⊥
+read_no_output files refusal.output_fault is same = is
+read_no_output files r is same = absurd cc
 
 -- ---- the work of a call
 
@@ -131,14 +130,14 @@ module _ (words : List (List ℕ)) (inputs : InputsCall) (told : Bool) (o : Sink
     leaves = subst (λ (r : Refusal). PutsRefused Out r) (sym is) (nothing told o);
   }
 
-  -- no target
+  -- no algorithms for a board
   pub works_untaken : (asked : Asked) (e : value.Refusal) → Asks words asked
-      → IsTakeFault inputs (names_in asked.files) (shown e) ⊎ TookFiles inputs asked.files (λ files. IsTargetRefusal files (shown e)) →
+      → IsTakeFault inputs (names_in asked.files) (shown e) ⊎ TookFiles inputs asked.files (λ files. IsReadRefusal files (shown e)) →
       Works words inputs Out (Err e)
   works_untaken asked e asks fault = record {
     comes = ⊎_elim (λ is. comes_untaken words inputs asked (shown e) asks is) (λ took. comes_refused words inputs asked (shown e) asks took) fault;
     leaves = puts_nothing told o (shown e)
-        (⊎_elim (λ is. take_no_output inputs (names_in asked.files) (shown e) is) (λ took. target_no_output took.given.files (shown e) took.given.holds) fault);
+        (⊎_elim (λ is. take_no_output inputs (names_in asked.files) (shown e) is) (λ took. read_no_output took.given.files (shown e) took.given.holds) fault);
   }
 
 module _ (words : List (List ℕ)) (inputs : InputsCall) (out : SinkCall) where

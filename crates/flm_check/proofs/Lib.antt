@@ -1,3 +1,3 @@
 pub mod WordLemmas
-pub mod TargetLemmas
+pub mod BoardAlgorithmsLemmas
 pub mod EndLemmas

@@ -14,7 +14,7 @@ use Rattle.command_files.specs.Steps.{IsTakeFault, TookFiles}
 use Rattle.command_answers.specs.Call.{SinkCall}
 use Rattle.command_answers.specs.Said.{TookNothing, TookAll, TookPart}
 use Rattle.flm_check.specs.Words.{Asked, Asks, AsksNothing}
-use Rattle.flm_check.specs.Target.{IsTarget, IsRefused}
+use Rattle.flm_check.specs.BoardAlgorithms.{AreBoardAlgorithms, IsRefused}
 use Rattle.flm_check.specs.Endings.{status_of, first_line}
 use Rattle.flm_check.specs.declared.ending.Ending.{Ending}
 use Rattle.flm_check.specs.declared.ending.Ending.TheVariants as ending
@@ -38,7 +38,7 @@ Claims b algorithms (ending.Broken duty) = OneBreaks b algorithms
 pub record ClaimsOf (files : FilesGiven) (end : Ending) : Type 0 where
   pub board : board.Shown
   pub algorithms : List flm.Shown
-  pub is_target : IsTarget files board algorithms
+  pub are_algorithms : AreBoardAlgorithms files board algorithms
   pub claims : Claims board algorithms end
   pub proved : (a : flm.Shown) → algorithms ≡ a ∷ [] → IsA1On board a → end ≡ ending.Proved
 

@@ -1,6 +1,6 @@
 pub mod Words
 pub mod Requested
-pub mod Target
+pub mod BoardAlgorithms
 pub mod Steps
 pub mod Endings
 pub mod Verdicts

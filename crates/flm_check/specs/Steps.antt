@@ -8,23 +8,23 @@ use Rattle.report_text.specs.declared.refusal.Refusal.{Refusal}
 use Rattle.command_words.specs.Files.{FilesAsked, names_in}
 use Rattle.command_files.specs.Inputs.{InputsCall, FilesGiven}
 use Rattle.command_files.specs.Steps.{IsTakeFault, TookFiles}
-use Rattle.flm_check.specs.Target.{IsTarget, IsRefused}
-use Rattle.flm_check.specs.declared.target.Target.{Target}
+use Rattle.flm_check.specs.BoardAlgorithms.{AreBoardAlgorithms, IsRefused}
+use Rattle.flm_check.specs.declared.board_algorithms.BoardAlgorithms.{BoardAlgorithms}
 
--- files say this target
-abbrev pub Say : FilesGiven → Target → Type 0
-Say files target = IsTarget files (board.shown target.board) (map flm.shown target.algorithms.items)
+-- files say this board and these algorithms
+abbrev pub Say : FilesGiven → BoardAlgorithms → Type 0
+Say files checked = AreBoardAlgorithms files (board.shown checked.board) (map flm.shown checked.algorithms.items)
 
-abbrev pub IsTargetRefusal : FilesGiven → refusal.Refusal → Type 0
-IsTargetRefusal files refusal.out_of_memory = Unit {0}
-IsTargetRefusal files r = IsRefused files r
+abbrev pub IsReadRefusal : FilesGiven → refusal.Refusal → Type 0
+IsReadRefusal files refusal.out_of_memory = Unit {0}
+IsReadRefusal files r = IsRefused files r
 
-abbrev pub ReadsTarget : FilesGiven → Result Target Refusal → Type 0
-ReadsTarget files (Ok target) = Say files target
-ReadsTarget files (Err e) = IsTargetRefusal files (shown e)
+abbrev pub ReadsBoardAlgorithms : FilesGiven → Result BoardAlgorithms Refusal → Type 0
+ReadsBoardAlgorithms files (Ok checked) = Say files checked
+ReadsBoardAlgorithms files (Err e) = IsReadRefusal files (shown e)
 
 -- a file can't be taken, or else the files are refused
-abbrev pub TakesTarget : InputsCall → FilesAsked → Result Target Refusal → Type 0
-TakesTarget inputs asked (Ok target) = TookFiles inputs asked (λ files. Say files target)
-TakesTarget inputs asked (Err e) =
-    IsTakeFault inputs (names_in asked) (shown e) ⊎ TookFiles inputs asked (λ files. IsTargetRefusal files (shown e))
+abbrev pub TakesBoardAlgorithms : InputsCall → FilesAsked → Result BoardAlgorithms Refusal → Type 0
+TakesBoardAlgorithms inputs asked (Ok checked) = TookFiles inputs asked (λ files. Say files checked)
+TakesBoardAlgorithms inputs asked (Err e) =
+    IsTakeFault inputs (names_in asked) (shown e) ⊎ TookFiles inputs asked (λ files. IsReadRefusal files (shown e))

@@ -12,7 +12,7 @@ ghost use Rattle.flm_check.specs.Answers.{Answers, Works, refused_line};
 
 use crate::details::answer_of;
 use crate::ending::{Ending, put_pieces};
-use crate::take::take_target;
+use crate::take::take_board_algorithms;
 use crate::words::read_words;
 use duty_rounds::{Progress, judge};
 use octets::Word;
@@ -54,15 +54,15 @@ fn work<'a, I: Inputs, O: Sink, P: Progress>(
     let Some(request) = read_words(words) else {
         return Err(Refusal::Usage);
     };
-    let target = take_target(alloc, &request.names, inputs)?;
+    let checked = take_board_algorithms(alloc, &request.names, inputs)?;
     let report = judge(
         alloc,
-        &target.board,
-        target.algorithms.as_slice(),
+        &checked.board,
+        checked.algorithms.as_slice(),
         request.rounds,
         progress,
     )?;
-    let answer = answer_of(alloc, &target, &report)?;
+    let answer = answer_of(alloc, &checked, &report)?;
     answer.ending.put(out, answer.details.as_bytes())?;
     Ok(answer.ending)
 }

@@ -5,9 +5,9 @@ ghost use Rattle.flm_descriptor.specs.Shown.{shown as algorithm_of};
 ghost use Rattle.duty_rounds.specs.Verdicts.{AreFit};
 ghost use Rattle.flm_check.specs.Verdicts.{IsTold, IsInside};
 
+use crate::board_algorithms::BoardAlgorithms;
 use crate::calls::{add_call, add_end};
 use crate::ending::Ending;
-use crate::target::Target;
 use duty_rounds::{Broken, Contents, Difference, Report, Trials, Verdict, choose};
 use duty_trials::{Breach, Count, PageBytes, Subject, Turn, Work};
 use faults::OutOfMemory;
@@ -21,9 +21,13 @@ pub struct Answer {
 }
 
 /// What is told of algorithms of which this is known.
-pub fn answer_of(alloc: Global, target: &Target, report: &Report) -> Result<Answer, OutOfMemory>
-    requires fit { AreFit (board_of target.now.board) (map algorithm_of target.now.algorithms.items) }
-    requires inside { IsInside (vec_len target.now.algorithms) report.now.verdict }
+pub fn answer_of(
+    alloc: Global,
+    checked: &BoardAlgorithms,
+    report: &Report,
+) -> Result<Answer, OutOfMemory>
+    requires fit { AreFit (board_of checked.now.board) (map algorithm_of checked.now.algorithms.items) }
+    requires inside { IsInside (vec_len checked.now.algorithms) report.now.verdict }
     ensures { IfOk result (λ answer. IsTold report.now.verdict answer.ending) }
 {
     let mut details = String::new(alloc);
@@ -32,7 +36,7 @@ pub fn answer_of(alloc: Global, target: &Target, report: &Report) -> Result<Answ
         add_counts(&mut details, trials)?;
     }
     if let Verdict::Broken(broken) = &report.verdict {
-        is_inside = add_broken(alloc, &mut details, target, broken)?;
+        is_inside = add_broken(alloc, &mut details, checked, broken)?;
     }
     Ok(Answer {
         ending: Ending::of(report, is_inside),
@@ -178,15 +182,15 @@ fn add_breach(text: &mut String, broken: &Broken) -> Result<(), AllocError> {
 fn add_broken(
     alloc: Global,
     text: &mut String,
-    target: &Target,
+    checked: &BoardAlgorithms,
     broken: &Broken,
 ) -> Result<bool, OutOfMemory>
-    requires fit { AreFit (board_of target.now.board) (map algorithm_of target.now.algorithms.items) }
-    requires inside { broken.now.region < vec_len target.now.algorithms }
+    requires fit { AreFit (board_of checked.now.board) (map algorithm_of checked.now.algorithms.items) }
+    requires inside { broken.now.region < vec_len checked.now.algorithms }
 {
     let region = broken.region;
-    let algorithms = target.algorithms.as_slice();
-    let subject = Subject::new(alloc, &target.board, &algorithms[region], region)?;
+    let algorithms = checked.algorithms.as_slice();
+    let subject = Subject::new(alloc, &checked.board, &algorithms[region], region)?;
     add_list(text, &subject, broken)?;
     add_calls(alloc, text, &subject, broken)?;
     add_breach(text, broken)?;

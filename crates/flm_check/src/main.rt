@@ -1,13 +1,13 @@
 //! Tries whether flash algorithms keep their duties on a board: `flm_check BOARD FLM [FLM] [--seed N] [--rounds N]`.
 #![tactic(auto)]
 
+mod board_algorithms;
 mod calls;
 mod check;
 mod details;
 mod ending;
 mod run;
 mod take;
-mod target;
 mod words;
 
 use std::process::ExitCode;

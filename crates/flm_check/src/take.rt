@@ -4,9 +4,9 @@ ghost use Rattle.command_words.specs.Files.{names_in};
 ghost use Rattle.command_words.specs.Requested.{files_of};
 ghost use Rattle.command_files.specs.Inputs.{inputs_call};
 ghost use Rattle.command_files.specs.Steps.{bytes_of};
-ghost use Rattle.flm_check.specs.Steps.{ReadsTarget, TakesTarget};
+ghost use Rattle.flm_check.specs.Steps.{ReadsBoardAlgorithms, TakesBoardAlgorithms};
 
-use crate::target::Target;
+use crate::board_algorithms::BoardAlgorithms;
 use command_files::{Files, read_algorithms, read_text, take_files};
 use command_words::FileNames;
 use outside_io::Inputs;
@@ -14,23 +14,23 @@ use report_text::Refusal;
 use std::alloc::Global;
 
 /// Takes the files in the order of the words, and then reads them. The first that can't be taken is told, and then the first refusal.
-pub fn take_target<'a, I: Inputs>(
+pub fn take_board_algorithms<'a, I: Inputs>(
     alloc: Global,
     names: &FileNames<'a>,
     inputs: &mut I,
-) -> Result<Target, Refusal<'a>>
+) -> Result<BoardAlgorithms, Refusal<'a>>
     requires has_flm { IsSome (files_of names.now).flm }
     requires may_take { All (I.may_take inputs.old) (names_in (files_of names.now)) }
-    ensures { TakesTarget (inputs_call I.tells (I.state inputs.old) (I.state inputs.new)) (files_of names.now) result }
+    ensures { TakesBoardAlgorithms (inputs_call I.tells (I.state inputs.old) (I.state inputs.new)) (files_of names.now) result }
 {
     let files = take_files(alloc, names, inputs)?;
-    read_target(alloc, &files)
+    read_board_algorithms(alloc, &files)
 }
 
 /// Reads the board, and then an FLM file for each of its regions. There have to be as many.
-fn read_target<'a>(alloc: Global, files: &Files) -> Result<Target, Refusal<'a>>
+fn read_board_algorithms<'a>(alloc: Global, files: &Files) -> Result<BoardAlgorithms, Refusal<'a>>
     requires { IsSome files.now.flm }
-    ensures { ReadsTarget (bytes_of files.now) result }
+    ensures { ReadsBoardAlgorithms (bytes_of files.now) result }
 {
     let board = read_text(alloc, files.board.bytes())?;
     let regions = board.regions.as_slice();
@@ -40,5 +40,5 @@ fn read_target<'a>(alloc: Global, files: &Files) -> Result<Target, Refusal<'a>>
         return Err(Refusal::Usage);
     }
     let algorithms = read_algorithms(alloc, &board, &files.flm, others)?;
-    Ok(Target { board, algorithms })
+    Ok(BoardAlgorithms { board, algorithms })
 }

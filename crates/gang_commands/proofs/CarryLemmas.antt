@@ -114,7 +114,7 @@ carried_to e k = record { end = e; regions = Some k.board.regions }
 
 module _ {B : Type 0} (G : Ghosts B) (s : BenchState) (begun : B) (t : BenchState) (arena arena' : List (List ℕ)) (x : GangTarget) (new : Slot)
     (begins : Begins G.tells x arena s (G.state begun)) (looked : IsLookedAt G.tells s (G.state begun))
-    (ready : IsReady G.tells (slot.Target x) arena (G.state begun)) (over : slot_turn new ≡ turn.Ended) where
+    (ready : IsReady G.tells (slot.Open x) arena (G.state begun)) (over : slot_turn new ≡ turn.Ended) where
   abbrev m : BenchState
   m = G.state begun
 
@@ -130,10 +130,10 @@ module _ {B : Type 0} (G : Ghosts B) (s : BenchState) (begun : B) (t : BenchStat
   sized : size_of j.board.regions ≡ s.cell_count
   sized = let fit = (ready going).fit in (ready going).size ∙ sym fit.wanted ∙ sym fit.agrees.count ∙ looked.count
 
-  stands_so : SlotStands first_stand [] (slot.Target x) arena m
+  stands_so : SlotStands first_stand [] (slot.Open x) arena m
   stands_so = (going, stands_first x.player (goal_for x.job x.player m.file) arena m begins.place begins.made)
 
-  module _ (told : IsTrue G.tells) (since : SlotSince first_stand [] (slot.Target x) m new arena' t) where
+  module _ (told : IsTrue G.tells) (since : SlotSince first_stand [] (slot.Open x) m new arena' t) where
     stands : StandsFor j s.file
     stands = begins.stands told
 
@@ -144,7 +144,7 @@ module _ {B : Type 0} (G : Ghosts B) (s : BenchState) (begun : B) (t : BenchStat
     alone = alone_of first_stand x m new arena' t (body_of stands.text) (same_file ∙ stands.whole) since over
 
     same_job : alone.target.job ≡ x.job
-    same_job = let same : slot.Target alone.target ≡ slot.Target since.target = sym alone.is ∙ since.is in
+    same_job = let same : slot.Open alone.target ≡ slot.Open since.target = sym alone.is ∙ since.is in
         let targets : alone.target ≡ since.target = cc in
         ap (λ (y : GangTarget). y.job) targets ∙ since.job
 
@@ -209,8 +209,8 @@ module _ {B : Type 0} (G : Ghosts B) (s : BenchState) (begun : B) (t : BenchStat
           size = sized;
         })
 
-  pub target_ends : TargetKept x m new t → IsSlot new → (IsTrue G.tells → (a : Stand) → SlotStands a [] (slot.Target x) arena m
-      → SlotSince a [] (slot.Target x) m new arena' t) → EndsOn G s (outcome_of new) t
+  pub target_ends : TargetKept x m new t → IsSlot new → (IsTrue G.tells → (a : Stand) → SlotStands a [] (slot.Open x) arena m
+      → SlotSince a [] (slot.Open x) m new arena' t) → EndsOn G s (outcome_of new) t
   target_ends kept lawful since =
       let y : GangTarget = kept.target in
       let at : (e : TargetEnd) × (y.player.place ≡ place.Ended e) = over_place y.player.place (ap slot_turn (sym kept.is) ∙ over) in
@@ -238,7 +238,7 @@ module _ {B : Type 0} (G : Ghosts B) where
   slot_ends (slot.Refused e) arena arena' s begun bench new opened ready kept lawful over since =
       subst (λ (b : B). EndsOn G s (outcome_of new) (G.state b)) (sym kept.1)
       (subst (λ (n : Slot). EndsOn G s (outcome_of n) (G.state begun)) (sym kept.0) (refused_ends G s (G.state begun) e opened.0 opened.1))
-  slot_ends (slot.Target x) arena arena' s begun bench new opened ready kept lawful over since =
+  slot_ends (slot.Open x) arena arena' s begun bench new opened ready kept lawful over since =
       let going : IsUnended x.player.place = subst (λ (p : Place). IsUnended p) (sym opened.1.place) tt in
       target_ends G s begun (G.state bench) arena arena' x new opened.1 opened.0 ready over (kept going) lawful since
 

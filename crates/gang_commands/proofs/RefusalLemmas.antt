@@ -22,13 +22,13 @@ end_at (place.Ended f) e is = is
 
 pub end_is : (s : Slot) (e : Bor TargetEnd) → IsSlotEnd s (Some e) → e.now ≡ (outcome_of s).end
 end_is (slot.Refused f) e is = is
-end_is (slot.Target x) e is = end_at x.player.place e is
+end_is (slot.Open x) e is = end_at x.player.place e is
 
 pub regions_are : (s : Slot) (o : Option (Bor Job)) → IsSlotJob s o → regions_of o ≡ (outcome_of s).regions
 regions_are (slot.Refused f) None is = refl
 regions_are (slot.Refused f) (Some j) is = absurd is
-regions_are (slot.Target x) None is = absurd is
-regions_are (slot.Target x) (Some j) is = ap (λ (k : Job). Some k.board.regions) is
+regions_are (slot.Open x) None is = absurd is
+regions_are (slot.Open x) (Some j) is = ap (λ (k : Job). Some k.board.regions) is
 
 none_at : (p : Place) → turn_of p ≡ turn.Ended → IsEndAt p None → ⊥
 none_at (place.At c) over is = cc
@@ -40,4 +40,4 @@ none_at (place.Ended f) over is = is
 -- a target that has ended has an end
 pub has_end : (s : Slot) → slot_turn s ≡ turn.Ended → IsSlotEnd s None → ⊥
 has_end (slot.Refused f) over is = is
-has_end (slot.Target x) over is = none_at x.player.place over is
+has_end (slot.Open x) over is = none_at x.player.place over is

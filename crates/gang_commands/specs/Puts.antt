@@ -35,7 +35,7 @@ end_of (place.Ended e) = e
 
 abbrev pub outcome_of : Slot → Outcome
 outcome_of (slot.Refused e) = record { end = e; regions = None }
-outcome_of (slot.Target x) = record { end = end_of x.player.place; regions = Some x.job.board.regions }
+outcome_of (slot.Open x) = record { end = end_of x.player.place; regions = Some x.job.board.regions }
 
 -- of each target in order
 abbrev pub outcomes : Gang → List Outcome

@@ -33,7 +33,7 @@ use Rattle.gang_run.specs.declared.target.GangTarget.{GangTarget}
 use Rattle.flash_session.specs.Alone.{FollowsAs}
 use Rattle.flash_session.specs.Fit.{IsPlace, Fit, togo}
 use Rattle.flash_session.specs.Guarded.{Guarded}
-use Rattle.flash_session.specs.Regions.{RegionIndex}
+use Rattle.flash_session.specs.declared.cursor.RegionIndex.{RegionIndex}
 use Rattle.flash_session.specs.Rest.{Legs, all_legs}
 use Rattle.flash_session.specs.Stands.{HasEnded, Stands, StandsOn}
 use Rattle.flash_session.specs.Takes.{TakesOn, SliceOf}
@@ -75,31 +75,22 @@ goes_in a way goal x arena arena' s t same goes = record {
 
 -- a target has ended or not
 either_turn : (p : Place) → (turn_of p ≡ turn.Ended) ⊎ IsUnended p
-either_turn (place.At c) = inr tt
-either_turn (place.In call len left next) = inr tt
-either_turn (place.Comparing at) = inr tt
-either_turn place.Closing = inr tt
 either_turn (place.Ended e) = inl refl
+either_turn p = inr tt
 
 abbrev pub Law : {B : Type 0} → Ghosts B → Type 0
 Law {B} G = (bench : B) (c : List ℕ) → IsTrue G.tells → left (cells_half (G.state bench)) c ↔ SameOutside (G.state bench).operation (G.state bench).cells c
 
 -- a turn takes the file's half on
 files_on : (tells : Bool) (told : IsTrue tells) (old new : Place) (s t : BenchState) → FileTurn tells old new s t → history.GoesOn (file_half s) (file_half t)
-files_on tells told (place.At c) new s t turn = turn.read.moments.goes_on
-files_on tells told (place.In call len left next) new s t turn = turn.read.moments.goes_on
-files_on tells told (place.Comparing at) new s t turn = turn.read.moments.goes_on
 files_on tells told place.Closing new s t turn = (turn.moments told).goes_on
-files_on tells told (place.Ended e) new s t turn = turn.read.moments.goes_on
+files_on tells told old new s t turn = turn.read.moments.goes_on
 
 -- ---- counts
 
 no_fault : (p : Place) → IsUnended p → place_fault p ≡ None
-no_fault (place.At c) going = refl
-no_fault (place.In call len left next) going = refl
-no_fault (place.Comparing at) going = refl
-no_fault place.Closing going = refl
 no_fault (place.Ended e) going = absurd going
+no_fault p going = refl
 
 counts_here : (p : Place) (s : BenchState) → IsUnended p → Counts p s s
 counts_here p s going = record {
@@ -127,7 +118,7 @@ module _ {B : Type 0} (G : Ghosts B) (told : IsTrue G.tells) (a : Stand) (way : 
   target_then x mid new arena arena' bench bench' law ready since turns =
       let y : GangTarget = since.target in
       let goal : List ℕ = goal_for x.job x.player s0.file in
-      let now : SlotTurns G (slot.Target y) arena bench new arena' bench' = subst (λ (m : Slot). SlotTurns G m arena bench new arena' bench') since.is turns in
+      let now : SlotTurns G (slot.Open y) arena bench new arena' bench' = subst (λ (m : Slot). SlotTurns G m arena bench new arena' bench') since.is turns in
       ⊎_elim
       (λ (ended : turn_of y.player.place ≡ turn.Ended).
       let still = now.ended ended in
@@ -144,7 +135,7 @@ module _ {B : Type 0} (G : Ghosts B) (told : IsTrue G.tells) (a : Stand) (way : 
         counts = subst (λ (b : B). Counts y.player.place s0 (G.state b)) (sym still.2) since.counts;
       })
       (λ (going : IsUnended y.player.place).
-      let went : (z : GangTarget) × (new ≡ slot.Target z) × TargetTurns G.tells y arena (G.state bench) z arena' (G.state bench') = now.goes going in
+      let went : (z : GangTarget) × (new ≡ slot.Open z) × TargetTurns G.tells y arena (G.state bench) z arena' (G.state bench') = now.goes going in
       let lawful : Ready G.tells y arena (G.state bench) = (subst (λ (m : Slot). IsReady G.tells m arena (G.state bench)) since.is ready) going in
       let same : goal_for y.job y.player (G.state bench).file ≡ goal =
       ap (λ (j : Job). goal_for j y.player (G.state bench).file) since.job ∙ goal_same x.job x.player y.player (G.state bench).file since.same
@@ -174,11 +165,11 @@ module _ {B : Type 0} (G : Ghosts B) (told : IsTrue G.tells) (a : Stand) (way : 
   since_then (slot.Refused e) mid new arena arena' bench bench' law ready since turns =
       let now : SlotTurns G (slot.Refused e) arena bench new arena' bench' = subst (λ (m : Slot). SlotTurns G m arena bench new arena' bench') since turns in
       (now.ended refl).0
-  since_then (slot.Target x) mid new arena arena' bench bench' law ready since turns = target_then x mid new arena arena' bench bench' law ready since turns
+  since_then (slot.Open x) mid new arena arena' bench bench' law ready since turns = target_then x mid new arena arena' bench bench' law ready since turns
 
   -- ---- one whose turn it is not
 
-  same_window : (y : GangTarget) (mid : Slot) (arena arena' : List (List ℕ)) → mid ≡ slot.Target y → SameWindow mid arena arena'
+  same_window : (y : GangTarget) (mid : Slot) (arena arena' : List (List ℕ)) → mid ≡ slot.Open y → SameWindow mid arena arena'
       → window_of arena' y.player.window ≡ window_of arena y.player.window
   same_window y mid arena arena' is same = subst (λ (m : Slot). SameWindow m arena arena') is same
 
@@ -186,7 +177,7 @@ module _ {B : Type 0} (G : Ghosts B) (told : IsTrue G.tells) (a : Stand) (way : 
       → bench' ≡ bench → SameWindow mid arena arena'
       → SlotSince a way old s0 new arena' (G.state bench')
   since_other (slot.Refused e) mid new arena arena' bench bench' since same still window = same ∙ since
-  since_other (slot.Target x) mid new arena arena' bench bench' since same still window =
+  since_other (slot.Open x) mid new arena arena' bench bench' since same still window =
       let y : GangTarget = since.target in
       let goal : List ℕ = goal_for x.job x.player s0.file in
       record {
@@ -207,14 +198,14 @@ module _ {B : Type 0} (G : Ghosts B) (told : IsTrue G.tells) (a : Stand) (way : 
 module _ {B : Type 0} (G : Ghosts B) where
   slot_kept : (x : Slot) (bench : B) → SlotKept G x bench x bench
   slot_kept (slot.Refused e) bench = (refl, refl)
-  slot_kept (slot.Target x) bench = λ going. record { target = x; is = refl; job = refl; counts = counts_here x.player.place (G.state bench) going }
+  slot_kept (slot.Open x) bench = λ going. record { target = x; is = refl; job = refl; counts = counts_here x.player.place (G.state bench) going }
 
   target_kept : (x : GangTarget) (mid new : Slot) (arena arena' : List (List ℕ)) (first bench bench' : B) → TargetKept x (G.state first) mid (G.state bench)
       → SlotTurns G mid arena bench new arena' bench'
       → TargetKept x (G.state first) new (G.state bench')
   target_kept x mid new arena arena' first bench bench' kept turns =
       let y : GangTarget = kept.target in
-      let now : SlotTurns G (slot.Target y) arena bench new arena' bench' = subst (λ (m : Slot). SlotTurns G m arena bench new arena' bench') kept.is turns in
+      let now : SlotTurns G (slot.Open y) arena bench new arena' bench' = subst (λ (m : Slot). SlotTurns G m arena bench new arena' bench') kept.is turns in
       ⊎_elim
       (λ (ended : turn_of y.player.place ≡ turn.Ended).
       let still = now.ended ended in
@@ -226,7 +217,7 @@ module _ {B : Type 0} (G : Ghosts B) where
             (sym still.2) kept.counts;
       })
       (λ (going : IsUnended y.player.place).
-      let went : (z : GangTarget) × (new ≡ slot.Target z) × TargetTurns G.tells y arena (G.state bench) z arena' (G.state bench') = now.goes going in
+      let went : (z : GangTarget) × (new ≡ slot.Open z) × TargetTurns G.tells y arena (G.state bench) z arena' (G.state bench') = now.goes going in
       record {
         target = went.0;
         is = went.1;
@@ -241,7 +232,7 @@ module _ {B : Type 0} (G : Ghosts B) where
       let now : SlotTurns G (slot.Refused e) arena bench new arena' bench' = subst (λ (m : Slot). SlotTurns G m arena bench new arena' bench') kept.0 turns in
       let still = now.ended refl in
       (still.0, still.2 ∙ kept.1)
-  kept_then (slot.Target x) mid new arena arena' first bench bench' kept turns =
+  kept_then (slot.Open x) mid new arena arena' first bench bench' kept turns =
       λ going. target_kept x mid new arena arena' first bench bench' (kept going) turns
 
   kept_other : (old mid new : Slot) (first bench bench' : B) → SlotKept G old first mid bench → new ≡ mid → bench' ≡ bench → SlotKept G old first new bench'
@@ -262,63 +253,60 @@ module _ {B : Type 0} (G : Ghosts B) where
       (cases_eq i target)
 
 -- a target whose turn it was
-pub slot_went : {B : Type 0} (G : Ghosts B) (self : Slot) (x y : GangTarget) (t : Turn) (arena arena' : List (List ℕ)) (bench bench' : B) → self ≡ slot.Target x
+pub slot_went : {B : Type 0} (G : Ghosts B) (self : Slot) (x y : GangTarget) (t : Turn) (arena arena' : List (List ℕ)) (bench bench' : B) → self ≡ slot.Open x
     → t ≡ turn_of x.player.place → t ≡ turn.More
     → y.job ≡ x.job → Turns G.tells (goal_for x.job x.player (G.state bench).file) x.player arena (G.state bench) y.player arena' (G.state bench')
-    → SlotTurns G self arena bench (slot.Target y) arena' bench'
+    → SlotTurns G self arena bench (slot.Open y) arena' bench'
 slot_went {B} G self x y t arena arena' bench bench' is state more job went =
-    let P : Slot → Type 0 = λ z. SlotTurns G z arena bench (slot.Target y) arena' bench' in
+    let P : Slot → Type 0 = λ z. SlotTurns G z arena bench (slot.Open y) arena' bench' in
     subst P (sym is) (record {
       ended = λ over. let e : turn.More ≡ turn.Ended = sym more ∙ state ∙ over in cc;
       goes = λ going. (y, refl, record { job = job; turns = went });
     })
 
-pub slot_took : (tells : Bool) (steps : ℕ) (self : Slot) (x y : GangTarget) (arena arena' : List (List ℕ)) (s t : BenchState) → self ≡ slot.Target x
+pub slot_took : (tells : Bool) (steps : ℕ) (self : Slot) (x y : GangTarget) (arena arena' : List (List ℕ)) (s t : BenchState) → self ≡ slot.Open x
     → TakesOn steps s.cell_count x.player.place y.player.place
     → SliceOf tells (goal_for x.job x.player s.file) steps x.player.place x.player arena s y.player arena' t
-    → SlotTakes tells steps self arena s (slot.Target y) arena' t
-slot_took tells steps self x y arena arena' s t is takes slices = subst (λ (z : Slot). SlotTakes tells steps z arena s (slot.Target y) arena' t) (sym is)
+    → SlotTakes tells steps self arena s (slot.Open y) arena' t
+slot_took tells steps self x y arena arena' s t is takes slices = subst (λ (z : Slot). SlotTakes tells steps z arena s (slot.Open y) arena' t) (sym is)
     (λ going. (y, refl, takes, slices))
 
 -- one that has ended does nothing
 pub slot_rests : (tells : Bool) (steps : ℕ) (self new : Slot) (x : GangTarget) (state : Turn) (arena arena' : List (List ℕ)) (s t : BenchState)
-    → self ≡ slot.Target x → state ≡ turn_of x.player.place → state ≡ turn.Ended → SlotTakes tells steps self arena s new arena' t
+    → self ≡ slot.Open x → state ≡ turn_of x.player.place → state ≡ turn.Ended → SlotTakes tells steps self arena s new arena' t
 slot_rests tells steps self new x state arena arena' s t is shown over = subst (λ (z : Slot). SlotTakes tells steps z arena s new arena' t) (sym is)
     (λ going. absurd (over_going x.player.place (sym shown ∙ over) going))
 
 going_of : (p : Place) → turn_of p ≡ turn.More → IsUnended p
-going_of (place.At c) more = tt
-going_of (place.In call len left next) more = tt
-going_of (place.Comparing at) more = tt
-going_of place.Closing more = tt
 going_of (place.Ended e) more = cc
+going_of p more = tt
 
 -- ---- what a turn keeps
 
 -- the window of a place, if it has one
 abbrev pub KeepsWindow : Slot → Slot → Type 0
 KeepsWindow (slot.Refused e) new = new ≡ slot.Refused e
-KeepsWindow (slot.Target x) new = (y : GangTarget) × (new ≡ slot.Target y) × (y.player.window ≡ x.player.window)
+KeepsWindow (slot.Open x) new = (y : GangTarget) × (new ≡ slot.Open y) × (y.player.window ≡ x.player.window)
 
-other_from : (x y : GangTarget) (q : Slot) → y.player.window ≡ x.player.window → OtherWindow (slot.Target x) q → OtherWindow (slot.Target y) q
+other_from : (x y : GangTarget) (q : Slot) → y.player.window ≡ x.player.window → OtherWindow (slot.Open x) q → OtherWindow (slot.Open y) q
 other_from x y (slot.Refused e) same other = tt
-other_from x y (slot.Target z) same other = λ is. other (sym same ∙ is)
+other_from x y (slot.Open z) same other = λ is. other (sym same ∙ is)
 
 pub other_left : (old new q : Slot) → KeepsWindow old new → OtherWindow old q → OtherWindow new q
 other_left (slot.Refused e) new q kept other = subst (λ (m : Slot). OtherWindow m q) (sym kept) tt
-other_left (slot.Target x) new q kept other = subst (λ (m : Slot). OtherWindow m q) (sym kept.1) (other_from x kept.0 q kept.2 other)
+other_left (slot.Open x) new q kept other = subst (λ (m : Slot). OtherWindow m q) (sym kept.1) (other_from x kept.0 q kept.2 other)
 
-other_to : (p : Slot) (x y : GangTarget) → y.player.window ≡ x.player.window → OtherWindow p (slot.Target x) → OtherWindow p (slot.Target y)
+other_to : (p : Slot) (x y : GangTarget) → y.player.window ≡ x.player.window → OtherWindow p (slot.Open x) → OtherWindow p (slot.Open y)
 other_to (slot.Refused e) x y same other = tt
-other_to (slot.Target z) x y same other = λ is. other (is ∙ same)
+other_to (slot.Open z) x y same other = λ is. other (is ∙ same)
 
 other_none : (p : Slot) (e : TargetEnd) → OtherWindow p (slot.Refused e)
 other_none (slot.Refused f) e = tt
-other_none (slot.Target z) e = tt
+other_none (slot.Open z) e = tt
 
 pub other_right : (p old new : Slot) → KeepsWindow old new → OtherWindow p old → OtherWindow p new
 other_right p (slot.Refused e) new kept other = subst (λ (m : Slot). OtherWindow p m) (sym kept) (other_none p e)
-other_right p (slot.Target x) new kept other = subst (λ (m : Slot). OtherWindow p m) (sym kept.1) (other_to p x kept.0 kept.2 other)
+other_right p (slot.Open x) new kept other = subst (λ (m : Slot). OtherWindow p m) (sym kept.1) (other_to p x kept.0 kept.2 other)
 
 only_count : (w : ℕ) (arena arena' : List (List ℕ)) → OnlyIn w arena arena' → length arena' ≡ length arena
 only_count w arena arena' only = ap (λ (l : List (List ℕ)). length l) only ∙ length-set arena w (window_of arena' w)
@@ -330,14 +318,14 @@ module _ {B : Type 0} (G : Ghosts B) (arena arena' : List (List ℕ)) (bench ben
 
   pub keeps_window : (x y : Slot) → Turned x y → KeepsWindow x y
   keeps_window (slot.Refused e) y turns = (turns.ended refl).0
-  keeps_window (slot.Target x) y turns = ⊎_elim
+  keeps_window (slot.Open x) y turns = ⊎_elim
       (λ (over : turn_of x.player.place ≡ turn.Ended). (x, (turns.ended over).0, refl))
       (λ (going : IsUnended x.player.place). let went = turns.goes going in (went.0, went.1, went.2.turns.same.window))
       (either_turn x.player.place)
 
   pub keeps_count : (x y : Slot) → Turned x y → length arena' ≡ length arena
   keeps_count (slot.Refused e) y turns = ap (λ (l : List (List ℕ)). length l) (turns.ended refl).1
-  keeps_count (slot.Target x) y turns = ⊎_elim
+  keeps_count (slot.Open x) y turns = ⊎_elim
       (λ (over : turn_of x.player.place ≡ turn.Ended). ap (λ (l : List (List ℕ)). length l) (turns.ended over).1)
       (λ (going : IsUnended x.player.place). only_count x.player.window arena arena' (turns.goes going).2.turns.only)
       (either_turn x.player.place)
@@ -347,8 +335,8 @@ module _ {B : Type 0} (G : Ghosts B) (arena arena' : List (List ℕ)) (bench ben
 
   pub other_window : (x y q : Slot) → Turned x y → OtherWindow x q → SameWindow q arena arena'
   other_window x y (slot.Refused e) turns other = tt
-  other_window (slot.Refused e) y (slot.Target z) turns other = same_ram z.player.window (turns.ended refl).1
-  other_window (slot.Target x) y (slot.Target z) turns other = ⊎_elim
+  other_window (slot.Refused e) y (slot.Open z) turns other = same_ram z.player.window (turns.ended refl).1
+  other_window (slot.Open x) y (slot.Open z) turns other = ⊎_elim
       (λ (over : turn_of x.player.place ≡ turn.Ended). same_ram z.player.window (turns.ended over).1)
       (λ (going : IsUnended x.player.place). other_stays arena arena' x.player.window z.player.window (turns.goes going).2.turns.only
       (λ same. other (sym same)))
@@ -356,12 +344,12 @@ module _ {B : Type 0} (G : Ghosts B) (arena arena' : List (List ℕ)) (bench ben
 
   pub slot_nearer : (x y : Slot) → Turned x y → slot_turn x ≡ turn.More → slot_togo y < slot_togo x
   slot_nearer (slot.Refused e) y turns more = cc
-  slot_nearer (slot.Target x) y turns more = let went = turns.goes (going_of x.player.place more) in
+  slot_nearer (slot.Open x) y turns more = let went = turns.goes (going_of x.player.place more) in
       subst (λ (m : Slot). slot_togo m < togo x.player) (sym went.1) went.2.turns.nearer
 
   pub slot_no_further : (x y : Slot) → Turned x y → slot_togo y ≤ slot_togo x
   slot_no_further (slot.Refused e) y turns = subst (λ (m : Slot). slot_togo m ≤ 0) (sym (turns.ended refl).0) (omega arith)
-  slot_no_further (slot.Target x) y turns = ⊎_elim
+  slot_no_further (slot.Open x) y turns = ⊎_elim
       (λ (over : turn_of x.player.place ≡ turn.Ended). subst (λ (m : Slot). slot_togo m ≤ togo x.player) (sym (turns.ended over).0) (omega arith))
       (λ (going : IsUnended x.player.place). let went = turns.goes going in
       subst (λ (m : Slot). slot_togo m ≤ togo x.player) (sym went.1) (omega (arith, went.2.turns.nearer)))
@@ -393,15 +381,12 @@ module _ {B : Type 0} (G : Ghosts B) (arena arena' : List (List ℕ)) (bench ben
 
   -- an end is one by its script, or a refusal
   place_lawful : (has : Bool) (moved : RegionIndex) (p : Place) (size : ℕ) (b : BenchState) → IsPlace G.tells has moved p size b → EndsByScript p
-  place_lawful has moved (place.At c) size b is = tt
-  place_lawful has moved (place.In call len left next) size b is = tt
-  place_lawful has moved (place.Comparing at) size b is = tt
-  place_lawful has moved place.Closing size b is = tt
   place_lawful has moved (place.Ended e) size b is = of_script G.tells size e b is
+  place_lawful has moved p size b is = tt
 
   pub slot_lawful : (x y : Slot) → IsSlot x → Turned x y → IsSlot y
   slot_lawful (slot.Refused e) y is turns = subst IsSlot (sym (turns.ended refl).0) is
-  slot_lawful (slot.Target x) y is turns = ⊎_elim
+  slot_lawful (slot.Open x) y is turns = ⊎_elim
       (λ (over : turn_of x.player.place ≡ turn.Ended). subst IsSlot (sym (turns.ended over).0) is)
       (λ (going : IsUnended x.player.place).
       let went = turns.goes going in
@@ -411,7 +396,7 @@ module _ {B : Type 0} (G : Ghosts B) (arena arena' : List (List ℕ)) (bench ben
 
   pub ready_then : (x y : Slot) → IsReady G.tells x arena (G.state bench) → Turned x y → IsReady G.tells y arena' (G.state bench')
   ready_then (slot.Refused e) y ready turns = subst (λ (m : Slot). IsReady G.tells m arena' (G.state bench')) (sym (turns.ended refl).0) tt
-  ready_then (slot.Target x) y ready turns = ⊎_elim
+  ready_then (slot.Open x) y ready turns = ⊎_elim
       (λ (over : turn_of x.player.place ≡ turn.Ended). subst (λ (m : Slot). IsReady G.tells m arena' (G.state bench')) (sym (turns.ended over).0)
       (λ going. absurd (over_going x.player.place over going)))
       (λ (going : IsUnended x.player.place).
@@ -436,7 +421,7 @@ fit_in tells x arena arena' b same count fit = record {
 pub ready_other : (tells : Bool) (q : Slot) (arena arena' : List (List ℕ)) (b : BenchState) → SameWindow q arena arena' → length arena' ≡ length arena
     → IsReady tells q arena b → IsReady tells q arena' b
 ready_other tells (slot.Refused e) arena arena' b same count ready = tt
-ready_other tells (slot.Target x) arena arena' b same count ready = λ going. let r = ready going in
+ready_other tells (slot.Open x) arena arena' b same count ready = λ going. let r = ready going in
     record { fit = fit_in tells x.player arena arena' b same count r.fit; size = r.size; stands = r.stands; only = r.only }
 
 -- ---- a whole gang
@@ -561,7 +546,7 @@ since_here {B} G g benches law ready i d a way less told stands = first (slot_at
     first : (x : Slot) → IsReady G.tells x g.arena (G.state (get_or benches i d)) → SlotStands a way x g.arena (G.state (get_or benches i d))
         → SlotSince a way x (G.state (get_or benches i d)) x g.arena (G.state (get_or benches i d))
     first (slot.Refused e) lawful stands = refl
-    first (slot.Target x) lawful stands =
+    first (slot.Open x) lawful stands =
         let s = G.state (get_or benches i d) in
         record {
           target = x;
@@ -708,15 +693,12 @@ round_more G steps old mid new benches between after count was round = (
 
 -- ---- a target that has ended
 
-ended_at : (p : Place) → turn_of p ≡ turn.Ended → (e : TargetEnd) × (p ≡ place.Ended e)
-ended_at (place.At c) over = cc
-ended_at (place.In call len left next) over = cc
-ended_at (place.Comparing at) over = cc
-ended_at place.Closing over = cc
+pub ended_at : (p : Place) → turn_of p ≡ turn.Ended → (e : TargetEnd) × (p ≡ place.Ended e)
 ended_at (place.Ended e) over = (e, refl)
+ended_at p over = cc
 
 pub alone_of : (a : Stand) (x : GangTarget) (s : BenchState) (new : Slot) (arena : List (List ℕ)) (t : BenchState) (body : List ℕ) → IsWhole body s.file
-    → SlotSince a [] (slot.Target x) s new arena t → slot_turn new ≡ turn.Ended
+    → SlotSince a [] (slot.Open x) s new arena t → slot_turn new ≡ turn.Ended
     → EndsAlone a x s new t body
 alone_of a x s new arena t body whole since over =
     let y : GangTarget = since.target in
@@ -743,29 +725,16 @@ alone_of a x s new arena t body whole since over =
 -- ---- the job
 
 job_by : (p : Place) (j : Bor Job) → EndsByScript p → HasJob (place_end p) (Some j)
-job_by (place.At c) j is = refl
-job_by (place.In call len left next) j is = refl
-job_by (place.Comparing at) j is = refl
-job_by place.Closing j is = refl
-job_by (place.Ended ended.Done) j is = refl
 job_by (place.Ended (ended.Open fault)) j is = absurd is
 job_by (place.Ended (ended.Survey fault)) j is = absurd is
-job_by (place.Ended (ended.CallFailed number call e)) j is = refl
-job_by (place.Ended (ended.Mismatch d)) j is = refl
-job_by (place.Ended ended.StoreFault) j is = refl
-job_by (place.Ended ended.DeviceFault) j is = refl
+job_by p j is = refl
 
 no_job_by : (e : TargetEnd) → IsRefusal e → HasJob (Some e) None
-no_job_by ended.Done is = absurd is
 no_job_by (ended.Open fault) is = tt
 no_job_by (ended.Survey fault) is = tt
-no_job_by (ended.CallFailed number call e) is = absurd is
-no_job_by (ended.Mismatch d) is = absurd is
-no_job_by ended.StoreFault is = absurd is
-no_job_by ended.DeviceFault is = absurd is
+no_job_by e is = absurd is
 
 pub job_exact : (s : Slot) (found : Option (Bor Job)) → IsSlot s → IsSlotJob s found → HasJob (slot_end s) found
 job_exact (slot.Refused e) None is job = no_job_by e is
-job_exact (slot.Refused e) (Some j) is job = absurd job
-job_exact (slot.Target x) None is job = absurd job
-job_exact (slot.Target x) (Some j) is job = job_by x.player.place j is
+job_exact (slot.Open x) (Some j) is job = job_by x.player.place j is
+job_exact s found is job = absurd job

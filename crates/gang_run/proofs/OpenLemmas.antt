@@ -47,8 +47,6 @@ planned_as : (tells : Bool) (b : BoardShown) (region : ℕ) (algorithms : List A
     → (IsTrue tells → cells' ≡ cells) → (IsTrue tells → goal' ≡ goal)
     → ArePlannedFor tells b region algorithms cells goal regions → ArePlannedFor tells b region algorithms cells' goal' regions
 planned_as tells b region [] cells goal cells' goal' [] one two are = tt
-planned_as tells b region [] cells goal cells' goal' (p ∷ more) one two are = absurd are
-planned_as tells b region (a ∷ rest) cells goal cells' goal' [] one two are = absurd are
 planned_as tells b region (a ∷ rest) cells goal cells' goal' (p ∷ more) one two are = (
   record {
     layout = are.0.layout;
@@ -61,6 +59,7 @@ planned_as tells b region (a ∷ rest) cells goal cells' goal' (p ∷ more) one 
   },
   planned_as tells b (region + 1) rest cells goal cells' goal' more one two are.1,
 )
+planned_as tells b region algorithms cells goal cells' goal' regions one two are = absurd are
 
 found_as : (tells : Bool) (j : Job) (g : Goal) (file cells file' cells' : List ℕ) (w : Surveyed) → (IsTrue tells → file' ≡ file)
     → (IsTrue tells → cells' ≡ cells) → HasSurveyed tells j g file cells w → HasSurveyed tells j g file' cells' w
@@ -134,7 +133,7 @@ module _ (tells : Bool) (j : Job) (window : ℕ) (s t : BenchState) (reads : IsR
   slot_made : t.store_faults ≡ s.store_faults → t.device_faults ≡ s.device_faults → (w : Surveyed) → HasSurveyed tells j goal.New s.file s.cells w → (p : Slot)
       → IsTargetOf j w window p → Surveys tells j window p s t
   slot_made store device w found (slot.Refused e) is = absurd is
-  slot_made store device w found (slot.Target x) is = (ready_in store device w found x is.0 is.1 is.2, is.0)
+  slot_made store device w found (slot.Open x) is = (ready_in store device w found x is.0 is.1 is.2, is.0)
 
   pub surveyed_so : (o : Option Surveyed) (r : Result (Unit {0}) SurveyFault) (q : Result Slot OutOfMemory)
       → OnOk r (IsSomeAnd o (λ w. HasSurveyed tells j goal.New s.file s.cells w)) → GivesSlot j o window r q
@@ -144,8 +143,7 @@ module _ (tells : Bool) (j : Job) (window : ℕ) (s t : BenchState) (reads : IsR
   surveyed_so (Some w) (Ok u) (Ok p) found gives store device = slot_made (store.on_other refl) (device.on_other refl) w found p gives
   surveyed_so o (Err fault) (Ok p) found gives store device = subst (λ (z : Slot). Surveys tells j window z s t) (sym gives.0)
       (record { memory = gives.1; store = store; device = device })
-  surveyed_so o (Ok u) (Err e) found gives store device = tt
-  surveyed_so o (Err fault) (Err e) found gives store device = tt
+  surveyed_so o r (Err e) found gives store device = tt
 
 -- what the parts of a session become
 pub parts_to : (o : Option Surveyed) (j : Job) (window : ℕ) (parts : Parts) (p : Slot) → parts.job ≡ j → IfSome o (λ w. IsPlayerOf j w parts.player)
@@ -207,7 +205,7 @@ module _ (tells : Bool) (j : Job) (window : ℕ) (s m t : BenchState) (stands : 
 
   slot_opens : (p : Slot) → Surveys tells j window p m t → Opens tells window p s t
   slot_opens (slot.Refused e) is = refused_end e is
-  slot_opens (slot.Target x) is = record {
+  slot_opens (slot.Open x) is = record {
     window_is = is.0.window_is;
     size = is.0.size;
     begins = λ arena inside blank. let both = is.0.begins arena inside blank in (begins_from x arena is.1 both.0, both.1);

@@ -33,28 +33,28 @@ none_slot = slot.Refused (ended.Survey survey.StoreFault)
 
 sizes_long : (s : Slot) (sizes : List ℕ) → length sizes ≤ length (sizes_with s sizes)
 sizes_long (slot.Refused e) sizes = omega arith
-sizes_long (slot.Target x) sizes = omega (arith, length-append sizes (ram_for x ∷ []))
+sizes_long (slot.Open x) sizes = omega (arith, length-append sizes (ram_for x ∷ []))
 
 sizes_more : (s : Slot) (sizes : List ℕ) → length (sizes_with s sizes) ≤ length sizes + 1
 sizes_more (slot.Refused e) sizes = omega arith
-sizes_more (slot.Target x) sizes = omega (arith, length-append sizes (ram_for x ∷ []))
+sizes_more (slot.Open x) sizes = omega (arith, length-append sizes (ram_for x ∷ []))
 
 sizes_stay : (s : Slot) (sizes : List ℕ) (i : ℕ) → i < length sizes → get_or (sizes_with s sizes) i 0 ≡ get_or sizes i 0
 sizes_stay (slot.Refused e) sizes i less = refl
-sizes_stay (slot.Target x) sizes i less = get_or_append_left sizes (ram_for x ∷ []) 0 i less
+sizes_stay (slot.Open x) sizes i less = get_or_append_left sizes (ram_for x ∷ []) 0 i less
 
 sizes_small : (s : Slot) (sizes : List ℕ) → All (λ n. n ≤ most_ram) sizes → All (λ n. n ≤ most_ram) (sizes_with s sizes)
 sizes_small (slot.Refused e) sizes small = small
-sizes_small (slot.Target x) sizes small = All-append (λ n. n ≤ most_ram) sizes (ram_for x ∷ []) small
+sizes_small (slot.Open x) sizes small = All-append (λ n. n ≤ most_ram) sizes (ram_for x ∷ []) small
     (All-replicate (λ n. n ≤ most_ram) 1 (ram_for x) x.job.board.ram_is_small)
 
 still_among : (tells : Bool) (sizes : List ℕ) (new p : Slot) (s t : BenchState) → OpensAmong tells sizes p s t → OpensAmong tells (sizes_with new sizes) p s t
 still_among tells sizes new (slot.Refused e) s t is = is
-still_among tells sizes new (slot.Target x) s t is = (omega (arith, is.0, sizes_long new sizes), sizes_stay new sizes x.player.window is.0 ∙ is.1, is.2)
+still_among tells sizes new (slot.Open x) s t is = (omega (arith, is.0, sizes_long new sizes), sizes_stay new sizes x.player.window is.0 ∙ is.1, is.2)
 
 now_among : (tells : Bool) (sizes : List ℕ) (p : Slot) (s t : BenchState) → Opens tells (length sizes) p s t → OpensAmong tells (sizes_with p sizes) p s t
 now_among tells sizes (slot.Refused e) s t is = is
-now_among tells sizes (slot.Target x) s t is = (
+now_among tells sizes (slot.Open x) s t is = (
   omega (arith, is.window_is, length-append sizes (ram_for x ∷ [])),
   ap (λ (i : ℕ). get_or (sizes ++ (ram_for x ∷ [])) i 0) is.window_is ∙ get_or_push sizes (ram_for x) 0 (length sizes) refl,
   subst (λ (i : ℕ). IsReadyIn tells i x s t) (sym is.window_is) is,
@@ -64,14 +64,14 @@ now_among tells sizes (slot.Target x) s t is = (
 next_apart : (tells : Bool) (sizes : List ℕ) (p q : Slot) (s t u v : BenchState) → OpensAmong tells sizes p s t → Opens tells (length sizes) q u v
     → OtherWindow p q × OtherWindow q p
 next_apart tells sizes (slot.Refused e) (slot.Refused f) s t u v one two = (tt, tt)
-next_apart tells sizes (slot.Refused e) (slot.Target y) s t u v one two = (tt, tt)
-next_apart tells sizes (slot.Target x) (slot.Refused f) s t u v one two = (tt, tt)
-next_apart tells sizes (slot.Target x) (slot.Target y) s t u v one two =
+next_apart tells sizes (slot.Refused e) (slot.Open y) s t u v one two = (tt, tt)
+next_apart tells sizes (slot.Open x) (slot.Refused f) s t u v one two = (tt, tt)
+next_apart tells sizes (slot.Open x) (slot.Open y) s t u v one two =
     (λ same. absurd (omega (arith, same, one.0, two.window_is)), λ same. absurd (omega (arith, same, one.0, two.window_is)))
 
 none_apart : (p : Slot) → OtherWindow p none_slot
 none_apart (slot.Refused e) = tt
-none_apart (slot.Target x) = tt
+none_apart (slot.Open x) = tt
 
 -- ---- bench after bench
 
@@ -236,7 +236,7 @@ module _ {B : Type 0} (G : Ghosts B) (first now : List B) (g : Gang) (sizes : Li
       refused_so (ended.Mismatch d) is = is
       refused_so ended.StoreFault is = is
       refused_so ended.DeviceFault is = is
-  opened_by (slot.Target x) s t looked is =
+  opened_by (slot.Open x) s t looked is =
       let window = window_blank x is.0 is.1 in
       let both = is.2.begins g.arena window.0 window.1 in (
         (looked, both.0),

@@ -20,7 +20,7 @@ use Rattle.gang_run.specs.Slots.{Counts}
 -- counted where it is the end.
 pub record EndsAlone (a : Stand) (x : GangTarget) (s : BenchState) (new : Slot) (t : BenchState) (body : List ℕ) : Type 0 where
   pub target : GangTarget
-  pub is : new ≡ slot.Target target
+  pub is : new ≡ slot.Open target
   pub end : TargetEnd
   pub place_is : target.player.place ≡ place.Ended end
   pub follows : FollowsAs (all_legs (legs_for x.player (goal_for x.job x.player s.file))) (goal_for x.job x.player s.file) a end s t

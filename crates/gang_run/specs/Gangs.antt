@@ -20,8 +20,8 @@ slot_at g i = get_or g.slots.items i (slot.Refused (ended.Survey survey.StoreFau
 -- two targets have two windows
 abbrev pub OtherWindow : Slot → Slot → Type 0
 OtherWindow (slot.Refused e) other = Unit {0}
-OtherWindow (slot.Target x) (slot.Refused e) = Unit {0}
-OtherWindow (slot.Target x) (slot.Target y) = x.player.window ≢ y.player.window
+OtherWindow (slot.Open x) (slot.Refused e) = Unit {0}
+OtherWindow (slot.Open x) (slot.Open y) = x.player.window ≢ y.player.window
 
 pub record IsGang (g : Gang) : Type 0 where
   pub apart : (i j : ℕ) → i ≢ j → OtherWindow (slot_at g i) (slot_at g j)
@@ -38,7 +38,7 @@ AreReady {B} G g benches = (i : ℕ) (d : B) → i < length benches → IsReady 
 -- the window of a target is as it was
 abbrev pub SameWindow : Slot → List (List ℕ) → List (List ℕ) → Type 0
 SameWindow (slot.Refused e) old new = Unit {0}
-SameWindow (slot.Target x) old new = window_of new x.player.window ≡ window_of old x.player.window
+SameWindow (slot.Open x) old new = window_of new x.player.window ≡ window_of old x.player.window
 
 -- one turn: the target's own bench and window alone are touched
 pub record OneTurn {B : Type 0} (G : Ghosts B) (target : ℕ) (old : Gang) (benches : List B) (new : Gang) (benches' : List B) : Type 0 where

@@ -21,7 +21,7 @@ use Rattle.flash_session.specs.declared.cursor.Cursor.TheVariants as at
 use Rattle.flash_session.specs.declared.phase.Phase.TheVariants as stage
 use Rattle.flash_session.specs.declared.cursor.Place.TheVariants as place
 use Rattle.gang_run.specs.declared.target.GangTarget.{GangTarget}
-use Rattle.flash_session.specs.Regions.{First}
+use Rattle.flash_session.specs.declared.cursor.RegionIndex.TheVariants.{First}
 use Rattle.flash_session.specs.Rest.{all_legs}
 use Rattle.flash_session.specs.Targets.{legs_for, goal_for, point_for}
 use Rattle.gang_run.specs.declared.gang.Gang.{Gang}
@@ -80,7 +80,7 @@ pub record Begins (tells : Bool) (x : GangTarget) (arena : List (List ℕ)) (s t
 
 abbrev pub IsOpened : Bool → Slot → List (List ℕ) → BenchState → BenchState → Type 0
 IsOpened tells (slot.Refused e) arena s t = IsLookedAt tells s t × IsRefused tells e s t
-IsOpened tells (slot.Target x) arena s t = IsLookedAt tells s t × Begins tells x arena s t
+IsOpened tells (slot.Open x) arena s t = IsLookedAt tells s t × Begins tells x arena s t
 
 -- each bench in turn
 abbrev pub AreOpened : {B : Type 0} → Ghosts B → List B → Gang → List B → Type 0

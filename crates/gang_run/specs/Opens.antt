@@ -28,7 +28,7 @@ use Rattle.gang_run.specs.Opening.{IsLookedAt, IsRefused, Begins}
 -- it is a target of this job, with a player of the script that its survey planned, and with this window
 abbrev pub IsTargetOf : Job → Surveyed → (window : ℕ) → Slot → Type 0
 IsTargetOf j w window (slot.Refused e) = ⊥
-IsTargetOf j w window (slot.Target x) = (x.job ≡ j) × (x.player.window ≡ window) × IsPlayerOf j w x.player
+IsTargetOf j w window (slot.Open x) = (x.job ≡ j) × (x.player.window ≡ window) × IsPlayerOf j w x.player
 
 -- the place of a job whose survey answered so, and found this
 abbrev pub GivesSlot : Job → Option Surveyed → (window : ℕ) → Result (Unit {0}) SurveyFault → Result Slot OutOfMemory → Type 0
@@ -60,16 +60,16 @@ IsUnsurveyedEnd _ s t = ⊥
 -- the survey of a job that was opened on this bench
 abbrev pub Surveys : Bool → Job → (window : ℕ) → Slot → BenchState → BenchState → Type 0
 Surveys tells j window (slot.Refused e) s t = IsUnsurveyedEnd e s t
-Surveys tells j window (slot.Target x) s t = IsReadyIn tells window x s t × (x.job ≡ j)
+Surveys tells j window (slot.Open x) s t = IsReadyIn tells window x s t × (x.job ≡ j)
 
 abbrev pub Opens : Bool → (window : ℕ) → Slot → BenchState → BenchState → Type 0
 Opens tells window (slot.Refused e) s t = IsRefused tells e s t
-Opens tells window (slot.Target x) s t = IsReadyIn tells window x s t
+Opens tells window (slot.Open x) s t = IsReadyIn tells window x s t
 
 -- one size more for a target
 abbrev pub sizes_with : Slot → List ℕ → List ℕ
 sizes_with (slot.Refused e) sizes = sizes
-sizes_with (slot.Target x) sizes = sizes ++ (ram_for x ∷ [])
+sizes_with (slot.Open x) sizes = sizes ++ (ram_for x ∷ [])
 
 abbrev pub AddsWindow : Slot → List ℕ → List ℕ → Result (Unit {0}) OutOfMemory → Type 0
 AddsWindow s old new (Ok u) = new ≡ sizes_with s old
@@ -99,7 +99,7 @@ slot_in slots i = get_or slots i (slot.Refused (ended.Survey survey.StoreFault))
 -- it was opened on its bench, and its window will be among these
 abbrev pub OpensAmong : Bool → List ℕ → Slot → BenchState → BenchState → Type 0
 OpensAmong tells sizes (slot.Refused e) s t = IsRefused tells e s t
-OpensAmong tells sizes (slot.Target x) s t = (x.player.window < length sizes) × (get_or sizes x.player.window 0 ≡ ram_for x) ×
+OpensAmong tells sizes (slot.Open x) s t = (x.player.window < length sizes) × (get_or sizes x.player.window 0 ≡ ram_for x) ×
     IsReadyIn tells x.player.window x s t
 
 -- the benches before this one were opened, and the others are as they were

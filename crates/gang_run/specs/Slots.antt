@@ -35,11 +35,11 @@ use Rattle.gang_run.specs.declared.slot.Slot.TheVariants as slot
 
 abbrev pub slot_turn : Slot → Turn
 slot_turn (slot.Refused e) = turn.Ended
-slot_turn (slot.Target x) = turn_of x.player.place
+slot_turn (slot.Open x) = turn_of x.player.place
 
 abbrev pub slot_togo : Slot → ℕ
 slot_togo (slot.Refused e) = 0
-slot_togo (slot.Target x) = togo x.player
+slot_togo (slot.Open x) = togo x.player
 
 -- ---- what it shows
 
@@ -66,20 +66,20 @@ EndsByScript _ = Unit {0}
 -- a target without a script was refused, and one with a script ends by it
 abbrev pub IsSlot : Slot → Type 0
 IsSlot (slot.Refused e) = IsRefusal e
-IsSlot (slot.Target x) = EndsByScript x.player.place
+IsSlot (slot.Open x) = EndsByScript x.player.place
 
 -- none where it hasn't ended
 abbrev pub IsSlotEnd : Slot → Option (Bor TargetEnd) → Type 0
 IsSlotEnd (slot.Refused end) None = ⊥
 IsSlotEnd (slot.Refused end) (Some e) = e.now ≡ end
-IsSlotEnd (slot.Target x) found = IsEndAt x.player.place found
+IsSlotEnd (slot.Open x) found = IsEndAt x.player.place found
 
 -- none where it has no script
 abbrev pub IsSlotJob : Slot → Option (Bor Job) → Type 0
 IsSlotJob (slot.Refused end) None = Unit {0}
 IsSlotJob (slot.Refused end) (Some j) = ⊥
-IsSlotJob (slot.Target x) None = ⊥
-IsSlotJob (slot.Target x) (Some j) = j.now ≡ x.job
+IsSlotJob (slot.Open x) None = ⊥
+IsSlotJob (slot.Open x) (Some j) = j.now ≡ x.job
 
 -- how a target has ended, if it has
 abbrev pub place_end : Place → Option TargetEnd
@@ -88,7 +88,7 @@ place_end _ = None
 
 abbrev pub slot_end : Slot → Option TargetEnd
 slot_end (slot.Refused e) = Some e
-slot_end (slot.Target x) = place_end x.player.place
+slot_end (slot.Open x) = place_end x.player.place
 
 abbrev pub IsNoJob : Option (Bor Job) → Type 0
 IsNoJob None = Unit {0}
@@ -112,7 +112,7 @@ pub record Ready (tells : Bool) (x : GangTarget) (arena : List (List ℕ)) (b : 
 
 abbrev pub IsReady : Bool → Slot → List (List ℕ) → BenchState → Type 0
 IsReady tells (slot.Refused e) arena b = Unit {0}
-IsReady tells (slot.Target x) arena b = IsUnended x.player.place → Ready tells x arena b
+IsReady tells (slot.Open x) arena b = IsUnended x.player.place → Ready tells x arena b
 
 -- the player of a target went on by a turn, to the goal that the file gives
 pub record TargetTurns (tells : Bool) (x : GangTarget) (arena : List (List ℕ)) (s : BenchState) (y : GangTarget) (arena' : List (List ℕ))
@@ -123,8 +123,8 @@ pub record TargetTurns (tells : Bool) (x : GangTarget) (arena : List (List ℕ))
 -- a turn of a target that hasn't ended
 abbrev pub SlotGoes : Bool → Slot → List (List ℕ) → BenchState → Slot → List (List ℕ) → BenchState → Type 0
 SlotGoes tells (slot.Refused e) arena s new arena' t = Unit {0}
-SlotGoes tells (slot.Target x) arena s new arena' t = IsUnended x.player.place → (y : GangTarget) ×
-    (new ≡ slot.Target y) × TargetTurns tells x arena s y arena' t
+SlotGoes tells (slot.Open x) arena s new arena' t = IsUnended x.player.place → (y : GangTarget) ×
+    (new ≡ slot.Open y) × TargetTurns tells x arena s y arena' t
 
 -- a turn, which changes nothing where the target has ended
 pub record SlotTurns {B : Type 0} (G : Ghosts B) (old : Slot) (arena : List (List ℕ)) (bench : B) (new : Slot)
@@ -135,7 +135,7 @@ pub record SlotTurns {B : Type 0} (G : Ghosts B) (old : Slot) (arena : List (Lis
 -- it does one thing, with so many steps asked for
 abbrev pub SlotTakes : Bool → (steps : ℕ) → Slot → List (List ℕ) → BenchState → Slot → List (List ℕ) → BenchState → Type 0
 SlotTakes tells steps (slot.Refused e) arena s new arena' t = Unit {0}
-SlotTakes tells steps (slot.Target x) arena s new arena' t = IsUnended x.player.place → (y : GangTarget) × (new ≡ slot.Target y)
+SlotTakes tells steps (slot.Open x) arena s new arena' t = IsUnended x.player.place → (y : GangTarget) × (new ≡ slot.Open y)
     × TakesOn steps s.cell_count x.player.place y.player.place
     × SliceOf tells (goal_for x.job x.player s.file) steps x.player.place x.player arena s y.player arena' t
 
@@ -149,24 +149,24 @@ pub record Counts (p : Place) (s t : BenchState) : Type 0 where
 -- A target that hadn't ended has the same work as before; this holds whether the bench tells its contents or not.
 pub record TargetKept (x : GangTarget) (s : BenchState) (new : Slot) (t : BenchState) : Type 0 where
   pub target : GangTarget
-  pub is : new ≡ slot.Target target
+  pub is : new ≡ slot.Open target
   pub job : target.job ≡ x.job
   pub counts : Counts target.player.place s t
 
 -- the bench of a target without a script is as it was
 abbrev pub SlotKept : {B : Type 0} → Ghosts B → Slot → B → Slot → B → Type 0
 SlotKept G (slot.Refused e) bench new bench' = (new ≡ slot.Refused e) × (bench' ≡ bench)
-SlotKept G (slot.Target x) bench new bench' = IsUnended x.player.place → TargetKept x (G.state bench) new (G.state bench')
+SlotKept G (slot.Open x) bench new bench' = IsUnended x.player.place → TargetKept x (G.state bench) new (G.state bench')
 
 -- where it stands that hasn't ended
 abbrev pub SlotStands : Stand → List Move → Slot → List (List ℕ) → BenchState → Type 0
 SlotStands a way (slot.Refused e) arena b = Unit {0}
-SlotStands a way (slot.Target x) arena b = IsUnended x.player.place × StandsOn a way (goal_for x.job x.player b.file) x.player arena b
+SlotStands a way (slot.Open x) arena b = IsUnended x.player.place × StandsOn a way (goal_for x.job x.player b.file) x.player arena b
 
 -- a target went on from there, to the goal that the file gave
 pub record TargetSince (a : Stand) (way : List Move) (x : GangTarget) (s : BenchState) (new : Slot) (arena : List (List ℕ)) (t : BenchState) : Type 0 where
   pub target : GangTarget
-  pub is : new ≡ slot.Target target
+  pub is : new ≡ slot.Open target
   pub job : target.job ≡ x.job
   pub same : SameTarget x.player target.player
   pub goes : GoesOn a way (goal_for x.job x.player s.file) target.player arena s t
@@ -178,4 +178,4 @@ pub record TargetSince (a : Stand) (way : List Move) (x : GangTarget) (s : Bench
 -- it went on from there
 abbrev pub SlotSince : Stand → List Move → Slot → BenchState → Slot → List (List ℕ) → BenchState → Type 0
 SlotSince a way (slot.Refused e) s new arena t = new ≡ slot.Refused e
-SlotSince a way (slot.Target x) s new arena t = TargetSince a way x s new arena t
+SlotSince a way (slot.Open x) s new arena t = TargetSince a way x s new arena t

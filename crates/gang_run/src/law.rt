@@ -39,7 +39,7 @@ pub fn turns_go_on<B: Bench>()
 pub fn targets_end_as_alone<B: Bench>()
     ensures { (old new : Gang) (benches after : List B) (i : ℕ) (d : B) (a : Stand) (x : GangTarget) (body : List ℕ) → IsTrue B.tells
         → AllSince B.Bench old benches new after → i < length benches
-        → slot_at old i ≡ slot.Target x → IsUnended x.player.place → StandsOn a [] (goal_for x.job x.player (B.state (get_or benches i d)).file) x.player old.arena
+        → slot_at old i ≡ slot.Open x → IsUnended x.player.place → StandsOn a [] (goal_for x.job x.player (B.state (get_or benches i d)).file) x.player old.arena
         (B.state (get_or benches i d)) → IsWhole body (B.state (get_or benches i d)).file
         → slot_turn (slot_at new i) ≡ turn.Ended
         → EndsAlone a x (B.state (get_or benches i d)) (slot_at new i) (B.state (get_or after i d)) body }

@@ -29,7 +29,7 @@ fn make_slot(parts: Parts, window: usize) -> Slot
     let Parts { job, player } = parts;
     let mut player = player;
     player.window = window;
-    Slot::Target(GangTarget { job, player })
+    Slot::Open(GangTarget { job, player })
 }
 
 /// The place of a session's job whose survey answered so: a target with this window, or how it has ended.
@@ -102,7 +102,7 @@ fn add_window(slot: &Slot, sizes: &mut Vec<u32>) -> Result<(), OutOfMemory>
 {
     match slot {
         Slot::Refused(_) => Ok(()),
-        Slot::Target(target) => {
+        Slot::Open(target) => {
             sizes.push(target.job.board.ram_size)?;
             Ok(())
         }

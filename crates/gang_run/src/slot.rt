@@ -8,11 +8,11 @@ use flash_session::{TargetEnd, Turn};
 use job_text::Job;
 use ram_arena::Arena;
 
-/// A target, or how one ended that has no script.
+/// A target, whose job was opened and surveyed, or how one ended that has no script.
 #[derive(Drop)]
 pub(crate) enum Slot {
     Refused(TargetEnd),
-    Target(GangTarget),
+    Open(GangTarget),
 }
 
 impl Slot {
@@ -24,7 +24,7 @@ impl Slot {
     {
         match self {
             Slot::Refused(_) => Turn::Ended,
-            Slot::Target(target) => target.player.state(),
+            Slot::Open(target) => target.player.state(),
         }
     }
 
@@ -34,7 +34,7 @@ impl Slot {
     {
         match self {
             Slot::Refused(end) => Some(end),
-            Slot::Target(target) => target.player.end(),
+            Slot::Open(target) => target.player.end(),
         }
     }
 
@@ -44,7 +44,7 @@ impl Slot {
     {
         match self {
             Slot::Refused(_) => None,
-            Slot::Target(target) => Some(&target.job),
+            Slot::Open(target) => Some(&target.job),
         }
     }
 
@@ -57,7 +57,7 @@ impl Slot {
     {
         match self {
             Slot::Refused(_) => {}
-            Slot::Target(target) => match target.player.state() {
+            Slot::Open(target) => match target.player.state() {
                 Turn::Ended => {}
                 Turn::More => target.player.turn(&target.job, arena, bench, steps),
             },

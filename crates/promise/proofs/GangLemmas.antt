@@ -31,7 +31,7 @@ use Rattle.gang_commands.proofs.TargetLemmas.{done_alone, its_reason, finished_b
 use Rattle.gang_commands.proofs.WordLemmas.{fits_or_not}
 use Rattle.command_words.specs.Files.{resume}
 use Rattle.promise.specs.Job.{laid}
-use Rattle.promise.specs.Promise.{Call, IsRefused, GoesOn, Keeps, call_of, Target, TargetKeeps, lines_of, first_status, GangKeeps}
+use Rattle.promise.specs.Promise.{Call, IsRefused, GoesOn, Keeps, call_of, BenchAnswer, BenchKeeps, lines_of, first_status, GangKeeps}
 use Rattle.promise.proofs.ClassLemmas.{IsDamagedSo, IsNoJobSo, AreBytes, never_damaged, something}
 use Rattle.promise.proofs.CarryLemmas.{job_of, says}
 
@@ -75,11 +75,11 @@ module _ (status : ℕ) (s t : BenchState) (keeps : KeepsOn status s t) where
       (something s.file bytes))
       (cases_eq status 0)
 
--- ---- one target
+-- ---- one bench
 
--- the target of this number, which is done, or isn't for this reason
-abbrev target_of : ℕ → Option Refusal → Target
-target_of number why = record { status = status_before why 0; line = target_line number why }
+-- what is answered for the bench of this number, which is done, or isn't for this reason
+abbrev answer_of : ℕ → Option Refusal → BenchAnswer
+answer_of number why = record { status = status_before why 0; line = target_line number why }
 
 no_status : (why : Option Refusal) → why ≡ None → status_before why 0 ≡ 0
 no_status why is = ap (λ (r : Option Refusal). status_before r 0) is
@@ -88,9 +88,9 @@ no_reason : (why : Option Refusal) → status_before why 0 ≡ 0 → why ≡ Non
 no_reason None is = refl
 no_reason (Some r) is = absurd (omega (arith, some_status r, is))
 
-target_keeps : (s t : BenchState) (number : ℕ) (why : Option Refusal) → IsOfGang why → AreBytes s.file → KeepsOn (status_before why 0) s t
-    → (status_before why 0 ≡ 0 → HasFinished s t) → TargetKeeps s t number (target_of number why)
-target_keeps s t number why of bytes keeps finished = record {
+bench_keeps : (s t : BenchState) (number : ℕ) (why : Option Refusal) → IsOfGang why → AreBytes s.file → KeepsOn (status_before why 0) s t
+    → (status_before why 0 ≡ 0 → HasFinished s t) → BenchKeeps s t number (answer_of number why)
+bench_keeps s t number why of bytes keeps finished = record {
   keeps = resumes (status_before why 0) s t keeps finished bytes;
   said = said_of why;
   line_is = line_is number why;
@@ -103,33 +103,33 @@ target_keeps s t number why of bytes keeps finished = record {
 
 -- ---- all of them, counted from a number on
 
-abbrev targets_from : ℕ → List (Option Refusal) → List Target
-targets_from number [] = []
-targets_from number (why ∷ rest) = target_of number why ∷ targets_from (number + 1) rest
+abbrev answers_from : ℕ → List (Option Refusal) → List BenchAnswer
+answers_from number [] = []
+answers_from number (why ∷ rest) = answer_of number why ∷ answers_from (number + 1) rest
 
-as_many : (number : ℕ) (reasons : List (Option Refusal)) → length (targets_from number reasons) ≡ length reasons
+as_many : (number : ℕ) (reasons : List (Option Refusal)) → length (answers_from number reasons) ≡ length reasons
 as_many number [] = refl
 as_many number (why ∷ rest) = omega (arith, as_many (number + 1) rest)
 
-target_at : (number place : ℕ) (reasons : List (Option Refusal)) (i : ℕ) (t : Target) (r : Option Refusal) → place ≡ number + i → i < length reasons
-    → get_or (targets_from number reasons) i t ≡ target_of place (get_or reasons i r)
-target_at number place [] i t r is less = absurd (omega (arith, less))
-target_at number place (why ∷ rest) zero t r is less = let same : number ≡ place = omega (arith, is) in ap (λ (n : ℕ). target_of n why) same
-target_at number place (why ∷ rest) (suc i) t r is less = target_at (number + 1) place rest i t r (omega (arith, is)) (omega (arith, less))
+answer_at : (number place : ℕ) (reasons : List (Option Refusal)) (i : ℕ) (t : BenchAnswer) (r : Option Refusal) → place ≡ number + i → i < length reasons
+    → get_or (answers_from number reasons) i t ≡ answer_of place (get_or reasons i r)
+answer_at number place [] i t r is less = absurd (omega (arith, less))
+answer_at number place (why ∷ rest) zero t r is less = let same : number ≡ place = omega (arith, is) in ap (λ (n : ℕ). answer_of n why) same
+answer_at number place (why ∷ rest) (suc i) t r is less = answer_at (number + 1) place rest i t r (omega (arith, is)) (omega (arith, less))
 
-same_lines : (number : ℕ) (ends : List Outcome) → lines_of (targets_from number (map reason ends)) ≡ lines_from number ends
+same_lines : (number : ℕ) (ends : List Outcome) → lines_of (answers_from number (map reason ends)) ≡ lines_from number ends
 same_lines number [] = refl
 same_lines number (x ∷ rest) = ap (λ (l : List ℕ). target_line number (reason x) ++ l) (same_lines (number + 1) rest)
 
-first_of : (number : ℕ) (why : Option Refusal) (targets : List Target) (rest : ℕ) → first_status targets ≡ rest
-    → first_status (target_of number why ∷ targets) ≡ status_before why rest
-first_of number None targets rest is = is
-first_of number (Some r) targets rest is =
-    ap (λ (b : Bool). cond b (first_status targets) (status_of r)) (ne_eqb (status_of r) 0 (λ none. omega (arith, some_status r, none)))
+first_of : (number : ℕ) (why : Option Refusal) (answers : List BenchAnswer) (rest : ℕ) → first_status answers ≡ rest
+    → first_status (answer_of number why ∷ answers) ≡ status_before why rest
+first_of number None answers rest is = is
+first_of number (Some r) answers rest is =
+    ap (λ (b : Bool). cond b (first_status answers) (status_of r)) (ne_eqb (status_of r) 0 (λ none. omega (arith, some_status r, none)))
 
-same_status : (number : ℕ) (ends : List Outcome) → first_status (targets_from number (map reason ends)) ≡ status_in ends
+same_status : (number : ℕ) (ends : List Outcome) → first_status (answers_from number (map reason ends)) ≡ status_in ends
 same_status number [] = refl
-same_status number (x ∷ rest) = first_of number (reason x) (targets_from (number + 1) (map reason rest)) (status_in rest) (same_status (number + 1) rest)
+same_status number (x ∷ rest) = first_of number (reason x) (answers_from (number + 1) (map reason rest)) (status_in rest) (same_status (number + 1) rest)
 
 -- a beginning that the output took, where it tells what it took
 record IsPart (tells : Bool) (text before after : List ℕ) : Type 0 where
@@ -158,7 +158,7 @@ module _ {B : Type 0} (G : Ghosts B) (told : IsTrue G.tells) (bytes : (b : B) �
       let reasons : List (Option Refusal) = map (λ (b : B). Some r) benches in
       let long : length reasons ≡ length benches = length-map benches (λ (b : B). Some r) in
       record {
-        targets = targets_from 1 reasons;
+        answers = answers_from 1 reasons;
         count = as_many 1 reasons ∙ long;
         each = λ i b t less.
             let s = G.state (get_or benches i b) in
@@ -166,9 +166,9 @@ module _ {B : Type 0} (G : Ghosts B) (told : IsTrue G.tells) (bytes : (b : B) �
             let why : get_or reasons i None ≡ Some r = get_or-map (λ (b : B). Some r) benches i b None less in
             let keeps : KeepsOn (status_of r) s (G.state (get_or after i b)) =
             subst (λ (n : ℕ). KeepsOn n s (G.state (get_or after i b))) is (keep i b less) in
-            subst (λ (x : Target). TargetKeeps s (G.state (get_or after i b)) (i + 1) x)
-            (sym (target_at 1 (i + 1) reasons i t None (omega arith) within ∙ ap (λ (w : Option Refusal). target_of (i + 1) w) why))
-            (target_keeps s (G.state (get_or after i b)) (i + 1) (Some r) of (bytes (get_or benches i b)) keeps
+            subst (λ (x : BenchAnswer). BenchKeeps s (G.state (get_or after i b)) (i + 1) x)
+            (sym (answer_at 1 (i + 1) reasons i t None (omega arith) within ∙ ap (λ (w : Option Refusal). answer_of (i + 1) w) why))
+            (bench_keeps s (G.state (get_or after i b)) (i + 1) (Some r) of (bytes (get_or benches i b)) keeps
             (λ zero. absurd (omega (arith, some_status r, zero))));
         said = [];
         says = inr (inr (which, refl));
@@ -182,9 +182,9 @@ module _ {B : Type 0} (G : Ghosts B) (told : IsTrue G.tells) (bytes : (b : B) �
     long : length reasons ≡ length have.ends
     long = length-map have.ends reason
 
-    each_target : (i : ℕ) (b : B) (t : Target) → i < length benches
-        → TargetKeeps (G.state (get_or benches i b)) (G.state (get_or after i b)) (i + 1) (get_or (targets_from 1 reasons) i t)
-    each_target i b t less =
+    each_answer : (i : ℕ) (b : B) (t : BenchAnswer) → i < length benches
+        → BenchKeeps (G.state (get_or benches i b)) (G.state (get_or after i b)) (i + 1) (get_or (answers_from 1 reasons) i t)
+    each_answer i b t less =
         let none : Outcome = record { end = ended.StoreFault; regions = None } in
         let s = G.state (get_or benches i b) in
         let now = G.state (get_or after i b) in
@@ -193,21 +193,21 @@ module _ {B : Type 0} (G : Ghosts B) (told : IsTrue G.tells) (bytes : (b : B) �
         let inside : i < length have.ends = omega (arith, less, have.each) in
         let within : i < length reasons = omega (arith, inside, long) in
         let why : get_or reasons i None ≡ reason x = get_or-map reason have.ends i none None inside in
-        subst (λ (y : Target). TargetKeeps s now (i + 1) y)
-        (sym (target_at 1 (i + 1) reasons i t None (omega arith) within ∙ ap (λ (w : Option Refusal). target_of (i + 1) w) why))
-        (target_keeps s now (i + 1) (reason x) (its_reason x) (bytes (get_or benches i b))
+        subst (λ (y : BenchAnswer). BenchKeeps s now (i + 1) y)
+        (sym (answer_at 1 (i + 1) reasons i t None (omega arith) within ∙ ap (λ (w : Option Refusal). answer_of (i + 1) w) why))
+        (bench_keeps s now (i + 1) (reason x) (its_reason x) (bytes (get_or benches i b))
         (keeps_by G (status_before (reason x) 0) s x now x.end refl comes (done_alone x))
         (λ zero. finished_by G s x now comes (done_alone x zero)))
 
-    count_is : length (targets_from 1 reasons) ≡ length benches
+    count_is : length (answers_from 1 reasons) ≡ length benches
     count_is = as_many 1 reasons ∙ long ∙ have.each
 
     ended_call : Kept
     ended_call = ⊎_elim
         (λ whole. record {
-          targets = targets_from 1 reasons;
+          answers = answers_from 1 reasons;
           count = count_is;
-          each = each_target;
+          each = each_answer;
           said = lines_from 1 have.ends;
           says = inl (whole.1 ∙ sym (same_status 1 have.ends), sym (same_lines 1 have.ends));
           output = λ tells. whole.0.taken tells;
@@ -215,9 +215,9 @@ module _ {B : Type 0} (G : Ghosts B) (told : IsTrue G.tells) (bytes : (b : B) �
         (λ part.
         let it = part_of out.tells (lines_from 1 have.ends) out.before.taken out.after.taken part.0.taken in
         record {
-          targets = targets_from 1 reasons;
+          answers = answers_from 1 reasons;
           count = count_is;
-          each = each_target;
+          each = each_answer;
           said = it.said;
           says = inr (inl (it.rest, part.1.0, same_lines 1 have.ends ∙ it.is));
           output = it.output;

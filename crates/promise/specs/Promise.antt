@@ -80,42 +80,42 @@ call_of under old new input_faults output_faults status =
 
 -- ---- several benches
 
--- A target is one of several benches, by its number: the status that the call has for it alone, and the line that says what came of it.
-pub record Target : Type 0 where
+-- What a call for several benches answers for one of them: the status that it has for it alone, and the line that says what came of it.
+pub record BenchAnswer : Type 0 where
   pub status : ℕ
   pub line : List ℕ
 
--- For this bench alone the call is one of `resume`, which takes no inputs, with the target's status. The line is one line, begins with the
--- target's number, and is the one that says done exactly where that status is 0.
-pub record TargetKeeps (old new : BenchState) (number : ℕ) (target : Target) : Type 0 where
-  pub keeps : Keeps resume (call_of (λ name. None) old new (0, 0) (0, 0) target.status)
+-- For this bench alone the call is one of `resume`, which takes no inputs, with the status of its answer. The line is one line, begins with
+-- the bench's number, and is the one that says done exactly where that status is 0.
+pub record BenchKeeps (old new : BenchState) (number : ℕ) (answer : BenchAnswer) : Type 0 where
+  pub keeps : Keeps resume (call_of (λ name. None) old new (0, 0) (0, 0) answer.status)
   pub said : List ℕ
-  pub line_is : target.line ≡ target_head number ++ (said ++ codes "\n")
+  pub line_is : answer.line ≡ target_head number ++ (said ++ codes "\n")
   pub one_line : All (λ (byte : ℕ). byte ≢ 10) said
-  pub done : (target.line ≡ done_line number) ↔ (target.status ≡ 0)
+  pub done : (answer.line ≡ done_line number) ↔ (answer.status ≡ 0)
 
 -- the lines, one after the other
-abbrev pub lines_of : List Target → List ℕ
-lines_of targets = flat_map (λ (target : Target). target.line) targets
+abbrev pub lines_of : List BenchAnswer → List ℕ
+lines_of answers = flat_map (λ (answer : BenchAnswer). answer.line) answers
 
 -- the first status that isn't 0, and 0 where each is
-abbrev pub first_status : List Target → ℕ
+abbrev pub first_status : List BenchAnswer → ℕ
 first_status [] = 0
-first_status (target ∷ rest) = if target.status == 0 then first_status rest else target.status
+first_status (answer ∷ rest) = if answer.status == 0 then first_status rest else answer.status
 
 -- A call answers the first status that isn't 0, and says all lines; or it answers 10, where the output failed, and says a beginning of them;
 -- or it answers 1, for want of memory, or 2, by its words, and says nothing.
-abbrev pub SaysLines : List Target → ℕ → List ℕ → Type 0
-SaysLines targets status said = ((status ≡ first_status targets) × (said ≡ lines_of targets))
-    ⊎ (((rest : List ℕ) × (status ≡ 10) × (lines_of targets ≡ said ++ rest))
+abbrev pub SaysLines : List BenchAnswer → ℕ → List ℕ → Type 0
+SaysLines answers status said = ((status ≡ first_status answers) × (said ≡ lines_of answers))
+    ⊎ (((rest : List ℕ) × (status ≡ 10) × (lines_of answers ≡ said ++ rest))
     ⊎ (((status ≡ 1) ⊎ (status ≡ 2)) × (said ≡ [])))
 
--- What a call for several benches promises, of what stands on the output before and after it. Targets are counted from 1.
+-- What a call for several benches promises, of what stands on the output before and after it. Benches are counted from 1.
 pub record GangKeeps {B : Type 0} (G : Ghosts B) (benches benches' : List B) (tells : Bool) (before after : List ℕ) (status : ℕ) : Type 0 where
-  pub targets : List Target
-  pub count : length targets ≡ length benches
-  pub each : (i : ℕ) (b : B) (t : Target) → i < length benches
-      → TargetKeeps (G.state (get_or benches i b)) (G.state (get_or benches' i b)) (i + 1) (get_or targets i t)
+  pub answers : List BenchAnswer
+  pub count : length answers ≡ length benches
+  pub each : (i : ℕ) (b : B) (a : BenchAnswer) → i < length benches
+      → BenchKeeps (G.state (get_or benches i b)) (G.state (get_or benches' i b)) (i + 1) (get_or answers i a)
   pub said : List ℕ
-  pub says : SaysLines targets status said
+  pub says : SaysLines answers status said
   pub output : IsTrue tells → after ≡ before ++ said

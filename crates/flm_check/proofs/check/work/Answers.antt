@@ -14,35 +14,35 @@ use Rattle.command_answers.specs.Call.{sink_call}
 use Rattle.duty_rounds.specs.Verdicts.{AreFit, IsTrueOf}
 use Rattle.flm_check.specs.Endings.{first_line}
 use Rattle.flm_check.specs.Requested.{asked_of}
-use Rattle.flm_check.specs.Target.{flms_in}
-use Rattle.flm_check.proofs.TargetLemmas.{are_fit}
+use Rattle.flm_check.specs.BoardAlgorithms.{flms_in}
+use Rattle.flm_check.proofs.BoardAlgorithmsLemmas.{are_fit}
 use Rattle.flm_check.proofs.EndLemmas.{claims_of, inside, works_cut, works_done, works_unfit, works_untaken, works_without_memory}
 use Rattle.flm_check.proofs.check.work.Goals as goal
 
-pub take_target-requires-clause-has_flm : goal.take_target-requires-clause-has_flm
-take_target-requires-clause-has_flm g c = c.in-Some.ensures.some.has_flm
+pub take_board_algorithms-requires-clause-has_flm : goal.take_board_algorithms-requires-clause-has_flm
+take_board_algorithms-requires-clause-has_flm g c = c.in-Some.ensures.some.has_flm
 
-pub take_target-requires-clause-may_take : goal.take_target-requires-clause-may_take
-take_target-requires-clause-may_take g c = c.requires (asked_of c.in-Some.request) c.in-Some.ensures.some
+pub take_board_algorithms-requires-clause-may_take : goal.take_board_algorithms-requires-clause-may_take
+take_board_algorithms-requires-clause-may_take g c = c.requires (asked_of c.in-Some.request) c.in-Some.ensures.some
 
 pub judge-requires : goal.judge-requires
 judge-requires g c =
-    let given = c.in_ok-target.ensures.given in
-    let b = board.shown c.in_ok-target.target.board in
+    let given = c.in_ok-checked.ensures.given in
+    let b = board.shown c.in_ok-checked.checked.board in
     subst (λ (l : List Algorithm). AreFit b (map flm.shown l)) (sym c.as_slice.ensures.value)
-    (are_fit b (flms_in given.files) (map flm.shown c.in_ok-target.target.algorithms.items) given.holds.are_for)
+    (are_fit b (flms_in given.files) (map flm.shown c.in_ok-checked.checked.algorithms.items) given.holds.are_for)
 
 pub answer_of-requires-clause-fit : goal.answer_of-requires-clause-fit
 answer_of-requires-clause-fit g c =
-    let given = c.in_ok-target.ensures.given in
-    are_fit (board.shown c.in_ok-target.target.board) (flms_in given.files) (map flm.shown c.in_ok-target.target.algorithms.items) given.holds.are_for
+    let given = c.in_ok-checked.ensures.given in
+    are_fit (board.shown c.in_ok-checked.checked.board) (flms_in given.files) (map flm.shown c.in_ok-checked.checked.algorithms.items) given.holds.are_for
 
 pub answer_of-requires-clause-inside : goal.answer_of-requires-clause-inside
 answer_of-requires-clause-inside g c =
-    let items = c.in_ok-target.target.algorithms.items in
-    let b = board.shown c.in_ok-target.target.board in
-    inside b (map flm.shown items) (vec_len c.in_ok-target.target.algorithms) c.in_ok-report.report.verdict
-    (λ k a is. omega (arith, slice_get_within (map flm.shown items) k a is, length-map items flm.shown, c.in_ok-target.target.algorithms.ok.0))
+    let items = c.in_ok-checked.checked.algorithms.items in
+    let b = board.shown c.in_ok-checked.checked.board in
+    inside b (map flm.shown items) (vec_len c.in_ok-checked.checked.algorithms) c.in_ok-report.report.verdict
+    (λ k a is. omega (arith, slice_get_within (map flm.shown items) k a is, length-map items flm.shown, c.in_ok-checked.checked.algorithms.ok.0))
     (subst (λ (l : List Algorithm). IsTrueOf b (map flm.shown l) c.in_ok-report.report.verdict) c.as_slice.ensures.value c.in_ok-report.ensures.says)
 
 pub returns-in_default : goal.returns-in_default
@@ -50,45 +50,45 @@ returns-in_default g c =
     works_unfit c.args.words.now (inputs_call g.I.Inputs.tells (g.I.Inputs.state c.args.inputs.now) (g.I.Inputs.state c.args.inputs.now)) g.O.Sink.tells
     (g.O.Sink.state c.args.out.now) _ refl c.in_default.ensures.none (none_failed_here g.I.Inputs.tells (g.I.Inputs.state c.args.inputs.now))
 
-pub returns-in_err-target : goal.returns-in_err-target
-returns-in_err-target g c =
+pub returns-in_err-checked : goal.returns-in_err-checked
+returns-in_err-checked g c =
     let u = c.from_residual.ensures in
-    let is : c.from_residual.result ≡ Err c.in_err-target.field-0.0 = search rules in
-    rw is (works_untaken c.args.words.now (inputs_call g.I.Inputs.tells (g.I.Inputs.state c.args.inputs.now) (g.I.Inputs.state c.take_target.new.inputs))
-    g.O.Sink.tells
-    (g.O.Sink.state c.args.out.now) (asked_of c.in-Some.request) c.in_err-target.field-0.0 c.in-Some.ensures.some c.in_err-target.ensures)
+    let is : c.from_residual.result ≡ Err c.in_err-checked.field-0.0 = search rules in
+    rw is (works_untaken c.args.words.now (inputs_call g.I.Inputs.tells (g.I.Inputs.state c.args.inputs.now)
+    (g.I.Inputs.state c.take_board_algorithms.new.inputs))
+    g.O.Sink.tells (g.O.Sink.state c.args.out.now) (asked_of c.in-Some.request) c.in_err-checked.field-0.0 c.in-Some.ensures.some c.in_err-checked.ensures)
 
 pub returns-in_err-report : goal.returns-in_err-report
 returns-in_err-report g c =
     let p = err_from_is_err_and c.from_residual-in_err-report.result c.from_residual-in_err-report.ensures.1 in
     rw p.1 (works_without_memory c.args.words.now (inputs_call g.I.Inputs.tells (g.I.Inputs.state c.args.inputs.now)
-    (g.I.Inputs.state c.take_target.new.inputs))
-    g.O.Sink.tells (g.O.Sink.state c.args.out.now) p.0 (ap shown p.2) c.in_ok-target.ensures.none_failed)
+    (g.I.Inputs.state c.take_board_algorithms.new.inputs))
+    g.O.Sink.tells (g.O.Sink.state c.args.out.now) p.0 (ap shown p.2) c.in_ok-checked.ensures.none_failed)
 
 pub returns-in_err-answer : goal.returns-in_err-answer
 returns-in_err-answer g c =
     let p = err_from_is_err_and c.from_residual-in_err-answer.result c.from_residual-in_err-answer.ensures.1 in
     rw p.1 (works_without_memory c.args.words.now (inputs_call g.I.Inputs.tells (g.I.Inputs.state c.args.inputs.now)
-    (g.I.Inputs.state c.take_target.new.inputs))
-    g.O.Sink.tells (g.O.Sink.state c.args.out.now) p.0 (ap shown p.2) c.in_ok-target.ensures.none_failed)
+    (g.I.Inputs.state c.take_board_algorithms.new.inputs))
+    g.O.Sink.tells (g.O.Sink.state c.args.out.now) p.0 (ap shown p.2) c.in_ok-checked.ensures.none_failed)
 
 pub returns-in_err-put : goal.returns-in_err-put
 returns-in_err-put g c =
     let puts = c.in_err-put.ensures in
     let p = err_from_is_err_and c.from_residual-in_err-put.result c.from_residual-in_err-put.ensures.1 in
-    rw p.1 (works_cut c.args.words.now (inputs_call g.I.Inputs.tells (g.I.Inputs.state c.args.inputs.now) (g.I.Inputs.state c.take_target.new.inputs))
+    rw p.1 (works_cut c.args.words.now (inputs_call g.I.Inputs.tells (g.I.Inputs.state c.args.inputs.now) (g.I.Inputs.state c.take_board_algorithms.new.inputs))
     (sink_call g.O.Sink.tells (g.O.Sink.state c.args.out.now) (g.O.Sink.state c.put.new.out)) p.0
     (first_line c.in_ok-answer.answer.ending ++ c.as_bytes.result.now)
-    (ap shown p.2) c.in_ok-target.ensures.none_failed (record { taken = puts.err; later = puts.cause.later; rose = puts.cause.on_fault refl }))
+    (ap shown p.2) c.in_ok-checked.ensures.none_failed (record { taken = puts.err; later = puts.cause.later; rose = puts.cause.on_fault refl }))
 
 pub returns : goal.returns
 returns g c =
-    let b = board.shown c.in_ok-target.target.board in
-    let items = c.in_ok-target.target.algorithms.items in
+    let b = board.shown c.in_ok-checked.checked.board in
+    let items = c.in_ok-checked.checked.algorithms.items in
     let v = c.in_ok-report.report.verdict in
-    let took = c.in_ok-target.ensures in
+    let took = c.in_ok-checked.ensures in
     let puts = c.in_ok-put.ensures in
-    works_done c.args.words.now (inputs_call g.I.Inputs.tells (g.I.Inputs.state c.args.inputs.now) (g.I.Inputs.state c.take_target.new.inputs))
+    works_done c.args.words.now (inputs_call g.I.Inputs.tells (g.I.Inputs.state c.args.inputs.now) (g.I.Inputs.state c.take_board_algorithms.new.inputs))
     (sink_call g.O.Sink.tells (g.O.Sink.state c.args.out.now) (g.O.Sink.state c.put.new.out)) (asked_of c.in-Some.request) c.in_ok-answer.answer.ending
     c.as_bytes.result.now
     c.in-Some.ensures.some

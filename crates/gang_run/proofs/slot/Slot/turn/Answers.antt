@@ -5,15 +5,15 @@ use Rattle.gang_run.proofs.slot.Slot.turn.Goals as goal
 
 pub returns-in-More-clause-turns : goal.returns-in-More-clause-turns
 returns-in-More-clause-turns g c =
-    slot_went g.B.Bench c.args.self.now c.in-Target.target (record c.in-Target.target { player = c.turn.new.self }) c.state.result c.args.arena.now
+    slot_went g.B.Bench c.args.self.now c.in-Open.target (record c.in-Open.target { player = c.turn.new.self }) c.state.result c.args.arena.now
     c.turn.new.arena c.args.bench.now c.turn.new.bench
-    c.in-Target.is c.state.ensures c.in-More.is refl c.turn.ensures.turns
+    c.in-Open.is c.state.ensures c.in-More.is refl c.turn.ensures.turns
 
 pub returns-in-More-clause-one : goal.returns-in-More-clause-one
-returns-in-More-clause-one g c = slot_took g.B.Bench.tells c.args.steps c.args.self.now c.in-Target.target
-    (record c.in-Target.target { player = c.turn.new.self }) c.args.arena.now c.turn.new.arena (g.B.Bench.state c.args.bench.now)
-    (g.B.Bench.state c.turn.new.bench) c.in-Target.is c.turn.ensures.one c.turn.ensures.slice
+returns-in-More-clause-one g c = slot_took g.B.Bench.tells c.args.steps c.args.self.now c.in-Open.target
+    (record c.in-Open.target { player = c.turn.new.self }) c.args.arena.now c.turn.new.arena (g.B.Bench.state c.args.bench.now)
+    (g.B.Bench.state c.turn.new.bench) c.in-Open.is c.turn.ensures.one c.turn.ensures.slice
 
 pub returns-in-Ended-clause-one : goal.returns-in-Ended-clause-one
-returns-in-Ended-clause-one g c = slot_rests g.B.Bench.tells c.args.steps c.args.self.now _ c.in-Target.target c.state.result _ _ _ _ c.in-Target.is
+returns-in-Ended-clause-one g c = slot_rests g.B.Bench.tells c.args.steps c.args.self.now _ c.in-Open.target c.state.result _ _ _ _ c.in-Open.is
     c.state.ensures c.in-Ended.is

@@ -1,14 +1,14 @@
--- `take_target`: its contract, `TakesTarget`, and what `read_target` asks for.
+-- `take_board_algorithms`: its contract, `TakesBoardAlgorithms`, and what `read_board_algorithms` asks for.
 use Rattle.std.proofs.Common.{rules, ◌≡◌, inl, Err}
 use Rattle.command_words.specs.Requested.{files_of}
 use Rattle.command_files.specs.Inputs.{inputs_call}
 use Rattle.command_files.specs.Steps.{bytes_of}
 use Rattle.command_files.proofs.TargetFilesLemmas.{has_file}
-use Rattle.flm_check.proofs.TargetLemmas.{takes_read}
-use Rattle.flm_check.proofs.take.take_target.Goals as goal
+use Rattle.flm_check.proofs.BoardAlgorithmsLemmas.{takes_read}
+use Rattle.flm_check.proofs.take.take_board_algorithms.Goals as goal
 
-pub read_target-requires : goal.read_target-requires
-read_target-requires g c =
+pub read_board_algorithms-requires : goal.read_board_algorithms-requires
+read_board_algorithms-requires g c =
     has_file (inputs_call g.I.Inputs.tells (g.I.Inputs.state c.args.inputs.now) (g.I.Inputs.state c.take_files.new.inputs)) (files_of c.args.names.now)
     (bytes_of c.in_ok-files.files) c.requires.has_flm c.in_ok-files.ensures.takes.0
 
@@ -21,4 +21,4 @@ returns-in_err-files g c =
 pub returns : goal.returns
 returns g c =
     takes_read (inputs_call g.I.Inputs.tells (g.I.Inputs.state c.args.inputs.now) (g.I.Inputs.state c.take_files.new.inputs)) (files_of c.args.names.now)
-    (bytes_of c.in_ok-files.files) c.read_target.result c.read_target.ensures c.in_ok-files.ensures.takes.0 c.in_ok-files.ensures.takes.1
+    (bytes_of c.in_ok-files.files) c.read_board_algorithms.result c.read_board_algorithms.ensures c.in_ok-files.ensures.takes.0 c.in_ok-files.ensures.takes.1

@@ -1,4 +1,4 @@
--- `read_target`: its contract, `ReadsTarget`, and what `read_algorithms` asks for.
+-- `read_board_algorithms`: its contract, `ReadsBoardAlgorithms`, and what `read_algorithms` asks for.
 use Rattle.std.proofs.Common.{rules, ◌≡◌, ◌++◌, ap, subst, arith, ℕ, List, length, map, option_to_list, Err}
 use Rattle.board_file.specs.Shown as board
 use Rattle.board_file.specs.Text.{IsBoard}
@@ -6,8 +6,8 @@ use Rattle.flm_descriptor.specs.Shown as flm
 use Rattle.report_text.specs.Shown.{shown}
 use Rattle.command_files.specs.Files.{AreFor}
 use Rattle.command_files.specs.Steps.{bytes_of, IsBoardRefusal, AreFlmRefusal}
-use Rattle.flm_check.proofs.TargetLemmas.{board_refusal, count_of, flms_refusal, others_count}
-use Rattle.flm_check.proofs.take.read_target.Goals as goal
+use Rattle.flm_check.proofs.BoardAlgorithmsLemmas.{board_refusal, count_of, flms_refusal, others_count}
+use Rattle.flm_check.proofs.take.read_board_algorithms.Goals as goal
 
 pub read_algorithms-requires : goal.read_algorithms-requires
 read_algorithms-requires c =

@@ -18,7 +18,7 @@ pub record IsBoardFor (files : FilesGiven) (b : board.Shown) : Type 0 where
   pub each : length (flms_in files) ≡ length b.regions
 
 -- each says an algorithm, which is one for its region
-pub record IsTarget (files : FilesGiven) (b : board.Shown) (algorithms : List flm.Shown) : Type 0 where
+pub record AreBoardAlgorithms (files : FilesGiven) (b : board.Shown) (algorithms : List flm.Shown) : Type 0 where
   pub board_for : IsBoardFor files b
   pub are_for : AreFor b b.regions (flms_in files) algorithms
 

@@ -12,9 +12,9 @@ use Rattle.command_files.specs.Files.{others_of, IsForBoard, AreFor}
 use Rattle.command_files.specs.Steps.{IsBoardRefusal, AreFlmRefusal}
 use Rattle.command_files.proofs.WantedLemmas.{not_of_flm}
 use Rattle.duty_rounds.specs.Verdicts.{AreFit}
-use Rattle.flm_check.specs.Target.{flms_in, IsBoardFor}
-use Rattle.flm_check.specs.Steps.{IsTargetRefusal, ReadsTarget, TakesTarget}
-use Rattle.flm_check.specs.declared.target.Target.{Target}
+use Rattle.flm_check.specs.BoardAlgorithms.{flms_in, IsBoardFor}
+use Rattle.flm_check.specs.Steps.{IsReadRefusal, ReadsBoardAlgorithms, TakesBoardAlgorithms}
+use Rattle.flm_check.specs.declared.board_algorithms.BoardAlgorithms.{BoardAlgorithms}
 
 -- ---- algorithms for the regions of a board
 
@@ -51,12 +51,12 @@ count_of (Some f) images some = omega arith
 
 -- ---- refusals
 
-pub board_refusal : (files : FilesGiven) (r : Refusal) → IsBoardRefusal files.board r → IsTargetRefusal files r
+pub board_refusal : (files : FilesGiven) (r : Refusal) → IsBoardRefusal files.board r → IsReadRefusal files r
 board_refusal files out_of_memory is = tt
 board_refusal files (board_refused fault) is = is
 board_refusal files r is = absurd is
 
-pub flms_refusal : (files : FilesGiven) (b : board.Shown) (r : Refusal) → IsBoardFor files b → AreFlmRefusal b (flms_in files) r → IsTargetRefusal files r
+pub flms_refusal : (files : FilesGiven) (b : board.Shown) (r : Refusal) → IsBoardFor files b → AreFlmRefusal b (flms_in files) r → IsReadRefusal files r
 flms_refusal files b out_of_memory for is = tt
 flms_refusal files b (flm_refused fault) for is = record { board = b; board_for = for; are_not = is }
 flms_refusal files b (other_device base size) for is = record { board = b; board_for = for; are_not = is }
@@ -70,7 +70,7 @@ others_count (Some f) regions some = refl
 
 -- ---- taking the files, and reading them
 
-pub takes_read : (inputs : InputsCall) (asked : FilesAsked) (files : FilesGiven) (result : Result Target value.Refusal) → ReadsTarget files result
-    → AreFiles inputs asked files → NoneFailed inputs → TakesTarget inputs asked result
-takes_read inputs asked files (Ok target) reads are none = record { given = record { files = files; are_files = are; holds = reads }; none_failed = none }
+pub takes_read : (inputs : InputsCall) (asked : FilesAsked) (files : FilesGiven) (result : Result BoardAlgorithms value.Refusal)
+    → ReadsBoardAlgorithms files result → AreFiles inputs asked files → NoneFailed inputs → TakesBoardAlgorithms inputs asked result
+takes_read inputs asked files (Ok checked) reads are none = record { given = record { files = files; are_files = are; holds = reads }; none_failed = none }
 takes_read inputs asked files (Err e) reads are none = inr (record { given = record { files = files; are_files = are; holds = reads }; none_failed = none })
