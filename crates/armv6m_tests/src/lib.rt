@@ -1,4 +1,4 @@
-//! Tests of the Armv6-M crates: sums and shifts, the decoder, the encoder, statements, the assembler and single steps.
+//! Tests of the Armv6-M crates: the decoder, the encoder, statements, the assembler and single steps.
 #![tactic(auto)]
 
 #[cfg(test)]
@@ -11,5 +11,3 @@ mod encoding;
 mod statements;
 #[cfg(test)]
 mod steps;
-#[cfg(test)]
-mod sums;

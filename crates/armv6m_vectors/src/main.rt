@@ -1,6 +1,6 @@
 //! Compares the Armv6-M crates with what other tools and the manual say of the same code:
-//! `armv6m_vectors TABLE CODE STATEMENTS TEXT TEXT_CODE STEPS STEPS ENDS CONDITIONS COMPILED`, each a file. It prints a line for each
-//! comparison, and ends with an error at the first line that differs.
+//! `armv6m_vectors TABLE CODE STATEMENTS TEXT TEXT_CODE STEPS STEPS ENDS CONDITIONS COMPILED SUMS`, each a file. It prints a line for
+//! each comparison, and ends with an error at the first line that differs.
 #![tactic(auto)]
 
 mod code;
@@ -10,6 +10,7 @@ mod ends;
 mod row;
 mod statements;
 mod steps;
+mod sums;
 mod table;
 
 use anyhow::{Context, Result};
@@ -91,6 +92,14 @@ fn check_compiled(rt: &HostRuntime, names: &[String]) -> Result<()> {
     Ok(())
 }
 
+/// Compares the sums and the shifts.
+fn check_sums(rt: &HostRuntime, names: &[String]) -> Result<()> {
+    let text = text(rt, names, 10)?;
+    let sums = sums::check(text.as_str(), rt.alloc())?;
+    println!(rt; "{sums} sums and shifts worked out by hand")?;
+    Ok(())
+}
+
 /// Makes all comparisons with these files.
 fn check_all(rt: &HostRuntime, names: &[String]) -> Result<()> {
     check_table(rt, names)?;
@@ -101,7 +110,8 @@ fn check_all(rt: &HostRuntime, names: &[String]) -> Result<()> {
     check_steps(rt, names, 6, "worked out by hand")?;
     check_ends(rt, names)?;
     check_conditions(rt, names)?;
-    check_compiled(rt, names)
+    check_compiled(rt, names)?;
+    check_sums(rt, names)
 }
 
 fn main(rt: HostRuntime) -> Result<()> {

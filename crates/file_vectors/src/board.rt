@@ -1,7 +1,9 @@
 //! Questions about the texts of boards.
 
+use crate::piece::Piece::{Hex2, Hex8, Number, Text};
+use crate::piece::put;
 use anyhow::{Context, Result};
-use board_file::{Board, ControllerKind, QuietRange, Region, read_board};
+use board_file::{Board, ControllerKind, QuietRange, Region, SectorRun, read_board};
 use std::alloc::Global;
 
 /// Prints what a text says: the board's numbers, its regions and quiet ranges, or why it is refused.
@@ -17,46 +19,49 @@ fn put_answer(rt: &HostRuntime, text: &[u8]) -> Result<()> {
 
 /// Prints a board, and then the line's end.
 fn put_board(rt: &HostRuntime, board: &Board) -> Result<()> {
-    put_ram(rt, board)?;
-    put_controller(rt, board)?;
-    put_weights(rt, board)?;
+    put_numbers(rt, board)?;
     for region in board.regions.as_slice() {
         put_region(rt, region)?;
     }
     put_kind(rt, board.kind)?;
     put_quiet(rt, board.quiet.as_slice())?;
-    println!(rt;)?;
-    Ok(())
+    put(rt, &[Text("\n")])
 }
 
-/// Prints the RAM.
-fn put_ram(rt: &HostRuntime, board: &Board) -> Result<()> {
-    print!(rt; "ram {:08X} ", board.ram_base)?;
-    print!(rt; "{} {} ", board.ram_size, board.stack)?;
-    Ok(())
-}
-
-/// Prints the controller and the clock.
-fn put_controller(rt: &HostRuntime, board: &Board) -> Result<()> {
-    print!(rt; "controller {:08X} ", board.controller_base)?;
-    print!(rt; "{} {} ", board.program_ticks, board.erase_ticks)?;
-    print!(rt; "{} ", board.chip_ticks)?;
-    print!(rt; "clock {} {} ", board.hz, board.steps_per_ms)?;
-    Ok(())
-}
-
-/// Prints the weights.
-fn put_weights(rt: &HostRuntime, board: &Board) -> Result<()> {
-    print!(rt; "weights {} ", board.weights.sector)?;
-    print!(rt; "{} {}", board.weights.page, board.weights.chip)?;
-    Ok(())
+/// Prints the RAM, the controller, the clock and the weights.
+fn put_numbers(rt: &HostRuntime, board: &Board) -> Result<()> {
+    let pieces = [
+        Hex8("ram ", board.ram_base),
+        Number(" ", board.ram_size),
+        Number(" ", board.stack),
+        Hex8(" controller ", board.controller_base),
+        Number(" ", board.program_ticks),
+        Number(" ", board.erase_ticks),
+        Number(" ", board.chip_ticks),
+        Number(" clock ", board.hz),
+        Number(" ", board.steps_per_ms),
+        Number(" weights ", board.weights.sector),
+        Number(" ", board.weights.page),
+        Number(" ", board.weights.chip),
+    ];
+    put(rt, &pieces)
 }
 
 /// Prints a region.
 fn put_region(rt: &HostRuntime, region: &Region) -> Result<()> {
-    print!(rt; " region {:08X} {} ", region.base, region.size)?;
-    print!(rt; "{:02X} {}", region.empty, region.unit)?;
-    for run in region.sectors.as_slice() {
+    let pieces = [
+        Hex8(" region ", region.base),
+        Number(" ", region.size),
+        Hex2(" ", region.empty),
+        Number(" ", region.unit),
+    ];
+    put(rt, &pieces)?;
+    put_runs(rt, region.sectors.as_slice())
+}
+
+/// Prints runs of sectors.
+fn put_runs(rt: &HostRuntime, runs: &[SectorRun]) -> Result<()> {
+    for run in runs {
         print!(rt; " {}x{}", run.count, run.size)?;
     }
     Ok(())

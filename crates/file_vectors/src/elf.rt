@@ -1,5 +1,7 @@
 //! Questions about ELF files.
 
+use crate::piece::Piece::{Hex5, Hex6, Hex8, Number, Text};
+use crate::piece::put;
 use anyhow::{Result, bail};
 use elf32::{Elf, ElfFault, Segment};
 
@@ -57,7 +59,7 @@ fn put_bytes(rt: &HostRuntime, bytes: &[u8]) -> Result<()> {
 }
 
 /// Prints bytes, or why there are none.
-fn put(rt: &HostRuntime, answer: Result<&[u8], ElfFault>) -> Result<()> {
+fn put_found(rt: &HostRuntime, answer: Result<&[u8], ElfFault>) -> Result<()> {
     match answer {
         Ok(bytes) => put_bytes(rt, bytes),
         Err(fault) => put_fault(rt, fault),
@@ -67,7 +69,7 @@ fn put(rt: &HostRuntime, answer: Result<&[u8], ElfFault>) -> Result<()> {
 /// Prints the bytes of a section.
 fn section_bytes(rt: &HostRuntime, elf: &Elf, name: &str, kind: u32) -> Result<()> {
     match elf.section(name.as_bytes(), kind) {
-        Some(found) => put(rt, elf.section_bytes(&found)),
+        Some(found) => put_found(rt, elf.section_bytes(&found)),
         None => {
             println!(rt; "none")?;
             Ok(())
@@ -92,14 +94,21 @@ fn segment(rt: &HostRuntime, elf: &Elf, index: usize) -> Result<()> {
         return Ok(());
     }
     put_segment(rt, &elf.segment(index))?;
-    put(rt, elf.segment_bytes(index))
+    put_found(rt, elf.segment_bytes(index))
 }
 
 /// Prints the fields of a program header.
 fn put_segment(rt: &HostRuntime, found: &Segment) -> Result<()> {
-    print!(rt; "type {} offset {:06X} ", found.kind, found.offset)?;
-    print!(rt; "addresses {:08X} {:08X} ", found.vaddr, found.paddr)?;
-    print!(rt; "sizes {:05X} {:05X} ", found.filesz, found.memsz)?;
-    print!(rt; "flags {} align {} ", found.flags, found.align)?;
-    Ok(())
+    let pieces = [
+        Number("type ", found.kind),
+        Hex6(" offset ", found.offset),
+        Hex8(" addresses ", found.vaddr),
+        Hex8(" ", found.paddr),
+        Hex5(" sizes ", found.filesz),
+        Hex5(" ", found.memsz),
+        Number(" flags ", found.flags),
+        Number(" align ", found.align),
+        Text(" "),
+    ];
+    put(rt, &pieces)
 }

@@ -1,5 +1,7 @@
 //! Questions about FLM files.
 
+use crate::piece::Piece::{Count, Hex2, Hex4, Hex8, Number, Place, Text};
+use crate::piece::put;
 use anyhow::Result;
 use flm_descriptor::{Algorithm, Device, Entries, read_flm};
 
@@ -30,38 +32,62 @@ fn put_algorithm(rt: &HostRuntime, algorithm: &Algorithm) -> Result<()> {
 
 /// Prints the parts of the code.
 fn put_code(rt: &HostRuntime, algorithm: &Algorithm) -> Result<()> {
-    print!(rt; "code {} ", algorithm.code.len())?;
-    print!(rt; "data {} ", algorithm.init_data.len())?;
-    print!(rt; "at {} zero {} ", algorithm.data_at, algorithm.zero_len)?;
-    print!(rt; "at {} ", algorithm.zero_at)?;
-    Ok(())
+    let pieces = [
+        Count("code ", algorithm.code.len()),
+        Count(" data ", algorithm.init_data.len()),
+        Number(" at ", algorithm.data_at),
+        Number(" zero ", algorithm.zero_len),
+        Number(" at ", algorithm.zero_at),
+    ];
+    put(rt, &pieces)
 }
 
 /// Prints the static base, and how many items and sectors there are.
 fn put_items(rt: &HostRuntime, algorithm: &Algorithm) -> Result<()> {
-    print!(rt; "base {} ", algorithm.static_base)?;
-    print!(rt; "items {} ", algorithm.items.as_slice().len())?;
-    print!(rt; "sectors {} ", algorithm.sector_count())?;
-    Ok(())
+    let pieces = [
+        Number(" base ", algorithm.static_base),
+        Count(" items ", algorithm.items.as_slice().len()),
+        Number(" sectors ", algorithm.sector_count()),
+    ];
+    put(rt, &pieces)
 }
 
 /// Prints the places of the functions.
 fn put_entries(rt: &HostRuntime, entries: &Entries) -> Result<()> {
-    print!(rt; "entries {} {} ", entries.init, entries.uninit)?;
-    print!(rt; "{} {} ", entries.erase_sector, entries.program_page)?;
-    print!(rt; "{:?} {:?} ", entries.erase_chip, entries.verify)?;
-    Ok(())
+    let pieces = [
+        Number(" entries ", entries.init),
+        Number(" ", entries.uninit),
+        Number(" ", entries.erase_sector),
+        Number(" ", entries.program_page),
+        Place(" ", entries.erase_chip),
+        Place(" ", entries.verify),
+        Text(" "),
+    ];
+    put(rt, &pieces)
 }
 
 /// Prints a device, and then the line's end.
 fn put_device(rt: &HostRuntime, device: &Device) -> Result<()> {
-    for byte in device.name.bytes() {
+    put_name(rt, device.name.bytes())?;
+    let pieces = [
+        Hex4(" ", device.vers),
+        Number(" ", u32::from(device.kind)),
+        Hex2(" ", device.empty),
+        Hex8(" ", device.base),
+        Number(" ", device.size),
+        Number(" ", device.page),
+        Number(" ", device.res),
+        Number(" ", device.to_prog),
+        Number(" ", device.to_erase),
+        Text("\n"),
+    ];
+    put(rt, &pieces)
+}
+
+/// Prints a device's name.
+fn put_name(rt: &HostRuntime, name: &[u8]) -> Result<()> {
+    for byte in name {
         print!(rt; "{}", *byte as char)?;
     }
-    print!(rt; " {:04X} {} ", device.vers, device.kind)?;
-    print!(rt; "{:02X} {:08X} ", device.empty, device.base)?;
-    print!(rt; "{} {} ", device.size, device.page)?;
-    print!(rt; "{} ", device.res)?;
-    println!(rt; "{} {}", device.to_prog, device.to_erase)?;
     Ok(())
 }

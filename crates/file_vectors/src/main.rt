@@ -1,16 +1,20 @@
 //! Answers questions about files: ELF files and an FLM file, as a compiler, a linker or a hand made them and with some bytes
 //! changed; boards with one key changed; and other texts of boards. It prints each question with its answer. Then it reads the image files
 //! of a list, which other tools wrote, and compares their bytes with the binary file that the same tools make of them. At last it goes
-//! through sweeps: every prefix of a file, every byte of it changed, large numbers in its fields. It counts their answers.
+//! through sweeps: every prefix of a file, every byte of it changed, large numbers in its fields. It counts their answers. Before all that it
+//! reads what is hard on the readers of ELF files and of images (`hard`).
 //!
-//! `file_vectors BINARY IMAGE..` compares these image files alone. The time that it takes is to be measured from outside.
+//! `file_vectors elf WORD..`, `file_vectors map WORD..` and `file_vectors symbols COUNT` do this alone, and `file_vectors BINARY IMAGE..`
+//! compares these image files alone. The time that each takes is to be measured from outside.
 #![tactic(auto)]
 
 mod board;
 mod digest;
 mod elf;
 mod flm;
+mod hard;
 mod images;
+mod piece;
 mod readers;
 mod sweeps;
 mod tally;
@@ -102,17 +106,9 @@ fn compare_images(rt: &HostRuntime) -> Result<()> {
     images::compare(rt, &names)
 }
 
-/// Compares the images of some words.
-fn compare(rt: &HostRuntime, words: &[String]) -> Result<()> {
-    let names = words
-        .iter()
-        .map(|word| word.as_str())
-        .collect::<Vec<&str>>(rt.alloc())?;
-    images::compare(rt, &names)
-}
-
 /// Answers all questions.
 fn answer_all(rt: &HostRuntime) -> Result<()> {
+    hard::read_some(rt)?;
     answer_questions(rt)?;
     answer_changes(rt)?;
     answer_texts(rt)?;
@@ -120,11 +116,20 @@ fn answer_all(rt: &HostRuntime) -> Result<()> {
     sweeps::go_through(rt)
 }
 
+/// Does what the words ask for.
+fn follow(rt: &HostRuntime, words: &[&str]) -> Result<()> {
+    match words {
+        [] => answer_all(rt),
+        ["elf" | "map" | "symbols", ..] => hard::read(rt, words),
+        names => images::compare(rt, names),
+    }
+}
+
 fn main(rt: HostRuntime) -> Result<()> {
     let words = env::args(&rt)?.skip(1).collect::<Vec<String>>(rt.alloc())?;
-    if words.is_empty() {
-        answer_all(&rt)
-    } else {
-        compare(&rt, &words)
-    }
+    let words = words
+        .iter()
+        .map(|word| word.as_str())
+        .collect::<Vec<&str>>(rt.alloc())?;
+    follow(&rt, &words)
 }

@@ -1,8 +1,8 @@
 //! Lays records of 16 bytes into a map, and reads or merges images, in orders that are hard on a table of runs:
-//! `reader_speed map WORD.. RECORDS`. The words: an order (`rising`, `falling`, `outward`, by turns at both ends, or
+//! `file_vectors map WORD.. RECORDS`. The words: an order (`rising`, `falling`, `outward`, by turns at both ends, or
 //! `shuffled`), `apart` (32 addresses a record, so that none touch), `merged` (each second record in a map of its own,
 //! and the two merged), `file` (the records as S-records, read as a file), `text` (the same with the first byte of each
-//! record alone). It prints the runs that come of it. `reader_speed map hostile` does some of each, shuffled records of a
+//! record alone). It prints the runs that come of it. `file_vectors map hostile` does some of each, shuffled records of a
 //! file among them, and what would be slow if a body moved more than it must.
 ghost use Rattle.std.specs.Prelude.{◌≤◌, length};
 

@@ -1,7 +1,7 @@
 //! Reads an ELF file of so many symbols, and looks for a symbol that isn't there as often as the reader of FLM files looks for one:
-//! `reader_speed symbols COUNT`. It prints how often it was found.
+//! `file_vectors symbols COUNT`. It prints how often it was found.
 
-use crate::elf::{BEGIN, HEADER_LEN, SECTION_LEN, push_words};
+use crate::hard::sections::{BEGIN, HEADER_LEN, SECTION_LEN, push_words};
 use anyhow::Result;
 use elf32::{Elf, Section};
 use std::alloc::{AllocError, Global};

@@ -1,7 +1,7 @@
-//! Reads an ELF file of 65,279 sections and looks for one by its name, as often as it is told: `reader_speed elf NAMES TIMES`, or
-//! `reader_speed elf colliding TIMES TABLE`. It prints the place of the section in the file's table.
+//! Reads an ELF file of 65,279 sections and looks for one by its name, as often as it is told: `file_vectors elf NAMES TIMES`, or
+//! `file_vectors elf colliding TIMES TABLE`. It prints the place of the section in the file's table.
 
-use crate::names::{Names, Table};
+use crate::hard::names::{Names, Table};
 use anyhow::{Result, bail};
 use elf32::{Elf, Section};
 use std::alloc::{AllocError, Global};

@@ -1,0 +1,41 @@
+//! Lines that are printed piece by piece.
+
+use anyhow::Result;
+
+/// A piece of a line: a text, or one with a number behind it. Numbers in hexadecimal digits have at least as many as the name says.
+#[derive(Clone, Copy)]
+pub enum Piece<'a> {
+    Text(&'a str),
+    Number(&'a str, u32),
+    Count(&'a str, usize),
+    Place(&'a str, Option<u32>),
+    Hex2(&'a str, u8),
+    Hex4(&'a str, u16),
+    Hex5(&'a str, u32),
+    Hex6(&'a str, u32),
+    Hex8(&'a str, u32),
+}
+
+/// Prints a piece.
+fn put_piece(rt: &HostRuntime, piece: &Piece) -> Result<()> {
+    match piece {
+        Piece::Text(text) => print!(rt; "{text}")?,
+        Piece::Number(text, number) => print!(rt; "{text}{number}")?,
+        Piece::Count(text, number) => print!(rt; "{text}{number}")?,
+        Piece::Place(text, place) => print!(rt; "{text}{place:?}")?,
+        Piece::Hex2(text, number) => print!(rt; "{text}{number:02X}")?,
+        Piece::Hex4(text, number) => print!(rt; "{text}{number:04X}")?,
+        Piece::Hex5(text, number) => print!(rt; "{text}{number:05X}")?,
+        Piece::Hex6(text, number) => print!(rt; "{text}{number:06X}")?,
+        Piece::Hex8(text, number) => print!(rt; "{text}{number:08X}")?,
+    }
+    Ok(())
+}
+
+/// Prints pieces one behind the other.
+pub fn put(rt: &HostRuntime, pieces: &[Piece]) -> Result<()> {
+    for piece in pieces {
+        put_piece(rt, piece)?;
+    }
+    Ok(())
+}
