@@ -97,7 +97,19 @@ last_narrow = (
                                                             λ h. refl,
                                                             (
                                                               λ h. refl,
-                                                              (λ h. refl, (λ h. refl, (λ h. refl, (λ h. refl, (λ h. refl, (λ h. refl, (λ h. refl, (λ h. refl, tt)))))))),
+                                                              (
+                                                                λ h. refl,
+                                                                (
+                                                                  λ h. refl,
+                                                                  (
+                                                                    λ h. refl,
+                                                                    (
+                                                                      λ h. refl,
+                                                                      (λ h. refl, (λ h. refl, (λ h. refl, (λ h. refl, tt)))),
+                                                                    ),
+                                                                  ),
+                                                                ),
+                                                              ),
                                                             ),
                                                           ),
                                                         ),
@@ -194,7 +206,19 @@ rows_narrow = (
                                                             λ h. refl,
                                                             (
                                                               λ h. refl,
-                                                              (λ h. refl, (λ h. refl, (λ h. refl, (λ h. refl, (λ h. refl, (λ h. refl, (λ h. refl, (λ h. refl, last_narrow)))))))),
+                                                              (
+                                                                λ h. refl,
+                                                                (
+                                                                  λ h. refl,
+                                                                  (
+                                                                    λ h. refl,
+                                                                    (
+                                                                      λ h. refl,
+                                                                      (λ h. refl, (λ h. refl, (λ h. refl, (λ h. refl, last_narrow)))),
+                                                                    ),
+                                                                  ),
+                                                                ),
+                                                              ),
                                                             ),
                                                           ),
                                                         ),
