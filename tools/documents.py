@@ -1,18 +1,24 @@
 #!/usr/bin/env python3
 """tools/documents.py: checks what README.md and docs/*.md name against the tree.
 
-Of each code span outside a block: a path must be a file or a folder (of the repository, of crates/, of a crate's src/, specs/ or
-proofs/); 'function: clause' must be a clause of a function of that name; and a name of this project's kind (with a '_', a '::' or two
-capitals) must stand as a word in some source, script or stored run. Links must lead to a file and to a heading. Each crate of crates.txt must be named in
-README.md or docs/TESTS.md, and in docs/ARCHITECTURE.md; and the documents that are to be short must be. Ends with 1 where something doesn't hold."""
-import os, re, sys
+Of each code span outside a block: a path or the name of a script must be a file or a folder (of the repository, of crates/, of a crate's
+src/, specs/ or proofs/), and the flags behind a script must stand in it; a command of `rt` must be one; 'function: clause' must be a clause
+of a function of that name; and a name of this project's kind (with a '_', a '::' or two capitals) must stand as a word in some source,
+script or stored run. In the tables by crates of README.md and docs/CLAUSES.md it must stand in one of their crates. Links must lead to a
+file and to a heading. Each crate of crates.txt must be named in README.md or docs/TESTS.md, and in docs/ARCHITECTURE.md. What is to be
+short must be: documents, decisions, lines. The last table of docs/PROMISES.md must be what tools/closure.py prints. Ends with 1 where
+something doesn't hold."""
+import os, re, subprocess, sys
 
 ROOT = os.path.dirname(os.path.dirname(os.path.abspath(__file__)))
 DOCUMENTS = ["README.md", *sorted(f"docs/{it}" for it in os.listdir(f"{ROOT}/docs"))]
 SOURCES = (".rt", ".antt", ".sh", ".py", ".txt", ".toml", ".edit")
 ENDS = ("", ".rt", ".antt")
 MOST_LINES = {"README.md": 220, "docs/PROMISES.md": 250, "docs/GATE.md": 90, "docs/MEASURED.md": 120}
+MOST_PROVED, MOST_DECISION, MOST_WIDE = 40, 6, 160
 OUTSIDE = {"toProg", "toErase"}  # fields of FlashOS.h
+OF_RT = set("ci check try test run lib lemma fmt tidy expand plant seed verdict all must-fail new doc version help".split())
+SCRIPT = r"[\w./-]+\.(?:sh|py|rt|antt)"
 
 
 def read(path):
@@ -44,13 +50,18 @@ def clauses_in(text):
 
 FILES = sorted(files())
 FOLDERS = {it[:k] for it in FILES for k, end in enumerate(it) if end == "/"}
-WORDS, CLAUSES, FIELDS, HEADS = set(), set(), set(), {}
+CRATES = re.findall(r"^(\w+):", read(f"{ROOT}/crates.txt"), re.M)
+WORDS, CLAUSES, FIELDS, FUNCTIONS, HEADS, WORDS_OF = set(), set(), set(), set(), {}, {it: set() for it in CRATES}
 for path in FILES:
     if path.endswith(SOURCES) or path.endswith(("/stdout", "/args", "crates.txt")):
         body = read(f"{ROOT}/{path}")
-        WORDS.update(re.findall(r"[\w-]+", body), re.findall(r"\w+", body))
+        words = {*re.findall(r"[\w-]+", body), *re.findall(r"\w+", body)}
+        WORDS.update(words)
+        if path.endswith((".rt", ".antt")):
+            WORDS_OF.get(path.split("/")[1], set()).update(words)
         if path.endswith(".rt"):
             CLAUSES.update(clauses_in(body))
+            FUNCTIONS.update(re.findall(r"\bfn (\w+)", body))
         if path.endswith(".antt"):
             FIELDS.update(fields_in(body))
     WORDS.update(re.split(r"[/.]", path))
@@ -74,14 +85,28 @@ def is_path(span):
     return any(it.endswith("/" + span + end) for it in FILES for end in ENDS) or any(("/" + it).endswith("/" + span) for it in FOLDERS)
 
 
+def faults_of_command(words):
+    """Of a command with words behind it: what `rt` is asked for, each script, and the flags that a script takes."""
+    if words[0] == "rt" and words[1] not in OF_RT and not words[1].startswith("-"):
+        yield f"no command rt {words[1]}"
+    scripts = [it for it in words if re.fullmatch(SCRIPT, it)]
+    yield from (f"no file {it}" for it in scripts if not is_path(it))
+    texts = [read(f"{ROOT}/{path}") for it in scripts for path in FILES if ("/" + path).endswith("/" + it)]
+    for flag in re.findall(r"(?<= )--[\w-]+", " ".join(words).split(" -- ")[0]) if texts and words[0] in ("bash", "python3") else ():
+        if not any(flag in text for text in texts):
+            yield f"no flag {flag} of {scripts[0]}"
+
+
 def faults_of_span(span):
     if span == "function: clause":
         return []
     if found := re.fullmatch(r"([\w:]+): ([\w-]+(?:, [\w-]+)*)", span):
         function = found[1].split("::")[-1]
         return [f"no clause {function}: {it}" for it in found[2].split(", ") if not is_clause(function, it)]
-    if re.fullmatch(r"[\w.-]+(/[\w.-]+)+/?", span):
+    if re.fullmatch(r"[\w.-]+(/[\w.-]+)+/?", span) or re.fullmatch(SCRIPT, span):
         return [] if is_path(span) else [f"no file {span}"]
+    if " " in span:
+        return list(faults_of_command(span.split()))
     names = re.findall(r"[A-Za-z_][\w-]*(?:::[\w-]+)*", span) if re.fullmatch(r"[\w:()-]+", span) else []
     return [f"no word {part}" for it in names for part in it.split("::") if is_ours(it) and part not in WORDS]
 
@@ -93,47 +118,86 @@ def is_clause(function, label):
     return (function, label) in CLAUSES or of_type or of_record
 
 
+def faults_of_labels(line):
+    """Of the labels behind one, as in `begin: ok`, `stops`; a function may follow too."""
+    for found in re.finditer(r"`([\w:]+): [\w-]+`((?:, `[\w-]+`)+)", line):
+        function = found[1].split("::")[-1]
+        for it in re.findall(r"`([\w-]+)`", found[2]):
+            if not is_clause(function, it) and it not in FUNCTIONS and not (it[:1].isupper() and it in WORDS):
+                yield f"no clause {function}: {it}"
+
+
 def is_ours(name):
     return name not in OUTSIDE and ("::" in name or "_" in name.strip("_") or re.search(r"[a-z][A-Z]", name))
 
 
+def faults_of_rows(path, column):
+    """In tables by crates each name of a column stands in a crate of the row, or of the heading above the table."""
+    crates = []
+    for number, line in enumerate(read(f"{ROOT}/{path}").split("\n"), 1):
+        cells = line.split("|")
+        named = re.findall(r"`(\w+)`", line if line.startswith("**") else cells[1] if column == 3 and len(cells) == 5 else "")
+        if line.startswith("#") or line.startswith("**") or named:
+            crates = [it for it in named if it in CRATES]
+        for it in re.findall(r"`([\w:]+)(?:: [\w, -]+)?`", cells[column]) if crates and len(cells) > column else ():
+            if it.split("::")[-1] not in set().union(*(WORDS_OF[crate] for crate in crates)):
+                yield f"{path}:{number}: no {it} in {' '.join(crates)}"
+
+
 def faults_of_all():
-    """What holds of the documents as a whole: their lengths, and that each crate has its place."""
+    """What holds of the documents as a whole: their lengths, that each crate has its place, and what a reader unfolds."""
     texts = {path: read(f"{ROOT}/{path}") for path in DOCUMENTS}
     for path, most in MOST_LINES.items():
         if texts[path].count("\n") > most:
             yield f"{path}: {texts[path].count(chr(10))} lines, more than {most}"
+    proved = texts["README.md"].split("\n## What is proved")[1].split("\n## ")[0].count("\n")
+    if proved > MOST_PROVED:
+        yield f"README.md: {proved} lines on what is proved, more than {MOST_PROVED}"
+    for it in re.split(r"\n(?=- |\n|#)", texts["docs/DECISIONS.md"]):
+        if it.startswith("- ") and it.count("\n") >= MOST_DECISION:
+            yield f"docs/DECISIONS.md: more than {MOST_DECISION} lines: {it[:60].splitlines()[0]}"
     words = {path: set(re.findall(r"\w+", text)) for path, text in texts.items()}
-    for crate in re.findall(r"^(\w+):", read(f"{ROOT}/crates.txt"), re.M):
+    for crate in CRATES:
         if crate not in words["README.md"] | words["docs/TESTS.md"]:
             yield f"README.md: {crate} isn't named there or in docs/TESTS.md"
         if crate not in words["docs/ARCHITECTURE.md"]:
             yield f"docs/ARCHITECTURE.md: {crate} isn't named"
+    told = subprocess.run([sys.executable, f"{ROOT}/tools/closure.py"], cwd=ROOT, capture_output=True, text=True).stdout.strip()
+    if told not in texts["docs/PROMISES.md"]:
+        yield "docs/PROMISES.md: its last table isn't what tools/closure.py prints"
+    yield from faults_of_rows("README.md", 3)
+    yield from faults_of_rows("docs/CLAUSES.md", 1)
+
+
+def faults_of_line(path, line):
+    """Of a line outside a block."""
+    if len(line) > MOST_WIDE and not line.lstrip().startswith("|"):
+        yield f"longer than {MOST_WIDE} characters"
+    for span in re.findall(r"`([^`]+)`", line):
+        if path != "docs/USE.md" or ": " not in span:
+            yield from faults_of_span(span)
+    yield from faults_of_labels(line)
+    for to, anchor in re.findall(r"\]\(([^)#]*)(?:#([^)]*))?\)", line):
+        target = os.path.relpath(f"{ROOT}/{os.path.dirname(path)}/{to}", ROOT) if to else path
+        if not to.startswith("http") and (not os.path.exists(f"{ROOT}/{target}") or (anchor and anchor not in heads_of(target))):
+            yield f"no place {to}#{anchor}"
+
+
+def faults_of_document(path):
+    in_block = False
+    for number, line in enumerate(read(f"{ROOT}/{path}").split("\n"), 1):
+        if line.startswith("```"):
+            in_block = not in_block
+        elif not in_block:
+            yield from (f"{path}:{number}: {it}" for it in faults_of_line(path, line))
+        elif line.startswith("rt "):
+            yield from (f"{path}:{number}: {it}" for it in faults_of_command(line.split()))
 
 
 def main():
-    count = 0
-    for it in faults_of_all():
-        print(it)
-        count += 1
-    for path in DOCUMENTS:
-        in_block = False
-        for number, line in enumerate(read(f"{ROOT}/{path}").split("\n"), 1):
-            if line.startswith("```"):
-                in_block = not in_block
-            if in_block:
-                continue
-            spans = [it for it in re.findall(r"`([^`]+)`", line) if path != "docs/USE.md" or ": " not in it]
-            faults = [it for span in spans for it in faults_of_span(span)]
-            for to, anchor in re.findall(r"\]\(([^)#]*)(?:#([^)]*))?\)", line):
-                target = os.path.relpath(f"{ROOT}/{os.path.dirname(path)}/{to}", ROOT) if to else path
-                if not to.startswith("http") and (not os.path.exists(f"{ROOT}/{target}") or (anchor and anchor not in heads_of(target))):
-                    faults.append(f"no place {to}#{anchor}")
-            for it in faults:
-                print(f"{path}:{number}: {it}")
-            count += len(faults)
-    print(f"{count} wrong")
-    return 1 if count else 0
+    found = [*faults_of_all(), *(it for path in DOCUMENTS for it in faults_of_document(path))]
+    print("\n".join([*found, f"{len(found)} wrong"]))
+    return 1 if found else 0
 
 
 sys.exit(main())

@@ -1,5 +1,5 @@
 #!/usr/bin/env python3
-"""time_gate.py [-o TABLE] -- COMMAND: runs a gate (`rt ci`, say) at the top of the repository and makes a table of what each crate cost.
+"""time_gate.py [-o TABLE] -- COMMAND: runs a gate (`rt ci --anew`, say) at the top of the repository and makes a table of what each crate cost.
 time_gate.py --short TABLE: prints of such a table what docs/GATE.md shows: lines and seconds of each crate, two crates a row.
 
 Every half second it reads the processor time, user and system, of each process below the command, and the most memory that it has taken.
