@@ -1,3 +1,4 @@
 pub mod TickLemmas
 pub mod TouchLemmas
 pub mod RegisterLemmas
+pub mod RowLemmas

@@ -1,6 +1,6 @@
 -- The table of a controller: what its registers do, and by it what each access answers and leaves, and what a tick leaves. No access changes a
 -- cell: it opens an operation, which a tick settles.
-use Rattle.std.specs.Prelude.{◌≡◌, ◌<◌, ◌≤◌, ◌+◌, ℕ, Bool, true, false, not, ◌&&◌, if◌then◌else◌, List, [], Option, Some, None, is_some, Result, Ok, Err}
+use Rattle.std.specs.Prelude.{◌≡◌, ◌<◌, ◌≤◌, ◌+◌, ℕ, Bool, true, false, not, ◌&&◌, ◌||◌, if◌then◌else◌, List, [], Option, Some, None, is_some, Result, Ok, Err}
 use Rattle.bench_model.specs.declared.bench_fault.BusEnd.{BusEnd}
 use Rattle.bench_model.specs.declared.bench_fault.BusEnd.TheVariants as bus
 use Rattle.board_file.specs.declared.kind.ControllerKind.{ControllerKind}
@@ -120,6 +120,10 @@ abbrev pub opens : {R : Type 0} → Table R → FlashMap → State R → ℕ →
 opens t map s width value (place.Register offset) = begins (t.store map s.registers s.operation offset value).0
 opens t map s width value (place.Flash found) = not (is_running s) && begins (t.program map s.registers found width value []).0
 opens t map s width value place.Nowhere = false
+
+-- a store there asks the device
+abbrev pub asks : {R : Type 0} → Table R → FlashMap → State R → ℕ → ℕ → Place → Bool
+asks t map s width value p = compares t s width value p || opens t map s width value p
 
 -- Outside the RAM: the row, and else in a quiet range a load of 0 or a store of nothing.
 

@@ -11,7 +11,7 @@ ghost use Rattle.flash_layout.specs.Maps.{map_of, board_map, in_quiet};
 ghost use Rattle.flash_layout.specs.Work.{range_of, settles, tick_at};
 ghost use Rattle.flash_driver.specs.Calls.{LoadGives, StoreGives, DriverAgrees, DriverTouches, LowersTo};
 ghost use Rattle.flash_driver.specs.Places.{place_of};
-ghost use Rattle.flash_driver.specs.Table.{fresh, is_running, load_row, store_row, bus_load, bus_store, tick_row, programmed, leaves, reads, compares, opens, begins, MayBegin, done, running, with_block};
+ghost use Rattle.flash_driver.specs.Table.{fresh, is_running, load_row, store_row, bus_load, bus_store, tick_row, programmed, leaves, reads, compares, opens, asks, begins, MayBegin, done, running, with_block};
 
 use crate::look::look;
 use crate::place::{Place, place_of};
@@ -240,6 +240,7 @@ impl<R: Registers> Driver<R> {
         requires width { IsWidth width }
         requires aligned { at % width ≡ 0 }
         ensures row { IsTrue B.tells → LoadGives (bus_load R.table (map_of self.old.layout) self.old.state (B.state bench.old).cells at width) result }
+        ensures asks { is_device result ≡ true → reads self.old.state (place_of (map_of self.old.layout) at width) ≡ true }
         ensures same { self.new ≡ self.old }
         ensures byte { width ≡ 1 → IfOk result (λ value. value < 2 ^ 8) }
         ensures half { width ≡ 2 → IfOk result (λ value. value < 2 ^ 16) }
@@ -275,6 +276,8 @@ impl<R: Registers> Driver<R> {
         requires aligned { at % width ≡ 0 }
         ensures row { IsTrue B.tells → StoreGives (bus_store R.table (map_of self.old.layout) self.old.state (B.state bench.old).cells at width value)
             self.old.state result self.new.state }
+        ensures asks { is_device result ≡ true
+            → asks R.table (map_of self.old.layout) self.old.state width value (place_of (map_of self.old.layout) at width) ≡ true }
         ensures layout { self.new.layout ≡ self.old.layout }
         ensures touches { DriverTouches B.tells self.new.layout self.new.state (B.state bench.old) (B.state bench.new) result }
     {
