@@ -62,6 +62,7 @@ broke_off return_at fuel steps first made start end runs broke = ⊎_elim
       moments = so_far (2 * made) (omega arith);
       stands = step.stands;
       idle = λ even. step.idle;
+      asks = λ even. step.asks;
       due = λ odd. absurd (omega (arith, odd));
     })
     (λ (tick : FailsInTick first made end). record {
@@ -70,6 +71,7 @@ broke_off return_at fuel steps first made start end runs broke = ⊎_elim
       moments = so_far (2 * made - 1) (omega (arith, tick.some));
       stands = tick.stands;
       idle = λ even. absurd (omega (arith, even, tick.some));
+      asks = λ even. absurd (omega (arith, even, tick.some));
       due = λ odd. tick.due;
     })
     broke

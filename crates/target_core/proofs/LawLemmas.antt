@@ -8,12 +8,12 @@ use Rattle.target_core.specs.declared.run.RunEnd.TheVariants as run
 use Rattle.target_core.specs.declared.run.SliceEnd.TheVariants as slice
 use Rattle.target_core.specs.Units.{state_op}
 use Rattle.target_core.specs.World.{is_due}
-use Rattle.target_core.specs.Path.{Point, whole, point, is_device_end, GoesTo, IsLeftOnPath, LeftAt}
+use Rattle.target_core.specs.Path.{Point, whole, point, step_asks, is_device_end, GoesTo, IsLeftOnPath, LeftAt}
 use Rattle.target_core.specs.Runs.{steps_made, run_end_of, run_last, run_path, last_point, BreaksOffOn, RunEndsAs, RunGives, HasOneEnd, GoesOnAs}
 use Rattle.target_core.specs.Targets.{SliceFrom, Sliced}
 use Rattle.target_core.proofs.PathLemmas.{point_even, longer}
 use Rattle.target_core.proofs.EndLemmas.{run_of_slice}
-use Rattle.target_core.proofs.RunLemmas.{steps_made_is, steps_made_within, run_end_is, run_last_is, run_last_from}
+use Rattle.target_core.proofs.RunLemmas.{steps_made_is, steps_made_within, run_end_is, run_last_is}
 use Rattle.target_core.proofs.FineLemmas.{run_is_fine}
 use Rattle.target_core.proofs.SliceLemmas.{run_goes, run_has_end, whole_add, run_end_add, run_last_add}
 
@@ -98,6 +98,7 @@ module _ (return_at fuel : ℕ) (first : Point) (made : ℕ) (le : made ≤ fuel
       operation = broke.stands.operation ∙ ap (λ (p : Point). state_op p.world.state) (there broke.number);
     };
     idle = λ even. broke.idle (omega (arith, even));
+    asks = λ even. subst (λ (p : Point). step_asks p ≡ true) (there broke.number) (broke.asks (omega (arith, even)));
     due = λ odd. subst (λ (p : Point). is_due p.world ≡ true) (there broke.number) (broke.due (omega (arith, odd)));
   }
 

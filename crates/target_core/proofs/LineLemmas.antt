@@ -31,6 +31,7 @@ loads {B} {G} law l m width at offset v same unit arena bench place is =
     let A : B → Type 0 = λ b. Accesses G.tells (G.state l.bench.now) (G.state b) in
     record {
       row = λ told. inr (subst P (sym found) good);
+      asks = λ fault. absurd (false≢true fault);
       bench = subst A (sym bench) (accesses_here G.tells (G.state l.bench.now) (λ c told. law l.bench.now c told));
       cause = record {
         later = omega (arith, ap (λ (b : B). (G.state b).device_faults) bench);
@@ -58,6 +59,7 @@ quiet_load {B} {G} law l at v place is =
     let good : P None = (sym (is w.cells), refl) in
     record {
       row = λ told. inr (subst P (sym found) good);
+      asks = λ fault. absurd (false≢true fault);
       bench = accesses_here G.tells (G.state l.bench.now) (λ c told. law l.bench.now c told);
       cause = record { later = omega arith; on_fault = λ fault. absurd (false≢true fault); on_other = λ fine. refl };
       idle = λ told fault. absurd (false≢true fault);

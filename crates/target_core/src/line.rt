@@ -60,7 +60,7 @@ impl<'a, B: Bench> Line<'a, B> {
     }
 }
 
-#[tactic(auto, unfolding(crate::specs::World::world_answer))]
+#[tactic(auto, unfolding(crate::specs::World::world_answer, crate::specs::World::world_asks))]
 impl<'a, B: Bench> Bus for Line<'a, B> {
     ghost use Rattle.target_core.specs.Line.{line_acts};
 
