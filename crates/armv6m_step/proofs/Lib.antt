@@ -1,4 +1,5 @@
 pub mod RunLemmas
+pub mod ShiftLemmas
 pub mod ListLemmas
 pub mod InstructionLemmas
 pub mod FunctionalLemmas

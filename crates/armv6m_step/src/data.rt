@@ -1,7 +1,7 @@
 //! Data processing.
 #![tactic(auto, using(std::proofs::lemmas::Bool::Decides::nat_tests))]
 
-ghost use Rattle.std.specs.Prelude.{◌≡◌, false, not, Result, Ok};
+ghost use Rattle.std.specs.Prelude.{◌≡◌, ◌<◌, Bool, false, not, Result, Ok};
 ghost use Rattle.armv6m_alu.specs.Sums.{sum_with_carry, is_sign_lost};
 ghost use Rattle.armv6m_alu.specs.Shifts.{shifted_left, shifted_right, shifted_right_signed, rotated_right};
 ghost use Rattle.armv6m_step.specs.Ends.{end_of};
@@ -127,7 +127,37 @@ pub(crate) fn add(x: u32, y: u32) -> Sum
     }
 }
 
-pub(crate) fn amount(immediate: u8) -> u32
+/// x + y + C.
+#[inline(always)]
+#[tactic(auto, using(std::proofs::lemmas::Bool::Decides::nat_tests, std::proofs::lemmas::Int::ints), unfolding(armv6m_alu::specs::Sums::sum_with_carry))]
+pub(crate) fn add_carry(x: u32, y: u32, carry: bool) -> Sum
+    ensures { result ≡ sum_with_carry x y carry }
+{
+    let carry_in = if carry { 1 } else { 0 };
+    let exact = u64::from(x) + u64::from(y) + carry_in;
+    let value = (exact % 0x1_0000_0000) as u32;
+    let is_negative = value >= 0x8000_0000;
+    Sum {
+        value,
+        carry: (exact >> 32) % 2 == 1,
+        overflow: is_negative != (x >= 0x8000_0000) && is_negative != (y >= 0x8000_0000),
+    }
+}
+
+/// A value shifted right by an immediate, in which 0 stands for 32: by all but one, so that the bit of the carry comes last, and then by one.
+#[inline(always)]
+pub(crate) fn right_by(value: u32, immediate: u8) -> Shifted
+    requires { immediate < 32 }
+    ensures { (carry : Bool) → result ≡ shifted_right value (shift_amount immediate) carry }
+{
+    let rest = value >> ((immediate + 31) % 32);
+    Shifted {
+        value: rest / 2,
+        carry: rest % 2 == 1,
+    }
+}
+
+fn amount(immediate: u8) -> u32
     ensures { result ≡ shift_amount immediate }
 {
     if immediate == 0 {

@@ -22,13 +22,13 @@ ghost use Rattle.armv6m_step.specs.Step.{of_halfword, instruction};
 
 use crate::access::{byte_at, byte_to, half_at, half_to, peek16, word_at, word_to};
 use crate::arms::{self, arm_of};
-use crate::data::{add, amount, difference, subtract};
+use crate::data::{add, add_carry, difference, right_by, subtract};
 use crate::ends::step_end;
 use crate::fields::{any_low, any_middle, byte, five, low, middle, three, top, upper};
 use crate::many::{pop, push};
 use crate::memory::{at_offset, bytes, halves, words};
 use crate::{Bus, Core, StepEnd, Stop, step};
-use armv6m_alu::{Shifted, Sum, add_with_carry, rotate_right, shift_left, shift_right};
+use armv6m_alu::{Shifted, Sum, rotate_right, shift_left};
 use armv6m_decode::registers::{LR, PC, SP};
 use armv6m_decode::targets::{far, literal, near, short};
 use armv6m_decode::{Alu, Branch, Condition, Decoded, Instr, Many, Memory, Other, decode32};
@@ -106,7 +106,7 @@ fn lsls_immediate(core: &mut Core, pc: u32, half: u16) -> Quick
 fn lsrs_immediate(core: &mut Core, pc: u32, half: u16) -> Quick
     ensures { Goes (alu core.old (sum pc 2) (Alu.LsrsImmediate (bits 2 0 half) (bits 5 3 half) (bits 10 6 half))) core.new result }
 {
-    let shifted = shift_right(core.read_wide(middle(half)), amount(five(half)), core.c);
+    let shifted = right_by(core.read_wide(middle(half)), five(half));
     put_shift(core, low(half), shifted);
     let next = pc.wrapping_add(2);
     Quick::Went { pc: next }
@@ -228,7 +228,7 @@ fn adcs(core: &mut Core, pc: u32, half: u16) -> Quick
     ensures { Goes (alu core.old (sum pc 2) (Alu.Adcs (bits 2 0 half) (bits 5 3 half))) core.new result }
 {
     let d = low(half);
-    let sum = add_with_carry(core.read_wide(d), core.read_wide(middle(half)), core.c);
+    let sum = add_carry(core.read_wide(d), core.read_wide(middle(half)), core.c);
     put_sum(core, d, sum);
     let next = pc.wrapping_add(2);
     Quick::Went { pc: next }
