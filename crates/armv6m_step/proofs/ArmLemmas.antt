@@ -1,19 +1,19 @@
 -- The halfwords of each arm of a quick step: the table has them right, and what they are.
-use Rattle.std.proofs.Common.{◌≡◌, ℕ, zero, suc, ◌+◌, ◌*◌, ◌/◌, ◌^◌, ◌<◌, ◌≤◌, Bool, true, ◌&&◌, cond, leb, List, [], ◌∷◌, length, get_or, Some, None}
+use Rattle.std.proofs.Common.{◌≡◌, ℕ, zero, suc, ◌+◌, ◌*◌, ◌/◌, ◌%◌, ◌^◌, ◌<◌, ◌≤◌, Bool, true, ◌&&◌, cond, leb, List, [], ◌∷◌, length, get_or, Some, None}
 use Rattle.std.proofs.Common.{refl, ap, ◌∙◌, arith, lit<, eq-eqb}
 use Rattle.std.proofs.lemmas.Bool.{leb-true}
 use Rattle.armv6m_alu.specs.Bits.{is_bit_set}
 use Rattle.armv6m_decode.specs.declared.instr.Instr.{Instr}
 use Rattle.armv6m_decode.specs.declared.instr.Instr.TheVariants as instr
-use Rattle.armv6m_decode.specs.declared.instr.Alu.TheVariants.{Adcs, AddsImmediate3, AddsImmediate8, AddsRegister, Ands, CmpImmediate, CmpRegister, Eors}
+use Rattle.armv6m_decode.specs.declared.instr.Alu.TheVariants.{Adcs, AddsImmediate3, AddsImmediate8, AddsRegister, Ands, AsrsImmediate, CmpImmediate, CmpRegister, Eors}
 use Rattle.armv6m_decode.specs.declared.instr.Alu.TheVariants.{LslsImmediate, LsrsImmediate, MovHigh, MovsImmediate, Muls, Orrs, Rors, Rsbs, Tst}
 use Rattle.armv6m_decode.specs.declared.instr.Alu.TheVariants.{SubsImmediate3, SubsImmediate8, SubsRegister}
 use Rattle.armv6m_decode.specs.declared.instr.Memory.TheVariants.{LdrImmediate, LdrLiteral, LdrSp, LdrbImmediate, LdrhImmediate, StrImmediate, StrSp}
 use Rattle.armv6m_decode.specs.declared.instr.Memory.TheVariants.{LdrRegister, StrbImmediate, StrRegister}
 use Rattle.armv6m_decode.specs.declared.instr.Memory.TheVariants.{StrhImmediate}
 use Rattle.armv6m_decode.specs.declared.instr.Many.TheVariants.{Pop, Push}
-use Rattle.armv6m_decode.specs.declared.instr.Branch.TheVariants.{Bcc, B}
-use Rattle.armv6m_decode.specs.declared.instr.Other.TheVariants.{AddFromSp}
+use Rattle.armv6m_decode.specs.declared.instr.Branch.TheVariants.{Bx, Bcc, B}
+use Rattle.armv6m_decode.specs.declared.instr.Other.TheVariants.{AddFromSp, Rev}
 use Rattle.armv6m_decode.specs.declared.condition.Condition.{Condition}
 use Rattle.armv6m_decode.specs.declared.condition.Condition.TheVariants.{Equal, NotEqual, CarrySet, CarryClear, Higher}
 use Rattle.armv6m_decode.specs.declared.instr.Decoded.TheVariants.{Op, NeedsSecond}
@@ -21,7 +21,7 @@ use Rattle.armv6m_decode.specs.Rows.{Row, row, bits, fits, first_fit}
 use Rattle.armv6m_decode.specs.Conditions.{condition_code, condition_of}
 use Rattle.armv6m_decode.specs.Table.{rows, decoded, high_register, op_or_undefined}
 use Rattle.armv6m_decode.proofs.ConditionLemmas.{with_its_code}
-use Rattle.armv6m_decode.proofs.Masks.{under_f800, under_fc00, under_fe00, under_ff00, under_ffc0}
+use Rattle.armv6m_decode.proofs.Masks.{under_f800, under_fc00, under_fe00, under_ff00, under_ff87, under_ffc0}
 use Rattle.armv6m_decode.proofs.RowsLemmas.{near}
 use Rattle.armv6m_decode.proofs.TableLemmas.{decoded_near, begins_pair}
 use Rattle.armv6m_step.specs.declared.arms.TheConstants.{ARMS, NONE}
@@ -122,199 +122,219 @@ lsrs_immediate half small in' =
     by_f800 0x0800 0x0800 0x0FFF half (λ half. instr.Alu (LsrsImmediate (bits 2 0 half) (bits 5 3 half) (bits 10 6 half)))
     small in' (lit< tt) (omega (arith, in'.0, in'.1)) refl
 
-pub adds_register : (half : ℕ) → half < 2 ^ 16 → InArm 2 half → decoded half ≡ Op (instr.Alu (AddsRegister (bits 2 0 half) (bits 5 3 half) (bits 8 6 half)))
+pub asrs_immediate : (half : ℕ) → half < 2 ^ 16 → InArm 2 half → decoded half ≡ Op (instr.Alu (AsrsImmediate (bits 2 0 half) (bits 5 3 half) (bits 10 6 half)))
+unfolding rows ranges
+asrs_immediate half small in' =
+    by_f800 0x1000 0x1000 0x17FF half (λ half. instr.Alu (AsrsImmediate (bits 2 0 half) (bits 5 3 half) (bits 10 6 half)))
+    small in' (lit< tt) (omega (arith, in'.0, in'.1)) refl
+
+pub adds_register : (half : ℕ) → half < 2 ^ 16 → InArm 3 half → decoded half ≡ Op (instr.Alu (AddsRegister (bits 2 0 half) (bits 5 3 half) (bits 8 6 half)))
 unfolding rows ranges
 adds_register half small in' =
     by_fe00 0x1800 0x1800 0x19FF half (λ half. instr.Alu (AddsRegister (bits 2 0 half) (bits 5 3 half) (bits 8 6 half)))
     small in' (lit< tt) (omega (arith, in'.0, in'.1)) refl
 
-pub subs_register : (half : ℕ) → half < 2 ^ 16 → InArm 3 half → decoded half ≡ Op (instr.Alu (SubsRegister (bits 2 0 half) (bits 5 3 half) (bits 8 6 half)))
+pub subs_register : (half : ℕ) → half < 2 ^ 16 → InArm 4 half → decoded half ≡ Op (instr.Alu (SubsRegister (bits 2 0 half) (bits 5 3 half) (bits 8 6 half)))
 unfolding rows ranges
 subs_register half small in' =
     by_fe00 0x1A00 0x1A00 0x1BFF half (λ half. instr.Alu (SubsRegister (bits 2 0 half) (bits 5 3 half) (bits 8 6 half)))
     small in' (lit< tt) (omega (arith, in'.0, in'.1)) refl
 
-pub adds_immediate3 : (half : ℕ) → half < 2 ^ 16 → InArm 4 half → decoded half ≡ Op (instr.Alu (AddsImmediate3 (bits 2 0 half) (bits 5 3 half) (bits 8 6 half)))
+pub adds_immediate3 : (half : ℕ) → half < 2 ^ 16 → InArm 5 half → decoded half ≡ Op (instr.Alu (AddsImmediate3 (bits 2 0 half) (bits 5 3 half) (bits 8 6 half)))
 unfolding rows ranges
 adds_immediate3 half small in' =
     by_fe00 0x1C00 0x1C00 0x1DFF half (λ half. instr.Alu (AddsImmediate3 (bits 2 0 half) (bits 5 3 half) (bits 8 6 half)))
     small in' (lit< tt) (omega (arith, in'.0, in'.1)) refl
 
-pub subs_immediate3 : (half : ℕ) → half < 2 ^ 16 → InArm 5 half → decoded half ≡ Op (instr.Alu (SubsImmediate3 (bits 2 0 half) (bits 5 3 half) (bits 8 6 half)))
+pub subs_immediate3 : (half : ℕ) → half < 2 ^ 16 → InArm 6 half → decoded half ≡ Op (instr.Alu (SubsImmediate3 (bits 2 0 half) (bits 5 3 half) (bits 8 6 half)))
 unfolding rows ranges
 subs_immediate3 half small in' =
     by_fe00 0x1E00 0x1E00 0x1FFF half (λ half. instr.Alu (SubsImmediate3 (bits 2 0 half) (bits 5 3 half) (bits 8 6 half)))
     small in' (lit< tt) (omega (arith, in'.0, in'.1)) refl
 
-pub movs_immediate : (half : ℕ) → half < 2 ^ 16 → InArm 6 half → decoded half ≡ Op (instr.Alu (MovsImmediate (bits 10 8 half) (bits 7 0 half)))
+pub movs_immediate : (half : ℕ) → half < 2 ^ 16 → InArm 7 half → decoded half ≡ Op (instr.Alu (MovsImmediate (bits 10 8 half) (bits 7 0 half)))
 unfolding rows ranges
 movs_immediate half small in' =
     by_f800 0x2000 0x2000 0x27FF half (λ half. instr.Alu (MovsImmediate (bits 10 8 half) (bits 7 0 half)))
     small in' (lit< tt) (omega (arith, in'.0, in'.1)) refl
 
-pub cmp_immediate : (half : ℕ) → half < 2 ^ 16 → InArm 7 half → decoded half ≡ Op (instr.Alu (CmpImmediate (bits 10 8 half) (bits 7 0 half)))
+pub cmp_immediate : (half : ℕ) → half < 2 ^ 16 → InArm 8 half → decoded half ≡ Op (instr.Alu (CmpImmediate (bits 10 8 half) (bits 7 0 half)))
 unfolding rows ranges
 cmp_immediate half small in' =
     by_f800 0x2800 0x2800 0x2FFF half (λ half. instr.Alu (CmpImmediate (bits 10 8 half) (bits 7 0 half)))
     small in' (lit< tt) (omega (arith, in'.0, in'.1)) refl
 
-pub adds_immediate : (half : ℕ) → half < 2 ^ 16 → InArm 8 half → decoded half ≡ Op (instr.Alu (AddsImmediate8 (bits 10 8 half) (bits 7 0 half)))
+pub adds_immediate : (half : ℕ) → half < 2 ^ 16 → InArm 9 half → decoded half ≡ Op (instr.Alu (AddsImmediate8 (bits 10 8 half) (bits 7 0 half)))
 unfolding rows ranges
 adds_immediate half small in' =
     by_f800 0x3000 0x3000 0x37FF half (λ half. instr.Alu (AddsImmediate8 (bits 10 8 half) (bits 7 0 half)))
     small in' (lit< tt) (omega (arith, in'.0, in'.1)) refl
 
-pub subs_immediate : (half : ℕ) → half < 2 ^ 16 → InArm 9 half → decoded half ≡ Op (instr.Alu (SubsImmediate8 (bits 10 8 half) (bits 7 0 half)))
+pub subs_immediate : (half : ℕ) → half < 2 ^ 16 → InArm 10 half → decoded half ≡ Op (instr.Alu (SubsImmediate8 (bits 10 8 half) (bits 7 0 half)))
 unfolding rows ranges
 subs_immediate half small in' =
     by_f800 0x3800 0x3800 0x3FFF half (λ half. instr.Alu (SubsImmediate8 (bits 10 8 half) (bits 7 0 half)))
     small in' (lit< tt) (omega (arith, in'.0, in'.1)) refl
 
-pub ands : (half : ℕ) → half < 2 ^ 16 → InArm 10 half → decoded half ≡ Op (instr.Alu (Ands (bits 2 0 half) (bits 5 3 half)))
+pub ands : (half : ℕ) → half < 2 ^ 16 → InArm 11 half → decoded half ≡ Op (instr.Alu (Ands (bits 2 0 half) (bits 5 3 half)))
 unfolding rows ranges
 ands half small in' =
     by_ffc0 0x4000 0x4000 0x403F half (λ half. instr.Alu (Ands (bits 2 0 half) (bits 5 3 half)))
     small in' (lit< tt) (omega (arith, in'.0, in'.1)) refl
 
-pub eors : (half : ℕ) → half < 2 ^ 16 → InArm 11 half → decoded half ≡ Op (instr.Alu (Eors (bits 2 0 half) (bits 5 3 half)))
+pub eors : (half : ℕ) → half < 2 ^ 16 → InArm 12 half → decoded half ≡ Op (instr.Alu (Eors (bits 2 0 half) (bits 5 3 half)))
 unfolding rows ranges
 eors half small in' =
     by_ffc0 0x4040 0x4040 0x407F half (λ half. instr.Alu (Eors (bits 2 0 half) (bits 5 3 half)))
     small in' (lit< tt) (omega (arith, in'.0, in'.1)) refl
 
-pub adcs : (half : ℕ) → half < 2 ^ 16 → InArm 12 half → decoded half ≡ Op (instr.Alu (Adcs (bits 2 0 half) (bits 5 3 half)))
+pub adcs : (half : ℕ) → half < 2 ^ 16 → InArm 13 half → decoded half ≡ Op (instr.Alu (Adcs (bits 2 0 half) (bits 5 3 half)))
 unfolding rows ranges
 adcs half small in' =
     by_ffc0 0x4140 0x4140 0x417F half (λ half. instr.Alu (Adcs (bits 2 0 half) (bits 5 3 half)))
     small in' (lit< tt) (omega (arith, in'.0, in'.1)) refl
 
-pub rors : (half : ℕ) → half < 2 ^ 16 → InArm 13 half → decoded half ≡ Op (instr.Alu (Rors (bits 2 0 half) (bits 5 3 half)))
+pub rors : (half : ℕ) → half < 2 ^ 16 → InArm 14 half → decoded half ≡ Op (instr.Alu (Rors (bits 2 0 half) (bits 5 3 half)))
 unfolding rows ranges
 rors half small in' =
     by_ffc0 0x41C0 0x41C0 0x41FF half (λ half. instr.Alu (Rors (bits 2 0 half) (bits 5 3 half)))
     small in' (lit< tt) (omega (arith, in'.0, in'.1)) refl
 
-pub tst : (half : ℕ) → half < 2 ^ 16 → InArm 14 half → decoded half ≡ Op (instr.Alu (Tst (bits 2 0 half) (bits 5 3 half)))
+pub tst : (half : ℕ) → half < 2 ^ 16 → InArm 15 half → decoded half ≡ Op (instr.Alu (Tst (bits 2 0 half) (bits 5 3 half)))
 unfolding rows ranges
 tst half small in' =
     by_ffc0 0x4200 0x4200 0x423F half (λ half. instr.Alu (Tst (bits 2 0 half) (bits 5 3 half)))
     small in' (lit< tt) (omega (arith, in'.0, in'.1)) refl
 
-pub rsbs : (half : ℕ) → half < 2 ^ 16 → InArm 15 half → decoded half ≡ Op (instr.Alu (Rsbs (bits 2 0 half) (bits 5 3 half)))
+pub rsbs : (half : ℕ) → half < 2 ^ 16 → InArm 16 half → decoded half ≡ Op (instr.Alu (Rsbs (bits 2 0 half) (bits 5 3 half)))
 unfolding rows ranges
 rsbs half small in' =
     by_ffc0 0x4240 0x4240 0x427F half (λ half. instr.Alu (Rsbs (bits 2 0 half) (bits 5 3 half)))
     small in' (lit< tt) (omega (arith, in'.0, in'.1)) refl
 
-pub cmp_register : (half : ℕ) → half < 2 ^ 16 → InArm 16 half → decoded half ≡ Op (instr.Alu (CmpRegister (bits 2 0 half) (bits 5 3 half)))
+pub cmp_register : (half : ℕ) → half < 2 ^ 16 → InArm 17 half → decoded half ≡ Op (instr.Alu (CmpRegister (bits 2 0 half) (bits 5 3 half)))
 unfolding rows ranges
 cmp_register half small in' =
     by_ffc0 0x4280 0x4280 0x42BF half (λ half. instr.Alu (CmpRegister (bits 2 0 half) (bits 5 3 half)))
     small in' (lit< tt) (omega (arith, in'.0, in'.1)) refl
 
-pub orrs : (half : ℕ) → half < 2 ^ 16 → InArm 17 half → decoded half ≡ Op (instr.Alu (Orrs (bits 2 0 half) (bits 5 3 half)))
+pub orrs : (half : ℕ) → half < 2 ^ 16 → InArm 18 half → decoded half ≡ Op (instr.Alu (Orrs (bits 2 0 half) (bits 5 3 half)))
 unfolding rows ranges
 orrs half small in' =
     by_ffc0 0x4300 0x4300 0x433F half (λ half. instr.Alu (Orrs (bits 2 0 half) (bits 5 3 half)))
     small in' (lit< tt) (omega (arith, in'.0, in'.1)) refl
 
-pub muls : (half : ℕ) → half < 2 ^ 16 → InArm 18 half → decoded half ≡ Op (instr.Alu (Muls (bits 2 0 half) (bits 5 3 half)))
+pub muls : (half : ℕ) → half < 2 ^ 16 → InArm 19 half → decoded half ≡ Op (instr.Alu (Muls (bits 2 0 half) (bits 5 3 half)))
 unfolding rows ranges
 muls half small in' =
     by_ffc0 0x4340 0x4340 0x437F half (λ half. instr.Alu (Muls (bits 2 0 half) (bits 5 3 half)))
     small in' (lit< tt) (omega (arith, in'.0, in'.1)) refl
 
-pub mov_high : (half : ℕ) → half < 2 ^ 16 → InArm 19 half → decoded half ≡ Op (instr.Alu (MovHigh (high_register half) (bits 6 3 half)))
+pub mov_high : (half : ℕ) → half < 2 ^ 16 → InArm 20 half → decoded half ≡ Op (instr.Alu (MovHigh (high_register half) (bits 6 3 half)))
 unfolding rows ranges
 mov_high half small in' =
     by_ff00 0x4600 0x4600 0x46FF half (λ half. instr.Alu (MovHigh (high_register half) (bits 6 3 half)))
     small in' (lit< tt) (omega (arith, in'.0, in'.1)) refl
 
-pub ldr_literal : (half : ℕ) → half < 2 ^ 16 → InArm 20 half → decoded half ≡ Op (instr.Memory (LdrLiteral (bits 10 8 half) (bits 7 0 half)))
+-- the low three bits of a BX are 0
+pub exchange : (half : ℕ) → half < 2 ^ 16 → InArm 21 half → half % 8 ≡ 0 → decoded half ≡ Op (instr.Branch (Bx (bits 6 3 half)))
+unfolding rows ranges
+exchange half small in' zeros =
+    let is : half / 128 * 128 + half % 8 ≡ 0x4700 = omega (arith, in'.0, in'.1, zeros) in
+    one_near 0x4700 0x477F half (row 0x4700 0xFF87 (λ half. instr.Branch (Bx (bits 6 3 half))))
+    small in'.0 in'.1 (lit< tt) refl (eq-eqb _ _ (under_ff87 half small ∙ is))
+
+pub ldr_literal : (half : ℕ) → half < 2 ^ 16 → InArm 22 half → decoded half ≡ Op (instr.Memory (LdrLiteral (bits 10 8 half) (bits 7 0 half)))
 unfolding rows ranges
 ldr_literal half small in' =
     by_f800 0x4800 0x4800 0x4FFF half (λ half. instr.Memory (LdrLiteral (bits 10 8 half) (bits 7 0 half)))
     small in' (lit< tt) (omega (arith, in'.0, in'.1)) refl
 
-pub str_register : (half : ℕ) → half < 2 ^ 16 → InArm 21 half → decoded half ≡ Op (instr.Memory (StrRegister (bits 2 0 half) (bits 5 3 half) (bits 8 6 half)))
+pub str_register : (half : ℕ) → half < 2 ^ 16 → InArm 23 half → decoded half ≡ Op (instr.Memory (StrRegister (bits 2 0 half) (bits 5 3 half) (bits 8 6 half)))
 unfolding rows ranges
 str_register half small in' =
     by_fe00 0x5000 0x5000 0x51FF half (λ half. instr.Memory (StrRegister (bits 2 0 half) (bits 5 3 half) (bits 8 6 half)))
     small in' (lit< tt) (omega (arith, in'.0, in'.1)) refl
 
-pub ldr_register : (half : ℕ) → half < 2 ^ 16 → InArm 22 half → decoded half ≡ Op (instr.Memory (LdrRegister (bits 2 0 half) (bits 5 3 half) (bits 8 6 half)))
+pub ldr_register : (half : ℕ) → half < 2 ^ 16 → InArm 24 half → decoded half ≡ Op (instr.Memory (LdrRegister (bits 2 0 half) (bits 5 3 half) (bits 8 6 half)))
 unfolding rows ranges
 ldr_register half small in' =
     by_fe00 0x5800 0x5800 0x59FF half (λ half. instr.Memory (LdrRegister (bits 2 0 half) (bits 5 3 half) (bits 8 6 half)))
     small in' (lit< tt) (omega (arith, in'.0, in'.1)) refl
 
-pub str_immediate : (half : ℕ) → half < 2 ^ 16 → InArm 23 half →
+pub str_immediate : (half : ℕ) → half < 2 ^ 16 → InArm 25 half →
     decoded half ≡ Op (instr.Memory (StrImmediate (bits 2 0 half) (bits 5 3 half) (bits 10 6 half)))
 unfolding rows ranges
 str_immediate half small in' =
     by_f800 0x6000 0x6000 0x67FF half (λ half. instr.Memory (StrImmediate (bits 2 0 half) (bits 5 3 half) (bits 10 6 half)))
     small in' (lit< tt) (omega (arith, in'.0, in'.1)) refl
 
-pub ldr_immediate : (half : ℕ) → half < 2 ^ 16 → InArm 24 half →
+pub ldr_immediate : (half : ℕ) → half < 2 ^ 16 → InArm 26 half →
     decoded half ≡ Op (instr.Memory (LdrImmediate (bits 2 0 half) (bits 5 3 half) (bits 10 6 half)))
 unfolding rows ranges
 ldr_immediate half small in' =
     by_f800 0x6800 0x6800 0x6FFF half (λ half. instr.Memory (LdrImmediate (bits 2 0 half) (bits 5 3 half) (bits 10 6 half)))
     small in' (lit< tt) (omega (arith, in'.0, in'.1)) refl
 
-pub strb_immediate : (half : ℕ) → half < 2 ^ 16 → InArm 25 half →
+pub strb_immediate : (half : ℕ) → half < 2 ^ 16 → InArm 27 half →
     decoded half ≡ Op (instr.Memory (StrbImmediate (bits 2 0 half) (bits 5 3 half) (bits 10 6 half)))
 unfolding rows ranges
 strb_immediate half small in' =
     by_f800 0x7000 0x7000 0x77FF half (λ half. instr.Memory (StrbImmediate (bits 2 0 half) (bits 5 3 half) (bits 10 6 half)))
     small in' (lit< tt) (omega (arith, in'.0, in'.1)) refl
 
-pub ldrb_immediate : (half : ℕ) → half < 2 ^ 16 → InArm 26 half →
+pub ldrb_immediate : (half : ℕ) → half < 2 ^ 16 → InArm 28 half →
     decoded half ≡ Op (instr.Memory (LdrbImmediate (bits 2 0 half) (bits 5 3 half) (bits 10 6 half)))
 unfolding rows ranges
 ldrb_immediate half small in' =
     by_f800 0x7800 0x7800 0x7FFF half (λ half. instr.Memory (LdrbImmediate (bits 2 0 half) (bits 5 3 half) (bits 10 6 half)))
     small in' (lit< tt) (omega (arith, in'.0, in'.1)) refl
 
-pub strh_immediate : (half : ℕ) → half < 2 ^ 16 → InArm 27 half →
+pub strh_immediate : (half : ℕ) → half < 2 ^ 16 → InArm 29 half →
     decoded half ≡ Op (instr.Memory (StrhImmediate (bits 2 0 half) (bits 5 3 half) (bits 10 6 half)))
 unfolding rows ranges
 strh_immediate half small in' =
     by_f800 0x8000 0x8000 0x87FF half (λ half. instr.Memory (StrhImmediate (bits 2 0 half) (bits 5 3 half) (bits 10 6 half)))
     small in' (lit< tt) (omega (arith, in'.0, in'.1)) refl
 
-pub ldrh_immediate : (half : ℕ) → half < 2 ^ 16 → InArm 28 half →
+pub ldrh_immediate : (half : ℕ) → half < 2 ^ 16 → InArm 30 half →
     decoded half ≡ Op (instr.Memory (LdrhImmediate (bits 2 0 half) (bits 5 3 half) (bits 10 6 half)))
 unfolding rows ranges
 ldrh_immediate half small in' =
     by_f800 0x8800 0x8800 0x8FFF half (λ half. instr.Memory (LdrhImmediate (bits 2 0 half) (bits 5 3 half) (bits 10 6 half)))
     small in' (lit< tt) (omega (arith, in'.0, in'.1)) refl
 
-pub str_sp : (half : ℕ) → half < 2 ^ 16 → InArm 29 half → decoded half ≡ Op (instr.Memory (StrSp (bits 10 8 half) (bits 7 0 half)))
+pub str_sp : (half : ℕ) → half < 2 ^ 16 → InArm 31 half → decoded half ≡ Op (instr.Memory (StrSp (bits 10 8 half) (bits 7 0 half)))
 unfolding rows ranges
 str_sp half small in' =
     by_f800 0x9000 0x9000 0x97FF half (λ half. instr.Memory (StrSp (bits 10 8 half) (bits 7 0 half)))
     small in' (lit< tt) (omega (arith, in'.0, in'.1)) refl
 
-pub ldr_sp : (half : ℕ) → half < 2 ^ 16 → InArm 30 half → decoded half ≡ Op (instr.Memory (LdrSp (bits 10 8 half) (bits 7 0 half)))
+pub ldr_sp : (half : ℕ) → half < 2 ^ 16 → InArm 32 half → decoded half ≡ Op (instr.Memory (LdrSp (bits 10 8 half) (bits 7 0 half)))
 unfolding rows ranges
 ldr_sp half small in' =
     by_f800 0x9800 0x9800 0x9FFF half (λ half. instr.Memory (LdrSp (bits 10 8 half) (bits 7 0 half)))
     small in' (lit< tt) (omega (arith, in'.0, in'.1)) refl
 
-pub add_from_sp : (half : ℕ) → half < 2 ^ 16 → InArm 31 half → decoded half ≡ Op (instr.Other (AddFromSp (bits 10 8 half) (bits 7 0 half)))
+pub add_from_sp : (half : ℕ) → half < 2 ^ 16 → InArm 33 half → decoded half ≡ Op (instr.Other (AddFromSp (bits 10 8 half) (bits 7 0 half)))
 unfolding rows ranges
 add_from_sp half small in' =
     by_f800 0xA800 0xA800 0xAFFF half (λ half. instr.Other (AddFromSp (bits 10 8 half) (bits 7 0 half)))
     small in' (lit< tt) (omega (arith, in'.0, in'.1)) refl
 
-pub push : (half : ℕ) → half < 2 ^ 16 → InArm 32 half → decoded half ≡ Op (instr.Many (Push (is_bit_set half 8) (bits 7 0 half)))
+pub push : (half : ℕ) → half < 2 ^ 16 → InArm 34 half → decoded half ≡ Op (instr.Many (Push (is_bit_set half 8) (bits 7 0 half)))
 unfolding rows ranges
 push half small in' =
     by_fe00 0xB400 0xB400 0xB5FF half (λ half. instr.Many (Push (is_bit_set half 8) (bits 7 0 half)))
     small in' (lit< tt) (omega (arith, in'.0, in'.1)) refl
 
-pub pop : (half : ℕ) → half < 2 ^ 16 → InArm 33 half → decoded half ≡ Op (instr.Many (Pop (is_bit_set half 8) (bits 7 0 half)))
+pub reverse : (half : ℕ) → half < 2 ^ 16 → InArm 35 half → decoded half ≡ Op (instr.Other (Rev (bits 2 0 half) (bits 5 3 half)))
+unfolding rows ranges
+reverse half small in' =
+    by_ffc0 0xBA00 0xBA00 0xBA3F half (λ half. instr.Other (Rev (bits 2 0 half) (bits 5 3 half)))
+    small in' (lit< tt) (omega (arith, in'.0, in'.1)) refl
+
+pub pop : (half : ℕ) → half < 2 ^ 16 → InArm 36 half → decoded half ≡ Op (instr.Many (Pop (is_bit_set half 8) (bits 7 0 half)))
 unfolding rows ranges
 pop half small in' =
     by_fe00 0xBC00 0xBC00 0xBDFF half (λ half. instr.Many (Pop (is_bit_set half 8) (bits 7 0 half)))
@@ -326,41 +346,41 @@ branch_form half = instr.Branch (Bcc (condition_of (bits 11 8 half)) (bits 7 0 h
 on_condition : (c : Condition) (half : ℕ) → bits 11 8 half ≡ condition_code c → Op (branch_form half) ≡ Op (instr.Branch (Bcc c (bits 7 0 half)))
 on_condition c half is = ap (λ (x : Condition). Op (instr.Branch (Bcc x (bits 7 0 half)))) (with_its_code c (bits 11 8 half) is)
 
-pub branch_equal : (half : ℕ) → half < 2 ^ 16 → InArm 34 half → decoded half ≡ Op (instr.Branch (Bcc Equal (bits 7 0 half)))
+pub branch_equal : (half : ℕ) → half < 2 ^ 16 → InArm 37 half → decoded half ≡ Op (instr.Branch (Bcc Equal (bits 7 0 half)))
 unfolding rows ranges
 branch_equal half small in' =
     by_f800 0xD000 0xD000 0xD0FF half branch_form small in' (lit< tt) (omega (arith, in'.0, in'.1)) refl ∙ on_condition Equal half (omega (arith, in'.0, in'.1))
 
-pub branch_not_equal : (half : ℕ) → half < 2 ^ 16 → InArm 35 half → decoded half ≡ Op (instr.Branch (Bcc NotEqual (bits 7 0 half)))
+pub branch_not_equal : (half : ℕ) → half < 2 ^ 16 → InArm 38 half → decoded half ≡ Op (instr.Branch (Bcc NotEqual (bits 7 0 half)))
 unfolding rows ranges
 branch_not_equal half small in' =
     by_f800 0xD000 0xD100 0xD1FF half branch_form small in' (lit< tt) (omega (arith, in'.0, in'.1)) refl ∙
     on_condition NotEqual half (omega (arith, in'.0, in'.1))
 
-pub branch_carry_set : (half : ℕ) → half < 2 ^ 16 → InArm 36 half → decoded half ≡ Op (instr.Branch (Bcc CarrySet (bits 7 0 half)))
+pub branch_carry_set : (half : ℕ) → half < 2 ^ 16 → InArm 39 half → decoded half ≡ Op (instr.Branch (Bcc CarrySet (bits 7 0 half)))
 unfolding rows ranges
 branch_carry_set half small in' =
     by_f800 0xD000 0xD200 0xD2FF half branch_form small in' (lit< tt) (omega (arith, in'.0, in'.1)) refl ∙
     on_condition CarrySet half (omega (arith, in'.0, in'.1))
 
-pub branch_carry_clear : (half : ℕ) → half < 2 ^ 16 → InArm 37 half → decoded half ≡ Op (instr.Branch (Bcc CarryClear (bits 7 0 half)))
+pub branch_carry_clear : (half : ℕ) → half < 2 ^ 16 → InArm 40 half → decoded half ≡ Op (instr.Branch (Bcc CarryClear (bits 7 0 half)))
 unfolding rows ranges
 branch_carry_clear half small in' =
     by_f800 0xD000 0xD300 0xD3FF half branch_form small in' (lit< tt) (omega (arith, in'.0, in'.1)) refl ∙
     on_condition CarryClear half (omega (arith, in'.0, in'.1))
 
-pub branch_higher : (half : ℕ) → half < 2 ^ 16 → InArm 38 half → decoded half ≡ Op (instr.Branch (Bcc Higher (bits 7 0 half)))
+pub branch_higher : (half : ℕ) → half < 2 ^ 16 → InArm 41 half → decoded half ≡ Op (instr.Branch (Bcc Higher (bits 7 0 half)))
 unfolding rows ranges
 branch_higher half small in' =
     by_fc00 0xD800 0xD800 0xD8FF half branch_form small in' (lit< tt) (omega (arith, in'.0, in'.1)) refl ∙
     on_condition Higher half (omega (arith, in'.0, in'.1))
 
-pub branch : (half : ℕ) → half < 2 ^ 16 → InArm 39 half → decoded half ≡ Op (instr.Branch (B (bits 10 0 half)))
+pub branch : (half : ℕ) → half < 2 ^ 16 → InArm 42 half → decoded half ≡ Op (instr.Branch (B (bits 10 0 half)))
 unfolding rows ranges
 branch half small in' =
     by_f800 0xE000 0xE000 0xE7FF half (λ half. instr.Branch (B (bits 10 0 half)))
     small in' (lit< tt) (omega (arith, in'.0, in'.1)) refl
 
-pub call : (half : ℕ) → InArm 40 half → decoded half ≡ NeedsSecond
+pub call : (half : ℕ) → InArm 43 half → decoded half ≡ NeedsSecond
 unfolding ranges
 call half in' = begins_pair half (omega (arith, in'.0))

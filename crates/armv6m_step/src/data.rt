@@ -157,7 +157,7 @@ pub(crate) fn right_by(value: u32, immediate: u8) -> Shifted
     }
 }
 
-fn amount(immediate: u8) -> u32
+pub(crate) fn amount(immediate: u8) -> u32
     ensures { result ≡ shift_amount immediate }
 {
     if immediate == 0 {

@@ -2,7 +2,7 @@
 //! left to `step`.
 #![tactic(auto, using(crate::proofs::RunLemmas::asks, std::proofs::lemmas::Bool::Decides::nat_tests))]
 
-ghost use Rattle.std.specs.Prelude.{◌≡◌, ◌*◌, if◌then◌else◌};
+ghost use Rattle.std.specs.Prelude.{◌≡◌, ◌*◌, ◌%◌, if◌then◌else◌};
 ghost use Rattle.armv6m_alu.specs.Bits.{is_bit_set};
 ghost use Rattle.armv6m_decode.specs.Rows.{bits};
 ghost use Rattle.armv6m_decode.specs.Table.{decoded, high_register};
@@ -22,13 +22,13 @@ ghost use Rattle.armv6m_step.specs.Step.{of_halfword, instruction};
 
 use crate::access::{byte_at, byte_to, half_at, half_to, peek16, word_at, word_to};
 use crate::arms::{self, arm_of};
-use crate::data::{add, add_carry, difference, right_by, subtract};
+use crate::data::{add, add_carry, amount, difference, right_by, subtract};
 use crate::ends::step_end;
 use crate::fields::{any_low, any_middle, byte, five, low, middle, three, top, upper};
 use crate::many::{pop, push};
 use crate::memory::{at_offset, bytes, halves, words};
 use crate::{Bus, Core, StepEnd, Stop, step};
-use armv6m_alu::{Shifted, Sum, rotate_right, shift_left};
+use armv6m_alu::{Shifted, Sum, rotate_right, shift_left, shift_right_signed};
 use armv6m_decode::registers::{LR, PC, SP};
 use armv6m_decode::targets::{far, literal, near, short};
 use armv6m_decode::{Alu, Branch, Condition, Decoded, Instr, Many, Memory, Other, decode32};
@@ -107,6 +107,17 @@ fn lsrs_immediate(core: &mut Core, pc: u32, half: u16) -> Quick
     ensures { Goes (alu core.old (sum pc 2) (Alu.LsrsImmediate (bits 2 0 half) (bits 5 3 half) (bits 10 6 half))) core.new result }
 {
     let shifted = right_by(core.read_wide(middle(half)), five(half));
+    put_shift(core, low(half), shifted);
+    let next = pc.wrapping_add(2);
+    Quick::Went { pc: next }
+}
+
+/// ASR (immediate).
+#[inline(always)]
+fn asrs_immediate(core: &mut Core, pc: u32, half: u16) -> Quick
+    ensures { Goes (alu core.old (sum pc 2) (Alu.AsrsImmediate (bits 2 0 half) (bits 5 3 half) (bits 10 6 half))) core.new result }
+{
+    let shifted = shift_right_signed(core.read_wide(middle(half)), amount(five(half)), core.c);
     put_shift(core, low(half), shifted);
     let next = pc.wrapping_add(2);
     Quick::Went { pc: next }
@@ -528,6 +539,17 @@ fn add_from_sp(core: &mut Core, pc: u32, half: u16) -> Quick
     Quick::Went { pc: next }
 }
 
+/// REV.
+#[inline(always)]
+fn reverse(core: &mut Core, pc: u32, half: u16) -> Quick
+    ensures { Goes (other core.old (sum pc 2) (Other.Rev (bits 2 0 half) (bits 5 3 half))) core.new result }
+{
+    let value = core.read_wide(middle(half)).swap_bytes();
+    core.write_wide(low(half), value);
+    let next = pc.wrapping_add(2);
+    Quick::Went { pc: next }
+}
+
 /// PUSH.
 #[inline(always)]
 fn push_list<B: Bus>(core: &mut Core, bus: &mut B, pc: u32, half: u16) -> Quick
@@ -622,6 +644,21 @@ fn branch_always(core: &Core, pc: u32, half: u16) -> Quick
     Quick::Went { pc: to }
 }
 
+/// BX to a Thumb address.
+#[inline(always)]
+fn exchange<B: Bus>(core: &Core, bus: &B, pc: u32, half: u16) -> Quick
+    requires pc { pc ≡ pc_of core.now }
+    requires row { half % 8 ≡ 0 → decoded half ≡ Decoded.Op (Instr.Branch (Branch.Bx (bits 6 3 half))) }
+    ensures { Steps B.acts (of_halfword core.now half (decoded half)) core.now bus.now result core.now bus.now }
+{
+    let target = core.read_wide(any_middle(half));
+    if half % 8 != 0 || target % 2 != 1 {
+        return Quick::Left;
+    }
+    let to = target - 1;
+    Quick::Went { pc: to }
+}
+
 /// BL, where its second halfword is at hand.
 #[inline(always)]
 fn call<B: Bus>(core: &mut Core, bus: &B, pc: u32, half: u16) -> Quick
@@ -652,6 +689,7 @@ fn arm<B: Bus>(core: &mut Core, bus: &mut B, pc: u32, half: u16) -> Quick
         arms::NONE => Quick::Left,
         arms::LSLS_IMMEDIATE => lsls_immediate(core, pc, half),
         arms::LSRS_IMMEDIATE => lsrs_immediate(core, pc, half),
+        arms::ASRS_IMMEDIATE => asrs_immediate(core, pc, half),
         arms::ADDS_REGISTER => adds_register(core, pc, half),
         arms::SUBS_REGISTER => subs_register(core, pc, half),
         arms::ADDS_IMMEDIATE3 => adds_immediate3(core, pc, half),
@@ -670,6 +708,7 @@ fn arm<B: Bus>(core: &mut Core, bus: &mut B, pc: u32, half: u16) -> Quick
         arms::ORRS => orrs(core, pc, half),
         arms::MULS => muls(core, pc, half),
         arms::MOV_HIGH => mov_high(core, pc, half),
+        arms::EXCHANGE => exchange(core, bus, pc, half),
         arms::LDR_LITERAL => ldr_literal(core, bus, pc, half),
         arms::STR_REGISTER => str_register(core, bus, pc, half),
         arms::LDR_REGISTER => ldr_register(core, bus, pc, half),
@@ -683,6 +722,7 @@ fn arm<B: Bus>(core: &mut Core, bus: &mut B, pc: u32, half: u16) -> Quick
         arms::LDR_SP => ldr_sp(core, bus, pc, half),
         arms::ADD_FROM_SP => add_from_sp(core, pc, half),
         arms::PUSH => push_list(core, bus, pc, half),
+        arms::REVERSE => reverse(core, pc, half),
         arms::POP => pop_list(core, bus, pc, half),
         arms::BRANCH_EQUAL => branch_equal(core, pc, half),
         arms::BRANCH_NOT_EQUAL => branch_not_equal(core, pc, half),
