@@ -100,6 +100,23 @@ fn store32<B: Bus>(bus: &mut B, at: u32, value: u32) -> Result<(), Stop>
     }
 }
 
+/// The byte at an address, where the bus has it at hand.
+#[inline(always)]
+pub(crate) fn peek8<B: Bus>(bus: &B, at: u32) -> Option<u32>
+    ensures gives { IfSome result (λ v. LoadGives B.acts 1 at bus.now (Ok v) bus.now) }
+    ensures fits { IfSome result (λ v. v < 2 ^ 8) }
+{
+    bus.peek8(at)
+}
+
+/// The word at an address, where the bus has it at hand.
+#[inline(always)]
+pub(crate) fn peek32<B: Bus>(bus: &B, at: u32) -> Option<u32>
+    ensures { IfSome result (λ v. LoadGives B.acts 4 at bus.now (Ok v) bus.now) }
+{
+    bus.peek32(at)
+}
+
 /// The halfword at an address, where the bus has it at hand.
 #[inline(always)]
 pub(crate) fn peek16<B: Bus>(bus: &B, at: u32) -> Option<u32>
@@ -111,7 +128,7 @@ pub(crate) fn peek16<B: Bus>(bus: &B, at: u32) -> Option<u32>
 
 /// As `load8`, whose result is taken here: its place is cleared only where it is called.
 #[inline(always)]
-fn far_load8<B: Bus>(bus: &mut B, at: u32) -> Result<u32, Stop>
+pub(crate) fn far_load8<B: Bus>(bus: &mut B, at: u32) -> Result<u32, Stop>
     ensures gives { LoadGives B.acts 1 at bus.old result bus.new }
     ensures fits { IfOk result (λ v. v < 2 ^ 8) }
 {
@@ -135,7 +152,7 @@ pub(crate) fn byte_at<B: Bus>(bus: &mut B, at: u32) -> Result<u32, Stop>
 
 /// As `load16`, whose result is taken here: its place is cleared only where it is called.
 #[inline(always)]
-fn far_load16<B: Bus>(bus: &mut B, at: u32) -> Result<u32, Stop>
+pub(crate) fn far_load16<B: Bus>(bus: &mut B, at: u32) -> Result<u32, Stop>
     ensures gives { LoadGives B.acts 2 at bus.old result bus.new }
     ensures fits { IfOk result (λ v. v < 2 ^ 16) }
 {
@@ -159,7 +176,7 @@ pub(crate) fn half_at<B: Bus>(bus: &mut B, at: u32) -> Result<u32, Stop>
 
 /// As `load32`, whose result is taken here: its place is cleared only where it is called.
 #[inline(always)]
-fn far_load32<B: Bus>(bus: &mut B, at: u32) -> Result<u32, Stop>
+pub(crate) fn far_load32<B: Bus>(bus: &mut B, at: u32) -> Result<u32, Stop>
     ensures { LoadGives B.acts 4 at bus.old result bus.new }
 {
     match load32(bus, at) {

@@ -13,6 +13,7 @@ mod data;
 mod ends;
 mod fields;
 mod instruction;
+mod loads;
 mod many;
 mod memory;
 mod memory_bus;

@@ -13,18 +13,19 @@ ghost use Rattle.armv6m_step.specs.DataRows.{alu};
 ghost use Rattle.armv6m_step.specs.Ends.{is_device_end, stop_end};
 ghost use Rattle.armv6m_step.specs.ListRows.{many};
 ghost use Rattle.armv6m_step.specs.Meaning.{Runs};
-ghost use Rattle.armv6m_step.specs.MemoryRows.{load_word, load_half, load_byte, store_word, store_half, store_byte, memory};
+ghost use Rattle.armv6m_step.specs.MemoryRows.{store_word, store_half, store_byte, memory};
 ghost use Rattle.armv6m_step.specs.Numbers.{sum};
 ghost use Rattle.armv6m_step.specs.OtherRows.{other};
 ghost use Rattle.armv6m_step.specs.Quick.{Goes, Steps, Reads};
 ghost use Rattle.armv6m_step.specs.Registers.{pc_of, reg, written, moved, with_nz, with_carry, with_nzcv};
 ghost use Rattle.armv6m_step.specs.Step.{of_halfword, instruction};
 
-use crate::access::{byte_at, byte_to, half_at, half_to, peek16, word_at, word_to};
+use crate::access::{byte_to, half_to, peek16, word_to};
 use crate::arms::{self, arm_of};
 use crate::data::{add, add_carry, amount, difference, right_by, subtract};
 use crate::ends::step_end;
 use crate::fields::{any_low, any_middle, byte, five, low, middle, three, top, upper};
+use crate::loads::{byte_into, half_into, word_into};
 use crate::many::{pop, push};
 use crate::memory::{at_offset, bytes, halves, words};
 use crate::{Bus, Core, StepEnd, Stop, step};
@@ -46,7 +47,7 @@ pub(crate) enum Quick {
 
 /// An instruction that stopped.
 #[inline(always)]
-fn stopped(stop: Stop) -> Quick
+pub(crate) fn stopped(stop: Stop) -> Quick
     ensures { result ≡ Quick.Done (stop_end stop) }
 {
     Quick::Done {
@@ -329,51 +330,6 @@ fn mov_high(core: &mut Core, pc: u32, half: u16) -> Quick
     core.write_wide(d, value);
     let next = pc.wrapping_add(2);
     Quick::Went { pc: next }
-}
-
-/// The word at an address, into a register.
-#[inline(always)]
-#[tactic(auto, using(crate::proofs::RunLemmas::asks), unfolding(crate::specs::MemoryRows::load_word))]
-fn word_into<B: Bus>(core: &mut Core, bus: &mut B, next: u32, t: usize, at: u32) -> Quick
-    ensures { Steps B.acts (load_word core.old next t at) core.old bus.old result core.new bus.new }
-{
-    match word_at(bus, at) {
-        Ok(value) => {
-            core.write_wide(t, value);
-            Quick::Went { pc: next }
-        }
-        Err(stop) => stopped(stop),
-    }
-}
-
-/// The halfword at an address, with zeros above it.
-#[inline(always)]
-#[tactic(auto, using(crate::proofs::RunLemmas::asks), unfolding(crate::specs::MemoryRows::load_half))]
-fn half_into<B: Bus>(core: &mut Core, bus: &mut B, next: u32, t: usize, at: u32) -> Quick
-    ensures { Steps B.acts (load_half core.old next t at) core.old bus.old result core.new bus.new }
-{
-    match half_at(bus, at) {
-        Ok(value) => {
-            core.write_wide(t, value);
-            Quick::Went { pc: next }
-        }
-        Err(stop) => stopped(stop),
-    }
-}
-
-/// The byte at an address, with zeros above it.
-#[inline(always)]
-#[tactic(auto, using(crate::proofs::RunLemmas::asks), unfolding(crate::specs::MemoryRows::load_byte))]
-fn byte_into<B: Bus>(core: &mut Core, bus: &mut B, next: u32, t: usize, at: u32) -> Quick
-    ensures { Steps B.acts (load_byte core.old next t at) core.old bus.old result core.new bus.new }
-{
-    match byte_at(bus, at) {
-        Ok(value) => {
-            core.write_wide(t, value);
-            Quick::Went { pc: next }
-        }
-        Err(stop) => stopped(stop),
-    }
 }
 
 /// A register, to the word at an address.
