@@ -1,5 +1,5 @@
 //! The calls of a controller.
-ghost use Rattle.std.specs.Prelude.{◌≡◌, ◌<◌, ◌%◌, ◌^◌, ◌≤◌, ◌+◌, ◌⊎◌, ℕ, List, IsTrue, OnOk, OnErr, IfOk, IfSome, Ok, Err, Some, None, true, false, []};
+ghost use Rattle.std.specs.Prelude.{◌≡◌, ◌<◌, ◌%◌, ◌^◌, ◌≤◌, ◌+◌, ◌⊎◌, ℕ, List, IsTrue, OnOk, OnErr, IfOk, IfSome, Ok, Err, Some, None, is_some, true, false, []};
 ghost use Rattle.faults.specs.Counts.{HasCause};
 ghost use Rattle.bench_model.specs.Act.{CellsDrop};
 ghost use Rattle.bench_model.specs.Device.{is_device};
@@ -35,9 +35,10 @@ pub struct Driver<R> {
     pub state: State<R>,
 }
 
-/// Takes a tick of an operation that has more than one left: whether there was one.
+/// Takes a tick of an operation that has more than one left: whether there was one. There is an operation.
 #[inline(always)]
 fn lowers(operation: &mut Option<Operation>) -> bool
+    requires { is_some operation.old ≡ true }
     ensures { LowersTo operation.old operation.new result }
 {
     match operation {
@@ -45,7 +46,8 @@ fn lowers(operation: &mut Option<Operation>) -> bool
             operation.ticks -= 1;
             true
         }
-        _ => false,
+        Some(_) => false,
+        None => unreachable!(),
     }
 }
 
@@ -124,6 +126,7 @@ impl<R: Registers> Driver<R> {
 
     /// A store of `width` bytes (1, 2 or 4) to the address `at`, a multiple of it: the row's answer and state, or a device
     /// fault and the state as it was.
+    #[inline(always)]
     #[tactic(auto, unfolding(crate::specs::Table::store_row))]
     pub fn store<B: Bench>(
         &mut self,
@@ -193,6 +196,7 @@ impl<R: Registers> Driver<R> {
     }
 
     /// A store to a cell, where no operation runs.
+    #[inline(always)]
     fn program<B: Bench>(
         &mut self,
         bench: &mut B,
@@ -264,6 +268,7 @@ impl<R: Registers> Driver<R> {
     }
 
     /// A store outside the RAM: as `store`, but nothing in a quiet range where nothing else takes it.
+    #[inline(always)]
     pub fn store_or_quiet<B: Bench>(
         &mut self,
         bench: &mut B,
@@ -287,9 +292,10 @@ impl<R: Registers> Driver<R> {
         }
     }
 
-    /// A tick of an operation that has more than one left, which changes no cell: whether there was one. Else all is as it was.
+    /// A tick of the operation that runs, if it has more than one left, which changes no cell: whether it has. Else all is as it was.
     #[inline(always)]
     pub fn runs_on(&mut self) -> bool
+        requires { is_running self.old.state ≡ true }
         ensures ticks { IsTrue result → (cells : List ℕ) → (self.new.state, cells) ≡ tick_row R.table self.old.state cells }
         ensures operation { range_of self.new.state.operation ≡ range_of self.old.state.operation }
         ensures runs { is_running self.new.state ≡ is_running self.old.state }

@@ -9,6 +9,7 @@ ghost use Rattle.flash_layout.specs.Cells.{cells_at};
 use bench_model::{Bench, BusEnd, DeviceFault};
 
 /// Looks at the cells from a place on.
+#[inline(always)]
 pub(crate) fn look<B: Bench>(bench: &mut B, place: u32, out: &mut [u8]) -> Result<(), BusEnd>
     requires range { place + length out.old ≤ (B.state bench.old).cell_count }
     requires idle { IsTrue B.tells → (B.state bench.old).operation ≡ None }
