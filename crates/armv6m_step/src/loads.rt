@@ -1,7 +1,7 @@
 //! Loads of a quick step, into a register. What is at hand goes there by a way of its own, beside that of what is loaded out of line.
-#![tactic(auto, using(crate::proofs::RunLemmas::asks, std::proofs::lemmas::Bool::Decides::nat_tests))]
 
 ghost use Rattle.armv6m_step.specs.MemoryRows.{load_word, load_half, load_byte};
+ghost use Rattle.armv6m_step.specs.Numbers.{sum};
 ghost use Rattle.armv6m_step.specs.Quick.{Steps};
 
 use crate::access::{far_load8, far_load16, far_load32, peek8, peek16, peek32};
@@ -11,16 +11,18 @@ use crate::{Bus, Core};
 /// The word at an address.
 #[inline(always)]
 #[tactic(auto, using(crate::proofs::RunLemmas::asks), unfolding(crate::specs::MemoryRows::load_word))]
-pub(crate) fn word_into<B: Bus>(core: &mut Core, bus: &mut B, next: u32, t: usize, at: u32) -> Quick
-    ensures { Steps B.acts (load_word core.old next t at) core.old bus.old result core.new bus.new }
+pub(crate) fn word_into<B: Bus>(core: &mut Core, bus: &mut B, pc: u32, t: usize, at: u32) -> Quick
+    ensures { Steps B.acts (load_word core.old (sum pc 2) t at) core.old bus.old result core.new bus.new }
 {
     if let Some(value) = peek32(bus, at) {
         core.write_wide(t, value);
+        let next = pc.wrapping_add(2);
         return Quick::Went { pc: next };
     }
     match far_load32(bus, at) {
         Ok(value) => {
             core.write_wide(t, value);
+            let next = pc.wrapping_add(2);
             Quick::Went { pc: next }
         }
         Err(stop) => stopped(stop),
@@ -30,16 +32,18 @@ pub(crate) fn word_into<B: Bus>(core: &mut Core, bus: &mut B, next: u32, t: usiz
 /// The halfword at an address, with zeros above it.
 #[inline(always)]
 #[tactic(auto, using(crate::proofs::RunLemmas::asks), unfolding(crate::specs::MemoryRows::load_half))]
-pub(crate) fn half_into<B: Bus>(core: &mut Core, bus: &mut B, next: u32, t: usize, at: u32) -> Quick
-    ensures { Steps B.acts (load_half core.old next t at) core.old bus.old result core.new bus.new }
+pub(crate) fn half_into<B: Bus>(core: &mut Core, bus: &mut B, pc: u32, t: usize, at: u32) -> Quick
+    ensures { Steps B.acts (load_half core.old (sum pc 2) t at) core.old bus.old result core.new bus.new }
 {
     if let Some(value) = peek16(bus, at) {
         core.write_wide(t, value);
+        let next = pc.wrapping_add(2);
         return Quick::Went { pc: next };
     }
     match far_load16(bus, at) {
         Ok(value) => {
             core.write_wide(t, value);
+            let next = pc.wrapping_add(2);
             Quick::Went { pc: next }
         }
         Err(stop) => stopped(stop),
@@ -49,16 +53,18 @@ pub(crate) fn half_into<B: Bus>(core: &mut Core, bus: &mut B, next: u32, t: usiz
 /// The byte at an address, with zeros above it.
 #[inline(always)]
 #[tactic(auto, using(crate::proofs::RunLemmas::asks), unfolding(crate::specs::MemoryRows::load_byte))]
-pub(crate) fn byte_into<B: Bus>(core: &mut Core, bus: &mut B, next: u32, t: usize, at: u32) -> Quick
-    ensures { Steps B.acts (load_byte core.old next t at) core.old bus.old result core.new bus.new }
+pub(crate) fn byte_into<B: Bus>(core: &mut Core, bus: &mut B, pc: u32, t: usize, at: u32) -> Quick
+    ensures { Steps B.acts (load_byte core.old (sum pc 2) t at) core.old bus.old result core.new bus.new }
 {
     if let Some(value) = peek8(bus, at) {
         core.write_wide(t, value);
+        let next = pc.wrapping_add(2);
         return Quick::Went { pc: next };
     }
     match far_load8(bus, at) {
         Ok(value) => {
             core.write_wide(t, value);
+            let next = pc.wrapping_add(2);
             Quick::Went { pc: next }
         }
         Err(stop) => stopped(stop),

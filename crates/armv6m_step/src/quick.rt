@@ -335,11 +335,14 @@ fn mov_high(core: &mut Core, pc: u32, half: u16) -> Quick
 /// A register, to the word at an address.
 #[inline(always)]
 #[tactic(auto, using(crate::proofs::RunLemmas::asks), unfolding(crate::specs::MemoryRows::store_word))]
-fn word_from<B: Bus>(core: &Core, bus: &mut B, next: u32, t: usize, at: u32) -> Quick
-    ensures { Steps B.acts (store_word core.now next t at) core.now bus.old result core.now bus.new }
+fn word_from<B: Bus>(core: &Core, bus: &mut B, pc: u32, t: usize, at: u32) -> Quick
+    ensures { Steps B.acts (store_word core.now (sum pc 2) t at) core.now bus.old result core.now bus.new }
 {
     match word_to(bus, at, core.read_wide(t)) {
-        Ok(()) => Quick::Went { pc: next },
+        Ok(()) => {
+            let next = pc.wrapping_add(2);
+            Quick::Went { pc: next }
+        }
         Err(stop) => stopped(stop),
     }
 }
@@ -347,11 +350,14 @@ fn word_from<B: Bus>(core: &Core, bus: &mut B, next: u32, t: usize, at: u32) -> 
 /// The low halfword of a register, to an address.
 #[inline(always)]
 #[tactic(auto, using(crate::proofs::RunLemmas::asks), unfolding(crate::specs::MemoryRows::store_half))]
-fn half_from<B: Bus>(core: &Core, bus: &mut B, next: u32, t: usize, at: u32) -> Quick
-    ensures { Steps B.acts (store_half core.now next t at) core.now bus.old result core.now bus.new }
+fn half_from<B: Bus>(core: &Core, bus: &mut B, pc: u32, t: usize, at: u32) -> Quick
+    ensures { Steps B.acts (store_half core.now (sum pc 2) t at) core.now bus.old result core.now bus.new }
 {
     match half_to(bus, at, core.read_wide(t) % 0x1_0000) {
-        Ok(()) => Quick::Went { pc: next },
+        Ok(()) => {
+            let next = pc.wrapping_add(2);
+            Quick::Went { pc: next }
+        }
         Err(stop) => stopped(stop),
     }
 }
@@ -359,11 +365,14 @@ fn half_from<B: Bus>(core: &Core, bus: &mut B, next: u32, t: usize, at: u32) -> 
 /// The low byte of a register, to an address.
 #[inline(always)]
 #[tactic(auto, using(crate::proofs::RunLemmas::asks), unfolding(crate::specs::MemoryRows::store_byte))]
-fn byte_from<B: Bus>(core: &Core, bus: &mut B, next: u32, t: usize, at: u32) -> Quick
-    ensures { Steps B.acts (store_byte core.now next t at) core.now bus.old result core.now bus.new }
+fn byte_from<B: Bus>(core: &Core, bus: &mut B, pc: u32, t: usize, at: u32) -> Quick
+    ensures { Steps B.acts (store_byte core.now (sum pc 2) t at) core.now bus.old result core.now bus.new }
 {
     match byte_to(bus, at, core.read_wide(t) % 0x100) {
-        Ok(()) => Quick::Went { pc: next },
+        Ok(()) => {
+            let next = pc.wrapping_add(2);
+            Quick::Went { pc: next }
+        }
         Err(stop) => stopped(stop),
     }
 }
@@ -375,7 +384,7 @@ fn ldr_literal<B: Bus>(core: &mut Core, bus: &mut B, pc: u32, half: u16) -> Quic
     ensures { Steps B.acts (memory core.old (sum pc 2) (Memory.LdrLiteral (bits 10 8 half) (bits 7 0 half))) core.old bus.old result core.new bus.new }
 {
     let at = literal(pc, byte(half));
-    word_into(core, bus, pc.wrapping_add(2), top(half), at)
+    word_into(core, bus, pc, top(half), at)
 }
 
 /// LDR at a register and an immediate.
@@ -384,7 +393,7 @@ fn ldr_immediate<B: Bus>(core: &mut Core, bus: &mut B, pc: u32, half: u16) -> Qu
     ensures { Steps B.acts (memory core.old (sum pc 2) (Memory.LdrImmediate (bits 2 0 half) (bits 5 3 half) (bits 10 6 half))) core.old bus.old result core.new bus.new }
 {
     let at = at_register(core, middle(half), words(five(half)));
-    word_into(core, bus, pc.wrapping_add(2), low(half), at)
+    word_into(core, bus, pc, low(half), at)
 }
 
 /// LDRB at a register and an immediate.
@@ -393,7 +402,7 @@ fn ldrb_immediate<B: Bus>(core: &mut Core, bus: &mut B, pc: u32, half: u16) -> Q
     ensures { Steps B.acts (memory core.old (sum pc 2) (Memory.LdrbImmediate (bits 2 0 half) (bits 5 3 half) (bits 10 6 half))) core.old bus.old result core.new bus.new }
 {
     let at = at_register(core, middle(half), bytes(five(half)));
-    byte_into(core, bus, pc.wrapping_add(2), low(half), at)
+    byte_into(core, bus, pc, low(half), at)
 }
 
 /// LDRH at a register and an immediate.
@@ -402,7 +411,7 @@ fn ldrh_immediate<B: Bus>(core: &mut Core, bus: &mut B, pc: u32, half: u16) -> Q
     ensures { Steps B.acts (memory core.old (sum pc 2) (Memory.LdrhImmediate (bits 2 0 half) (bits 5 3 half) (bits 10 6 half))) core.old bus.old result core.new bus.new }
 {
     let at = at_register(core, middle(half), halves(five(half)));
-    half_into(core, bus, pc.wrapping_add(2), low(half), at)
+    half_into(core, bus, pc, low(half), at)
 }
 
 /// The address of two low registers.
@@ -419,7 +428,7 @@ fn str_register<B: Bus>(core: &Core, bus: &mut B, pc: u32, half: u16) -> Quick
     ensures { Steps B.acts (memory core.now (sum pc 2) (Memory.StrRegister (bits 2 0 half) (bits 5 3 half) (bits 8 6 half))) core.now bus.old result core.now bus.new }
 {
     let at = at_registers(core, half);
-    word_from(core, bus, pc.wrapping_add(2), low(half), at)
+    word_from(core, bus, pc, low(half), at)
 }
 
 /// LDR at two registers.
@@ -428,7 +437,7 @@ fn ldr_register<B: Bus>(core: &mut Core, bus: &mut B, pc: u32, half: u16) -> Qui
     ensures { Steps B.acts (memory core.old (sum pc 2) (Memory.LdrRegister (bits 2 0 half) (bits 5 3 half) (bits 8 6 half))) core.old bus.old result core.new bus.new }
 {
     let at = at_registers(core, half);
-    word_into(core, bus, pc.wrapping_add(2), low(half), at)
+    word_into(core, bus, pc, low(half), at)
 }
 
 /// STR at a register and an immediate.
@@ -437,7 +446,7 @@ fn str_immediate<B: Bus>(core: &Core, bus: &mut B, pc: u32, half: u16) -> Quick
     ensures { Steps B.acts (memory core.now (sum pc 2) (Memory.StrImmediate (bits 2 0 half) (bits 5 3 half) (bits 10 6 half))) core.now bus.old result core.now bus.new }
 {
     let at = at_register(core, middle(half), words(five(half)));
-    word_from(core, bus, pc.wrapping_add(2), low(half), at)
+    word_from(core, bus, pc, low(half), at)
 }
 
 /// STRB at a register and an immediate.
@@ -446,7 +455,7 @@ fn strb_immediate<B: Bus>(core: &Core, bus: &mut B, pc: u32, half: u16) -> Quick
     ensures { Steps B.acts (memory core.now (sum pc 2) (Memory.StrbImmediate (bits 2 0 half) (bits 5 3 half) (bits 10 6 half))) core.now bus.old result core.now bus.new }
 {
     let at = at_register(core, middle(half), bytes(five(half)));
-    byte_from(core, bus, pc.wrapping_add(2), low(half), at)
+    byte_from(core, bus, pc, low(half), at)
 }
 
 /// STRH at a register and an immediate.
@@ -455,7 +464,7 @@ fn strh_immediate<B: Bus>(core: &Core, bus: &mut B, pc: u32, half: u16) -> Quick
     ensures { Steps B.acts (memory core.now (sum pc 2) (Memory.StrhImmediate (bits 2 0 half) (bits 5 3 half) (bits 10 6 half))) core.now bus.old result core.now bus.new }
 {
     let at = at_register(core, middle(half), halves(five(half)));
-    half_from(core, bus, pc.wrapping_add(2), low(half), at)
+    half_from(core, bus, pc, low(half), at)
 }
 
 /// The address of SP and an immediate.
@@ -472,7 +481,7 @@ fn str_sp<B: Bus>(core: &Core, bus: &mut B, pc: u32, half: u16) -> Quick
     ensures { Steps B.acts (memory core.now (sum pc 2) (Memory.StrSp (bits 10 8 half) (bits 7 0 half))) core.now bus.old result core.now bus.new }
 {
     let at = at_sp(core, half);
-    word_from(core, bus, pc.wrapping_add(2), top(half), at)
+    word_from(core, bus, pc, top(half), at)
 }
 
 /// LDR at SP and an immediate.
@@ -481,7 +490,7 @@ fn ldr_sp<B: Bus>(core: &mut Core, bus: &mut B, pc: u32, half: u16) -> Quick
     ensures { Steps B.acts (memory core.old (sum pc 2) (Memory.LdrSp (bits 10 8 half) (bits 7 0 half))) core.old bus.old result core.new bus.new }
 {
     let at = at_sp(core, half);
-    word_into(core, bus, pc.wrapping_add(2), top(half), at)
+    word_into(core, bus, pc, top(half), at)
 }
 
 /// ADD of SP and an immediate.
