@@ -126,6 +126,15 @@ pub(crate) fn peek16<B: Bus>(bus: &B, at: u32) -> Option<u32>
     bus.peek16(at)
 }
 
+/// As `peek16`, for the first halfword of an instruction.
+#[inline(always)]
+pub(crate) fn fetch16<B: Bus>(bus: &B, at: u32) -> Option<u32>
+    ensures gives { IfSome result (λ v. LoadGives B.acts 2 at bus.now (Ok v) bus.now) }
+    ensures fits { IfSome result (λ v. v < 2 ^ 16) }
+{
+    bus.fetch16(at)
+}
+
 /// As `load8`, whose result is taken here: its place is cleared only where it is called.
 #[inline(always)]
 pub(crate) fn far_load8<B: Bus>(bus: &mut B, at: u32) -> Result<u32, Stop>

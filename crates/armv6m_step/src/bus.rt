@@ -47,6 +47,15 @@ pub trait Bus {
         requires { at % 4 ≡ 0 }
         ensures { acts self.old (Store 4 at value) (stored result) self.new };
 
+    /// As `peek16`, for the first halfword of an instruction.
+    fn fetch16(&self, at: u32) -> Option<u32>
+        ensures even { IfSome result (λ v. at % 2 ≡ 0) }
+        ensures acts { IfSome result (λ v. acts self.now (Load 2 at) (Ok v) self.now) }
+        ensures fits { IfSome result (λ v. v < 2 ^ 16) }
+    {
+        None
+    }
+
     /// The byte at an address, where the bus has it at hand: it would answer a load with it, and be as it is.
     fn peek8(&self, at: u32) -> Option<u32>
         ensures acts { IfSome result (λ v. acts self.now (Load 1 at) (Ok v) self.now) }

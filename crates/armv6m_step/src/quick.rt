@@ -20,7 +20,7 @@ ghost use Rattle.armv6m_step.specs.Quick.{Goes, Steps, Reads};
 ghost use Rattle.armv6m_step.specs.Registers.{pc_of, reg, written, moved, with_nz, with_carry, with_nzcv};
 ghost use Rattle.armv6m_step.specs.Step.{of_halfword, instruction};
 
-use crate::access::{byte_to, half_to, peek16, word_to};
+use crate::access::{byte_to, fetch16, half_to, peek16, word_to};
 use crate::arms::{self, arm_of};
 use crate::data::{add, add_carry, amount, difference, right_by, subtract};
 use crate::ends::step_end;
@@ -707,7 +707,7 @@ fn quick_step<B: Bus>(core: &mut Core, bus: &mut B, pc: u32) -> Quick
     requires { pc ≡ pc_of core.old }
     ensures { Steps B.acts (instruction core.old) core.old bus.old result core.new bus.new }
 {
-    match peek16(bus, pc) {
+    match fetch16(bus, pc) {
         Some(half) => arm(core, bus, pc, half as u16),
         None => Quick::Left,
     }

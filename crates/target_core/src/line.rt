@@ -12,7 +12,8 @@ use ram_arena::Arena;
 /// The bus of the target, for as long as a slice runs. The RAM is a window of an arena. The bench has the controller's cells, and its open
 /// operation is the controller's. So that a step costs little, it keeps where the window begins, how much of the RAM lies below the end of all
 /// addresses, where the controller's block begins, how many bytes of it are apart from the RAM (none, where it meets the RAM), and whether an
-/// operation runs.
+/// operation runs. `code` and `code_halves` are the base of the RAM and its halfwords once more, for the fetch alone: so the compiler takes them from
+/// memory there, and holds none of them in a register for the access that may follow.
 #[derive(Drop)]
 pub(crate) struct Line<'a, B: Bench> {
     pub ram_base: u32,
@@ -20,6 +21,8 @@ pub(crate) struct Line<'a, B: Bench> {
     pub reach: usize,
     pub halves: usize,
     pub words: usize,
+    pub code: u32,
+    pub code_halves: usize,
     pub block: u32,
     pub apart: u32,
     pub from: usize,
@@ -32,6 +35,8 @@ pub(crate) struct Line<'a, B: Bench> {
     ghost reaches: { reach ≡ min ram_size (2 ^ 32 - ram_base) },
     ghost by_halves: { halves ≡ (if nat_eq (ram_base % 2) 0 then reach / 2 else 0) },
     ghost by_words: { words ≡ (if nat_eq (ram_base % 4) 0 then reach / 4 else 0) },
+    ghost is_code: { code ≡ ram_base },
+    ghost by_code: { code_halves ≡ halves },
     ghost in_block: { apart ≤ unit.now.layout.block },
     ghost at_block: { block ≡ unit.now.layout.base },
     ghost is_apart: { LiesApart ram_base ram_size block apart },
@@ -140,6 +145,12 @@ impl<'a, B: Bench> Bus for Line<'a, B> {
                 end
             }
         }
+    }
+
+    #[inline(always)]
+    fn fetch16(&self, at: u32) -> Option<u32> {
+        let offset = self.code_place(at)?;
+        Some(self.arena.load16_from(self.from, self.window, offset))
     }
 
     #[inline(always)]

@@ -228,6 +228,7 @@ impl Machine {
     {
         let from = arena.begin(window);
         let reach = reach(self.ram_base, self.ram_size);
+        let halves = steps_in(self.ram_base, reach, 2);
         let block = self.unit.layout.base;
         let runs = self.unit.is_running();
         let mut line = Line {
@@ -235,8 +236,10 @@ impl Machine {
             ram_base: self.ram_base,
             ram_size: self.ram_size,
             reach: reach as usize,
-            halves: steps_in(self.ram_base, reach, 2),
+            halves,
             words: steps_in(self.ram_base, reach, 4),
+            code: self.ram_base,
+            code_halves: halves,
             block,
             apart: apart(self.ram_base, self.ram_size, block, self.unit.layout.block),
             runs,
