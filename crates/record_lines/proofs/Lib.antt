@@ -1,4 +1,5 @@
 pub mod Pairs
+pub mod Values
 pub mod CellLemmas
 pub mod Reading
 pub mod OneReading

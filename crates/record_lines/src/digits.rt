@@ -1,15 +1,60 @@
 //! Bytes that are written as pairs of hexadecimal digits.
-ghost use Rattle.std.specs.Prelude.{◌≡◌, ◌≤◌, ◌*◌, length, sum};
+ghost use Rattle.std.specs.Prelude.{◌≡◌, ◌≤◌, ◌*◌, length, sum, unwrap_or};
 ghost use Rattle.std.specs.List.{list_all};
+ghost use Rattle.octets.specs.Digit.{hex_value, pair_value};
 ghost use Rattle.record_lines.specs.Digits.{is_hex_digit, pairs};
 
-use octets::{hex_digit, hex_pair};
+/// The value of each byte as a hexadecimal digit, and 16 where it is none. A processor foresees no digit, so a test of each
+/// one costs more than a look into a table.
+const VALUES: [u8; 256] = [
+    16, 16, 16, 16, 16, 16, 16, 16, 16, 16, 16, 16, 16, 16, 16, 16, 16, 16, 16, 16, 16, 16, 16, 16,
+    16, 16, 16, 16, 16, 16, 16, 16, 16, 16, 16, 16, 16, 16, 16, 16, 16, 16, 16, 16, 16, 16, 16, 16,
+    0, 1, 2, 3, 4, 5, 6, 7, 8, 9, 16, 16, 16, 16, 16, 16, 16, 10, 11, 12, 13, 14, 15, 16, 16, 16,
+    16, 16, 16, 16, 16, 16, 16, 16, 16, 16, 16, 16, 16, 16, 16, 16, 16, 16, 16, 16, 16, 16, 16, 10,
+    11, 12, 13, 14, 15, 16, 16, 16, 16, 16, 16, 16, 16, 16, 16, 16, 16, 16, 16, 16, 16, 16, 16, 16,
+    16, 16, 16, 16, 16, 16, 16, 16, 16, 16, 16, 16, 16, 16, 16, 16, 16, 16, 16, 16, 16, 16, 16, 16,
+    16, 16, 16, 16, 16, 16, 16, 16, 16, 16, 16, 16, 16, 16, 16, 16, 16, 16, 16, 16, 16, 16, 16, 16,
+    16, 16, 16, 16, 16, 16, 16, 16, 16, 16, 16, 16, 16, 16, 16, 16, 16, 16, 16, 16, 16, 16, 16, 16,
+    16, 16, 16, 16, 16, 16, 16, 16, 16, 16, 16, 16, 16, 16, 16, 16, 16, 16, 16, 16, 16, 16, 16, 16,
+    16, 16, 16, 16, 16, 16, 16, 16, 16, 16, 16, 16, 16, 16, 16, 16, 16, 16, 16, 16, 16, 16, 16, 16,
+    16, 16, 16, 16, 16, 16, 16, 16, 16, 16, 16, 16, 16, 16,
+];
+
+/// The value of a hexadecimal digit in either case, and 16 for any other byte.
+#[inline(always)]
+fn value_of(byte: u8) -> u8
+    ensures { result ≡ unwrap_or (hex_value byte) 16 }
+{
+    VALUES[usize::from(byte)]
+}
+
+/// Whether a byte is a hexadecimal digit.
+#[inline(always)]
+fn is_digit(byte: u8) -> bool
+    ensures { result ≡ is_hex_digit byte }
+{
+    value_of(byte) < 16
+}
+
+/// The byte that two hexadecimal digits stand for, and 0 where one of them is no digit.
+#[inline(always)]
+fn byte_of(high: u8, low: u8) -> u8
+    ensures { result ≡ unwrap_or (pair_value high low) 0 }
+{
+    let high = value_of(high);
+    let low = value_of(low);
+    if high < 16 && low < 16 {
+        16 * high + low
+    } else {
+        0
+    }
+}
 
 /// Whether each byte of a text is a hexadecimal digit.
 pub fn all_digits(text: &[u8]) -> bool
     ensures { result ≡ list_all is_hex_digit text.now }
 {
-    text.iter().all(|byte| hex_digit(*byte).is_some())
+    text.iter().all(|byte| is_digit(*byte))
 }
 
 /// Writes the bytes that pairs of digits stand for.
@@ -18,7 +63,7 @@ pub fn decode(digits: &[u8], out: &mut [u8])
     ensures { out.new ≡ pairs digits.now }
 {
     for (index, byte) in out.iter_mut().enumerate() {
-        *byte = hex_pair(digits[2 * index], digits[2 * index + 1]).unwrap_or(0);
+        *byte = byte_of(digits[2 * index], digits[2 * index + 1]);
     }
 }
 

@@ -1,6 +1,5 @@
 -- `decode`: that it keeps its contract, and that its loop keeps what it has to.
-use Rattle.std.proofs.Common.{◌≢◌, ◌<◌, ◌∙◌, length, sym, ap, arith, below_more, get_or-set_other, get_or-set_same}
-use Rattle.std.specs.Prelude.{unwrap_or}
+use Rattle.std.proofs.Common.{◌≢◌, ◌<◌, ◌∙◌, length, sym, arith, below_more, get_or-set_other, get_or-set_same}
 use Rattle.std.proofs.lemmas.Grind.{same_number_lists}
 use Rattle.record_lines.proofs.Pairs.{length-pairs, get_or-pairs}
 use Rattle.record_lines.proofs.digits.decode.Goals as goal
@@ -11,7 +10,7 @@ loop-index-preserved c =
     let lt : index < length c.loop-index.out = omega arith in
     below_more _ _
     (λ k h. let ne : k ≢ index = omega arith in rw get_or-set_other (c.loop-index.invariant k h))
-    (rw get_or-set_same (c.unwrap_or.ensures ∙ ap (λ o. unwrap_or o 0) c.hex_pair.ensures ∙ sym (get_or-pairs c.args.digits.now index (omega arith))))
+    (rw get_or-set_same (c.byte_of.ensures ∙ sym (get_or-pairs c.args.digits.now index (omega arith))))
 
 pub returns : goal.returns
 returns c =

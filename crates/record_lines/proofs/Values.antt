@@ -1,0 +1,53 @@
+-- The table of the values of digits, held against the definition at each of the 256 bytes.
+use Rattle.std.proofs.Common.{◌≡◌, ◌<◌, ◌≤◌, ◌∙◌, ℕ, Bool, false, List, map, get_or, Option, Some, None, refl, sym, ap, arith}
+use Rattle.std.specs.Prelude.{nat_lt, is_some, unwrap_or}
+use Rattle.std.specs.List.{range_with_len}
+use Rattle.std.proofs.lemmas.Bool.Decides.{nat_tests}
+use Rattle.std.proofs.lemmas.List.FromFn.{get_or-map-range_with_len}
+use Rattle.octets.specs.Digit.{hex_value, byte_of_values, pair_value}
+use Rattle.record_lines.specs.Digits.{is_hex_digit}
+use Rattle.record_lines.specs.declared.digits.TheConstants.{VALUES}
+
+abbrev value : ℕ → ℕ
+value byte = unwrap_or (hex_value byte) 16
+
+table_is : VALUES ≡ map value (range_with_len 0 256)
+unfolding hex_value
+table_is = refl
+
+abbrev is_below : ℕ → Bool
+is_below byte = nat_lt (value byte) 16
+
+tests_are : map is_below (range_with_len 0 256) ≡ map is_hex_digit (range_with_len 0 256)
+unfolding hex_value
+tests_are = refl
+
+-- the value at a byte's place
+pub value_at : (byte : ℕ) → byte < 256 → get_or VALUES byte 0 ≡ unwrap_or (hex_value byte) 16
+value_at byte lt = ap (λ (t : List ℕ). get_or t byte 0) table_is ∙ get_or-map-range_with_len value 0 256 byte byte 0 lt (omega arith)
+
+-- it is below 16 just where the byte is a digit
+pub digit_at : (byte : ℕ) → byte < 256 → nat_lt (unwrap_or (hex_value byte) 16) 16 ≡ is_hex_digit byte
+digit_at byte lt =
+    sym (get_or-map-range_with_len is_below 0 256 byte byte false lt (omega arith))
+    ∙ ap (λ (t : List Bool). get_or t byte false) tests_are
+    ∙ get_or-map-range_with_len is_hex_digit 0 256 byte byte false lt (omega arith)
+
+none_first : (high low : Option ℕ) → is_some high ≡ false → 0 ≡ unwrap_or (byte_of_values high low) 0
+none_first None low none = refl
+none_first (Some x) low none = absurd (cc)
+
+none_second : (high low : Option ℕ) → is_some low ≡ false → 0 ≡ unwrap_or (byte_of_values high low) 0
+none_second None None none = refl
+none_second (Some x) None none = refl
+none_second high (Some y) none = absurd (cc)
+
+not_digit : (byte a : ℕ) → byte < 256 → a ≡ unwrap_or (hex_value byte) 16 → 16 ≤ a → is_hex_digit byte ≡ false
+not_digit byte a lt p le = sym (digit_at byte lt) ∙ ap (λ (n : ℕ). nat_lt n 16) (sym p) ∙ (let is : nat_lt a 16 ≡ false = grind (arith, nat_tests) in is)
+
+-- two bytes of which one is no digit stand for none
+pub first_none : (high low a : ℕ) → high < 256 → a ≡ unwrap_or (hex_value high) 16 → 16 ≤ a → 0 ≡ unwrap_or (pair_value high low) 0
+first_none high low a lt p le = none_first (hex_value high) (hex_value low) (not_digit high a lt p le)
+
+pub second_none : (high low b : ℕ) → low < 256 → b ≡ unwrap_or (hex_value low) 16 → 16 ≤ b → 0 ≡ unwrap_or (pair_value high low) 0
+second_none high low b lt p le = none_second (hex_value high) (hex_value low) (not_digit low b lt p le)
