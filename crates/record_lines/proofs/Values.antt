@@ -1,6 +1,6 @@
--- The table of the values of digits, held against the definition at each of the 256 bytes.
-use Rattle.std.proofs.Common.{◌≡◌, ◌<◌, ◌≤◌, ◌∙◌, ℕ, Bool, false, List, map, get_or, Option, Some, None, refl, sym, ap, arith}
-use Rattle.std.specs.Prelude.{nat_lt, is_some, unwrap_or}
+-- The table of the values of digits and the test of a digit, held against their definitions at each of the 256 bytes.
+use Rattle.std.proofs.Common.{◌≡◌, ◌<◌, ◌≤◌, ◌+◌, ◌%◌, ◌∙◌, ℕ, Bool, false, List, map, get_or, Option, Some, None, refl, sym, ap, arith, bit_or}
+use Rattle.std.specs.Prelude.{◌||◌, nat_lt, is_some, unwrap_or}
 use Rattle.std.specs.List.{range_with_len}
 use Rattle.std.proofs.lemmas.Bool.Decides.{nat_tests}
 use Rattle.std.proofs.lemmas.List.FromFn.{get_or-map-range_with_len}
@@ -15,23 +15,34 @@ table_is : VALUES ≡ map value (range_with_len 0 256)
 unfolding hex_value
 table_is = refl
 
+-- two tests that agree on each byte in a row
+same_test : (f g : ℕ → Bool) → map f (range_with_len 0 256) ≡ map g (range_with_len 0 256) → (byte : ℕ) → byte < 256 → f byte ≡ g byte
+same_test f g same byte lt =
+    sym (get_or-map-range_with_len f 0 256 byte byte false lt (omega arith))
+    ∙ ap (λ (t : List Bool). get_or t byte false) same
+    ∙ get_or-map-range_with_len g 0 256 byte byte false lt (omega arith)
+
 abbrev is_below : ℕ → Bool
 is_below byte = nat_lt (value byte) 16
 
-tests_are : map is_below (range_with_len 0 256) ≡ map is_hex_digit (range_with_len 0 256)
+below_are : map is_below (range_with_len 0 256) ≡ map is_hex_digit (range_with_len 0 256)
+unfolding hex_value
+below_are = refl
+
+abbrev is_tested : ℕ → Bool
+is_tested byte = nat_lt ((byte + 208) % 256) 10 || nat_lt ((bit_or byte 32 + 159) % 256) 6
+
+tests_are : map is_tested (range_with_len 0 256) ≡ map is_hex_digit (range_with_len 0 256)
 unfolding hex_value
 tests_are = refl
+
+-- the test of a byte by two ranges
+pub test_is : (byte : ℕ) → byte < 256 → (nat_lt ((byte + 208) % 256) 10 || nat_lt ((bit_or byte 32 + 159) % 256) 6) ≡ is_hex_digit byte
+test_is byte lt = same_test is_tested is_hex_digit tests_are byte lt
 
 -- the value at a byte's place
 pub value_at : (byte : ℕ) → byte < 256 → get_or VALUES byte 0 ≡ unwrap_or (hex_value byte) 16
 value_at byte lt = ap (λ (t : List ℕ). get_or t byte 0) table_is ∙ get_or-map-range_with_len value 0 256 byte byte 0 lt (omega arith)
-
--- it is below 16 just where the byte is a digit
-pub digit_at : (byte : ℕ) → byte < 256 → nat_lt (unwrap_or (hex_value byte) 16) 16 ≡ is_hex_digit byte
-digit_at byte lt =
-    sym (get_or-map-range_with_len is_below 0 256 byte byte false lt (omega arith))
-    ∙ ap (λ (t : List Bool). get_or t byte false) tests_are
-    ∙ get_or-map-range_with_len is_hex_digit 0 256 byte byte false lt (omega arith)
 
 none_first : (high low : Option ℕ) → is_some high ≡ false → 0 ≡ unwrap_or (byte_of_values high low) 0
 none_first None low none = refl
@@ -43,7 +54,10 @@ none_second (Some x) None none = refl
 none_second high (Some y) none = absurd (cc)
 
 not_digit : (byte a : ℕ) → byte < 256 → a ≡ unwrap_or (hex_value byte) 16 → 16 ≤ a → is_hex_digit byte ≡ false
-not_digit byte a lt p le = sym (digit_at byte lt) ∙ ap (λ (n : ℕ). nat_lt n 16) (sym p) ∙ (let is : nat_lt a 16 ≡ false = grind (arith, nat_tests) in is)
+not_digit byte a lt p le =
+    sym (same_test is_below is_hex_digit below_are byte lt)
+    ∙ ap (λ (n : ℕ). nat_lt n 16) (sym p)
+    ∙ (let is : nat_lt a 16 ≡ false = grind (arith, nat_tests) in is)
 
 -- two bytes of which one is no digit stand for none
 pub first_none : (high low a : ℕ) → high < 256 → a ≡ unwrap_or (hex_value high) 16 → 16 ≤ a → 0 ≡ unwrap_or (pair_value high low) 0

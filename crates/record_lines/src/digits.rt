@@ -28,12 +28,14 @@ fn value_of(byte: u8) -> u8
     VALUES[usize::from(byte)]
 }
 
-/// Whether a byte is a hexadecimal digit.
+/// Whether a byte is a hexadecimal digit. It has no branch, so that many bytes are tested at once.
 #[inline(always)]
 fn is_digit(byte: u8) -> bool
     ensures { result ≡ is_hex_digit byte }
 {
-    value_of(byte) < 16
+    let number = byte.wrapping_sub(b'0');
+    let letter = (byte | 32).wrapping_sub(b'a');
+    (number < 10) | (letter < 6)
 }
 
 /// The byte that two hexadecimal digits stand for, and 0 where one of them is no digit.
@@ -54,7 +56,11 @@ fn byte_of(high: u8, low: u8) -> u8
 pub fn all_digits(text: &[u8]) -> bool
     ensures { result ≡ list_all is_hex_digit text.now }
 {
-    text.iter().all(|byte| is_digit(*byte))
+    let mut all = true;
+    for byte in text {
+        all &= is_digit(*byte);
+    }
+    all
 }
 
 /// Writes the bytes that pairs of digits stand for.
