@@ -1,6 +1,7 @@
 #!/bin/bash
 # Measures what reading costs, and prints the tables of docs/MEASURED.md: `compare` of 16 MiB beside cmp, by turns, and `plan` of 65,536 sectors, which may take 42 MiB; then
-# `verify` of 16 MiB in each form; and inputs that were made to be dear, none of which may take more than 1 GiB or 30 s.
+# `verify` of 16 MiB in each form, of which Intel HEX and S-records may take as long as objcopy, by turns, and 80 MB; and inputs that were made to be dear, none of which may
+# take more than 1 GiB or 30 s.
 #   bash tests/cost_of_reading.sh [PROGRAM [OLD]]        (from crates/flm_tool; else out/flm_tool; OLD is measured beside it, by turns)
 # It ends with status 1 where a figure is past its limit.
 set -u
@@ -18,6 +19,7 @@ past=0
 timed() { /usr/bin/time -q -f '%U %S %e %M' -o time "$@" > out 2> err; }
 
 # The least user and system time of five samples of so many runs each, of some programs by turns, for one run: NAME RUNS PROGRAM.. -- WORDS..
+# `first` and `last` are the milliseconds of the first and of the last program.
 least() {
     local name=$1 runs=$2 programs=() least=() at seconds TIMEFORMAT='%U %S'
     shift 2
@@ -36,6 +38,7 @@ least() {
     for at in "${!programs[@]}"; do
         awk -v name="$name, ${programs[at]##*/}" -v t="${least[at]}" 'BEGIN { printf "| %s | %.1f ms |\n", name, t }'
     done
+    first=${least[0]} last=${least[-1]}
 }
 
 today=$(date '+%-d %B %Y')
@@ -130,6 +133,24 @@ dear 'raw bytes' 0 verify --raw-at 0x08000000 board.toml image
 (grep -v '^S7' input | shuf; echo S70500000000FA) > shuffled && dear 'the same, shuffled' 0 verify board.toml shuffled
 awk 'NR % 2 == 0 || /^S7/' input > apart && dear "every second of these records" 0 verify board.toml apart
 (grep -v '^S7' apart | shuf; echo S70500000000FA) > shuffled && dear 'the same, shuffled' 0 verify board.toml shuffled
+echo
+
+# The text `input` of 16 MiB beside objcopy: NAME FORM.
+beside_objcopy() {
+    local form=$2
+    objcopy_of_both() { objcopy -I "$form" -O binary input binary; }
+    least "\`verify\` of 16 MiB of $1" 2 "$program" ${old:+"$old"} objcopy_of_both -- job cells verify board.toml input
+    timed "$program" job cells verify board.toml input
+    if awk -v first="$first" -v last="$last" '{ exit first <= last && $4 * 1024 <= 80e6 }' time; then
+        echo "$1: longer than objcopy, or more than 80 MB"
+        past=$((past + 1))
+    fi
+}
+
+echo "| Beside objcopy, the least of five samples, $today | User and system |"
+echo '|---|---|'
+"$program" job cells dump hex board.toml > input && beside_objcopy 'Intel HEX' ihex
+"$program" job cells dump srec board.toml > input && beside_objcopy 'S-records' srec
 echo
 
 echo "| Input that is dear, $today | User | System | Wall | Memory |"
