@@ -1,7 +1,7 @@
 #!/bin/bash
-# Measures what reading costs, and prints the tables of docs/MEASURED.md: `compare` of 16 MiB beside cmp, by turns, and `plan` of 65,536 sectors, which may take 42 MiB; then
-# `verify` of 16 MiB in each form, of which Intel HEX and S-records may take as long as objcopy, by turns, and 80 MB; and inputs that were made to be dear, none of which may
-# take more than 1 GiB or 30 s.
+# Measures what reading costs, and prints the tables of docs/MEASURED.md: `compare` of 16 MiB beside cmp, by turns, and `plan` of 65,536 sectors,
+# which may take 42 MiB; then `verify` of 16 MiB in each form, of which Intel HEX and S-records may take as long as objcopy, by turns, and 80 MB; and
+# inputs that were made to be dear, none of which may take more than 1 GiB or 30 s.
 #   bash tests/cost_of_reading.sh [PROGRAM [OLD]]        (from crates/flm_tool; else out/flm_tool; OLD is measured beside it, by turns)
 # It ends with status 1 where a figure is past its limit.
 set -u
