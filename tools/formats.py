@@ -1,5 +1,5 @@
 """Models of the readers, written from the formats: Intel HEX, S-records, ELF, FLM files, boards and job files. What they expect of a file is what the
-stored outputs of the test crates hold; they were written from the formats, and seven readings were settled against what is stored.
+stored outputs of the test crates hold; they were written from the formats, and eight readings were settled against what is stored.
 
 A refusal is raised as `Refused`, with the words that stand for it in docs/USE.md."""
 import hashlib

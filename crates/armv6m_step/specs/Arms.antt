@@ -1,58 +1,55 @@
 -- The arms of a quick step: the halfwords that each is for.
-use Rattle.std.specs.Prelude.{ℕ, ◌≤◌, List, [], ◌∷◌, slice_index_or}
+use Rattle.std.specs.Prelude.{ℕ, ◌≤◌}
+use Rattle.armv6m_step.specs.declared.arms.Arm.{Arm}
+use Rattle.armv6m_step.specs.declared.arms.Arm.TheVariants as arm
 
--- the first halfword and the last of each arm, by its number
-unfoldable pub ranges : List (ℕ × ℕ)
-ranges =
-    (0x0000, 0x07FF) ∷  -- 0 LSL (immediate)
-    (0x0800, 0x0FFF) ∷  -- 1 LSR (immediate)
-    (0x1000, 0x17FF) ∷  -- 2 ASR (immediate)
-    (0x1800, 0x19FF) ∷  -- 3 ADD (register), of low registers
-    (0x1A00, 0x1BFF) ∷  -- 4 SUB (register)
-    (0x1C00, 0x1DFF) ∷  -- 5 ADD (immediate), of three bits
-    (0x1E00, 0x1FFF) ∷  -- 6 SUB (immediate), of three bits
-    (0x2000, 0x27FF) ∷  -- 7 MOV (immediate)
-    (0x2800, 0x2FFF) ∷  -- 8 CMP (immediate)
-    (0x3000, 0x37FF) ∷  -- 9 ADD (immediate), of eight bits
-    (0x3800, 0x3FFF) ∷  -- 10 SUB (immediate), of eight bits
-    (0x4000, 0x403F) ∷  -- 11 AND (register)
-    (0x4040, 0x407F) ∷  -- 12 EOR (register)
-    (0x4140, 0x417F) ∷  -- 13 ADC (register)
-    (0x41C0, 0x41FF) ∷  -- 14 ROR (register)
-    (0x4200, 0x423F) ∷  -- 15 TST (register)
-    (0x4240, 0x427F) ∷  -- 16 RSB (immediate)
-    (0x4280, 0x42BF) ∷  -- 17 CMP (register), of low registers
-    (0x4300, 0x433F) ∷  -- 18 ORR (register)
-    (0x4340, 0x437F) ∷  -- 19 MUL
-    (0x4600, 0x46FF) ∷  -- 20 MOV (register)
-    (0x4700, 0x477F) ∷  -- 21 BX
-    (0x4800, 0x4FFF) ∷  -- 22 LDR (literal)
-    (0x5000, 0x51FF) ∷  -- 23 STR (register)
-    (0x5800, 0x59FF) ∷  -- 24 LDR (register)
-    (0x6000, 0x67FF) ∷  -- 25 STR (immediate)
-    (0x6800, 0x6FFF) ∷  -- 26 LDR (immediate)
-    (0x7000, 0x77FF) ∷  -- 27 STRB (immediate)
-    (0x7800, 0x7FFF) ∷  -- 28 LDRB (immediate)
-    (0x8000, 0x87FF) ∷  -- 29 STRH (immediate)
-    (0x8800, 0x8FFF) ∷  -- 30 LDRH (immediate)
-    (0x9000, 0x97FF) ∷  -- 31 STR (immediate), at SP
-    (0x9800, 0x9FFF) ∷  -- 32 LDR (immediate), at SP
-    (0xA800, 0xAFFF) ∷  -- 33 ADD (SP plus immediate)
-    (0xB400, 0xB5FF) ∷  -- 34 PUSH
-    (0xBA00, 0xBA3F) ∷  -- 35 REV
-    (0xBC00, 0xBDFF) ∷  -- 36 POP
-    (0xD000, 0xD0FF) ∷  -- 37 B where Z is set
-    (0xD100, 0xD1FF) ∷  -- 38 B where Z is clear
-    (0xD200, 0xD2FF) ∷  -- 39 B where C is set
-    (0xD300, 0xD3FF) ∷  -- 40 B where C is clear
-    (0xD800, 0xD8FF) ∷  -- 41 B where C is set and Z is clear
-    (0xE000, 0xE7FF) ∷  -- 42 B
-    (0xF000, 0xF7FF) ∷  -- 43 BL
-    []
+-- the first halfword and the last of each arm; any halfword may go without one
+unfoldable pub range_of : Arm → ℕ × ℕ
+range_of arm.LslsImmediate = (0x0000, 0x07FF)
+range_of arm.LsrsImmediate = (0x0800, 0x0FFF)
+range_of arm.AsrsImmediate = (0x1000, 0x17FF)
+range_of arm.AddsRegister = (0x1800, 0x19FF)
+range_of arm.SubsRegister = (0x1A00, 0x1BFF)
+range_of arm.AddsImmediate3 = (0x1C00, 0x1DFF)
+range_of arm.SubsImmediate3 = (0x1E00, 0x1FFF)
+range_of arm.MovsImmediate = (0x2000, 0x27FF)
+range_of arm.CmpImmediate = (0x2800, 0x2FFF)
+range_of arm.AddsImmediate = (0x3000, 0x37FF)
+range_of arm.SubsImmediate = (0x3800, 0x3FFF)
+range_of arm.Ands = (0x4000, 0x403F)
+range_of arm.Eors = (0x4040, 0x407F)
+range_of arm.Adcs = (0x4140, 0x417F)
+range_of arm.Rors = (0x41C0, 0x41FF)
+range_of arm.Tst = (0x4200, 0x423F)
+range_of arm.Rsbs = (0x4240, 0x427F)
+range_of arm.CmpRegister = (0x4280, 0x42BF)
+range_of arm.Orrs = (0x4300, 0x433F)
+range_of arm.Muls = (0x4340, 0x437F)
+range_of arm.MovHigh = (0x4600, 0x46FF)
+range_of arm.Exchange = (0x4700, 0x477F)
+range_of arm.LdrLiteral = (0x4800, 0x4FFF)
+range_of arm.StrRegister = (0x5000, 0x51FF)
+range_of arm.LdrRegister = (0x5800, 0x59FF)
+range_of arm.StrImmediate = (0x6000, 0x67FF)
+range_of arm.LdrImmediate = (0x6800, 0x6FFF)
+range_of arm.StrbImmediate = (0x7000, 0x77FF)
+range_of arm.LdrbImmediate = (0x7800, 0x7FFF)
+range_of arm.StrhImmediate = (0x8000, 0x87FF)
+range_of arm.LdrhImmediate = (0x8800, 0x8FFF)
+range_of arm.StrSp = (0x9000, 0x97FF)
+range_of arm.LdrSp = (0x9800, 0x9FFF)
+range_of arm.AddFromSp = (0xA800, 0xAFFF)
+range_of arm.Push = (0xB400, 0xB5FF)
+range_of arm.Reverse = (0xBA00, 0xBA3F)
+range_of arm.Pop = (0xBC00, 0xBDFF)
+range_of arm.BranchEqual = (0xD000, 0xD0FF)
+range_of arm.BranchNotEqual = (0xD100, 0xD1FF)
+range_of arm.BranchCarrySet = (0xD200, 0xD2FF)
+range_of arm.BranchCarryClear = (0xD300, 0xD3FF)
+range_of arm.BranchHigher = (0xD800, 0xD8FF)
+range_of arm.Branch = (0xE000, 0xE7FF)
+range_of arm.Call = (0xF000, 0xF7FF)
+range_of arm.Other = (0x0000, 0xFFFF)
 
--- a number past them is for all
-abbrev pub range_of : ℕ → ℕ × ℕ
-range_of arm = slice_index_or ranges arm (0x0000, 0xFFFF)
-
-abbrev pub InArm : ℕ → ℕ → Type 0
-InArm arm half = ((range_of arm).0 ≤ half) × (half ≤ (range_of arm).1)
+abbrev pub InArm : Arm → ℕ → Type 0
+InArm a half = ((range_of a).0 ≤ half) × (half ≤ (range_of a).1)

@@ -1,6 +1,6 @@
 -- The registers and flags as an instruction reads and writes them: Armv6-M Architecture Reference Manual, B1.4 "Registers",
 -- and the operations R[n] of its pseudocode. The register PC of a core holds the address of the instruction to come.
-use Rattle.std.specs.Prelude.{ℕ, Bool, ◌+◌, ◌*◌, ◌/◌, ◌%◌, ◌^◌, nat_eq, nat_le, if◌then◌else◌, slice_index, slice_set}
+use Rattle.std.specs.Prelude.{ℕ, Bool, ◌*◌, ◌/◌, ◌%◌, ◌^◌, nat_eq, nat_le, if◌then◌else◌, slice_index, slice_set}
 use Rattle.armv6m_alu.specs.declared.Sum.{Sum}
 use Rattle.armv6m_decode.specs.Targets.{pc_read}
 use Rattle.armv6m_decode.specs.declared.registers.TheConstants.{SP, PC}

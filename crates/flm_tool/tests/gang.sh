@@ -4,8 +4,8 @@
 # random moments (kill -9), and goes on with --gang each time until every device has its image; and ten gangs of sixteen with A1 to A7, each gone on
 # with as alone.
 #   bash tests/gang.sh [PROGRAM [KILLS]]        (from crates/flm_tool; else out/flm_tool and 100 kills)
-# It wants flock and script (of Debian's util-linux and bsdutils). It works in a folder of its own, which it leaves where something is wrong, and ends with status 0 where all
-# is as wanted.
+# It wants flock and script (of Debian's util-linux and bsdutils). It works in a folder of its own, which it leaves where something is wrong, and ends
+# with status 0 where all is as wanted.
 set -u
 program=$(realpath "${1:-out/flm_tool}") || exit 1
 kills=${2:-100}

@@ -30,8 +30,8 @@ pub struct Asked {
 }
 
 impl Gang {
-    /// Opens the job of each bench in order, whose file it syncs first, and surveys it to its new goal. A refusal other than want of memory is that target's end. Then
-    /// it makes the RAM of each target that goes on, all in one allocation. There are 1 to 16 benches.
+    /// Opens the job of each bench in order, whose file it syncs first, and surveys it to its new goal. A refusal other than want of memory is that
+    /// target's end. Then it makes the RAM of each target that goes on, all in one allocation. There are 1 to 16 benches.
     ///
     /// # Errors
     ///

@@ -26,7 +26,7 @@ pub enum HexKind {
     /// The checksum is another than the one that the other bytes ask for.
     #[error("BadSum {said:02X} {due:02X}")]
     BadSum { said: u8, due: u8 },
-    /// The type is above 5, or the record has not as much data as its type.
+    /// The type is above 5, or asks for another number of data bytes.
     #[error("BadType {value}")]
     BadType { value: u8 },
     /// A record before has another byte at this address.
