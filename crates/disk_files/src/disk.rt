@@ -1,5 +1,5 @@
 //! What the files of a host can do.
-ghost use Rattle.std.specs.Prelude.{◌≡◌, ◌≤◌, ◌+◌, ◌<◌, ◌^◌, ◌↔◌, List, ℕ, Bool, true, false, All, length, IsTrue, IfOk, None, Option};
+ghost use Rattle.std.specs.Prelude.{◌≡◌, ◌≤◌, ◌+◌, ◌<◌, ◌^◌, ◌↔◌, List, ℕ, Bool, true, false, All, length, take, drop, IsTrue, IfOk, None, Option};
 ghost use Rattle.std.specs.Option.{ForSome};
 ghost use Rattle.bench_model.specs.History.{left};
 ghost use Rattle.bench_model.specs.State.{SameOutside};
@@ -84,6 +84,15 @@ pub trait Disk {
         ensures reads { ReadsSome tells (state self.old).bytes at out.old out.new result }
         ensures does { ReadsBytes tells (state self.old) (state self.new) }
         ensures fails { IsTrue tells → CallMoves (state self.old) (state self.new) (length out.old) result };
+
+    /// Fills `out` with the cells from the place `at` on, where it has them all at hand and needn't call the host, and says so. Else `out`
+    /// stays as it was.
+    fn cells_at_hand(&self, at: u64, out: &mut [u8]) -> bool
+        ensures whole { IsTrue tells → IsTrue result → out.new ≡ take (length out.old) (drop at (state self.now).bytes) }
+        ensures stays { result ≡ false → out.new ≡ out.old }
+    {
+        false
+    }
 
     /// Writes some of the cells, in the open range.
     fn cells_write_at(&mut self, at: u64, bytes: &[u8]) -> io::Result<usize>

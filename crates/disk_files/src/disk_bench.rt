@@ -36,7 +36,10 @@ pub struct DiskBench<F: Disk> {
 }
 
 impl<F: Disk> DiskBench<F> {
-    ghost use Rattle.std.specs.Prelude.{None};
+    ghost use Rattle.std.specs.Prelude.{◌≤◌, ◌+◌, None};
+    ghost use Rattle.bench_model.specs.Does.{ReadsCells};
+    ghost use Rattle.disk_files.specs.DiskState.{over};
+    ghost use Rattle.disk_files.specs.Fails.{Fails};
 
     /// A bench over these files, of which nothing is taken to be on the disk.
     pub fn new(disk: F, cell_count: u32) -> DiskBench<F>
@@ -81,6 +84,24 @@ impl<F: Disk> DiskBench<F> {
             device_faults: _,
         } = self;
         disk
+    }
+
+    /// Reads a range of the cells by calls of the files.
+    #[inline(never)]
+    fn read_from_files(&mut self, at: u32, out: &mut [u8]) -> Result<(), DeviceFault>
+        requires range { at + length out.old ≤ self.old.cell_count }
+        requires idle { IsTrue F.tells → (F.state self.old.disk).operation ≡ None }
+        ensures does { ReadsCells F.tells (over (F.state self.old.disk) self.old.cell_count self.old.store_faults self.old.device_faults)
+            (over (F.state self.new.disk) self.new.cell_count self.new.store_faults self.new.device_faults) at out.old out.new result }
+        ensures fails { IsTrue F.tells → Fails (F.state self.old.disk) (F.state self.new.disk) result }
+    {
+        match read_cells(&mut self.disk, u64::from(at), out) {
+            Ok(()) => Ok(()),
+            Err(_) => {
+                self.device_faults.raise();
+                Err(DeviceFault)
+            }
+        }
     }
 }
 
@@ -171,13 +192,10 @@ impl<F: Disk + Drop> Bench for DiskBench<F> {
     }
 
     fn cells_read(&mut self, at: u32, out: &mut [u8]) -> Result<(), DeviceFault> {
-        match read_cells(&mut self.disk, u64::from(at), out) {
-            Ok(()) => Ok(()),
-            Err(_) => {
-                self.device_faults.raise();
-                Err(DeviceFault)
-            }
+        if self.disk.cells_at_hand(u64::from(at), out) {
+            return Ok(());
         }
+        self.read_from_files(at, out)
     }
 
     fn cells_open(&mut self, at: u32, len: u32) -> Result<(), DeviceFault> {

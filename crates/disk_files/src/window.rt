@@ -42,6 +42,7 @@ impl Window {
     }
 
     /// Where its cells from the place `at` on stand in it, if it has `count` of them.
+    #[inline(always)]
     fn index(&self, at: u64, count: usize) -> Option<usize>
         ensures within { IfSome result (λ index. index + count ≤ self.now.len) }
         ensures place { IfSome result (λ index. self.now.at + index ≡ at) }
@@ -54,6 +55,7 @@ impl Window {
     }
 
     /// Fills `out` with the cells from the place `at` on, and says whether it has them all. Else `out` stays.
+    #[inline(always)]
     pub fn copy(&self, at: u64, out: &mut [u8]) -> bool
         ensures whole { (held : List ℕ) → IsCopy self.now.at self.now.len self.now.bytes.items held → IsTrue result
             → out.new ≡ take (length out.old) (drop at held) }

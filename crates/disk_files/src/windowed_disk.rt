@@ -128,6 +128,11 @@ impl<F: Disk + Drop> Disk for WindowedDisk<F> {
         }
     }
 
+    #[inline(always)]
+    fn cells_at_hand(&self, at: u64, out: &mut [u8]) -> bool {
+        self.window.copy(at, out)
+    }
+
     fn cells_write_at(&mut self, at: u64, bytes: &[u8]) -> io::Result<usize> {
         match self.disk.cells_write_at(at, bytes) {
             Ok(count) if count == bytes.len() => {
