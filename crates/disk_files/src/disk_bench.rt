@@ -191,6 +191,7 @@ impl<F: Disk + Drop> Bench for DiskBench<F> {
         self.cell_count
     }
 
+    #[inline(always)]
     fn cells_read(&mut self, at: u32, out: &mut [u8]) -> Result<(), DeviceFault> {
         if self.disk.cells_at_hand(u64::from(at), out) {
             return Ok(());

@@ -164,6 +164,7 @@ impl Bench for FileBench {
         self.bench.cells_len()
     }
 
+    #[inline(always)]
     fn cells_read(&mut self, at: u32, out: &mut [u8]) -> Result<(), DeviceFault> {
         self.bench.cells_read(at, out)
     }
