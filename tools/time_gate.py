@@ -1,11 +1,11 @@
 #!/usr/bin/env python3
-"""time_gate.py [-o TABLE] -- COMMAND: runs a gate (`rt ci --anew`, say) at the top of the repository and makes a table of what each crate cost.
+"""time_gate.py [-o TABLE] -- COMMAND: runs a gate (`rt ci`) at the top of the repository and makes a table of what each crate cost.
 time_gate.py --short TABLE: prints of such a table what docs/GATE.md shows: lines and seconds of each crate, two crates a row.
 
 Every half second it reads the processor time, user and system, of each process below the command, and the most memory that it has taken.
-A process belongs to the crate that its words or its folder name: to its proof (or that of its tests, or its build), to the check as it
-stands that its wrong bodies begin and end with, to a wrong body, or to a run. What a process did since its last reading is lost, a quarter
-second on the average, and very short ones are not seen: the last line says how much that was of the whole. The table goes to the
+A process belongs to the crate that its words or its folder name: to its proof (or that of its tests, or its build), to its wrong bodies,
+with the checks that these begin and end with, or to a run; else to `rt` itself. What a process did since its last reading is lost, a
+quarter second on the average, and very short ones are not seen: the last lines say how much that was of the whole. The table goes to the
 file TABLE, or else behind what the command prints. Ends with the command's status.
 """
 import os
@@ -20,7 +20,7 @@ INTERVAL = 0.5
 TICKS = os.sysconf("SC_CLK_TCK")
 RUN = re.compile(r"/rt-run-[^/\0]*/bin/(\w+?)(?:_tests)?(?:\.[\w-]+)?(?:\0|$)")
 NAMED = re.compile(r"\0--crate-name\0(\w+)\0")
-EDIT = re.compile(r"\0--incremental\0\S*/(seed|\d+)\0")
+PARTS = "proof", "edit", "run"
 FOLDER = re.compile(r"/crates/(\w+)$")
 
 
@@ -49,11 +49,11 @@ class Process:
     def look(self, pid):
         """Finds out what the process is for; one that its own words don't show is for what its parent is."""
         words, folder = read(f"/proc/{pid}/cmdline") + "\0", folder_of(pid)
-        run, named, edit = RUN.search(words), NAMED.search(words), EDIT.search(words)
+        run, named = RUN.search(words), NAMED.search(words)
         if run:
             self.part = run[1], "run"
         elif "/rt-edit-" in folder and named:
-            self.part = named[1], "seed" if edit and edit[1] == "seed" else "edit"
+            self.part = named[1], "edit"
         elif named or FOLDER.search(folder):
             self.part = named[1] if named else FOLDER.search(folder)[1], "proof"
         else:
@@ -122,7 +122,7 @@ class Crate:
     """What a crate's parts cost in seconds, its largest process in bytes, and when its proof ended."""
 
     def __init__(self):
-        self.seconds, self.peak, self.proved = dict.fromkeys(("proof", "seed", "edit", "run"), 0.0), 0, 0.0
+        self.seconds, self.peak, self.proved = dict.fromkeys(PARTS, 0.0), 0, 0.0
 
 
 def added_up(known, begun):
@@ -147,15 +147,15 @@ def chain_of(crates, libraries):
     return chain[::-1]
 
 
-def table(crates, root, whole, wall):
+def table(crates, root, own, whole, wall):
     libraries = libraries_of(root)
-    sums = dict.fromkeys(("proof", "seed", "edit", "run"), 0.0)
-    told = ["| Crate | Lines | Its proof | Wrong bodies | Their checks as it stands | The wrong bodies | Its runs | Most memory, GB | Proved after, minutes |", "|" + "---|" * 9]
+    sums = dict.fromkeys(PARTS, 0.0)
+    told = ["| Crate | Lines | Its proof | Wrong bodies | These with their checks | Its runs | Most memory, GB | Proved after, minutes |", "|" + "---|" * 8]
     for name, it in sorted(crates.items(), key=lambda it: -sum(it[1].seconds.values())):
         folder = f"{root}/crates/{name}"
-        parts = [f"{it.seconds[part]:.0f}" for part in ("seed", "edit", "run")]
-        told.append(f"| `{name}` | {lines_of(folder):,} | {it.seconds['proof']:.0f} | {edits_of(folder)} | {' | '.join(parts)} | {it.peak / 1e9:.1f} | {it.proved / 60:.1f} |")
-        for part in sums:
+        parts = [f"{it.seconds['proof']:.0f}", f"{edits_of(folder)}", f"{it.seconds['edit']:.0f}", f"{it.seconds['run']:.0f}"]
+        told.append(f"| `{name}` | {lines_of(folder):,} | {' | '.join(parts)} | {it.peak / 1e9:.1f} | {it.proved / 60:.1f} |")
+        for part in PARTS:
             sums[part] += it.seconds[part]
     above = {it for libraries_of_one in libraries.values() for it in libraries_of_one}
     for_libraries = sum(it.seconds["proof"] for name, it in crates.items() if name in above)
@@ -163,8 +163,8 @@ def table(crates, root, whole, wall):
     told += [
         "",
         f"In minutes of processor time: libraries {for_libraries / 60:.1f}, crates of tests and programs {(sums['proof'] - for_libraries) / 60:.1f}, "
-        f"checks that wrong bodies begin and end with {sums['seed'] / 60:.1f}, wrong bodies {sums['edit'] / 60:.1f}, runs {sums['run'] / 60:.1f}, "
-        f"not seen {(whole - sum(sums.values())) / 60:.1f}, in all {whole / 60:.1f}; by the clock {wall / 60:.1f} minutes.",
+        f"wrong bodies with their checks {sums['edit'] / 60:.1f}, runs {sums['run'] / 60:.1f}, `rt` itself {own / 60:.1f}, "
+        f"not seen {(whole - own - sum(sums.values())) / 60:.1f}, in all {whole / 60:.1f}; by the clock {wall / 60:.1f} minutes.",
     ]
     if chain:
         told.append(f"The chain: {', '.join(f'`{it}` {crates[it].proved / 60:.1f}' for it in chain)}.")
@@ -175,8 +175,8 @@ def short(told):
     """The rows of a table that was made, the dearest crate first, the first half on the left and the second on the right. What no crate has is left out."""
     rows = [[it.strip() for it in line.strip("|\n ").split("|")] for line in told if line.startswith("| `")]
     columns = {"Crate": [it[0] for it in rows], "Lines": [it[1] for it in rows], "Proof": [it[2] for it in rows],
-               "Wrong bodies": [str(int(it[4]) + int(it[5])) for it in rows], "Runs": [it[6] for it in rows]}
-    columns = {name: its for name, its in columns.items() if any(it != "0" for it in its)}
+               "Wrong bodies": [f"{it[3]}: {it[4]}" if int(it[3]) else "" for it in rows], "Runs": [it[5] if int(it[5]) else "" for it in rows]}
+    columns = {name: its for name, its in columns.items() if any(its)}
     half = (len(rows) + 1) // 2
     cells = ["".join(f"| {it} " for it in row) for row in zip(*columns.values())] + ["| " * len(columns)] * (2 * half - len(rows))
     lines = ["".join(f"| {it} " for it in columns) * 2 + "|", "|" + "---|" * 2 * len(columns)]
@@ -202,7 +202,8 @@ def main():
     watch.stops.set()
     watch.join()
     used = resource.getrusage(resource.RUSAGE_CHILDREN)
-    told = table(added_up(watch.known, begun), os.getcwd(), used.ru_utime + used.ru_stime, time.monotonic() - begun)
+    own = sum(it.seconds for it in watch.known.values() if not it.part)
+    told = table(added_up(watch.known, begun), os.getcwd(), own, used.ru_utime + used.ru_stime, time.monotonic() - begun)
     with open(file, "w", encoding="utf-8") if file else sys.stdout as to:
         print(told, file=to)
     sys.exit(status if status >= 0 else 128 - status)
