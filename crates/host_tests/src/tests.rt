@@ -8,12 +8,16 @@ mod job;
 mod locks;
 mod systems;
 
+use crate::expect::expect_all;
 use bench_model::Bench;
 use faults::OutOfMemory;
 use host_files::{FileBench, StdSink};
 use octets::Word;
 use outside_io::Sink;
 use std::alloc::{AllocError, Global};
+use std::fmt::Debug;
+use std::os::unix::fs::symlink;
+use std::process::Abort;
 use std::test::Fail;
 use std::{env, fs, process};
 
@@ -24,13 +28,18 @@ struct Temporary {
     name: Word,
 }
 
+/// A name in a folder, with this end and the number of this run.
+fn name_in(rt: HostRuntime, folder: &str, end: &str) -> Result<Word, OutOfMemory> {
+    let id = process::id(rt.process());
+    let path = format!(in rt.alloc(); "{folder}/host_files_{id}_{end}")?;
+    Word::copy(rt.alloc(), path.as_str())
+}
+
 impl Temporary {
     /// A name with this end.
     fn new(rt: HostRuntime, end: &str) -> Result<Temporary, Fail> {
         let folder = env::temp_dir(&rt)?;
-        let id = process::id(rt.process());
-        let path = format!(in rt.alloc(); "{}/host_files_{id}_{end}", folder.as_path().as_str())?;
-        let name = Word::copy(rt.alloc(), path.as_str())?;
+        let name = name_in(rt, folder.as_path().as_str(), end)?;
         Ok(Temporary { rt, name })
     }
 
@@ -64,6 +73,11 @@ impl Temporary {
             Ok(found) => found.as_slice() == bytes,
             Err(_) => false,
         }
+    }
+
+    /// Makes the name a symbolic link to another one, and says whether that went well.
+    fn link_to(&self, other: &Temporary) -> bool {
+        symlink(&self.rt, other.name.text(), self.name.text()).is_ok()
     }
 
     /// Whether nothing stands under the name.
@@ -101,17 +115,47 @@ fn bench_over(job: &Temporary, cells: &Temporary) -> Result<FileBench, OutOfMemo
     Ok(FileBench::new(job.rt, job.word()?, cells.word()?))
 }
 
+/// Asserts what is seen of a bench over these files.
+fn over<T: PartialEq + Debug + Copy, F: FnOnce(&mut Files) -> T + Copy>(
+    rt: &impl Abort,
+    job: Temporary,
+    cells: Temporary,
+    look: F,
+    wanted: T,
+) -> Result<(), Fail>
+    requires { F.IsAlwaysCallable look }
+{
+    let mut files = Files::over(job, cells)?;
+    assert_eq!(rt; look(&mut files), wanted);
+    Ok(())
+}
+
+/// Asserts what is seen of a bench over files with these ends of their names, and these cells.
+fn over_cells<T: PartialEq + Debug + Copy, F: FnOnce(&mut Files) -> T + Copy>(
+    rt: &impl Abort,
+    host: HostRuntime,
+    ends: (&str, &str),
+    bytes: &[u8],
+    look: F,
+    wanted: T,
+) -> Result<(), Fail>
+    requires { F.IsAlwaysCallable look }
+{
+    let cells = Temporary::holding(host, ends.1, bytes)?;
+    over(rt, Temporary::new(host, ends.0)?, cells, look, wanted)
+}
+
 impl Files {
     /// A bench over these files.
-    fn over(job: Temporary, cells: Temporary) -> Result<Files, Fail> {
+    fn over(job: Temporary, cells: Temporary) -> Result<Files, OutOfMemory> {
         let bench = bench_over(&job, &cells)?;
         Ok(Files { job, cells, bench })
     }
 
     /// Names with these ends, and these cells.
-    fn new(rt: HostRuntime, job: &str, cells: &str, bytes: &[u8]) -> Result<Files, Fail> {
-        let cells = Temporary::holding(rt, cells, bytes)?;
-        Files::over(Temporary::new(rt, job)?, cells)
+    fn new(rt: HostRuntime, ends: (&str, &str), bytes: &[u8]) -> Result<Files, Fail> {
+        let cells = Temporary::holding(rt, ends.1, bytes)?;
+        Ok(Files::over(Temporary::new(rt, ends.0)?, cells)?)
     }
 
     /// Opens an operation on cells of the first six.
@@ -161,6 +205,5 @@ impl Files {
 #[test]
 fn a_standard_stream_takes_pieces(rt: HostRuntime) {
     let mut out = StdSink::new(rt.stdout());
-    assert!(rt; out.put(b"one ").is_ok());
-    assert!(rt; out.put(b"line\n").is_ok());
+    expect_all(&rt, &[out.put(b"one ").is_ok(), out.put(b"line\n").is_ok()]);
 }

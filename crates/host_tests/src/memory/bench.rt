@@ -3,7 +3,11 @@
 ghost use Rattle.std.specs.Prelude.{◌≡◌, length, None};
 ghost use Rattle.bench_model.specs.Shown.{bench_of};
 
+use crate::expect::expect_all;
 use bench_model::{Bench, BusEnd, DeviceFault, MemoryBench, Pick, StopBench, StoreFault};
+use faults::OutOfMemory;
+use std::alloc::Global;
+use std::process::Abort;
 use std::test::Fail;
 
 // Each file call once, on a file of 3 bytes.
@@ -27,23 +31,23 @@ fn use_file(bench: &mut MemoryBench, done: &mut usize) -> Result<(), StoreFault>
 fn each_file_call_goes_and_fails_by_its_number(rt: HostRuntime) -> Result<(), Fail> {
     let wanted: [&[u8]; 6] = [&[1, 2, 3], &[1, 2, 3], &[1, 2, 3], &[1], &[8, 9], &[8, 9]];
     for (calls, file) in wanted.iter().enumerate() {
-        let mut bench = MemoryBench::new(
-            rt.alloc(),
-            &[],
-            &[1, 2, 3],
-            4,
-            9,
-            &[calls as u64 + 1],
-            &[],
-            &[],
-        )?;
-        let mut done = 0;
-        let end = use_file(&mut bench, &mut done);
-        assert_eq!(rt; end.is_ok(), calls == 5);
-        assert_eq!(rt; done, calls);
-        assert!(rt; bench.file() == *file);
+        let seen = file_after(rt.alloc(), calls, file)?;
+        expect_all(&rt, &seen);
     }
     Ok(())
+}
+
+// Whether so many of the five calls go through, the next one fails, and the file then is this.
+fn file_after(alloc: Global, calls: usize, file: &[u8]) -> Result<[bool; 3], OutOfMemory> {
+    let failing = (calls as u64).saturating_add(1);
+    let mut bench = MemoryBench::new(alloc, &[], &[1, 2, 3], 4, 9, &[failing], &[], &[])?;
+    let mut done = 0;
+    let end = use_file(&mut bench, &mut done);
+    Ok([
+        end.is_ok() == (calls == 5),
+        done == calls,
+        bench.file() == file,
+    ])
 }
 
 // Each cell call, on 4 cells.
@@ -88,37 +92,49 @@ fn each_cell_call_goes_and_fails_by_its_number(rt: HostRuntime) -> Result<(), Fa
         [9, 7, 8, 5],
     ];
     for (calls, cells) in wanted.iter().enumerate() {
-        let mut bench = MemoryBench::new(
-            rt.alloc(),
-            &[1, 2, 3, 4],
-            &[],
-            0,
-            9,
-            &[],
-            &[calls as u64 + 1],
-            &[5],
-        )?;
-        let mut done = 0;
-        let end = use_cells(&mut bench, &mut done);
-        assert_eq!(rt; end.is_ok(), calls == 7);
-        assert_eq!(rt; done, calls);
-        assert!(rt; bench.cells() == cells.as_slice());
+        let seen = cells_after(rt.alloc(), calls, cells)?;
+        expect_all(&rt, &seen);
     }
     Ok(())
+}
+
+// Whether so many of the seven calls go through, the next one fails, and the cells then are these.
+fn cells_after(alloc: Global, calls: usize, cells: &[u8]) -> Result<[bool; 3], OutOfMemory> {
+    let failing = (calls as u64).saturating_add(1);
+    let mut bench = MemoryBench::new(alloc, &[1, 2, 3, 4], &[], 0, 9, &[], &[failing], &[5])?;
+    let mut done = 0;
+    let end = use_cells(&mut bench, &mut done);
+    Ok([
+        end.is_ok() == (calls == 7),
+        done == calls,
+        bench.cells() == cells,
+    ])
 }
 
 #[test]
 fn room_ends(rt: HostRuntime) -> Result<(), Fail> {
     let mut bench = MemoryBench::new(rt.alloc(), &[1], &[1, 2, 3], 4, 3, &[], &[], &[])?;
-    assert_eq!(rt; bench.file_write(3, &[7, 8]), Err(StoreFault));
-    assert_eq!(rt; bench.file_write(0, &[7, 8, 9]), Err(StoreFault));
-    assert_eq!(rt; bench.file_write(2, &[7]), Ok(()));
-    assert_eq!(rt; bench.file_sync(), Ok(()));
-    assert_eq!(rt; bench.file_sync(), Err(StoreFault));
-    assert_eq!(rt; bench.cells_open(0, 1), Err(DeviceFault));
-    assert_eq!(rt; bench.cells_len(), 1);
-    assert!(rt; bench.file() == [1, 2, 7].as_slice());
+    expect_room(&rt, &mut bench);
     Ok(())
+}
+
+// Asserts which calls have room, on a file of 3 bytes and one cell.
+fn expect_room(rt: &impl Abort, bench: &mut MemoryBench)
+    requires file { length (bench_of bench.old).file ≡ 3 }
+    requires count { (bench_of bench.old).cell_count ≡ 1 }
+    requires idle { (bench_of bench.old).operation ≡ None }
+{
+    assert!(rt; bench.file_write(3, &[7, 8]).is_err());
+    assert!(rt; bench.file_write(0, &[7, 8, 9]).is_err());
+    assert!(rt; bench.file_write(2, &[7]).is_ok());
+    let calls = [
+        bench.file_sync().is_ok(),
+        bench.file_sync().is_err(),
+        bench.cells_open(0, 1).is_err(),
+        bench.cells_len() == 1,
+        bench.file() == [1, 2, 7].as_slice(),
+    ];
+    expect_all(rt, &calls);
 }
 
 // Leaves a write, a cut and an operation behind.
@@ -146,32 +162,38 @@ fn lost_power_leaves_what_is_picked(rt: HostRuntime) -> Result<(), Fail> {
         ),
     ];
     for (pick, file, cells) in picks.iter() {
-        let mut bench = MemoryBench::new(
-            rt.alloc(),
-            &[4, 5, 6],
-            &[1, 2, 3, 4],
-            8,
-            9,
-            &[],
-            &[],
-            &[],
-        )?;
-        leave_open(&mut bench)?;
-        bench.power_loss(*pick);
-        assert!(rt; bench.file() == *file);
-        assert!(rt; bench.cells() == cells.as_slice());
+        let seen = left_by(rt.alloc(), *pick, file, cells)?;
+        expect_all(&rt, &seen);
     }
     Ok(())
 }
 
+// Whether a stop with this pick leaves this file and these cells.
+fn left_by(alloc: Global, pick: Pick, file: &[u8], cells: &[u8]) -> Result<[bool; 3], OutOfMemory> {
+    let mut bench = MemoryBench::new(alloc, &[4, 5, 6], &[1, 2, 3, 4], 8, 9, &[], &[], &[])?;
+    let end = leave_open(&mut bench);
+    bench.power_loss(pick);
+    Ok([end.is_ok(), bench.file() == file, bench.cells() == cells])
+}
+
 #[test]
 fn a_stopped_bench_lets_no_call_through(rt: HostRuntime) -> Result<(), Fail> {
-    let inner = MemoryBench::new(rt.alloc(), &[1], &[1, 2], 4, 9, &[], &[], &[])?;
-    let mut bench = StopBench::new(inner, 2);
-    assert_eq!(rt; bench.file_len(), Ok(2));
-    assert_eq!(rt; bench.file_write(0, &[9]), Ok(()));
-    assert_eq!(rt; bench.file_sync(), Err(StoreFault));
-    assert_eq!(rt; bench.cells_drop(), Err(DeviceFault));
-    assert!(rt; bench.into_inner().file() == [9, 2].as_slice());
+    let (calls, stays) = stopped(rt.alloc())?;
+    expect_all(&rt, &calls);
+    assert!(rt; stays);
     Ok(())
+}
+
+// Whether two calls go through and no later one, and what they left stays.
+fn stopped(alloc: Global) -> Result<([bool; 4], bool), OutOfMemory> {
+    let inner = MemoryBench::new(alloc, &[1], &[1, 2], 4, 9, &[], &[], &[])?;
+    let mut bench = StopBench::new(inner, 2);
+    let calls = [
+        bench.file_len() == Ok(2),
+        bench.file_write(0, &[9]).is_ok(),
+        bench.file_sync().is_err(),
+        bench.cells_drop().is_err(),
+    ];
+    let inner = bench.into_inner();
+    Ok((calls, inner.file() == [9, 2].as_slice()))
 }

@@ -1,4 +1,5 @@
 //! Inputs and sinks in memory, with room, failing numbers and missing names.
+use faults::OutOfMemory;
 use octets::Word;
 use outside_io::{Inputs, MemoryInputs, MemorySink, Sink};
 use std::alloc::Global;
@@ -26,26 +27,49 @@ fn put_all<S: Sink>(out: &mut S, pieces: &[&[u8]]) -> u8 {
 
 #[test]
 fn inputs_give_the_first_file_of_a_name(rt: HostRuntime) -> Result<(), Fail> {
-    let mut inputs = MemoryInputs::new(rt.alloc(), &[3])?;
-    let name = Word::copy(rt.alloc(), "image")?;
-    let other = Word::copy(rt.alloc(), "other")?;
-    inputs.add(rt.alloc(), &name, b"ab")?;
-    inputs.add(rt.alloc(), &name, b"abc")?;
-    let mut lengths = Vec::new(rt.alloc());
-    for asked in [&name, &other, &name, &name] {
-        lengths.push(length_of(&mut inputs, rt.alloc(), asked))?;
-    }
-    assert_eq!(rt;
-        lengths.as_slice(),
-        [Some(2), None, None, Some(2)].as_slice()
-    );
+    let lengths = lengths_in_memory(rt.alloc())?;
+    assert_eq!(rt; lengths, [Some(2), None, None, Some(2)]);
     Ok(())
+}
+
+/// The lengths that are taken where two files have one name, and the third take fails.
+fn lengths_in_memory(alloc: Global) -> Result<[Option<usize>; 4], OutOfMemory> {
+    let mut inputs = MemoryInputs::new(alloc, &[3])?;
+    lengths_of(&mut inputs, alloc)
+}
+
+/// Adds both files, and takes four.
+fn lengths_of(inputs: &mut MemoryInputs, alloc: Global) -> Result<[Option<usize>; 4], OutOfMemory> {
+    add_image(inputs, alloc, b"ab")?;
+    add_image(inputs, alloc, b"abc")?;
+    Ok([
+        length_under(inputs, alloc, "image")?,
+        length_under(inputs, alloc, "other")?,
+        length_under(inputs, alloc, "image")?,
+        length_under(inputs, alloc, "image")?,
+    ])
+}
+
+/// Adds a file.
+fn add_image(inputs: &mut MemoryInputs, alloc: Global, bytes: &[u8]) -> Result<(), OutOfMemory> {
+    let name = Word::copy(alloc, "image")?;
+    inputs.add(alloc, &name, bytes)
+}
+
+/// The length of the file under a name.
+fn length_under(
+    inputs: &mut MemoryInputs,
+    alloc: Global,
+    name: &str,
+) -> Result<Option<usize>, OutOfMemory> {
+    let name = Word::copy(alloc, name)?;
+    Ok(length_of(inputs, alloc, &name))
 }
 
 #[test]
 fn a_sink_holds_what_has_room(rt: HostRuntime) -> Result<(), Fail> {
     let mut out = MemorySink::new(rt.alloc(), 5, &[2])?;
-    assert_eq!(rt; put_all(&mut out, &[b"abc", b"d", b"e", b"xyz", b"f"]), 2);
-    assert_eq!(rt; out.bytes(), b"abcef".as_slice());
+    let failed = put_all(&mut out, &[b"abc", b"d", b"e", b"xyz", b"f"]);
+    assert!(rt; failed == 2 && out.bytes() == b"abcef".as_slice());
     Ok(())
 }

@@ -1,9 +1,10 @@
 //! Files as inputs.
 
 use super::{Temporary, pattern};
+use crate::expect::expect_all;
 use host_files::FileInputs;
 use outside_io::Inputs;
-use std::process::Abort;
+use std::alloc::AllocError;
 use std::test::Fail;
 
 /// Whether the inputs give these bytes for a file.
@@ -14,28 +15,42 @@ fn takes(inputs: &mut FileInputs, file: &Temporary, bytes: &[u8]) -> bool {
     }
 }
 
+/// Whether the inputs refuse a file.
+fn refuses(inputs: &mut FileInputs, file: &Temporary) -> bool {
+    inputs.take(file.rt.alloc(), &file.name).is_err()
+}
+
 #[test]
 fn inputs_are_files(rt: HostRuntime) -> Result<(), Fail> {
-    let long = pattern(rt.alloc(), 70_000)?;
     let file = Temporary::new(rt, "image")?;
-    let mut inputs = FileInputs::new(rt);
-    expect_inputs(&rt, &mut inputs, &file, &long);
+    let seen = taken(&file)?;
+    expect_all(&rt, &seen);
     Ok(())
 }
 
-/// Asserts that a file is an input once it is there, a short one and a long one.
-fn expect_inputs(rt: &impl Abort, inputs: &mut FileInputs, file: &Temporary, long: &[u8]) {
-    assert!(rt; inputs.take(file.rt.alloc(), &file.name).is_err());
-    assert!(rt; file.write(b"bytes"));
-    assert!(rt; takes(inputs, file, b"bytes"));
-    assert!(rt; file.write(long));
-    assert!(rt; takes(inputs, file, long));
-    assert!(rt; file.remove());
+/// What is seen of a file as an input, a short one and a long one.
+fn taken(file: &Temporary) -> Result<[bool; 6], AllocError> {
+    let long = pattern(file.rt.alloc(), 70_000)?;
+    let mut inputs = FileInputs::new(file.rt);
+    Ok(taken_from(&mut inputs, file, &long))
+}
+
+/// Whether a file is an input once it is there.
+fn taken_from(inputs: &mut FileInputs, file: &Temporary, long: &[u8]) -> [bool; 6] {
+    [
+        refuses(inputs, file),
+        file.write(b"bytes"),
+        takes(inputs, file, b"bytes"),
+        file.write(long),
+        takes(inputs, file, long),
+        file.remove(),
+    ]
 }
 
 #[test]
 fn a_folder_is_no_input(rt: HostRuntime) -> Result<(), Fail> {
     let folder = Temporary::folder(rt)?;
-    assert!(rt; FileInputs::new(rt).take(rt.alloc(), &folder.name).is_err());
+    let mut inputs = FileInputs::new(rt);
+    assert!(rt; refuses(&mut inputs, &folder));
     Ok(())
 }

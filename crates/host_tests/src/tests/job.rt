@@ -1,17 +1,17 @@
 //! The job file from one run to the next.
 
-use super::{Files, Temporary, bench_over};
+use super::{Files, Temporary, bench_over, over_cells};
+use crate::expect::expect_all;
 use bench_model::Bench;
 use faults::OutOfMemory;
 use host_files::FileBench;
 use octets::Word;
-use std::os::unix::fs::symlink;
-use std::process::Abort;
 use std::test::Fail;
 
 /// A bench with this job file and no cells.
 fn job_file(file: &Temporary) -> Result<FileBench, OutOfMemory> {
-    Ok(FileBench::new(file.rt, file.word()?, Word::copy(file.rt.alloc(), "")?))
+    let name = file.word()?;
+    Ok(FileBench::new(file.rt, name, Word::copy(file.rt.alloc(), "")?))
 }
 
 /// Writes, cuts, and writes and cuts past the end.
@@ -32,10 +32,26 @@ fn reads(job: &mut FileBench, bytes: [u8; 10]) -> bool {
 #[test]
 fn a_job_file_is_cut_and_grows(rt: HostRuntime) -> Result<(), Fail> {
     let file = Temporary::new(rt, "grown")?;
-    assert!(rt; grow(&mut job_file(&file)?));
-    assert!(rt; reads(&mut job_file(&file)?, *b"abcxy12345"));
-    assert!(rt; file.remove());
+    let seen = grown(&file)?;
+    expect_all(&rt, &seen);
     Ok(())
+}
+
+/// Whether one bench writes the file, another one reads it, and it is removed.
+fn grown(file: &Temporary) -> Result<[bool; 3], OutOfMemory> {
+    Ok([is_written(file)?, is_read(file)?, file.remove()])
+}
+
+/// Whether a bench writes the file.
+fn is_written(file: &Temporary) -> Result<bool, OutOfMemory> {
+    let mut job = job_file(file)?;
+    Ok(grow(&mut job))
+}
+
+/// Whether a bench reads what was written.
+fn is_read(file: &Temporary) -> Result<bool, OutOfMemory> {
+    let mut job = job_file(file)?;
+    Ok(reads(&mut job, *b"abcxy12345"))
 }
 
 /// Makes the file calls of a job's beginning.
@@ -46,61 +62,68 @@ fn begin(files: &mut Files, body: &[u8]) -> bool {
         && files.write_synced(0, &[0xA5])
 }
 
+/// Takes another bench over the same files, and says whether there is memory for it.
+fn reopen(files: &mut Files) -> bool {
+    match bench_over(&files.job, &files.cells) {
+        Ok(bench) => {
+            files.bench = bench;
+            true
+        }
+        Err(_) => false,
+    }
+}
+
 /// A run that is killed does nothing more. So the first bench is dropped as it is, with an operation open.
 #[test]
 fn a_job_stands_after_its_run_was_killed(rt: HostRuntime) -> Result<(), Fail> {
-    let mut files = Files::new(rt, "begun", "begun_on", b"12345678")?;
-    assert!(rt; begin(&mut files, b"body") && files.open(2, 4));
-    files.bench = bench_over(&files.job, &files.cells)?;
-    expect_begun(&rt, &mut files);
-    expect_ended(&rt, &mut files);
-    Ok(())
+    let ends = ("begun", "begun_on");
+    over_cells(&rt, rt, ends, b"12345678", carried_on, [true; 11])
 }
 
-/// Asserts that the job stands in the file.
-fn expect_begun(rt: &impl Abort, files: &mut Files) {
-    assert!(rt; files.has_length(5));
-    assert!(rt; files.reads(0, *b"\xA5bo"));
-    assert!(rt; files.reads(2, *b"ody"));
-}
-
-/// Asserts that it is carried on and closed.
-fn expect_ended(rt: &impl Abort, files: &mut Files) {
-    assert!(rt; files.open(3, 2));
-    assert!(rt; files.bench.cells_settle(b"xy").is_ok());
-    assert!(rt; files.write_synced(0, &[0]));
-    assert!(rt; files.hold(b"\0body", b"123xy678"));
-    assert!(rt; files.remove());
+/// Whether a job is begun with an operation open, and another bench carries it on.
+fn carried_on(files: &mut Files) -> [bool; 11] {
+    [
+        begin(files, b"body"),
+        files.open(2, 4),
+        reopen(files),
+        files.has_length(5),
+        files.reads(0, *b"\xA5bo"),
+        files.reads(2, *b"ody"),
+        files.open(3, 2),
+        files.bench.cells_settle(b"xy").is_ok(),
+        files.write_synced(0, &[0]),
+        files.hold(b"\0body", b"123xy678"),
+        files.remove(),
+    ]
 }
 
 #[test]
 fn a_link_that_leads_nowhere_is_no_job_file(rt: HostRuntime) -> Result<(), Fail> {
     let link = Temporary::new(rt, "link")?;
-    let file = Temporary::new(rt, "linked")?;
-    assert!(rt; symlink(&rt, file.name.text(), link.name.text()).is_ok());
-    expect_linked(&rt, &link, &file)?;
-    assert!(rt; link.remove() && file.remove());
+    let seen = linked(&link)?;
+    expect_all(&rt, &seen);
     Ok(())
 }
 
-/// Asserts that the file that a link names is a job file once it is there.
-fn expect_linked(rt: &impl Abort, link: &Temporary, file: &Temporary) -> Result<(), Fail> {
+/// What is seen of the file that a link names.
+fn linked(link: &Temporary) -> Result<[bool; 9], Fail> {
+    let file = Temporary::new(link.rt, "linked")?;
+    let made = link.link_to(&file);
     let mut job = job_file(link)?;
-    expect_no_file(rt, &mut job, file);
-    expect_file(rt, &mut job, file);
-    Ok(())
+    Ok(named_by(&mut job, made, link, &file))
 }
 
-/// Asserts that the job file isn't there, and that a write doesn't make it.
-fn expect_no_file(rt: &impl Abort, job: &mut FileBench, file: &Temporary) {
-    assert!(rt; job.file_len().is_err());
-    assert!(rt; job.file_write(0, b"a").is_err());
-    assert!(rt; file.is_missing());
-}
-
-/// Asserts that it is written once it was made.
-fn expect_file(rt: &impl Abort, job: &mut FileBench, file: &Temporary) {
-    assert!(rt; file.write(b""));
-    assert!(rt; job.file_write(0, b"a").is_ok());
-    assert!(rt; file.holds(b"a"));
+/// Whether the job file isn't there and a write doesn't make it, while it is written once it was made.
+fn named_by(job: &mut FileBench, made: bool, link: &Temporary, file: &Temporary) -> [bool; 9] {
+    [
+        made,
+        job.file_len().is_err(),
+        job.file_write(0, b"a").is_err(),
+        file.is_missing(),
+        file.write(b""),
+        job.file_write(0, b"a").is_ok(),
+        file.holds(b"a"),
+        link.remove(),
+        file.remove(),
+    ]
 }

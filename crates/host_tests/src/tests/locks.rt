@@ -1,14 +1,16 @@
 //! Other programs at the same files.
 
 use super::{Files, Temporary, bench_over};
+use crate::expect::expect_all;
 use bench_model::Bench;
+use faults::OutOfMemory;
 use host_files::FileBench;
 use octets::Word;
-use std::fs;
+use std::fmt::Debug;
 use std::fs::File;
-use std::os::unix::fs::symlink;
 use std::process::Abort;
 use std::test::Fail;
+use std::{fs, io};
 
 /// The cells of each test.
 const CELLS: [u8; 6] = [1, 2, 3, 4, 5, 6];
@@ -22,25 +24,49 @@ struct Shared {
 }
 
 /// A bench over files with these ends of their names, the job file with three bytes.
-fn with_job(rt: HostRuntime, job: &str, cells: &str) -> Result<Files, Fail> {
-    let files = Files::new(rt, job, cells, &CELLS)?;
+fn with_job(rt: HostRuntime, ends: (&str, &str)) -> Result<Files, Fail> {
+    let files = Files::new(rt, ends, &CELLS)?;
     fs::write(&rt, files.job.name.text(), b"abc")?;
     Ok(files)
 }
 
-/// The file of a name, opened by another program.
-fn opened(rt: HostRuntime, file: &Temporary) -> Result<File, Fail> {
-    Ok(File::open(&rt, file.name.text())?)
+/// The job file and the cells, opened by another program.
+fn opened(files: &Files) -> io::Result<(File, File)> {
+    let job = File::open(&files.job.rt, files.job.name.text())?;
+    let cells = File::open(&files.cells.rt, files.cells.name.text())?;
+    Ok((job, cells))
 }
 
-impl Shared {
-    /// Over files with these ends of their names.
-    fn new(rt: HostRuntime, job: &str, cells: &str) -> Result<Shared, Fail> {
-        let files = with_job(rt, job, cells)?;
-        let job = opened(rt, &files.job)?;
-        let cells = opened(rt, &files.cells)?;
-        Ok(Shared { files, job, cells })
-    }
+/// Asserts what is seen of such a bench over files that another program has opened.
+fn over_opened<T: PartialEq + Debug + Copy, F: FnOnce(&mut Shared) -> T + Copy>(
+    rt: &impl Abort,
+    host: HostRuntime,
+    ends: (&str, &str),
+    look: F,
+    wanted: T,
+) -> Result<(), Fail>
+    requires { F.IsAlwaysCallable look }
+{
+    let files = with_job(host, ends)?;
+    let (job, cells) = opened(&files)?;
+    let mut shared = Shared { files, job, cells };
+    assert_eq!(rt; look(&mut shared), wanted);
+    Ok(())
+}
+
+/// Whether a program can write a file, which it then keeps.
+fn writes(file: &File) -> bool {
+    file.try_lock().is_ok()
+}
+
+/// Whether a program can read a file, which it then keeps.
+fn reads(file: &File) -> bool {
+    file.try_lock_shared().is_ok()
+}
+
+/// Gives a file back, and says whether that went well.
+fn gives_back(file: &File) -> bool {
+    file.unlock().is_ok()
 }
 
 /// Whether no call on the cells goes through.
@@ -59,147 +85,169 @@ fn job_is_kept(files: &mut Files) -> bool {
 
 #[test]
 fn files_that_another_program_writes_are_faults(rt: HostRuntime) -> Result<(), Fail> {
-    let mut shared = Shared::new(rt, "kept_job", "kept_cells")?;
-    expect_kept(&rt, &mut shared);
-    expect_given_back(&rt, &mut shared);
-    Ok(())
+    over_opened(
+        &rt,
+        rt,
+        ("kept_job", "kept_cells"),
+        kept_and_given_back,
+        [true; 10],
+    )
 }
 
-/// Asserts that no call goes through while another program writes both files.
-fn expect_kept(rt: &impl Abort, shared: &mut Shared) {
-    assert!(rt; shared.job.try_lock().is_ok() && shared.cells.try_lock().is_ok());
-    assert!(rt; job_is_kept(&mut shared.files));
-    assert!(rt; cells_are_kept(&mut shared.files));
-    assert!(rt; shared.files.hold(b"abc", &CELLS));
-}
-
-/// Asserts that both files are read once it has given them back.
-fn expect_given_back(rt: &impl Abort, shared: &mut Shared) {
-    assert!(rt; shared.job.unlock().is_ok() && shared.cells.unlock().is_ok());
-    assert!(rt; shared.files.reads(0, *b"abc"));
-    assert!(rt; shared.files.reads_cells(CELLS));
-    assert!(rt; shared.files.remove());
+/// Whether no call goes through while another program writes both files, which are read once it has given them back.
+fn kept_and_given_back(shared: &mut Shared) -> [bool; 10] {
+    [
+        writes(&shared.job),
+        writes(&shared.cells),
+        job_is_kept(&mut shared.files),
+        cells_are_kept(&mut shared.files),
+        shared.files.hold(b"abc", &CELLS),
+        gives_back(&shared.job),
+        gives_back(&shared.cells),
+        shared.files.reads(0, *b"abc"),
+        shared.files.reads_cells(CELLS),
+        shared.files.remove(),
+    ]
 }
 
 #[test]
 fn a_job_file_that_another_program_reads_is_not_changed(rt: HostRuntime) -> Result<(), Fail> {
-    let mut shared = Shared::new(rt, "read_job", "its_cells")?;
-    expect_job_stays(&rt, &mut shared);
-    Ok(())
+    over_opened(&rt, rt, ("read_job", "its_cells"), job_stays, [true; 7])
 }
 
-/// Asserts that the job file is read and not changed while another program reads it, and no more once it was refused a change.
-fn expect_job_stays(rt: &impl Abort, shared: &mut Shared) {
-    assert!(rt; shared.job.try_lock_shared().is_ok());
-    assert!(rt; shared.files.reads(0, *b"abc"));
-    assert!(rt; shared.files.bench.file_write(0, b"x").is_err());
-    assert!(rt; shared.files.hold(b"abc", &CELLS));
-    assert!(rt; shared.job.unlock().is_ok());
-    assert!(rt; job_is_kept(&mut shared.files));
-    assert!(rt; shared.files.remove());
+/// Whether the job file is read and not changed while another program reads it, and no more once it was refused a change.
+fn job_stays(shared: &mut Shared) -> [bool; 7] {
+    [
+        reads(&shared.job),
+        shared.files.reads(0, *b"abc"),
+        shared.files.bench.file_write(0, b"x").is_err(),
+        shared.files.hold(b"abc", &CELLS),
+        gives_back(&shared.job),
+        job_is_kept(&mut shared.files),
+        shared.files.remove(),
+    ]
 }
 
 #[test]
 fn cells_that_another_program_reads_are_not_changed(rt: HostRuntime) -> Result<(), Fail> {
-    let mut shared = Shared::new(rt, "its_job", "read_cells")?;
-    expect_cells_stay(&rt, &mut shared);
-    Ok(())
+    over_opened(&rt, rt, ("its_job", "read_cells"), cells_stay, [true; 7])
 }
 
-/// Asserts the same of the cells.
-fn expect_cells_stay(rt: &impl Abort, shared: &mut Shared) {
-    assert!(rt; shared.cells.try_lock_shared().is_ok());
-    assert!(rt; shared.files.reads_cells(CELLS));
-    assert!(rt; !shared.files.open(0, 2));
-    assert!(rt; shared.files.hold(b"abc", &CELLS));
-    assert!(rt; shared.cells.unlock().is_ok());
-    assert!(rt; cells_are_kept(&mut shared.files));
-    assert!(rt; shared.files.remove());
+/// Whether the same holds of the cells.
+fn cells_stay(shared: &mut Shared) -> [bool; 7] {
+    [
+        reads(&shared.cells),
+        shared.files.reads_cells(CELLS),
+        !shared.files.open(0, 2),
+        shared.files.hold(b"abc", &CELLS),
+        gives_back(&shared.cells),
+        cells_are_kept(&mut shared.files),
+        shared.files.remove(),
+    ]
 }
 
 #[test]
 fn a_job_is_not_changed_while_another_program_reads_the_cells(rt: HostRuntime) -> Result<(), Fail> {
-    let mut shared = Shared::new(rt, "whole_job", "seen_cells_of_it")?;
-    expect_whole_job(&rt, &mut shared);
-    Ok(())
+    over_opened(
+        &rt,
+        rt,
+        ("whole_job", "seen_cells_of_it"),
+        whole_job_stays,
+        [true; 9],
+    )
 }
 
-/// Asserts that the job file isn't changed while another program reads the cells.
-fn expect_whole_job(rt: &impl Abort, shared: &mut Shared) {
-    assert!(rt; shared.cells.try_lock_shared().is_ok());
-    assert!(rt; shared.files.reads(0, *b"abc"));
-    assert!(rt; shared.files.bench.cells_drop().is_ok());
-    assert!(rt; shared.files.bench.file_write(0, b"x").is_err());
-    assert!(rt; shared.files.bench.file_cut(0).is_err());
-    assert!(rt; shared.job.try_lock_shared().is_ok() && shared.job.unlock().is_ok());
-    assert!(rt; shared.files.hold(b"abc", &CELLS));
-    assert!(rt; shared.files.remove());
+/// Whether the job file isn't changed while another program reads the cells.
+fn whole_job_stays(shared: &mut Shared) -> [bool; 9] {
+    [
+        reads(&shared.cells),
+        shared.files.reads(0, *b"abc"),
+        shared.files.bench.cells_drop().is_ok(),
+        shared.files.bench.file_write(0, b"x").is_err(),
+        shared.files.bench.file_cut(0).is_err(),
+        reads(&shared.job),
+        gives_back(&shared.job),
+        shared.files.hold(b"abc", &CELLS),
+        shared.files.remove(),
+    ]
 }
 
 #[test]
 fn a_file_that_was_read_is_written_by_no_other(rt: HostRuntime) -> Result<(), Fail> {
-    let mut shared = Shared::new(rt, "seen_job", "seen_cells")?;
-    expect_seen_job(&rt, &mut shared);
-    expect_seen_cells(&rt, &mut shared);
-    Ok(())
+    over_opened(
+        &rt,
+        rt,
+        ("seen_job", "seen_cells"),
+        job_and_cells_are_seen,
+        [true; 12],
+    )
 }
 
-/// Asserts that another program writes the job file before it is looked at, and only reads it behind that.
-fn expect_seen_job(rt: &impl Abort, shared: &mut Shared) {
-    assert!(rt; shared.job.try_lock().is_ok() && shared.job.unlock().is_ok());
-    assert!(rt; shared.files.bench.file_len().is_ok());
-    assert!(rt; shared.job.try_lock().is_err());
-    assert!(rt; shared.job.try_lock_shared().is_ok() && shared.job.unlock().is_ok());
-}
-
-/// Asserts the same of the cells.
-fn expect_seen_cells(rt: &impl Abort, shared: &mut Shared) {
-    assert!(rt; shared.cells.try_lock().is_ok() && shared.cells.unlock().is_ok());
-    assert!(rt; shared.files.bench.cells_drop().is_ok());
-    assert!(rt; shared.cells.try_lock().is_err());
-    assert!(rt; shared.cells.try_lock_shared().is_ok());
-    assert!(rt; shared.files.remove());
+/// Whether another program writes the files before they are looked at, and only reads them behind that.
+fn job_and_cells_are_seen(shared: &mut Shared) -> [bool; 12] {
+    [
+        writes(&shared.job),
+        gives_back(&shared.job),
+        shared.files.bench.file_len().is_ok(),
+        !writes(&shared.job),
+        reads(&shared.job),
+        gives_back(&shared.job),
+        writes(&shared.cells),
+        gives_back(&shared.cells),
+        shared.files.bench.cells_drop().is_ok(),
+        !writes(&shared.cells),
+        reads(&shared.cells),
+        shared.files.remove(),
+    ]
 }
 
 #[test]
 fn a_file_that_was_changed_is_kept_to_the_end(rt: HostRuntime) -> Result<(), Fail> {
-    let mut shared = Shared::new(rt, "own_job", "own_cells")?;
-    expect_own(&rt, &mut shared);
-    expect_still_own(&rt, &mut shared);
-    Ok(())
+    over_opened(
+        &rt,
+        rt,
+        ("own_job", "own_cells"),
+        own_and_still_own,
+        [true; 11],
+    )
 }
 
-/// Asserts that no other program reads a file once it was opened to be changed.
-fn expect_own(rt: &impl Abort, shared: &mut Shared) {
-    assert!(rt; shared.files.open(0, 2));
-    assert!(rt; shared.cells.try_lock_shared().is_err());
-    assert!(rt; shared.files.bench.cells_settle(&[7, 8]).is_ok());
-    assert!(rt; shared.files.write_synced(0, b"xy"));
-    assert!(rt; shared.job.try_lock_shared().is_err());
-}
-
-/// Asserts that so it stays.
-fn expect_still_own(rt: &impl Abort, shared: &mut Shared) {
-    assert!(rt; shared.files.reads(0, *b"xyc"));
-    assert!(rt; shared.files.reads_cells([7, 8, 3, 4, 5, 6]));
-    assert!(rt; shared.files.bench.cells_drop().is_ok());
-    assert!(rt; shared.job.try_lock_shared().is_err() && shared.cells.try_lock_shared().is_err());
-    assert!(rt; shared.files.remove());
+/// Whether no other program reads a file once it was opened to be changed, and so it stays.
+fn own_and_still_own(shared: &mut Shared) -> [bool; 11] {
+    [
+        shared.files.open(0, 2),
+        !reads(&shared.cells),
+        shared.files.bench.cells_settle(&[7, 8]).is_ok(),
+        shared.files.write_synced(0, b"xy"),
+        !reads(&shared.job),
+        shared.files.reads(0, *b"xyc"),
+        shared.files.reads_cells([7, 8, 3, 4, 5, 6]),
+        shared.files.bench.cells_drop().is_ok(),
+        !reads(&shared.job),
+        !reads(&shared.cells),
+        shared.files.remove(),
+    ]
 }
 
 #[test]
 fn a_cut_keeps_the_job_file_too(rt: HostRuntime) -> Result<(), Fail> {
-    let mut shared = Shared::new(rt, "cut_job", "cut_cells")?;
-    expect_cut(&rt, &mut shared);
-    Ok(())
+    over_opened(&rt, rt, ("cut_job", "cut_cells"), cut, [true; 4])
 }
 
-/// Asserts that no other program reads a job file that was cut.
-fn expect_cut(rt: &impl Abort, shared: &mut Shared) {
-    assert!(rt; shared.files.bench.file_cut(2).is_ok());
-    assert!(rt; shared.job.try_lock_shared().is_err());
-    assert!(rt; shared.files.hold(b"ab", &CELLS));
-    assert!(rt; shared.files.remove());
+/// Whether no other program reads a job file that was cut.
+fn cut(shared: &mut Shared) -> [bool; 4] {
+    [
+        shared.files.bench.file_cut(2).is_ok(),
+        !reads(&shared.job),
+        shared.files.hold(b"ab", &CELLS),
+        shared.files.remove(),
+    ]
+}
+
+/// Whether a job file of this name is a fault over these cells, which stay.
+fn is_refused(cells: &Temporary, name: &Temporary) -> Result<bool, OutOfMemory> {
+    let mut bench = bench_over(name, cells)?;
+    Ok(job_is_refused(&mut bench, cells))
 }
 
 /// Whether no call on the job file goes through, and the cells file stays.
@@ -210,149 +258,184 @@ fn job_is_refused(bench: &mut FileBench, cells: &Temporary) -> bool {
         && cells.holds(&CELLS)
 }
 
-/// Asserts that a job file of this name is a fault over these cells, which stay.
-fn expect_the_cells_file(rt: &impl Abort, cells: &Temporary, name: &Temporary) -> Result<(), Fail> {
-    let mut bench = bench_over(name, cells)?;
-    assert!(rt; job_is_refused(&mut bench, cells));
-    Ok(())
-}
-
 #[test]
 fn the_cells_file_is_no_job_file(rt: HostRuntime) -> Result<(), Fail> {
     let cells = Temporary::holding(rt, "twice", &CELLS)?;
-    expect_the_cells_file(&rt, &cells, &cells)?;
-    expect_by_symbolic_link(&rt, &cells)?;
-    expect_by_hard_link(&rt, &cells)?;
-    assert!(rt; cells.remove());
+    let seen = refused_by_each_name(&cells)?;
+    expect_all(&rt, &seen);
     Ok(())
 }
 
-/// Asserts the same where a symbolic link has the job file's name.
-fn expect_by_symbolic_link(rt: &impl Abort, cells: &Temporary) -> Result<(), Fail> {
+/// Whether it is refused by its own name and by links to it, and is removed.
+fn refused_by_each_name(cells: &Temporary) -> Result<[bool; 4], Fail> {
+    Ok([
+        is_refused(cells, cells)?,
+        by_symbolic_link(cells)?,
+        by_hard_link(cells)?,
+        cells.remove(),
+    ])
+}
+
+/// Whether a symbolic link is made, refused as a job file, and removed.
+fn by_symbolic_link(cells: &Temporary) -> Result<bool, Fail> {
     let link = Temporary::new(cells.rt, "twice_linked")?;
-    assert!(rt; symlink(&cells.rt, cells.name.text(), link.name.text()).is_ok());
-    expect_the_cells_file(rt, cells, &link)?;
-    assert!(rt; link.remove());
-    Ok(())
+    let made = link.link_to(cells);
+    Ok(is_refused(cells, &link)? && made && link.remove())
 }
 
-/// Asserts the same where a hard link has it.
-fn expect_by_hard_link(rt: &impl Abort, cells: &Temporary) -> Result<(), Fail> {
-    let hard = Temporary::new(cells.rt, "twice_hard")?;
-    assert!(rt; fs::hard_link(&cells.rt, cells.name.text(), hard.name.text()).is_ok());
-    expect_the_cells_file(rt, cells, &hard)?;
-    assert!(rt; hard.remove());
-    Ok(())
+/// Whether a hard link is.
+fn by_hard_link(cells: &Temporary) -> Result<bool, Fail> {
+    let link = Temporary::new(cells.rt, "twice_hard")?;
+    let made = fs::hard_link(&cells.rt, cells.name.text(), link.name.text()).is_ok();
+    Ok(is_refused(cells, &link)? && made && link.remove())
 }
 
-/// A bench over files with these ends of their names, beside others.
-fn beside(rt: HostRuntime, others: &[FileBench], job: &str, cells: &str) -> Result<Files, Fail> {
-    let job = Temporary::new(rt, job)?;
-    let cells = Temporary::new(rt, cells)?;
-    let bench = FileBench::beside(rt, job.word()?, cells.word()?, others);
-    Ok(Files { job, cells, bench })
+/// What is seen of a bench over files with these ends of their names, beside others.
+fn beside<F: FnOnce(&mut Files) -> bool + Copy>(
+    rt: HostRuntime,
+    others: &[FileBench],
+    ends: (&str, &str),
+    look: F,
+) -> Result<bool, Fail>
+    requires { F.IsAlwaysCallable look }
+{
+    let job = Temporary::new(rt, ends.0)?;
+    let cells = Temporary::new(rt, ends.1)?;
+    let bench = bench_beside(&job, &cells, others)?;
+    let mut files = Files { job, cells, bench };
+    Ok(look(&mut files))
+}
+
+/// A bench over two files, beside others.
+fn bench_beside(
+    job: &Temporary,
+    cells: &Temporary,
+    others: &[FileBench],
+) -> Result<FileBench, OutOfMemory> {
+    let job_name = job.word()?;
+    Ok(FileBench::beside(job.rt, job_name, cells.word()?, others))
 }
 
 #[test]
 fn a_file_of_another_bench_is_a_fault(rt: HostRuntime) -> Result<(), Fail> {
-    let files = with_job(rt, "first_job", "first_cells")?;
-    expect_beside(&rt, &files)?;
-    assert!(rt; files.remove());
+    let seen = seen_beside(rt)?;
+    expect_all(&rt, &seen.0);
+    expect_all(&rt, &seen.1);
+    expect_all(&rt, &seen.2);
     Ok(())
 }
 
-/// Asserts what holds of benches beside one over these files, and that other files are then as they were.
-fn expect_beside(rt: &impl Abort, files: &Files) -> Result<(), Fail> {
-    let mut others = with_job(files.job.rt, "second_job", "second_cells")?;
-    expect_linked(rt, files)?;
-    assert!(rt; others.reads(0, *b"abc") && others.reads_cells(CELLS));
-    assert!(rt; others.remove());
-    Ok(())
+/// What is seen of benches beside one over files.
+fn seen_beside(rt: HostRuntime) -> Result<([bool; 4], [bool; 3], [bool; 4]), Fail> {
+    let files = with_job(rt, ("first_job", "first_cells"))?;
+    beside_others(&files)
 }
 
-/// Asserts it where a link leads to the cells.
-fn expect_linked(rt: &impl Abort, files: &Files) -> Result<(), Fail> {
+/// The same where there are other files too.
+fn beside_others(files: &Files) -> Result<([bool; 4], [bool; 3], [bool; 4]), Fail> {
+    let mut others = with_job(files.job.rt, ("second_job", "second_cells"))?;
+    beside_files(files, &mut others)
+}
+
+/// The same, and whether the other files are then as they were, and all are removed.
+fn beside_files(
+    files: &Files,
+    others: &mut Files,
+) -> Result<([bool; 4], [bool; 3], [bool; 4]), Fail> {
+    let (kept, changed) = beside_linked(files)?;
+    let left = [
+        others.reads(0, *b"abc"),
+        others.reads_cells(CELLS),
+        others.remove(),
+        files.remove(),
+    ];
+    Ok((kept, changed, left))
+}
+
+/// The same where a link, which goes then, leads to the cells.
+fn beside_linked(files: &Files) -> Result<([bool; 4], [bool; 3]), Fail> {
     let link = Temporary::new(files.job.rt, "first_link")?;
-    assert!(rt; symlink(&files.job.rt, files.cells.name.text(), link.name.text()).is_ok());
-    expect_first(rt, files)?;
-    assert!(rt; link.remove());
-    Ok(())
+    let made = link.link_to(&files.cells);
+    let (kept, changed) = beside_first(files)?;
+    Ok((kept, [made, changed, link.remove()]))
 }
 
-/// Asserts that the first bench changes its files, while those beside it don't.
-fn expect_first(rt: &impl Abort, files: &Files) -> Result<(), Fail> {
+/// Whether the first bench changes its files, while those beside it don't.
+fn beside_first(files: &Files) -> Result<([bool; 4], bool), Fail> {
     let mut first = [bench_over(&files.job, &files.cells)?];
-    expect_same_job(rt, files.job.rt, &first)?;
-    expect_same_cells(rt, files.job.rt, &first)?;
-    expect_cells_as_job(rt, files.job.rt, &first)?;
-    expect_job_as_cells(rt, files.job.rt, &first)?;
-    expect_changes(rt, &mut first[0], files);
-    Ok(())
+    let kept = kept_from(files.job.rt, &first)?;
+    Ok((kept, changes(&mut first[0], files)))
 }
 
-/// Asserts that the job file of the first bench is none of another, over cells that are free.
-fn expect_same_job(rt: &impl Abort, host: HostRuntime, first: &[FileBench]) -> Result<(), Fail> {
-    let mut files = beside(host, first, "first_job", "second_cells")?;
-    assert!(rt; job_is_kept(&mut files) && files.reads_cells(CELLS));
-    Ok(())
+/// Whether its job file is none of another, nor are its cells by the link; its cells are no job file of another, nor its job file cells.
+fn kept_from(rt: HostRuntime, first: &[FileBench]) -> Result<[bool; 4], Fail> {
+    Ok([
+        beside(rt, first, ("first_job", "second_cells"), job_alone_is_kept)?,
+        beside(
+            rt,
+            first,
+            ("second_job", "first_link"),
+            cells_alone_are_kept,
+        )?,
+        beside(rt, first, ("first_cells", "second_cells"), job_is_kept)?,
+        beside(rt, first, ("second_job", "first_job"), cells_are_kept)?,
+    ])
 }
 
-/// Asserts that its cells are none of another, by a link, beside a job file that is free, which is read and not changed.
-fn expect_same_cells(rt: &impl Abort, host: HostRuntime, first: &[FileBench]) -> Result<(), Fail> {
-    let mut files = beside(host, first, "second_job", "first_link")?;
-    assert!(rt; cells_are_kept(&mut files) && files.reads(0, *b"abc"));
-    assert!(rt; files.bench.file_write(0, b"x").is_err());
-    Ok(())
+/// Whether no call on the job file goes through, over cells that are free.
+fn job_alone_is_kept(files: &mut Files) -> bool {
+    job_is_kept(files) && files.reads_cells(CELLS)
 }
 
-/// Asserts that its cells are no job file of another.
-fn expect_cells_as_job(
-    rt: &impl Abort,
-    host: HostRuntime,
-    first: &[FileBench],
-) -> Result<(), Fail> {
-    let mut files = beside(host, first, "first_cells", "second_cells")?;
-    assert!(rt; job_is_kept(&mut files));
-    Ok(())
+/// Whether no call on the cells goes through, beside a job file that is free, which is read and not changed.
+fn cells_alone_are_kept(files: &mut Files) -> bool {
+    cells_are_kept(files) && files.reads(0, *b"abc") && files.bench.file_write(0, b"x").is_err()
 }
 
-/// Asserts that its job file has no cells of another.
-fn expect_job_as_cells(
-    rt: &impl Abort,
-    host: HostRuntime,
-    first: &[FileBench],
-) -> Result<(), Fail> {
-    let mut files = beside(host, first, "second_job", "first_job")?;
-    assert!(rt; cells_are_kept(&mut files));
-    Ok(())
-}
-
-/// Asserts that a bench changes its job file.
-fn expect_changes(rt: &impl Abort, bench: &mut FileBench, files: &Files) {
-    assert!(rt; bench.file_write(0, b"x").is_ok());
-    assert!(rt; bench.cells_drop().is_ok());
-    assert!(rt; files.hold(b"xbc", &CELLS));
+/// Whether a bench changes its job file.
+fn changes(bench: &mut FileBench, files: &Files) -> bool {
+    bench.file_write(0, b"x").is_ok() && bench.cells_drop().is_ok() && files.hold(b"xbc", &CELLS)
 }
 
 /// No program that runs can be opened for writing, whoever asks.
 #[test]
 fn cells_that_cannot_be_written_are_read(rt: HostRuntime) -> Result<(), Fail> {
     let job = Temporary::new(rt, "program_job")?;
-    let program = Word::copy(rt.alloc(), "/proc/self/exe")?;
-    let mut bench = FileBench::new(rt, job.word()?, program);
-    expect_program(&rt, &mut bench);
-    assert!(rt; job.is_missing());
+    let seen = program_as_cells(&job)?;
+    expect_all(&rt, &seen);
     Ok(())
 }
 
-/// Asserts that the cells are a program, before and behind an operation that isn't opened.
-fn expect_program(rt: &impl Abort, bench: &mut FileBench) {
+/// What is seen of a bench whose cells are the running program, and of its job file.
+fn program_as_cells(job: &Temporary) -> Result<[bool; 5], OutOfMemory> {
+    let mut bench = bench_over_program(job)?;
+    Ok(program_is_read(&mut bench, job))
+}
+
+/// A bench whose cells are the running program.
+fn bench_over_program(job: &Temporary) -> Result<FileBench, OutOfMemory> {
+    let program = Word::copy(job.rt.alloc(), "/proc/self/exe")?;
+    Ok(FileBench::new(job.rt, job.word()?, program))
+}
+
+/// Whether the cells are a program, before and behind an operation that isn't opened, and no job file is made.
+fn program_is_read(bench: &mut FileBench, job: &Temporary) -> [bool; 5] {
+    [
+        is_program(bench),
+        bench.cells_drop().is_ok(),
+        cannot_be_opened(bench),
+        is_program(bench),
+        job.is_missing(),
+    ]
+}
+
+/// Whether the cells begin as a program does.
+fn is_program(bench: &mut FileBench) -> bool {
     let mut found = [0; 4];
-    assert!(rt; bench.cells_len() >= 6);
-    assert!(rt; bench.cells_read(0, &mut found).is_ok());
-    assert_eq!(rt; found, *b"\x7fELF");
-    assert!(rt; bench.cells_drop().is_ok());
-    assert!(rt; bench.cells_open(0, 2).is_err());
-    assert!(rt; bench.cells_read(0, &mut found).is_ok());
-    assert_eq!(rt; found, *b"\x7fELF");
+    bench.cells_len() >= 6 && bench.cells_read(0, &mut found).is_ok() && found == *b"\x7fELF"
+}
+
+/// Whether an operation on the first two cells isn't opened.
+fn cannot_be_opened(bench: &mut FileBench) -> bool {
+    bench.cells_len() >= 6 && bench.cells_open(0, 2).is_err()
 }
