@@ -1,4 +1,5 @@
--- `read_all`: that its loop keeps what it has to, and `loop-done-preserved-in-Ok`.
+-- `read_all`: that it keeps its contract.
+use Rattle.std.proofs.lemmas.Grind.{common_steps}
 use Rattle.std.proofs.Common.{rules, ap, arith, length, length-drop, ◌-◌, ◌≡◌, ◌<◌, ◌∙◌}
 use Rattle.std.proofs.lemmas.List.{take_rest}
 use Rattle.std.specs.IoError.{error_kind}
@@ -39,3 +40,9 @@ loop-done-preserved g c =
       known.3,
       goes_stopped known.4 (λ told. (c.in-Err.ensures.fails told).stopped kind) (λ told. (c.in-Err.ensures.fails told).syncs),
     )
+
+pub loop-done-init : goal.loop-done-init
+loop-done-init g c = grind (arith, common_steps)
+
+pub returns-in-Ok-eq0-clause-fails : goal.returns-in-Ok-eq0-clause-fails
+returns-in-Ok-eq0-clause-fails g c = grind (arith, common_steps)

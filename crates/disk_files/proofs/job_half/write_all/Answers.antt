@@ -1,5 +1,6 @@
--- `write_all`: its clauses `torn` and `moments`, that its loop keeps what it has to, and `loop-done-preserved-in-Ok`.
-use Rattle.std.proofs.Common.{rules, ◌≡◌, ◌<◌}
+-- `write_all`: that it keeps its contract.
+use Rattle.std.proofs.lemmas.Grind.{common_steps}
+use Rattle.std.proofs.Common.{rules, ◌≡◌, ◌<◌, arith}
 use Rattle.std.proofs.lemmas.List.{take_rest}
 use Rattle.std.specs.IoError.{error_kind}
 use Rattle.std.specs.declared.io.ErrorKind.TheVariants.{Interrupted}
@@ -63,3 +64,9 @@ loop-done-preserved g c =
       known.4,
       goes_stopped known.5 (λ told. (c.in-Err.ensures.fails told).stopped kind) (λ told. (c.in-Err.ensures.fails told).syncs),
     )
+
+pub job_write_at-requires-clause-at : goal.job_write_at-requires-clause-at
+job_write_at-requires-clause-at g c = grind (arith, common_steps)
+
+pub returns-in-Ok-eq0-clause-fails : goal.returns-in-Ok-eq0-clause-fails
+returns-in-Ok-eq0-clause-fails g c = grind (arith, common_steps)

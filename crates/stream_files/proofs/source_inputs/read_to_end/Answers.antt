@@ -1,4 +1,5 @@
--- `read_to_end`: its clauses `ok` and `err`.
+-- `read_to_end`: that it keeps its contract.
+use Rattle.std.proofs.lemmas.Grind.{common_steps}
 use Rattle.std.proofs.Common.{◌≡◌, ◌<◌, ◌+◌, [], arith, inr, length, vec_len}
 use Rattle.stream_files.proofs.RunLemmas.{read_all, read_nothing, at_least}
 use Rattle.stream_files.proofs.source_inputs.read_to_end.Goals as goal
@@ -30,3 +31,6 @@ returns-in-Ok-clause-err g c = λ told.
       c.loop-stops.bytes.ok.0,
     ) in
     inr (inr long)
+
+pub loop-stops-preserved-in-Continue-1 : goal.loop-stops-preserved-in-Continue-1
+loop-stops-preserved-in-Continue-1 g c = grind (arith, common_steps)

@@ -1,4 +1,5 @@
--- `write_whole`: its clause `err`, that its loop keeps what it has to, and `loop-done-preserved-in-Ok`.
+-- `write_whole`: that it keeps its contract.
+use Rattle.std.proofs.lemmas.Grind.{common_steps}
 use Rattle.std.proofs.Common.{rules, inl, arith, ◌≡◌}
 use Rattle.std.proofs.lemmas.List.{take_rest}
 use Rattle.std.specs.IoError.{error_kind}
@@ -37,3 +38,6 @@ returns-in-Err-2-clause-err g c = λ told.
     taken_part g.S.Stream.tells (S c.args.stream.now) (S c.loop-done.stream) (S c.write.new.self)
     c.args.bytes.now c.loop-done.done c.loop-done.stops c.loop-done.invariant
     told (c.in-Err-2.ensures.writes.stays told)
+
+pub returns-in-Ok-eq0-clause-fails : goal.returns-in-Ok-eq0-clause-fails
+returns-in-Ok-eq0-clause-fails g c = grind (arith, common_steps)

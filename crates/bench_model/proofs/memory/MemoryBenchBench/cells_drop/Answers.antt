@@ -1,4 +1,5 @@
--- `MemoryBenchBench::cells_drop`: its clause `does`, and that its result is as its type asks.
+-- `MemoryBenchBench::cells_drop`: that it keeps its contract.
+use Rattle.std.proofs.lemmas.Grind.{common_steps}
 use Rattle.std.proofs.Common.{arith, refl, ap, sym, subst, ◌∙◌, ◌≡◌, ℕ, List, length, Option, Some, None}
 use Rattle.bench_model.specs.State.{SameOutside}
 use Rattle.bench_model.specs.Memory.{InStep}
@@ -50,3 +51,12 @@ returns-clause-does c =
       file = record { file = refl; faults = refl; half = file_stays_after m.history r' e is refl };
       cause = went_cause tt m.device c.next_goes-2.new.self (c.next_goes-2.ensures.goes c.if-not-next_goes-2.false).0;
     }
+
+pub returns-in_default-clause-does : goal.returns-in_default-clause-does
+returns-in_default-clause-does c = grind (arith, common_steps)
+
+pub returns-then-not-next_goes-clause-does : goal.returns-then-not-next_goes-clause-does
+returns-then-not-next_goes-clause-does c = grind (arith, common_steps)
+
+pub returns-then-not-next_goes-2-clause-does : goal.returns-then-not-next_goes-2-clause-does
+returns-then-not-next_goes-2-clause-does c = grind (arith, common_steps)

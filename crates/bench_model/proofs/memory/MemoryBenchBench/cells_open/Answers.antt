@@ -1,4 +1,5 @@
--- `MemoryBenchBench::cells_open`: its clause `does`, and that its result is as its type asks.
+-- `MemoryBenchBench::cells_open`: that it keeps its contract.
+use Rattle.std.proofs.lemmas.Grind.{common_steps}
 use Rattle.std.proofs.Common.{arith, refl, ◌∙◌}
 use Rattle.bench_model.specs.Record.{held_now, opened}
 use Rattle.bench_model.proofs.MemoryLemmas.{went_cause, step_opened, in_step_after, longest-after, made-after, greatest-after, opened_leaves, file_stays_after}
@@ -38,3 +39,6 @@ returns-clause-does c =
       file = record { file = refl; faults = refl; half = file_stays_after m.history r' e is refl };
       cause = went_cause tt m.device c.next_goes.new.self (c.next_goes.ensures.goes c.if-not-next_goes.false).0;
     }
+
+pub returns-then-not-next_goes-clause-does : goal.returns-then-not-next_goes-clause-does
+returns-then-not-next_goes-clause-does c = grind (arith, common_steps)

@@ -1,4 +1,5 @@
--- `MemoryBenchBench::cells_settle_fill`: its clause `does`, and that its result is as its type asks.
+-- `MemoryBenchBench::cells_settle_fill`: that it keeps its contract.
+use Rattle.std.proofs.lemmas.Grind.{common_steps}
 use Rattle.std.proofs.Common.{arith, refl, ap, sym, subst, ◌∙◌, ◌≡◌, ℕ, List, length, replicate, Option, Some, None}
 use Rattle.std.proofs.lemmas.List.{length-replicate}
 use Rattle.bench_model.specs.Calls.{written}
@@ -58,3 +59,6 @@ returns-clause-does c =
       file = record { file = refl; faults = refl; half = file_stays_after m.history r' e is refl };
       cause = went_cause tt m.device c.next_goes.new.self (c.next_goes.ensures.goes c.if-not-next_goes.false).0;
     }
+
+pub returns-then-not-next_goes-clause-does : goal.returns-then-not-next_goes-clause-does
+returns-then-not-next_goes-clause-does c = grind (arith, common_steps)

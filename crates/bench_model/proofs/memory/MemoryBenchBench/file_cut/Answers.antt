@@ -1,4 +1,5 @@
--- `MemoryBenchBench::file_cut`: its clause `does`, and that its result is as its type asks.
+-- `MemoryBenchBench::file_cut`: that it keeps its contract.
+use Rattle.std.proofs.lemmas.Grind.{common_steps}
 use Rattle.std.proofs.Common.{arith, refl, sym, subst, ◌∙◌, ◌<◌, ℕ, List, All}
 use Rattle.std.proofs.lemmas.List.Elements.{All-take}
 use Rattle.bench_model.specs.Memory.{InStep}
@@ -38,3 +39,6 @@ returns-clause-does c =
       cells = record { cells = refl; operation = refl; count = refl; faults = refl; half = cells_stay_after m.history r' e is (λ x. ((λ at. at), (λ at. at))) };
       cause = went_cause tt m.store c.next_goes.new.self (c.next_goes.ensures.goes c.if-not-next_goes.false).0;
     }
+
+pub returns-then-not-next_goes-clause-does : goal.returns-then-not-next_goes-clause-does
+returns-then-not-next_goes-clause-does c = grind (arith, common_steps)

@@ -1,4 +1,5 @@
--- `MemoryBenchBench::file_sync`: its clause `does`, and that its result is as its type asks.
+-- `MemoryBenchBench::file_sync`: that it keeps its contract.
+use Rattle.std.proofs.lemmas.Grind.{common_steps}
 use Rattle.std.proofs.Common.{arith, refl, ap, ◌∙◌, length}
 use Rattle.bench_model.specs.Record.{held_now, synced}
 use Rattle.bench_model.proofs.MemoryLemmas.{went_cause, step_synced, in_step_after, longest-after, made-after, greatest-after, synced_adds_nothing}
@@ -42,3 +43,6 @@ returns-clause-does c =
       cells = record { cells = refl; operation = refl; count = refl; faults = refl; half = cells_stay_after m.history r' e is (λ x. ((λ at. at), (λ at. at))) };
       cause = went_cause tt m.store c.next_goes.new.self (c.next_goes.ensures.goes c.if-not-next_goes.false).0;
     }
+
+pub returns-then-not-next_goes-clause-does : goal.returns-then-not-next_goes-clause-does
+returns-then-not-next_goes-clause-does c = grind (arith, common_steps)

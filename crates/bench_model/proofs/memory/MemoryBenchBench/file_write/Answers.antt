@@ -1,4 +1,5 @@
--- `MemoryBenchBench::file_write`: its clause `does`, and that its result is as its type asks.
+-- `MemoryBenchBench::file_write`: that it keeps its contract.
+use Rattle.std.proofs.lemmas.Grind.{common_steps}
 use Rattle.std.proofs.Common.{arith, refl, sym, subst, ◌∙◌, ◌+◌, ◌≤◌, ℕ, List, length}
 use Rattle.bench_model.specs.Memory.{InStep}
 use Rattle.bench_model.specs.Record.{held_now, wrote}
@@ -38,3 +39,9 @@ returns-clause-does c =
       cells = record { cells = refl; operation = refl; count = refl; faults = refl; half = cells_stay_after m.history r' e is (λ x. ((λ at. at), (λ at. at))) };
       cause = went_cause tt m.store c.next_goes.new.self (c.next_goes.ensures.goes c.if-not-next_goes.false).0;
     }
+
+pub returns-then-not-next_goes-clause-does : goal.returns-then-not-next_goes-clause-does
+returns-then-not-next_goes-clause-does c = grind (arith, common_steps)
+
+pub returns-clause-acts : goal.returns-clause-acts
+returns-clause-acts c = grind (arith, common_steps)

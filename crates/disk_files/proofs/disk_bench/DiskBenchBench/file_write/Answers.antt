@@ -1,4 +1,5 @@
--- `DiskBenchBench::file_write`: its clause `does`.
+-- `DiskBenchBench::file_write`: that it keeps its contract.
+use Rattle.std.proofs.lemmas.Grind.{common_steps}
 use Rattle.std.proofs.Common.{◌∙◌, ap, subst, refl, arith, ℕ, List, length}
 use Rattle.std.proofs.lemmas.Bool.{false≢true}
 use Rattle.bench_model.specs.Calls.{written, Torn}
@@ -44,3 +45,15 @@ returns-in-Err-clause-does g c =
       };
       cause = record { later = c.raise-in-Err.ensures.later; on_fault = λ fault. c.raise-in-Err.ensures.rose; on_ok = λ ok. absurd (false≢true ok) };
     }
+
+pub returns-then-is_err-clause-does : goal.returns-then-is_err-clause-does
+returns-then-is_err-clause-does g c = grind (arith, common_steps)
+
+pub returns-in-Ok-clause-acts : goal.returns-in-Ok-clause-acts
+returns-in-Ok-clause-acts g c = grind (arith, common_steps)
+
+pub returns-in-Err-clause-acts : goal.returns-in-Err-clause-acts
+returns-in-Err-clause-acts g c = grind (arith, common_steps)
+
+pub returns-then-is_err-clause-acts : goal.returns-then-is_err-clause-acts
+returns-then-is_err-clause-acts g c = grind (arith, common_steps)

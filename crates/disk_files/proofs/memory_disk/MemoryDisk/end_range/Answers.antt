@@ -1,4 +1,5 @@
--- `MemoryDisk::end_range`: that its result is as its type asks.
+-- `MemoryDisk::end_range`: that it keeps its contract.
+use Rattle.std.proofs.lemmas.Grind.{common_steps}
 use Rattle.std.proofs.Common.{◌≡◌, ◌≤◌, ◌+◌, ◌-◌, ◌∙◌, ap, sym, subst, arith, ℕ, List, length, take, drop, Option, Some}
 use Rattle.std.specs.Prelude.{IfSome}
 use Rattle.bench_model.specs.Calls.{written}
@@ -32,3 +33,15 @@ invariant_of-self g c =
       long = m.long ∙ sym c.cells_settle.ensures.does.count;
       fits = λ x is. cc;
     }
+
+pub returns-in-Err-clause-does : goal.returns-in-Err-clause-does
+returns-in-Err-clause-does g c = grind (arith, common_steps)
+
+pub returns-in-Err-clause-fails : goal.returns-in-Err-clause-fails
+returns-in-Err-clause-fails g c = grind (arith, common_steps)
+
+pub returns-in-Ok-clause-does : goal.returns-in-Ok-clause-does
+returns-in-Ok-clause-does g c = grind (arith, common_steps)
+
+pub returns-in_default-clause-does : goal.returns-in_default-clause-does
+returns-in_default-clause-does g c = grind (arith, common_steps)

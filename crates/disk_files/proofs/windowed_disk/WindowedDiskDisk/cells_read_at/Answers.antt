@@ -1,5 +1,6 @@
--- `WindowedDiskDisk::cells_read_at`: its clause `does`.
-use Rattle.std.proofs.Common.{ap, subst}
+-- `WindowedDiskDisk::cells_read_at`: that it keeps its contract.
+use Rattle.std.proofs.lemmas.Grind.{common_steps}
+use Rattle.std.proofs.Common.{ap, subst, arith}
 use Rattle.disk_files.specs.DiskState.{DiskState}
 use Rattle.disk_files.specs.DiskDoes.{ReadsBytes}
 use Rattle.disk_files.proofs.CellLemmas.{looks_then}
@@ -16,3 +17,15 @@ returns-in_default-clause-does g c =
           (subst (λ (d : DiskState). ReadsBytes g.F.Disk.tells d new) (ap (λ s. S s.disk) w.self-is) read)
       | else-out-len w ↦ subst (λ (d : DiskState). ReadsBytes g.F.Disk.tells d new) (ap (λ s. S s.disk) w.self-is) read
     ]
+
+pub returns-then-copy-2-clause-reads : goal.returns-then-copy-2-clause-reads
+returns-then-copy-2-clause-reads g c = grind (arith, common_steps)
+
+pub returns-then-copy-clause-reads : goal.returns-then-copy-clause-reads
+returns-then-copy-clause-reads g c = grind (arith, common_steps)
+
+pub returns-then-branch-eq0-clause-fails : goal.returns-then-branch-eq0-clause-fails
+returns-then-branch-eq0-clause-fails g c = grind (arith, common_steps)
+
+pub returns-then-copy-2-clause-fails : goal.returns-then-copy-2-clause-fails
+returns-then-copy-2-clause-fails g c = grind (arith, common_steps)

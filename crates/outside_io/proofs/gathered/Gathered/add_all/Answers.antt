@@ -1,5 +1,6 @@
--- `Gathered::add_all`: its contract, `Gathers`, and that its loop keeps what it has to.
-use Rattle.std.proofs.Common.{Bor, ℕ, List}
+-- `Gathered::add_all`: that it keeps its contract.
+use Rattle.std.proofs.lemmas.Grind.{common_steps}
+use Rattle.std.proofs.Common.{Bor, ℕ, List, arith}
 use Rattle.outside_io.proofs.GatherLemmas.{gathers_more, gathers_breaks, gathers_failed}
 use Rattle.outside_io.proofs.gathered.Gathered.add_all.Goals as goal
 
@@ -10,3 +11,6 @@ returns-in_err-add g c = gathers_failed _ c.from_residual.ensures.0
 pub loop-piece-preserved : goal.loop-piece-preserved
 loop-piece-preserved g c =
     gathers_more (λ (piece : Bor (List ℕ)). piece.now) _ _ _ c.loop-piece-test.true c.loop-piece.invariant c.in_ok-add.ensures
+
+pub returns : goal.returns
+returns g c = grind (arith, common_steps)

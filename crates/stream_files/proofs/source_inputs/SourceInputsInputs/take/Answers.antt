@@ -1,5 +1,6 @@
--- `SourceInputsInputs::take`: its clause `fails`.
-use Rattle.std.proofs.Common.{rules, ap, subst, ◌≡◌, ◌⊎◌, ℕ, List}
+-- `SourceInputsInputs::take`: that it keeps its contract.
+use Rattle.std.proofs.lemmas.Grind.{common_steps}
+use Rattle.std.proofs.Common.{rules, ap, subst, ◌≡◌, ◌⊎◌, ℕ, List, arith}
 use Rattle.std.specs.IoError.{error_kind}
 use Rattle.std.specs.declared.io.ErrorKind.TheVariants.{OutOfMemory}
 use Rattle.faults.specs.Counts.{Rose}
@@ -16,3 +17,6 @@ returns-in_ok-remember-in-Err-2-clause-fails g c = λ told.
     subst (λ (name : List ℕ). Rose old.calls.errors new.calls.errors ⊎ IsLonger 67108864 (old.stands name)) c.text.ensures
     (excused old (S c.read_file.new.source) new (IsLonger 67108864 (old.stands c.text.result.now)) c.in-Err.fault
     (ap S c.remember.ensures.source) (c.in-Err.ensures.err told) other)
+
+pub returns-in_ok-remember-in-Err-2-clause-cause : goal.returns-in_ok-remember-in-Err-2-clause-cause
+returns-in_ok-remember-in-Err-2-clause-cause g c = grind (arith, common_steps)

@@ -1,0 +1,7 @@
+-- `cells_drop`: that it keeps its contract.
+use Rattle.std.proofs.Common.{arith}
+use Rattle.std.proofs.lemmas.Grind.{common_steps}
+use Rattle.bench_model.proofs.stop.StopBenchBench.cells_drop.Goals as goal
+
+pub returns-then-self-eq0-clause-does : goal.returns-then-self-eq0-clause-does
+returns-then-self-eq0-clause-does g c = grind (arith, common_steps)

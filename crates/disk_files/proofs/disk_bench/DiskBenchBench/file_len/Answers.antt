@@ -1,0 +1,7 @@
+-- `file_len`: that it keeps its contract.
+use Rattle.std.proofs.Common.{arith}
+use Rattle.std.proofs.lemmas.Grind.{common_steps}
+use Rattle.disk_files.proofs.disk_bench.DiskBenchBench.file_len.Goals as goal
+
+pub returns-in-Err-clause-does : goal.returns-in-Err-clause-does
+returns-in-Err-clause-does g c = grind (arith, common_steps)
