@@ -1,9 +1,10 @@
 //! The files that stand under names.
 
-use anyhow::{Result, bail, ensure};
-use board_file::read_board;
+use crate::lines::{first_of, number};
+use anyhow::{Context, Result, bail, ensure};
+use board_file::{Board, read_board};
 use flm_forge::{Kind, forge, listing_at};
-use octets::{Bytes, Word};
+use octets::Word;
 use outside_io::MemoryInputs;
 use std::alloc::Global;
 use std::fs;
@@ -35,7 +36,7 @@ impl Files {
         Ok(())
     }
 
-    /// Changes bytes of what stands under a name.
+    /// Lays bytes over those of what stands under a name, from a place on.
     pub fn patch(&mut self, name: &str, at: usize, bytes: &[u8]) {
         for file in self.files.iter_mut() {
             if file.name.text() == name {
@@ -56,10 +57,12 @@ impl Files {
 
     /// What stands under a name.
     pub fn bytes(&self, name: &str) -> Result<&[u8]> {
-        match self.files.iter().find(|file| file.name.text() == name) {
-            Some(file) => Ok(&file.bytes),
-            None => bail!("{name}: no such file"),
+        for file in self.files.iter() {
+            if file.name.text() == name {
+                return Ok(&file.bytes);
+            }
         }
+        bail!("no such file");
     }
 
     /// Puts the files into a folder.
@@ -79,14 +82,44 @@ impl Files {
         Ok(inputs)
     }
 
-    /// The FLM file of an algorithm for a region of the board under a name.
-    pub fn forged(&self, alloc: Global, kind: &str, board: &str, form: Form) -> Result<Bytes> {
-        let Form { page, time, region } = form;
+    /// The FLM file that a text asks for: `KIND BOARD PAGE TIME [REGION]`.
+    pub fn forged(&self, alloc: Global, text: &str) -> Result<Vec<u8>> {
+        let (kind, rest) = first_of(text);
+        let (board, form) = first_of(rest);
         let board = read_board(alloc, self.bytes(board)?)?;
-        ensure!(region < board.regions.as_slice().len(), "no such region");
-        let mut listing = listing_at(alloc, kind_of(kind)?, &board, region, page)?;
-        listing.to_erase = time;
-        Ok(forge(alloc, &listing)?)
+        forged_for(alloc, kind, &board, form)
+    }
+}
+
+/// The FLM file of an algorithm for a region of a board: `PAGE TIME [REGION]`.
+fn forged_for(alloc: Global, kind: &str, board: &Board, form: &str) -> Result<Vec<u8>> {
+    let Form { page, time, region } = Form::read(form)?;
+    let kind = kind_of(kind).context("no such algorithm")?;
+    ensure!(region < board.regions.as_slice().len(), "no such region");
+    let mut listing = listing_at(alloc, kind, board, region, page)?;
+    listing.to_erase = time;
+    Ok(forge(alloc, &listing)?.into_vec())
+}
+
+/// The bytes of a page, the milliseconds for a sector's erasure, and the region, from 0 on.
+#[derive(Clone, Copy)]
+struct Form {
+    page: u32,
+    time: u32,
+    region: usize,
+}
+
+impl Form {
+    /// Reads `PAGE TIME [REGION]`. With no region it is the first.
+    fn read(text: &str) -> Result<Form> {
+        let (page, rest) = first_of(text);
+        let (time, region) = first_of(rest);
+        let region = if region.is_empty() { "0" } else { region };
+        Ok(Form {
+            page: page.parse::<u32>()?,
+            time: time.parse::<u32>()?,
+            region: number(region)?,
+        })
     }
 }
 
@@ -99,14 +132,6 @@ pub fn lay(into: &mut [u8], at: usize, bytes: &[u8]) {
     }
 }
 
-/// The bytes of a page, the milliseconds for a sector's erasure, and the region, from 0 on.
-#[derive(Clone, Copy)]
-pub struct Form {
-    pub page: u32,
-    pub time: u32,
-    pub region: usize,
-}
-
 /// Puts a file into a folder.
 pub fn put_file(rt: &HostRuntime, folder: &str, name: &str, bytes: &[u8]) -> Result<()> {
     let path = format!(in rt.alloc(); "{folder}/{name}")?;
@@ -115,16 +140,16 @@ pub fn put_file(rt: &HostRuntime, folder: &str, name: &str, bytes: &[u8]) -> Res
 }
 
 /// The algorithm of a name.
-fn kind_of(name: &str) -> Result<Kind> {
-    Ok(match name {
-        "A1" => Kind::A1,
-        "A2" => Kind::A2,
-        "A3" => Kind::A3,
-        "A4" => Kind::A4,
-        "A5" => Kind::A5,
-        "A6" => Kind::A6,
-        "A7" => Kind::A7,
-        "F1" => Kind::F1,
-        _ => bail!("{name}: no such algorithm"),
-    })
+fn kind_of(name: &str) -> Option<Kind> {
+    match name {
+        "A1" => Some(Kind::A1),
+        "A2" => Some(Kind::A2),
+        "A3" => Some(Kind::A3),
+        "A4" => Some(Kind::A4),
+        "A5" => Some(Kind::A5),
+        "A6" => Some(Kind::A6),
+        "A7" => Some(Kind::A7),
+        "F1" => Some(Kind::F1),
+        _ => None,
+    }
 }

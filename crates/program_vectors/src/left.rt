@@ -1,11 +1,11 @@
-//! What a call leaves that doesn't come to its end, and how often what came.
+//! What a call leaves that doesn't come to its end.
 
-use crate::call::call;
-use crate::trial::{Fails, Trial, bench_with};
-use anyhow::{Context, Result, ensure};
+use crate::call::{Said, call, call_over};
+use crate::lines::first_of;
+use crate::trial::{Fails, Trial, copy};
+use anyhow::{Result, ensure};
 use bench_model::MemoryBench;
 use std::alloc::Global;
-use std::fmt;
 
 /// What a call leaves: the bench as it was; a free file, and the cells as they were; the job, whole in its file; or the job, done.
 #[derive(Clone, Copy, PartialEq, Eq)]
@@ -16,196 +16,129 @@ pub enum Left {
     Finished,
 }
 
+/// The names of what is left, by their places.
+pub const LEFT: [&str; 4] = ["as before", "untouched", "whole", "finished"];
+
+impl Left {
+    /// Its place among the names.
+    pub fn place(self) -> u8 {
+        match self {
+            Left::Same => 0,
+            Left::Untouched => 1,
+            Left::Whole => 2,
+            Left::Finished => 3,
+        }
+    }
+}
+
 /// Whether a job file is open.
 pub fn is_open(file: &[u8]) -> bool {
     file.len() > 1 && file.first() == Some(&0xA5)
 }
 
+/// A job file behind its byte 0.
+pub fn body_of(file: &[u8]) -> &[u8] {
+    file.get(1..).unwrap_or(&[])
+}
+
 /// Whether a command works on a job, and doesn't only look.
-pub fn works(line: &str) -> bool {
-    match line.split_whitespace().next() {
-        Some("program") | Some("begin") | Some("resume") | Some("revert") => true,
+fn works(command: &str) -> bool {
+    match command {
+        "program" | "begin" | "resume" | "revert" => true,
         _ => false,
     }
 }
 
-/// Whether a command is done once its job is begun.
-fn only_begins(line: &str) -> bool {
-    line.split_whitespace().next() == Some("begin")
-}
-
-/// What the job of a call is, as the call leaves it where nothing fails: whether it is whole or finished once the call is done, the job file
-/// behind its byte 0, the cells, and the cells to which `resume` brings the job.
+/// What a call comes to where nothing fails: what it says, the bench as it leaves it, whether its job is whole or finished then, and the cells
+/// to which `resume` brings the job.
 #[derive(Drop)]
 pub struct Aims {
-    pub status: u8,
+    works: bool,
+    pub said: Said,
+    pub bench: MemoryBench,
     pub last: Left,
-    pub line: Vec<u8>,
-    pub body: Vec<u8>,
-    pub goal: Vec<u8>,
     pub image: Vec<u8>,
-}
-
-/// The cells once a command is done on a bench.
-fn cells_after(
-    alloc: Global,
-    trial: &Trial,
-    bench: &mut MemoryBench,
-    line: &str,
-) -> Result<Vec<u8>> {
-    let answer = call(alloc, trial, Fails::none(), bench, line)?;
-    ensure!(answer.status == 0, "{line}: not done");
-    Ok(Vec::from_slice(alloc, bench.cells())?)
 }
 
 impl Aims {
     /// Makes the call. Its job is that of the file with which the row begins, or else the one which the call begins.
     pub fn new(alloc: Global, trial: &Trial, line: &str) -> Result<Aims> {
-        let mut bench = bench_with(alloc, &trial.cells, &trial.job, Fails::none())?;
-        let answer = call(alloc, trial, Fails::none(), &mut bench, line)?;
-        let goal = Vec::from_slice(alloc, bench.cells())?;
-        let body = Vec::from_slice(alloc, bench.file().get(1..).unwrap_or(&[]))?;
-        let last = if only_begins(line) {
-            Left::Whole
-        } else {
-            Left::Finished
-        };
-        let image = if works(line) && is_open(&trial.job) {
-            let mut bench = bench_with(alloc, &trial.cells, &trial.job, Fails::none())?;
-            cells_after(alloc, trial, &mut bench, "resume")?
-        } else if only_begins(line) {
-            cells_after(alloc, trial, &mut bench, "resume")?
-        } else {
-            Vec::from_slice(alloc, &goal)?
+        let mut bench = trial.bench_with(alloc, &trial.cells, &trial.job, Fails::none())?;
+        let said = call(alloc, &trial.files, Fails::none(), &mut bench, line)?;
+        let command = first_of(line).0;
+        let image = image_of(alloc, trial, command, &bench)?;
+        let last = match command {
+            "begin" => Left::Whole,
+            _ => Left::Finished,
         };
         Ok(Aims {
-            status: answer.status,
+            works: works(command),
+            said,
+            bench,
             last,
-            line: answer.line,
-            body,
-            goal,
             image,
         })
     }
 
-    /// What is left on a bench on which the call didn't come to its end.
-    pub fn look(&self, trial: &Trial, bench: &MemoryBench) -> Result<Left> {
-        let same_job = bench.file().get(1..).unwrap_or(&[]) == self.body.as_slice();
+    /// What is left on a bench on which the call didn't come to its end; none where that may not be left.
+    pub fn look(&self, trial: &Trial, bench: &MemoryBench) -> Option<Left> {
         let old_cells = bench.cells() == trial.cells.as_slice();
+        let same_job = body_of(bench.file()) == body_of(self.bench.file());
+        if !self.works {
+            let same = old_cells && bench.file() == trial.job.as_slice();
+            return if same { Some(Left::Same) } else { None };
+        }
         if is_open(bench.file()) {
-            ensure!(same_job, "another job");
-            return Ok(Left::Whole);
+            return if same_job { Some(Left::Whole) } else { None };
         }
         if old_cells && !is_open(&trial.job) {
-            return Ok(Left::Untouched);
+            return Some(Left::Untouched);
         }
-        ensure!(
-            same_job && bench.cells() == self.goal.as_slice(),
-            "neither untouched, whole nor finished"
-        );
-        Ok(Left::Finished)
+        if same_job && bench.cells() == self.bench.cells() {
+            Some(Left::Finished)
+        } else {
+            None
+        }
     }
 }
 
-/// The job file of a job that is open.
-pub fn open_file(alloc: Global, body: &[u8]) -> Result<Vec<u8>> {
-    let mut file = Vec::from_slice(alloc, &[0xA5])?;
-    file.extend_from_slice(body)?;
-    Ok(file)
+/// What is said where `look` sees none.
+pub const OTHER: &str = "neither as before, untouched, whole nor finished";
+
+/// The cells to which `resume` brings the job of a command that left this bench.
+fn image_of(alloc: Global, trial: &Trial, command: &str, bench: &MemoryBench) -> Result<Vec<u8>> {
+    if works(command) && is_open(&trial.job) {
+        resumed_cells(alloc, trial, &trial.cells, &trial.job)
+    } else if command == "begin" {
+        resumed_cells(alloc, trial, bench.cells(), bench.file())
+    } else {
+        copy(alloc, bench.cells())
+    }
 }
 
-/// The job that is left on a bench, brought to these cells by a command, on a bench of its own.
-pub fn carry(
+/// The cells to which `resume` brings a job.
+fn resumed_cells(alloc: Global, trial: &Trial, cells: &[u8], file: &[u8]) -> Result<Vec<u8>> {
+    let end = call_over(alloc, trial, cells, file, "resume")?;
+    ensure!(end.status == 0, "resume: not done");
+    copy(alloc, end.bench.cells())
+}
+
+/// The status of a command on a job that was left, on a bench of its own. Where it is 0 the job is closed and the cells are those that are
+/// wanted, and else the job stays.
+pub fn brought(
     alloc: Global,
     trial: &Trial,
-    left: &MemoryBench,
+    cells: &[u8],
+    file: &[u8],
     command: &str,
     wanted: &[u8],
-) -> Result<()> {
-    let mut bench = bench_with(alloc, left.cells(), left.file(), Fails::none())?;
-    let cells = cells_after(alloc, trial, &mut bench, command)?;
-    ensure!(cells.as_slice() == wanted, "{command}: other cells");
-    ensure!(!is_open(bench.file()), "{command}: the job is open");
-    Ok(())
-}
-
-/// The same on that bench itself.
-pub fn resume(alloc: Global, trial: &Trial, bench: &mut MemoryBench, wanted: &[u8]) -> Result<()> {
-    let cells = cells_after(alloc, trial, bench, "resume")?;
-    ensure!(cells.as_slice() == wanted, "resume: other cells");
-    Ok(())
-}
-
-/// How often which was left.
-#[derive(Clone, Copy)]
-pub struct Tally {
-    same: u32,
-    untouched: u32,
-    whole: u32,
-    finished: u32,
-}
-
-impl Tally {
-    pub fn new() -> Tally {
-        Tally {
-            same: 0,
-            untouched: 0,
-            whole: 0,
-            finished: 0,
-        }
-    }
-
-    pub fn count(&mut self, left: Left) {
-        match left {
-            Left::Same => self.same = self.same.saturating_add(1),
-            Left::Untouched => self.untouched = self.untouched.saturating_add(1),
-            Left::Whole => self.whole = self.whole.saturating_add(1),
-            Left::Finished => self.finished = self.finished.saturating_add(1),
-        }
-    }
-}
-
-impl fmt::Display for Tally {
-    fn fmt<W: fmt::Write>(&self, f: &mut fmt::Formatter<W>) -> fmt::Result {
-        for (count, name) in [
-            (self.same, "as before"),
-            (self.untouched, "untouched"),
-            (self.whole, "whole"),
-            (self.finished, "finished"),
-        ] {
-            if count > 0 {
-                write!(f, ", {count} {name}")?;
-            }
-        }
-        Ok(())
-    }
-}
-
-/// How often each status came.
-#[derive(Clone, Copy)]
-pub struct Statuses {
-    counts: [u32; 15],
-}
-
-impl Statuses {
-    pub fn new() -> Statuses {
-        Statuses { counts: [0; 15] }
-    }
-
-    pub fn count(&mut self, status: u8) -> Result<()> {
-        let count = self.counts.get_mut(status as usize).context("no status")?;
-        *count = count.saturating_add(1);
-        Ok(())
-    }
-}
-
-impl fmt::Display for Statuses {
-    fn fmt<W: fmt::Write>(&self, f: &mut fmt::Formatter<W>) -> fmt::Result {
-        for (status, count) in self.counts.iter().enumerate() {
-            if *count > 0 {
-                write!(f, ", {count} of status {status}")?;
-            }
-        }
-        Ok(())
-    }
+) -> Result<u8> {
+    let end = call_over(alloc, trial, cells, file, command)?;
+    let is_right = if end.status == 0 {
+        end.bench.cells() == wanted && !is_open(end.bench.file())
+    } else {
+        end.bench.file() == file
+    };
+    ensure!(is_right, "a job at another end");
+    Ok(end.status)
 }

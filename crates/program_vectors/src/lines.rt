@@ -30,12 +30,14 @@
 //!   its end.
 //! - `words PATH`: of each line of a file, the line and what its words ask for.
 
-use crate::call::{run, run_apart};
-use crate::failing::{fail_all, fail_pairs};
-use crate::files::Form;
-use crate::job::{put_random, run_random};
-use crate::stops::{keep, stop, stop_all, stop_tenths};
-use crate::trial::Trial;
+use crate::files::lay;
+use crate::job::run_random;
+use crate::left::body_of;
+use crate::print::Piece::Text;
+use crate::print::{put, put_line};
+use crate::run::{keep, run, run_apart, stop};
+use crate::sweep::sweep_by;
+use crate::trial::{MOST, Trial};
 use crate::words::ask_all;
 use anyhow::{Result, bail};
 use bench_model::MemoryBench;
@@ -43,18 +45,32 @@ use row_text::{bytes_of, lines_of};
 use std::alloc::Global;
 use std::fs;
 
+/// The first word of a text, and what stands behind its blank.
+pub fn first_of(text: &str) -> (&str, &str) {
+    match text.split_once(' ') {
+        Some(parts) => parts,
+        None => (text, ""),
+    }
+}
+
 /// Goes through the lines of a file.
-pub fn go_through(rt: &HostRuntime, text: &str) -> Result<()> {
+pub fn go_through(rt: &HostRuntime, path: &str) -> Result<()> {
+    let text = fs::read_to_string(rt, path)?;
     let mut trial = Trial::new(rt.alloc());
     let mut bench = None;
+    follow(rt, &mut trial, &mut bench, &text)
+}
+
+/// Goes through the lines of a text.
+fn follow(
+    rt: &HostRuntime,
+    trial: &mut Trial,
+    bench: &mut Option<MemoryBench>,
+    text: &str,
+) -> Result<()> {
     for line in text.lines() {
-        if let Some(name) = line.strip_prefix("row ") {
-            println!(rt; "{name}")?;
-            trial.begin(rt.alloc())?;
-            bench = None;
-        } else if !line.is_empty() {
-            step(rt, &mut trial, &mut bench, line)?;
-        }
+        let (what, rest) = first_of(line);
+        step(rt, trial, bench, what, rest)?;
     }
     Ok(())
 }
@@ -64,74 +80,26 @@ fn step(
     rt: &HostRuntime,
     trial: &mut Trial,
     bench: &mut Option<MemoryBench>,
-    line: &str,
+    what: &str,
+    rest: &str,
 ) -> Result<()> {
-    let words = line.splitn(4, ' ').collect::<Vec<&str>>(rt.alloc())?;
-    match words.as_slice() {
-        ["run", ..] => {
-            let words = line.strip_prefix("run").unwrap_or(line);
-            run_on(rt, trial, bench, words)
+    match what {
+        "" => Ok(()),
+        "row" => {
+            put_line(rt, rest);
+            *bench = None;
+            trial.begin(rt.alloc())
         }
-        ["stop", calls, pick, words] => {
-            *bench = Some(stop(rt, trial, calls.parse::<u64>()?, pick, words)?);
-            Ok(())
-        }
-        ["keep", calls, pick, words] => {
-            keep(rt.alloc(), trial, calls.parse::<u64>()?, pick, words)
-        }
-        ["call", ..] => run_apart(rt, trial, line.strip_prefix("call").unwrap_or(line)),
-        ["random", sectors, size] => run_random(rt, sectors, size),
-        ["random", sectors, size, folder] => put_random(rt, sectors, size, folder),
-        ["forge", name, kind, rest] => forge(rt, trial, name, kind, rest),
-        ["body", name] => same_body(rt, trial, bench, name),
-        _ => sweep(rt, trial, line),
+        "run" => run(rt, trial, bench, rest),
+        "stop" => stop(rt, trial, bench, rest),
+        "body" => same_body(rt, trial, bench, rest),
+        "call" => run_apart(rt, trial, rest),
+        "keep" => keep(rt.alloc(), trial, rest),
+        "random" => run_random(rt, rest),
+        "words" => ask_all(rt, rest),
+        "stops" | "tenths" | "faults" | "pairs" => sweep_by(rt, trial, what, rest),
+        _ => change(rt, trial, what, rest),
     }
-}
-
-/// Makes calls that are stopped, or of which some fail, one after the other.
-fn sweep(rt: &HostRuntime, trial: &mut Trial, line: &str) -> Result<()> {
-    let words = line.splitn(3, ' ').collect::<Vec<&str>>(rt.alloc())?;
-    match words.as_slice() {
-        ["stops", pick, words] => stop_all(rt, trial, pick, words),
-        ["tenths", pick, words] => stop_tenths(rt, trial, pick, words),
-        ["pairs", count, words] => fail_pairs(rt, trial, count.parse::<u64>()?, words),
-        ["faults", ..] => fail_all(rt, trial, line.strip_prefix("faults ").unwrap_or(line)),
-        ["words", path] => ask_all(rt, path),
-        _ => change(rt, trial, line),
-    }
-}
-
-/// Makes a call on the row's bench, which begins with the first one.
-fn run_on(
-    rt: &HostRuntime,
-    trial: &Trial,
-    bench: &mut Option<MemoryBench>,
-    words: &str,
-) -> Result<()> {
-    if bench.is_none() {
-        *bench = Some(trial.bench(rt.alloc())?);
-    }
-    match bench {
-        Some(bench) => run(rt, trial, bench, words),
-        None => bail!("no bench"),
-    }
-}
-
-/// Puts an FLM file under a name.
-fn forge(rt: &HostRuntime, trial: &mut Trial, name: &str, kind: &str, rest: &str) -> Result<()> {
-    let words = rest.split_whitespace().collect::<Vec<&str>>(rt.alloc())?;
-    let (board, page, time, region) = match words.as_slice() {
-        [board, page, time] => (board, page, time, "0"),
-        [board, page, time, region] => (board, page, time, *region),
-        _ => bail!("{rest}: no board, page and time"),
-    };
-    let form = Form {
-        page: page.parse::<u32>()?,
-        time: time.parse::<u32>()?,
-        region: region.parse::<usize>()?,
-    };
-    let flm = trial.files.forged(rt.alloc(), kind, board, form)?;
-    trial.files.give(rt.alloc(), name, flm.into_vec())
 }
 
 /// Prints whether the job file is that under a name, but for its first byte.
@@ -144,79 +112,52 @@ fn same_body(
     let Some(bench) = bench else {
         bail!("no bench");
     };
-    let (body, wanted) = (bench.file().get(1..), trial.files.bytes(name)?.get(1..));
-    if body == wanted {
-        println!(rt; "the job of {name}")?;
+    let job = if body_of(bench.file()) == body_of(trial.files.bytes(name)?) {
+        "the job of "
     } else {
-        println!(rt; "another job than that of {name}")?;
-    }
+        "another job than that of "
+    };
+    put(rt, &[Text(job), Text(name), Text("\n")]);
     Ok(())
 }
 
 /// Changes what a row meets.
-fn change(rt: &HostRuntime, trial: &mut Trial, line: &str) -> Result<()> {
-    let words = line.splitn(3, ' ').collect::<Vec<&str>>(rt.alloc())?;
-    match words.as_slice() {
-        ["empty", name] => trial.files.give(rt.alloc(), name, Vec::new(rt.alloc())),
-        ["job", bytes] => {
-            trial.job = bytes_of(rt.alloc(), bytes)?;
-            Ok(())
-        }
-        ["spoil", back] => trial.spoil(back.parse::<usize>()?),
-        ["room", len] => {
-            trial.widen(len.parse::<u64>()?);
-            Ok(())
-        }
-        [what, first, second] => {
-            if !change_files(rt, trial, what, first, second)? {
-                change_bench(rt.alloc(), trial, what, first, second)?;
-            }
-            Ok(())
-        }
-        _ => bail!("{line}: no such line"),
-    }
-}
-
-/// Changes the files, where a line does that.
-fn change_files(
-    rt: &HostRuntime,
-    trial: &mut Trial,
-    what: &str,
-    name: &str,
-    text: &str,
-) -> Result<bool> {
+fn change(rt: &HostRuntime, trial: &mut Trial, what: &str, rest: &str) -> Result<()> {
+    let (first, second) = first_of(rest);
     match what {
-        "file" => trial.files.give(rt.alloc(), name, fs::read(rt, text)?)?,
-        "text" => trial
-            .files
-            .give(rt.alloc(), name, lines_of(rt.alloc(), text)?)?,
-        "bytes" => trial
-            .files
-            .give(rt.alloc(), name, bytes_of(rt.alloc(), text)?)?,
-        "patch" => patch(rt.alloc(), trial, name, text)?,
-        "pad" => pad(trial, name, text)?,
-        _ => return Ok(false),
+        "file" | "text" | "bytes" | "empty" | "forge" => {
+            let bytes = contents(rt, trial, what, second)?;
+            trial.files.give(rt.alloc(), first, bytes)
+        }
+        "patch" => {
+            let (at, bytes) = first_of(second);
+            let at = number(at)?;
+            trial.files.patch(first, at, &bytes_of(rt.alloc(), bytes)?);
+            Ok(())
+        }
+        "pad" => {
+            let (len, byte) = first_of(second);
+            let byte = u8::from_str_radix(byte, 16)?;
+            trial.files.pad(first, number(len)?, byte)
+        }
+        _ => change_bench(rt.alloc(), trial, what, first, second),
     }
-    Ok(true)
 }
 
-/// Changes bytes of a file, as `AT BYTES` says.
-fn patch(alloc: Global, trial: &mut Trial, name: &str, place: &str) -> Result<()> {
-    let Some((at, bytes)) = place.split_once(' ') else {
-        bail!("{place}: no place and bytes");
-    };
-    let at = at.parse::<usize>()?;
-    trial.files.patch(name, at, &bytes_of(alloc, bytes)?);
-    Ok(())
+/// The bytes that a line puts under a name.
+fn contents(rt: &HostRuntime, trial: &Trial, what: &str, text: &str) -> Result<Vec<u8>> {
+    Ok(match what {
+        "file" => fs::read(rt, text)?,
+        "text" => lines_of(rt.alloc(), text)?,
+        "bytes" => bytes_of(rt.alloc(), text)?,
+        "forge" => trial.files.forged(rt.alloc(), text)?,
+        _ => Vec::new(rt.alloc()),
+    })
 }
 
-/// Fills a file up, as `LEN BYTE` says.
-fn pad(trial: &mut Trial, name: &str, text: &str) -> Result<()> {
-    let Some((len, byte)) = text.split_once(' ') else {
-        bail!("{text}: no length and byte");
-    };
-    let byte = u8::from_str_radix(byte, 16)?;
-    trial.files.pad(name, len.parse::<usize>()?, byte)
+/// A number of decimal digits.
+pub fn number(digits: &str) -> Result<usize> {
+    Ok(digits.parse::<usize>()?)
 }
 
 /// Changes the job file, the cells, and the calls that fail.
@@ -228,13 +169,32 @@ fn change_bench(
     second: &str,
 ) -> Result<()> {
     match what {
-        "cells" => trial.fill(alloc, first.parse::<usize>()?, second)?,
-        "count" => trial.count(first.parse::<usize>()?, second.parse::<usize>()?),
-        "set" => trial.set(first.parse::<usize>()?, &bytes_of(alloc, second)?),
-        "open" => trial.open = Some((first.parse::<u32>()?, second.parse::<u32>()?)),
-        "fail" => trial.fail(first, second.parse::<u64>()?)?,
-        "from" if first == "job" => trial.take_job(alloc, second)?,
-        "from" if first == "cells" => trial.take_cells(alloc, second)?,
+        "job" => trial.job = bytes_of(alloc, first)?,
+        "fail" => trial.fails.set(first, number(second)? as u64)?,
+        "from" => trial.take(alloc, first, second)?,
+        _ => change_at(alloc, trial, what, number(first)?, second)?,
+    }
+    Ok(())
+}
+
+/// The same at a place, or by a number.
+fn change_at(
+    alloc: Global,
+    trial: &mut Trial,
+    what: &str,
+    first: usize,
+    second: &str,
+) -> Result<()> {
+    match what {
+        "spoil" => trial.spoil(first)?,
+        "room" => trial.room = (first as u64).min(1 << 24),
+        "cells" => {
+            let value = u8::from_str_radix(second, 16)?;
+            trial.cells = vec![in alloc; value; first.min(MOST)]?;
+        }
+        "set" => lay(&mut trial.cells, first, &bytes_of(alloc, second)?),
+        "count" => trial.count(first, number(second)?),
+        "open" => trial.open = Some((u32::try_from(first)?, second.parse::<u32>()?)),
         _ => bail!("{what}: no such line"),
     }
     Ok(())

@@ -11,22 +11,24 @@
 #![tactic(auto)]
 
 mod call;
-mod failing;
+mod counts;
 mod files;
 mod job;
 mod left;
 mod lines;
-mod stops;
+mod pairs;
+mod print;
+mod run;
+mod sweep;
 mod trial;
 mod words;
 
 use anyhow::Result;
-use std::{env, fs};
+use std::env;
 
 fn main(rt: HostRuntime) -> Result<()> {
     for name in env::args(&rt)?.skip(1) {
-        let text = fs::read_to_string(&rt, name.as_str())?;
-        lines::go_through(&rt, text.as_str())?;
+        lines::go_through(&rt, name.as_str())?;
     }
     Ok(())
 }

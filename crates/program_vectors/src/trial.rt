@@ -2,7 +2,7 @@
 ghost use Rattle.std.specs.Prelude.{◌≡◌, IfOk, None};
 ghost use Rattle.bench_model.specs.Shown.{bench_of};
 
-use crate::files::{Files, lay};
+use crate::files::Files;
 use anyhow::{Context, Result, bail};
 use bench_model::{Bench, MemoryBench};
 use std::alloc::Global;
@@ -32,7 +32,7 @@ impl Fails {
 
     /// Lets the call of this number fail: a call on the job file or on the cells, a put on standard output or on standard error, or the taking
     /// of a file.
-    fn set(&mut self, object: &str, number: u64) -> Result<()> {
+    pub fn set(&mut self, object: &str, number: u64) -> Result<()> {
         match object {
             "file" => self.files = [number, 0],
             "cells" => self.cell = number,
@@ -50,15 +50,15 @@ impl Fails {
 #[derive(Drop)]
 pub struct Trial {
     pub files: Files,
-    room: u64,
+    pub room: u64,
     pub job: Vec<u8>,
     pub cells: Vec<u8>,
     pub open: Option<(u32, u32)>,
     pub fails: Fails,
 }
 
-/// The most cells.
-const MOST: usize = 1 << 22;
+/// The most cells: 64 MiB, the longest file that is taken.
+pub const MOST: usize = 1 << 26;
 
 /// The room for the job file, and for the record of the calls, where no more is asked for.
 const ROOM: u64 = 1 << 18;
@@ -78,23 +78,11 @@ impl Trial {
 
     /// Begins a row: the files stay.
     pub fn begin(&mut self, alloc: Global) -> Result<()> {
-        self.job = Vec::new(alloc);
         self.cells = vec![in alloc; 0xFF; 1024]?;
+        self.job = Vec::new(alloc);
         self.open = None;
         self.fails = Fails::none();
         self.room = ROOM;
-        Ok(())
-    }
-
-    /// Takes more room for the job file, up to 16 MiB.
-    pub fn widen(&mut self, room: u64) {
-        self.room = room.min(1 << 24);
-    }
-
-    /// So many cells of one byte, in two digits.
-    pub fn fill(&mut self, alloc: Global, count: usize, value: &str) -> Result<()> {
-        let value = u8::from_str_radix(value, 16)?;
-        self.cells = vec![in alloc; value; count.min(MOST)]?;
         Ok(())
     }
 
@@ -107,25 +95,20 @@ impl Trial {
         }
     }
 
-    /// Sets cells.
-    pub fn set(&mut self, at: usize, bytes: &[u8]) {
-        lay(&mut self.cells, at, bytes);
-    }
-
-    /// Lets the call of this number on an object fail.
-    pub fn fail(&mut self, object: &str, number: u64) -> Result<()> {
-        self.fails.set(object, number)
-    }
-
-    /// The job file is the file under a name.
-    pub fn take_job(&mut self, alloc: Global, name: &str) -> Result<()> {
-        self.job = Vec::from_slice(alloc, self.files.bytes(name)?)?;
+    /// The job file or the cells are the file under a name.
+    pub fn take(&mut self, alloc: Global, object: &str, name: &str) -> Result<()> {
+        let bytes = copy(alloc, self.files.bytes(name)?)?;
+        match object {
+            "job" => self.job = bytes,
+            _ => self.cells = bytes,
+        }
         Ok(())
     }
 
-    /// The cells are the file under a name.
-    pub fn take_cells(&mut self, alloc: Global, name: &str) -> Result<()> {
-        self.cells = Vec::from_slice(alloc, self.files.bytes(name)?)?;
+    /// The row begins with these cells and this job file.
+    pub fn begin_with(&mut self, alloc: Global, cells: &[u8], job: &[u8]) -> Result<()> {
+        self.cells = copy(alloc, cells)?;
+        self.job = copy(alloc, job)?;
         Ok(())
     }
 
@@ -139,7 +122,7 @@ impl Trial {
 
     /// A bench as the row begins.
     pub fn bench(&self, alloc: Global) -> Result<MemoryBench> {
-        let mut bench = bench_in(alloc, &self.cells, &self.job, self.room, self.fails)?;
+        let mut bench = self.bench_with(alloc, &self.cells, &self.job, self.fails)?;
         if let Some((at, len)) = self.open {
             let end = u64::from(at) + u64::from(len);
             if len == 0
@@ -151,28 +134,32 @@ impl Trial {
         }
         Ok(bench)
     }
+
+    /// A bench with these cells and this job file, and no operation. What is broken off first leaves 5A.
+    pub fn bench_with(
+        &self,
+        alloc: Global,
+        cells: &[u8],
+        job: &[u8],
+        fails: Fails,
+    ) -> Result<MemoryBench>
+        ensures { IfOk result (λ bench. (bench_of bench).operation ≡ None) }
+    {
+        let cells = &cells[..cells.len().min(MOST)];
+        Ok(MemoryBench::new(
+            alloc,
+            cells,
+            job,
+            self.room,
+            self.room,
+            &fails.files,
+            &[fails.cell],
+            &[0x5A],
+        )?)
+    }
 }
 
-/// A bench with these cells and this job file, and no operation. What is broken off first leaves 5A.
-pub fn bench_with(alloc: Global, cells: &[u8], job: &[u8], fails: Fails) -> Result<MemoryBench>
-    ensures { IfOk result (λ bench. (bench_of bench).operation ≡ None) }
-{
-    bench_in(alloc, cells, job, ROOM, fails)
-}
-
-/// The same with so much room for the job file.
-fn bench_in(alloc: Global, cells: &[u8], job: &[u8], room: u64, fails: Fails) -> Result<MemoryBench>
-    ensures { IfOk result (λ bench. (bench_of bench).operation ≡ None) }
-{
-    let cells = &cells[..cells.len().min(MOST)];
-    Ok(MemoryBench::new(
-        alloc,
-        cells,
-        job,
-        room,
-        room,
-        &fails.files,
-        &[fails.cell],
-        &[0x5A],
-    )?)
+/// A copy of bytes.
+pub fn copy(alloc: Global, bytes: &[u8]) -> Result<Vec<u8>> {
+    Ok(Vec::from_slice(alloc, bytes)?)
 }

@@ -1,15 +1,18 @@
 //! What the words of lines ask for, in text.
 
 use crate::call::words_of;
+use crate::print::Piece::{Address, Number, Text};
+use crate::print::{put, put_line};
 use anyhow::Result;
-use command_words::{CommandLine, FileNames, Names, Request, TextForm};
+use command_words::{CommandLine, FileNames, Request, TextForm};
+use octets::Word;
 use std::fs;
 
 /// Prints each line of a file, and below it what its words ask for.
 pub fn ask_all(rt: &HostRuntime, path: &str) -> Result<()> {
     let text = fs::read_to_string(rt, path)?;
     for line in text.lines() {
-        println!(rt; "{line}")?;
+        put_line(rt, line);
         ask(rt, line)?;
     }
     Ok(())
@@ -20,58 +23,65 @@ fn ask(rt: &HostRuntime, line: &str) -> Result<()> {
     let words = words_of(rt.alloc(), line)?;
     let line = CommandLine::read(rt.alloc(), &words)?;
     match line.request() {
-        None => println!(rt; "  usage")?,
-        Some(request) => show(rt, &request)?,
+        None => put_line(rt, "  usage"),
+        Some(request) => show(rt, &request),
     }
     Ok(())
 }
 
 /// Prints a request.
-fn show(rt: &HostRuntime, request: &Request<'_>) -> Result<()> {
+fn show(rt: &HostRuntime, request: &Request<'_>) {
+    put(rt, &[Text("  "), Text(command_of(request))]);
     match request {
-        Request::Program(files) => show_files(rt, "program", files)?,
-        Request::Begin(files) => show_files(rt, "begin", files)?,
-        Request::Resume => println!(rt; "  resume")?,
-        Request::Revert => println!(rt; "  revert")?,
-        Request::Plan(files) => show_files(rt, "plan", files)?,
-        Request::Verify(files) => show_files(rt, "verify", files)?,
-        Request::Compare { image } => println!(rt; "  compare [{}]", image.text())?,
-        Request::Status => println!(rt; "  status")?,
-        Request::Inspect { flm } => println!(rt; "  inspect [{}]", flm.text())?,
-        Request::Dump { form, board } => show_dump(rt, *form, board.text())?,
-        Request::Demo { seed } => println!(rt; "  demo {seed}")?,
+        Request::Program(files)
+        | Request::Begin(files)
+        | Request::Plan(files)
+        | Request::Verify(files) => show_files(rt, files),
+        Request::Compare { image } => show_name(rt, " ", image),
+        Request::Inspect { flm } => show_name(rt, " ", flm),
+        Request::Dump { form: _, board } => show_name(rt, " board ", board),
+        Request::Demo { seed } => put(rt, &[Text(" "), Number(u64::from(*seed))]),
+        Request::Resume | Request::Revert | Request::Status => {}
     }
-    Ok(())
+    put_line(rt, "");
 }
 
-/// Prints a dump with its form.
-fn show_dump(rt: &HostRuntime, form: TextForm, board: &str) -> Result<()> {
-    match form {
-        TextForm::Hex => println!(rt; "  dump hex board [{board}]")?,
-        TextForm::Srec => println!(rt; "  dump srec board [{board}]")?,
+/// The command of a request, and the form of a dump.
+fn command_of(request: &Request<'_>) -> &'static str {
+    match request {
+        Request::Program(_) => "program",
+        Request::Begin(_) => "begin",
+        Request::Resume => "resume",
+        Request::Revert => "revert",
+        Request::Plan(_) => "plan",
+        Request::Verify(_) => "verify",
+        Request::Compare { image: _ } => "compare",
+        Request::Status => "status",
+        Request::Inspect { flm: _ } => "inspect",
+        Request::Dump { form, board: _ } => match form {
+            TextForm::Hex => "dump hex",
+            TextForm::Srec => "dump srec",
+        },
+        Request::Demo { seed: _ } => "demo",
     }
-    Ok(())
 }
 
-/// Prints a command with its files.
-fn show_files(rt: &HostRuntime, command: &str, files: &FileNames<'_>) -> Result<()> {
-    print!(rt; "  {command}")?;
+/// Prints what a file is, and its name.
+fn show_name<'a>(rt: &HostRuntime, what: &'a str, name: &'a Word) {
+    put(rt, &[Text(what), Text("["), Text(name.text()), Text("]")]);
+}
+
+/// Prints the files of a command.
+fn show_files(rt: &HostRuntime, files: &FileNames<'_>) {
     if let Some(at) = files.raw_at {
-        print!(rt; " raw at {at:08X}")?;
+        put(rt, &[Text(" raw at "), Address(at)]);
     }
-    print!(rt; " board [{}]", files.board.text())?;
+    show_name(rt, " board ", files.board);
     if let Some(flm) = files.flm {
-        print!(rt; " flm [{}]", flm.text())?;
+        show_name(rt, " flm ", flm);
     }
-    show_images(rt, &files.images)
-}
-
-/// Prints the names of images.
-fn show_images(rt: &HostRuntime, images: &Names<'_>) -> Result<()> {
-    print!(rt; " images")?;
-    for index in 0..images.len() {
-        print!(rt; " [{}]", images.name(index).text())?;
+    put(rt, &[Text(" images")]);
+    for index in 0..files.images.len() {
+        show_name(rt, " ", files.images.name(index));
     }
-    println!(rt; "")?;
-    Ok(())
 }
