@@ -31,14 +31,24 @@ fn finish<B: Bench>(session: &mut Session, bench: &mut B) -> TargetEnd
     }
 }
 
+/// Surveys the cells for the new goal, goes there, and closes the job.
+fn go_on<B: Bench>(session: &mut Session, alloc: Global, bench: &mut B) -> TargetEnd
+    requires count { (B.state bench.old).cell_count ≡ size_of (job_in session.old).board.regions }
+    requires idle { IsTrue B.tells → (B.state bench.old).operation ≡ None }
+    requires stands { IsTrue B.tells → StandsFor (job_in session.old) (B.state bench.old).file }
+    requires only { IsTrue B.tells → LeftOnly (B.state bench.old).file (file_half (B.state bench.old)) }
+{
+    match session.survey(alloc, bench, Goal::New) {
+        Ok(()) => finish(session, bench),
+        Err(fault) => TargetEnd::Survey(fault),
+    }
+}
+
 /// Opens the job of the file, brings the cells to its new goal, and closes the job. Its end is said in a target's words.
 pub fn carry<B: Bench>(alloc: Global, bench: &mut B) -> TargetEnd {
     let mut session = match Session::open(alloc, bench) {
         Ok(session) => session,
         Err(fault) => return TargetEnd::Open(fault),
     };
-    match session.survey(alloc, bench, Goal::New) {
-        Ok(()) => finish(&mut session, bench),
-        Err(fault) => TargetEnd::Survey(fault),
-    }
+    go_on(&mut session, alloc, bench)
 }

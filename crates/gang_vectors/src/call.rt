@@ -10,7 +10,7 @@ use std::str;
 
 /// The streams of a call.
 #[derive(Drop)]
-pub struct Streams {
+struct Streams {
     out: MemorySink,
     err: MemorySink,
 }
@@ -26,28 +26,32 @@ fn words_of(alloc: Global, count: usize) -> Result<Vec<Word>> {
 
 impl Streams {
     /// Streams on which nothing stands. The put of this number on standard output fails, or none at 0.
-    pub fn new(alloc: Global, fail: u64) -> Result<Streams> {
+    fn new(alloc: Global, fail: u64) -> Result<Streams> {
         let out = MemorySink::new(alloc, 4096, &[fail])?;
         let err = MemorySink::new(alloc, 256, &[])?;
         Ok(Streams { out, err })
     }
 
     /// The status of a call with so many words.
-    pub fn answer<B: Bench>(
-        &mut self,
-        alloc: Global,
-        count: usize,
-        benches: &mut [B],
-    ) -> Result<u8> {
+    fn answer<B: Bench>(&mut self, alloc: Global, count: usize, benches: &mut [B]) -> Result<u8> {
         let words = words_of(alloc, count)?;
         Ok(flash_gang(alloc, &words, benches, &mut self.out, &mut self.err))
     }
 
     /// Prints what was put on standard output and on standard error by a call with so many words, and its status.
-    pub fn print(&self, rt: &HostRuntime, count: usize, status: u8) -> Result<()> {
+    fn print(&self, rt: &HostRuntime, count: usize, status: u8) -> Result<()> {
         let out = str::from_utf8(self.out.bytes())?;
         let err = str::from_utf8(self.err.bytes())?;
         println!(rt; "{out}{err}{count} words, status {status}")?;
         Ok(())
     }
+}
+
+/// Calls a gang with so many words. The put of this number on standard output fails, or none at 0. Prints what was put and the status, which it
+/// answers.
+pub fn call<B: Bench>(rt: &HostRuntime, count: usize, fail: u64, benches: &mut [B]) -> Result<u8> {
+    let mut streams = Streams::new(rt.alloc(), fail)?;
+    let status = streams.answer(rt.alloc(), count, benches)?;
+    streams.print(rt, count, status)?;
+    Ok(status)
 }

@@ -30,28 +30,29 @@ fn put_length(file: &mut Vec<u8>, len: usize) -> Result<()> {
     Ok(())
 }
 
-/// The cells, of which so many hold their place modulo 256.
-fn counted(alloc: Global, count: usize) -> Result<Vec<u8>> {
-    let mut cells = vec![in alloc; 0xFFu8; CELLS]?;
-    for (place, cell) in cells.iter_mut().enumerate() {
-        if place < count {
-            *cell = (place % 256) as u8;
-        }
+/// Appends the cells, of which so many hold their place modulo 256.
+fn put_cells(cells: &mut Vec<u8>, count: usize) -> Result<()> {
+    for place in 0..CELLS {
+        let cell = if place < count {
+            (place % 256) as u8
+        } else {
+            0xFF
+        };
+        cells.push(cell)?;
     }
-    Ok(cells)
+    Ok(())
 }
 
-/// Cells with an image over them.
-fn over(alloc: Global, cells: &[u8], at: u32, image: &[u8]) -> Result<Vec<u8>> {
-    let mut goal = Vec::from_slice(alloc, cells)?;
+/// Lays an image over cells.
+fn lay(cells: &mut [u8], at: u32, image: &[u8]) -> Result<()> {
     let from = (at as usize).wrapping_sub(BASE);
     for (offset, byte) in image.iter().enumerate() {
-        match goal.get_mut(from.wrapping_add(offset)) {
+        match cells.get_mut(from.wrapping_add(offset)) {
             Some(cell) => *cell = *byte,
             None => bail!("the image goes past the cells"),
         }
     }
-    Ok(goal)
+    Ok(())
 }
 
 /// Appends the lengths and the texts of a job with one run of bytes.
@@ -73,14 +74,11 @@ fn put_bytes(file: &mut Vec<u8>, at: u32, image: &[u8], cells: &[u8]) -> Result<
     Ok(())
 }
 
-/// The file of a job with one run of bytes, and with these cells as its snapshot.
-fn file_of(rt: &HostRuntime, flm: &str, at: u32, image: &[u8], cells: &[u8]) -> Result<Vec<u8>> {
+/// Appends the lengths and the texts of a job of the small board with this FLM file, and with one run of bytes.
+fn put_files(rt: &HostRuntime, file: &mut Vec<u8>, flm: &str, cells: usize) -> Result<()> {
     let board = fs::read(rt, "small.toml")?;
     let flm = fs::read(rt, flm)?;
-    let mut file = Vec::from_slice(rt.alloc(), b"\xA5FLMJOB1")?;
-    put_texts(&mut file, &board, &flm, cells.len())?;
-    put_bytes(&mut file, at, image, cells)?;
-    Ok(file)
+    put_texts(file, &board, &flm, cells)
 }
 
 impl Job {
@@ -90,14 +88,37 @@ impl Job {
             bail!("no job");
         };
         let at = u32::from_str_radix(at, 16)?;
+        let count = count.parse::<usize>()?;
         let image = bytes_of(rt.alloc(), image)?;
-        let cells = counted(rt.alloc(), count.parse::<usize>()?)?;
-        Ok(Job {
-            file: file_of(rt, flm, at, &image, &cells)?,
-            goal: over(rt.alloc(), &cells, at, &image)?,
-            cells,
+        Job::made(rt, flm, at, &image, count)
+    }
+
+    /// The job that puts an image to an address, with this FLM file.
+    fn made(rt: &HostRuntime, flm: &str, at: u32, image: &[u8], count: usize) -> Result<Job> {
+        let mut job = Job {
+            file: Vec::from_slice(rt.alloc(), b"\xA5FLMJOB1")?,
+            cells: Vec::new(rt.alloc()),
+            goal: Vec::new(rt.alloc()),
             fail: 0,
-        })
+        };
+        job.fill(rt, flm, at, image, count)?;
+        Ok(job)
+    }
+
+    /// Puts its cells, its goal, and the rest of its file.
+    fn fill(
+        &mut self,
+        rt: &HostRuntime,
+        flm: &str,
+        at: u32,
+        image: &[u8],
+        count: usize,
+    ) -> Result<()> {
+        put_cells(&mut self.cells, count)?;
+        self.goal.extend_from_slice(&self.cells)?;
+        lay(&mut self.goal, at, image)?;
+        put_files(rt, &mut self.file, flm, self.cells.len())?;
+        put_bytes(&mut self.file, at, image, &self.cells)
     }
 
     /// Sets so many cells to a byte.

@@ -19,12 +19,14 @@
 //! - `share`: the call of a gang on two benches with the job of the first target, of which each has its first operation before either has its
 //!   last one.
 
+use crate::gangs::Turns;
 use crate::job::Job;
 use crate::orders::Order;
 use crate::share::share_turns;
 use crate::stops::stop_gangs;
 use crate::team::Team;
 use anyhow::{Context, Result, bail};
+use std::alloc::Global;
 
 /// Goes through the lines of a file.
 pub fn go_through(rt: &HostRuntime, text: &str) -> Result<()> {
@@ -51,33 +53,75 @@ fn go_through_one(rt: &HostRuntime, team: &mut Team, text: &str) -> Result<()> {
 /// Does what a line says.
 fn step(rt: &HostRuntime, team: &mut Team, line: &str) -> Result<()> {
     let words = line.split_whitespace().collect::<Vec<&str>>(rt.alloc())?;
-    match words.as_slice() {
-        ["job", job @ ..] => team.add(Job::read(rt, job)?),
-        ["torn", value, from, len] => {
-            let job = team.last().context("no job")?;
-            job.tear(
-                u8::from_str_radix(value, 16)?,
-                from.parse::<usize>()?,
-                len.parse::<usize>()?,
-            )
-        }
-        ["fail", number] => {
-            team.last().context("no job")?.fail = number.parse::<u64>()?;
+    follow(rt, team, line, &words)
+}
+
+/// The one number of some words.
+fn number_of(words: &[&str]) -> Result<u32> {
+    let [number] = words else {
+        bail!("a number is wanted");
+    };
+    Ok(number.parse::<u32>()?)
+}
+
+/// Sets cells of a job to a byte, as some words say.
+fn tear(job: &mut Job, words: &[&str]) -> Result<()> {
+    let [value, from, len] = words else {
+        bail!("VALUE FROM LEN is wanted");
+    };
+    let value = u8::from_str_radix(value, 16)?;
+    let from = from.parse::<usize>()?;
+    job.tear(value, from, len.parse::<usize>()?)
+}
+
+/// Changes a job as a word and those behind it say.
+fn change(alloc: Global, job: &mut Job, word: &str, words: &[&str]) -> Result<()> {
+    match word {
+        "torn" => tear(job, words),
+        "fail" => {
+            job.fail = u64::from(number_of(words)?);
             Ok(())
         }
-        ["none"] => team.last().context("no job")?.spoil(rt.alloc()),
-        ["alone"] => team.carry_alone(rt),
-        ["turns", order, steps] => {
-            team.take_turns(rt.alloc(), Order::read(order)?, steps.parse::<u64>()?)?;
-            println!(rt; "{line}: as alone")?;
-            Ok(())
-        }
-        ["takes", counts @ ..] => team.take_counts(rt, counts),
-        ["lists", count] => team.take_lists(rt, count.parse::<u32>()?),
-        ["stops", count] => stop_gangs(rt, team, count.parse::<u32>()?),
-        ["call", count] => team.call(rt, count.parse::<usize>()?, 0),
-        ["call", count, put] => team.call(rt, count.parse::<usize>()?, put.parse::<u64>()?),
-        ["share"] => share_turns(rt, team),
-        _ => bail!("{line}: no such line"),
+        "none" => job.spoil(alloc),
+        _ => bail!("{word}: no such line"),
+    }
+}
+
+/// Drives the jobs by turns, in the order and with the steps of these words, and prints the line once they end as alone.
+fn take_turns(rt: &HostRuntime, team: &Team, line: &str, words: &[&str]) -> Result<()> {
+    let [order, steps] = words else {
+        bail!("ORDER STEPS is wanted");
+    };
+    let order = Order::read(order)?;
+    let steps = steps.parse::<u64>()?;
+    team.take(rt.alloc(), Turns::Ordered { order, steps })?;
+    println!(rt; "{line}: as alone")?;
+    Ok(())
+}
+
+/// Calls a gang with so many words, of which the put of the second number fails, if there is one.
+fn call(rt: &HostRuntime, team: &Team, words: &[&str]) -> Result<()> {
+    let [count, put @ ..] = words else {
+        bail!("WORDS [PUT] is wanted");
+    };
+    let put = if put.is_empty() { 0 } else { number_of(put)? };
+    team.call(rt, count.parse::<usize>()?, u64::from(put))
+}
+
+/// Does what the words of a line say.
+fn follow(rt: &HostRuntime, team: &mut Team, line: &str, words: &[&str]) -> Result<()> {
+    let [word, words @ ..] = words else {
+        bail!("a word is wanted");
+    };
+    match *word {
+        "job" => team.add(Job::read(rt, words)?),
+        "alone" => team.carry_alone(rt),
+        "turns" => take_turns(rt, team, line, words),
+        "takes" => team.take_counts(rt, words),
+        "lists" => team.take_lists(rt, number_of(words)?),
+        "stops" => stop_gangs(rt, team, number_of(words)?),
+        "call" => call(rt, team, words),
+        "share" => share_turns(rt, team.jobs.first().context("no job")?),
+        _ => change(rt.alloc(), team.last().context("no job")?, word, words),
     }
 }

@@ -1,10 +1,9 @@
 //! Targets that share their time.
 
-use crate::call::Streams;
-use crate::team::Team;
-use anyhow::{Context, Result, ensure};
+use crate::call::call;
+use crate::job::Job;
+use anyhow::{Result, ensure};
 use bench_model::{Bench, DeviceFault, MemoryBench, StoreFault};
-use std::alloc::Global;
 use std::cell::Cell;
 
 /// A bench that passes every call on. With the first operation on its cells it adds 1 to a number, and it notes the number at each write of its
@@ -98,38 +97,20 @@ impl<'a, B: Bench> Bench for Noting<'a, B> {
     }
 }
 
-/// The bench of the first job.
-fn bench(alloc: Global, team: &Team) -> Result<MemoryBench> {
-    team.jobs.first().context("no job")?.bench(alloc)
-}
-
-/// Calls a gang on two benches, and prints what it puts.
-fn call(rt: &HostRuntime, benches: &mut [Noting<'_, MemoryBench>]) -> Result<()> {
-    let mut streams = Streams::new(rt.alloc(), 0)?;
-    let status = streams.answer(rt.alloc(), 4, benches)?;
-    streams.print(rt, 4, status)
-}
-
-/// Looks whether both had begun when the last write of each file was made.
-fn have_begun(benches: &[Noting<'_, MemoryBench>]) -> Result<()> {
-    for bench in benches {
+/// Calls a gang on two benches, and looks whether both had begun when the last write of each file was made.
+fn call_two(rt: &HostRuntime, benches: &mut [Noting<'_, MemoryBench>]) -> Result<()> {
+    let _status = call(rt, 4, 0, benches)?;
+    for bench in benches.iter() {
         ensure!(bench.noted == 2, "closed when {} had begun", bench.noted);
     }
-    Ok(())
-}
-
-/// Calls a gang on two benches, of which each begins before either is closed.
-fn call_two(rt: &HostRuntime, first: MemoryBench, second: MemoryBench) -> Result<()> {
-    let begun = Cell::new(0);
-    let mut benches = [Noting::new(first, &begun), Noting::new(second, &begun)];
-    call(rt, &mut benches)?;
-    have_begun(&benches)
-}
-
-/// Does so with the first job on both.
-pub fn share_turns(rt: &HostRuntime, team: &Team) -> Result<()> {
-    let first = bench(rt.alloc(), team)?;
-    call_two(rt, first, bench(rt.alloc(), team)?)?;
     println!(rt; "both have begun when either is closed")?;
     Ok(())
+}
+
+/// Calls a gang on two benches with this job, of which each begins before either is closed.
+pub fn share_turns(rt: &HostRuntime, job: &Job) -> Result<()> {
+    let begun = Cell::new(0);
+    let first = Noting::new(job.bench(rt.alloc())?, &begun);
+    let mut benches = [first, Noting::new(job.bench(rt.alloc())?, &begun)];
+    call_two(rt, &mut benches)
 }

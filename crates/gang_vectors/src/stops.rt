@@ -1,21 +1,16 @@
 //! Gangs that are stopped.
 
-use crate::gangs::play_drawn;
+use crate::gangs::{Turns, drive};
 use crate::orders::Order;
 use crate::team::Team;
 use anyhow::{Result, ensure};
 use bench_model::{MemoryBench, Pick};
-use gang_run::Gang;
 use std::alloc::Global;
 
 /// Drives benches by some turns, which are drawn by a seed, and stops the power.
 fn stop(alloc: Global, benches: &mut [MemoryBench], seed: u32, pick: Pick) -> Result<()> {
-    ensure!(
-        !benches.is_empty() && benches.len() <= 16,
-        "1 to 16 targets"
-    );
-    let mut gang = Gang::open(alloc, benches)?;
-    play_drawn(&mut gang, benches, seed, seed % 1024);
+    let fours = seed % 1024;
+    let _driven = drive(alloc, benches, Turns::Stopped { seed, fours })?;
     for bench in benches.iter_mut() {
         bench.power_loss(pick);
     }
@@ -45,12 +40,12 @@ struct Tally {
     done: usize,
 }
 
-/// Stops a gang, and carries on what is left.
-fn carry_on(alloc: Global, team: &Team, seed: u32, pick: Pick, tally: &mut Tally) -> Result<()> {
-    let mut left = left_after(alloc, team, seed, pick)?;
-    count_closed(&left, tally)?;
+/// Carries on what a stop left.
+fn carry_on(alloc: Global, left: &mut Team, seed: u32, tally: &mut Tally) -> Result<()> {
+    count_closed(left, tally)?;
     left.learn(alloc)?;
-    left.take_turns(alloc, Order::Drawn(seed), 100)?;
+    let order = Order::Drawn(seed);
+    left.take(alloc, Turns::Ordered { order, steps: 100 })?;
     tally.done = tally.done.saturating_add(left.done());
     Ok(())
 }
@@ -75,7 +70,8 @@ pub fn stop_gangs(rt: &HostRuntime, team: &Team, count: u32) -> Result<()> {
     for number in 0..count {
         let seed = number.wrapping_mul(2_654_435_769);
         for pick in [Pick::AsWritten, Pick::AsOld, Pick::Filled { value: 0x5A }] {
-            carry_on(rt.alloc(), team, seed, pick, &mut tally)?;
+            let mut left = left_after(rt.alloc(), team, seed, pick)?;
+            carry_on(rt.alloc(), &mut left, seed, &mut tally)?;
         }
     }
     ensure!(tally.closed > 0 && tally.done > 0, "no stop in the middle");

@@ -1,9 +1,9 @@
 //! The targets of a gang, each with how it ends alone.
-ghost use Rattle.std.specs.Prelude.{◌≡◌, ◌≤◌, length, IfOk};
+ghost use Rattle.std.specs.Prelude.{◌≡◌, length};
 
 use crate::alone::carry;
-use crate::call::Streams;
-use crate::gangs::{play, play_drawn, turns_taken};
+use crate::call::call;
+use crate::gangs::{Turns, drive};
 use crate::job::Job;
 use crate::orders::Order;
 use crate::report::print_end;
@@ -11,9 +11,6 @@ use anyhow::{Context, Result, bail, ensure};
 use bench_model::MemoryBench;
 use gang_run::{Gang, TargetEnd};
 use std::alloc::Global;
-
-/// The most turns that a gang has here.
-const TURNS: u32 = 100_000_000;
 
 /// How a target ended, and the bench that it left.
 #[derive(Drop)]
@@ -38,54 +35,37 @@ fn is_refused(end: TargetEnd) -> bool {
 
 /// Looks whether a bench has these cells and this file.
 fn look(target: usize, bench: &MemoryBench, cells: &[u8], file: &[u8]) -> Result<()> {
-    ensure!(bench.cells() == cells, "{target}: other cells");
-    ensure!(bench.file() == file, "{target}: another file");
-    Ok(())
+    let wrong = if bench.cells() != cells {
+        "other cells"
+    } else if bench.file() != file {
+        "another file"
+    } else {
+        return Ok(());
+    };
+    bail!("{target}: {wrong}");
 }
 
-/// Opens a gang, and gives it turns in an order until all have ended.
-fn drive(alloc: Global, benches: &mut [MemoryBench], order: Order, steps: u64) -> Result<Gang>
-    requires steps { 1 ≤ steps }
-    ensures { IfOk result (λ gang. length gang.slots.items ≡ length benches.new) }
-{
-    ensure!(
-        !benches.is_empty() && benches.len() <= 16,
-        "1 to 16 targets"
-    );
-    let mut gang = Gang::open(alloc, benches)?;
-    if !play(&mut gang, benches, order, steps, TURNS) {
-        bail!("a target goes on");
+/// Prints how a job ends alone.
+fn put_alone(rt: &HostRuntime, job: &Job, alone: &Alone) -> Result<()> {
+    print_end(rt, alone.end)?;
+    if alone.bench.cells() == job.goal.as_slice() {
+        println!(rt; ", the goal")?;
+        Ok(())
+    } else if alone.end == TargetEnd::Done {
+        bail!("done, and other cells")
+    } else {
+        println!(rt; "")?;
+        Ok(())
     }
-    Ok(gang)
 }
 
 /// How many turns a job takes in a gang of its own, where each call has all its steps in one.
 fn count_turns(alloc: Global, job: &Job) -> Result<u32> {
+    let order = Order::Forward;
+    let steps = u64::MAX;
     let mut benches = [job.bench(alloc)?];
-    let mut gang = Gang::open(alloc, &mut benches)?;
-    turns_taken(&mut gang, &mut benches, u64::MAX, TURNS).context("it goes on")
-}
-
-/// Opens a gang, gives it 64 turns that are drawn, and rounds to the end.
-fn drive_drawn(alloc: Global, benches: &mut [MemoryBench], seed: u32) -> Result<Gang>
-    ensures { IfOk result (λ gang. length gang.slots.items ≡ length benches.new) }
-{
-    ensure!(
-        !benches.is_empty() && benches.len() <= 16,
-        "1 to 16 targets"
-    );
-    let mut gang = Gang::open(alloc, benches)?;
-    play_drawn(&mut gang, benches, seed, 16);
-    gang.run(benches, 1000);
-    Ok(gang)
-}
-
-/// The status of a call with so many words. Prints it, and what was put.
-fn call(rt: &HostRuntime, count: usize, fail: u64, benches: &mut [MemoryBench]) -> Result<u8> {
-    let mut streams = Streams::new(rt.alloc(), fail)?;
-    let status = streams.answer(rt.alloc(), count, benches)?;
-    streams.print(rt, count, status)?;
-    Ok(status)
+    let (_gang, given) = drive(alloc, &mut benches, Turns::Ordered { order, steps })?;
+    Ok(given)
 }
 
 impl Team {
@@ -130,13 +110,7 @@ impl Team {
     pub fn carry_alone(&mut self, rt: &HostRuntime) -> Result<()> {
         self.learn(rt.alloc())?;
         for (job, alone) in self.jobs.iter().zip(self.alone.iter()) {
-            print_end(rt, alone.end)?;
-            let reached = alone.bench.cells() == job.goal.as_slice();
-            ensure!(
-                reached || alone.end != TargetEnd::Done,
-                "done, and other cells"
-            );
-            println!(rt; "{}", if reached { ", the goal" } else { "" })?;
+            put_alone(rt, job, alone)?;
         }
         Ok(())
     }
@@ -174,11 +148,10 @@ impl Team {
         Ok(())
     }
 
-    /// Drives the jobs by turns in an order.
-    pub fn take_turns(&self, alloc: Global, order: Order, steps: u64) -> Result<()> {
-        ensure!(steps != 0, "no steps");
+    /// Drives the jobs by turns, and looks whether each ends as alone.
+    pub fn take(&self, alloc: Global, turns: Turns) -> Result<()> {
         let mut benches = self.benches(alloc)?;
-        let gang = drive(alloc, &mut benches, order, steps)?;
+        let (gang, _given) = drive(alloc, &mut benches, turns)?;
         self.check(&gang, &benches)
     }
 
@@ -194,19 +167,13 @@ impl Team {
         Ok(())
     }
 
-    /// Drives the jobs by a list of turns that is drawn.
-    fn take_list(&self, alloc: Global, seed: u32) -> Result<()> {
-        let mut benches = self.benches(alloc)?;
-        let gang = drive_drawn(alloc, &mut benches, seed)?;
-        self.check(&gang, &benches)
-    }
-
     /// Drives the jobs by so many lists of turns, and prints how many ends there were, and how many done.
     pub fn take_lists(&self, rt: &HostRuntime, count: u32) -> Result<()> {
         let mut ends = 0usize;
         let mut done = 0usize;
         for seed in 0..count {
-            self.take_list(rt.alloc(), seed << 8)?;
+            let seed = seed << 8;
+            self.take(rt.alloc(), Turns::Listed { seed })?;
             ends = ends.saturating_add(self.jobs.len());
             done = done.saturating_add(self.done());
         }
@@ -214,16 +181,21 @@ impl Team {
         Ok(())
     }
 
-    /// Looks whether each bench is as its target leaves it alone, or as it was.
+    /// Looks whether a bench is as its target leaves it alone, or as it was.
+    fn check_bench(&self, has_begun: bool, target: usize, bench: &MemoryBench) -> Result<()> {
+        match (self.jobs.get(target), self.alone.get(target)) {
+            (_, Some(alone)) if has_begun => {
+                look(target, bench, alone.bench.cells(), alone.bench.file())
+            }
+            (Some(job), _) if !has_begun => look(target, bench, &job.cells, &job.file),
+            _ => bail!("{target}: no such target"),
+        }
+    }
+
+    /// Looks so at each bench.
     fn check_left(&self, has_begun: bool, benches: &[MemoryBench]) -> Result<()> {
         for (target, bench) in benches.iter().enumerate() {
-            if has_begun {
-                let alone = self.alone.get(target).context("no such target")?;
-                look(target, bench, alone.bench.cells(), alone.bench.file())?;
-            } else {
-                let job = self.jobs.get(target).context("no such target")?;
-                look(target, bench, &job.cells, &job.file)?;
-            }
+            self.check_bench(has_begun, target, bench)?;
         }
         Ok(())
     }

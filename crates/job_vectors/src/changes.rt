@@ -104,19 +104,29 @@ pub fn read_prefixes(rt: &HostRuntime, job: &[u8]) -> Result<()> {
     Ok(())
 }
 
-/// Reads the job's file with each single byte changed, and counts what the files are.
-pub fn read_single_changes(rt: &HostRuntime, job: &[u8]) -> Result<()> {
-    let mut file = Vec::from_slice(rt.alloc(), job)?;
+/// Counts what a file is with each single byte changed.
+fn count_changed(alloc: Global, file: &mut [u8], job: &[u8]) -> Result<Count> {
     let mut count = Count::default();
     for at in 0..file.len() {
         file[at] ^= 1;
-        count.count(class(rt.alloc(), &file, job)?);
+        count.count(class(alloc, file, job)?);
         file[at] ^= 1;
     }
-    print!(rt;
-        "single bytes: {} free, {} not a job, ",
-        count.free, count.not_a_job
+    Ok(count)
+}
+
+/// Reads the job's file with each single byte changed, and counts what the files are.
+pub fn read_single_changes(rt: &HostRuntime, job: &[u8]) -> Result<()> {
+    let mut file = Vec::from_slice(rt.alloc(), job)?;
+    put_count(rt, count_changed(rt.alloc(), &mut file, job)?)
+}
+
+/// Prints what files with a single byte changed are.
+fn put_count(rt: &HostRuntime, count: Count) -> Result<()> {
+    let (free, not_a_job) = (count.free, count.not_a_job);
+    let (damaged, jobs) = (count.damaged, count.jobs);
+    println!(rt;
+        "single bytes: {free} free, {not_a_job} not a job, {damaged} damaged, {jobs} jobs"
     )?;
-    println!(rt; "{} damaged, {} jobs", count.damaged, count.jobs)?;
     Ok(())
 }

@@ -8,7 +8,11 @@
 //! All of them were made outside of this repository's code, the hashes by another SHA-256.
 #![tactic(auto)]
 
-ghost use Rattle.job_text.specs.Parts.{AreParts};
+ghost use Rattle.std.specs.Prelude.{◌<◌, ◌^◌, length, option_copied, IsTrue, IfOk};
+ghost use Rattle.job_text.specs.Body.{flm_len};
+ghost use Rattle.job_text.specs.Jobs.{AreFlms};
+ghost use Rattle.job_text.specs.Parts.{AreParts, files_with};
+ghost use Rattle.job_text.specs.Said.{algorithms_shown};
 
 mod benches;
 mod changes;
@@ -16,7 +20,7 @@ mod class;
 mod refusals;
 mod stops;
 
-use anyhow::{Result, bail};
+use anyhow::{Result, bail, ensure};
 use board_file::read_board;
 use byte_map::ByteMap;
 use flm_descriptor::read_flm;
@@ -25,79 +29,67 @@ use job_text::{Algorithms, cells_in, suits};
 use std::alloc::Global;
 use std::fs;
 
-/// The four bytes of the image in the first region.
-fn image(alloc: Global) -> Result<ByteMap> {
+/// The four bytes of the image in the first region, and the one in the second.
+fn image(alloc: Global, both: bool) -> Result<ByteMap> {
     let mut image = ByteMap::new(alloc);
     image.lay(0x0800_0000, &[1, 2, 3, 4])?;
+    if both {
+        image.lay(0x1FFF_F000, &[0x55])?;
+    }
     Ok(image)
 }
 
-/// What is done with a job of the small board.
-fn go_through(rt: &HostRuntime, parts: &JobParts, job: &[u8]) -> Result<()>
-    requires { AreParts parts.now }
+/// What the FLM files say.
+fn read_flms(alloc: Global, flm: &[u8], second: Option<&[u8]>) -> Result<Algorithms>
+    ensures { IfOk result (λ all. AreFlms (files_with flm.now (option_copied second.entry)) (algorithms_shown all)) }
 {
-    stops::begin_stopped(rt, parts, job)?;
-    refusals::begin_refused(rt, parts, job)?;
-    refusals::open_refused(rt, job)
+    let flm = read_flm(alloc, flm)?;
+    match second {
+        Some(second) => {
+            let second = read_flm(alloc, second)?;
+            Ok(Algorithms::new(alloc, flm, Some(second))?)
+        }
+        None => Ok(Algorithms::new(alloc, flm, None)?),
+    }
 }
 
-/// Goes through it for the job of these texts, where they go together.
-fn go_through_small<'a>(
-    rt: &HostRuntime,
-    board_text: &'a [u8],
-    flm: &'a [u8],
-    job: &[u8],
-) -> Result<()> {
-    let alloc = rt.alloc();
-    let image = image(alloc)?;
-    let board = read_board(alloc, board_text)?;
-    let algorithms = Algorithms::new(alloc, read_flm(alloc, flm)?, None)?;
-    if board_text.len() > 0xFFFF || flm.len() > 0xFFFF {
-        bail!("the texts are too long");
-    }
-    if !suits(&board, algorithms.as_slice(), &image) {
-        bail!("the texts don't go together");
-    }
-    let second: Option<&'a [u8]> = None;
-    let parts = JobParts {
-        board: board_text,
-        flm,
-        second,
-        image: &image,
-        size: cells_in(&board),
+/// Whether the lengths of the texts have a field each.
+fn are_short(board: &[u8], flm: &[u8], second: Option<&[u8]>) -> bool
+    ensures board { IsTrue result → length board.now < 2 ^ 32 }
+    ensures first { IsTrue result → length flm.now < 2 ^ 32 }
+    ensures second { IsTrue result → flm_len (files_with flm.now (option_copied second.entry)) 1 < 2 ^ 32 }
+{
+    let second_len = match second {
+        Some(second) => second.len(),
+        None => 0,
     };
-    go_through(rt, &parts, job)
+    board.len() <= 0xFFFF && flm.len() <= 0xFFFF && second_len <= 0xFFFF
 }
 
-/// Begins and opens the job of two regions of these texts, where they go together.
-fn go_through_two<'a>(
-    rt: &HostRuntime,
-    board_text: &'a [u8],
+/// The parts of the job of these texts and this image, where they go together.
+fn parts_of<'a>(
+    alloc: Global,
+    board: &'a [u8],
     flm: &'a [u8],
-    second: &'a [u8],
-    job: &[u8],
-) -> Result<()> {
-    let alloc = rt.alloc();
-    let mut image = image(alloc)?;
-    image.lay(0x1FFF_F000, &[0x55])?;
-    let board = read_board(alloc, board_text)?;
-    let one = read_flm(alloc, flm)?;
-    let other = read_flm(alloc, second)?;
-    let algorithms = Algorithms::new(alloc, one, Some(other))?;
-    if board_text.len() > 0xFFFF || flm.len() > 0xFFFF || second.len() > 0xFFFF {
-        bail!("the texts are too long");
+    second: Option<&'a [u8]>,
+    image: &'a ByteMap,
+) -> Result<JobParts<'a>>
+    ensures { IfOk result AreParts }
+{
+    ensure!(are_short(board, flm, second), "the texts are too long");
+    let read = read_board(alloc, board)?;
+    let algorithms = read_flms(alloc, flm, second)?;
+    if suits(&read, algorithms.as_slice(), image) {
+        Ok(JobParts {
+            board,
+            flm,
+            second,
+            image,
+            size: cells_in(&read),
+        })
+    } else {
+        bail!("the texts don't go together")
     }
-    if !suits(&board, algorithms.as_slice(), &image) {
-        bail!("the texts don't go together");
-    }
-    let parts = JobParts {
-        board: board_text,
-        flm,
-        second: Some(second),
-        image: &image,
-        size: cells_in(&board),
-    };
-    begin_and_open(rt, &parts, job)
 }
 
 /// Begins a job over an empty file, and opens it.
@@ -107,6 +99,31 @@ fn begin_and_open(rt: &HostRuntime, parts: &JobParts, job: &[u8]) -> Result<()>
     let mut bench = benches::blank(rt.alloc(), parts.size, &[], 0, 0)?;
     refusals::put_begin(rt, parts, &mut bench, job)?;
     refusals::put_open(rt, parts.size, bench.file(), 0)
+}
+
+/// What is done with the job of these parts: that of two regions is only begun and opened.
+fn follow(rt: &HostRuntime, parts: &JobParts, job: &[u8]) -> Result<()>
+    requires { AreParts parts.now }
+{
+    if parts.second.is_some() {
+        return begin_and_open(rt, parts, job);
+    }
+    stops::begin_stopped(rt, parts, job)?;
+    refusals::begin_refused(rt, parts, job)?;
+    refusals::open_refused(rt, job)
+}
+
+/// What is done with the job of these texts, where they go together: of its board, and of an FLM file for each region.
+fn go_through(
+    rt: &HostRuntime,
+    board: &[u8],
+    flm: &[u8],
+    second: Option<&[u8]>,
+    job: &[u8],
+) -> Result<()> {
+    let image = image(rt.alloc(), second.is_some())?;
+    let parts = parts_of(rt.alloc(), board, flm, second, &image)?;
+    follow(rt, &parts, job)
 }
 
 /// Reads files that are made of this one.
@@ -119,7 +136,7 @@ fn read_made(rt: &HostRuntime, job: &[u8], changes: &str) -> Result<()> {
 fn do_small(rt: &HostRuntime, job: &[u8]) -> Result<()> {
     let board = fs::read(rt, "small.toml")?;
     let flm = fs::read(rt, "algorithm.flm")?;
-    go_through_small(rt, &board, &flm, job)
+    go_through(rt, &board, &flm, None, job)
 }
 
 /// Reads files that are made of one of the first format.
@@ -140,7 +157,7 @@ fn read_second(rt: &HostRuntime, job: &[u8]) -> Result<()> {
 fn do_two(rt: &HostRuntime, flm: &[u8], job: &[u8]) -> Result<()> {
     let board = fs::read(rt, "two.toml")?;
     let second = fs::read(rt, "second.flm")?;
-    go_through_two(rt, &board, flm, &second, job)?;
+    go_through(rt, &board, flm, Some(&second), job)?;
     read_made(rt, job, "two.txt")
 }
 

@@ -3,10 +3,10 @@ ghost use Rattle.job_text.specs.Parts.{AreParts};
 
 use crate::benches::blank;
 use crate::class::class;
-use crate::stops::put_end;
+use crate::stops::{begin_job, put_end};
 use anyhow::Result;
 use bench_model::MemoryBench;
-use job_file::{JobParts, begin, open};
+use job_file::{JobParts, OpenFault, open};
 use job_text::Job;
 
 /// How many calls a job takes that is begun over a closed one: file calls and cell calls.
@@ -23,7 +23,7 @@ pub fn put_begin(
 ) -> Result<()>
     requires { AreParts parts.now }
 {
-    let end = begin(rt.alloc(), bench, parts);
+    let end = begin_job(rt.alloc(), bench, parts, false);
     put_end(rt, end, "begun")?;
     put_file(rt, bench.file(), job)
 }
@@ -32,6 +32,22 @@ pub fn put_begin(
 fn put_file(rt: &HostRuntime, file: &[u8], job: &[u8]) -> Result<()> {
     println!(rt; ", {}", class(rt.alloc(), file, job)?)?;
     Ok(())
+}
+
+/// Begins over a file on so many cells, where the file call and the cell call of these numbers fail, or none at 0.
+fn put_begin_on(
+    rt: &HostRuntime,
+    parts: &JobParts,
+    job: &[u8],
+    cells: u32,
+    file: &[u8],
+    fails: (u64, u64),
+) -> Result<()>
+    requires { AreParts parts.now }
+{
+    let (store, device) = fails;
+    let mut bench = blank(rt.alloc(), cells, file, store, device)?;
+    put_begin(rt, parts, &mut bench, job)
 }
 
 /// Begins over files that aren't free, with another number of cells, and where each call fails in its turn.
@@ -46,35 +62,26 @@ pub fn begin_refused(rt: &HostRuntime, parts: &JobParts, job: &[u8]) -> Result<(
         (512, &[]),
         (512, job),
     ] {
-        put_begin(rt, parts, &mut blank(rt.alloc(), cells, file, 0, 0)?, job)?;
+        put_begin_on(rt, parts, job, cells, file, (0, 0))?;
     }
     for call in 1..=STORE_CALLS {
-        put_begin_failed(rt, parts, job, call, 0)?;
+        put_begin_on(rt, parts, job, 1024, &[0, 7, 7], (call, 0))?;
     }
     for call in 1..=DEVICE_CALLS {
-        put_begin_failed(rt, parts, job, 0, call)?;
+        put_begin_on(rt, parts, job, 1024, &[0, 7, 7], (0, call))?;
     }
     Ok(())
-}
-
-/// Begins over a free file, where the file call or the cell call of this number fails.
-fn put_begin_failed(
-    rt: &HostRuntime,
-    parts: &JobParts,
-    job: &[u8],
-    store: u64,
-    device: u64,
-) -> Result<()>
-    requires { AreParts parts.now }
-{
-    let mut bench = blank(rt.alloc(), 1024, &[0, 7, 7], store, device)?;
-    put_begin(rt, parts, &mut bench, job)
 }
 
 /// Opens a bench, and says what it finds.
 pub fn put_open(rt: &HostRuntime, cells: u32, file: &[u8], store: u64) -> Result<()> {
     let mut bench = blank(rt.alloc(), cells, file, store, 0)?;
-    match open(rt.alloc(), &mut bench) {
+    put_opened(rt, open(rt.alloc(), &mut bench))
+}
+
+/// Says what was found.
+fn put_opened(rt: &HostRuntime, opened: Result<Job, OpenFault>) -> Result<()> {
+    match opened {
         Ok(job) => put_job(rt, &job),
         Err(fault) => {
             println!(rt; "{fault}")?;

@@ -5,42 +5,43 @@ use crate::benches::{blank, busy};
 use crate::class::class;
 use anyhow::Result;
 use bench_model::{Bench, MemoryBench, Pick, StopBench};
-use job_file::{BeginFault, CloseFault, JobParts, begin, close};
+use job_file::{BeginFault, JobParts, begin, close};
 use std::alloc::Global;
 
 /// More calls than a job takes that is begun and closed.
 const CALLS: u64 = 23;
 
-/// Begins a job, and closes it.
-fn begin_and_close<B: Bench>(
+/// Begins a job, and closes it where that is asked for.
+pub fn begin_job<B: Bench>(
     alloc: Global,
     bench: &mut B,
     parts: &JobParts,
+    closes: bool,
 ) -> Result<(), BeginFault>
     requires { AreParts parts.now }
 {
     begin(alloc, bench, parts)?;
-    match close(bench) {
-        Ok(()) => Ok(()),
-        Err(CloseFault::StoreFault) => Err(BeginFault::StoreFault),
+    if closes && close(bench).is_err() {
+        return Err(BeginFault::StoreFault);
     }
+    Ok(())
 }
 
-/// What is left of this bench once so many calls went through and the power went.
-fn left_of(
+/// How a job is begun and closed on this bench of which so many calls go through, and what is left of it once the power went.
+fn stopped(
     alloc: Global,
     parts: &JobParts,
     bench: MemoryBench,
     calls: u64,
     pick: Pick,
-) -> MemoryBench
+) -> (Result<(), BeginFault>, MemoryBench)
     requires { AreParts parts.now }
 {
     let mut stopped = StopBench::new(bench, calls);
-    let _end = begin_and_close(alloc, &mut stopped, parts);
+    let end = begin_job(alloc, &mut stopped, parts, true);
     let mut left = stopped.into_inner();
     left.power_loss(pick);
-    left
+    (end, left)
 }
 
 /// Says how a job was begun, or begun and closed.
@@ -56,19 +57,24 @@ pub fn put_end(rt: &HostRuntime, end: Result<(), BeginFault>, done: &str) -> Res
 fn put_calls(rt: &HostRuntime, parts: &JobParts, file: &[u8], calls: u64) -> Result<()>
     requires { AreParts parts.now }
 {
-    let mut whole = StopBench::new(blank(rt.alloc(), 1024, file, 0, 0)?, calls);
     print!(rt; "{calls} calls: ")?;
-    let end = begin_and_close(rt.alloc(), &mut whole, parts);
+    let bench = blank(rt.alloc(), 1024, file, 0, 0)?;
+    let (end, _left) = stopped(rt.alloc(), parts, bench, calls, Pick::AsWritten);
     put_end(rt, end, "done")
+}
+
+/// Says whether all cells are blank.
+fn said(cells: &[u8]) -> &'static str {
+    if cells.iter().all(|cell| *cell == 0xFF) {
+        ""
+    } else {
+        ", cells changed"
+    }
 }
 
 /// Says what is left of a bench.
 fn put_left(rt: &HostRuntime, left: &MemoryBench, job: &[u8]) -> Result<()> {
-    let cells = if left.cells().iter().all(|cell| *cell == 0xFF) {
-        ""
-    } else {
-        ", cells changed"
-    };
+    let cells = said(left.cells());
     print!(rt; "; {}{cells}", class(rt.alloc(), left.file(), job)?)?;
     Ok(())
 }
@@ -80,7 +86,7 @@ fn put_line(rt: &HostRuntime, parts: &JobParts, file: &[u8], calls: u64, job: &[
     put_calls(rt, parts, file, calls)?;
     for pick in [Pick::AsWritten, Pick::AsOld, Pick::Filled { value: 0x5A }] {
         let bench = blank(rt.alloc(), 1024, file, 0, 0)?;
-        let left = left_of(rt.alloc(), parts, bench, calls, pick);
+        let (_end, left) = stopped(rt.alloc(), parts, bench, calls, pick);
         put_left(rt, &left, job)?;
     }
     println!(rt; "")?;
@@ -123,7 +129,7 @@ fn begin_busy(rt: &HostRuntime, parts: &JobParts, job: &[u8]) -> Result<()>
     requires { AreParts parts.now }
 {
     let mut bench = busy(rt.alloc(), &[])?;
-    begin(rt.alloc(), &mut bench, parts)?;
+    begin_job(rt.alloc(), &mut bench, parts, false)?;
     put_busy(rt, &bench, job)
 }
 

@@ -13,7 +13,7 @@ use readback::Difference;
 use std::alloc::Global;
 
 /// How a session ended.
-#[derive(Clone, Copy, PartialEq, Eq, Debug)]
+#[derive(Clone, Copy)]
 pub enum Carried {
     Refused(SessionFault),
     Unsurveyed(SurveyFault),
@@ -30,8 +30,8 @@ pub enum Carried {
     StoreFault,
 }
 
-/// Goes to the goal of the session's last survey, and closes the job there.
-fn finish<B: Bench>(session: &mut Session, bench: &mut B) -> Carried
+/// Goes to the goal of the session's last survey, and closes the job there where that is asked for.
+fn finish<B: Bench>(session: &mut Session, bench: &mut B, closes: bool) -> Carried
     requires surveyed { IsSome (surveyed session.old) }
     requires count { (B.state bench.old).cell_count ≡ size_of (job_in session.old).board.regions }
     requires idle { IsTrue B.tells → (B.state bench.old).operation ≡ None }
@@ -39,14 +39,32 @@ fn finish<B: Bench>(session: &mut Session, bench: &mut B) -> Carried
     requires only { IsTrue B.tells → LeftOnly (B.state bench.old).file (file_half (B.state bench.old)) }
 {
     match session.go(bench) {
-        SessionEnd::Reached(reached) => match reached.close(session, bench) {
-            Ok(()) => Carried::Closed,
-            Err(_) => Carried::Unclosed,
-        },
+        SessionEnd::Reached(reached) => {
+            if !closes {
+                return Carried::Reached;
+            }
+            match reached.close(session, bench) {
+                Ok(()) => Carried::Closed,
+                Err(_) => Carried::Unclosed,
+            }
+        }
         SessionEnd::Mismatch(difference) => Carried::Mismatch(difference),
         SessionEnd::CallFailed { number, call, end } => Carried::CallFailed { number, call, end },
         SessionEnd::DeviceFault => Carried::DeviceFault,
         SessionEnd::StoreFault => Carried::StoreFault,
+    }
+}
+
+/// Surveys the cells for a goal, goes there, and closes the job.
+fn go_on<B: Bench>(session: &mut Session, alloc: Global, bench: &mut B, goal: Goal) -> Carried
+    requires count { (B.state bench.old).cell_count ≡ size_of (job_in session.old).board.regions }
+    requires idle { IsTrue B.tells → (B.state bench.old).operation ≡ None }
+    requires stands { IsTrue B.tells → StandsFor (job_in session.old) (B.state bench.old).file }
+    requires only { IsTrue B.tells → LeftOnly (B.state bench.old).file (file_half (B.state bench.old)) }
+{
+    match session.survey(alloc, bench, goal) {
+        Ok(()) => finish(session, bench, true),
+        Err(fault) => Carried::Unsurveyed(fault),
     }
 }
 
@@ -56,25 +74,22 @@ pub fn carry<B: Bench>(alloc: Global, bench: &mut B, goal: Goal) -> Carried {
         Ok(session) => session,
         Err(fault) => return Carried::Refused(fault),
     };
-    match session.survey(alloc, bench, goal) {
-        Ok(()) => finish(&mut session, bench),
-        Err(fault) => Carried::Unsurveyed(fault),
-    }
+    go_on(&mut session, alloc, bench, goal)
 }
 
-/// Goes to the goal of the session's last survey. The job stays open.
-fn go<B: Bench>(session: &mut Session, bench: &mut B) -> Carried
-    requires surveyed { IsSome (surveyed session.old) }
-    requires count { (B.state bench.old).cell_count ≡ size_of (job_in session.old).board.regions }
-    requires idle { IsTrue B.tells → (B.state bench.old).operation ≡ None }
-    requires stands { IsTrue B.tells → StandsFor (job_in session.old) (B.state bench.old).file }
+/// Surveys one bench and goes over another, with the session's file and as many cells. The job stays open.
+fn go_over<B: Bench>(session: &mut Session, alloc: Global, second: &mut B, third: &mut B) -> Carried
+    requires second_stands { IsTrue B.tells → StandsFor (job_in session.old) (B.state second.old).file }
+    requires second_count { (B.state second.old).cell_count ≡ size_of (job_in session.old).board.regions }
+    requires second_idle { IsTrue B.tells → (B.state second.old).operation ≡ None }
+    requires third_stands { IsTrue B.tells → StandsFor (job_in session.old) (B.state third.old).file }
+    requires third_count { (B.state third.old).cell_count ≡ size_of (job_in session.old).board.regions }
+    requires third_idle { IsTrue B.tells → (B.state third.old).operation ≡ None }
+    requires third_only { IsTrue B.tells → LeftOnly (B.state third.old).file (file_half (B.state third.old)) }
 {
-    match session.go(bench) {
-        SessionEnd::Reached(_) => Carried::Reached,
-        SessionEnd::Mismatch(difference) => Carried::Mismatch(difference),
-        SessionEnd::CallFailed { number, call, end } => Carried::CallFailed { number, call, end },
-        SessionEnd::DeviceFault => Carried::DeviceFault,
-        SessionEnd::StoreFault => Carried::StoreFault,
+    match session.survey(alloc, second, Goal::New) {
+        Ok(()) => finish(session, third, false),
+        Err(fault) => Carried::Unsurveyed(fault),
     }
 }
 
@@ -86,13 +101,11 @@ pub fn carry_apart<B: Bench>(alloc: Global, first: &mut B, second: &mut B, third
     requires third_file { IsTrue B.tells → (B.state third.old).file ≡ (B.state first.old).file }
     requires third_count { (B.state third.old).cell_count ≡ (B.state first.old).cell_count }
     requires third_idle { IsTrue B.tells → (B.state third.old).operation ≡ None }
+    requires third_only { IsTrue B.tells → LeftOnly (B.state third.old).file (file_half (B.state third.old)) }
 {
     let mut session = match Session::open(alloc, first) {
         Ok(session) => session,
         Err(fault) => return Carried::Refused(fault),
     };
-    match session.survey(alloc, second, Goal::New) {
-        Ok(()) => go(&mut session, third),
-        Err(fault) => Carried::Unsurveyed(fault),
-    }
+    go_over(&mut session, alloc, second, third)
 }

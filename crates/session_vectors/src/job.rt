@@ -5,6 +5,9 @@ use bench_model::MemoryBench;
 use row_text::{all_bytes, counted_bytes, number};
 use std::fs;
 
+/// The most cells that a bench has here.
+const MOST: usize = 1 << 16;
+
 /// A job: the text of its board, its FLM file, the one run of its image, and its snapshot.
 #[derive(Drop)]
 pub struct Job {
@@ -24,46 +27,78 @@ fn put_length(file: &mut Vec<u8>, len: usize) -> Result<()> {
     Ok(())
 }
 
+/// Lays an image over cells, from a place on.
+fn lay(cells: &mut [u8], from: usize, image: &[u8]) -> Result<()> {
+    for (offset, byte) in image.iter().enumerate() {
+        match cells.get_mut(from.wrapping_add(offset)) {
+            Some(cell) => *cell = *byte,
+            None => bail!("the image goes past the cells"),
+        }
+    }
+    Ok(())
+}
+
 impl Job {
     /// The job that some words name: its board, its FLM file, an address with the bytes that are to stand there, and its cells.
     pub fn read(rt: &HostRuntime, words: &[&str]) -> Result<Job> {
+        let mut job = Job {
+            board: Vec::new(rt.alloc()),
+            flm: Vec::new(rt.alloc()),
+            at: 0,
+            image: Vec::new(rt.alloc()),
+            cells: Vec::new(rt.alloc()),
+        };
+        job.fill(rt, words)?;
+        Ok(job)
+    }
+
+    /// Reads it from some words.
+    fn fill(&mut self, rt: &HostRuntime, words: &[&str]) -> Result<()> {
         let [board, flm, at, image, cells @ ..] = words else {
             bail!("no job");
         };
-        Ok(Job {
-            board: fs::read(rt, *board)?,
-            flm: fs::read(rt, *flm)?,
-            at: number(at)?,
-            image: counted_bytes(rt.alloc(), image)?,
-            cells: all_bytes(rt.alloc(), cells)?,
-        })
+        self.board = fs::read(rt, *board)?;
+        self.flm = fs::read(rt, *flm)?;
+        self.at = number(at)?;
+        self.image = counted_bytes(rt.alloc(), image)?;
+        self.cells = all_bytes(rt.alloc(), cells)?;
+        Ok(())
+    }
+
+    /// Appends its lengths and its texts.
+    fn put_texts(&self, file: &mut Vec<u8>) -> Result<()> {
+        for len in [self.board.len(), self.flm.len(), 1, self.cells.len()] {
+            put_length(file, len)?;
+        }
+        file.extend_from_slice(&self.board)?;
+        file.extend_from_slice(&self.flm)?;
+        Ok(())
+    }
+
+    /// Appends its run and its snapshot.
+    fn put_bytes(&self, file: &mut Vec<u8>) -> Result<()> {
+        file.extend_from_slice(&self.at.to_le_bytes())?;
+        put_length(file, self.image.len())?;
+        file.extend_from_slice(&self.image)?;
+        file.extend_from_slice(&self.cells)?;
+        Ok(())
     }
 
     /// The file that stands for it.
     pub fn file(&self, rt: &HostRuntime) -> Result<Vec<u8>> {
         let mut file = Vec::from_slice(rt.alloc(), b"\xA5FLMJOB1")?;
-        for len in [self.board.len(), self.flm.len(), 1, self.cells.len()] {
-            put_length(&mut file, len)?;
-        }
-        file.extend_from_slice(&self.board)?;
-        file.extend_from_slice(&self.flm)?;
-        file.extend_from_slice(&self.at.to_le_bytes())?;
-        put_length(&mut file, self.image.len())?;
-        file.extend_from_slice(&self.image)?;
-        file.extend_from_slice(&self.cells)?;
+        self.put_texts(&mut file)?;
+        self.put_bytes(&mut file)?;
         Ok(file)
     }
 
     /// A bench whose file stands for it, and whose cells are its snapshot. The cell call of this number fails.
     pub fn bench(&self, rt: &HostRuntime, fail: u64) -> Result<MemoryBench> {
-        let file = self.file(rt)?;
-        if self.cells.len() > 65536 {
-            bail!("too many cells");
-        }
         let room = 1 << 20;
+        let file = self.file(rt)?;
         let bench = MemoryBench::new(
             rt.alloc(),
-            &self.cells,
+            &self.cells[..self.cells.len().min(MOST)],
             &file,
             room,
             room,
@@ -78,12 +113,7 @@ impl Job {
     pub fn goal(&self, rt: &HostRuntime, base: u32) -> Result<Vec<u8>> {
         let mut goal = Vec::from_slice(rt.alloc(), &self.cells)?;
         let from = self.at.wrapping_sub(base) as usize;
-        for (offset, byte) in self.image.iter().enumerate() {
-            match goal.get_mut(from + offset) {
-                Some(cell) => *cell = *byte,
-                None => bail!("the image goes past the cells"),
-            }
-        }
+        lay(&mut goal, from, &self.image)?;
         Ok(goal)
     }
 }

@@ -3,69 +3,107 @@
 use crate::carry::Carried;
 use algo_calls::{Call, CallEnd};
 use anyhow::Result;
+use readback::Difference;
 use target_core::{FaultKind, RunEnd};
 
-/// Prints a call.
-fn print_call(rt: &HostRuntime, call: Call) -> Result<()> {
+/// What stands behind a text.
+#[derive(Clone, Copy)]
+enum Behind {
+    Nothing,
+    Kind(u32),
+    Place(u32),
+    Fault { pc: u32, at: u32 },
+}
+
+/// A call, in words.
+fn call_words(call: Call) -> (&'static str, Behind) {
     match call {
-        Call::Init { kind } => print!(rt; "Init {kind}")?,
-        Call::UnInit { kind } => print!(rt; "UnInit {kind}")?,
-        Call::EraseSector { at } => print!(rt; "EraseSector {at:08X}")?,
-        Call::EraseChip => print!(rt; "EraseChip")?,
-        Call::ProgramPage { at } => print!(rt; "ProgramPage {at:08X}")?,
-        Call::Verify { at } => print!(rt; "Verify {at:08X}")?,
+        Call::Init { kind } => ("Init", Behind::Kind(kind)),
+        Call::UnInit { kind } => ("UnInit", Behind::Kind(kind)),
+        Call::EraseSector { at } => ("EraseSector", Behind::Place(at)),
+        Call::EraseChip => ("EraseChip", Behind::Nothing),
+        Call::ProgramPage { at } => ("ProgramPage", Behind::Place(at)),
+        Call::Verify { at } => ("Verify", Behind::Place(at)),
     }
-    Ok(())
 }
 
-/// Prints how a run ended.
-fn print_run(rt: &HostRuntime, end: RunEnd) -> Result<()> {
+/// How a run ended, in words.
+fn run_words(end: RunEnd) -> (&'static str, Behind) {
     match end {
-        RunEnd::Returned { r0 } => println!(rt; "returned {r0:08X}")?,
-        RunEnd::NoFuel { pc } => println!(rt; "no fuel at {pc:08X}")?,
-        RunEnd::StrayBreak { pc } => println!(rt; "stray break at {pc:08X}")?,
+        RunEnd::Returned { r0 } => ("returned", Behind::Place(r0)),
+        RunEnd::NoFuel { pc } => ("no fuel at", Behind::Place(pc)),
+        RunEnd::StrayBreak { pc } => ("stray break at", Behind::Place(pc)),
         RunEnd::Faulted { kind, pc } => match kind {
-            FaultKind::Undefined => println!(rt; "undefined at {pc:08X}")?,
-            FaultKind::BusFault { at } => println!(rt; "bus fault at {pc:08X} address {at:08X}")?,
-            FaultKind::Unaligned { at } => println!(rt; "unaligned at {pc:08X} address {at:08X}")?,
-            FaultKind::BadState => println!(rt; "bad state at {pc:08X}")?,
+            FaultKind::Undefined => ("undefined at", Behind::Place(pc)),
+            FaultKind::BusFault { at } => ("bus fault at", Behind::Fault { pc, at }),
+            FaultKind::Unaligned { at } => ("unaligned at", Behind::Fault { pc, at }),
+            FaultKind::BadState => ("bad state at", Behind::Place(pc)),
         },
-        RunEnd::DeviceFault => println!(rt; "device fault")?,
+        RunEnd::DeviceFault => ("device fault", Behind::Nothing),
+    }
+}
+
+/// How a call ended, in words.
+fn end_words(end: CallEnd) -> (&'static str, Behind) {
+    match end {
+        CallEnd::Done => ("done", Behind::Nothing),
+        CallEnd::Refused { r0 } => ("answered", Behind::Place(r0)),
+        CallEnd::Ended(end) => run_words(end),
+        CallEnd::DeviceFault => ("device fault", Behind::Nothing),
+    }
+}
+
+/// Prints words.
+fn put(rt: &HostRuntime, words: (&'static str, Behind)) -> Result<()> {
+    let (text, behind) = words;
+    match behind {
+        Behind::Nothing => print!(rt; "{text}")?,
+        Behind::Kind(kind) => print!(rt; "{text} {kind}")?,
+        Behind::Place(at) => print!(rt; "{text} {at:08X}")?,
+        Behind::Fault { pc, at } => print!(rt; "{text} {pc:08X} address {at:08X}")?,
     }
     Ok(())
 }
 
-/// Prints how a call ended.
-fn print_end(rt: &HostRuntime, end: CallEnd) -> Result<()> {
-    match end {
-        CallEnd::Done => println!(rt; "done")?,
-        CallEnd::Refused { r0 } => println!(rt; "answered {r0:08X}")?,
-        CallEnd::Ended(end) => print_run(rt, end)?,
-        CallEnd::DeviceFault => println!(rt; "device fault")?,
-    }
+/// Prints a line.
+pub fn put_line(rt: &HostRuntime, text: &str) -> Result<()> {
+    println!(rt; "{text}")?;
+    Ok(())
+}
+
+/// Prints which call was not done, and how it ended.
+fn put_failed(rt: &HostRuntime, number: u32, call: Call, end: CallEnd) -> Result<()> {
+    print!(rt; "call {number} ")?;
+    put(rt, call_words(call))?;
+    print!(rt; ": ")?;
+    put(rt, end_words(end))?;
+    put_line(rt, "")
+}
+
+/// Prints where the cells aren't the goal.
+fn put_mismatch(rt: &HostRuntime, found: Difference) -> Result<()> {
+    let (at, want, got) = (found.at, found.want, found.got);
+    println!(rt; "mismatch at {at:08X} wanted {want:02X} found {got:02X}")?;
     Ok(())
 }
 
 /// Prints how a session ended.
 pub fn print(rt: &HostRuntime, carried: Carried) -> Result<()> {
     match carried {
-        Carried::Refused(fault) => println!(rt; "refused: {fault}")?,
-        Carried::Unsurveyed(fault) => println!(rt; "not surveyed: {fault}")?,
-        Carried::Closed => println!(rt; "closed")?,
-        Carried::Unclosed => println!(rt; "not closed")?,
-        Carried::Reached => println!(rt; "reached")?,
-        Carried::Mismatch(found) => {
-            let (at, want, got) = (found.at, found.want, found.got);
-            println!(rt; "mismatch at {at:08X} wanted {want:02X} found {got:02X}")?;
+        Carried::Refused(fault) => {
+            println!(rt; "refused: {fault}")?;
+            Ok(())
         }
-        Carried::CallFailed { number, call, end } => {
-            print!(rt; "call {number} ")?;
-            print_call(rt, call)?;
-            print!(rt; ": ")?;
-            print_end(rt, end)?;
+        Carried::Unsurveyed(fault) => {
+            println!(rt; "not surveyed: {fault}")?;
+            Ok(())
         }
-        Carried::DeviceFault => println!(rt; "device fault")?,
-        Carried::StoreFault => println!(rt; "store fault")?,
+        Carried::Closed => put_line(rt, "closed"),
+        Carried::Unclosed => put_line(rt, "not closed"),
+        Carried::Reached => put_line(rt, "reached"),
+        Carried::Mismatch(found) => put_mismatch(rt, found),
+        Carried::CallFailed { number, call, end } => put_failed(rt, number, call, end),
+        Carried::DeviceFault => put_line(rt, "device fault"),
+        Carried::StoreFault => put_line(rt, "store fault"),
     }
-    Ok(())
 }

@@ -3,36 +3,60 @@
 use crate::apart::step_apart;
 use crate::carry::carry;
 use crate::job::Job;
-use crate::report::print;
+use crate::report::{print, put_line};
 use crate::stops::stop_all;
-use anyhow::{Context, Result, bail};
+use anyhow::{Context, Result, bail, ensure};
 use bench_model::{MemoryBench, Pick};
 use flash_session::Goal;
 use row_text::all_bytes;
+use std::alloc::Global;
 
 /// Carries a job on, and prints how.
-fn carried(rt: &HostRuntime, bench: &mut MemoryBench, goal: Goal) -> Result<()> {
-    print(rt, carry(rt.alloc(), bench, goal))
+fn carried(rt: &HostRuntime, bench: &mut MemoryBench, goal: Goal) -> Result<bool> {
+    print(rt, carry(rt.alloc(), bench, goal))?;
+    Ok(true)
+}
+
+/// Which pair a stop leaves, by its word.
+fn pick_of(word: &str) -> Result<Pick> {
+    Ok(match word {
+        "written" => Pick::AsWritten,
+        "old" => Pick::AsOld,
+        _ => Pick::Filled {
+            value: u8::from_str_radix(word, 16)?,
+        },
+    })
+}
+
+/// Whether a bench has the cells of some words.
+fn has_cells(alloc: Global, bench: &MemoryBench, words: &[&str]) -> Result<bool> {
+    let cells = all_bytes(alloc, words)?;
+    Ok(bench.cells() == cells.as_slice())
+}
+
+/// Whether the file of a bench is as a word says.
+fn has_file(bench: &MemoryBench, word: &str) -> Result<bool> {
+    let gate = match word {
+        "open" => 0xA5u8,
+        "closed" => 0x00,
+        _ => bail!("no such file"),
+    };
+    Ok(bench.file().first() == Some(&gate))
 }
 
 /// Does a step on a bench. Whether it finds what it says.
 fn holds(rt: &HostRuntime, bench: &mut MemoryBench, words: &[&str]) -> Result<bool> {
     match words {
-        ["new"] => carried(rt, bench, Goal::New)?,
-        ["old"] => carried(rt, bench, Goal::Old)?,
-        ["stop", "written"] => bench.power_loss(Pick::AsWritten),
-        ["stop", "old"] => bench.power_loss(Pick::AsOld),
-        ["stop", value] => bench.power_loss(Pick::Filled {
-            value: u8::from_str_radix(value, 16)?,
-        }),
-        ["cells", words @ ..] => {
-            return Ok(bench.cells() == all_bytes(rt.alloc(), words)?.as_slice());
+        ["new"] => carried(rt, bench, Goal::New),
+        ["old"] => carried(rt, bench, Goal::Old),
+        ["cells", words @ ..] => has_cells(rt.alloc(), bench, words),
+        ["file", word] => has_file(bench, word),
+        ["stop", word] => {
+            bench.power_loss(pick_of(word)?);
+            Ok(true)
         }
-        ["file", "open"] => return Ok(bench.file().first() == Some(&0xA5)),
-        ["file", "closed"] => return Ok(bench.file().first() == Some(&0x00)),
         _ => bail!("no step"),
     }
-    Ok(true)
 }
 
 /// A session over three benches with the job of some words.
@@ -60,17 +84,20 @@ fn step(rt: &HostRuntime, bench: Option<&mut MemoryBench>, words: &[&str]) -> Re
     }
 }
 
+/// Sees that the step of a line finds what it says.
+fn step_holds(rt: &HostRuntime, bench: Option<&mut MemoryBench>, line: &str) -> Result<()> {
+    let words = line.split_whitespace().collect::<Vec<&str>>(rt.alloc())?;
+    let holds = step(rt, bench, &words)?;
+    ensure!(holds, "{line}");
+    Ok(())
+}
+
 /// Does a line: prints the name of a case, or sees that its step finds what it says.
 fn line_holds(rt: &HostRuntime, bench: Option<&mut MemoryBench>, line: &str) -> Result<()> {
-    if let Some(name) = line.strip_prefix("case ") {
-        println!(rt; "{name}")?;
-        return Ok(());
+    match line.strip_prefix("case ") {
+        Some(name) => put_line(rt, name),
+        None => step_holds(rt, bench, line),
     }
-    let words = line.split_whitespace().collect::<Vec<&str>>(rt.alloc())?;
-    if !step(rt, bench, &words)? {
-        bail!("{line}");
-    }
-    Ok(())
 }
 
 /// Goes through the lines of a bench.
@@ -81,15 +108,20 @@ fn go_through(rt: &HostRuntime, bench: &mut MemoryBench, text: &str) -> Result<(
     Ok(())
 }
 
+/// The bench of a job, of which the cell call of this number fails.
+fn failing(rt: &HostRuntime, fail: &str, words: &[&str]) -> Result<MemoryBench> {
+    let fail = fail.parse::<u64>()?;
+    let job = Job::read(rt, words)?;
+    job.bench(rt, fail)
+}
+
 /// The bench of the words behind `job`.
 fn bench_of(rt: &HostRuntime, line: &str) -> Result<MemoryBench> {
     let words = line.split_whitespace().collect::<Vec<&str>>(rt.alloc())?;
-    let [fail, job @ ..] = words.as_slice() else {
-        bail!("{line}: no job");
-    };
-    let fail = fail.parse::<u64>()?;
-    let job = Job::read(rt, job)?;
-    job.bench(rt, fail)
+    match words.as_slice() {
+        [fail, job @ ..] => failing(rt, fail, job),
+        _ => bail!("{line}: no job"),
+    }
 }
 
 /// Makes the bench that a text names first, and goes through its other lines.

@@ -11,48 +11,60 @@ use std::alloc::Global;
 const BASE: u32 = 0x0800_0000;
 
 /// The bench of a session that is stopped after so many calls, and whether the session came to its end before the stop.
-fn stopped(rt: &HostRuntime, job: &Job, calls: u64, pick: Pick) -> Result<(MemoryBench, bool)> {
-    let mut bench = StopBench::new(job.bench(rt, 0)?, calls);
-    let first = carry(rt.alloc(), &mut bench, Goal::New);
+fn stopped(alloc: Global, bench: MemoryBench, calls: u64, pick: Pick) -> (MemoryBench, bool) {
+    let mut bench = StopBench::new(bench, calls);
+    let first = carry(alloc, &mut bench, Goal::New);
     let mut bench = bench.into_inner();
     bench.power_loss(pick);
-    Ok((bench, first == Carried::Closed))
+    (bench, matches!(first, Carried::Closed))
 }
 
-/// Carries on the job that a stop left, and looks at the cells. Whether its file was open.
-fn carried_on(alloc: Global, bench: &mut MemoryBench, goal: &[u8], calls: u64) -> Result<bool> {
+/// Carries on the job that a stop after so many calls left, and looks at the cells and the file. The session had `ended` or not.
+fn carry_on(
+    alloc: Global,
+    bench: &mut MemoryBench,
+    goal: &[u8],
+    calls: u64,
+    ended: bool,
+) -> Result<()> {
     let open = bench.file().first() == Some(&0xA5);
-    if open && carry(alloc, bench, Goal::New) != Carried::Closed {
-        bail!("{calls} calls: the job was not carried on");
-    }
-    if bench.cells() != goal {
-        bail!("{calls} calls: other cells");
-    }
-    Ok(open)
+    let wrong = if open && !matches!(carry(alloc, bench, Goal::New), Carried::Closed) {
+        "the job was not carried on"
+    } else if bench.cells() != goal {
+        "other cells"
+    } else if ended && open {
+        "the job was closed, and its file is open"
+    } else {
+        return Ok(());
+    };
+    bail!("{calls} calls: {wrong}");
 }
 
 /// Stops a session after so many calls, and carries the job on. Whether the session came to its end before the stop.
 fn ends(rt: &HostRuntime, job: &Job, goal: &[u8], calls: u64, pick: Pick) -> Result<bool> {
-    let (mut bench, ended) = stopped(rt, job, calls, pick)?;
-    let open = carried_on(rt.alloc(), &mut bench, goal, calls)?;
-    if ended && open {
-        bail!("{calls} calls: the job was closed, and its file is open");
-    }
+    let (mut bench, ended) = stopped(rt.alloc(), job.bench(rt, 0)?, calls, pick);
+    carry_on(rt.alloc(), &mut bench, goal, calls, ended)?;
     Ok(ended)
+}
+
+/// At how many calls sessions are stopped before they come to their end. It stops them at each of these, with each pick.
+fn count_stops(rt: &HostRuntime, job: &Job, goal: &[u8]) -> Result<u64> {
+    for calls in 0..100_000u64 {
+        let mut ended = true;
+        for pick in [Pick::AsWritten, Pick::AsOld, Pick::Filled { value: 0x5A }] {
+            ended = ends(rt, job, goal, calls, pick)? && ended;
+        }
+        if ended {
+            return Ok(calls);
+        }
+    }
+    bail!("no end");
 }
 
 /// Stops sessions at each of their calls, and prints how many there were.
 pub fn stop_all(rt: &HostRuntime, job: &Job) -> Result<()> {
     let goal = job.goal(rt, BASE)?;
-    for calls in 0..100_000u64 {
-        let mut ended = true;
-        for pick in [Pick::AsWritten, Pick::AsOld, Pick::Filled { value: 0x5A }] {
-            ended = ends(rt, job, &goal, calls, pick)? && ended;
-        }
-        if ended {
-            println!(rt; "{calls} stops")?;
-            return Ok(());
-        }
-    }
-    bail!("no end");
+    let stops = count_stops(rt, job, &goal)?;
+    println!(rt; "{stops} stops")?;
+    Ok(())
 }

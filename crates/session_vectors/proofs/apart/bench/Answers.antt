@@ -1,4 +1,4 @@
--- `bench`: its clauses `file`, `cells` and `idle`.
+-- `bench`: that it keeps its contract.
 use Rattle.std.proofs.Common.{ap}
 use Rattle.bench_model.specs.Shown.{Memory}
 use Rattle.session_vectors.proofs.apart.bench.Goals as goal
@@ -11,3 +11,6 @@ returns-clause-cells c = ap (λ (m : Memory). m.cells) c.in_ok-bench.ensures.mad
 
 pub returns-clause-idle : goal.returns-clause-idle
 returns-clause-idle c = ap (λ (m : Memory). m.operation) c.in_ok-bench.ensures.made
+
+pub returns-clause-only : goal.returns-clause-only
+returns-clause-only c = c.in_ok-bench.ensures.rest.file
