@@ -1,7 +1,7 @@
 //! Questions about the texts of boards.
 
 use crate::piece::Piece::{Hex2, Hex8, Number, Text};
-use crate::piece::put;
+use crate::piece::{put, put_fault};
 use anyhow::{Context, Result};
 use board_file::{Board, ControllerKind, QuietRange, Region, SectorRun, read_board};
 use std::alloc::Global;
@@ -10,10 +10,7 @@ use std::alloc::Global;
 fn put_answer(rt: &HostRuntime, text: &[u8]) -> Result<()> {
     match read_board(rt.alloc(), text) {
         Ok(board) => put_board(rt, &board),
-        Err(fault) => {
-            println!(rt; "{fault}")?;
-            Ok(())
-        }
+        Err(fault) => put_fault(rt, fault),
     }
 }
 
@@ -62,7 +59,7 @@ fn put_region(rt: &HostRuntime, region: &Region) -> Result<()> {
 /// Prints runs of sectors.
 fn put_runs(rt: &HostRuntime, runs: &[SectorRun]) -> Result<()> {
     for run in runs {
-        print!(rt; " {}x{}", run.count, run.size)?;
+        put(rt, &[Number(" ", run.count), Number("x", run.size)])?;
     }
     Ok(())
 }
@@ -70,7 +67,7 @@ fn put_runs(rt: &HostRuntime, runs: &[SectorRun]) -> Result<()> {
 /// Prints a kind of controller that isn't FC1.
 fn put_kind(rt: &HostRuntime, kind: ControllerKind) -> Result<()> {
     if kind == ControllerKind::Fpec {
-        print!(rt; " fpec")?;
+        return put(rt, &[Text(" fpec")]);
     }
     Ok(())
 }
@@ -78,7 +75,7 @@ fn put_kind(rt: &HostRuntime, kind: ControllerKind) -> Result<()> {
 /// Prints quiet ranges.
 fn put_quiet(rt: &HostRuntime, ranges: &[QuietRange]) -> Result<()> {
     for range in ranges {
-        print!(rt; " quiet {:08X} {}", range.base, range.size)?;
+        put(rt, &[Hex8(" quiet ", range.base), Number(" ", range.size)])?;
     }
     Ok(())
 }
@@ -119,17 +116,21 @@ fn changed(alloc: Global, base: &str, key: &str, value: &str) -> Result<String> 
     Ok(text)
 }
 
+/// Answers a text, behind what it is called.
+fn answer_named<'a>(rt: &HostRuntime, name: &'a str, end: &'a str, text: &str) -> Result<()> {
+    put(rt, &[Text(name), Text(end)])?;
+    put_answer(rt, text.as_bytes())
+}
+
 /// Answers a board in which one key has another value: `KEY = VALUE`. Where the value is empty, the key is left out. A key of
 /// the region is told with `region.` before it.
 pub fn answer_change(rt: &HostRuntime, base: &str, change: &str) -> Result<()> {
     let (key, value) = change.split_once(" =").context("KEY = VALUE is wanted")?;
     let text = changed(rt.alloc(), base, key, value)?;
-    print!(rt; "{change}: ")?;
-    put_answer(rt, text.as_bytes())
+    answer_named(rt, change, ": ", text.as_str())
 }
 
 /// Answers a text.
 pub fn answer_text(rt: &HostRuntime, text: &str) -> Result<()> {
-    print!(rt; "{text}----: ")?;
-    put_answer(rt, text.as_bytes())
+    answer_named(rt, text, "----: ", text)
 }

@@ -1,9 +1,9 @@
 //! Questions about ELF files.
 
-use crate::piece::Piece::{Hex5, Hex6, Hex8, Number, Text};
-use crate::piece::put;
+use crate::piece::Piece::{Count, Hex2, Hex5, Hex6, Hex8, Number, Text};
+use crate::piece::{put, put_fault};
 use anyhow::{Result, bail};
-use elf32::{Elf, ElfFault, Segment};
+use elf32::{Elf, ElfFault, Section, Segment, Symbol};
 
 /// Prints what a file says: `read`, `section NAME TYPE`, `bytes NAME TYPE`, `symbol NAME` or `segment - INDEX`.
 pub fn answer(rt: &HostRuntime, bytes: &[u8], what: &str, name: &str, number: u32) -> Result<()> {
@@ -25,37 +25,41 @@ fn put_answer(rt: &HostRuntime, elf: &Elf, what: &str, name: &str, number: u32) 
     }
 }
 
-/// Prints why a file is refused, or a part of it.
-fn put_fault(rt: &HostRuntime, fault: ElfFault) -> Result<()> {
-    println!(rt; "{fault}")?;
-    Ok(())
-}
-
 /// Prints how many segments there are.
 fn read(rt: &HostRuntime, elf: &Elf) -> Result<()> {
-    println!(rt; "{} segments", elf.segments())?;
-    Ok(())
+    put(rt, &[Count("", elf.segments()), Text(" segments\n")])
+}
+
+/// Prints that there is nothing.
+fn put_none(rt: &HostRuntime) -> Result<()> {
+    put(rt, &[Text("none\n")])
 }
 
 /// Prints the address, the offset and the size of a section.
 fn section(rt: &HostRuntime, elf: &Elf, name: &str, kind: u32) -> Result<()> {
     match elf.section(name.as_bytes(), kind) {
-        Some(found) => println!(rt;
-            "{:08X} {:06X} {:06X}",
-            found.addr, found.offset, found.size
-        )?,
-        None => println!(rt; "none")?,
+        Some(found) => put_section(rt, &found),
+        None => put_none(rt),
     }
-    Ok(())
+}
+
+/// Prints the fields of a section's header.
+fn put_section(rt: &HostRuntime, found: &Section) -> Result<()> {
+    let pieces = [
+        Hex8("", found.addr),
+        Hex6(" ", found.offset),
+        Hex6(" ", found.size),
+        Text("\n"),
+    ];
+    put(rt, &pieces)
 }
 
 /// Prints bytes in hexadecimal digits.
 fn put_bytes(rt: &HostRuntime, bytes: &[u8]) -> Result<()> {
     for byte in bytes {
-        print!(rt; "{byte:02X}")?;
+        put(rt, &[Hex2("", *byte)])?;
     }
-    println!(rt; " {} bytes", bytes.len())?;
-    Ok(())
+    put(rt, &[Count(" ", bytes.len()), Text(" bytes\n")])
 }
 
 /// Prints bytes, or why there are none.
@@ -70,28 +74,29 @@ fn put_found(rt: &HostRuntime, answer: Result<&[u8], ElfFault>) -> Result<()> {
 fn section_bytes(rt: &HostRuntime, elf: &Elf, name: &str, kind: u32) -> Result<()> {
     match elf.section(name.as_bytes(), kind) {
         Some(found) => put_found(rt, elf.section_bytes(&found)),
-        None => {
-            println!(rt; "none")?;
-            Ok(())
-        }
+        None => put_none(rt),
     }
 }
 
 /// Prints the value and the size of a symbol.
 fn symbol(rt: &HostRuntime, elf: &Elf, name: &str) -> Result<()> {
     match elf.symbol(name.as_bytes()) {
-        Ok(Some(found)) => println!(rt; "{:08X} {}", found.value, found.size)?,
-        Ok(None) => println!(rt; "none")?,
-        Err(fault) => println!(rt; "{fault}")?,
+        Ok(Some(found)) => put_symbol(rt, found),
+        Ok(None) => put_none(rt),
+        Err(fault) => put_fault(rt, fault),
     }
-    Ok(())
+}
+
+/// Prints the value and the size of a symbol that is found.
+fn put_symbol(rt: &HostRuntime, found: Symbol) -> Result<()> {
+    let pieces = [Hex8("", found.value), Number(" ", found.size), Text("\n")];
+    put(rt, &pieces)
 }
 
 /// Prints the fields of a program header, and its bytes in the file.
 fn segment(rt: &HostRuntime, elf: &Elf, index: usize) -> Result<()> {
     if index >= elf.segments() {
-        println!(rt; "none")?;
-        return Ok(());
+        return put_none(rt);
     }
     put_segment(rt, &elf.segment(index))?;
     put_found(rt, elf.segment_bytes(index))

@@ -1,7 +1,7 @@
 //! Questions about FLM files.
 
 use crate::piece::Piece::{Count, Hex2, Hex4, Hex8, Number, Place, Text};
-use crate::piece::put;
+use crate::piece::{put, put_fault};
 use anyhow::Result;
 use flm_descriptor::{Algorithm, Device, Entries, read_flm};
 
@@ -9,10 +9,7 @@ use flm_descriptor::{Algorithm, Device, Entries, read_flm};
 pub fn answer(rt: &HostRuntime, bytes: &[u8]) -> Result<()> {
     match read_flm(rt.alloc(), bytes) {
         Ok(algorithm) => put_copy(rt, &algorithm),
-        Err(fault) => {
-            println!(rt; "{fault}")?;
-            Ok(())
-        }
+        Err(fault) => put_fault(rt, fault),
     }
 }
 

@@ -2,6 +2,8 @@
 //! `refused` is a table: each of its lines is what it shows, and then a text by itself, where `|` stands for a line feed; the fault of each is
 //! printed.
 
+use crate::piece::Piece::{Count, Hex8, Text};
+use crate::piece::{put, put_fault};
 use anyhow::{Context, Result, bail};
 use byte_map::ByteMap;
 use image_hex::read_hex;
@@ -29,13 +31,18 @@ fn text_of(alloc: Global, line: &str) -> Result<Vec<u8>> {
     Ok(text)
 }
 
-/// Prints the fault of each text of a table, behind what it shows.
+/// Prints the fault of a table's text, behind what it shows.
+fn print_fault(rt: &HostRuntime, name: &str, line: &str) -> Result<()> {
+    let (shows, text) = line.split_once("; ").context("what it shows is wanted")?;
+    print!(rt; "{name}: {shows}: ")?;
+    let text = text_of(rt.alloc(), text)?;
+    print_answer(rt, name, &text)
+}
+
+/// Prints the fault of each text of a table.
 fn print_faults(rt: &HostRuntime, name: &str, table: &str) -> Result<()> {
     for line in table.lines() {
-        let (shows, text) = line.split_once("; ").context("what it shows is wanted")?;
-        print!(rt; "{name}: {shows}: ")?;
-        let text = text_of(rt.alloc(), text)?;
-        print_answer(rt, name, &text)?;
+        print_fault(rt, name, line)?;
     }
     Ok(())
 }
@@ -49,28 +56,40 @@ fn runs_of(alloc: Global, name: &str, text: &[u8]) -> Result<usize> {
 /// Prints how many runs the image of a text has, or why there is none.
 fn print_answer(rt: &HostRuntime, name: &str, text: &[u8]) -> Result<()> {
     match runs_of(rt.alloc(), name, text) {
-        Ok(runs) => println!(rt; "{runs} runs")?,
-        Err(fault) => println!(rt; "{fault}")?,
+        Ok(runs) => put(rt, &[Count("", runs), Text(" runs\n")]),
+        Err(fault) => put_fault(rt, fault),
     }
-    Ok(())
 }
 
 /// Prints an image's length and place, and whether its bytes are those that are wanted.
-fn print_image(rt: &HostRuntime, name: &str, map: &ByteMap, wanted: &[u8]) -> Result<()> {
+fn print_image<'a>(rt: &HostRuntime, name: &'a str, map: &ByteMap, wanted: &[u8]) -> Result<()> {
     if map.runs() != 1 {
         bail!("{name}: not one run");
     }
     let (at, found) = map.run(0);
-    let same = if found == wanted { "same" } else { "other" };
-    println!(rt; "{name}: {} bytes from {at:08X}, {same}", found.len())?;
-    Ok(())
+    let pieces = [
+        Text(name),
+        Count(": ", found.len()),
+        Hex8(" bytes from ", at),
+        Text(if found == wanted {
+            ", same\n"
+        } else {
+            ", other\n"
+        }),
+    ];
+    put(rt, &pieces)
+}
+
+/// Compares an image's text.
+fn compare_text(rt: &HostRuntime, name: &str, text: &[u8], wanted: &[u8]) -> Result<()> {
+    let map = read_image(rt.alloc(), name, text)?;
+    print_image(rt, name, &map, wanted)
 }
 
 /// Compares an image's file.
 fn compare_one(rt: &HostRuntime, name: &str, wanted: &[u8]) -> Result<()> {
     let text = fs::read(rt, name)?;
-    let map = read_image(rt.alloc(), name, &text)?;
-    print_image(rt, name, &map, wanted)
+    compare_text(rt, name, &text, wanted)
 }
 
 /// Prints the faults of a file's table.
@@ -79,18 +98,23 @@ fn print_table(rt: &HostRuntime, name: &str) -> Result<()> {
     print_faults(rt, name, table.as_str())
 }
 
+/// Compares the files of images, and prints the faults of those that are tables.
+fn compare_each(rt: &HostRuntime, names: &[&str], wanted: &[u8]) -> Result<()> {
+    for name in names {
+        if name.starts_with("refused") {
+            print_table(rt, name)?;
+        } else {
+            compare_one(rt, name, wanted)?;
+        }
+    }
+    Ok(())
+}
+
 /// Reads the files of images, and compares each with the binary file that comes first.
 pub fn compare(rt: &HostRuntime, names: &[&str]) -> Result<()> {
     let [binary, names @ ..] = names else {
         bail!("BINARY IMAGE.. is wanted");
     };
     let wanted = fs::read(rt, *binary)?;
-    for name in names {
-        if name.starts_with("refused") {
-            print_table(rt, name)?;
-        } else {
-            compare_one(rt, name, &wanted)?;
-        }
-    }
-    Ok(())
+    compare_each(rt, names, &wanted)
 }

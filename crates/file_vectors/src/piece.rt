@@ -1,6 +1,7 @@
 //! Lines that are printed piece by piece.
 
 use anyhow::Result;
+use std::fmt::Display;
 
 /// A piece of a line: a text, or one with a number behind it. Numbers in hexadecimal digits have at least as many as the name says.
 #[derive(Clone, Copy)]
@@ -18,17 +19,18 @@ pub enum Piece<'a> {
 
 /// Prints a piece.
 fn put_piece(rt: &HostRuntime, piece: &Piece) -> Result<()> {
-    match piece {
-        Piece::Text(text) => print!(rt; "{text}")?,
-        Piece::Number(text, number) => print!(rt; "{text}{number}")?,
-        Piece::Count(text, number) => print!(rt; "{text}{number}")?,
-        Piece::Place(text, place) => print!(rt; "{text}{place:?}")?,
-        Piece::Hex2(text, number) => print!(rt; "{text}{number:02X}")?,
-        Piece::Hex4(text, number) => print!(rt; "{text}{number:04X}")?,
-        Piece::Hex5(text, number) => print!(rt; "{text}{number:05X}")?,
-        Piece::Hex6(text, number) => print!(rt; "{text}{number:06X}")?,
-        Piece::Hex8(text, number) => print!(rt; "{text}{number:08X}")?,
-    }
+    let printed = match piece {
+        Piece::Text(text) => print!(rt; "{text}"),
+        Piece::Number(text, number) => print!(rt; "{text}{number}"),
+        Piece::Count(text, number) => print!(rt; "{text}{number}"),
+        Piece::Place(text, place) => print!(rt; "{text}{place:?}"),
+        Piece::Hex2(text, number) => print!(rt; "{text}{number:02X}"),
+        Piece::Hex4(text, number) => print!(rt; "{text}{number:04X}"),
+        Piece::Hex5(text, number) => print!(rt; "{text}{number:05X}"),
+        Piece::Hex6(text, number) => print!(rt; "{text}{number:06X}"),
+        Piece::Hex8(text, number) => print!(rt; "{text}{number:08X}"),
+    };
+    printed?;
     Ok(())
 }
 
@@ -37,5 +39,11 @@ pub fn put(rt: &HostRuntime, pieces: &[Piece]) -> Result<()> {
     for piece in pieces {
         put_piece(rt, piece)?;
     }
+    Ok(())
+}
+
+/// Prints why something is refused, and then the line's end.
+pub fn put_fault<F: Display + Drop>(rt: &HostRuntime, fault: F) -> Result<()> {
+    println!(rt; "{fault}")?;
     Ok(())
 }

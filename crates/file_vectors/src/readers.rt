@@ -2,12 +2,14 @@
 
 use crate::digest::Digest;
 use anyhow::Result;
+use byte_map::ByteMap;
 use elf32::{Elf, ElfFault};
-use flm_descriptor::read_flm;
+use flm_descriptor::{Algorithm, read_flm};
 use image_hex::read_hex;
 use image_srec::read_srec;
-use job_text::{Class, class_of_file};
+use job_text::{Class, Job, class_of_file};
 use std::alloc::Global;
+use std::fmt::Display;
 
 /// A reader of files.
 #[derive(Clone, Copy)]
@@ -54,25 +56,29 @@ fn said(alloc: Global, thing: &str, digest: &Digest) -> Result<String> {
     Ok(format!(in alloc; "{thing} {:08X}", digest.value())?)
 }
 
+/// What tells of itself: a fault, or a word.
+fn told<D: Display + Drop>(alloc: Global, what: D) -> Result<String> {
+    Ok(format!(in alloc; "{what}")?)
+}
+
+/// An image that was read.
+fn said_by_image(alloc: Global, image: &ByteMap) -> Result<String> {
+    let mut digest = Digest::new();
+    digest.image(image);
+    said(alloc, "Image", &digest)
+}
+
 fn of_hex(alloc: Global, text: &[u8]) -> Result<String> {
     match read_hex(alloc, text) {
-        Ok(image) => {
-            let mut digest = Digest::new();
-            digest.image(&image);
-            said(alloc, "Image", &digest)
-        }
-        Err(fault) => Ok(format!(in alloc; "{fault}")?),
+        Ok(image) => said_by_image(alloc, &image),
+        Err(fault) => told(alloc, fault),
     }
 }
 
 fn of_srec(alloc: Global, text: &[u8]) -> Result<String> {
     match read_srec(alloc, text) {
-        Ok(image) => {
-            let mut digest = Digest::new();
-            digest.image(&image);
-            said(alloc, "Image", &digest)
-        }
-        Err(fault) => Ok(format!(in alloc; "{fault}")?),
+        Ok(image) => said_by_image(alloc, &image),
+        Err(fault) => told(alloc, fault),
     }
 }
 
@@ -93,18 +99,21 @@ fn of_elf(alloc: Global, file: &[u8]) -> Result<String> {
     };
     match digest {
         Ok(digest) => said(alloc, "Segments", &digest),
-        Err(fault) => Ok(format!(in alloc; "{fault}")?),
+        Err(fault) => told(alloc, fault),
     }
+}
+
+/// An algorithm that was read.
+fn said_by_algorithm(alloc: Global, algorithm: &Algorithm) -> Result<String> {
+    let mut digest = Digest::new();
+    digest.algorithm(algorithm);
+    said(alloc, "Algorithm", &digest)
 }
 
 fn of_flm(alloc: Global, file: &[u8]) -> Result<String> {
     match read_flm(alloc, file) {
-        Ok(algorithm) => {
-            let mut digest = Digest::new();
-            digest.algorithm(&algorithm);
-            said(alloc, "Algorithm", &digest)
-        }
-        Err(fault) => Ok(format!(in alloc; "{fault}")?),
+        Ok(algorithm) => said_by_algorithm(alloc, &algorithm),
+        Err(fault) => told(alloc, fault),
     }
 }
 
@@ -113,17 +122,20 @@ fn of_job(alloc: Global, file: &[u8]) -> Result<String> {
     of_class(alloc, &class, file.len())
 }
 
+/// A job that was read.
+fn said_by_job(alloc: Global, job: &Job) -> Result<String> {
+    let mut digest = Digest::new();
+    digest.job(job);
+    said(alloc, "Job", &digest)
+}
+
 /// What a job file of so many bytes is.
 fn of_class(alloc: Global, class: &Class, len: usize) -> Result<String> {
     match class {
-        Class::Free => Ok(format!(in alloc; "Free")?),
-        Class::Stands(job) => {
-            let mut digest = Digest::new();
-            digest.job(job);
-            said(alloc, "Job", &digest)
-        }
-        Class::Damaged(_) => Ok(format!(in alloc; "Damaged")?),
-        Class::NotAJob { at } if *at == len as u64 => { Ok(format!(in alloc; "NotAJob Length")?) }
+        Class::Free => told(alloc, "Free"),
+        Class::Stands(job) => said_by_job(alloc, job),
+        Class::Damaged(_) => told(alloc, "Damaged"),
+        Class::NotAJob { at } if *at == len as u64 => told(alloc, "NotAJob Length"),
         Class::NotAJob { at } => Ok(format!(in alloc; "NotAJob At{at}")?),
     }
 }

@@ -6,6 +6,17 @@ use anyhow::{Context, Result, bail};
 use std::alloc::Global;
 use std::fs;
 
+/// What the 16-bit field at a place becomes.
+const HALVES: [&[u8]; 4] = [b"\0\0", b"\x01\0", b"\0\x80", b"\xFF\xFF"];
+
+/// What the 32-bit field there becomes.
+const WORDS: [&[u8]; 4] = [
+    b"\0\0\0\0",
+    b"\x01\0\0\0",
+    b"\0\0\0\x80",
+    b"\xFF\xFF\xFF\xFF",
+];
+
 /// What is done with a file at a place of it.
 #[derive(Clone, Copy)]
 enum How {
@@ -54,6 +65,25 @@ fn changed(alloc: Global, file: &[u8], at: usize, bytes: &[u8]) -> Result<Vec<u8
     Ok(changed)
 }
 
+/// Counts the answer to a file.
+fn try_file(alloc: Global, tally: &mut Tally, reader: Reader, file: &[u8]) -> Result<()> {
+    let answer = reader.answer(alloc, file)?;
+    tally.note(alloc, answer.as_str())
+}
+
+/// Counts the answer to a file with other bytes at a place.
+fn try_change(
+    alloc: Global,
+    tally: &mut Tally,
+    reader: Reader,
+    file: &[u8],
+    at: usize,
+    bytes: &[u8],
+) -> Result<()> {
+    let input = changed(alloc, file, at, bytes)?;
+    try_file(alloc, tally, reader, &input)
+}
+
 /// Counts the answers to a file with each of these lists of bytes at a place.
 fn try_bytes(
     alloc: Global,
@@ -64,9 +94,7 @@ fn try_bytes(
     values: &[&[u8]],
 ) -> Result<()> {
     for bytes in values {
-        let input = changed(alloc, file, at, *bytes)?;
-        let answer = reader.answer(alloc, &input)?;
-        tally.note(alloc, answer.as_str())?;
+        try_change(alloc, tally, reader, file, at, bytes)?;
     }
     Ok(())
 }
@@ -81,51 +109,41 @@ fn try_place(
 ) -> Result<()> {
     let reader = sweep.reader;
     match sweep.how {
-        How::Prefix => {
-            let answer = reader.answer(alloc, &file[..at.min(file.len())])?;
-            tally.note(alloc, answer.as_str())
-        }
+        How::Prefix => try_file(alloc, tally, reader, &file[..at.min(file.len())]),
         How::Byte => {
             let old = file.get(at).copied().context("past the end")?;
-            let complement = [!old];
-            let values: [&[u8]; 3] = [&[0], &[0xFF], &complement];
-            try_bytes(alloc, tally, reader, file, at, &values)
+            try_bytes(alloc, tally, reader, file, at, &[b"\0", b"\xFF", &[!old]])
         }
-        How::Char => {
-            let values: [&[u8]; 3] = [b"0", b"F", b"\n"];
-            try_bytes(alloc, tally, reader, file, at, &values)
-        }
-        How::Half => {
-            let values: [&[u8]; 4] = [&[0, 0], &[1, 0], &[0, 0x80], &[0xFF, 0xFF]];
-            try_bytes(alloc, tally, reader, file, at, &values)
-        }
-        How::Word => {
-            let values: [&[u8]; 4] = [
-                &[0, 0, 0, 0],
-                &[1, 0, 0, 0],
-                &[0, 0, 0, 0x80],
-                &[0xFF, 0xFF, 0xFF, 0xFF],
-            ];
-            try_bytes(alloc, tally, reader, file, at, &values)
-        }
+        How::Char => try_bytes(alloc, tally, reader, file, at, &[b"0", b"F", b"\n"]),
+        How::Half => try_bytes(alloc, tally, reader, file, at, &HALVES),
+        How::Word => try_bytes(alloc, tally, reader, file, at, &WORDS),
     }
 }
 
 /// Counts the answers at each place.
-fn try_places(alloc: Global, sweep: &Sweep, file: &[u8]) -> Result<Tally> {
-    let mut tally = Tally::new(alloc);
+fn try_places(alloc: Global, tally: &mut Tally, sweep: &Sweep, file: &[u8]) -> Result<()> {
     for at in (sweep.from..sweep.to).step_by(sweep.step.max(1)) {
-        try_place(alloc, &mut tally, sweep, file, at)?;
+        try_place(alloc, tally, sweep, file, at)?;
     }
-    Ok(tally)
+    Ok(())
+}
+
+/// Goes through a sweep of a file, and prints what came of it.
+fn put_sweep(rt: &HostRuntime, sweep: &Sweep, file: &[u8]) -> Result<()> {
+    let mut tally = Tally::new(rt.alloc());
+    try_places(rt.alloc(), &mut tally, sweep, file)?;
+    tally.put(rt)
+}
+
+/// Goes through a sweep of the file of that name.
+fn put_sweep_of(rt: &HostRuntime, sweep: &Sweep, name: &str) -> Result<()> {
+    let file = fs::read(rt, name)?;
+    put_sweep(rt, sweep, &file)
 }
 
 /// Goes through a sweep: `READER HOW FROM TO STEP FILE`.
-fn go(rt: &HostRuntime, words: &str) -> Result<()> {
-    let words = words
-        .split_ascii_whitespace()
-        .collect::<Vec<&str>>(rt.alloc())?;
-    let [reader, how, from, to, step, name] = words.as_slice() else {
+fn go(rt: &HostRuntime, words: &[&str]) -> Result<()> {
+    let [reader, how, from, to, step, name] = words else {
         bail!("READER HOW FROM TO STEP FILE is wanted");
     };
     let sweep = Sweep {
@@ -135,17 +153,29 @@ fn go(rt: &HostRuntime, words: &str) -> Result<()> {
         to: to.parse::<usize>()?,
         step: step.parse::<usize>()?,
     };
-    let file = fs::read(rt, *name)?;
-    try_places(rt.alloc(), &sweep, &file)?.put(rt)
+    put_sweep_of(rt, &sweep, name)
 }
 
-/// Goes through the sweeps of a list, each after what it shows.
-pub fn go_through(rt: &HostRuntime) -> Result<()> {
-    let sweeps = fs::read_to_string(rt, "sweeps.txt")?;
+/// Goes through a sweep, after what it shows.
+fn go_line(rt: &HostRuntime, line: &str) -> Result<()> {
+    println!(rt; "{line}")?;
+    let (_shows, words) = line.split_once("; ").context("what it shows is wanted")?;
+    let words = words
+        .split_ascii_whitespace()
+        .collect::<Vec<&str>>(rt.alloc())?;
+    go(rt, &words)
+}
+
+/// Goes through the sweeps of a text.
+fn go_lines(rt: &HostRuntime, sweeps: &str) -> Result<()> {
     for line in sweeps.lines() {
-        println!(rt; "{line}")?;
-        let (_shows, words) = line.split_once("; ").context("what it shows is wanted")?;
-        go(rt, words)?;
+        go_line(rt, line)?;
     }
     Ok(())
+}
+
+/// Goes through the sweeps of a list.
+pub fn go_through(rt: &HostRuntime) -> Result<()> {
+    let sweeps = fs::read_to_string(rt, "sweeps.txt")?;
+    go_lines(rt, sweeps.as_str())
 }

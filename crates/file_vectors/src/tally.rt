@@ -1,6 +1,8 @@
 //! Answers that are counted.
 
 use crate::digest::Digest;
+use crate::piece::Piece::{Hex8, Text};
+use crate::piece::put;
 use anyhow::Result;
 use std::alloc::Global;
 
@@ -68,7 +70,6 @@ impl Tally {
         for kind in self.kinds.iter() {
             println!(rt; "{} {}", kind.name, kind.count)?;
         }
-        println!(rt; "digest {:08X}", self.digest.value())?;
-        Ok(())
+        put(rt, &[Hex8("digest ", self.digest.value()), Text("\n")])
     }
 }

@@ -1,39 +1,29 @@
 //! Texts by hand, by the rules of the format.
 
+use crate::expect::{expect, expect_read};
 use image_hex::{HexFault, HexKind, read_hex};
-use std::test::Fail;
 
 /// Addresses behind a segment wrap within its 64 KiB.
 #[test]
-fn a_segment_wraps(rt: HostRuntime) -> Result<(), Fail> {
-    let map = read_hex(
-        rt.alloc(),
-        b":020000021000EC\n:04FFFE0001020304F5\n:00000001FF\n",
-    )?;
-    assert_eq!(rt; map.runs(), 2);
-    for (at, byte) in [(0x1FFFE, 1), (0x1FFFF, 2), (0x10000, 3), (0x10001, 4)] {
-        assert!(rt; map.get(at) == Some(byte), "at {at:X}");
-    }
-    Ok(())
+fn a_segment_wraps(rt: HostRuntime) {
+    let text = b":020000021000EC\n:04FFFE0001020304F5\n:00000001FF\n";
+    let bytes = [(0x1FFFE, 1), (0x1FFFF, 2), (0x10000, 3), (0x10001, 4)];
+    expect_read(&rt, read_hex(rt.alloc(), text), 2, &bytes);
 }
 
 /// Bases replace one another, addresses go on modulo 2^32, lines may be blank or end in blanks and CR LF, digits have either
 /// case, equal bytes may be said twice, start addresses are ignored, and what follows the end record is left unread.
 #[test]
-fn bases_blanks_and_what_is_ignored(rt: HostRuntime) -> Result<(), Fail> {
+fn bases_blanks_and_what_is_ignored(rt: HostRuntime) {
     let text =
         b"\r\n:0100000055AA \t\r\n:020000040800F2\r\n:0100000055aa\n\n:04000003000000c039\n:04000005080000C12E\n:020000021000EC\n:01FFFF00669B\n:02000004FFFFFC\n:02FFFF00775534\n:00000001FF\nhello";
-    let map = read_hex(rt.alloc(), text)?;
-    assert_eq!(rt; map.runs(), 4);
-    for (at, byte) in [
+    let bytes = [
         (0, 0x55),
         (0x0800_0000, 0x55),
         (0x1FFFF, 0x66),
         (0xFFFF_FFFF, 0x77),
-    ] {
-        assert!(rt; map.get(at) == Some(byte), "at {at:X}");
-    }
-    Ok(())
+    ];
+    expect_read(&rt, read_hex(rt.alloc(), text), 4, &bytes);
 }
 
 /// Each refusal, at its line.
@@ -63,10 +53,9 @@ fn each_fault_at_its_line(rt: HostRuntime) {
         ),
         (b":0100000055AA\n\n", 2, HexKind::NoEnd),
     ];
-    for (text, line, kind) in cases {
-        assert!(rt;
-            read_hex(rt.alloc(), text).err() == Some(HexFault { line, kind }),
-            "line {line}"
-        );
+    for (text, line, kind) in &cases {
+        let (line, kind) = (*line, *kind);
+        let fault = read_hex(rt.alloc(), text).err();
+        expect(&rt, fault, Some(HexFault { line, kind }));
     }
 }

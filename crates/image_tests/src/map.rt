@@ -1,132 +1,51 @@
 //! Maps laid in every order.
 
+use crate::expect::{Piece, expect, expect_map, expect_runs, map_of};
 use byte_map::{ByteMap, LayFault};
 use std::process::Abort;
 use std::test::Fail;
 
-/// A piece to lay, or a run that is wanted: an address and bytes.
-type Piece<'a> = (u32, &'a [u8]);
+/// The three runs of a map that ends at the last address.
+const LOW: Piece<'static> = (0x12, &[2, 3]);
 
-/// Asserts that a map has these runs and no other.
-fn expect_runs(rt: &impl Abort, map: &ByteMap, wanted: &[Piece]) {
-    assert_eq!(rt; map.runs(), wanted.len());
-    for (index, run) in wanted.iter().enumerate() {
-        if index < map.runs() {
-            let (at, bytes) = map.run(index);
-            assert!(rt; at == run.0 && bytes == run.1, "run {index} at {at:X}");
-        }
-    }
-}
+const HIGH: Piece<'static> = (0x16, &[6, 7]);
 
-/// What one piece makes of a map of 02 03 at 0x12, 06 07 at 0x16, and EE FF at the two last addresses.
+const LAST: Piece<'static> = (0xFFFF_FFFE, &[0xEE, 0xFF]);
+
+/// A piece beside a run, between two, over both, in one, without bytes, at the first address, and at the last ones.
 #[test]
-fn pieces_join_the_runs_that_they_touch(rt: HostRuntime) -> Result<(), Fail> {
+fn pieces_join_the_runs_that_they_touch(rt: HostRuntime) {
     let cases: [(Piece, &[Piece]); 12] = [
-        (
-            (0x19, &[9]),
-            &[
-                (0x12, &[2, 3]),
-                (0x16, &[6, 7]),
-                (0x19, &[9]),
-                (0xFFFF_FFFE, &[0xEE, 0xFF]),
-            ],
-        ),
-        (
-            (0x18, &[8]),
-            &[
-                (0x12, &[2, 3]),
-                (0x16, &[6, 7, 8]),
-                (0xFFFF_FFFE, &[0xEE, 0xFF]),
-            ],
-        ),
-        (
-            (0x15, &[5]),
-            &[
-                (0x12, &[2, 3]),
-                (0x15, &[5, 6, 7]),
-                (0xFFFF_FFFE, &[0xEE, 0xFF]),
-            ],
-        ),
-        (
-            (0x14, &[4, 5]),
-            &[(0x12, &[2, 3, 4, 5, 6, 7]), (0xFFFF_FFFE, &[0xEE, 0xFF])],
-        ),
-        (
-            (0x13, &[3, 4, 5, 6]),
-            &[(0x12, &[2, 3, 4, 5, 6, 7]), (0xFFFF_FFFE, &[0xEE, 0xFF])],
-        ),
+        ((0x19, &[9]), &[LOW, HIGH, (0x19, &[9]), LAST]),
+        ((0x18, &[8]), &[LOW, (0x16, &[6, 7, 8]), LAST]),
+        ((0x15, &[5]), &[LOW, (0x15, &[5, 6, 7]), LAST]),
+        ((0x14, &[4, 5]), &[(0x12, &[2, 3, 4, 5, 6, 7]), LAST]),
+        ((0x13, &[3, 4, 5, 6]), &[(0x12, &[2, 3, 4, 5, 6, 7]), LAST]),
         (
             (0x11, &[1, 2, 3, 4, 5, 6, 7, 8]),
-            &[
-                (0x11, &[1, 2, 3, 4, 5, 6, 7, 8]),
-                (0xFFFF_FFFE, &[0xEE, 0xFF]),
-            ],
+            &[(0x11, &[1, 2, 3, 4, 5, 6, 7, 8]), LAST],
         ),
-        (
-            (0x12, &[2, 3, 4]),
-            &[
-                (0x12, &[2, 3, 4]),
-                (0x16, &[6, 7]),
-                (0xFFFF_FFFE, &[0xEE, 0xFF]),
-            ],
-        ),
-        (
-            (0x17, &[7]),
-            &[
-                (0x12, &[2, 3]),
-                (0x16, &[6, 7]),
-                (0xFFFF_FFFE, &[0xEE, 0xFF]),
-            ],
-        ),
-        (
-            (0x14, &[]),
-            &[
-                (0x12, &[2, 3]),
-                (0x16, &[6, 7]),
-                (0xFFFF_FFFE, &[0xEE, 0xFF]),
-            ],
-        ),
-        (
-            (0, &[0xA0]),
-            &[
-                (0, &[0xA0]),
-                (0x12, &[2, 3]),
-                (0x16, &[6, 7]),
-                (0xFFFF_FFFE, &[0xEE, 0xFF]),
-            ],
-        ),
+        ((0x12, &[2, 3, 4]), &[(0x12, &[2, 3, 4]), HIGH, LAST]),
+        ((0x17, &[7]), &[LOW, HIGH, LAST]),
+        ((0x14, &[]), &[LOW, HIGH, LAST]),
+        ((0, &[0xA0]), &[(0, &[0xA0]), LOW, HIGH, LAST]),
         (
             (0xFFFF_FFFD, &[0xDD, 0xEE, 0xFF]),
-            &[
-                (0x12, &[2, 3]),
-                (0x16, &[6, 7]),
-                (0xFFFF_FFFD, &[0xDD, 0xEE, 0xFF]),
-            ],
+            &[LOW, HIGH, (0xFFFF_FFFD, &[0xDD, 0xEE, 0xFF])],
         ),
-        (
-            (0xFFFF_FFFF, &[0xFF]),
-            &[
-                (0x12, &[2, 3]),
-                (0x16, &[6, 7]),
-                (0xFFFF_FFFE, &[0xEE, 0xFF]),
-            ],
-        ),
+        ((0xFFFF_FFFF, &[0xFF]), &[LOW, HIGH, LAST]),
     ];
-    for ((at, bytes), wanted) in cases {
-        let mut map = three_runs(&rt)?;
-        map.lay(at, bytes)?;
-        expect_runs(&rt, &map, wanted);
+    for (piece, wanted) in &cases {
+        let joined = map_of(rt.alloc(), &[LAST, HIGH, LOW, *piece]);
+        expect_map(&rt, joined, wanted);
     }
-    Ok(())
 }
 
-/// A map of three runs, the last of which ends at the last address.
-fn three_runs(rt: &HostRuntime) -> Result<ByteMap, LayFault> {
-    let mut map = ByteMap::new(rt.alloc());
-    map.lay(0xFFFF_FFFE, &[0xEE, 0xFF])?;
-    map.lay(0x16, &[6, 7])?;
-    map.lay(0x12, &[2, 3])?;
-    Ok(map)
+/// Asserts that a map of the three runs refuses a piece, and stays as it was.
+fn expect_refused(rt: &impl Abort, map: &mut ByteMap, piece: Piece, fault: LayFault) {
+    let (at, bytes) = piece;
+    expect(rt, map.lay(at, bytes), Err(fault));
+    expect_runs(rt, map, &[LOW, HIGH, LAST]);
 }
 
 /// Pieces that are refused leave the map as it was.
@@ -182,34 +101,29 @@ fn refused_pieces_change_nothing(rt: HostRuntime) -> Result<(), Fail> {
             },
         ),
     ];
-    let mut map = three_runs(&rt)?;
-    for ((at, bytes), fault) in cases {
-        assert!(rt; map.lay(at, bytes) == Err(fault), "at {at:X}");
-        expect_runs(
-            &rt,
-            &map,
-            &[
-                (0x12, &[2, 3]),
-                (0x16, &[6, 7]),
-                (0xFFFF_FFFE, &[0xEE, 0xFF]),
-            ],
-        );
+    let mut map = map_of(rt.alloc(), &[LAST, HIGH, LOW])?;
+    for (piece, fault) in &cases {
+        expect_refused(&rt, &mut map, *piece, *fault);
     }
     Ok(())
 }
 
-#[test]
-fn overlays_fill_no_hole(rt: HostRuntime) -> Result<(), Fail> {
-    let map = three_runs(&rt)?;
+/// Asserts what a map of the three runs lays over cells.
+fn expect_overlays(rt: &impl Abort, map: &ByteMap) {
     let mut cells = [0x55; 8];
     map.overlay_into(0x11, &mut cells);
-    assert!(rt; cells == [0x55, 2, 3, 0x55, 0x55, 6, 7, 0x55]);
     let mut cut = [0x55; 4];
     map.overlay_into(0x13, &mut cut);
-    assert!(rt; cut == [3, 0x55, 0x55, 6]);
     let mut last = [0x55; 3];
     map.overlay_into(0xFFFF_FFFD, &mut last);
-    assert!(rt; last == [0x55, 0xEE, 0xFF]);
+    expect(rt, cells, *b"\x55\x02\x03\x55\x55\x06\x07\x55");
+    expect(rt, (cut, last), (*b"\x03\x55\x55\x06", *b"\x55\xEE\xFF"));
+}
+
+#[test]
+fn overlays_fill_no_hole(rt: HostRuntime) -> Result<(), Fail> {
+    let map = map_of(rt.alloc(), &[LAST, HIGH, LOW])?;
+    expect_overlays(&rt, &map);
     Ok(())
 }
 
@@ -244,31 +158,41 @@ fn lay_plainly(cells: &mut [Option<u8>; COUNT], start: u8, bytes: &[u8]) -> Resu
     Ok(())
 }
 
+/// Lays a random piece, which may be past the end or in conflict, and asserts that the plain list answers the same.
+fn lay_piece(rt: &impl Abort, map: &mut ByteMap, cells: &mut [Option<u8>; COUNT], seed: u32) {
+    let start = (seed >> 26) as u8;
+    let len = (seed >> 12) as usize % 9;
+    let mut bytes = [0u8; 8];
+    for (index, byte) in bytes.iter_mut().enumerate() {
+        *byte = start.wrapping_add(index as u8);
+    }
+    if seed % 8192 < 512 {
+        bytes[len / 2] ^= 0x80;
+    }
+    let wanted = lay_plainly(cells, start, &bytes[..len]);
+    let laid = map.lay(BASE + u32::from(start), &bytes[..len]);
+    expect(rt, (seed, laid), (seed, wanted));
+}
+
+/// Lays random pieces into a map and a plain list of cells, asserts that they agree, and answers the last random number.
+fn lay_pieces(rt: &impl Abort, map: &mut ByteMap, seed: u32) -> u32 {
+    let mut seed = seed;
+    let mut cells = [None; COUNT];
+    for _ in 0..24 {
+        seed = next_random(seed);
+        lay_piece(rt, map, &mut cells, seed);
+    }
+    expect_cells(rt, map, &cells);
+    seed
+}
+
 /// Random pieces, a few of them past the end or in conflict, against a plain list of cells.
 #[test]
 fn random_pieces_agree_with_a_plain_list(rt: HostRuntime) {
     let mut seed = 7;
     for _ in 0..40 {
         let mut map = ByteMap::new(rt.alloc());
-        let mut cells = [None; COUNT];
-        for _ in 0..24 {
-            seed = next_random(seed);
-            let start = (seed >> 26) as u8;
-            let len = (seed >> 12) as usize % 9;
-            let mut bytes = [0u8; 8];
-            for (index, byte) in bytes.iter_mut().enumerate() {
-                *byte = start.wrapping_add(index as u8);
-            }
-            if seed % 8192 < 512 {
-                bytes[len / 2] ^= 0x80;
-            }
-            let wanted = lay_plainly(&mut cells, start, &bytes[..len]);
-            assert!(rt;
-                map.lay(BASE + u32::from(start), &bytes[..len]) == wanted,
-                "{seed}"
-            );
-        }
-        expect_cells(&rt, &map, &cells);
+        seed = lay_pieces(&rt, &mut map, seed);
     }
 }
 
@@ -278,8 +202,8 @@ fn expect_cells(rt: &impl Abort, map: &ByteMap, cells: &[Option<u8>; COUNT]) {
     map.overlay_into(BASE, &mut overlay);
     for (place, cell) in cells.iter().enumerate() {
         if place < COUNT {
-            assert!(rt; map.get(BASE + place as u32) == *cell, "{place}");
-            assert!(rt; overlay[place] == cell.unwrap_or(0xAA), "{place}");
+            let found = (map.get(BASE + place as u32), overlay[place]);
+            expect(rt, found, (*cell, cell.unwrap_or(0xAA)));
         }
     }
 }

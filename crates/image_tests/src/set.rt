@@ -2,37 +2,37 @@
 
 mod files;
 
-use byte_map::{ByteMap, LayFault};
+use crate::expect::{expect, expect_map, expect_runs, map_of};
+use byte_map::ByteMap;
 use elf32::{ElfFault, Field};
 use image_hex::{HexFault, HexKind};
 use image_set::{ImageFault, check, check_ranges, merge, read_image};
-use std::alloc::Global;
+use std::alloc::{AllocError, Global};
+use std::process::Abort;
 use std::test::Fail;
 
-/// The image of one piece.
-fn image_of(alloc: Global, at: u32, bytes: &[u8]) -> Result<ByteMap, LayFault> {
-    let mut map = ByteMap::new(alloc);
-    map.lay(at, bytes)?;
-    Ok(map)
+/// What checks of a program's image say, against 32 cells and against 31.
+fn checks(read: Result<ByteMap, ImageFault>) -> [Result<(), ImageFault>; 2] {
+    match read {
+        Ok(map) => [check(&map, 0x0800_0000, 32), check(&map, 0x0800_0000, 31)],
+        Err(fault) => [Err(fault), Err(fault)],
+    }
 }
 
 #[test]
-fn a_program_is_the_same_in_each_form(rt: HostRuntime) -> Result<(), Fail> {
-    let forms = [
+fn a_program_is_the_same_in_each_form(rt: HostRuntime) {
+    for (bytes, raw_at) in &[
         (files::elf(), None),
         (files::hex(), None),
         (files::srec(), None),
         (files::binary(), Some(0x0800_0000)),
-    ];
-    for (bytes, raw_at) in forms {
-        let map = read_image(rt.alloc(), bytes, raw_at)?;
-        assert!(rt; map.runs() == 1);
-        assert!(rt; map.run(0) == (0x0800_0000, files::binary()));
-        assert!(rt; check(&map, 0x0800_0000, 32) == Ok(()));
+    ] {
+        let read = read_image(rt.alloc(), bytes, *raw_at);
+        expect_map(&rt, read, &[(0x0800_0000, files::binary())]);
+        let checks = checks(read_image(rt.alloc(), bytes, *raw_at));
         let outside = ImageFault::OutsideDevice { at: 0x0800_001F };
-        assert!(rt; check(&map, 0x0800_0000, 31) == Err(outside));
+        expect(&rt, checks, [Ok(()), Err(outside)]);
     }
-    Ok(())
 }
 
 /// Files that are refused, or whose form is told by the first byte that is no blank.
@@ -54,11 +54,9 @@ fn forms_are_told_by_the_first_bytes(rt: HostRuntime) {
             ImageFault::PastEnd { at: 0xFFFF_FFFE },
         ),
     ];
-    for (bytes, raw_at, wanted) in cases {
-        match read_image(rt.alloc(), bytes, raw_at) {
-            Ok(_) => panic!(rt; "accepted"),
-            Err(fault) => assert!(rt; fault == wanted, "{fault}"),
-        }
+    for (bytes, raw_at, wanted) in &cases {
+        let fault = read_image(rt.alloc(), bytes, *raw_at).err();
+        expect(&rt, fault, Some(*wanted));
     }
 }
 
@@ -73,52 +71,62 @@ fn merge_text(alloc: Global, map: &mut ByteMap, text: &[u8]) -> Result<(), Image
     merge(alloc, map, image)
 }
 
-#[test]
-fn equal_bytes_are_merged(rt: HostRuntime) -> Result<(), Fail> {
-    let first = b":020000040800F2\n:0100000055AA\n:00000001FF\n";
-    let mut map = image_of_text(rt.alloc(), first)?;
+/// Asserts that equal bytes are merged into a map of one byte, and another byte in its place isn't.
+fn expect_merges(rt: &impl Abort, alloc: Global, map: &mut ByteMap) {
     let longer = b"\n:020000040800F2\n:02000000557732\n:00000001FF\n";
-    merge_text(rt.alloc(), &mut map, longer)?;
-    assert!(rt; map.runs() == 1);
-    assert!(rt; map.run(0) == (0x0800_0000, [0x55, 0x77].as_slice()));
+    expect(rt, merge_text(alloc, map, longer), Ok(()));
+    expect_runs(rt, map, &[(0x0800_0000, &[0x55, 0x77])]);
     let other = b":020000040800F2\n:010000006699\n:00000001FF\n";
     let conflict = ImageFault::Conflict {
         at: 0x0800_0000,
         old: 0x55,
         new: 0x66,
     };
-    assert!(rt; merge_text(rt.alloc(), &mut map, other) == Err(conflict));
-    assert!(rt; map.get(0x0800_0000) == Some(0x55));
+    expect(rt, merge_text(alloc, map, other), Err(conflict));
+    expect(rt, map.get(0x0800_0000), Some(0x55));
+}
+
+#[test]
+fn equal_bytes_are_merged(rt: HostRuntime) -> Result<(), Fail> {
+    let first = b":020000040800F2\n:0100000055AA\n:00000001FF\n";
+    let mut map = image_of_text(rt.alloc(), first)?;
+    expect_merges(&rt, rt.alloc(), &mut map);
     Ok(())
 }
 
-/// The image of three pieces.
-fn three_pieces(alloc: Global) -> Result<ByteMap, LayFault> {
-    let mut map = image_of(alloc, 0, &[9])?;
-    map.lay(0x11, &[2, 8, 7])?;
-    map.lay(0x20, &[4])?;
-    Ok(map)
+/// Merges three pieces into a map.
+fn merge_pieces(alloc: Global, map: &mut ByteMap) -> Result<(), ImageFault> {
+    let pieces = map_of(alloc, &[(0, &[9]), (0x11, &[2, 8, 7]), (0x20, &[4])])?;
+    merge(alloc, map, pieces)
 }
 
 /// A conflict in a later run, where the earlier runs were free: none of them is added.
 #[test]
 fn a_refused_union_adds_nothing(rt: HostRuntime) -> Result<(), Fail> {
-    let other = three_pieces(rt.alloc())?;
-    let mut map = image_of(rt.alloc(), 0x10, &[1, 2, 3])?;
+    let mut map = map_of(rt.alloc(), &[(0x10, &[1, 2, 3])])?;
+    let merged = merge_pieces(rt.alloc(), &mut map);
+    expect_runs(&rt, &map, &[(0x10, &[1, 2, 3])]);
     let conflict = ImageFault::Conflict {
         at: 0x12,
         old: 3,
         new: 8,
     };
-    assert!(rt; merge(rt.alloc(), &mut map, other) == Err(conflict));
-    assert!(rt; map.runs() == 1);
-    assert!(rt; map.run(0) == (0x10, [1, 2, 3].as_slice()));
+    expect(&rt, merged, Err(conflict));
     Ok(())
+}
+
+/// Why the program's ELF file is refused with another word at a place.
+fn fault_with(alloc: Global, at: usize, word: u32) -> Result<Option<ImageFault>, AllocError> {
+    let mut file = files::elf().to_vec(alloc)?;
+    for (cell, byte) in file.iter_mut().skip(at).zip(word.to_le_bytes()) {
+        *cell = byte;
+    }
+    Ok(read_image(alloc, &file, None).err())
 }
 
 /// The ELF file with a word of its second program header changed: what becomes of it.
 #[test]
-fn each_fault_of_a_segment(rt: HostRuntime) -> Result<(), Fail> {
+fn each_fault_of_a_segment(rt: HostRuntime) {
     let conflict = ImageFault::Conflict {
         at: 0x0800_0018,
         old: 0x04,
@@ -139,25 +147,20 @@ fn each_fault_of_a_segment(rt: HostRuntime) -> Result<(), Fail> {
         (84, 0x0000_0004, None),
         (104, 0xFFFF_FFFF, None),
     ];
-    for (at, word, wanted) in cases {
-        let mut file = files::elf().to_vec(rt.alloc())?;
-        assert!(rt; at + 4 <= file.len());
-        file[at..at + 4].copy_from_slice(&word.to_le_bytes());
-        let found = match read_image(rt.alloc(), &file, None) {
-            Ok(_) => None,
-            Err(fault) => Some(fault),
-        };
-        assert!(rt; found == wanted, "{at} {word:X}");
+    for (at, word, wanted) in &cases {
+        let found = fault_with(rt.alloc(), *at, *word);
+        expect(&rt, found, Ok(*wanted));
     }
-    Ok(())
 }
 
-#[test]
-fn images_lie_in_ranges(rt: HostRuntime) -> Result<(), Fail> {
-    let empty = image_of_text(rt.alloc(), b":00000001FF\n")?;
-    assert!(rt; check(&empty, 0, 0) == Err(ImageFault::EmptyImage));
-    let mut map = image_of(rt.alloc(), 0x10, &[1, 2, 3])?;
-    map.lay(0xFFFF_FFFF, &[4])?;
+/// What a check of a text's image says, against no cell.
+fn check_text(alloc: Global, text: &[u8]) -> Result<(), ImageFault> {
+    let map = image_of_text(alloc, text)?;
+    check(&map, 0, 0)
+}
+
+/// Asserts in which ranges three bytes lie with one at the last address, or which address lies outside them.
+fn expect_ranges(rt: &impl Abort, map: &ByteMap) {
     let cases: [(&[(u32, u32)], Option<u32>); 5] = [
         (&[], Some(0x10)),
         (&[(0xFFFF_FFFF, 1), (0x10, 2)], Some(0x12)),
@@ -165,13 +168,20 @@ fn images_lie_in_ranges(rt: HostRuntime) -> Result<(), Fail> {
         (&[(0x11, 2), (0xFFFF_0000, 0xFFFF_FFFF), (0x10, 1)], None),
         (&[(0x10, 0), (0x10, 3)], Some(0xFFFF_FFFF)),
     ];
-    for (ranges, outside) in cases {
-        let found = match check_ranges(&map, ranges) {
-            Ok(()) => None,
-            Err(fault) => Some(fault),
+    for (ranges, outside) in &cases {
+        let wanted = match outside {
+            Some(at) => Err(ImageFault::OutsideDevice { at: *at }),
+            None => Ok(()),
         };
-        let wanted = outside.map(|at| ImageFault::OutsideDevice { at });
-        assert!(rt; found == wanted);
+        expect(rt, check_ranges(map, ranges), wanted);
     }
+}
+
+#[test]
+fn images_lie_in_ranges(rt: HostRuntime) -> Result<(), Fail> {
+    let empty = check_text(rt.alloc(), b":00000001FF\n");
+    expect(&rt, empty, Err(ImageFault::EmptyImage));
+    let map = map_of(rt.alloc(), &[(0x10, &[1, 2, 3]), (0xFFFF_FFFF, &[4])])?;
+    expect_ranges(&rt, &map);
     Ok(())
 }

@@ -1,19 +1,15 @@
 //! Texts by hand, by the rules of the format.
 
+use crate::expect::{expect, expect_read};
 use image_srec::{SrecFault, SrecKind, read_srec};
-use std::test::Fail;
 
 /// Each width of address, digits of either case, blank lines, counts, a header, and what follows the end record.
 #[test]
-fn three_widths_of_addresses(rt: HostRuntime) -> Result<(), Fail> {
+fn three_widths_of_addresses(rt: HostRuntime) {
     let text =
         b"S0030000FC\r\nS107000001020304EE\n\nS5030001FB \t\nS20501000055a4\nS306FFFFFFFF6697\r\nS604000003F8\nS107000001020304EE\nS9030000FC\nhello";
-    let map = read_srec(rt.alloc(), text)?;
-    assert_eq!(rt; map.runs(), 3);
-    for (at, byte) in [(0, 1), (3, 4), (0x01_0000, 0x55), (0xFFFF_FFFF, 0x66)] {
-        assert!(rt; map.get(at) == Some(byte), "at {at:X}");
-    }
-    Ok(())
+    let bytes = [(0, 1), (3, 4), (0x01_0000, 0x55), (0xFFFF_FFFF, 0x66)];
+    expect_read(&rt, read_srec(rt.alloc(), text), 3, &bytes);
 }
 
 /// Each refusal, at its line.
@@ -53,10 +49,9 @@ fn each_fault_at_its_line(rt: HostRuntime) {
         ),
         (b"S107000001020304EE\n\n", 2, SrecKind::NoEnd),
     ];
-    for (text, line, kind) in cases {
-        assert!(rt;
-            read_srec(rt.alloc(), text).err() == Some(SrecFault { line, kind }),
-            "line {line}"
-        );
+    for (text, line, kind) in &cases {
+        let (line, kind) = (*line, *kind);
+        let fault = read_srec(rt.alloc(), text).err();
+        expect(&rt, fault, Some(SrecFault { line, kind }));
     }
 }

@@ -1,11 +1,9 @@
 //! UF2 files by hand, by the table of a block's fields.
 
-use byte_map::ByteMap;
+use crate::expect::{expect, expect_map};
 use image_more::{AnyFault, Uf2Fault, read_any, read_uf2};
 use image_set::ImageFault;
 use std::alloc::Global;
-use std::process::Abort;
-use std::test::Fail;
 
 /// The bytes of the short images.
 const FOUR: &[u8] = b"\x01\x02\x03\x04";
@@ -42,34 +40,19 @@ fn file(first: [u8; 512], second: [u8; 512]) -> [u8; 1024] {
     file
 }
 
-/// Asserts that a map has the four bytes and no other.
-fn expect_four(rt: &impl Abort, map: &ByteMap) {
-    assert!(rt; map.runs() == 1);
-    assert!(rt; map.run(0) == (0x0800_0000, FOUR));
-}
-
-/// Asserts what the two payloads of a file make.
-fn expect_both(rt: &impl Abort, alloc: Global, file: &[u8]) -> Result<(), Fail> {
-    let map = read_uf2(alloc, file)?;
-    assert!(rt; map.runs() == 1);
-    assert!(rt; map.run(0).1.len() == 512);
-    assert!(rt; map.get(0x0800_00FF) == Some(0xAA));
-    assert!(rt; map.get(0x0800_0100) == Some(0x55));
-    Ok(())
-}
-
 /// The payload of a block for main flash, from its address on; of another block nothing. Blocks stand in any order.
 #[test]
-fn payloads_for_main_flash(rt: HostRuntime) -> Result<(), Fail> {
-    let four = block(0, 0x0800_0000, 4, b"\x01\x02\x03\x04");
-    expect_four(&rt, &read_uf2(rt.alloc(), &four)?);
-    let elsewhere = block(1, 0xFFFF_FFFF, 4, b"\x01\x02\x03\x04");
-    assert!(rt; read_uf2(rt.alloc(), &elsewhere)?.runs() == 0);
-    let both = file(
-        block(0x2000, 0x0800_0100, 256, &[0x55; 256]),
-        block(0x2000, 0x0800_0000, 256, &[0xAA; 256]),
-    );
-    expect_both(&rt, rt.alloc(), &both)
+fn payloads_for_main_flash(rt: HostRuntime) {
+    let four = block(0, 0x0800_0000, 4, FOUR);
+    expect_map(&rt, read_uf2(rt.alloc(), &four), &[(0x0800_0000, FOUR)]);
+    let elsewhere = block(1, 0xFFFF_FFFF, 4, FOUR);
+    expect_map(&rt, read_uf2(rt.alloc(), &elsewhere), &[]);
+    let low = block(0x2000, 0x0800_0000, 256, &[0xAA; 256]);
+    let high = block(0x2000, 0x0800_0100, 256, &[0x55; 256]);
+    let mut both = [0xAA; 512];
+    both[256..].copy_from_slice(&[0x55; 256]);
+    let read = read_uf2(rt.alloc(), &file(high, low));
+    expect_map(&rt, read, &[(0x0800_0000, &both)]);
 }
 
 /// Each refusal, in the order of the checks.
@@ -100,17 +83,13 @@ fn each_fault_at_its_block(rt: HostRuntime) {
             },
         ),
     ];
-    for (second, wanted) in cases {
-        match read_uf2(rt.alloc(), &file(good, second)) {
-            Ok(_) => panic!(rt; "accepted"),
-            Err(fault) => assert!(rt; fault == wanted, "{fault}"),
-        }
+    for (second, wanted) in &cases {
+        let fault = read_uf2(rt.alloc(), &file(good, *second)).err();
+        expect(&rt, fault, Some(*wanted));
     }
     for len in [0, 511, 513] {
-        match read_uf2(rt.alloc(), &file(good, good)[..len]) {
-            Ok(_) => panic!(rt; "accepted"),
-            Err(fault) => assert!(rt; fault == Uf2Fault::BadLength { len: len as u64 }),
-        }
+        let fault = read_uf2(rt.alloc(), &file(good, good)[..len]).err();
+        expect(&rt, fault, Some(Uf2Fault::BadLength { len: len as u64 }));
     }
 }
 
@@ -126,13 +105,15 @@ fn byte_of(
 
 /// A file that begins as UF2 is read as it, unless an address is given; all others are read as before.
 #[test]
-fn forms_beside_uf2(rt: HostRuntime) -> Result<(), Fail> {
-    let four = block(0, 0x0800_0000, 4, b"\x01\x02\x03\x04");
-    assert!(rt; byte_of(rt.alloc(), &four, None, 0x0800_0003)? == Some(4));
-    assert!(rt; byte_of(rt.alloc(), &four, Some(0), 0)? == Some(b'U'));
+fn forms_beside_uf2(rt: HostRuntime) {
+    let four = block(0, 0x0800_0000, 4, FOUR);
+    let payload = byte_of(rt.alloc(), &four, None, 0x0800_0003);
+    expect(&rt, payload, Ok(Some(4)));
+    let raw = byte_of(rt.alloc(), &four, Some(0), 0);
+    expect(&rt, raw, Ok(Some(b'U')));
     let text = b":020000040800F2\n:0400000001020304F2\n:00000001FF\n";
-    expect_four(&rt, &read_any(rt.alloc(), text, None)?);
-    Ok(())
+    let read = read_any(rt.alloc(), text, None);
+    expect_map(&rt, read, &[(0x0800_0000, FOUR)]);
 }
 
 /// A block without its last byte.
@@ -144,12 +125,9 @@ fn cut(block: &[u8; 512]) -> &[u8] {
 #[test]
 fn faults_by_form(rt: HostRuntime) {
     let four = block(0, 0x0800_0000, 4, FOUR);
-    match read_any(rt.alloc(), cut(&four), None) {
-        Ok(_) => panic!(rt; "accepted"),
-        Err(fault) => assert!(rt; fault == AnyFault::Uf2(Uf2Fault::BadLength { len: 511 })),
-    }
-    match read_any(rt.alloc(), b"UF2", None) {
-        Ok(_) => panic!(rt; "accepted"),
-        Err(fault) => assert!(rt; fault == AnyFault::Image(ImageFault::NoForm)),
-    }
+    let short = read_any(rt.alloc(), cut(&four), None).err();
+    let len = Uf2Fault::BadLength { len: 511 };
+    expect(&rt, short, Some(AnyFault::Uf2(len)));
+    let other = read_any(rt.alloc(), b"UF2", None).err();
+    expect(&rt, other, Some(AnyFault::Image(ImageFault::NoForm)));
 }

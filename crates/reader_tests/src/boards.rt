@@ -1,92 +1,91 @@
 //! A small board, and a case for each refusal. The values at each key's ends and outside them, and the forms that people
 //! write, are in the data of the crate `file_vectors`.
 
+use crate::expect::expect;
 use board_file::{Board, BoardFault, Key, Part, read_board};
 use std::alloc::{AllocError, Global};
-use std::process::Abort;
-use std::test::Fail;
 
-/// A small board with this region, and with this line last.
-fn board(alloc: Global, region: &str, last: &str) -> Result<String, AllocError> {
-    let mut text = String::new(alloc);
-    text.push_str("ram = { base = 0, size = 256 }\nregion = [")?;
-    text.push_str(region)?;
-    text.push_str("]\ncontroller.base = 512\n")?;
-    text.push_str(last)?;
-    Ok(text)
+/// The text of a small board with these regions, and with this line last.
+fn text_of(alloc: Global, regions: &str, last: &str) -> Result<String, AllocError> {
+    let parts = [
+        "ram = { base = 0, size = 256 }\nregion = [",
+        regions,
+        "]\ncontroller.base = 512\n",
+        last,
+    ];
+    parts.concat(alloc)
 }
 
-/// The refusal of such a board.
-fn fault_of(alloc: Global, region: &str, last: &str) -> Result<Option<BoardFault>, AllocError> {
-    Ok(read_board(alloc, board(alloc, region, last)?.as_bytes()).err())
+/// A small board.
+fn read(alloc: Global, regions: &str, last: &str) -> Result<Board, BoardFault> {
+    let text = text_of(alloc, regions, last)?;
+    read_board(alloc, text.as_bytes())
 }
 
-#[test]
-fn reads_a_small_board(rt: HostRuntime) -> Result<(), Fail> {
-    let text = board(rt.alloc(), "{ base = 256, sectors = [[2, 64]] }", "")?;
-    let board = read_board(rt.alloc(), text.as_bytes())?;
-    expect_one_region(&rt, &board);
-    Ok(())
-}
-
-/// Asserts that a board has 256 bytes of RAM and a region of 128 cells.
-fn expect_one_region(rt: &impl Abort, board: &Board) {
-    assert_eq!(rt; board.ram_size, 256);
+/// A board's RAM size, how many regions it has, and where the last one begins and how large it is.
+fn numbers(board: &Board) -> (u32, usize, u32, u32) {
     let regions = board.regions.as_slice();
-    assert!(rt; regions.len() == 1);
-    assert_eq!(rt; regions[0].size, 128);
+    match regions {
+        [.., last] => (board.ram_size, regions.len(), last.base, last.size),
+        [] => (board.ram_size, 0, 0, 0),
+    }
+}
+
+/// The numbers of a small board with these regions.
+fn numbers_of(alloc: Global, regions: &str) -> Result<(u32, usize, u32, u32), BoardFault> {
+    let board = read(alloc, regions, "")?;
+    Ok(numbers(&board))
 }
 
 #[test]
-fn names_the_key_that_is_wrong(rt: HostRuntime) -> Result<(), Fail> {
-    let fault = fault_of(rt.alloc(), "{ base = 256 }", "clock.hz = 0")?;
+fn reads_a_small_board(rt: HostRuntime) {
+    let read = numbers_of(rt.alloc(), "{ base = 256, sectors = [[2, 64]] }");
+    expect(&rt, read, Ok((256, 1, 256, 128)));
+}
+
+#[test]
+fn reads_two_regions(rt: HostRuntime) {
+    let regions = "{ base = 1024, sectors = [[2, 64]] }, { base = 768, sectors = [[1, 256]] }";
+    let read = numbers_of(rt.alloc(), regions);
+    expect(&rt, read, Ok((256, 2, 768, 256)));
+}
+
+/// Why a small board is refused.
+fn fault_of(alloc: Global, regions: &str, last: &str) -> Option<BoardFault> {
+    read(alloc, regions, last).err()
+}
+
+#[test]
+fn names_the_key_that_is_wrong(rt: HostRuntime) {
+    let fault = fault_of(rt.alloc(), "{ base = 256 }", "clock.hz = 0");
     let key = Key::RegionSectors;
-    assert_eq!(rt; fault, Some(BoardFault::Missing { key }));
+    expect(&rt, fault, Some(BoardFault::Missing { key }));
     let region = "{ base = 256, sectors = [[2, 64]] }";
-    let fault = fault_of(rt.alloc(), region, "clock.hz = 0")?;
+    let fault = fault_of(rt.alloc(), region, "clock.hz = 0");
     let key = Key::ClockHz;
-    assert_eq!(rt; fault, Some(BoardFault::BadValue { key }));
-    Ok(())
+    expect(&rt, fault, Some(BoardFault::BadValue { key }));
 }
 
 #[test]
-fn names_the_limit_that_is_broken(rt: HostRuntime) -> Result<(), Fail> {
-    let fault = fault_of(rt.alloc(), "{ base = 256, sectors = [[65_537, 4]] }", "")?;
+fn names_the_limit_that_is_broken(rt: HostRuntime) {
+    let fault = fault_of(rt.alloc(), "{ base = 256, sectors = [[65_537, 4]] }", "");
     let key = Key::RegionSectors;
-    assert_eq!(rt; fault, Some(BoardFault::TooBig { key }));
-    let fault = fault_of(rt.alloc(), "{ base = 0, sectors = [[1, 4]] }", "")?;
+    expect(&rt, fault, Some(BoardFault::TooBig { key }));
+    let fault = fault_of(rt.alloc(), "{ base = 0, sectors = [[1, 4]] }", "");
     let (a, b) = (Part::Ram, Part::Region);
-    assert_eq!(rt; fault, Some(BoardFault::Overlap { a, b }));
-    Ok(())
+    expect(&rt, fault, Some(BoardFault::Overlap { a, b }));
+}
+
+#[test]
+fn names_the_region_that_is_in_the_way(rt: HostRuntime) {
+    let regions = "{ base = 1024, sectors = [[1, 64]] }, { base = 1084, sectors = [[1, 4]] }";
+    let fault = fault_of(rt.alloc(), regions, "");
+    let (a, b) = (Part::Region, Part::Region2);
+    expect(&rt, fault, Some(BoardFault::Overlap { a, b }));
 }
 
 #[test]
 fn refuses_what_is_no_toml(rt: HostRuntime) {
     let fault = read_board(rt.alloc(), b"ram").err();
-    assert_eq!(rt; fault, Some(BoardFault::NotToml));
-}
-
-#[test]
-fn reads_two_regions(rt: HostRuntime) -> Result<(), Fail> {
-    let regions = "{ base = 1024, sectors = [[2, 64]] }, { base = 768, sectors = [[1, 256]] }";
-    let text = board(rt.alloc(), regions, "")?;
-    let board = read_board(rt.alloc(), text.as_bytes())?;
-    expect_two_regions(&rt, &board);
-    Ok(())
-}
-
-/// Asserts that a board has a second region, at 768.
-fn expect_two_regions(rt: &impl Abort, board: &Board) {
-    let regions = board.regions.as_slice();
-    assert!(rt; regions.len() == 2);
-    assert_eq!(rt; regions[1].base, 768);
-}
-
-#[test]
-fn names_the_region_that_is_in_the_way(rt: HostRuntime) -> Result<(), Fail> {
-    let regions = "{ base = 1024, sectors = [[1, 64]] }, { base = 1084, sectors = [[1, 4]] }";
-    let fault = fault_of(rt.alloc(), regions, "")?;
-    let (a, b) = (Part::Region, Part::Region2);
-    assert_eq!(rt; fault, Some(BoardFault::Overlap { a, b }));
-    Ok(())
+    expect(&rt, fault, Some(BoardFault::NotToml));
 }

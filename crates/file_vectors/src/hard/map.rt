@@ -6,6 +6,8 @@
 //! file among them, and what would be slow if a body moved more than it must.
 ghost use Rattle.std.specs.Prelude.{◌≤◌, length};
 
+use crate::piece::Piece::{Count, Text};
+use crate::piece::put;
 use anyhow::Result;
 use byte_map::ByteMap;
 use image_set::{merge, read_image};
@@ -84,23 +86,28 @@ fn shuffle(number: u32, records: u32) -> u32 {
     (mixed ^ (mixed >> 7)).wrapping_mul(0x85EB_CA6B) % records.max(1)
 }
 
-/// The map of a plan's records: all of them, or the even or the odd ones alone.
-fn lay_records(alloc: Global, plan: &Plan, parity: Option<u32>) -> Result<ByteMap> {
-    let mut map = ByteMap::new(alloc);
+/// Lays a plan's records into a map: all of them, or the even or the odd ones alone.
+fn lay_records(map: &mut ByteMap, plan: &Plan, parity: Option<u32>) -> Result<()> {
     for number in 0..plan.records {
         if parity.is_none() || parity == Some(number % 2) {
             map.lay(plan.address(number), &RECORD)?;
         }
     }
-    Ok(map)
+    Ok(())
 }
 
-/// The map of the even records and that of the odd ones, merged.
-fn merge_records(alloc: Global, plan: &Plan) -> Result<ByteMap> {
-    let mut map = lay_records(alloc, plan, Some(0))?;
-    let other = lay_records(alloc, plan, Some(1))?;
-    merge(alloc, &mut map, other)?;
-    Ok(map)
+/// Merges the map of the odd records into a map.
+fn merge_odd(alloc: Global, map: &mut ByteMap, plan: &Plan) -> Result<()> {
+    let mut other = ByteMap::new(alloc);
+    lay_records(&mut other, plan, Some(1))?;
+    merge(alloc, map, other)?;
+    Ok(())
+}
+
+/// Lays the even records into a map, and merges that of the odd ones.
+fn merge_records(alloc: Global, map: &mut ByteMap, plan: &Plan) -> Result<()> {
+    lay_records(map, plan, Some(0))?;
+    merge_odd(alloc, map, plan)
 }
 
 /// Adds bytes as hexadecimal digits, and answers a checksum less all of them.
@@ -129,33 +136,46 @@ fn push_record(text: &mut Vec<u8>, at: u32, bytes: &[u8]) -> Result<()>
     Ok(())
 }
 
-/// The image of a text of S-records with the first bytes of each record of a plan, as many as are asked for.
-fn read_text(alloc: Global, plan: &Plan, bytes: &[u8]) -> Result<ByteMap>
+/// Adds S-records with the first bytes of each record of a plan, as many as are asked for.
+fn push_records(text: &mut Vec<u8>, plan: &Plan, bytes: &[u8]) -> Result<()>
+    requires { length bytes.now ≤ 250 }
+{
+    for number in 0..plan.records {
+        push_record(text, plan.address(number), bytes)?;
+    }
+    text.extend_from_slice(b"S70500000000FA\n")?;
+    Ok(())
+}
+
+/// Puts the image of a text of such S-records in place of a map.
+fn read_text(alloc: Global, map: &mut ByteMap, plan: &Plan, bytes: &[u8]) -> Result<()>
     requires { length bytes.now ≤ 250 }
 {
     let mut text = Vec::new(alloc);
-    for number in 0..plan.records {
-        push_record(&mut text, plan.address(number), bytes)?;
-    }
-    text.extend_from_slice(b"S70500000000FA\n")?;
-    Ok(read_image(alloc, &text, None)?)
+    push_records(&mut text, plan, bytes)?;
+    *map = read_image(alloc, &text, None)?;
+    Ok(())
 }
 
-/// Single bytes in falling order, each right before the one laid last.
-fn lay_bytes(alloc: Global, count: u32) -> Result<ByteMap> {
-    let mut map = ByteMap::new(alloc);
+/// Lays single bytes in falling order, each right before the one laid last.
+fn lay_bytes(map: &mut ByteMap, count: u32) -> Result<()> {
     for number in 0..count {
         map.lay(u32::MAX - number, &[0x5A])?;
     }
-    Ok(map)
+    Ok(())
 }
 
-/// A long run, with a short one joined to it again and again, before it and behind it by turns.
-fn bridge(alloc: Global, count: u32) -> Result<ByteMap> {
-    let mut map = ByteMap::new(alloc);
+/// Lays a long run.
+fn lay_long(alloc: Global, map: &mut ByteMap) -> Result<()> {
     let mut long = Vec::new(alloc);
     long.resize(LONG, 0x5A)?;
     map.lay(MIDDLE, &long)?;
+    Ok(())
+}
+
+/// Lays a long run, with a short one joined to it again and again, before it and behind it by turns.
+fn bridge(alloc: Global, map: &mut ByteMap, count: u32) -> Result<()> {
+    lay_long(alloc, map)?;
     for number in 0..count.min(MOST) {
         let before = MIDDLE - 3 * number - 3;
         map.lay(before, &[0x5A])?;
@@ -164,68 +184,85 @@ fn bridge(alloc: Global, count: u32) -> Result<ByteMap> {
         map.lay(behind + 2, &[0x5A])?;
         map.lay(behind, &[0x5A, 0x5A])?;
     }
-    Ok(map)
+    Ok(())
 }
 
-/// What a word asks for, beside an order.
+/// What a word asks for, beside an order; and what is hard on the map alone.
 #[derive(Clone, Copy)]
 enum Way {
     Laid,
     Merged,
     File,
     Text,
+    Bytes,
+    Bridge,
 }
 
-/// How many runs come of a plan, and how many bytes the first of them has.
-fn try_plan(alloc: Global, way: Way, plan: &Plan) -> Result<(usize, usize)> {
-    let map = match way {
-        Way::Laid => lay_records(alloc, plan, None)?,
-        Way::Merged => merge_records(alloc, plan)?,
-        Way::File => read_text(alloc, plan, &RECORD)?,
-        Way::Text => read_text(alloc, plan, &RECORD[..1])?,
-    };
-    Ok(measure(&map))
-}
-
-/// How many runs a map has, and how many bytes the first of them has.
-fn measure(map: &ByteMap) -> (usize, usize) {
-    if map.runs() == 0 {
-        return (0, 0);
+/// Lays into an empty map what comes of a plan.
+fn lay(alloc: Global, map: &mut ByteMap, way: Way, plan: &Plan) -> Result<()> {
+    match way {
+        Way::Laid => lay_records(map, plan, None),
+        Way::Merged => merge_records(alloc, map, plan),
+        Way::File => read_text(alloc, map, plan, &RECORD),
+        Way::Text => read_text(alloc, map, plan, &RECORD[..1]),
+        Way::Bytes => lay_bytes(map, plan.records),
+        Way::Bridge => bridge(alloc, map, plan.records),
     }
-    let (_at, bytes) = map.run(0);
-    (map.runs(), bytes.len())
+}
+
+/// Prints how many runs a map has, and how many bytes the first of them has.
+fn put_map(rt: &HostRuntime, map: &ByteMap) -> Result<()> {
+    let len = if map.runs() == 0 {
+        0
+    } else {
+        map.run(0).1.len()
+    };
+    let pieces = [
+        Count("", map.runs()),
+        Count(" runs, ", len),
+        Text(" bytes in the first\n"),
+    ];
+    put(rt, &pieces)
+}
+
+/// Prints what comes of a plan.
+fn try_plan(rt: &HostRuntime, way: Way, plan: &Plan) -> Result<()> {
+    let mut map = ByteMap::new(rt.alloc());
+    lay(rt.alloc(), &mut map, way, plan)?;
+    put_map(rt, &map)
+}
+
+/// Prints what comes of records that are apart, in an order.
+fn try_apart(rt: &HostRuntime, order: Order) -> Result<()> {
+    let plan = Plan {
+        order,
+        apart: true,
+        records: 1 << 17,
+    };
+    try_plan(rt, Way::Laid, &plan)?;
+    try_plan(rt, Way::Merged, &plan)?;
+    try_plan(rt, Way::Text, &plan)
+}
+
+/// Prints what comes of so many shuffled records, or of so many pieces.
+fn try_close(rt: &HostRuntime, way: Way, records: u32) -> Result<()> {
+    let plan = Plan {
+        order: Order::Shuffled,
+        apart: false,
+        records,
+    };
+    try_plan(rt, way, &plan)
 }
 
 /// What would be slow if a body moved more than it must.
 fn try_hostile(rt: &HostRuntime) -> Result<()> {
-    for order in [
-        Order::Rising,
-        Order::Falling,
-        Order::Outward,
-        Order::Shuffled,
-    ] {
-        let plan = Plan {
-            order,
-            apart: true,
-            records: 1 << 17,
-        };
-        for way in [Way::Laid, Way::Merged, Way::Text] {
-            let (runs, bytes) = try_plan(rt.alloc(), way, &plan)?;
-            println!(rt; "{runs} runs, {bytes} bytes in the first")?;
-        }
-    }
-    let plan = Plan {
-        order: Order::Shuffled,
-        apart: false,
-        records: 1 << 17,
-    };
-    let (runs, bytes) = try_plan(rt.alloc(), Way::File, &plan)?;
-    println!(rt; "{runs} runs, {bytes} bytes in the first")?;
-    let falling = measure(&lay_bytes(rt.alloc(), 1 << 23)?);
-    println!(rt; "{} runs, {} bytes in the first", falling.0, falling.1)?;
-    let bridged = measure(&bridge(rt.alloc(), 1 << 16)?);
-    println!(rt; "{} runs, {} bytes in the first", bridged.0, bridged.1)?;
-    Ok(())
+    try_apart(rt, Order::Rising)?;
+    try_apart(rt, Order::Falling)?;
+    try_apart(rt, Order::Outward)?;
+    try_apart(rt, Order::Shuffled)?;
+    try_close(rt, Way::File, 1 << 17)?;
+    try_close(rt, Way::Bytes, 1 << 23)?;
+    try_close(rt, Way::Bridge, 1 << 16)
 }
 
 /// Does what the words ask for.
@@ -255,7 +292,5 @@ pub fn run(rt: &HostRuntime, words: &[&str]) -> Result<()> {
         apart,
         records,
     };
-    let (runs, bytes) = try_plan(rt.alloc(), way, &plan)?;
-    println!(rt; "{runs} runs, {bytes} bytes in the first")?;
-    Ok(())
+    try_plan(rt, way, &plan)
 }

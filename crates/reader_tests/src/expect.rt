@@ -1,0 +1,9 @@
+//! What an answer has to be.
+
+use std::fmt::Debug;
+use std::process::Abort;
+
+/// Asserts that an answer is the one that is due.
+pub fn expect<T: Copy + Debug + PartialEq>(rt: &impl Abort, found: T, due: T) {
+    assert_eq!(rt; found, due);
+}
