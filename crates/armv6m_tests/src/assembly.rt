@@ -3,7 +3,8 @@
 mod back;
 mod texts;
 
-use armv6m_asm::{Code, Labels, assemble};
+use crate::same::{assert_bytes, assert_same};
+use armv6m_asm::{Code, Label, Labels, assemble};
 use std::alloc::Global;
 use std::process::Abort;
 use std::test::Fail;
@@ -16,29 +17,34 @@ fn a_flash_algorithm(rt: HostRuntime) -> Result<(), Fail> {
     Ok(())
 }
 
+/// The place of a label, if there is one of this name.
+fn assert_place(rt: &impl Abort, labels: &Labels, name: &[u8], place: Option<u32>) {
+    assert_same(rt, &labels.get(name), &place);
+}
+
 /// The code and the labels of the flash algorithm.
 fn assert_algorithm(rt: &impl Abort, code: &Code) {
-    assert_eq!(rt; code.bytes.len(), 144);
-    assert_eq!(rt; code.bytes.bytes(), algorithm_code());
+    assert_same(rt, &code.bytes.len(), &144);
+    assert_bytes(rt, code.bytes.bytes(), algorithm_code());
+    assert_same(rt, &code.labels.as_slice().len(), &19);
     for (name, place) in [
-        (b"Init".as_slice(), 0),
-        (b"UnInit".as_slice(), 0x0E),
-        (b"EraseChip".as_slice(), 0x16),
-        (b"EraseSector".as_slice(), 0x1A),
-        (b"ProgramPage".as_slice(), 0x3C),
-        (b"Verify".as_slice(), 0x6C),
-        (b"base".as_slice(), 0x84),
+        (b"Init".as_slice(), Some(0)),
+        (b"UnInit".as_slice(), Some(0x0E)),
+        (b"EraseChip".as_slice(), Some(0x16)),
+        (b"EraseSector".as_slice(), Some(0x1A)),
+        (b"ProgramPage".as_slice(), Some(0x3C)),
+        (b"Verify".as_slice(), Some(0x6C)),
+        (b"base".as_slice(), Some(0x84)),
+        (b"init".as_slice(), None),
     ] {
-        assert_eq!(rt; code.labels.get(name), Some(place), "{place:X}");
+        assert_place(rt, &code.labels, name, place);
     }
-    assert_eq!(rt; code.labels.get(b"init"), None);
-    assert_eq!(rt; code.labels.as_slice().len(), 19);
 }
 
 /// The code of a text.
 fn assert_code(rt: &impl Abort, alloc: Global, text: &[u8], due: &[u8]) -> Result<(), Fail> {
     let code = assemble(alloc, text)?;
-    assert_eq!(rt; code.bytes.bytes(), due);
+    assert_bytes(rt, code.bytes.bytes(), due);
     Ok(())
 }
 
@@ -70,24 +76,37 @@ fn labels_have_their_places(rt: HostRuntime) -> Result<(), Fail> {
 /// The places of five labels.
 fn assert_places(rt: &impl Abort, labels: &Labels) {
     for (name, place) in [(b"a", 0), (b"b", 4), (b"c", 6), (b"d", 8), (b"e", 12)] {
-        assert_eq!(rt; labels.get(name), Some(place), "{place}");
+        assert_place(rt, labels, name, Some(place));
     }
 }
 
 /// The labels as a vector, and of one.
 fn assert_vector(rt: &impl Abort, labels: Labels) {
     let labels = labels.into_vec();
-    assert_eq!(rt; labels.len(), 5);
-    assert_eq!(rt; labels[2].name.text(), "c");
-    assert_eq!(rt; Labels::from_vec(labels).get(b"e"), Some(12));
+    assert_third(rt, &labels);
+    assert_place(rt, &Labels::from_vec(labels), b"e", Some(12));
+}
+
+/// Five labels, whose third is c.
+fn assert_third(rt: &impl Abort, labels: &[Label]) {
+    assert_same(rt, &labels.len(), &5);
+    if let Some(third) = labels.get(2) {
+        assert_bytes(rt, third.name.bytes(), b"c");
+    }
 }
 
 /// Why a text is refused.
-fn assert_fault(rt: &impl Abort, alloc: Global, text: &[u8], due: &str) -> Result<(), Fail> {
+fn told(alloc: Global, text: &[u8]) -> Result<String, Fail> {
     match assemble(alloc, text) {
-        Ok(code) => assert_eq!(rt; code.bytes.len(), usize::MAX, "not refused: {due}"),
-        Err(fault) => assert_eq!(rt; format!(in alloc; "{fault}")?.as_str(), due),
+        Ok(_) => Ok(String::new(alloc)),
+        Err(fault) => Ok(format!(in alloc; "{fault}")?),
     }
+}
+
+/// A text is refused for this.
+fn assert_fault(rt: &impl Abort, alloc: Global, text: &[u8], due: &str) -> Result<(), Fail> {
+    let told = told(alloc, text)?;
+    assert_eq!(rt; told.as_str(), due);
     Ok(())
 }
 

@@ -8,6 +8,8 @@ mod decoding;
 #[cfg(test)]
 mod encoding;
 #[cfg(test)]
+mod same;
+#[cfg(test)]
 mod statements;
 #[cfg(test)]
 mod steps;

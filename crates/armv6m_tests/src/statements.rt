@@ -1,5 +1,6 @@
 //! Forms there and back, and a case of each rule. Statements that other tools write are compared by `armv6m_vectors`.
 
+use crate::same::{assert_bytes, assert_same};
 use armv6m_decode::registers::{LR, SP};
 use armv6m_decode::{Alu, Branch, Condition, Decoded, Instr, Many, Memory, Other, decode16};
 use armv6m_forms::{
@@ -27,16 +28,17 @@ fn read(form: Form, at: u32) -> Option<Instr> {
     }
 }
 
+/// The instruction that is made comes back from the form at an address.
+fn assert_back(rt: &impl Abort, instr: Instr, at: u32) {
+    assert_same(rt, &read(form_at(&instr, at), at), &Some(made(instr)));
+}
+
 #[test]
 fn each_halfword_comes_back(rt: HostRuntime) {
     for half in 0..=u16::MAX {
         if let Decoded::Op(instr) = decode16(half) {
             for at in [0, 0x1000, 0x1002, 0xFFFF_FFFE] {
-                assert_eq!(rt;
-                    read(form_at(&instr, at), at),
-                    Some(made(instr)),
-                    "{half:04X}"
-                );
+                assert_back(&rt, instr, at);
             }
         }
     }
@@ -45,13 +47,23 @@ fn each_halfword_comes_back(rt: HostRuntime) {
 #[test]
 fn each_long_branch_comes_back(rt: HostRuntime) {
     for immediate in (0..0x100_0000).step_by(61) {
-        let instr = Instr::Branch(Branch::Bl { immediate });
-        assert_eq!(rt;
-            read(form_at(&instr, 0x1002), 0x1002),
-            Some(instr),
-            "{immediate}"
-        );
+        assert_back(&rt, Instr::Branch(Branch::Bl { immediate }), 0x1002);
     }
+}
+
+/// What reaches each target from an address.
+fn assert_reached(rt: &impl Abort, aim: Aim, reached: &[(u32, u32, Option<Instr>)]) {
+    for &(at, target, due) in reached {
+        assert_same(rt, &reach(aim, at, target), &due);
+    }
+}
+
+/// BEQ with this field.
+fn branch(immediate: u8) -> Option<Instr> {
+    Some(Instr::Branch(Branch::Bcc {
+        condition: Condition::Equal,
+        immediate,
+    }))
 }
 
 /// The ends of B with a condition: 254 bytes ahead of the address plus 4, and 256 bytes back.
@@ -60,73 +72,92 @@ fn ends_of_a_branch(rt: HostRuntime) {
     let aim = Aim::BranchIf {
         condition: Condition::Equal,
     };
-    for (target, immediate) in [(0x1102, 0x7F), (0x0F04, 0x80)] {
-        let branch = Branch::Bcc {
-            condition: Condition::Equal,
-            immediate,
-        };
-        assert_eq!(rt; reach(aim, 0x1000, target), Some(Instr::Branch(branch)));
-    }
-    for target in [0x1104, 0x0F02, 0x1101] {
-        assert_eq!(rt; reach(aim, 0x1000, target), None);
-    }
+    let reached = [
+        (0x1000, 0x1102, branch(0x7F)),
+        (0x1000, 0x0F04, branch(0x80)),
+        (0x1000, 0x1104, None),
+        (0x1000, 0x0F02, None),
+        (0x1000, 0x1101, None),
+    ];
+    assert_reached(&rt, aim, &reached);
+}
+
+/// LDR R1 of a literal, with this field.
+fn load(immediate: u8) -> Option<Instr> {
+    Some(Instr::Memory(Memory::LdrLiteral { t: 1, immediate }))
 }
 
 /// A literal's address is counted from the PC without its two low bits.
 #[test]
 fn literals(rt: HostRuntime) {
-    let load = |immediate| Some(Instr::Memory(Memory::LdrLiteral { t: 1, immediate }));
-    let aim = Aim::Load { t: 1 };
-    assert_eq!(rt; reach(aim, 0x1002, 0x1008), load(1));
-    assert_eq!(rt; reach(aim, 0x1000, 0x1400), load(255));
-    for target in [0x1404, 0x1006, 0x1000] {
-        assert_eq!(rt; reach(aim, 0x1000, target), None);
-    }
+    let reached = [
+        (0x1002, 0x1008, load(1)),
+        (0x1000, 0x1400, load(255)),
+        (0x1000, 0x1404, None),
+        (0x1000, 0x1006, None),
+        (0x1000, 0x1000, None),
+    ];
+    assert_reached(&rt, Aim::Load { t: 1 }, &reached);
+}
+
+/// LSRS R0, R1 by so many bits.
+fn right(immediate: u32) -> Option<Instr> {
+    let operands = Operands::TwoImmediate {
+        d: 0,
+        n: 1,
+        immediate,
+    };
+    instruction(Mnemonic::Lsrs, operands)
+}
+
+/// STR or STRH of R0 at an offset from SP.
+fn store(mnemonic: Mnemonic, offset: u32) -> Option<Instr> {
+    let operands = Operands::ByOffset {
+        t: 0,
+        n: SP,
+        offset,
+    };
+    instruction(mnemonic, operands)
+}
+
+/// PUSH or POP of R0, R4 and LR.
+fn with_lr(mnemonic: Mnemonic) -> Option<Instr> {
+    instruction(mnemonic, Operands::List { list: 0x4011 })
 }
 
 /// LSRS by 32 is the field 0, and by 0 is none; an offset counts words; LR goes with PUSH alone.
 #[test]
 fn fields(rt: HostRuntime) {
-    let right = |immediate| {
-        let operands = Operands::TwoImmediate {
-            d: 0,
-            n: 1,
-            immediate,
-        };
-        instruction(Mnemonic::Lsrs, operands)
-    };
     let by_32 = Instr::Alu(Alu::LsrsImmediate {
         d: 0,
         m: 1,
         immediate: 0,
     });
-    assert_eq!(rt; right(32), Some(by_32));
-    assert_eq!(rt; right(0), None);
-    let store = Operands::ByOffset {
-        t: 0,
-        n: SP,
-        offset: 1020,
-    };
     let on_stack = Instr::Memory(Memory::StrSp {
         t: 0,
         immediate: 255,
     });
-    assert_eq!(rt; instruction(Mnemonic::Str, store), Some(on_stack));
-    assert_eq!(rt; instruction(Mnemonic::Strh, store), None);
-    let list = Operands::List { list: 0x4011 };
     let push = Instr::Many(Many::Push {
         lr: true,
         list: 0x11,
     });
-    assert_eq!(rt; instruction(Mnemonic::Push, list), Some(push));
-    assert_eq!(rt; instruction(Mnemonic::Pop, list), None);
+    let found = [
+        right(32),
+        right(0),
+        store(Mnemonic::Str, 1020),
+        store(Mnemonic::Strh, 1020),
+        with_lr(Mnemonic::Push),
+        with_lr(Mnemonic::Pop),
+    ];
+    let due = [Some(by_32), None, Some(on_stack), None, Some(push), None];
+    assert_same(&rt, &found, &due);
 }
 
 /// The line of an instruction at an address.
 fn assert_line(rt: &impl Abort, instr: Instr, at: u32, due: &[u8]) {
     let mut line = Line::new();
     disassemble(&instr, at, &mut line);
-    assert_eq!(rt; line.bytes(), due);
+    assert_bytes(rt, line.bytes(), due);
 }
 
 /// A field that no encoding has is written as it stands.
@@ -147,23 +178,28 @@ fn lines(rt: HostRuntime) {
 #[test]
 fn a_line_holds_what_was_written_last(rt: HostRuntime) {
     let mut line = Line::new();
-    assert!(rt; line.bytes().is_empty());
+    assert_bytes(&rt, line.bytes(), b"");
     disassemble(&Instr::Other(Other::Cpsie), 0, &mut line);
     disassemble(&Instr::Other(Other::Wfi), 0, &mut line);
-    assert_eq!(rt; line.bytes(), b"WFI".as_slice());
+    assert_bytes(&rt, line.bytes(), b"WFI");
 }
 
 #[test]
 fn words(rt: HostRuntime) {
-    assert_eq!(rt; read_mnemonic(b"REV16"), Some(Mnemonic::Rev16));
-    assert_eq!(rt; read_mnemonic(b"lsls"), None);
     let lower = Aim::BranchIf {
         condition: Condition::LowerOrSame,
     };
-    assert_eq!(rt; read_branch(b"BLS"), Some(lower));
-    assert_eq!(rt; read_branch(b"BAL"), None);
-    assert_eq!(rt; read_register(b"SP"), Some(SP));
-    assert_eq!(rt; read_register(b"R13"), None);
-    assert_eq!(rt; read_special(b"PRIMASK"), Some(16));
-    assert_eq!(rt; read_special(b"PSP"), None);
+    let found = (
+        [read_mnemonic(b"REV16"), read_mnemonic(b"lsls")],
+        [read_branch(b"BLS"), read_branch(b"BAL")],
+        [read_register(b"SP"), read_register(b"R13")],
+        [read_special(b"PRIMASK"), read_special(b"PSP")],
+    );
+    let due = (
+        [Some(Mnemonic::Rev16), None],
+        [Some(lower), None],
+        [Some(SP), None],
+        [Some(16), None],
+    );
+    assert_same(&rt, &found, &due);
 }

@@ -4,9 +4,11 @@
 mod ends;
 mod worked;
 
+use crate::same::{assert_bytes, assert_same};
 use armv6m_decode::registers::PC;
 use armv6m_step::{Core, MemoryBus, StepEnd, step};
 use std::alloc::{AllocError, Global};
+use std::process::Abort;
 
 const BASE: u32 = 0x2000_0000;
 
@@ -26,25 +28,75 @@ fn core_at(pc: u32) -> Core {
     core
 }
 
+/// Puts bytes to a place behind all that was put before, with nothing between.
+fn put(bytes: &mut Vec<u8>, at: usize, part: &[u8]) -> Result<(), AllocError> {
+    bytes.resize(at, 0)?;
+    bytes.extend_from_slice(part)
+}
+
+/// Puts two halfwords of code to 0x40, and the data to 0x100, in 1024 bytes.
+fn fill(bytes: &mut Vec<u8>, first: u16, second: u16, data: &[u8]) -> Result<(), AllocError> {
+    put(bytes, 0x40, &first.to_le_bytes())?;
+    put(bytes, 0x42, &second.to_le_bytes())?;
+    put(bytes, 0x100, data)?;
+    put(bytes, 0x400, &[])
+}
+
 /// 1024 bytes of memory: two halfwords of code at 0x20000040, and the data from 0x20000100 on.
 fn bus_with(alloc: Global, first: u16, second: u16, data: &[u8]) -> Result<MemoryBus, AllocError> {
-    let mut bytes = Vec::from_slice(alloc, &[0; 0x40])?;
-    bytes.extend_from_slice(&first.to_le_bytes())?;
-    bytes.extend_from_slice(&second.to_le_bytes())?;
-    bytes.resize(0x100, 0)?;
-    bytes.extend_from_slice(data)?;
-    bytes.resize(0x400, 0)?;
+    let mut bytes = Vec::new(alloc);
+    fill(&mut bytes, first, second, data)?;
     Ok(MemoryBus::new(BASE, bytes))
 }
 
-/// How a step of this code over this data ends.
+/// How a step of this code over this data ends, and the core after it.
 fn stepped(
     alloc: Global,
-    core: &mut Core,
-    first: u16,
-    second: u16,
+    before: Core,
+    code: [u16; 2],
     data: &[u8],
-) -> Result<StepEnd, AllocError> {
+) -> Result<(StepEnd, Core), AllocError> {
+    let [first, second] = code;
     let mut bus = bus_with(alloc, first, second, data)?;
-    Ok(step(core, &mut bus))
+    let mut core = before;
+    let end = step(&mut core, &mut bus);
+    Ok((end, core))
+}
+
+/// A step of this code over this data ends so, and leaves this core.
+fn assert_step(
+    rt: &impl Abort,
+    alloc: Global,
+    code: [u16; 2],
+    data: &[u8],
+    before: Core,
+    due: (StepEnd, Core),
+) -> Result<(), AllocError> {
+    let found = stepped(alloc, before, code, data)?;
+    assert_same(rt, &found, &due);
+    Ok(())
+}
+
+/// The memory has these bytes from a place on.
+fn assert_memory(rt: &impl Abort, bus: &MemoryBus, at: usize, due: &[u8]) {
+    let end = at.wrapping_add(due.len());
+    assert_bytes(rt, bus.bytes().get(at..end).unwrap_or(&[]), due);
+}
+
+/// A step of a halfword ends so, leaves this core, and stores these bytes from a place on.
+fn assert_stores(
+    rt: &impl Abort,
+    alloc: Global,
+    code: u16,
+    before: Core,
+    due: (StepEnd, Core),
+    at: usize,
+    stored: &[u8],
+) -> Result<(), AllocError> {
+    let mut bus = bus_with(alloc, code, 0, &[])?;
+    let mut core = before;
+    let end = step(&mut core, &mut bus);
+    assert_same(rt, &(end, core), &due);
+    assert_memory(rt, &bus, at, stored);
+    Ok(())
 }

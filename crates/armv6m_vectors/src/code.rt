@@ -1,7 +1,7 @@
 //! The decoder and the disassembler against binutils.
 
 use crate::row::half;
-use anyhow::{Context, Result, bail};
+use anyhow::{Context, Result};
 use armv6m_decode::{Decoded, Instr, decode16, decode32};
 use armv6m_forms::{Line, disassemble};
 use row_text::number;
@@ -15,32 +15,27 @@ fn decode(first: u16, second: &str) -> Result<Option<Instr>> {
     })
 }
 
-/// Two halfwords, an address, and the statement.
-fn check_line(line: &str) -> Result<()> {
-    let (first, rest) = line.split_once(' ').context("no second halfword")?;
-    let (second, rest) = rest.split_once(' ').context("no address")?;
-    let (at, due) = rest.split_once(' ').context("no statement")?;
-    match decode(half(first)?, second)? {
-        Some(instr) => {
-            let mut written = Line::new();
-            disassemble(&instr, number(at)?, &mut written);
-            if written.bytes() != due.as_bytes() {
-                bail!("{line}: another statement");
-            }
-        }
-        None => bail!("{line}: no instruction"),
-    }
-    Ok(())
+/// Whether an instruction at an address is written so.
+fn is_written(instr: &Instr, at: u32, due: &str) -> bool {
+    let mut line = Line::new();
+    disassemble(instr, at, &mut line);
+    line.bytes() == due.as_bytes()
 }
 
-/// Compares each line, and gives their number.
-pub fn check(text: &str) -> Result<u64> {
-    let mut lines = 0u64;
-    for line in text.lines() {
-        if !line.starts_with('#') {
-            check_line(line)?;
-            lines = lines.wrapping_add(1);
-        }
+/// Two halfwords, an address, and the statement.
+fn parts(line: &str) -> Option<(&str, &str, &str, &str)> {
+    let (first, rest) = line.split_once(' ')?;
+    let (second, rest) = rest.split_once(' ')?;
+    let (at, due) = rest.split_once(' ')?;
+    Some((first, second, at, due))
+}
+
+/// Whether the code of a row is an instruction, which is written as its statement.
+pub fn holds(line: &str) -> Result<bool> {
+    let (first, second, at, due) = parts(line).context("a row is FIRST SECOND AT STATEMENT")?;
+    let at = number(at)?;
+    match decode(half(first)?, second)? {
+        Some(instr) => Ok(is_written(&instr, at, due)),
+        None => Ok(false),
     }
-    Ok(lines)
 }

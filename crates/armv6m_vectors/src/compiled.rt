@@ -6,8 +6,8 @@
 //!   int32_t divide(int32_t x, int32_t y)                      at 0x80, which calls __aeabi_idiv
 //!   uint64_t multiply(uint32_t x, uint32_t y)                 at 0x88, which calls __aeabi_lmul
 
-use crate::steps::{BASE, core_at};
-use anyhow::{Result, bail};
+use crate::steps::{BASE, core_at, put};
+use anyhow::{Result, bail, ensure};
 use armv6m_decode::registers::{LR, PC, SP};
 use armv6m_step::{MemoryBus, StepEnd, step};
 use std::alloc::{AllocError, Global};
@@ -16,12 +16,17 @@ const DATA: u32 = BASE + 0x800;
 
 const RETURN: u32 = BASE + 0xE00;
 
+/// Puts the code to the beginning, and the data to 0x800, in 4096 bytes.
+fn fill(bytes: &mut Vec<u8>, code: &[u8], data: &[u8]) -> Result<(), AllocError> {
+    put(bytes, 0, code)?;
+    put(bytes, 0x800, data)?;
+    put(bytes, 0x1000, &[])
+}
+
 /// The code, and the bytes from DATA on, in 4096 bytes of memory.
 fn memory(alloc: Global, code: &[u8], data: &[u8]) -> Result<MemoryBus, AllocError> {
-    let mut bytes = Vec::from_slice(alloc, code)?;
-    bytes.resize(0x800, 0)?;
-    bytes.extend_from_slice(data)?;
-    bytes.resize(0x1000, 0)?;
+    let mut bytes = Vec::new(alloc);
+    fill(&mut bytes, code, data)?;
     Ok(MemoryBus::new(BASE, bytes))
 }
 
@@ -44,12 +49,36 @@ fn call(bus: &mut MemoryBus, offset: u32, r0: u32, r1: u32) -> Result<(u32, u32)
     bail!("no return");
 }
 
+/// Calls the function at an offset over memory of its own.
+fn call_over(
+    code: &[u8],
+    data: &[u8],
+    offset: u32,
+    r0: u32,
+    r1: u32,
+    alloc: Global,
+) -> Result<(u32, u32)> {
+    let mut bus = memory(alloc, code, data)?;
+    call(&mut bus, offset, r0, r1)
+}
+
 /// The check value of CRC-32 that catalogues of CRCs give.
 fn check_crc(code: &[u8], alloc: Global) -> Result<()> {
-    let mut bus = memory(alloc, code, b"123456789")?;
-    if call(&mut bus, 0, DATA, 9)?.0 != 0xCBF4_3926 {
-        bail!("another CRC");
-    }
+    let (crc, _) = call_over(code, b"123456789", 0, DATA, 9, alloc)?;
+    ensure!(crc == 0xCBF4_3926, "another CRC");
+    Ok(())
+}
+
+/// Sorts seven numbers in memory.
+fn sort(bus: &mut MemoryBus) -> Result<()> {
+    let sorted = [
+        0, 0x80, 0xFF, 0xFF, 0, 0, 0, 0, 1, 0, 0x34, 0x12, 0xFF, 0x7F,
+    ];
+    call(bus, 0x44, DATA, 7)?;
+    ensure!(
+        bus.bytes().get(0x800..0x80E) == Some(sorted.as_slice()),
+        "not sorted"
+    );
     Ok(())
 }
 
@@ -57,20 +86,12 @@ fn check_sort(code: &[u8], alloc: Global) -> Result<()> {
     let numbers = [
         0x34, 0x12, 0xFF, 0xFF, 0, 0, 0, 0x80, 0xFF, 0x7F, 1, 0, 0, 0,
     ];
-    let sorted = [
-        0, 0x80, 0xFF, 0xFF, 0, 0, 0, 0, 1, 0, 0x34, 0x12, 0xFF, 0x7F,
-    ];
     let mut bus = memory(alloc, code, &numbers)?;
-    call(&mut bus, 0x44, DATA, 7)?;
-    if bus.bytes().get(0x800..0x80E) != Some(sorted.as_slice()) {
-        bail!("not sorted");
-    }
-    Ok(())
+    sort(&mut bus)
 }
 
 fn check_quotient(code: &[u8], x: i32, y: i32, alloc: Global) -> Result<()> {
-    let mut bus = memory(alloc, code, &[])?;
-    let (quotient, _) = call(&mut bus, 0x80, x.cast_unsigned(), y.cast_unsigned())?;
+    let (quotient, _) = call_over(code, &[], 0x80, x.cast_unsigned(), y.cast_unsigned(), alloc)?;
     if y != 0 && quotient.cast_signed() != x.wrapping_div(y) {
         bail!("{x} / {y}");
     }
@@ -78,8 +99,7 @@ fn check_quotient(code: &[u8], x: i32, y: i32, alloc: Global) -> Result<()> {
 }
 
 fn check_product(code: &[u8], x: u32, y: u32, alloc: Global) -> Result<()> {
-    let mut bus = memory(alloc, code, &[])?;
-    let (low, high) = call(&mut bus, 0x88, x, y)?;
+    let (low, high) = call_over(code, &[], 0x88, x, y, alloc)?;
     let product = u64::from(x) * u64::from(y);
     if u64::from(low) != product % 0x1_0000_0000 || u64::from(high) != product / 0x1_0000_0000 {
         bail!("{x} * {y}");

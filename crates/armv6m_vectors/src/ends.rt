@@ -1,10 +1,10 @@
 //! Instructions that end otherwise than by going on.
 
-use crate::row::{half, words};
-use crate::steps::{HERE, bus_with, core_at};
+use crate::row::half;
+use crate::steps::{HERE, core_at, stepped};
 use anyhow::{Result, bail};
 use armv6m_decode::registers::SP;
-use armv6m_step::{StepEnd, step};
+use armv6m_step::StepEnd;
 use row_text::number;
 use std::alloc::Global;
 
@@ -21,36 +21,16 @@ fn shown(end: StepEnd) -> (&'static str, u32) {
     }
 }
 
-/// Two halfwords, R1 and SP before, the end, and its address.
-fn check_line(line: &str, words: &[&str], alloc: Global) -> Result<()> {
+/// Whether a row holds: two halfwords, R1 and SP before, the end, and its address.
+pub fn holds(words: &[&str], alloc: Global) -> Result<bool> {
     let [first, second, r1, sp, name, at] = words else {
-        bail!("{line}: not six words");
+        bail!("a row is FIRST SECOND R1 SP END AT");
     };
-    let mut bus = bus_with(alloc, half(first)?, half(second)?)?;
     let mut core = core_at(HERE);
     core.regs[1] = number(r1)?;
     core.regs[SP as usize] = number(sp)?;
     core.c = true;
-    let before = core;
-    let (end, place) = shown(step(&mut core, &mut bus));
-    if end != *name || place != number(at)? {
-        bail!("{line}: {end} {place:08X}");
-    }
-    if core != before {
-        bail!("{line}: another core");
-    }
-    Ok(())
-}
-
-/// Compares each line, and gives their number.
-pub fn check(text: &str, alloc: Global) -> Result<u64> {
-    let mut lines = 0u64;
-    for line in text.lines() {
-        let words = words(line, alloc)?;
-        if !words.is_empty() {
-            check_line(line, &words, alloc)?;
-            lines = lines.wrapping_add(1);
-        }
-    }
-    Ok(lines)
+    let (end, after) = stepped(alloc, core, half(first)?, half(second)?)?;
+    let (end, place) = shown(end);
+    Ok(end == *name && place == number(at)? && after == core)
 }

@@ -8,12 +8,14 @@ mod compiled;
 mod conditions;
 mod ends;
 mod row;
+mod rows;
 mod statements;
 mod steps;
 mod sums;
 mod table;
 
 use anyhow::{Context, Result};
+use rows::Kind;
 use std::{env, fs};
 
 /// The name of a file that the command line gives.
@@ -27,61 +29,44 @@ fn text(rt: &HostRuntime, names: &[String], index: usize) -> Result<String> {
     Ok(fs::read_to_string(rt, name(names, index)?)?)
 }
 
+/// Prints a line: how many things were compared, and what they are.
+fn put(rt: &HostRuntime, count: usize, what: &str) -> Result<()> {
+    println!(rt; "{count} {what}")?;
+    Ok(())
+}
+
 /// Compares the table.
 fn check_table(rt: &HostRuntime, names: &[String]) -> Result<()> {
     let text = text(rt, names, 0)?;
     let rows = table::check(text.as_str(), rt.alloc())?;
-    println!(rt; "{rows} rows of the table")?;
-    Ok(())
+    put(rt, rows, "rows of the table")
 }
 
-/// Compares the disassembler with binutils.
-fn check_lines(rt: &HostRuntime, names: &[String]) -> Result<()> {
-    let text = text(rt, names, 1)?;
-    let codes = code::check(text.as_str())?;
-    println!(rt; "{codes} instructions as binutils writes them")?;
-    Ok(())
+/// Compares the rows of a file.
+fn check_rows(
+    rt: &HostRuntime,
+    names: &[String],
+    index: usize,
+    kind: Kind,
+    what: &str,
+) -> Result<()> {
+    let text = text(rt, names, index)?;
+    let rows = rows::check(kind, text.as_str(), rt.alloc())?;
+    put(rt, rows, what)
 }
 
-/// Compares the assembler's texts.
-fn check_statements(rt: &HostRuntime, names: &[String]) -> Result<()> {
-    let text = text(rt, names, 2)?;
-    let statements = statements::check(text.as_str(), rt.alloc())?;
-    println!(rt; "{statements} texts")?;
-    Ok(())
+/// Compares a text with the code of a file.
+fn check_code(rt: &HostRuntime, text: &str, name: &str) -> Result<()> {
+    let due = fs::read(rt, name)?;
+    let bytes = statements::check_whole(text, &due, rt.alloc())?;
+    put(rt, bytes, "bytes as binutils makes them")
 }
 
 /// Compares a whole text with the code that binutils make of it.
 fn check_whole(rt: &HostRuntime, names: &[String]) -> Result<()> {
+    let code = name(names, 4)?;
     let text = text(rt, names, 3)?;
-    let due = fs::read(rt, name(names, 4)?)?;
-    let bytes = statements::check_whole(text.as_str(), &due, rt.alloc())?;
-    println!(rt; "{bytes} bytes as binutils makes them")?;
-    Ok(())
-}
-
-/// Compares the steps of a file, and says by what they were made.
-fn check_steps(rt: &HostRuntime, names: &[String], index: usize, made: &str) -> Result<()> {
-    let text = text(rt, names, index)?;
-    let steps = steps::check(text.as_str(), rt.alloc())?;
-    println!(rt; "{steps} steps {made}")?;
-    Ok(())
-}
-
-/// Compares how steps end.
-fn check_ends(rt: &HostRuntime, names: &[String]) -> Result<()> {
-    let text = text(rt, names, 7)?;
-    let ends = ends::check(text.as_str(), rt.alloc())?;
-    println!(rt; "{ends} ends")?;
-    Ok(())
-}
-
-/// Compares the conditions.
-fn check_conditions(rt: &HostRuntime, names: &[String]) -> Result<()> {
-    let text = text(rt, names, 8)?;
-    let conditions = conditions::check(text.as_str(), rt.alloc())?;
-    println!(rt; "{conditions} conditions")?;
-    Ok(())
+    check_code(rt, text.as_str(), code)
 }
 
 /// Runs compiled code.
@@ -92,26 +77,43 @@ fn check_compiled(rt: &HostRuntime, names: &[String]) -> Result<()> {
     Ok(())
 }
 
-/// Compares the sums and the shifts.
-fn check_sums(rt: &HostRuntime, names: &[String]) -> Result<()> {
-    let text = text(rt, names, 10)?;
-    let sums = sums::check(text.as_str(), rt.alloc())?;
-    println!(rt; "{sums} sums and shifts worked out by hand")?;
+/// Steps, each file with its place among the names, and with what its rows are.
+const STEPS: [(usize, Kind, &str); 4] = [
+    (5, Kind::Step, "steps as QEMU makes them"),
+    (6, Kind::Step, "steps worked out by hand"),
+    (7, Kind::End, "ends"),
+    (8, Kind::Condition, "conditions"),
+];
+
+/// Compares the steps.
+fn check_steps(rt: &HostRuntime, names: &[String]) -> Result<()> {
+    for (index, kind, what) in STEPS {
+        check_rows(rt, names, index, kind, what)?;
+    }
     Ok(())
 }
 
 /// Makes all comparisons with these files.
 fn check_all(rt: &HostRuntime, names: &[String]) -> Result<()> {
     check_table(rt, names)?;
-    check_lines(rt, names)?;
-    check_statements(rt, names)?;
+    check_rows(
+        rt,
+        names,
+        1,
+        Kind::Code,
+        "instructions as binutils writes them",
+    )?;
+    check_rows(rt, names, 2, Kind::Statement, "texts")?;
     check_whole(rt, names)?;
-    check_steps(rt, names, 5, "as QEMU makes them")?;
-    check_steps(rt, names, 6, "worked out by hand")?;
-    check_ends(rt, names)?;
-    check_conditions(rt, names)?;
+    check_steps(rt, names)?;
     check_compiled(rt, names)?;
-    check_sums(rt, names)
+    check_rows(
+        rt,
+        names,
+        10,
+        Kind::Sum,
+        "sums and shifts worked out by hand",
+    )
 }
 
 fn main(rt: HostRuntime) -> Result<()> {

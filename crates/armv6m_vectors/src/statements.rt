@@ -1,7 +1,7 @@
 //! The assembler against code and refusals that were worked out by hand, and against binutils.
 
 use anyhow::{Context, Result, bail};
-use armv6m_asm::assemble;
+use armv6m_asm::{AsmFault, Code, assemble};
 use row_text::bytes_of;
 use std::alloc::{AllocError, Global};
 
@@ -12,35 +12,32 @@ fn unescaped(text: &str, alloc: Global) -> Result<String, AllocError> {
     returns.replace(alloc, "\\t", "\t")
 }
 
-/// The code of a text, or the refusal, and the text.
-fn check_line(line: &str, alloc: Global) -> Result<()> {
-    let (due, text) = line.split_once(" | ").context("no text")?;
-    match assemble(alloc, unescaped(text, alloc)?.as_bytes()) {
-        Ok(code) => {
-            let digits = if due == "-" { "" } else { due };
-            if code.bytes.bytes() != bytes_of(alloc, digits)?.as_slice() {
-                bail!("{line}: other code");
-            }
-        }
-        Err(fault) => {
-            if format!(in alloc; "{fault}")?.as_str() != due {
-                bail!("{line}: {fault}");
-            }
-        }
-    }
-    Ok(())
+/// Whether code has these digits, where `-` is no code.
+fn is_code(code: &Code, due: &str, alloc: Global) -> Result<bool> {
+    let digits = if due == "-" { "" } else { due };
+    let bytes = bytes_of(alloc, digits)?;
+    Ok(code.bytes.bytes() == bytes.as_slice())
 }
 
-/// Compares each line, and gives their number.
-pub fn check(text: &str, alloc: Global) -> Result<u64> {
-    let mut lines = 0u64;
-    for line in text.lines() {
-        if !line.starts_with('#') {
-            check_line(line, alloc)?;
-            lines = lines.wrapping_add(1);
-        }
+/// Whether a refusal is told so.
+fn is_told(fault: &AsmFault, due: &str, alloc: Global) -> Result<bool> {
+    let told = format!(in alloc; "{fault}")?;
+    Ok(told.as_str() == due)
+}
+
+/// Whether a text has this code, or is refused so.
+fn comes_to(text: &str, due: &str, alloc: Global) -> Result<bool> {
+    match assemble(alloc, text.as_bytes()) {
+        Ok(code) => is_code(&code, due, alloc),
+        Err(fault) => is_told(&fault, due, alloc),
     }
-    Ok(lines)
+}
+
+/// Whether a row holds: the code of a text, or the refusal, and the text.
+pub fn holds(line: &str, alloc: Global) -> Result<bool> {
+    let (due, text) = line.split_once(" | ").context("no text")?;
+    let text = unescaped(text, alloc)?;
+    comes_to(text.as_str(), due, alloc)
 }
 
 /// Compares the code of a whole text, and gives its length.

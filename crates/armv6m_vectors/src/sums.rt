@@ -1,12 +1,10 @@
 //! Sums and shifts.
 
-use crate::row::words;
 use anyhow::{Result, bail};
 use armv6m_alu::{
     Shifted, add_with_carry, rotate_right, shift_left, shift_right, shift_right_signed,
 };
 use row_text::number;
-use std::alloc::Global;
 
 /// Whether a bit is set.
 fn is_set(word: &str) -> bool {
@@ -54,7 +52,7 @@ fn are_shifts(value: u32, amount: u32, carry: bool, due: &[&str]) -> Result<bool
 }
 
 /// Whether a row holds.
-fn holds(words: &[&str]) -> Result<bool> {
+pub fn holds(words: &[&str]) -> Result<bool> {
     match words {
         ["sum", x, y, carry, due @ ..] => is_sum(number(x)?, number(y)?, is_set(carry), due),
         ["shift", value, amount, carry, due @ ..] => {
@@ -62,25 +60,4 @@ fn holds(words: &[&str]) -> Result<bool> {
         }
         _ => bail!("sum or shift is wanted"),
     }
-}
-
-/// Compares each row, and gives their number.
-pub fn check(text: &str, alloc: Global) -> Result<u64> {
-    let mut rows = 0u64;
-    for line in text.lines() {
-        let words = words(line, alloc)?;
-        if !words.is_empty() {
-            check_line(line, &words)?;
-            rows = rows.wrapping_add(1);
-        }
-    }
-    Ok(rows)
-}
-
-/// Fails where a row doesn't hold.
-fn check_line(line: &str, words: &[&str]) -> Result<()> {
-    if !holds(words)? {
-        bail!("{line}");
-    }
-    Ok(())
 }

@@ -5,7 +5,7 @@ use anyhow::{Result, bail};
 use armv6m_decode::{Decoded, decode16};
 use std::alloc::Global;
 
-#[derive(Drop)]
+#[derive(Clone, Copy)]
 struct Row {
     value: u16,
     mask: u16,
@@ -47,23 +47,40 @@ fn check_half(half: u16, rows: &[Row]) -> Result<()> {
     Ok(())
 }
 
-/// Compares each halfword and each row, and gives the number of rows.
-pub fn check(text: &str, alloc: Global) -> Result<usize> {
+/// Appends the row of a line, if it has one.
+fn push_row(rows: &mut Vec<Row>, line: &str, alloc: Global) -> Result<()> {
+    let words = words(line, alloc)?;
+    if !words.is_empty() {
+        rows.push(row_of(&words)?)?;
+    }
+    Ok(())
+}
+
+/// The rows of a text.
+fn rows_of(text: &str, alloc: Global) -> Result<Vec<Row>> {
     let mut rows = Vec::new(alloc);
     for line in text.lines() {
-        let words = words(line, alloc)?;
-        if !words.is_empty() {
-            rows.push(row_of(&words)?)?;
-        }
+        push_row(&mut rows, line, alloc)?;
     }
-    for row in &rows {
+    Ok(rows)
+}
+
+/// Compares each halfword and each row, and gives the number of rows.
+fn check_rows(rows: &[Row]) -> Result<usize> {
+    for row in rows {
         let found = fitting(row);
         if found != row.count {
             bail!("{:04X}: {found} halfwords", row.value);
         }
     }
     for half in 0..=u16::MAX {
-        check_half(half, &rows)?;
+        check_half(half, rows)?;
     }
     Ok(rows.len())
+}
+
+/// Compares the rows of a text, and gives their number.
+pub fn check(text: &str, alloc: Global) -> Result<usize> {
+    let rows = rows_of(text, alloc)?;
+    check_rows(&rows)
 }

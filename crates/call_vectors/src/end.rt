@@ -5,28 +5,34 @@ use anyhow::{Result, bail};
 use row_text::number;
 use target_core::{FaultKind, RunEnd};
 
-/// The end of a run that a fault at a place ended.
-fn faulted(kind: FaultKind, pc: &str) -> Result<CallEnd> {
+/// The fault that ended a run.
+fn faulted(words: &[&str]) -> Result<RunEnd> {
+    let (kind, pc) = match words {
+        ["undefined", "at", pc] => (FaultKind::Undefined, pc),
+        ["bad", "state", "at", pc] => (FaultKind::BadState, pc),
+        ["bus", "fault", "at", pc, "address", at] => (FaultKind::BusFault { at: number(at)? }, pc),
+        ["unaligned", "at", pc, "address", at] => (FaultKind::Unaligned { at: number(at)? }, pc),
+        _ => bail!("no end"),
+    };
     let pc = number(pc)?;
-    Ok(CallEnd::Ended(RunEnd::Faulted { kind, pc }))
+    Ok(RunEnd::Faulted { kind, pc })
+}
+
+/// The end of a run that didn't return.
+fn ended(words: &[&str]) -> Result<RunEnd> {
+    match words {
+        ["no", "fuel", "at", pc] => Ok(RunEnd::NoFuel { pc: number(pc)? }),
+        ["stray", "break", "at", pc] => Ok(RunEnd::StrayBreak { pc: number(pc)? }),
+        words => faulted(words),
+    }
 }
 
 /// The end that some words name.
 pub fn end(words: &[&str]) -> Result<CallEnd> {
     match words {
         ["done"] => Ok(CallEnd::Done),
-        ["answered", r0] => Ok(CallEnd::Refused { r0: number(r0)? }),
-        ["no", "fuel", "at", pc] => Ok(CallEnd::Ended(RunEnd::NoFuel { pc: number(pc)? })),
-        ["stray", "break", "at", pc] => Ok(CallEnd::Ended(RunEnd::StrayBreak { pc: number(pc)? })),
-        ["undefined", "at", pc] => faulted(FaultKind::Undefined, pc),
-        ["bus", "fault", "at", pc, "address", at] => {
-            faulted(FaultKind::BusFault { at: number(at)? }, pc)
-        }
-        ["unaligned", "at", pc, "address", at] => {
-            faulted(FaultKind::Unaligned { at: number(at)? }, pc)
-        }
-        ["bad", "state", "at", pc] => faulted(FaultKind::BadState, pc),
         ["device", "fault"] => Ok(CallEnd::DeviceFault),
-        _ => bail!("no end"),
+        ["answered", r0] => Ok(CallEnd::Refused { r0: number(r0)? }),
+        words => Ok(CallEnd::Ended(ended(words)?)),
     }
 }

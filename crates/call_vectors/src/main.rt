@@ -28,12 +28,12 @@ mod trial;
 mod watch;
 
 use anyhow::Result;
-use std::{env, fs};
+use std::env;
+use steps::check_file;
 
 fn main(rt: HostRuntime) -> Result<()> {
     for name in env::args(&rt)?.skip(1) {
-        let text = fs::read_to_string(&rt, name.as_str())?;
-        steps::check(&rt, text.as_str())?;
+        check_file(&rt, name.as_str())?;
     }
     Ok(())
 }

@@ -89,13 +89,16 @@ fn put_ideal(ideal: &mut [u8], cells: &[u8], bytes: &[u8], area: Area) {
 /// Erases, programs and verifies all cells of a device of `CELLS` used ones, by the chip or by sectors.
 pub fn carry_out(rt: &HostRuntime, board: &Board, algorithm: Algorithm, chip: bool) -> Result<()> {
     let mut plan = Plan::new(rt.alloc(), board, algorithm)?;
-    if chip {
-        phase(rt, &mut plan, 1, 1, CELLS)?;
-    } else {
-        phase(rt, &mut plan, 1, 4, SECTOR)?;
+    phases(rt, &mut plan, chip)
+}
+
+/// The phases of a plan.
+fn phases(rt: &HostRuntime, plan: &mut Plan, chip: bool) -> Result<()> {
+    let (count, len) = if chip { (1, CELLS) } else { (4, SECTOR) };
+    for (kind, count, len) in [(1, count, len), (2, 16, PAGE), (3, 16, PAGE)] {
+        phase(rt, plan, kind, count, len)?;
     }
-    phase(rt, &mut plan, 2, 16, PAGE)?;
-    phase(rt, &mut plan, 3, 16, PAGE)
+    Ok(())
 }
 
 /// Erases (1), programs (2) or verifies (3) so many areas of this length.
@@ -126,6 +129,11 @@ fn work(rt: &HostRuntime, plan: &mut Plan, kind: u32, bytes: &[u8], area: Area) 
 fn act(rt: &HostRuntime, plan: &mut Plan, call: Call, bytes: &[u8], area: Area) -> Result<()> {
     plan.expect(bytes, area);
     let end = plan.trial.call(call, bytes)?;
+    put_act(rt, plan, call, end)
+}
+
+/// Prints how a call went.
+fn put_act(rt: &HostRuntime, plan: &Plan, call: Call, end: CallEnd) -> Result<()> {
     let end = end_name(end);
     let cells = if plan.is_ideal() { "ideal" } else { "other" };
     let (name, number) = name(call);

@@ -24,28 +24,48 @@ fn algorithm(rt: &HostRuntime, name: &str) -> Result<Algorithm> {
     Ok(read_flm(rt.alloc(), &file)?)
 }
 
+/// The first five of some words, as numbers.
+fn addresses(words: &[&str]) -> Result<[u32; 5]> {
+    let mut addresses = [0; 5];
+    for (address, word) in addresses.iter_mut().zip(words) {
+        *address = number(word)?;
+    }
+    Ok(addresses)
+}
+
+/// The layout of five addresses, and of its need.
+fn laid_out(words: &[&str], need: &str) -> Result<Layout> {
+    let [return_at, code_at, static_base, buffer_at, stack_top] = addresses(words)?;
+    let need = need.parse::<u64>()?;
+    Ok(Layout {
+        return_at,
+        code_at,
+        static_base,
+        buffer_at,
+        stack_top,
+        need,
+    })
+}
+
+/// What is needed, and what there is.
+fn no_room(need: &str, have: &str) -> Result<NoRoom> {
+    let need = need.parse::<u64>()?;
+    let have = have.parse::<u64>()?;
+    Ok(NoRoom { need, have })
+}
+
 /// The layout that some words name, or why there is none.
 fn layout(words: &[&str]) -> Result<std::result::Result<Layout, NoRoom>> {
     match words {
-        ["no", "room", need, have] => Ok(Err(NoRoom {
-            need: need.parse::<u64>()?,
-            have: have.parse::<u64>()?,
-        })),
-        [return_at, code_at, static_base, buffer_at, stack_top, need] => Ok(Ok(Layout {
-            return_at: number(return_at)?,
-            code_at: number(code_at)?,
-            static_base: number(static_base)?,
-            buffer_at: number(buffer_at)?,
-            stack_top: number(stack_top)?,
-            need: need.parse::<u64>()?,
-        })),
+        ["no", "room", need, have] => Ok(Err(no_room(need, have)?)),
+        [_, _, _, _, _, need] => Ok(Ok(laid_out(words, need)?)),
         _ => bail!("no layout"),
     }
 }
 
-/// Whether a call without bytes answers what is due.
-fn called(trial: &mut Trial, call: Call, due: &[&str]) -> Result<bool> {
-    Ok(trial.call(call, &[])? == end(due)?)
+/// Whether a call with these bytes answers what is due.
+fn called(trial: &mut Trial, call: Call, bytes: &[u8], due: &[&str]) -> Result<bool> {
+    Ok(trial.call(call, bytes)? == end(due)?)
 }
 
 /// Whether a call with the bytes of a word answers what is due.
@@ -57,7 +77,7 @@ fn called_with(
     alloc: Global,
 ) -> Result<bool> {
     let bytes = counted_bytes(alloc, page)?;
-    Ok(trial.call(call, &bytes)? == end(due)?)
+    called(trial, call, &bytes, due)
 }
 
 /// Whether a reset answers what is due.
@@ -76,47 +96,56 @@ fn holds_cells(trial: &Trial, words: &[&str], alloc: Global) -> Result<bool> {
     Ok(trial.cells() == cells.as_slice())
 }
 
-/// Whether a step of a trial that has a number in it answers what is due.
-fn numbered(
-    trial: &mut Trial,
-    name: &str,
-    word: &str,
-    rest: &[&str],
-    alloc: Global,
-) -> Result<bool> {
-    let number = number(word)?;
-    let call = match name {
+/// Makes the calls to come in slices of so many steps.
+fn cut(trial: &mut Trial, words: &[&str]) -> Result<bool> {
+    let [steps] = words else {
+        bail!("a number of steps is wanted");
+    };
+    trial.cut(steps.parse::<u64>()?);
+    Ok(true)
+}
+
+/// The call of a name, with this number.
+fn call_of(name: &str, number: u32) -> Result<Call> {
+    Ok(match name {
         "Init" => Call::Init { kind: number },
         "UnInit" => Call::UnInit { kind: number },
         "EraseSector" => Call::EraseSector { at: number },
         "ProgramPage" => Call::ProgramPage { at: number },
         "Verify" => Call::Verify { at: number },
         _ => bail!("no step"),
+    })
+}
+
+/// Whether a call that has a number in it answers what is due.
+fn numbered(trial: &mut Trial, name: &str, words: &[&str], alloc: Global) -> Result<bool> {
+    let [word, rest @ ..] = words else {
+        bail!("no number");
     };
+    let call = call_of(name, number(word)?)?;
     match (call, rest) {
         (Call::ProgramPage { .. } | Call::Verify { .. }, [page, due @ ..]) => {
             called_with(trial, call, page, due, alloc)
         }
-        _ => called(trial, call, rest),
+        _ => called(trial, call, &[], rest),
     }
 }
 
 /// Whether a step of a trial answers what is due.
 fn holds(trial: &mut Trial, words: &[&str], alloc: Global) -> Result<bool> {
-    match words {
-        ["load"] => {
+    let [name, rest @ ..] = words else {
+        bail!("no step");
+    };
+    match *name {
+        "load" if rest.is_empty() => {
             trial.load();
             Ok(true)
         }
-        ["reset", due @ ..] => reset(trial, due),
-        ["slices", steps] => {
-            trial.cut(steps.parse::<u64>()?);
-            Ok(true)
-        }
-        ["EraseChip", due @ ..] => called(trial, Call::EraseChip, due),
-        ["cells", words @ ..] => holds_cells(trial, words, alloc),
-        [name, word, rest @ ..] => numbered(trial, name, word, rest, alloc),
-        _ => bail!("no step"),
+        "reset" => reset(trial, rest),
+        "slices" => cut(trial, rest),
+        "EraseChip" => called(trial, Call::EraseChip, &[], rest),
+        "cells" => holds_cells(trial, rest, alloc),
+        name => numbered(trial, name, rest, alloc),
     }
 }
 
@@ -157,14 +186,17 @@ fn step(rt: &HostRuntime, trial: Option<&mut Trial>, words: &[&str]) -> Result<b
     }
 }
 
+/// The same of the words of a line.
+fn step_holds(rt: &HostRuntime, trial: Option<&mut Trial>, line: &str) -> Result<bool> {
+    let words = line.split_whitespace().collect::<Vec<&str>>(rt.alloc())?;
+    step(rt, trial, &words)
+}
+
 /// Does a line: prints the name of a case, or sees that its step holds.
 fn line_holds(rt: &HostRuntime, trial: Option<&mut Trial>, line: &str) -> Result<()> {
     if let Some(name) = line.strip_prefix("case ") {
         println!(rt; "{name}")?;
-        return Ok(());
-    }
-    let words = line.split_whitespace().collect::<Vec<&str>>(rt.alloc())?;
-    if !step(rt, trial, &words)? {
+    } else if !step_holds(rt, trial, line)? {
         bail!("{line}");
     }
     Ok(())
@@ -192,17 +224,34 @@ fn try_on(
     go_through(rt, &mut trial, text)
 }
 
+/// The same on the board of a file.
+fn try_with(
+    rt: &HostRuntime,
+    board_name: &str,
+    flm: &str,
+    cells: &[u8],
+    fail: u64,
+    text: &str,
+) -> Result<()> {
+    let board = board(rt, board_name)?;
+    try_on(rt, &board, flm, cells, fail, text)
+}
+
+/// Makes the trial that some words name, and goes through its lines.
+fn try_words(rt: &HostRuntime, words: &[&str], text: &str) -> Result<()> {
+    let [board_name, flm, fail, cells @ ..] = words else {
+        bail!("a trial is BOARD FLM FAIL BYTES..");
+    };
+    let fail = fail.parse::<u64>()?;
+    let cells = all_bytes(rt.alloc(), cells)?;
+    try_with(rt, board_name, flm, &cells, fail, text)
+}
+
 /// Makes the trial that a text names first, and goes through its other lines.
 fn try_one(rt: &HostRuntime, text: &str) -> Result<()> {
     let (line, text) = text.split_once('\n').context("a trial has no lines")?;
     let words = line.split_whitespace().collect::<Vec<&str>>(rt.alloc())?;
-    let [board_name, flm, fail, cells @ ..] = words.as_slice() else {
-        bail!("{line}: no trial");
-    };
-    let fail = fail.parse::<u64>()?;
-    let cells = all_bytes(rt.alloc(), cells)?;
-    let board = board(rt, board_name)?;
-    try_on(rt, &board, flm, &cells, fail, text)
+    try_words(rt, &words, text)
 }
 
 /// Does the lines before the first trial.
@@ -214,7 +263,7 @@ fn before_trials(rt: &HostRuntime, text: &str) -> Result<()> {
 }
 
 /// Goes through the lines, and prints the name of each case.
-pub fn check(rt: &HostRuntime, text: &str) -> Result<()> {
+fn check(rt: &HostRuntime, text: &str) -> Result<()> {
     let mut trials = text.split("\nnew ");
     if let Some(text) = trials.next() {
         before_trials(rt, text)?;
@@ -223,4 +272,10 @@ pub fn check(rt: &HostRuntime, text: &str) -> Result<()> {
         try_one(rt, text)?;
     }
     Ok(())
+}
+
+/// Goes through the lines of a file.
+pub fn check_file(rt: &HostRuntime, name: &str) -> Result<()> {
+    let text = fs::read_to_string(rt, name)?;
+    check(rt, text.as_str())
 }

@@ -57,6 +57,17 @@ fn calls_on(machine: Machine, algorithm: Algorithm, board: &Board) -> Result<Cal
     Ok(CallsIn::new(machine, layout, algorithm, board))
 }
 
+/// The calls of an algorithm on a machine of a board, which has so many cells.
+fn calls_of(alloc: Global, board: &Board, algorithm: Algorithm, cells: usize) -> Result<CallsIn>
+    ensures size { IfOk result (λ calls. calls.machine.ram_size ≡ (board_of board.now).ram_size) }
+    ensures cells { IfOk result (λ calls. unit_cells calls.machine.unit ≡ cells) }
+    ensures fresh { IfOk result (λ calls. unit_state calls.machine.unit ≡ fresh (board_of board.now).kind) }
+{
+    let machine = machine_of(alloc, board, cells)?;
+    let calls = calls_on(machine, algorithm, board)?;
+    Ok(calls)
+}
+
 impl Trial {
     /// An algorithm on a board with these cells. The cell call of this number fails, and an operation that is broken off leaves 5A.
     pub fn new(
@@ -66,8 +77,7 @@ impl Trial {
         cells: &[u8],
         fail: u64,
     ) -> Result<Trial> {
-        let machine = machine_of(alloc, board, cells.len())?;
-        let calls = calls_on(machine, algorithm, board)?;
+        let calls = calls_of(alloc, board, algorithm, cells.len())?;
         let arena = Arena::new(alloc, &[8, board.ram_size])?;
         let bench = MemoryBench::new(alloc, cells, &[], 0, 0x10000, &[], &[fail], &[0x5A])?;
         Ok(Trial {

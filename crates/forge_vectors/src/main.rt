@@ -11,48 +11,65 @@ mod serves;
 use anyhow::Result;
 use board_file::Board;
 use data::with_data;
-use files::{board, read_file};
+use files::board;
 use flm_forge::{Kind, listing, listing_at};
 use put::put;
+use std::fs;
 
 /// Puts an algorithm with pages of so many bytes.
 fn put_kind(rt: &HostRuntime, name: &str, kind: Kind, board: &Board, page: u32) -> Result<()> {
     put(rt, name, &listing(rt.alloc(), kind, board, page)?)
 }
 
-/// Puts every algorithm for a board.
-fn put_kinds(rt: &HostRuntime, board: &Board, page: u32) -> Result<()> {
-    put_kind(rt, "A1", Kind::A1, board, page)?;
-    put_kind(rt, "A2", Kind::A2, board, page)?;
-    put_kind(rt, "A3", Kind::A3, board, page)?;
-    put_kind(rt, "A4", Kind::A4, board, page)?;
-    put_kind(rt, "A5", Kind::A5, board, page)?;
-    put_kind(rt, "A6", Kind::A6, board, page)?;
-    put_kind(rt, "A7", Kind::A7, board, page)
-}
-
-/// Puts the algorithms for the second region of a board.
-fn put_second(rt: &HostRuntime, board: &Board, page: u32) -> Result<()> {
-    if board.regions.as_slice().len() == 2 {
-        put(
-            rt,
-            "A1 second",
-            &listing_at(rt.alloc(), Kind::A1, board, 1, page)?,
-        )?;
-        put(
-            rt,
-            "A2 second",
-            &listing_at(rt.alloc(), Kind::A2, board, 1, page)?,
-        )?;
+/// Puts algorithms for the board of a file, with pages of so many bytes.
+fn put_kinds(rt: &HostRuntime, file: &str, page: u32, kinds: &[(&str, Kind)]) -> Result<()> {
+    let board = board(rt, file)?;
+    for (name, kind) in kinds {
+        put_kind(rt, name, *kind, &board, page)?;
     }
     Ok(())
 }
 
+/// The algorithms for FC1.
+const KINDS: [(&str, Kind); 7] = [
+    ("A1", Kind::A1),
+    ("A2", Kind::A2),
+    ("A3", Kind::A3),
+    ("A4", Kind::A4),
+    ("A5", Kind::A5),
+    ("A6", Kind::A6),
+    ("A7", Kind::A7),
+];
+
+/// Puts an algorithm for the second region of a board, if it has two.
+fn put_second(rt: &HostRuntime, name: &str, kind: Kind, board: &Board) -> Result<()> {
+    if board.regions.as_slice().len() == 2 {
+        put(rt, name, &listing_at(rt.alloc(), kind, board, 1, 64)?)
+    } else {
+        Ok(())
+    }
+}
+
+/// Puts two algorithms for the second region of the board of a file.
+fn put_seconds(rt: &HostRuntime, file: &str) -> Result<()> {
+    let board = board(rt, file)?;
+    for (name, kind) in [("A1 second", Kind::A1), ("A2 second", Kind::A2)] {
+        put_second(rt, name, kind, &board)?;
+    }
+    Ok(())
+}
+
+/// Puts the listing with data.
+fn put_data(rt: &HostRuntime) -> Result<()> {
+    let text = fs::read(rt, "data.s")?;
+    put(rt, "data", &with_data(rt.alloc(), text)?)
+}
+
 fn main(rt: HostRuntime) -> Result<()> {
-    put_kinds(&rt, &board(&rt, "small.toml")?, 64)?;
-    put_kind(&rt, "F1", Kind::F1, &board(&rt, "fpec.toml")?, 64)?;
-    put_kind(&rt, "wide", Kind::A1, &board(&rt, "wide.toml")?, 1024)?;
-    put_second(&rt, &board(&rt, "two.toml")?, 64)?;
-    put(&rt, "data", &with_data(&rt, read_file(&rt, "data.s")?)?)?;
+    put_kinds(&rt, "small.toml", 64, &KINDS)?;
+    put_kinds(&rt, "fpec.toml", 64, &[("F1", Kind::F1)])?;
+    put_kinds(&rt, "wide.toml", 1024, &[("wide", Kind::A1)])?;
+    put_seconds(&rt, "two.toml")?;
+    put_data(&rt)?;
     serves::put_answers(&rt)
 }

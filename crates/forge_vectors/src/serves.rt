@@ -50,11 +50,21 @@ fn makes_code(rt: &HostRuntime, listing: &Listing) -> Result<bool> {
     Ok(code.bytes.bytes() == A1_CODE.as_slice())
 }
 
+/// Whether the text of A1 for a board makes the code.
+fn a1_makes_code(rt: &HostRuntime, board: &Board) -> Result<bool> {
+    let listing = listing(rt.alloc(), Kind::A1, board, 64)?;
+    makes_code(rt, &listing)
+}
+
 /// Puts whether the text of A1 makes its code.
 fn put_code(rt: &HostRuntime) -> Result<()> {
     let board = board(rt, "small.toml")?;
-    let listing = listing(rt.alloc(), Kind::A1, &board, 64)?;
-    println!(rt; "code {}", makes_code(rt, &listing)?)?;
+    put_code_on(rt, &board)
+}
+
+/// The same for a board.
+fn put_code_on(rt: &HostRuntime, board: &Board) -> Result<()> {
+    println!(rt; "code {}", a1_makes_code(rt, board)?)?;
     Ok(())
 }
 

@@ -58,10 +58,16 @@ fn set_up<B: Bench>(target: &mut Target, bench: &mut B, code: &[u8]) -> Result<(
     Ok(())
 }
 
+/// A target of the board.
+fn target_of(alloc: Global) -> Result<Target> {
+    let board = read_board(alloc, BOARD.as_bytes())?;
+    Ok(Target::new(alloc, &board)?)
+}
+
 impl<B: Bench + Drop> Bed<B> {
     /// A target with this code over a bench of as many cells as the flash has.
     pub fn new(alloc: Global, code: &[u8], mut bench: B) -> Result<Bed<B>> {
-        let mut target = Target::new(alloc, &read_board(alloc, BOARD.as_bytes())?)?;
+        let mut target = target_of(alloc)?;
         set_up(&mut target, &mut bench, code)?;
         Ok(Bed { target, bench })
     }

@@ -3,6 +3,7 @@
 use anyhow::Result;
 use armv6m_decode::registers::{PC, SP};
 use armv6m_step::{Core, MemoryBus, StepEnd, step};
+use std::alloc::Global;
 
 /// arm-none-eabi-as -mcpu=cortex-m0, at 0x20000000; R0 counts the rounds down and R1 is the address of eight bytes:
 ///
@@ -30,11 +31,16 @@ fn run(core: &mut Core, bus: &mut MemoryBus) -> (StepEnd, u64) {
     (StepEnd::Went, u64::MAX)
 }
 
-/// Runs the loop for so many rounds. It prints how the last step ended, how many steps were made, and two registers.
-pub fn run_loop(rt: &HostRuntime, rounds: u32) -> Result<()> {
-    let mut bytes = Vec::from_slice(rt.alloc(), &CODE)?;
+/// The last end and the number of steps of a core that runs the loop.
+fn run_code(alloc: Global, core: &mut Core) -> Result<(StepEnd, u64)> {
+    let mut bytes = Vec::from_slice(alloc, &CODE)?;
     bytes.resize(1024, 0)?;
     let mut bus = MemoryBus::new(BASE, bytes);
+    Ok(run(core, &mut bus))
+}
+
+/// Runs the loop for so many rounds. It prints how the last step ended, how many steps were made, and two registers.
+pub fn run_loop(rt: &HostRuntime, rounds: u32) -> Result<()> {
     let mut core = Core {
         regs: [0; 16],
         n: false,
@@ -47,9 +53,8 @@ pub fn run_loop(rt: &HostRuntime, rounds: u32) -> Result<()> {
     core.regs[1] = BASE + 512;
     core.regs[SP as usize] = BASE + 1024;
     core.regs[PC as usize] = BASE;
-    let (end, steps) = run(&mut core, &mut bus);
-    println!(rt; "{end:?}")?;
-    println!(rt; "steps {steps}")?;
+    let (end, steps) = run_code(rt.alloc(), &mut core)?;
+    println!(rt; "{end:?}\nsteps {steps}")?;
     println!(rt; "R2 {:08X} R5 {:08X}", core.regs[2], core.regs[5])?;
     Ok(())
 }

@@ -25,6 +25,7 @@
 
 mod bed;
 mod core_loop;
+mod left;
 mod measured;
 mod pair;
 mod put;
@@ -32,8 +33,9 @@ mod steps;
 mod trial;
 
 use crate::measured::{measure, measure_files};
+use crate::steps::go_through_file;
 use anyhow::Result;
-use std::{env, fs};
+use std::env;
 
 /// Does what the words say.
 fn follow(rt: &HostRuntime, words: &[&str]) -> Result<()> {
@@ -42,8 +44,7 @@ fn follow(rt: &HostRuntime, words: &[&str]) -> Result<()> {
         ["files", words @ ..] => measure_files(rt, words),
         names => {
             for name in names {
-                let text = fs::read_to_string(rt, *name)?;
-                steps::go_through(rt, text.as_str())?;
+                go_through_file(rt, name)?;
             }
             Ok(())
         }

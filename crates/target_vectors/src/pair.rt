@@ -5,35 +5,13 @@ ghost use Rattle.target_core.specs.Windows.{IsRam, OnlyIn};
 ghost use Rattle.target_core.specs.Units.{UnitAgrees};
 ghost use Rattle.target_vectors.specs.Rams.{AreRams};
 
-use crate::trial::{CELLS, board};
-use anyhow::{Result, bail, ensure};
+use crate::left::{CELLS, Left, SIZE};
+use anyhow::{Result, bail};
 use bench_model::MemoryBench;
 use board_file::Board;
 use ram_arena::Arena;
 use std::alloc::Global;
-use target_core::{Frame, Machine, RunEnd, SliceEnd, Target};
-
-/// The bytes of RAM.
-const SIZE: usize = 256;
-
-/// What a run leaves.
-#[derive(Clone, Copy)]
-pub struct Left {
-    pub end: RunEnd,
-    regs: [u32; 16],
-    ram: [u8; SIZE],
-    cells: [u8; CELLS],
-}
-
-impl Left {
-    /// Whether both left the same.
-    pub fn same_as(&self, other: &Left) -> bool {
-        self.end == other.end
-            && self.regs == other.regs
-            && self.ram == other.ram
-            && self.cells == other.cells
-    }
-}
+use target_core::{Frame, Machine, RunEnd, SliceEnd};
 
 /// A machine in the middle of a run, and its bench, whose open operation is the controller's.
 #[derive(Drop)]
@@ -90,9 +68,23 @@ impl Runner {
         requires both { AreRams arena.old }
         ensures both { AreRams arena.new }
         ensures others { OnlyIn window arena.old arena.new }
+        ensures window { IsRam arena.new window 256 }
     {
         self.machine
             .run_slice(arena, window, &mut self.bench, &mut self.fuel, steps)
+    }
+
+    /// A turn of at most so many steps, and what it leaves if that was the last.
+    fn turn(&mut self, arena: &mut Arena, window: usize, steps: u64) -> Option<Left>
+        requires place { window ≤ 1 }
+        requires window { IsRam arena.old window 256 }
+        requires both { AreRams arena.old }
+        ensures { AreRams arena.new }
+    {
+        match self.go_on(arena, window, steps) {
+            SliceEnd::Ended(end) => Some(self.leaves(arena, window, end)),
+            SliceEnd::More => None,
+        }
     }
 
     /// What is left after the run ended so.
@@ -102,42 +94,8 @@ impl Runner {
         let mut ram = [0; SIZE];
         self.machine
             .read_ram(arena, window, self.machine.ram_base, &mut ram);
-        left_by(end, &self.machine, ram, self.bench.cells())
+        Left::by(end, &self.machine, ram, self.bench.cells())
     }
-}
-
-/// What a machine leaves, with this RAM and these cells.
-fn left_by(end: RunEnd, machine: &Machine, ram: [u8; SIZE], cells: &[u8]) -> Left {
-    let mut all = [0; CELLS];
-    for index in 0..CELLS {
-        if index < cells.len() {
-            all[index] = cells[index];
-        }
-    }
-    Left {
-        end,
-        regs: machine.core.regs,
-        ram,
-        cells: all,
-    }
-}
-
-/// What a target leaves that runs code alone.
-pub fn alone(alloc: Global, code: &[u8], frame: &Frame, fuel: u64) -> Result<Left> {
-    let mut target = Target::new(alloc, &board(alloc)?)?;
-    ensure!(
-        target.machine.unit.cells() as usize == CELLS
-            && target.machine.ram_size as usize == SIZE
-            && code.len() <= SIZE,
-        "no room"
-    );
-    let base = target.machine.ram_base;
-    let mut bench = MemoryBench::new(alloc, &[0xFF; CELLS], &[], 0, 0x100, &[], &[], &[])?;
-    target.write_ram(base, code);
-    let end = target.run(&mut bench, frame, fuel);
-    let mut ram = [0; SIZE];
-    target.read_ram(base, &mut ram);
-    Ok(left_by(end, &target.machine, ram, bench.cells()))
 }
 
 /// Two machines with their windows.
@@ -151,12 +109,11 @@ pub struct Pair {
 }
 
 impl Pair {
-    /// Two machines in one arena.
-    pub fn new(alloc: Global) -> Result<Pair> {
-        let board = board(alloc)?;
-        let one = Runner::new(alloc, &board)?;
-        let other = Runner::new(alloc, &board)?;
+    /// Two machines of a board in one arena.
+    pub fn new(alloc: Global, board: &Board) -> Result<Pair> {
         let arena = Arena::new(alloc, &[256, 256])?;
+        let one = Runner::new(alloc, board)?;
+        let other = Runner::new(alloc, board)?;
         Ok(Pair { arena, one, other })
     }
 
@@ -178,18 +135,12 @@ impl Pair {
 
     /// A turn of the first, and what it leaves if that was the last.
     fn turn_one(&mut self, steps: u64) -> Option<Left> {
-        match self.one.go_on(&mut self.arena, 0, steps) {
-            SliceEnd::Ended(end) => Some(self.one.leaves(&self.arena, 0, end)),
-            SliceEnd::More => None,
-        }
+        self.one.turn(&mut self.arena, 0, steps)
     }
 
     /// A turn of the second.
     fn turn_other(&mut self, steps: u64) -> Option<Left> {
-        match self.other.go_on(&mut self.arena, 1, steps) {
-            SliceEnd::Ended(end) => Some(self.other.leaves(&self.arena, 1, end)),
-            SliceEnd::More => None,
-        }
+        self.other.turn(&mut self.arena, 1, steps)
     }
 
     /// Both by turns of so many steps, up to the end of each: what they leave.

@@ -3,27 +3,46 @@
 use anyhow::Result;
 use target_core::{FaultKind, RunEnd};
 
+/// A text and a number.
+fn put_number(rt: &HostRuntime, text: &str, number: u32) -> Result<()> {
+    print!(rt; "{text}{number:08X}")?;
+    Ok(())
+}
+
+/// A text, and the line's end.
+pub fn put_text(rt: &HostRuntime, text: &str) -> Result<()> {
+    println!(rt; "{text}")?;
+    Ok(())
+}
+
 /// How a run ended.
 pub fn put_end(rt: &HostRuntime, end: RunEnd) -> Result<()> {
     match end {
-        RunEnd::Returned { r0 } => print!(rt; "returned {r0:08X}")?,
-        RunEnd::NoFuel { pc } => print!(rt; "no fuel at {pc:08X}")?,
-        RunEnd::StrayBreak { pc } => print!(rt; "stray break at {pc:08X}")?,
-        RunEnd::Faulted { kind, pc } => put_fault(rt, kind, pc)?,
-        RunEnd::DeviceFault => print!(rt; "device fault")?,
+        RunEnd::Returned { r0 } => put_number(rt, "returned ", r0),
+        RunEnd::NoFuel { pc } => put_number(rt, "no fuel at ", pc),
+        RunEnd::StrayBreak { pc } => put_number(rt, "stray break at ", pc),
+        RunEnd::Faulted { kind, pc } => put_fault(rt, kind, pc),
+        RunEnd::DeviceFault => {
+            print!(rt; "device fault")?;
+            Ok(())
+        }
     }
-    Ok(())
 }
 
 /// The fault that ended a run.
 fn put_fault(rt: &HostRuntime, kind: FaultKind, pc: u32) -> Result<()> {
     match kind {
-        FaultKind::Undefined => print!(rt; "undefined at {pc:08X}")?,
-        FaultKind::BusFault { at } => print!(rt; "bus fault at {pc:08X} address {at:08X}")?,
-        FaultKind::Unaligned { at } => print!(rt; "unaligned at {pc:08X} address {at:08X}")?,
-        FaultKind::BadState => print!(rt; "bad state at {pc:08X}")?,
+        FaultKind::Undefined => put_number(rt, "undefined at ", pc),
+        FaultKind::BusFault { at } => put_access(rt, "bus fault at ", pc, at),
+        FaultKind::Unaligned { at } => put_access(rt, "unaligned at ", pc, at),
+        FaultKind::BadState => put_number(rt, "bad state at ", pc),
     }
-    Ok(())
+}
+
+/// The fault of an access, and its address.
+fn put_access(rt: &HostRuntime, text: &str, pc: u32, at: u32) -> Result<()> {
+    put_number(rt, text, pc)?;
+    put_number(rt, " address ", at)
 }
 
 /// A line of cells.
@@ -31,6 +50,5 @@ pub fn put_cells(rt: &HostRuntime, cells: &[u8]) -> Result<()> {
     for cell in cells {
         print!(rt; "{cell:02X}")?;
     }
-    println!(rt; "")?;
-    Ok(())
+    put_text(rt, "")
 }

@@ -1,12 +1,15 @@
 //! The steps of the cases.
 
+use crate::left::Left;
 use crate::measured::measure;
-use crate::pair::{Left, Pair, alone};
-use crate::put::{put_cells, put_end};
-use crate::trial::{Trial, board, fpec_board, frame};
+use crate::pair::Pair;
+use crate::put::{put_cells, put_end, put_text};
+use crate::trial::{BOARD, FPEC_BOARD, Trial, alone, frame};
 use anyhow::{Context, Result, bail, ensure};
+use board_file::read_board;
 use row_text::{bytes_of, number};
 use std::alloc::Global;
+use std::fs;
 use target_core::Frame;
 
 /// The frame of some words.
@@ -15,7 +18,10 @@ fn frame_of(pc: &str, r0: &str, r1: &str) -> Result<Frame> {
 }
 
 /// Stores a word.
-fn store(trial: &mut Trial, at: &str, value: &str) -> Result<()> {
+fn store(trial: &mut Trial, words: &[&str]) -> Result<()> {
+    let [at, value] = words else {
+        bail!("word AT VALUE");
+    };
     match trial.word(number(at)?, number(value)?) {
         Ok(()) => Ok(()),
         Err(_) => bail!("the word isn't stored"),
@@ -23,24 +29,29 @@ fn store(trial: &mut Trial, at: &str, value: &str) -> Result<()> {
 }
 
 /// Runs the code.
-fn run(rt: &HostRuntime, trial: &mut Trial, frame: &Frame, fuel: &str) -> Result<()> {
-    let end = trial.run(frame, fuel.parse::<u64>()?);
+fn run(rt: &HostRuntime, trial: &mut Trial, words: &[&str]) -> Result<()> {
+    let [pc, r0, r1, fuel] = words else {
+        bail!("run PC R0 R1 FUEL");
+    };
+    let end = trial.run(&frame_of(pc, r0, r1)?, fuel.parse::<u64>()?);
     put_end(rt, end)?;
-    println!(rt; "")?;
-    Ok(())
+    put_text(rt, "")
 }
 
 /// Runs the code in slices.
-fn slices(
-    rt: &HostRuntime,
-    trial: &mut Trial,
-    frame: &Frame,
-    fuel: &str,
-    steps: &str,
-) -> Result<()> {
-    let (end, left) = trial.slices(frame, fuel.parse::<u64>()?, steps.parse::<u64>()?);
+fn slices(rt: &HostRuntime, trial: &mut Trial, words: &[&str]) -> Result<()> {
+    let [pc, r0, r1, fuel, steps] = words else {
+        bail!("slices PC R0 R1 FUEL STEPS");
+    };
+    let frame = frame_of(pc, r0, r1)?;
+    let (end, left) = trial.slices(&frame, fuel.parse::<u64>()?, steps.parse::<u64>()?);
     put_end(rt, end)?;
-    let registers = if trial.as_last() {
+    put_slices(rt, left, trial.as_last())
+}
+
+/// Prints what is left of the fuel, and whether the registers are those of the last run.
+fn put_slices(rt: &HostRuntime, left: u64, as_last: bool) -> Result<()> {
+    let registers = if as_last {
         "the same registers"
     } else {
         "other registers"
@@ -71,12 +82,17 @@ fn put_turned(rt: &HostRuntime, code: &Code, fuel: u64, left: &Left) -> Result<(
     put_end(rt, left.end)?;
     let alone = alone(rt.alloc(), code.bytes.as_slice(), &code.frame, fuel)?;
     let same = if left.same_as(&alone) {
-        "as alone"
+        ", as alone"
     } else {
-        "not as alone"
+        ", not as alone"
     };
-    println!(rt; ", {same}")?;
-    Ok(())
+    put_text(rt, same)
+}
+
+/// Two machines in one arena.
+fn two_machines(alloc: Global) -> Result<Pair> {
+    let board = read_board(alloc, BOARD.as_bytes())?;
+    Pair::new(alloc, &board)
 }
 
 /// What two machines leave that run by turns.
@@ -85,7 +101,7 @@ fn turned(alloc: Global, one: &Code, other: &Code, fuel: u64, steps: u64) -> Res
         one.bytes.len() <= 256 && other.bytes.len() <= 256,
         "no room"
     );
-    let mut pair = Pair::new(alloc)?;
+    let mut pair = two_machines(alloc)?;
     pair.start_one(one.bytes.as_slice(), &one.frame, fuel);
     pair.start_other(other.bytes.as_slice(), &other.frame, fuel);
     pair.by_turns(fuel, steps)
@@ -99,53 +115,62 @@ fn put_both(rt: &HostRuntime, one: &Code, other: &Code, fuel: u64, steps: u64) -
 }
 
 /// Runs two machines by turns.
-fn turns(rt: &HostRuntime, fuel: &str, steps: &str, one: &[&str], other: &[&str]) -> Result<()> {
+fn turns(rt: &HostRuntime, words: &[&str]) -> Result<()> {
+    let [fuel, steps, codes @ ..] = words else {
+        bail!("turns FUEL STEPS CODE CODE");
+    };
     let fuel = fuel.parse::<u64>()?;
     let steps = steps.parse::<u64>()?;
-    let one = code_of(rt.alloc(), one)?;
-    let other = code_of(rt.alloc(), other)?;
+    turn_codes(rt, fuel, steps, codes)
+}
+
+/// Runs two machines by turns with the codes of eight words.
+fn turn_codes(rt: &HostRuntime, fuel: u64, steps: u64, codes: &[&str]) -> Result<()> {
+    ensure!(codes.len() == 8, "code is CODE PC R0 R1, twice");
+    let one = code_of(rt.alloc(), &codes[..4])?;
+    let other = code_of(rt.alloc(), &codes[4..])?;
     put_both(rt, &one, &other, fuel, steps)
 }
 
 /// Does a step on a target.
 fn go(rt: &HostRuntime, trial: &mut Trial, words: &[&str]) -> Result<()> {
-    match words {
-        ["word", at, value] => store(trial, at, value),
-        ["run", pc, r0, r1, fuel] => run(rt, trial, &frame_of(pc, r0, r1)?, fuel),
-        ["slices", pc, r0, r1, fuel, steps] => {
-            slices(rt, trial, &frame_of(pc, r0, r1)?, fuel, steps)
-        }
-        ["turns", fuel, steps, words @ ..] if words.len() == 8 => {
-            turns(rt, fuel, steps, &words[..4], &words[4..])
-        }
-        ["cells"] => put_cells(rt, trial.cells()),
-        ["measure", words @ ..] => measure(rt, words),
+    let [name, rest @ ..] = words else {
+        return Ok(());
+    };
+    match *name {
+        "word" => store(trial, rest),
+        "run" => run(rt, trial, rest),
+        "slices" => slices(rt, trial, rest),
+        "turns" => turns(rt, rest),
+        "cells" if rest.is_empty() => put_cells(rt, trial.cells()),
+        "measure" => measure(rt, rest),
         _ => bail!("no step"),
     }
 }
 
-/// Does the step of a line, if it has one, or prints the name of a case.
-fn step(rt: &HostRuntime, trial: &mut Trial, line: &str) -> Result<()> {
-    if let Some(name) = line.strip_prefix("case ") {
-        println!(rt; "{name}")?;
-        return Ok(());
-    }
+/// Does the step of a line, if it has one.
+fn go_by(rt: &HostRuntime, trial: &mut Trial, line: &str) -> Result<()> {
     let words = line.split_whitespace().collect::<Vec<&str>>(rt.alloc())?;
-    if words.is_empty() {
-        return Ok(());
-    }
     go(rt, trial, &words)
+}
+
+/// Prints the name of a case, or does the step of a line.
+fn step(rt: &HostRuntime, trial: &mut Trial, line: &str) -> Result<()> {
+    match line.strip_prefix("case ") {
+        Some(name) => put_text(rt, name),
+        None => go_by(rt, trial, line),
+    }
 }
 
 /// The target of CODE and FAIL.
 fn target_of(alloc: Global, code: &str, fail: &str) -> Result<Trial> {
     let (fail, board) = match fail.strip_suffix(" fpec") {
-        Some(fail) => (fail, fpec_board(alloc)?),
-        None => (fail, board(alloc)?),
+        Some(fail) => (fail, FPEC_BOARD),
+        None => (fail, BOARD),
     };
     let fail = fail.parse::<u64>()?;
     let code = bytes_of(alloc, code)?;
-    Trial::new(alloc, &board, &code, fail)
+    Trial::of(alloc, board, &code, fail)
 }
 
 /// Does the steps of some lines.
@@ -156,22 +181,39 @@ fn steps_of(rt: &HostRuntime, trial: &mut Trial, text: &str) -> Result<()> {
     Ok(())
 }
 
-/// Makes the target that a text names first, and goes through its other lines.
-fn go_through_one(rt: &HostRuntime, text: &str) -> Result<()> {
-    let (code, text) = text.split_once(' ').context("a target is CODE FAIL")?;
-    let (fail, text) = text.split_once('\n').context("a target is CODE FAIL")?;
+/// CODE and FAIL, and the other lines.
+fn parts(text: &str) -> Option<(&str, &str, &str)> {
+    let (code, text) = text.split_once(' ')?;
+    let (fail, text) = text.split_once('\n')?;
+    Some((code, fail, text))
+}
+
+/// Makes a target, and does the steps of some lines.
+fn go_on(rt: &HostRuntime, code: &str, fail: &str, text: &str) -> Result<()> {
     let mut trial = target_of(rt.alloc(), code, fail)?;
     steps_of(rt, &mut trial, text)
 }
 
+/// Makes the target that a text names first, and goes through its other lines.
+fn go_through_one(rt: &HostRuntime, text: &str) -> Result<()> {
+    let (code, fail, text) = parts(text).context("a target is CODE FAIL")?;
+    go_on(rt, code, fail, text)
+}
+
 /// Goes through the lines. A case has a target or more, and begins with one.
-pub fn go_through(rt: &HostRuntime, text: &str) -> Result<()> {
+fn go_through(rt: &HostRuntime, text: &str) -> Result<()> {
     let mut targets = text.split("\nnew ");
     if let Some(name) = targets.next() {
-        println!(rt; "{}", name.trim_start_matches("case "))?;
+        put_text(rt, name.trim_start_matches("case "))?;
     }
     for text in targets {
         go_through_one(rt, text)?;
     }
     Ok(())
+}
+
+/// Goes through the lines of a file.
+pub fn go_through_file(rt: &HostRuntime, name: &str) -> Result<()> {
+    let text = fs::read_to_string(rt, name)?;
+    go_through(rt, text.as_str())
 }

@@ -4,7 +4,8 @@ ghost use Rattle.bench_model.specs.Shown.{bench_of};
 ghost use Rattle.target_core.specs.Targets.{stands};
 ghost use Rattle.target_core.specs.Units.{UnitAgrees};
 
-use anyhow::{Result, bail};
+use crate::left::{CELLS, Left, SIZE};
+use anyhow::{Result, bail, ensure};
 use armv6m_decode::registers::{LR, PC};
 use bench_model::{BusEnd, MemoryBench};
 use board_file::{Board, read_board};
@@ -13,21 +14,18 @@ use std::result;
 use target_core::{Frame, RunEnd, SliceEnd, Target};
 
 /// 256 bytes of RAM, and two sectors of 4 cells.
-const BOARD: &str = "ram = { base = 0x20000000, size = 256 }
+pub const BOARD: &str = "ram = { base = 0x20000000, size = 256 }
 region = [{ base = 0x08000000, sectors = [[2, 4]] }]
 controller.base = 0x40022000";
 
 /// The same with the controller FPEC, and with a quiet range.
-const FPEC_BOARD: &str = "ram = { base = 0x20000000, size = 256 }
+pub const FPEC_BOARD: &str = "ram = { base = 0x20000000, size = 256 }
 region = [{ base = 0x08000000, sectors = [[2, 4]] }]
 controller = { base = 0x40022000, kind = \"fpec\" }
 quiet = [{ base = 0x40021000, size = 1024 }]";
 
 /// Where runs return to.
 const BACK: u32 = 0x2000_0040;
-
-/// The number of cells.
-pub const CELLS: usize = 8;
 
 /// A target and its bench, whose open operation is the controller's.
 #[derive(Drop)]
@@ -39,19 +37,15 @@ pub struct Trial {
     ghost agrees: { UnitAgrees true (stands target).unit (bench_of bench) },
 }
 
-/// The board with the controller FC1.
-pub fn board(alloc: Global) -> Result<Board> {
-    Ok(read_board(alloc, BOARD.as_bytes())?)
-}
-
-/// The board with FPEC.
-pub fn fpec_board(alloc: Global) -> Result<Board> {
-    Ok(read_board(alloc, FPEC_BOARD.as_bytes())?)
-}
-
 impl Trial {
-    /// A target of a board with this code at the beginning of its RAM, over blank cells. The cell call of this number fails.
-    pub fn new(alloc: Global, board: &Board, code: &[u8], fail: u64) -> Result<Trial> {
+    /// A target of the board of a text with this code at the beginning of its RAM, over blank cells. The cell call of this number fails.
+    pub fn of(alloc: Global, board: &str, code: &[u8], fail: u64) -> Result<Trial> {
+        let board = read_board(alloc, board.as_bytes())?;
+        Trial::new(alloc, &board, code, fail)
+    }
+
+    /// The same of a board.
+    fn new(alloc: Global, board: &Board, code: &[u8], fail: u64) -> Result<Trial> {
         let mut target = Target::new(alloc, board)?;
         if target.machine.unit.cells() as usize != CELLS
             || code.len() > target.machine.ram_size as usize
@@ -104,10 +98,26 @@ impl Trial {
         self.target.machine.core.regs == self.last
     }
 
+    /// What a run left that ended so.
+    fn left(&self, end: RunEnd) -> Result<Left> {
+        let machine = &self.target.machine;
+        ensure!(machine.ram_size as usize == SIZE, "another size");
+        let mut ram = [0; SIZE];
+        self.target.read_ram(machine.ram_base, &mut ram);
+        Ok(Left::by(end, machine, ram, self.bench.cells()))
+    }
+
     /// The cells.
     pub fn cells(&self) -> &[u8] {
         self.bench.cells()
     }
+}
+
+/// What a target leaves that runs code alone.
+pub fn alone(alloc: Global, code: &[u8], frame: &Frame, fuel: u64) -> Result<Left> {
+    let mut trial = Trial::of(alloc, BOARD, code, 0)?;
+    let end = trial.run(frame, fuel);
+    trial.left(end)
 }
 
 /// The code from this place on, with these values in R0 and R1.

@@ -1,9 +1,11 @@
 //! What the disassembler writes of an instruction is assembled to its code again.
 
+use crate::encoding::{code_of, read_pair};
+use crate::same::{assert_bytes, assert_same};
 use armv6m_asm::{Line, assemble, disassemble};
 use armv6m_decode::registers::{APSR, MSP, PC, PRIMASK, SP};
-use armv6m_decode::{Alu, Branch, Decoded, Instr, Many, Other, decode16, decode32};
-use armv6m_encode::{Encoding, encode, has_encoding};
+use armv6m_decode::{Alu, Branch, Decoded, Instr, Many, Other, decode16};
+use armv6m_encode::Encoding;
 use std::alloc::Global;
 use std::process::Abort;
 use std::test::Fail;
@@ -26,7 +28,7 @@ fn assert_back(rt: &impl Abort, alloc: Global, instr: &Instr, due: &[u8]) -> Res
     let mut line = Line::new();
     disassemble(instr, 0, &mut line);
     let code = assemble(alloc, line.bytes())?;
-    assert_eq!(rt; code.bytes.bytes(), due);
+    assert_bytes(rt, code.bytes.bytes(), due);
     Ok(())
 }
 
@@ -42,17 +44,18 @@ fn each_halfword_comes_back(rt: HostRuntime) -> Result<(), Fail> {
             }
         }
     }
-    assert_eq!(rt; open, 592);
+    assert_same(&rt, &open, &592);
     Ok(())
 }
 
 /// The text of a pair's instruction assembles to the pair.
 fn assert_pair_back(rt: &impl Abort, alloc: Global, instr: &Instr) -> Result<(), Fail> {
-    assert!(rt; has_encoding(instr));
-    if let Encoding::Pair { first, second } = encode(instr) {
+    let code = code_of(instr);
+    let due = Some((Decoded::NeedsSecond, Some(*instr)));
+    assert_same(rt, &read_pair(code), &due);
+    if let Some(Encoding::Pair { first, second }) = code {
         let [a, b] = first.to_le_bytes();
         let [c, d] = second.to_le_bytes();
-        assert_eq!(rt; decode32(first, second), Some(*instr));
         assert_back(rt, alloc, instr, &[a, b, c, d])?;
     }
     Ok(())
@@ -71,26 +74,42 @@ fn long_branches_come_back(rt: HostRuntime) -> Result<(), Fail> {
     Ok(())
 }
 
+/// The texts of both instructions on a special register.
+fn assert_special(rt: &impl Abort, alloc: Global, register: u8, special: u8) -> Result<(), Fail> {
+    let read = Other::Mrs {
+        d: register,
+        special,
+    };
+    assert_pair_back(rt, alloc, &Instr::Other(read))?;
+    let write = Other::Msr {
+        n: register,
+        special,
+    };
+    assert_pair_back(rt, alloc, &Instr::Other(write))
+}
+
+/// The texts of all instructions on the special registers, with a register.
+fn assert_all_special(rt: &impl Abort, alloc: Global, register: u8) -> Result<(), Fail> {
+    for special in [APSR, MSP, PRIMASK] {
+        assert_special(rt, alloc, register, special)?;
+    }
+    Ok(())
+}
+
+/// The texts of the barriers.
+fn assert_barriers(rt: &impl Abort, alloc: Global) -> Result<(), Fail> {
+    for barrier in [Other::Dsb, Other::Dmb, Other::Isb] {
+        assert_pair_back(rt, alloc, &Instr::Other(barrier))?;
+    }
+    Ok(())
+}
+
 #[test]
 fn special_registers_come_back(rt: HostRuntime) -> Result<(), Fail> {
     for register in 0..16u8 {
         if register != SP && register != PC {
-            for special in [APSR, MSP, PRIMASK] {
-                let read = Instr::Other(Other::Mrs {
-                    d: register,
-                    special,
-                });
-                assert_pair_back(&rt, rt.alloc(), &read)?;
-                let write = Instr::Other(Other::Msr {
-                    n: register,
-                    special,
-                });
-                assert_pair_back(&rt, rt.alloc(), &write)?;
-            }
+            assert_all_special(&rt, rt.alloc(), register)?;
         }
     }
-    for barrier in [Other::Dsb, Other::Dmb, Other::Isb] {
-        assert_pair_back(&rt, rt.alloc(), &Instr::Other(barrier))?;
-    }
-    Ok(())
+    assert_barriers(&rt, rt.alloc())
 }

@@ -1,10 +1,12 @@
 //! Instructions that end otherwise than by going on: each leaves every register and flag as it was.
 
-use super::{BASE, HERE, bus_with, core_at, stepped};
+use super::{BASE, HERE, assert_step, assert_stores, bus_with, core_at};
+use crate::same::assert_same;
 use armv6m_decode::registers::{PC, SP};
 use armv6m_step::StepEnd::{self, BusFault, Unaligned, Undefined};
-use armv6m_step::step;
+use armv6m_step::{Core, MemoryBus, step};
 use std::alloc::AllocError;
+use std::process::Abort;
 
 /// LDR R0, [R1, #0] at 0x20000102, and the same of 0x10000000; ADD PC, PC.
 #[test]
@@ -17,9 +19,7 @@ fn nothing_is_written(rt: HostRuntime) -> Result<(), AllocError> {
         let mut core = core_at(HERE);
         core.regs[1] = r1;
         core.c = true;
-        let before = core;
-        assert_eq!(rt; stepped(rt.alloc(), &mut core, code, 0, &[])?, end);
-        assert_eq!(rt; core, before);
+        assert_step(&rt, rt.alloc(), [code, 0], &[], core, (end, core))?;
     }
     Ok(())
 }
@@ -27,30 +27,33 @@ fn nothing_is_written(rt: HostRuntime) -> Result<(), AllocError> {
 /// Stores before a fault stand: PUSH {R2, R3, LR} with its second word past the memory.
 #[test]
 fn stores_before_a_fault_stand(rt: HostRuntime) -> Result<(), AllocError> {
-    let mut bus = bus_with(rt.alloc(), 0xB50C, 0, &[])?;
     let mut core = core_at(HERE);
     core.regs[2] = 0x0403_0201;
     core.regs[SP as usize] = 0x2000_0408;
-    assert_eq!(rt; step(&mut core, &mut bus), BusFault { at: 0x2000_0400 });
-    assert_eq!(rt;
-        bus.bytes().get(0x3FC..0x400),
-        Some([1, 2, 3, 4].as_slice())
-    );
-    Ok(())
+    let due = (BusFault { at: 0x2000_0400 }, core);
+    assert_stores(&rt, rt.alloc(), 0xB50C, core, due, 0x3FC, &[1, 2, 3, 4])
+}
+
+/// A step at an address ends so.
+fn assert_end(rt: &impl Abort, core: &mut Core, bus: &mut MemoryBus, pc: u32, due: StepEnd) {
+    core.regs[PC as usize] = pc;
+    assert_same(rt, &step(core, bus), &due);
 }
 
 /// A fetch at an odd address, and one whose second halfword is past the memory.
 #[test]
 fn fetches(rt: HostRuntime) -> Result<(), AllocError> {
-    let mut bus = bus_with(rt.alloc(), 0x800A, 0, &[])?;
     let mut core = core_at(HERE);
     // STRH R2, [R1], which puts the first halfword of BL at the end of the memory
     core.regs[1] = BASE + 0x3FE;
     core.regs[2] = 0xF000;
-    assert_eq!(rt; step(&mut core, &mut bus), StepEnd::Went);
-    core.regs[PC as usize] = BASE + 0x3FE;
-    assert_eq!(rt; step(&mut core, &mut bus), BusFault { at: BASE + 0x400 });
-    core.regs[PC as usize] = BASE + 0x41;
-    assert_eq!(rt; step(&mut core, &mut bus), Unaligned { at: BASE + 0x41 });
+    let mut bus = bus_with(rt.alloc(), 0x800A, 0, &[])?;
+    for (pc, end) in [
+        (HERE, StepEnd::Went),
+        (BASE + 0x3FE, BusFault { at: BASE + 0x400 }),
+        (BASE + 0x41, Unaligned { at: BASE + 0x41 }),
+    ] {
+        assert_end(&rt, &mut core, &mut bus, pc, end);
+    }
     Ok(())
 }
