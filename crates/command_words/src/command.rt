@@ -29,18 +29,18 @@ impl CommandName {
         ensures some { IfSome result (λ name. word.now ≡ text_of name) }
         ensures none { IfNone result ((name : CommandName) → word.now ≢ text_of name) }
     {
-        match word.bytes() {
-            b"program" => Some(CommandName::Program),
-            b"begin" => Some(CommandName::Begin),
-            b"resume" => Some(CommandName::Resume),
-            b"revert" => Some(CommandName::Revert),
-            b"plan" => Some(CommandName::Plan),
-            b"verify" => Some(CommandName::Verify),
-            b"compare" => Some(CommandName::Compare),
-            b"status" => Some(CommandName::Status),
-            b"inspect" => Some(CommandName::Inspect),
-            b"dump" => Some(CommandName::Dump),
-            b"demo" => Some(CommandName::Demo),
+        match word.text() {
+            "program" => Some(CommandName::Program),
+            "begin" => Some(CommandName::Begin),
+            "resume" => Some(CommandName::Resume),
+            "revert" => Some(CommandName::Revert),
+            "plan" => Some(CommandName::Plan),
+            "verify" => Some(CommandName::Verify),
+            "compare" => Some(CommandName::Compare),
+            "status" => Some(CommandName::Status),
+            "inspect" => Some(CommandName::Inspect),
+            "dump" => Some(CommandName::Dump),
+            "demo" => Some(CommandName::Demo),
             _ => None,
         }
     }
@@ -62,9 +62,9 @@ impl TextForm {
         ensures some { IfSome result (λ form. word.now ≡ form_text form) }
         ensures none { IfNone result ((form : TextForm) → word.now ≢ form_text form) }
     {
-        match word.bytes() {
-            b"hex" => Some(TextForm::Hex),
-            b"srec" => Some(TextForm::Srec),
+        match word.text() {
+            "hex" => Some(TextForm::Hex),
+            "srec" => Some(TextForm::Srec),
             _ => None,
         }
     }

@@ -1,5 +1,5 @@
 -- The counts and the runs of a job, one behind the other, its head, and the class of a file.
-use Rattle.std.proofs.Common.{◌≡◌, ◌≢◌, ◌⊎◌, ◌≤◌, ◌<◌, ◌+◌, ◌-◌, ◌^◌, ◌∙◌, ℕ, true, false, ltb, leb, eqb, List, [], ◌∷◌, ◌++◌, length, map, get_or, take, drop}
+use Rattle.std.proofs.Common.{◌≡◌, ◌≢◌, ◌⊎◌, ◌≤◌, ◌<◌, ◌+◌, ◌-◌, ◌^◌, ◌∙◌, ℕ, true, false, ltb, leb, eqb, List, [], ◌∷◌, ◌++◌, length, get_or, take, drop}
 use Rattle.std.proofs.Common.{Option, Some, None, Result, Ok, Err, refl, sym, ap, subst, arith}
 use Rattle.std.proofs.lemmas.Bool.{lt-ltb, le-ltb, le-leb, lt-leb, eq-eqb, ne_eqb}
 use Rattle.std.specs.List.{concat, flat_map}
@@ -20,10 +20,11 @@ use Rattle.job_text.specs.Body.{Job, first_mark, flm_len, run_text, body_of, May
 use Rattle.job_text.specs.Jobs.{IsJob, AreFlms}
 use Rattle.job_text.specs.Said.{algorithms_shown, one_or_two}
 use Rattle.job_text.specs.Stands.{snapshot_in, StandsFor}
-use Rattle.job_text.specs.Reading.{holds_or, Texts, File, files_of, files_in, texts_at, runs_at, Found, places_of, rest_at, format_in, is_damaged, job_as}
+use Rattle.job_text.specs.Reading.{holds_or, Texts, File, files_of, files_in, texts_at, runs_at, places_of, rest_at, format_in, is_damaged, job_as}
 use Rattle.job_text.specs.Reading.{head_at}
 use Rattle.job_text.proofs.Steps.{bind_is, holds}
 use Rattle.job_text.proofs.TakeLemmas.{IsBytes}
+use Rattle.job_text.proofs.RestLemmas.{found_of, ends_behind, runs_behind, counts_behind, rest_from, rest_said}
 use Rattle.job_text.proofs.HeadLemmas.{IsFirst, IsSecond, four, six, first_takes, second_takes}
 use Rattle.job_text.proofs.BodyLemmas.{TextsAre, texts_in, said_in, texts_take, head_for}
 use Rattle.job_text.proofs.ClassLemmas.{second_whole}
@@ -37,29 +38,6 @@ use Rattle.job_file.proofs.TextsLemmas.{fails_within}
 
 -- ---- what is behind the texts
 
-abbrev found_of : Format → Texts → List Run → List ℕ → Found
-found_of format t image snapshot = record {
-  job = record { format = format; board = t.board_text; flms = map (λ (f : File). f.text) (files_in t); image = image; snapshot = snapshot };
-  board = t.board;
-  algorithms = map (λ (f : File). f.algorithm) (files_in t);
-}
-
-abbrev ends_behind : ℕ → Format → Head → Texts → List Run × List ℕ → Result Found ℕ
-ends_behind d format h t runs = holds_or d (eqb (length runs.1) h.cells) >>= λ ends. Ok (found_of format t runs.0 runs.1)
-
-abbrev runs_behind : ℕ → Format → Head → Texts × List ℕ → Result Found ℕ
-runs_behind d format h t = runs_at d t.0.board.regions h.runs 0 t.1 >>= λ runs. ends_behind d format h t.0 runs
-
-abbrev counts_behind : ℕ → Format → Head → Texts × List ℕ → Result Found ℕ
-counts_behind d format h t =
-    holds_or (places_of format).cells (eqb h.cells (size_of t.0.board.regions)) >>= λ sized. holds_or (places_of format).runs
-    (ltb 0 h.runs) >>= λ some. runs_behind d format h t
-
-rest_from : (d : ℕ) (format : Format) (h : Head) (bytes : List ℕ)
-    → rest_at d format h bytes ≡ (texts_at d (places_of format) h bytes >>= counts_behind d format h)
-unfolding rest_at
-rest_from d format h bytes = refl
-
 pub rest_texts : (d : ℕ) (format : Format) (h : Head) (bytes : List ℕ) (e : ReadFault) → Fails e (texts_at d (places_of format) h bytes)
     → Fails e (rest_at d format h bytes)
 rest_texts d format h bytes e = fails_within e (texts_at d (places_of format) h bytes) (rest_at d format h bytes)
@@ -68,12 +46,6 @@ rest_texts d format h bytes e = fails_within e (texts_at d (places_of format) h 
 -- the texts were read, up to a place
 abbrev AreRead : ℕ → Format → Head → List ℕ → Texts → ℕ → Type 0
 AreRead d format h file t end = texts_at d (places_of format) h (drop (places_of format).front file) ≡ Ok (t, drop end file)
-
-rest_said : (d : ℕ) (format : Format) (h : Head) (file : List ℕ) (t : Texts) (end : ℕ) → AreRead d format h file t end
-    → rest_at d format h (drop (places_of format).front file) ≡ counts_behind d format h (t, drop end file)
-rest_said d format h file t end read =
-    rest_from d format h (drop (places_of format).front file) ∙ bind_is (texts_at d (places_of format) h (drop (places_of format).front file))
-    (counts_behind d format h) (t, drop end file) read
 
 counts_fail : (T : Type 0) (places : Places) (h : Head) (size : ℕ) (e : ReadFault) → Counts {T = T} places h size (Err e)
     → Fails e (counts_checked places h size)
@@ -86,7 +58,7 @@ pub rest_miscounted : (T : Type 0) (d : ℕ) (format : Format) (h : Head) (file 
     → Fails e (rest_at d format h (drop (places_of format).front file))
 rest_miscounted T d format h file t end e read is =
     fails_within e (counts_checked (places_of format) h (size_of t.board.regions)) (rest_at d format h (drop (places_of format).front file))
-    (λ at err. rest_said d format h file t end read
+    (λ at err. rest_said d format h (drop (places_of format).front file) t (drop end file) read
     ∙ err_through (holds_or (places_of format).cells (eqb h.cells (size_of t.board.regions))) (λ sized. holds_or (places_of format).runs (ltb 0 h.runs))
     (λ sized some. runs_behind d format h (t, drop end file)) at err)
     (counts_fail T (places_of format) h (size_of t.board.regions) e is)
@@ -100,7 +72,7 @@ pub record IsCountedRight (d : ℕ) (format : Format) (h : Head) (file : List �
 rest_counted : (d : ℕ) (format : Format) (h : Head) (file : List ℕ) (t : Texts) (end : ℕ) → IsCountedRight d format h file t end
     → rest_at d format h (drop (places_of format).front file) ≡ runs_behind d format h (t, drop end file)
 rest_counted d format h file t end r =
-    rest_said d format h file t end r.read
+    rest_said d format h (drop (places_of format).front file) t (drop end file) r.read
     ∙ bind_is (holds_or (places_of format).cells (eqb h.cells (size_of t.board.regions)))
     (λ sized. holds_or (places_of format).runs (ltb 0 h.runs) >>= λ some. runs_behind d format h (t, drop end file)) tt
     (holds (places_of format).cells (eqb h.cells (size_of t.board.regions)) (eq-eqb _ _ r.sized))

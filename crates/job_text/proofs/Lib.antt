@@ -6,6 +6,7 @@ pub mod FlmLemmas
 pub mod RegionLemmas
 pub mod HeadLemmas
 pub mod BodyLemmas
+pub mod RestLemmas
 pub mod OneTextLemmas
 pub mod ClassLemmas
 pub mod OneClassLemmas

@@ -1,4 +1,4 @@
--- `+remove`: that it keeps its contract.
+-- `+remove`: that it keeps its contract, and what `remove` asks for.
 use Rattle.std.proofs.Common.{arith}
 use Rattle.byte_map.proofs.Sides.{sides}
 use Rattle.byte_map.proofs.tree.+remove.Goals as goal
@@ -11,3 +11,12 @@ invariant_of-node-then-len-place t c = grind (arith, sides)
 
 pub invariant_of-node : goal.invariant_of-node
 invariant_of-node t c = grind (arith, sides)
+
+pub returns : goal.returns
+returns t c = grind (arith, sides)
+
+pub returns-then-len-place : goal.returns-then-len-place
+returns-then-len-place t c = grind (arith, sides)
+
+pub returns-then-index-before : goal.returns-then-index-before
+returns-then-index-before t c = grind (arith, sides)

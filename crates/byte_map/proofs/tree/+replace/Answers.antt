@@ -1,7 +1,16 @@
--- `+replace`: that it keeps its contract.
+-- `+replace`: that it keeps its contract, and what `replace` asks for.
 use Rattle.std.proofs.Common.{arith}
 use Rattle.byte_map.proofs.Sides.{resets}
 use Rattle.byte_map.proofs.tree.+replace.Goals as goal
 
 pub replace-requires-then-len-place : goal.replace-requires-then-len-place
 replace-requires-then-len-place t c = grind (arith, resets)
+
+pub returns : goal.returns
+returns t c = grind (arith, resets)
+
+pub returns-then-len-place : goal.returns-then-len-place
+returns-then-len-place t c = grind (arith, resets)
+
+pub returns-then-index-before : goal.returns-then-index-before
+returns-then-index-before t c = grind (arith, resets)

@@ -1,4 +1,4 @@
--- `+take_first`: that it keeps its contract.
+-- `+take_first`: that it keeps its contract, and that no number overflows.
 use Rattle.std.proofs.Common.{arith}
 use Rattle.byte_map.proofs.Sides.{sides}
 use Rattle.byte_map.proofs.tree.+take_first.Goals as goal
@@ -8,3 +8,6 @@ invariant_of-node-2 t c = grind (arith, sides)
 
 pub returns : goal.returns
 returns t c = grind (arith, sides)
+
+pub overflow_sub-node : goal.overflow_sub-node
+overflow_sub-node t c = grind (arith, sides)

@@ -1,7 +1,11 @@
 -- `refill`: that it keeps its contract.
 use Rattle.std.proofs.Common.{arith}
+use Rattle.std.proofs.lemmas.Grind.{common_steps}
 use Rattle.byte_map.proofs.Sides.{sides}
 use Rattle.byte_map.proofs.tree.refill.Goals as goal
 
 pub invariant_of-node-2 : goal.invariant_of-node-2
 invariant_of-node-2 c = grind (arith, sides)
+
+pub returns : goal.returns
+returns c = grind (arith, common_steps)

@@ -1,5 +1,6 @@
 -- `take_each`: its clauses `takes` and `short`, that its loop keeps what it has to, and what `take_one` asks for.
-use Rattle.std.proofs.Common.{rules, ◌≡◌, ◌≤◌, ◌+◌, ◌∙◌, sym, ap, subst, arith, ℕ, Bool, All, List, ◌∷◌, [], ◌++◌, length, cond, Err}
+use Rattle.std.proofs.Common.{◌≡◌, ◌≤◌, ◌+◌, ◌∙◌, sym, ap, subst, arith, ℕ, Bool, All, List, ◌∷◌, [], ◌++◌, length, cond}
+use Rattle.std.proofs.lemmas.Result.{err_from_is_err_and}
 use Rattle.std.proofs.lemmas.List.{take_all}
 use Rattle.std.proofs.lemmas.List.Elements.{All-nil, All-cons, All-append}
 use Rattle.std.proofs.lemmas.Option.{get_or_from_slice_get}
@@ -18,13 +19,12 @@ take_one-requires g c =
 
 pub returns-in_err-bytes-clause-takes : goal.returns-in_err-bytes-clause-takes
 returns-in_err-bytes-clause-takes g c =
-    let u = c.from_residual.ensures in
-    let is : c.from_residual.result ≡ Err c.in_err-bytes.field-0.0 = search rules in
     let name = sym (get_or_from_slice_get (names_of c.args.names.now) c.loop-index.index c.name.result.now [] c.name.ensures) in
     let fault = subst (λ (n : List ℕ). IsTakeFault (inputs_call g.I.Inputs.tells (g.I.Inputs.state c.loop-index.inputs)
     (g.I.Inputs.state c.take_one.new.inputs))
     (n ∷ []) (shown c.in_err-bytes.field-0.0)) name c.in_err-bytes.ensures.takes in
-    rw is (untaken_then (g.I.Inputs.state c.take_one.new.inputs) (shown c.in_err-bytes.field-0.0) c.loop-index.invariant.so_far (omega arith) fault)
+    let p = err_from_is_err_and c.from_residual.result c.from_residual.ensures.1 in
+    rw (p.1, p.2) (untaken_then (g.I.Inputs.state c.take_one.new.inputs) (shown c.in_err-bytes.field-0.0) c.loop-index.invariant.so_far (omega arith) fault)
 
 pub loop-index-preserved : goal.loop-index-preserved
 loop-index-preserved g c =

@@ -1,5 +1,6 @@
 -- `take_files`: its clauses `takes` and `short`, and what `take_one`, `take_optional` and `take_each` ask for.
-use Rattle.std.proofs.Common.{rules, ◌≡◌, ◌∙◌, arith, ◌∷◌, [], ◌++◌, option_to_list, Err}
+use Rattle.std.proofs.Common.{◌∙◌, arith, ◌∷◌, [], ◌++◌, option_to_list}
+use Rattle.std.proofs.lemmas.Result.{err_from_is_err_and}
 use Rattle.std.proofs.lemmas.List.Elements.{All-head, All-tail, All-weaker}
 use Rattle.report_text.specs.Shown.{shown}
 use Rattle.command_words.specs.Requested.{files_of}
@@ -30,18 +31,16 @@ take_each-requires g c =
 pub returns-in_err-board-clause-takes : goal.returns-in_err-board-clause-takes
 returns-in_err-board-clause-takes g c =
     let asked = files_of c.args.names.now in
-    let u = c.from_residual.ensures in
-    let is : c.from_residual.result ≡ Err c.in_err-board.field-0.0 = search rules in
-    rw is (fault_before (inputs_call g.I.Inputs.tells (g.I.Inputs.state c.args.inputs.now) (g.I.Inputs.state c.take_one.new.inputs)) (asked.board ∷ [])
-    (option_to_list asked.flm ++ asked.images) (shown c.in_err-board.field-0.0) c.in_err-board.ensures.takes)
+    let p = err_from_is_err_and c.from_residual.result c.from_residual.ensures.1 in
+    rw (p.1, p.2) (fault_before (inputs_call g.I.Inputs.tells (g.I.Inputs.state c.args.inputs.now) (g.I.Inputs.state c.take_one.new.inputs))
+    (asked.board ∷ []) (option_to_list asked.flm ++ asked.images) (shown c.in_err-board.field-0.0) c.in_err-board.ensures.takes)
 
 pub returns-in_err-flm-clause-takes : goal.returns-in_err-flm-clause-takes
 returns-in_err-flm-clause-takes g c =
     let asked = files_of c.args.names.now in
     let r = shown c.in_err-flm.field-0.0 in
-    let u = c.from_residual-in_err-flm.ensures in
-    let is : c.from_residual-in_err-flm.result ≡ Err c.in_err-flm.field-0.0 = search rules in
-    rw is (fault_behind (g.I.Inputs.state c.take_optional.new.inputs) (option_to_list asked.flm ++ asked.images) r c.in_ok-board.ensures.takes.0
+    let p = err_from_is_err_and c.from_residual-in_err-flm.result c.from_residual-in_err-flm.ensures.1 in
+    rw (p.1, p.2) (fault_behind (g.I.Inputs.state c.take_optional.new.inputs) (option_to_list asked.flm ++ asked.images) r c.in_ok-board.ensures.takes.0
     c.in_ok-board.ensures.stands c.in_ok-board.ensures.takes.1
     (fault_before (inputs_call g.I.Inputs.tells (g.I.Inputs.state c.take_one.new.inputs) (g.I.Inputs.state c.take_optional.new.inputs))
     (option_to_list asked.flm)
@@ -51,9 +50,8 @@ pub returns-in_err-images-clause-takes : goal.returns-in_err-images-clause-takes
 returns-in_err-images-clause-takes g c =
     let asked = files_of c.args.names.now in
     let r = shown c.in_err-images.field-0.0 in
-    let u = c.from_residual-in_err-images.ensures in
-    let is : c.from_residual-in_err-images.result ≡ Err c.in_err-images.field-0.0 = search rules in
-    rw is (fault_behind (g.I.Inputs.state c.take_each.new.inputs) (option_to_list asked.flm ++ asked.images) r c.in_ok-board.ensures.takes.0
+    let p = err_from_is_err_and c.from_residual-in_err-images.result c.from_residual-in_err-images.ensures.1 in
+    rw (p.1, p.2) (fault_behind (g.I.Inputs.state c.take_each.new.inputs) (option_to_list asked.flm ++ asked.images) r c.in_ok-board.ensures.takes.0
     c.in_ok-board.ensures.stands c.in_ok-board.ensures.takes.1
     (fault_behind (g.I.Inputs.state c.take_each.new.inputs) asked.images r c.in_ok-flm.ensures.takes.0 c.in_ok-flm.ensures.stands c.in_ok-flm.ensures.takes.1
     c.in_err-images.ensures.takes))

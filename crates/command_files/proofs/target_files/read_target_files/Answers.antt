@@ -1,5 +1,6 @@
--- `read_target_files`: its clauses `reads` and `short_second`, and what `read_files` and `unwrap` ask for.
-use Rattle.std.proofs.Common.{rules, ◌≡◌, ◌-◌, ap, inl, inr, refl, arith, ℕ, length, Err}
+-- `read_target_files`: its clauses `reads`, `short_second`, `short_board` and `short_flm`, and what `read_files` and `unwrap` ask for.
+use Rattle.std.proofs.Common.{◌≡◌, ◌-◌, ap, inl, inr, refl, arith, ℕ, length}
+use Rattle.std.proofs.lemmas.Result.{err_from_is_err_and}
 use Rattle.board_file.specs.Shown as board
 use Rattle.command_words.specs.Requested.{files_of}
 use Rattle.command_files.specs.Inputs.{inputs_call}
@@ -12,15 +13,13 @@ read_files-requires g c = c.in_ok-files.ensures.takes.0.images.count
 
 pub returns-in_err-files-clause-reads : goal.returns-in_err-files-clause-reads
 returns-in_err-files-clause-reads g c =
-    let u = c.from_residual.ensures in
-    let is : c.from_residual.result ≡ Err c.in_err-files.field-0.0 = search rules in
-    rw is (inl c.in_err-files.ensures.takes)
+    let p = err_from_is_err_and c.from_residual.result c.from_residual.ensures.1 in
+    rw (p.1, p.2) (inl c.in_err-files.ensures.takes)
 
 pub returns-in_err-wanted-clause-reads : goal.returns-in_err-wanted-clause-reads
 returns-in_err-wanted-clause-reads g c =
-    let u = c.from_residual-in_err-wanted.ensures in
-    let is : c.from_residual-in_err-wanted.result ≡ Err c.in_err-wanted.field-0.0 = search rules in
-    rw is (inr (record {
+    let p = err_from_is_err_and c.from_residual-in_err-wanted.result c.from_residual-in_err-wanted.ensures.1 in
+    rw (p.1, p.2) (inr (record {
       given = record { files = bytes_of c.in_ok-files.files; are_files = c.in_ok-files.ensures.takes.0; holds = c.in_err-wanted.ensures };
       none_failed = c.in_ok-files.ensures.takes.1;
     }))
@@ -68,3 +67,9 @@ returns-clause-short_second g c =
     (λ less. (c.pop.ensures.variant).1 (omega (arith, less))) (omega (arith, count, c.in_ok-wanted.wanted.board.few_regions))
     (omega (arith, count, c.in_ok-wanted.ensures.are_read.board.enough there)) in
     one_short 67108864 files.images (length c.as_slice.result.now - 1) c.pop.result c.in_ok-files.ensures.short.images taken
+
+pub returns-clause-short_board : goal.returns-clause-short_board
+returns-clause-short_board g c = c.in_ok-files.ensures.short.board
+
+pub returns-clause-short_flm : goal.returns-clause-short_flm
+returns-clause-short_flm g c = c.in_ok-files.ensures.short.flm c.unwrap.result c.unwrap.ensures

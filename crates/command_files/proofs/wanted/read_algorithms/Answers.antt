@@ -1,5 +1,6 @@
 -- `read_algorithms`: its contract, `ReadsAlgorithms`.
 use Rattle.std.proofs.Common.{◌≡◌, ◌∙◌, sym, ap, subst, arith, ℕ, List, [], ◌∷◌, length, Option, Some, Vec, Global}
+use Rattle.std.proofs.lemmas.Grind.{common_steps}
 use Rattle.board_file.specs.declared.region.Region.{Region}
 use Rattle.board_file.specs.Shown as board_shown
 use Rattle.flm_descriptor.specs.Shown as flm_shown
@@ -29,3 +30,12 @@ returns c =
     rw c.in-Some.is (gathered (λ (v : Vec Algorithm Global). v.items) b (c.in-Some.first ∷ c.args.others.now) (x ∷ y ∷ []) c.gather-2.result
     c.gather-2.ensures.ok c.gather-2.ensures.err
     (two_are_for b one two c.in-Some.first c.args.others.now second (flm_shown.shown x) (flm_shown.shown y) regions others first_is second_is))
+
+pub returns-in_err-other : goal.returns-in_err-other
+returns-in_err-other c = grind (arith, common_steps)
+
+pub returns-in_err-one : goal.returns-in_err-one
+returns-in_err-one c = grind (arith, common_steps)
+
+pub returns-then-regions-eq1 : goal.returns-then-regions-eq1
+returns-then-regions-eq1 c = grind (arith, common_steps)

@@ -1,5 +1,6 @@
--- `read_files`: its contract, `ReadsFiles`, and what `read_algorithms`, `files_from`, `names_from` and `read_images` ask for.
-use Rattle.std.proofs.Common.{rules, ◌≡◌, ◌∙◌, ap, subst, arith, ℕ, List, length, length-drop, map, take, drop, Err}
+-- `read_files`: its contract, `ReadsFiles`, that a slice ends within, and what five of its calls ask for.
+use Rattle.std.proofs.Common.{◌≤◌, ◌∙◌, ap, subst, arith, ℕ, List, length, length-drop, map, take, drop}
+use Rattle.std.proofs.lemmas.Result.{err_from_is_err_and}
 use Rattle.std.proofs.lemmas.List.{length-take-le}
 use Rattle.board_file.specs.declared.region.Region.{Region}
 use Rattle.board_file.specs.Shown as board
@@ -42,10 +43,9 @@ read_images-requires c =
 pub returns-in_err-others : goal.returns-in_err-others
 returns-in_err-others c =
     let b = board.shown c.in_ok-board.board in
-    let u = c.from_residual-in_err-others.ensures in
-    let is : c.from_residual-in_err-others.result ≡ Err c.in_err-others.field-0.0 = search rules in
     let read = subst (λ (text : List ℕ). IsBoard text b) c.bytes.ensures c.in_ok-board.ensures in
-    rw is (names_refusal (files_of c.args.names.now) (bytes_of c.args.files.now) b read (shown c.in_err-others.field-0.0) c.in_err-others.ensures.err
+    let p = err_from_is_err_and c.from_residual-in_err-others.result c.from_residual-in_err-others.ensures.1 in
+    rw (p.1, p.2) (names_refusal (files_of c.args.names.now) (bytes_of c.args.files.now) b read (shown c.in_err-others.field-0.0) c.in_err-others.ensures.err
     c.in_err-others.ensures.none)
 
 pub returns-in_err-algorithms : goal.returns-in_err-algorithms
@@ -53,10 +53,9 @@ returns-in_err-algorithms c =
     let b = board.shown c.in_ok-board.board in
     let images = c.as_slice-images.result.now in
     let others = c.in_ok-others.others in
-    let u = c.from_residual-in_err-algorithms.ensures in
-    let is : c.from_residual-in_err-algorithms.result ≡ Err c.in_err-algorithms.field-0.0 = search rules in
     let read = subst (λ (text : List ℕ). IsBoard text b) c.bytes.ensures c.in_ok-board.ensures in
-    rw is (algorithms_refusal (files_of c.args.names.now) (bytes_of c.args.files.now) b read others (take others images) (drop others images)
+    let p = err_from_is_err_and c.from_residual-in_err-algorithms.result c.from_residual-in_err-algorithms.ensures.1 in
+    rw (p.1, p.2) (algorithms_refusal (files_of c.args.names.now) (bytes_of c.args.files.now) b read others (take others images) (drop others images)
     c.in_ok-others.ensures.enough c.in_ok-others.ensures.count (ap (λ (l : List (List ℕ)). take others l) c.as_slice-images.ensures.value)
     (ap (λ (l : List (List ℕ)). drop others l) c.as_slice-images.ensures.value) (shown c.in_err-algorithms.field-0.0) c.in_err-algorithms.ensures)
 
@@ -65,10 +64,9 @@ returns-in_err-image c =
     let b = board.shown c.in_ok-board.board in
     let images = c.as_slice-images.result.now in
     let others = c.in_ok-others.others in
-    let u = c.from_residual-in_err-image.ensures in
-    let is : c.from_residual-in_err-image.result ≡ Err c.in_err-image.field-0.0 = search rules in
     let read = subst (λ (text : List ℕ). IsBoard text b) c.bytes.ensures c.in_ok-board.ensures in
-    rw is (back_refusal (files_of c.args.names.now) (bytes_of c.args.files.now) b read others (take others images) c.files_from-rest.result.now
+    let p = err_from_is_err_and c.from_residual-in_err-image.result c.from_residual-in_err-image.ensures.1 in
+    rw (p.1, p.2) (back_refusal (files_of c.args.names.now) (bytes_of c.args.files.now) b read others (take others images) c.files_from-rest.result.now
     c.in_ok-others.ensures.enough c.in_ok-others.ensures.count (ap (λ (l : List (List ℕ)). take others l) c.as_slice-images.ensures.value)
     (c.files_from-rest.ensures ∙ ap (λ (l : List (List ℕ)). drop others l) c.as_slice-images.ensures.value) (map flm.shown c.in_ok-algorithms.algorithms.items)
     c.in_ok-algorithms.ensures
@@ -99,3 +97,16 @@ returns c =
     c.in_ok-algorithms.ensures
     c.in_ok-image.image c.in_ok-image.ensures c.in-Err.fault
     (subst (λ (rs : List Region). IsPlaceFault c.in_ok-image.image (ranges_of rs) c.in-Err.fault) c.as_slice.ensures c.in-Err.ensures.refused)
+
+pub check_place-requires-clause-some : goal.check_place-requires-clause-some
+check_place-requires-clause-some c = omega (arith, ap length c.as_slice.ensures, c.in_ok-board.board.some_region)
+
+pub check_place-requires-clause-few : goal.check_place-requires-clause-few
+check_place-requires-clause-few c = omega (arith, ap length c.as_slice.ensures, c.in_ok-board.board.few_regions)
+
+pub slice_bounds-read_algorithms-end : goal.slice_bounds-read_algorithms-end
+slice_bounds-read_algorithms-end c =
+    let images = c.as_slice-images.result.now in
+    let others = c.in_ok-others.others in
+    let inside : others ≤ length images = omega (arith, c.in_ok-others.ensures.inside, ap length c.as_slice-images.ensures.value) in
+    omega (arith, length-take-le others images inside)

@@ -1,5 +1,4 @@
 -- `read_one`: its contract, `ReadsOne`.
-use Rattle.std.proofs.Common.{rules, ◌≡◌, Err}
 use Rattle.std.proofs.lemmas.Result.{err_from_is_err_and}
 use Rattle.board_file.specs.Shown as board
 use Rattle.flm_descriptor.specs.Shown as flm
@@ -14,8 +13,7 @@ returns-in_err-algorithm c =
 
 pub returns-in_err-check_algorithm : goal.returns-in_err-check_algorithm
 returns-in_err-check_algorithm c =
-    let u = c.from_residual-in_err-check_algorithm.ensures in
-    let is : c.from_residual-in_err-check_algorithm.result ≡ Err c.in_err-check_algorithm.field-0.0 = search rules in
-    rw is (unfit_one (board.shown c.args.board.now) c.args.region.now c.args.file.now (flm.shown c.in_ok-algorithm.algorithm)
+    let p = err_from_is_err_and c.from_residual-in_err-check_algorithm.result c.from_residual-in_err-check_algorithm.ensures.1 in
+    rw (p.1, p.2) (unfit_one (board.shown c.args.board.now) c.args.region.now c.args.file.now (flm.shown c.in_ok-algorithm.algorithm)
     (shown c.in_err-check_algorithm.field-0.0)
     c.in_ok-algorithm.ensures.ok c.in_err-check_algorithm.ensures)

@@ -1,5 +1,6 @@
--- `begin`: its clauses `ok`, `stops`, `after` and `unopened`.
-use Rattle.std.proofs.Common.{rules, Err, ⊎_elim, inl, ◌≡◌, ◌++◌, ◌∷◌, ℕ, List, length, sym, refl, subst, arith, None, OnOk}
+-- `begin`: its clauses `ok`, `stops`, `after`, `unopened`, `store` and `device`.
+use Rattle.std.proofs.Common.{⊎_elim, inl, ◌≡◌, ◌++◌, ◌∷◌, ℕ, List, length, sym, refl, subst, arith, None, OnOk}
+use Rattle.std.proofs.lemmas.Result.{err_from_is_err_and}
 use Rattle.bench_model.specs.History.{LeftOnly, left}
 use Rattle.bench_model.specs.State.{file_half}
 use Rattle.bench_model.proofs.Moments.{leaves_left}
@@ -7,9 +8,11 @@ use Rattle.job_text.specs.Body.{body_of}
 use Rattle.job_text.specs.Files.{IsFree}
 use Rattle.job_text.specs.Parts.{job_of, front_of, with_hash}
 use Rattle.job_text.proofs.PartLemmas.{hashed_is}
+use Rattle.bench_model.proofs.CountLemmas.{none_counted}
 use Rattle.job_file.specs.Stops.{IsOfBegin, IsFreeOrWhole}
 use Rattle.job_file.proofs.PieceLemmas.{begins}
 use Rattle.job_file.proofs.UnopenedLemmas.{unopened_behind, unopened_other}
+use Rattle.job_file.proofs.CountLemmas.{counted_behind}
 use Rattle.job_file.proofs.begin_call.begin.Goals as goal
 
 pub returns-clause-ok : goal.returns-clause-ok
@@ -65,13 +68,18 @@ returns-clause-after g c = λ told is_free.
 
 pub returns-in_err-head-clause-unopened : goal.returns-in_err-head-clause-unopened
 returns-in_err-head-clause-unopened g c = λ told.
-    let u = c.from_residual.ensures in
-    let is : c.from_residual.result ≡ Err c.in_err-head.field-0.0 = search rules in
-    rw is (unopened_other (Unit {0}) (file_half (g.B.Bench.state c.args.bench.now)) (file_half (g.B.Bench.state c.prepare.new.bench)) c.in_err-head.field-0.0
-    c.in_err-head.ensures.no_device)
+    let p = err_from_is_err_and c.from_residual.result c.from_residual.ensures.1 in
+    rw (p.1, p.2) (unopened_other (Unit {0}) (file_half (g.B.Bench.state c.args.bench.now)) (file_half (g.B.Bench.state c.prepare.new.bench))
+    c.in_err-head.field-0.0 c.in_err-head.ensures.no_device)
 
 pub returns-clause-unopened : goal.returns-clause-unopened
 returns-clause-unopened g c = λ told.
     unopened_behind (file_half (g.B.Bench.state c.args.bench.now)) (file_half (g.B.Bench.state c.prepare.new.bench))
     (file_half (g.B.Bench.state c.drop_and_put.new.bench)) c.drop_and_put.result
     c.prepare.ensures.reads.moments (c.drop_and_put.ensures.unopened told)
+
+pub returns-clause-store : goal.returns-clause-store
+returns-clause-store g c = counted_behind c.in_ok-head.ensures.counted c.drop_and_put.ensures.store
+
+pub returns-clause-device : goal.returns-clause-device
+returns-clause-device g c = counted_behind (none_counted _ _ c.prepare.ensures.reads.cells.faults) c.drop_and_put.ensures.device

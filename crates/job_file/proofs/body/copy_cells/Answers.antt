@@ -1,6 +1,8 @@
--- `copy_cells`: its clauses `moments` and `hash`.
-use Rattle.std.proofs.Common.{◌++◌, ℕ, List, subst}
+-- `copy_cells`: its clauses `moments`, `hash`, `ok`, `store` and `device`.
+use Rattle.std.proofs.Common.{◌++◌, ℕ, List, subst, arith, refl, ◌∙◌}
+use Rattle.std.proofs.lemmas.Grind.{common_steps}
 use Rattle.sha2.specs.Hashers.{Holds256}
+use Rattle.bench_model.proofs.CountLemmas.{none_counted}
 use Rattle.job_file.proofs.PutLemmas.{kept_by_write}
 use Rattle.job_file.proofs.body.copy_cells.Goals as goal
 
@@ -17,3 +19,12 @@ returns-clause-moments g c =
 pub returns-clause-hash : goal.returns-clause-hash
 returns-clause-hash g c = λ told m holds. subst (λ (l : List ℕ). Holds256 c.update.new.self (m ++ l)) (c.in_ok-cells_read.ensures.does.ok told)
     (c.update.ensures m holds)
+
+pub returns-clause-ok : goal.returns-clause-ok
+returns-clause-ok g c = grind (arith, common_steps)
+
+pub returns-clause-store : goal.returns-clause-store
+returns-clause-store g c = none_counted _ _ (c.in_ok-file_write.ensures.does.cause.on_ok refl ∙ c.cells_read.ensures.does.file.faults)
+
+pub returns-clause-device : goal.returns-clause-device
+returns-clause-device g c = none_counted _ _ (c.file_write.ensures.does.cells.faults ∙ c.in_ok-cells_read.ensures.does.cause.on_ok refl)

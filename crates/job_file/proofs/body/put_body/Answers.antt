@@ -1,9 +1,11 @@
--- `put_body`: its clauses `moments`, `cells` and `hash`, that its loop keeps what it has to, and what `copy_cells` asks for.
+-- `put_body`: its clauses `moments`, `cells`, `hash`, `ok`, `store` and `device`, that its loop keeps what it has to, and what `copy_cells` asks for.
 use Rattle.std.proofs.Common.{◌≡◌, ◌≤◌, ◌-◌, ◌++◌, ◌∷◌, ◌∙◌, ℕ, List, length, take, drop, ap, refl, sym, subst, arith, length-append}
 use Rattle.std.proofs.lemmas.List.{length-take, length-drop, append-nil, take_all}
+use Rattle.std.proofs.lemmas.Grind.{common_steps}
 use Rattle.job_text.specs.Parts.{front_of}
 use Rattle.sha2.specs.Sha256.{sha256}
 use Rattle.sha2.specs.Hashers.{Holds256}
+use Rattle.bench_model.proofs.CountLemmas.{none_counted}
 use Rattle.job_file.proofs.PutLemmas.{cells_more, hash_more, still_shut, cells_read_then, cells_read_stay}
 use Rattle.job_file.proofs.BodyLemmas.{shut_by_parts, body_end}
 use Rattle.job_file.proofs.body.put_body.Goals as goal
@@ -81,3 +83,12 @@ returns-clause-hash g c = λ told.
     c.finalize.ensures (drop 39 front ++ take c.loop-at.at s.cells) (so_far.hash told)
     ∙ ap (λ (l : List ℕ). sha256 (drop 39 front ++ l)) (take_all c.loop-at.at s.cells
     (omega (arith, so_far.cells.count, so_far.within, g.met.B.Bench.all_told c.args.bench.now told)))
+
+pub returns-clause-ok : goal.returns-clause-ok
+returns-clause-ok g c = grind (arith, common_steps)
+
+pub returns-clause-store : goal.returns-clause-store
+returns-clause-store g c = none_counted _ _ c.loop-at.invariant.store
+
+pub returns-clause-device : goal.returns-clause-device
+returns-clause-device g c = none_counted _ _ c.loop-at.invariant.device

@@ -1,8 +1,9 @@
--- `put_hashed`: its clauses `ok`, `moments` and `cells`, and what `file_write` asks for.
-use Rattle.std.proofs.Common.{◌∙◌, ◌++◌, ℕ, List, length, ap, arith}
+-- `put_hashed`: its clauses `ok`, `moments`, `cells`, `store` and `device`, and what `file_write` asks for.
+use Rattle.std.proofs.Common.{◌∙◌, ◌++◌, ℕ, List, length, ap, arith, refl}
 use Rattle.sha2.proofs.Facts256.{length-sha256}
 use Rattle.bench_model.specs.Calls.{written}
 use Rattle.job_text.specs.Parts.{front_of}
+use Rattle.bench_model.proofs.CountLemmas.{none_counted}
 use Rattle.job_file.proofs.PutLemmas.{hash_put, still_shut, cells_read_then, cells_read_stay}
 use Rattle.job_file.proofs.BodyLemmas.{part_moments}
 use Rattle.job_file.proofs.body.put_hashed.Goals as goal
@@ -37,3 +38,9 @@ returns-clause-cells g c = cells_read_then c.put_body.ensures.cells
 pub returns-in_err-file_write-clause-cells : goal.returns-in_err-file_write-clause-cells
 returns-in_err-file_write-clause-cells g c = cells_read_then c.put_body.ensures.cells
     (cells_read_stay g.B.Bench.tells (g.B.Bench.state c.put_body.new.bench) (g.B.Bench.state c.file_write.new.self) c.file_write.ensures.does.cells)
+
+pub returns-clause-store : goal.returns-clause-store
+returns-clause-store g c = none_counted _ _ (c.in_ok-file_write.ensures.does.cause.on_ok refl ∙ c.in_ok-hash.ensures.store.on_other refl)
+
+pub returns-clause-device : goal.returns-clause-device
+returns-clause-device g c = none_counted _ _ (c.file_write.ensures.does.cells.faults ∙ c.in_ok-hash.ensures.device.on_other refl)

@@ -1,7 +1,8 @@
--- `read_job`: its clauses `ok` and `err`, and what `read_rest` asks for.
+-- `read_job`: its clauses `ok`, `err` and `reads`, and what `read_rest` asks for.
 use Rattle.std.proofs.Common.{◌∙◌, ℕ, List, Result, length, drop, sym, ap, subst}
 use Rattle.std.proofs.lemmas.Result.{IfOk-weaker, IfErr-weaker}
 use Rattle.job_text.specs.Reading.{Found, places_of, rest_at}
+use Rattle.bench_model.proofs.Moments.{only_reads_then}
 use Rattle.job_file.specs.Readers.{Fails, IsJobRest}
 use Rattle.job_file.proofs.JobLemmas.{job_head, job_rest, job_body}
 use Rattle.job_file.proofs.class.read_job.Goals as goal
@@ -31,3 +32,6 @@ returns-in-Ok-clause-err g c = λ told.
 pub returns-in-Err-clause-err : goal.returns-in-Err-clause-err
 returns-in-Err-clause-err g c = λ told. job_head c.args.whole c.args.format (drop 1 (g.B.Bench.state c.args.bench.now).file) c.in-Err.fault
     (c.in-Err.ensures.said told)
+
+pub returns-in-Ok-clause-reads : goal.returns-in-Ok-clause-reads
+returns-in-Ok-clause-reads g c = only_reads_then c.read_head.ensures.reads c.read_rest.ensures.reads

@@ -1,10 +1,13 @@
--- `read_opened`: its clause `class`, and what `find_damage` asks for.
-use Rattle.std.proofs.Common.{◌≡◌, ◌∙◌, ℕ, List, Option, Some, length, drop, ap, subst, sym}
+-- `read_opened`: its clauses `class`, `reads` and `counted`, and what `find_damage` asks for.
+use Rattle.std.proofs.Common.{◌≡◌, ◌∙◌, ℕ, List, Option, Some, length, drop, ap, subst, sym, refl}
 use Rattle.job_text.specs.Reading.{format_in, kept_in}
 use Rattle.job_text.specs.declared.damage.Damage.{Damage}
 use Rattle.job_text.specs.Shown.{IsDamage}
 use Rattle.job_text.specs.Stands.{IsFoundDamaged}
 use Rattle.job_text.proofs.ClassLemmas.{damaged_as}
+use Rattle.bench_model.proofs.Moments.{only_reads_then}
+use Rattle.bench_model.proofs.CountLemmas.{none_counted}
+use Rattle.job_file.proofs.CountLemmas.{counted_behind}
 use Rattle.job_file.proofs.class.read_opened.Goals as goal
 
 pub find_damage-requires-clause-told : goal.find_damage-requires-clause-told
@@ -25,3 +28,16 @@ returns-in-Ok-Some-clause-class g c = λ told.
     (subst (λ (o : Option Damage). IsDamage o (drop 1 one)) c.in-Ok-Some.field-0-is (c.in-Ok-Some.ensures.ok told)) in
     subst (λ (l : List ℕ). IsFoundDamaged l damage.found file) (sym d.1)
     (subst (λ (l : List ℕ). IsFoundDamaged (kept_in (drop 1 file)) l file) (sym d.2) (damaged_as file gate.0 gate.1 d.0))
+
+pub returns-in-Ok-None-clause-reads : goal.returns-in-Ok-None-clause-reads
+returns-in-Ok-None-clause-reads g c = only_reads_then (only_reads_then c.read_format.ensures.reads c.find_damage.ensures.reads) c.class_of_job.ensures.reads
+
+pub returns-in-Ok-Some-clause-reads : goal.returns-in-Ok-Some-clause-reads
+returns-in-Ok-Some-clause-reads g c = only_reads_then c.read_format.ensures.reads c.find_damage.ensures.reads
+
+pub returns-in-Ok-None-clause-counted : goal.returns-in-Ok-None-clause-counted
+returns-in-Ok-None-clause-counted g c = counted_behind (none_counted _ _ (c.in-Ok-None.ensures.cause.on_ok refl ∙ c.in-Ok.ensures.cause.on_ok refl))
+    c.class_of_job.ensures.counted
+
+pub returns-in-Ok-Some-clause-counted : goal.returns-in-Ok-Some-clause-counted
+returns-in-Ok-Some-clause-counted g c = none_counted _ _ (c.in-Ok-Some.ensures.cause.on_ok refl ∙ c.in-Ok.ensures.cause.on_ok refl)

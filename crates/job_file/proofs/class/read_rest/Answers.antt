@@ -1,15 +1,20 @@
--- `read_rest`: its clauses `err` and `ok`, and what `read_said` and `read_runs` ask for.
-use Rattle.std.proofs.Common.{◌≡◌, ◌++◌, ◌∙◌, ℕ, List, Result, Ok, Err, refl, length, drop, ap, subst, arith}
+-- `read_rest`: its clauses `err`, `ok`, `reads` and `counted`, that its result is as its type asks, and what `read_said` and `read_runs` ask for.
+use Rattle.std.proofs.Common.{◌≡◌, ◌++◌, ◌∙◌, ℕ, List, Result, Ok, Err, refl, length, drop, ap, sym, subst, arith, IsTrue}
 use Rattle.std.specs.List.{flat_map}
 use Rattle.board_file.specs.declared.region.Region.{Region}
+use Rattle.board_file.specs.Limits.{size_of}
+use Rattle.board_file.specs.Shown.{shown}
 use Rattle.flm_descriptor.specs.declared.algorithm.Algorithm.{Algorithm}
 use Rattle.job_text.specs.declared.head.Places.{Places}
 use Rattle.job_text.specs.Body.{run_text}
+use Rattle.job_text.specs.Fits.{all_fit, LiesIn}
 use Rattle.job_text.specs.Said.{algorithms_shown}
 use Rattle.job_text.specs.Reading.{Texts, texts_at, runs_at, places_of}
+use Rattle.bench_model.proofs.Moments.{only_reads_then}
 use Rattle.job_file.specs.declared.fault.ReadFault.{ReadFault}
 use Rattle.job_file.specs.Readers.{Fails, Counts, texts_there}
 use Rattle.job_file.proofs.JobLemmas.{IsCountedRight, rest_texts, rest_miscounted, rest_runs, rest_ends, rest_job}
+use Rattle.job_file.proofs.CountLemmas.{counted_behind, miscounted}
 use Rattle.job_file.proofs.class.read_rest.Goals as goal
 
 pub read_said-requires-clause-within : goal.read_said-requires-clause-within
@@ -107,3 +112,50 @@ returns-in-Ok-new-clause-ok g c = λ told.
     rest_job _ c.args.whole format h file said right refl (ap (λ (l : List Algorithm). algorithms_shown l) c.in-Ok-new.ensures)
     (subst (λ (f : List ℕ). drop said.end f ≡ flat_map run_text image ++ drop at f) same (c.in-Ok-read_runs.ensures.text told))
     c.in-Ok-read_runs.ensures.count (c.requires.told told) (omega (arith, c.if-left-cells.false))
+
+pub returns-then-left-cells-clause-reads : goal.returns-then-left-cells-clause-reads
+returns-then-left-cells-clause-reads g c = only_reads_then c.read_said.ensures.reads c.read_runs.ensures.reads
+
+pub returns-in-Err-read_runs-clause-reads : goal.returns-in-Err-read_runs-clause-reads
+returns-in-Err-read_runs-clause-reads g c = only_reads_then c.read_said.ensures.reads c.read_runs.ensures.reads
+
+pub returns-in-Ok-new-clause-reads : goal.returns-in-Ok-new-clause-reads
+returns-in-Ok-new-clause-reads g c = only_reads_then c.read_said.ensures.reads c.read_runs.ensures.reads
+
+pub returns-in-Err-new-clause-reads : goal.returns-in-Err-new-clause-reads
+returns-in-Err-new-clause-reads g c = only_reads_then c.read_said.ensures.reads c.read_runs.ensures.reads
+
+pub returns-in-Ok-new-clause-counted : goal.returns-in-Ok-new-clause-counted
+returns-in-Ok-new-clause-counted g c = counted_behind c.in-Ok.ensures.counted c.in-Ok-read_runs.ensures.counted
+
+pub returns-in-Err-new-clause-counted : goal.returns-in-Err-new-clause-counted
+returns-in-Err-new-clause-counted g c = counted_behind c.in-Ok.ensures.counted c.in-Ok-read_runs.ensures.counted
+
+pub returns-then-left-cells-clause-counted : goal.returns-then-left-cells-clause-counted
+returns-then-left-cells-clause-counted g c = counted_behind c.in-Ok.ensures.counted c.in-Ok-read_runs.ensures.counted
+
+pub returns-in-Err-read_runs-clause-counted : goal.returns-in-Err-read_runs-clause-counted
+returns-in-Err-read_runs-clause-counted g c = counted_behind c.in-Ok.ensures.counted c.in-Err-read_runs.ensures.counted
+
+pub returns-in-Err-check_counts-clause-counted : goal.returns-in-Err-check_counts-clause-counted
+returns-in-Err-check_counts-clause-counted g c = miscounted c.places_in-places.result c.args.head c.cells_in.result c.in-Err-check_counts.fault
+    c.in-Err-check_counts.ensures
+    c.in-Ok.ensures.counted
+
+pub invariant_of-result : goal.invariant_of-result
+invariant_of-result g c =
+    let said = c.in-Ok.said in
+    let regions = c.as_slice-regions.ensures in
+    record {
+      fit = subst (λ (l : List Algorithm). IsTrue (all_fit (shown said.board) said.board.regions (algorithms_shown l))) (sym c.in-Ok-new.ensures)
+          c.in-Ok.ensures.fit;
+      some = omega (arith, c.in-Ok-read_runs.ensures.count, c.in-Ok-check_counts.ensures.1);
+      inside = subst (λ (rs : List Region). LiesIn rs c.in-Ok-read_runs.read.0) regions c.in-Ok-read_runs.ensures.inside;
+      early = omega (
+        arith,
+        c.in-Ok-read_runs.ensures.taken,
+        c.in-Ok.ensures.ends,
+        ap (λ (rs : List Region). size_of rs) regions,
+        said.board.few_cells,
+      );
+    }

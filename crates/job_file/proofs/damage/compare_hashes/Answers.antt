@@ -1,8 +1,10 @@
--- `compare_hashes`: its clauses `ok` and `differ`, and what `read_kept` asks for.
-use Rattle.std.proofs.Common.{◌∙◌, ℕ, List, take, drop, length, ap, sym, arith}
+-- `compare_hashes`: its clauses `ok`, `differ`, `reads` and `cause`, and what `read_kept` asks for.
+use Rattle.std.proofs.Common.{◌∙◌, ℕ, List, take, drop, length, ap, sym, arith, refl}
 use Rattle.std.proofs.lemmas.List.{length-drop, drop-drop}
 use Rattle.sha2.specs.Sha256.{sha256}
+use Rattle.bench_model.proofs.Moments.{only_reads_then}
 use Rattle.job_file.proofs.HashLemmas.{short_intact, damage_is, they_differ}
+use Rattle.job_file.proofs.CountLemmas.{none_caused}
 use Rattle.job_file.proofs.damage.compare_hashes.Goals as goal
 
 pub returns-then-whole-lt-FRONT-clause-ok : goal.returns-then-whole-lt-FRONT-clause-ok
@@ -25,3 +27,9 @@ returns-clause-ok g c = λ told.
 
 pub returns-clause-differ : goal.returns-clause-differ
 returns-clause-differ g c = they_differ c.in_ok-kept.kept c.in_ok-found.found c.differing.result c.differing.ensures
+
+pub returns-clause-reads : goal.returns-clause-reads
+returns-clause-reads g c = only_reads_then c.read_hash.ensures.reads c.read_kept.ensures.reads
+
+pub returns-clause-cause : goal.returns-clause-cause
+returns-clause-cause g c = none_caused _ (c.in_ok-kept.ensures.cause.on_ok refl ∙ c.in_ok-found.ensures.cause.on_ok refl)

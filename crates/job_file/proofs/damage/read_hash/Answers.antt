@@ -1,4 +1,4 @@
--- `read_hash`: its clause `ok`, that its loop keeps what it has to, and what `hash_window` asks for.
+-- `read_hash`: its clauses `ok` and `reads`, that its loop keeps what it has to, and what `hash_window` asks for.
 use Rattle.std.proofs.Common.{◌≡◌, ◌≤◌, ◌-◌, ◌∙◌, ℕ, List, length, take, drop, ap, refl, arith, length-append}
 use Rattle.std.proofs.lemmas.List.{length-take, length-drop, take_all}
 use Rattle.bench_model.proofs.Moments.{only_reads_then, only_reads_here}
@@ -50,3 +50,6 @@ returns-clause-ok g c = λ told.
     let rest = drop 40 file in
     c.finalize.ensures (take c.loop-at.at rest) (so_far.hash told)
     ∙ ap (λ (l : List ℕ). sha256 l) (take_all c.loop-at.at rest (omega (arith, length-drop 40 file, c.requires.told told)))
+
+pub returns-in_err-hash_window-clause-reads : goal.returns-in_err-hash_window-clause-reads
+returns-in_err-hash_window-clause-reads g c = only_reads_then c.loop-at.invariant.reads c.hash_window.ensures.reads

@@ -1,12 +1,15 @@
--- `put_job`: its clauses `moments` and `unopened`.
-use Rattle.std.proofs.Common.{rules, ◌≡◌, ◌∙◌, ◌++◌, ◌∷◌, ap, inl, inr, List, ℕ, arith, Err}
+-- `put_job`: its clauses `moments`, `unopened`, `store`, `device` and `cells`.
+use Rattle.std.proofs.Common.{◌∙◌, ◌++◌, ◌∷◌, ap, inl, inr, List, ℕ, arith, refl}
+use Rattle.std.proofs.lemmas.Result.{err_from_is_err_and}
 use Rattle.bench_model.specs.State.{file_half}
 use Rattle.bench_model.proofs.Moments.{leaves_as, leaves_then, leaves_step, leaves_then_nothing}
 use Rattle.job_text.specs.Files.{IsFree}
 use Rattle.job_text.specs.Parts.{front_of, with_hash}
+use Rattle.bench_model.proofs.CountLemmas.{none_counted}
 use Rattle.job_file.specs.Stops.{IsFreeOrWhole, IsShut, IsUnopened}
 use Rattle.job_file.proofs.FileLemmas.{free_closed, opening}
 use Rattle.job_file.proofs.UnopenedLemmas.{unopened_by}
+use Rattle.job_file.proofs.PutLemmas.{cells_read_then, cells_read_stay}
 use Rattle.job_file.proofs.gate.put_job.Goals as goal
 
 -- one line for each step
@@ -49,6 +52,18 @@ returns-in_err-put_hashed-clause-unopened g c = λ told.
     let run1 = leaves_as IsFree P (λ f free. inr free) (c.shut.ensures.moments told) in
     let run2 = leaves_then P run1 (leaves_as IsShut P (λ f shut. inr (free_closed f _ 0 (λ e. absurd (omega (arith, e))) shut))
     (c.put_hashed.ensures.moments told)) in
-    let u = c.from_residual-in_err-put_hashed.ensures in
-    let is : c.from_residual-in_err-put_hashed.result ≡ Err c.in_err-put_hashed.field-0.0 = search rules in
-    rw is (unopened_by (Unit {0}) a (file_half (g.B.Bench.state c.put_hashed.new.bench)) c.in_err-put_hashed.field-0.0 run2)
+    let p = err_from_is_err_and c.from_residual-in_err-put_hashed.result c.from_residual-in_err-put_hashed.ensures.1 in
+    rw (p.1, p.2) (unopened_by (Unit {0}) a (file_half (g.B.Bench.state c.put_hashed.new.bench)) c.in_err-put_hashed.field-0.0 run2)
+
+pub returns-clause-store : goal.returns-clause-store
+returns-clause-store g c = none_counted _ _ (c.in_ok-write_synced.ensures.cause.on_ok refl ∙ c.in_ok-file_sync.ensures.does.cause.on_ok refl
+    ∙ c.in_ok-put_hashed.ensures.store.on_other refl ∙ c.in_ok-shut.ensures.cause.on_ok refl)
+
+pub returns-clause-device : goal.returns-clause-device
+returns-clause-device g c = none_counted _ _ (c.write_synced.ensures.cells.faults ∙ c.file_sync.ensures.does.cells.faults
+    ∙ c.in_ok-put_hashed.ensures.device.on_other refl ∙ c.shut.ensures.cells.faults)
+
+pub returns-clause-cells : goal.returns-clause-cells
+returns-clause-cells g c = let tells = g.B.Bench.tells in
+    cells_read_then (cells_read_then (cells_read_then (cells_read_stay tells _ _ c.shut.ensures.cells) c.put_hashed.ensures.cells)
+    (cells_read_stay tells _ _ c.file_sync.ensures.does.cells)) (cells_read_stay tells _ _ c.write_synced.ensures.cells)

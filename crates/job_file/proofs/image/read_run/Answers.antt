@@ -1,7 +1,9 @@
--- `read_run`: its clauses `ok` and `err`, and what `lay_run` asks for.
+-- `read_run`: its clauses `ok`, `err`, `reads` and `counted`, and what `lay_run` asks for.
 use Rattle.std.proofs.Common.{ℕ, List, length, drop, ap, arith}
 use Rattle.job_text.specs.Reading.{run_at}
+use Rattle.bench_model.proofs.Moments.{only_reads_then}
 use Rattle.job_file.proofs.ImageLemmas.{run_added, no_verdict}
+use Rattle.job_file.proofs.CountLemmas.{counted_behind}
 use Rattle.job_file.proofs.image.read_run.Goals as goal
 
 pub lay_run-requires-clause-told : goal.lay_run-requires-clause-told
@@ -28,3 +30,15 @@ returns-in-Err-lay_run-clause-err g c = λ told.
 
 pub returns-in-Err-clause-err : goal.returns-in-Err-clause-err
 returns-in-Err-clause-err g c = λ told. c.in-Err.ensures.said told
+
+pub returns-in-Err-lay_run-clause-reads : goal.returns-in-Err-lay_run-clause-reads
+returns-in-Err-lay_run-clause-reads g c = only_reads_then c.read_run_head.ensures.reads c.lay_run.ensures.reads
+
+pub returns-in-Ok-lay_run-clause-reads : goal.returns-in-Ok-lay_run-clause-reads
+returns-in-Ok-lay_run-clause-reads g c = only_reads_then c.read_run_head.ensures.reads c.lay_run.ensures.reads
+
+pub returns-in-Err-lay_run-clause-counted : goal.returns-in-Err-lay_run-clause-counted
+returns-in-Err-lay_run-clause-counted g c = counted_behind c.in-Ok.ensures.counted c.in-Err-lay_run.ensures.counted
+
+pub returns-in-Ok-lay_run-clause-counted : goal.returns-in-Ok-lay_run-clause-counted
+returns-in-Ok-lay_run-clause-counted g c = counted_behind c.in-Ok.ensures.counted c.in-Ok-lay_run.ensures.counted

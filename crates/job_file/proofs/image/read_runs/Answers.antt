@@ -1,7 +1,8 @@
--- `read_runs`: its clauses `gives`, `text`, `inside` and `taken`, that its loop keeps what it has to, and what `read_run` asks for.
+-- `read_runs`: its clauses `gives`, `text`, `inside`, `taken` and `reads`, that its loop keeps what it has to, and what `read_run` asks for.
 use Rattle.std.proofs.Common.{List, drop, refl, sym, subst, arith}
 use Rattle.byte_map.specs.Image.{Run}
 use Rattle.std.proofs.lemmas.Result.{err_from_is_err_and}
+use Rattle.bench_model.proofs.Moments.{only_reads_then}
 use Rattle.job_text.specs.Reading.{runs_at}
 use Rattle.job_text.proofs.LoopLemmas.{is_done}
 use Rattle.job_text.proofs.CoverLemmas.{under_most}
@@ -54,3 +55,6 @@ returns-clause-inside g c = (c.loop.invariant.maximal, c.loop.invariant.covered)
 
 pub returns-clause-taken : goal.returns-clause-taken
 returns-clause-taken g c = omega (arith, c.loop.invariant.used, under_most c.args.regions.now c.loop.from)
+
+pub returns-in_err-place-clause-reads : goal.returns-in_err-place-clause-reads
+returns-in_err-place-clause-reads g c = only_reads_then c.loop.invariant.reads c.read_run.ensures.reads

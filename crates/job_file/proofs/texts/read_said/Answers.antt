@@ -1,11 +1,13 @@
--- `read_said`: its clauses `gives` and `fit`, and what `read_file` and `read_second` ask for.
+-- `read_said`: its clauses `gives`, `fit`, `reads` and `counted`, and what `read_file` and `read_second` ask for.
 use Rattle.std.proofs.Common.{◌≡◌, ◌+◌, ◌∙◌, true, ℕ, List, Ok, length, drop, refl, ap, subst, arith}
 use Rattle.board_file.specs.declared.region.Region.{Region}
 use Rattle.board_file.specs.Shown as board
 use Rattle.job_text.specs.Reading.{are_files, file_at, second_at}
+use Rattle.bench_model.proofs.Moments.{only_reads_then}
 use Rattle.job_file.specs.Readers.{Fails, files_checked, file_there, second_there}
 use Rattle.job_file.proofs.TextsLemmas.{IsBoardRead, counted_by, first_by, board_unread, files_uncounted, unchecked, first_unread, second_unread, texts_read}
 use Rattle.job_file.proofs.TextsLemmas.{both_fit}
+use Rattle.job_file.proofs.CountLemmas.{counted_behind}
 use Rattle.job_file.proofs.texts.read_said.Goals as goal
 
 pub read_file-requires-clause-told : goal.read_file-requires-clause-told
@@ -114,3 +116,25 @@ returns-in-Ok-read_second-clause-fit g c =
     let many = ap (λ (rs : List Region). length rs) c.as_slice.ensures in
     both_fit (board.shown c.in-Ok.board) h.files c.in-Ok-read_file.first c.in-Ok-read_second.second
     (subst (λ (n : ℕ). are_files h.files n ≡ true) many c.in-Ok-check_files.ensures.0) c.in-Ok-read_file.ensures.fit c.in-Ok-read_second.ensures.fit
+
+pub returns-in-Err-read_second-clause-reads : goal.returns-in-Err-read_second-clause-reads
+returns-in-Err-read_second-clause-reads g c = only_reads_then (only_reads_then c.read_board.ensures.reads c.read_file.ensures.reads)
+    c.read_second.ensures.reads
+
+pub returns-in-Ok-read_second-clause-reads : goal.returns-in-Ok-read_second-clause-reads
+returns-in-Ok-read_second-clause-reads g c = only_reads_then (only_reads_then c.read_board.ensures.reads c.read_file.ensures.reads)
+    c.read_second.ensures.reads
+
+pub returns-in-Err-read_second-clause-counted : goal.returns-in-Err-read_second-clause-counted
+returns-in-Err-read_second-clause-counted g c = counted_behind (counted_behind c.in-Ok.ensures.counted c.in-Ok-read_file.ensures.counted)
+    c.in-Err-read_second.ensures.counted
+
+pub returns-in-Ok-read_second-clause-counted : goal.returns-in-Ok-read_second-clause-counted
+returns-in-Ok-read_second-clause-counted g c = counted_behind (counted_behind c.in-Ok.ensures.counted c.in-Ok-read_file.ensures.counted)
+    c.in-Ok-read_second.ensures.counted
+
+pub returns-in-Err-read_file-clause-reads : goal.returns-in-Err-read_file-clause-reads
+returns-in-Err-read_file-clause-reads g c = only_reads_then c.read_board.ensures.reads c.read_file.ensures.reads
+
+pub returns-in-Err-read_file-clause-counted : goal.returns-in-Err-read_file-clause-counted
+returns-in-Err-read_file-clause-counted g c = counted_behind c.in-Ok.ensures.counted c.in-Err-read_file.ensures.counted

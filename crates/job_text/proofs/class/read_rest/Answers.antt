@@ -1,8 +1,13 @@
--- `read_rest`: that its result is as its type asks.
-use Rattle.std.proofs.Common.{List, ap, subst, arith}
+-- `read_rest`: that it keeps its contract, and that its result is as its type asks.
+use Rattle.std.proofs.Common.{◌≡◌, List, Ok, Err, sym, ap, subst, arith}
+use Rattle.std.proofs.lemmas.Grind.{common_steps}
 use Rattle.board_file.specs.declared.region.Region.{Region}
 use Rattle.board_file.specs.Limits.{size_of}
 use Rattle.job_text.specs.Fits.{LiesIn}
+use Rattle.job_text.specs.Heads.{texts_of}
+use Rattle.job_text.specs.Reading.{texts_at, runs_at, rest_at, seen_of}
+use Rattle.job_text.specs.declared.head.Places.{Places}
+use Rattle.job_text.proofs.RestLemmas.{AreRead, RunsAre, rest_unsized, rest_runless, rest_ends, rest_found}
 use Rattle.job_text.proofs.class.read_rest.Goals as goal
 
 pub invariant_of-result-clause-inside : goal.invariant_of-result-clause-inside
@@ -18,3 +23,76 @@ invariant_of-result-clause-early c =
       ap (λ (rs : List Region). size_of rs) c.as_slice.ensures,
       c.in_ok-said.said.board.few_cells,
     )
+
+pub returns-in_err-image : goal.returns-in_err-image
+unfolding rest_at
+returns-in_err-image c = grind (arith, common_steps)
+
+pub returns-then-head-cells_in : goal.returns-then-head-cells_in
+returns-then-head-cells_in c =
+    let d = c.args.whole in
+    let format = c.args.format in
+    let h = c.args.head in
+    let bytes = c.args.bytes.now in
+    let said = c.in_ok-said.said in
+    let rest = c.in_ok-said.rest.now in
+    let read : AreRead d format h bytes (texts_of said) rest =
+    subst (λ (p : Places). texts_at d p h bytes ≡ Ok (texts_of said, rest)) c.places_in-places.ensures.value c.in_ok-said.ensures.gives in
+    subst (λ (p : Places). seen_of d (rest_at d format h bytes) ≡ Err p.cells) (sym c.places_in-places.ensures.value)
+    (ap (seen_of d) (rest_unsized d format h bytes (texts_of said) rest read (λ is. c.if-head-cells_in.true (omega (arith, is, c.cells_in.ensures)))))
+
+pub returns-then-head-eq0 : goal.returns-then-head-eq0
+returns-then-head-eq0 c =
+    let d = c.args.whole in
+    let format = c.args.format in
+    let h = c.args.head in
+    let bytes = c.args.bytes.now in
+    let said = c.in_ok-said.said in
+    let rest = c.in_ok-said.rest.now in
+    let read : AreRead d format h bytes (texts_of said) rest =
+    subst (λ (p : Places). texts_at d p h bytes ≡ Ok (texts_of said, rest)) c.places_in-places.ensures.value c.in_ok-said.ensures.gives in
+    subst (λ (p : Places). seen_of d (rest_at d format h bytes) ≡ Err p.runs) (sym c.places_in-places.ensures.value)
+    (ap (seen_of d) (rest_runless d format h bytes (texts_of said) rest read (omega (arith, c.if-head-cells_in.false, c.cells_in.ensures))
+    (omega (arith, c.if-head-eq0.true))))
+
+pub returns-then-rest-head : goal.returns-then-rest-head
+returns-then-rest-head c =
+    let d = c.args.whole in
+    let format = c.args.format in
+    let h = c.args.head in
+    let bytes = c.args.bytes.now in
+    let said = c.in_ok-said.said in
+    let rest = c.in_ok-said.rest.now in
+    let read : AreRead d format h bytes (texts_of said) rest =
+    subst (λ (p : Places). texts_at d p h bytes ≡ Ok (texts_of said, rest)) c.places_in-places.ensures.value c.in_ok-said.ensures.gives in
+    let image = c.in_ok-image.image in
+    let end = c.in_ok-image.rest.now in
+    let runs : RunsAre d format h bytes (texts_of said) rest image end = record {
+      read = read;
+      sized = omega (arith, c.if-head-cells_in.false, c.cells_in.ensures);
+      some = omega (arith, c.if-head-eq0.false);
+      runs = subst (λ (rs : List Region). runs_at d rs h.runs 0 rest ≡ Ok (image, end)) c.as_slice.ensures c.in_ok-image.ensures.gives;
+    } in
+    ap (seen_of d) (rest_ends d format h bytes (texts_of said) rest image end runs (λ is. c.if-rest-head.true (omega (arith, is))))
+
+pub returns : goal.returns
+returns c =
+    let d = c.args.whole in
+    let format = c.args.format in
+    let h = c.args.head in
+    let bytes = c.args.bytes.now in
+    let said = c.in_ok-said.said in
+    let rest = c.in_ok-said.rest.now in
+    let read : AreRead d format h bytes (texts_of said) rest =
+    subst (λ (p : Places). texts_at d p h bytes ≡ Ok (texts_of said, rest)) c.places_in-places.ensures.value c.in_ok-said.ensures.gives in
+    let image = c.in_ok-image.image in
+    let end = c.in_ok-image.rest.now in
+    let runs : RunsAre d format h bytes (texts_of said) rest image end = record {
+      read = read;
+      sized = omega (arith, c.if-head-cells_in.false, c.cells_in.ensures);
+      some = omega (arith, c.if-head-eq0.false);
+      runs = subst (λ (rs : List Region). runs_at d rs h.runs 0 rest ≡ Ok (image, end)) c.as_slice.ensures c.in_ok-image.ensures.gives;
+    } in
+    let found = ap (seen_of d) (rest_found d format h bytes (texts_of said) rest image end runs (omega (arith, c.if-rest-head.false))) in
+    let algorithms = c.in_ok-algorithms.ensures in
+    cc

@@ -1,5 +1,6 @@
 -- `put_image_fault`: its contract, `Puts`.
-use Rattle.std.proofs.Common.{ap, sym}
+use Rattle.std.proofs.Common.{ap, sym, arith}
+use Rattle.std.proofs.lemmas.Grind.{common_steps}
 use Rattle.report_text.specs.Faults.{image_text}
 use Rattle.outside_io.proofs.PutTexts.{puts_as, puts_stops, puts_failed}
 use Rattle.report_text.proofs.image_reason.put_image_fault.Goals as goal
@@ -24,3 +25,15 @@ returns-in_err-put_pieces-in-Elf g c =
 pub returns-in-OutOfMemory : goal.returns-in-OutOfMemory
 unfolding image_text
 returns-in-OutOfMemory g c = puts_as (ap image_text (sym c.in-OutOfMemory.is)) c.put_pieces-in-OutOfMemory.ensures
+
+pub returns-in_ok-put_pieces-in-Srec : goal.returns-in_ok-put_pieces-in-Srec
+unfolding image_text
+returns-in_ok-put_pieces-in-Srec g c = grind (arith, common_steps)
+
+pub returns-in_ok-put_pieces-in-Elf : goal.returns-in_ok-put_pieces-in-Elf
+unfolding image_text
+returns-in_ok-put_pieces-in-Elf g c = grind (arith, common_steps)
+
+pub returns-in_ok-put_pieces-in-Hex : goal.returns-in_ok-put_pieces-in-Hex
+unfolding image_text
+returns-in_ok-put_pieces-in-Hex g c = grind (arith, common_steps)

@@ -1,5 +1,6 @@
 -- `put_flm_fault`: its contract, `Puts`.
-use Rattle.std.proofs.Common.{ap, sym}
+use Rattle.std.proofs.Common.{ap, sym, arith}
+use Rattle.std.proofs.lemmas.Grind.{common_steps}
 use Rattle.report_text.specs.Faults.{elf_text, flm_text}
 use Rattle.outside_io.proofs.PutTexts.{puts_as, puts_stops, puts_failed}
 use Rattle.report_text.proofs.reason.put_flm_fault.Goals as goal
@@ -34,3 +35,7 @@ unfolding flm_text
 returns-in-SymbolOutside g c =
     puts_as (ap flm_text (sym c.in-SymbolOutside.is))
     (rw (c.text-in-SymbolOutside.ensures, c.hex_digits-value.ensures) at c.put_pieces-in-SymbolOutside.ensures)
+
+pub returns-in_ok-put_pieces-in-Elf : goal.returns-in_ok-put_pieces-in-Elf
+unfolding flm_text
+returns-in_ok-put_pieces-in-Elf g c = grind (arith, common_steps)

@@ -1,5 +1,6 @@
 -- `put_reason`: its contract, `Puts`.
-use Rattle.std.proofs.Common.{◌≡◌, ap, sym}
+use Rattle.std.proofs.Common.{◌≡◌, ap, sym, arith}
+use Rattle.std.proofs.lemmas.Grind.{common_steps}
 use Rattle.report_text.specs.Lines.{reason_of}
 use Rattle.report_text.specs.Shown.{shown}
 use Rattle.report_text.specs.declared.refusal.Refusal.{Refusal}
@@ -42,3 +43,15 @@ returns-in-DeviceFault g c = puts_as (says (sym c.in-DeviceFault.is)) c.put_piec
 pub returns-in-OutputFault : goal.returns-in-OutputFault
 unfolding reason_of
 returns-in-OutputFault g c = puts_as (says (sym c.in-OutputFault.is)) c.put_pieces-in-OutputFault.ensures
+
+pub returns-in_ok-put_pieces-in-BoardRefused : goal.returns-in_ok-put_pieces-in-BoardRefused
+unfolding reason_of
+returns-in_ok-put_pieces-in-BoardRefused g c = grind (arith, common_steps)
+
+pub returns-in_ok-put_pieces-in-FlmRefused : goal.returns-in_ok-put_pieces-in-FlmRefused
+unfolding reason_of
+returns-in_ok-put_pieces-in-FlmRefused g c = grind (arith, common_steps)
+
+pub returns-in_ok-put_pieces-in-ImageMisplaced : goal.returns-in_ok-put_pieces-in-ImageMisplaced
+unfolding reason_of
+returns-in_ok-put_pieces-in-ImageMisplaced g c = grind (arith, common_steps)

@@ -1,8 +1,9 @@
--- `RunList::insert`: its clause `ok`.
+-- `RunList::insert`: its clause `ok`, and that what it changes stays as its type asks.
 use Rattle.std.proofs.Common.{◌≡◌, ◌-◌, ◌∙◌, ℕ, List, [], ◌∷◌, ◌++◌, length, arith, rules, sym, ap}
+use Rattle.std.proofs.lemmas.Grind.{common_steps}
 use Rattle.byte_map.specs.Image.{Run}
 use Rattle.byte_map.specs.Tree.{runs_of, put_in}
-use Rattle.byte_map.proofs.Sides.{put_right}
+use Rattle.byte_map.proofs.Sides.{put_right, sides}
 use Rattle.byte_map.proofs.run_list.RunList.insert.Goals as goal
 
 pub returns-clause-ok : goal.returns-clause-ok
@@ -16,3 +17,9 @@ returns-clause-ok c =
     ∙ ap (λ (k : ℕ). runs_of s.tree ++ put_in s.tail.items (c.args.index - k) new) count
     ∙ sym (put_right (runs_of s.tree) s.tail.items new c.args.index (omega (arith, count)))
     ∙ ap (λ (rs : List Run). put_in rs c.args.index new) c.self.view_is
+
+pub invariant_of-self-2 : goal.invariant_of-self-2
+invariant_of-self-2 c = grind (arith, sides)
+
+pub invariant_of-self-then-index-count : goal.invariant_of-self-then-index-count
+invariant_of-self-then-index-count c = grind (arith, common_steps)

@@ -1,0 +1,10 @@
+-- `RunList::shorten_tail`: that it keeps its contract.
+use Rattle.std.proofs.Common.{arith}
+use Rattle.byte_map.proofs.Sides.{sides}
+use Rattle.byte_map.proofs.run_list.RunList.shorten_tail.Goals as goal
+
+pub returns-in-Ok : goal.returns-in-Ok
+returns-in-Ok c = grind (arith, sides)
+
+pub invariant_of-self-in-Ok-2 : goal.invariant_of-self-in-Ok-2
+invariant_of-self-in-Ok-2 c = grind (arith, sides)

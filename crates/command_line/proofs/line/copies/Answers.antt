@@ -1,0 +1,10 @@
+-- `copies`: that it keeps its contract, and that its loop keeps what it has to.
+use Rattle.std.proofs.Common.{arith}
+use Rattle.std.proofs.lemmas.Grind.{common_steps}
+use Rattle.command_line.proofs.line.copies.Goals as goal
+
+pub texts-preserved : goal.texts-preserved
+texts-preserved c = grind (arith, common_steps)
+
+pub returns : goal.returns
+returns c = grind (arith, common_steps)

@@ -1,0 +1,26 @@
+-- Counts of faults, one behind the other, and of refusals that are none of the bench's faults.
+use Rattle.std.proofs.Common.{◌≡◌, ℕ, Bool, false, Ok, Err, refl, arith}
+use Rattle.faults.specs.Counts.{HasCause}
+use Rattle.bench_model.specs.Counted.{IsCounted, is_store_fault}
+use Rattle.bench_model.proofs.CountLemmas.{counted_then}
+use Rattle.job_text.specs.declared.head.Head.{Head}
+use Rattle.job_text.specs.declared.head.Places.{Places}
+use Rattle.job_file.specs.declared.fault.ReadFault.{ReadFault}
+use Rattle.job_file.specs.declared.fault.ReadFault.TheVariants.{OutOfMemory, StoreFault, NotAJob}
+use Rattle.job_file.specs.Counted.{read_fault}
+use Rattle.job_file.specs.Readers.{Counts}
+
+-- a count that stayed, and what it counted then
+pub counted_behind : {a b c : ℕ} {answered : Bool} → IsCounted a b false → IsCounted b c answered → IsCounted a c answered
+counted_behind one two = counted_then _ _ _ false _ refl one two
+
+-- a count that stayed, where numbers in the head are refused
+pub miscounted : {a b : ℕ} (places : Places) (head : Head) (size : ℕ) (e : ReadFault) → Counts {T = Unit {0}} places head size (Err e) → IsCounted a b false
+    → IsCounted a b (is_store_fault (read_fault e))
+miscounted places head size OutOfMemory wrong stays = absurd wrong
+miscounted places head size StoreFault wrong stays = absurd wrong
+miscounted places head size (NotAJob at) wrong stays = stays
+
+-- no fault, where the count stayed
+pub none_caused : {T E : Type 0} (value : T) {a b : ℕ} → b ≡ a → HasCause {T = T} {E = E} a b (Ok value)
+none_caused value same = record { later = omega (arith, same); on_fault = λ e. cc; on_ok = λ e. same }

@@ -1,0 +1,7 @@
+-- `reach`: that its loop keeps what it has to.
+use Rattle.std.proofs.Common.{arith}
+use Rattle.std.proofs.lemmas.Grind.{common_steps}
+use Rattle.job_text.proofs.fit.reach.Goals as goal
+
+pub regions-preserved : goal.regions-preserved
+regions-preserved c = grind (arith, common_steps)

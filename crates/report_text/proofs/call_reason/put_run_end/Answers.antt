@@ -1,0 +1,13 @@
+-- `put_run_end`: its contract, `Puts`.
+use Rattle.std.proofs.Common.{ap, sym}
+use Rattle.report_text.specs.Calls.{run_text}
+use Rattle.outside_io.proofs.PutTexts.{puts_as}
+use Rattle.report_text.proofs.call_reason.put_run_end.Goals as goal
+
+pub returns-in-StrayBreak : goal.returns-in-StrayBreak
+unfolding run_text
+returns-in-StrayBreak g c = puts_as (ap run_text (sym c.in-StrayBreak.is)) c.put_place-in-StrayBreak.ensures
+
+pub returns-in-DeviceFault : goal.returns-in-DeviceFault
+unfolding run_text
+returns-in-DeviceFault g c = puts_as (ap run_text (sym c.in-DeviceFault.is)) c.put_pieces.ensures
