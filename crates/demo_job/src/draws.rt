@@ -17,7 +17,7 @@ const STATES: u64 = 1 << 32;
 const STATES_A_BYTE: u64 = 1 << 24;
 
 /// A linear congruential generator of bytes.
-#[derive(Clone, Copy, Debug, PartialEq, Eq)]
+#[derive(Clone, Copy)]
 pub(crate) struct Draws {
     state: u32,
 }

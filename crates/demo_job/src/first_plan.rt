@@ -15,7 +15,7 @@ use page_geometry::Geometry;
 use std::alloc::Global;
 
 /// How many sectors a plan erases, how many pages it programs, and what it costs.
-#[derive(Clone, Copy, Debug, PartialEq, Eq)]
+#[derive(Clone, Copy)]
 pub(crate) struct Counts {
     pub(crate) sectors: u32,
     pub(crate) pages: u32,

@@ -52,7 +52,7 @@ pub enum Breach {
 }
 
 /// What the trial of a call shows.
-#[derive(Clone, Copy, Debug, PartialEq, Eq)]
+#[derive(Clone, Copy)]
 pub(crate) enum Tried {
     /// No breach was seen.
     Kept,
@@ -128,9 +128,9 @@ impl Stand {
         ensures setup { IfOk result (λ t. setup_in t ≡ setup_for subject.now) }
         ensures idle { IfOk result (λ t. (state_in t).operation ≡ None) }
     {
+        let mut arena = Arena::new(alloc, &[subject.board.ram_size])?;
         let bench = bench_with(alloc, subject, cells)?;
         let mut calls = calls_of(alloc, subject)?;
-        let mut arena = Arena::new(alloc, &[subject.board.ram_size])?;
         calls.load(&mut arena, 0);
         Ok(Stand {
             calls,

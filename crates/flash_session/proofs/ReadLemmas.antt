@@ -1,10 +1,15 @@
 -- Reads one after the other, and windows of cells and goal. Surveys read cells and goal in windows, and go on by them.
-use Rattle.std.proofs.Common.{◌≡◌, ◌≤◌, ◌+◌, ◌-◌, ◌++◌, ◌∙◌, ℕ, Bool, List, length, take, drop, refl, arith}
+use Rattle.std.proofs.Common.{◌≡◌, ◌≤◌, ◌+◌, ◌-◌, ◌++◌, ◌∙◌, ℕ, Bool, true, List, length, take, drop, refl, subst, arith}
 use Rattle.std.proofs.Common.{length-append}
 use Rattle.std.proofs.lemmas.List.{length-take, length-drop}
-use Rattle.bench_model.specs.State.{BenchState, file_half, cells_half}
+use Rattle.faults.specs.Counts.{Rose}
+use Rattle.bench_model.specs.Counted.{IsCounted}
+use Rattle.bench_model.specs.History.{left}
+use Rattle.bench_model.specs.Pairs.{PairsLeave}
+use Rattle.bench_model.specs.State.{BenchState, Left, file_half, cells_half}
 use Rattle.bench_model.specs.Calls.{FileStays, OnlyReads, IsRead}
-use Rattle.bench_model.proofs.Moments.{adds_nothing_here, adds_nothing_then, stays_adds_nothing}
+use Rattle.bench_model.proofs.CountLemmas.{one_counted}
+use Rattle.bench_model.proofs.Moments.{adds_nothing_here, adds_nothing_then, pairs_of, stays_adds_nothing}
 use Rattle.readback.specs.Readback.{OnlyReadsCells}
 
 pub read_here : (tells : Bool) (s : BenchState) → IsRead tells s s
@@ -43,6 +48,15 @@ read_cells tells s t reads = record {
   file = record { file = λ told. reads.file.file; moments = stays_adds_nothing reads.file.half };
   cells = record { cells = reads.cells; operation = reads.operation; count = reads.count; moments = reads.moments };
 }
+
+-- no stop meanwhile leaves another pair
+pub read_pairs : {tells : Bool} {s t : BenchState} → IsRead tells s t → PairsLeave s t (Left s)
+read_pairs {tells} {s} {t} reads =
+    pairs_of (left (file_half s)) (left (cells_half s)) (Left s) reads.file.moments reads.cells.moments (λ f x of_file of_cells. (of_file, of_cells))
+
+-- a fault that was counted behind a call that counted none
+pub one_since : (a b d : ℕ) → b ≡ a → b ≤ d → Rose b d → IsCounted a d true
+one_since a b d same later rose = subst (λ (n : ℕ). IsCounted n d true) same (one_counted b d later rose)
 
 -- the cells alone
 pub only_cells : {tells : Bool} {s t : BenchState} → IsRead tells s t → FileStays s t → OnlyReadsCells tells s t

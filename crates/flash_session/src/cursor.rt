@@ -71,7 +71,7 @@ pub enum Place {
 }
 
 /// The next move of a script.
-#[derive(Clone, Copy, Debug, PartialEq, Eq)]
+#[derive(Clone, Copy)]
 pub(crate) enum Step {
     /// A phase begins, with a reset and a load.
     Begin {
@@ -90,7 +90,7 @@ pub(crate) enum Step {
 }
 
 /// A call for a sector or a page, with so many bytes of the region's goal from this place on.
-#[derive(Clone, Copy, Debug, PartialEq, Eq)]
+#[derive(Clone, Copy)]
 pub(crate) struct Item {
     pub call: Call,
     pub from: u32,

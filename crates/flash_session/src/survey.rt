@@ -118,10 +118,10 @@ fn player_for(alloc: Global, job: &Job, work: SessionWork) -> Result<Survey, Out
         → IsSurvey job.now w) }
 {
     let (algorithm, other) = algorithms_of(job);
-    let machines = calls_of_job(alloc, job)?;
-    let (calls, other_calls) = machines;
     let arena = Arena::new(alloc, &[job.board.ram_size])?;
     let page = zeros(alloc, longest_page(algorithm, other) as usize)?;
+    let machines = calls_of_job(alloc, job)?;
+    let (calls, other_calls) = machines;
     let player = Player {
         calls,
         moved: RegionIndex::First,

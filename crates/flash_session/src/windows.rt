@@ -15,7 +15,7 @@ use job_text::Job;
 use readback::{Difference, first_difference};
 
 /// Why cells, or the bytes that are wanted of them, were not read.
-#[derive(Clone, Copy, Debug, PartialEq, Eq)]
+#[derive(Clone, Copy)]
 pub(crate) enum Unread {
     Device,
     Store,

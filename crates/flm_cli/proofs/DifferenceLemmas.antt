@@ -1,11 +1,13 @@
 -- The cells of a region against an image, run by run. `find_in_region` and `find_in_run` go on by them.
 use Rattle.std.proofs.Common.{◌≡◌, ◌≢◌, ◌<◌, ◌≤◌, ◌+◌, ◌^◌, ◌++◌, ◌∙◌, sym, ap, subst, refl, arith, inl, inr, ◌⊎◌, ⊎_elim, ℕ, Bool, true, false, IsTrue, List}
-use Rattle.std.proofs.Common.{[], ◌∷◌, ◌-◌, max, min, length, length-drop, take, drop, get_or, slice_get, slice_index, Option, Some, None, is_some}
+use Rattle.std.proofs.Common.{[], ◌∷◌, ◌-◌, max, min, length, length-drop, take, drop, get_or, slice_get, slice_index, Option, Some, None, is_some, Ok}
 use Rattle.std.proofs.lemmas.List.{take_more, take_all, length-take-le, length-take, get_or-take, get_or-drop}
 use Rattle.std.proofs.Math.Seq.{take-length}
 use Rattle.std.proofs.lemmas.Option.{get_or_from_slice_get}
 use Rattle.std.proofs.lemmas.Bool.{cases_lt}
+use Rattle.faults.specs.Counts.{HasCause}
 use Rattle.bench_model.specs.State.{BenchState}
+use Rattle.bench_model.specs.declared.bench_fault.DeviceFault.{DeviceFault}
 use Rattle.byte_map.specs.Image.{Run, run_at, end_of, holds, byte_of, byte_at, AreMaximal}
 use Rattle.byte_map.proofs.Runs.{each_run, rising, held_from, held_to, holds_between, found_in, holder, byte_at-append, or_else, maximal_take}
 use Rattle.byte_map.proofs.Joined.{one_run, run_at-take}
@@ -156,6 +158,10 @@ pub record RunsSoFar (tells : Bool) (start now : BenchState) (first base size : 
 
 pub runs_here : (tells : Bool) (s : BenchState) (first base size : ℕ) (image : List Run) → RunsSoFar tells s s first base size image 0
 runs_here tells s first base size image = record { agree = λ told offset byte inside is. absurd (cc); bench = only_reads_cells_here tells s; faults = refl }
+
+-- what was found, where no fault was counted
+pub uncaused : (found : Option Difference) (before now : ℕ) → now ≡ before → HasCause {T = Option Difference} {E = DeviceFault} before now (Ok found)
+uncaused found before now same = record { later = omega (arith, same); on_fault = λ e. cc; on_ok = λ e. same }
 
 -- the run at a place of an image
 pub run_is : (image : List Run) (k : ℕ) (run : Run) → slice_get image k ≡ Some run → run_at image k ≡ run

@@ -77,7 +77,9 @@ fn run<B: Bench, O: Sink, E: Sink>(gang: Gang, benches: &mut [B], out: &mut O, e
 {
     let mut gang = gang;
     gang.run(benches, STEPS);
-    match put_targets(&gang, benches.len(), out) {
+    let put = put_targets(&gang, benches.len(), out);
+    gang.free();
+    match put {
         Ok(status) => status,
         Err(OutputFault) => refuse(err, Refusal::OutputFault),
     }

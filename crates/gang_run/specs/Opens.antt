@@ -71,10 +71,6 @@ abbrev pub sizes_with : Slot → List ℕ → List ℕ
 sizes_with (slot.Refused e) sizes = sizes
 sizes_with (slot.Open x) sizes = sizes ++ (ram_for x ∷ [])
 
-abbrev pub AddsWindow : Slot → List ℕ → List ℕ → Result (Unit {0}) OutOfMemory → Type 0
-AddsWindow s old new (Ok u) = new ≡ sizes_with s old
-AddsWindow s old new (Err e) = Unit {0}
-
 abbrev pub PutsSlot : Slot → List Slot → List ℕ → List Slot → List ℕ → Result (Unit {0}) OutOfMemory → Type 0
 PutsSlot s slots sizes slots' sizes' (Ok u) = (slots' ≡ slots ++ (s ∷ [])) × (sizes' ≡ sizes_with s sizes)
 PutsSlot s slots sizes slots' sizes' (Err e) = Unit {0}

@@ -155,6 +155,9 @@ impl Gang {
             }
         }
     }
+
+    /// Gives up the targets, and gives back the memory of all of them.
+    pub fn free(self) {}
 }
 
 /// Whether one goes on, of those before and this one.

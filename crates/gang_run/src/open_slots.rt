@@ -1,5 +1,5 @@
 //! The opening of a gang.
-ghost use Rattle.std.specs.Prelude.{◌≡◌, IsTrue, IsSome, IfOk, OnOk, None};
+ghost use Rattle.std.specs.Prelude.{◌≡◌, ◌++◌, ℕ, List, IsTrue, IsSome, IfOk, OnOk, Option, None, Err, option_to_list};
 ghost use Rattle.bench_model.specs.Calls.{IsRead};
 ghost use Rattle.bench_model.specs.History.{LeftOnly};
 ghost use Rattle.bench_model.specs.Pairs.{PairsLeave};
@@ -12,7 +12,7 @@ ghost use Rattle.flash_session.specs.Parts.{IsPlayerOf};
 ghost use Rattle.flash_session.specs.Sessions.{job_in, surveyed};
 ghost use Rattle.flash_session.specs.Surveys.{Surveyed};
 ghost use Rattle.gang_run.specs.Opening.{IsLookedAt};
-ghost use Rattle.gang_run.specs.Opens.{IsTargetOf, GivesSlot, Surveys, Opens, AddsWindow, PutsSlot, AddsSlot};
+ghost use Rattle.gang_run.specs.Opens.{IsTargetOf, GivesSlot, Surveys, Opens, PutsSlot, AddsSlot, sizes_with};
 
 use crate::slot::Slot;
 use crate::target::GangTarget;
@@ -46,13 +46,21 @@ fn slot_of(
             let parts = session.into_parts();
             Ok(make_slot(parts, window))
         }
-        Err(SurveyFault::OutOfMemory) => Err(OutOfMemory),
-        Err(SurveyFault::DeviceFault) => Ok(Slot::Refused(TargetEnd::Survey(
-            SurveyFault::DeviceFault,
-        ))),
-        Err(SurveyFault::StoreFault) => Ok(Slot::Refused(TargetEnd::Survey(
-            SurveyFault::StoreFault,
-        ))),
+        Err(fault) => {
+            session.free();
+            refused(fault)
+        }
+    }
+}
+
+/// The place of a job whose survey was refused: how it has ended.
+fn refused(fault: SurveyFault) -> Result<Slot, OutOfMemory>
+    ensures { (j : Job) (found : Option Surveyed) (window : ℕ) → GivesSlot j found window (Err fault) result }
+{
+    match fault {
+        SurveyFault::OutOfMemory => Err(OutOfMemory),
+        SurveyFault::DeviceFault => Ok(Slot::Refused(TargetEnd::Survey(SurveyFault::DeviceFault))),
+        SurveyFault::StoreFault => Ok(Slot::Refused(TargetEnd::Survey(SurveyFault::StoreFault))),
     }
 }
 
@@ -96,14 +104,24 @@ fn open_slot<B: Bench>(alloc: Global, bench: &mut B, window: usize) -> Result<Sl
     }
 }
 
-/// Adds the RAM of a target to the windows.
-fn add_window(slot: &Slot, sizes: &mut Vec<u32>) -> Result<(), OutOfMemory>
-    ensures { AddsWindow slot.now sizes.old.items sizes.new.items result }
+/// The bytes of a window for the RAM of a target: none where it has ended.
+fn window_size(slot: &Slot) -> Option<u32>
+    ensures { (sizes : List ℕ) → sizes_with slot.now sizes ≡ sizes ++ option_to_list result }
 {
     match slot {
-        Slot::Refused(_) => Ok(()),
-        Slot::Open(target) => {
-            sizes.push(target.job.board.ram_size)?;
+        Slot::Refused(_) => None,
+        Slot::Open(target) => Some(target.job.board.ram_size),
+    }
+}
+
+/// Adds a window, where there is one.
+fn add_window(size: Option<u32>, sizes: &mut Vec<u32>) -> Result<(), OutOfMemory>
+    ensures { OnOk result (sizes.new.items ≡ sizes.old.items ++ option_to_list size) }
+{
+    match size {
+        None => Ok(()),
+        Some(size) => {
+            sizes.push(size)?;
             Ok(())
         }
     }
@@ -130,10 +148,10 @@ pub(crate) fn add_slot<B: Bench>(
 fn put_slot(slot: Slot, slots: &mut Vec<Slot>, sizes: &mut Vec<u32>) -> Result<(), OutOfMemory>
     ensures { PutsSlot slot slots.old.items sizes.old.items slots.new.items sizes.new.items result }
 {
-    match add_window(&slot, sizes) {
-        Ok(()) => {}
-        Err(OutOfMemory) => return Err(OutOfMemory),
-    }
+    let size = window_size(&slot);
     slots.push(slot)?;
-    Ok(())
+    match add_window(size, sizes) {
+        Ok(()) => Ok(()),
+        Err(OutOfMemory) => Err(OutOfMemory),
+    }
 }

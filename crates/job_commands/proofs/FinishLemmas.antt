@@ -1,6 +1,7 @@
 -- A session from its script on: entered (s), gone through its script (m), closed (d).
-use Rattle.std.proofs.Common.{◌≡◌, ⊎_elim, inl, inr, refl, ◌+◌, ◌∙◌, ℕ, Bool, false, IsTrue, List, [], ◌∷◌, drop, Option, Some, None, IfSome, IsSomeAnd}
+use Rattle.std.proofs.Common.{◌≡◌, ⊎_elim, inl, inr, refl, ◌+◌, ◌∙◌, ℕ, Bool, false, IsTrue, List, [], ◌∷◌, drop, Option, Some, None, IfSome, IsSome, IsSomeAnd}
 use Rattle.std.proofs.Common.{is_some, sym, ap, subst}
+use Rattle.std.proofs.lemmas.Bool.{false≢true}
 use Rattle.bench_model.specs.History.{left, GoesOn, Leaves, LeftOnly}
 use Rattle.bench_model.specs.State.{BenchState, file_half, cells_half}
 use Rattle.bench_model.specs.Calls.{CellsStay, FileIsRead}
@@ -52,6 +53,11 @@ ClosePairs m d k v = PairsLeave m d (λ f c. IsWholeOrClosed (drop 1 m.file) f �
 pub closed_as : (m d : BenchState) (k j : code.Job) (o q : Option Surveyed) → k ≡ j → o ≡ q → IfSome o (ClosePairs m d k) → IfSome q (ClosePairs m d j)
 closed_as m d k j o q is same close = subst (λ (i : code.Job). IfSome q (ClosePairs m d i)) is
     (subst (λ (x : Option Surveyed). IfSome x (ClosePairs m d k)) same close)
+
+-- the file goes on meanwhile
+pub closed_goes : (m d : BenchState) (k : code.Job) (o : Option Surveyed) → IsSome o → IfSome o (ClosePairs m d k) → GoesOn (file_half m) (file_half d)
+closed_goes m d k None some close = absurd (false≢true some)
+closed_goes m d k (Some v) some close = close.files
 
 pub nothing_broken : Broken
 nothing_broken = record { legs = []; last = [] }

@@ -122,7 +122,11 @@ pub(crate) fn carry<'a, B: Bench, O: Sink>(
         (sink_call O.tells (O.state out.old) (O.state out.new)) (answer_of result) }
 {
     match Session::open(alloc, bench) {
-        Ok(mut session) => carry_on(alloc, goal, &mut session, bench, out),
+        Ok(mut session) => {
+            let end = carry_on(alloc, goal, &mut session, bench, out);
+            session.free();
+            end
+        }
         Err(fault) => Err(session_refusal(fault)),
     }
 }

@@ -1,4 +1,4 @@
--- `survey_cells`: its clauses `plan` and `reads`, and that an arm is never reached.
+-- `survey_cells`: its clauses `part`, `plan` and `reads`, and that an arm is never reached.
 use Rattle.std.proofs.Common.{◌≡◌, false, sym, subst}
 use Rattle.std.proofs.lemmas.Bool.{false≢true}
 use Rattle.bench_model.specs.Counted.{is_store_fault}
@@ -7,6 +7,9 @@ use Rattle.flash_session.specs.Reads.{unread_fault}
 use Rattle.flash_session.proofs.ReadLemmas.{only_cells}
 use Rattle.flash_session.proofs.SurveyLemmas.{planned_over}
 use Rattle.flash_session.proofs.region_survey.survey_cells.Goals as goal
+
+pub returns-in-Ok-clause-part : goal.returns-in-Ok-clause-part
+returns-in-Ok-clause-part g c = c.in-Ok.ensures.part
 
 pub returns-in-Ok-clause-plan : goal.returns-in-Ok-clause-plan
 returns-in-Ok-clause-plan g c =

@@ -1,4 +1,4 @@
--- `survey_window`: its clauses `spares`, `store` and `device`.
+-- `survey_window`: its clauses `bytes`, `wanted_bytes`, `spares`, `store` and `device`.
 use Rattle.std.proofs.lemmas.Result.{err_from_is_err_and}
 use Rattle.flash_session.proofs.region_survey.survey_window.Goals as goal
 
@@ -16,3 +16,9 @@ pub returns-in_err-read_window-clause-device : goal.returns-in_err-read_window-c
 returns-in_err-read_window-clause-device g c =
     let p = err_from_is_err_and c.from_residual.result c.from_residual.ensures.1 in
     rw (p.1, p.2) c.in_err-read_window.ensures.device
+
+pub returns-clause-bytes : goal.returns-clause-bytes
+returns-clause-bytes g c = c.feed.ensures.cells
+
+pub returns-clause-wanted_bytes : goal.returns-clause-wanted_bytes
+returns-clause-wanted_bytes g c = c.feed.ensures.wanted

@@ -86,3 +86,9 @@ returns-in_err-second-clause-device g c =
     let p = err_from_is_err_and c.from_residual-in_err-second.result c.from_residual-in_err-second.ensures.1 in
     handed is_device_fault SessionWork _ _ _ c.in_err-second.field-0.0 (p.1 ∙ ap (λ (e : SurveyFault). refused SessionWork e) p.2)
     (counted_then _ _ _ false _ refl c.in_ok-first.ensures.device c.in_err-second.ensures.device)
+
+pub returns-clause-store : goal.returns-clause-store
+returns-clause-store g c = counted_then _ _ _ false _ refl c.in_ok-first.ensures.store c.in_ok-second.ensures.store
+
+pub returns-clause-device : goal.returns-clause-device
+returns-clause-device g c = counted_then _ _ _ false _ refl c.in_ok-first.ensures.device c.in_ok-second.ensures.device

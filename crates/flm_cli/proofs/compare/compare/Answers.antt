@@ -1,5 +1,6 @@
 -- `compare`: its contract, `CompareEnds`, and what `tell_found` asks for.
-use Rattle.std.proofs.Common.{rules, ◌≡◌, sym, ap, subst, arith, ℕ, List, length, Err}
+use Rattle.std.proofs.Common.{sym, ap, subst, arith, ℕ, List, length}
+use Rattle.std.proofs.lemmas.Result.{err_from_is_err_and}
 use Rattle.command_files.specs.Inputs.{inputs_call, IsFile}
 use Rattle.report_text.specs.Shown.{shown}
 use Rattle.command_answers.specs.Call.{bench_call, sink_call}
@@ -11,9 +12,8 @@ use Rattle.flm_cli.proofs.compare.compare.Goals as goal
 
 pub returns-in_err-file : goal.returns-in_err-file
 returns-in_err-file g c =
-    let u = c.from_residual.ensures in
-    let is : c.from_residual.result ≡ Err c.in_err-file.field-0.0 = search rules in
-    rw is (ends_untaken g.B.Bench.tells g.O.Sink.tells (g.B.Bench.state c.args.bench.now) (g.O.Sink.state c.args.out.now)
+    let is = err_from_is_err_and c.from_residual.result c.from_residual.ensures.1 in
+    rw (is.1, is.2) (ends_untaken g.B.Bench.tells g.O.Sink.tells (g.B.Bench.state c.args.bench.now) (g.O.Sink.state c.args.out.now)
     (inputs_call g.I.Inputs.tells (g.I.Inputs.state c.args.inputs.now) (g.I.Inputs.state c.take_one.new.inputs)) c.args.image.now
     (shown c.in_err-file.field-0.0)
     c.in_err-file.ensures.takes)

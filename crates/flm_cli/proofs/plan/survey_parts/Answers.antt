@@ -1,4 +1,5 @@
--- `survey_parts`: its clause `plans`, that its loop keeps what it has to, and what `index` and `survey_cells` ask for.
+-- `survey_parts`: its clauses `plans` and `reads`, that its loop keeps what it has to, and what `index` and `survey_cells` ask for.
+use Rattle.std.proofs.lemmas.Grind.{common_steps}
 use Rattle.std.proofs.Common.{◌<◌, get_or, length, ap, refl, arith}
 use Rattle.flash_session.specs.declared.region_plan.RegionPlan.{RegionPlan}
 use Rattle.flm_cli.proofs.PlanLemmas.{many_parts, surveyed_none, surveyed_more, one_of, surveyed_all}
@@ -62,3 +63,6 @@ returns-clause-plans g c =
     surveyed_all g.B.Bench.tells wanted.board.weights wanted.image wanted.algorithms.items (g.B.Bench.state c.args.bench.now) (g.B.Bench.state l.bench) l.parts
     l.index l.invariant
     (omega (arith, l.auto.parts, c.loop-index-test.false))
+
+pub returns-in_err-survey_cells-clause-reads : goal.returns-in_err-survey_cells-clause-reads
+returns-in_err-survey_cells-clause-reads g c = grind (arith, common_steps)

@@ -1,6 +1,7 @@
--- `find_in_region`: its clause `ok`, that its loop keeps what it has to, and what `find_in_run` asks for.
+-- `find_in_region`: its clauses `ok`, `bench` and `cause`, that its loop keeps what it has to, and what `find_in_run` asks for.
 use Rattle.std.proofs.Common.{refl, sym, arith, ◌∙◌}
-use Rattle.flm_cli.proofs.DifferenceLemmas.{run_ends, runs_then, runs_differ, all_agree}
+use Rattle.flm_cli.proofs.DifferenceLemmas.{run_ends, runs_then, runs_differ, all_agree, uncaused}
+use Rattle.readback.proofs.ReadbackLemmas.{only_reads_cells_then}
 use Rattle.flm_cli.proofs.verify.find_in_region.Goals as goal
 
 pub find_in_run-requires-clause-run_ends : goal.find_in_run-requires-clause-run_ends
@@ -25,3 +26,9 @@ pub returns-clause-ok : goal.returns-clause-ok
 returns-clause-ok g c =
     all_agree g.B.Bench.tells _ _ c.args.start c.args.region.now.base c.args.region.now.size c.args.image.now c.loop-index.index c.loop-index.invariant
     (omega arith)
+
+pub returns-then-is_some-clause-bench : goal.returns-then-is_some-clause-bench
+returns-then-is_some-clause-bench g c = only_reads_cells_then c.loop-index.invariant.bench c.in_ok-found.ensures.bench
+
+pub returns-then-is_some-clause-cause : goal.returns-then-is_some-clause-cause
+returns-then-is_some-clause-cause g c = uncaused c.in_ok-found.found _ _ (c.in_ok-found.ensures.cause.on_ok refl ∙ c.loop-index.invariant.faults)

@@ -1,9 +1,12 @@
--- `find_in_regions`: its clause `ok`, that its loop keeps what it has to, and what `find_in_region` asks for.
+-- `find_in_regions`: its clauses `ok`, `bench` and `cause`, that its loop keeps what it has to, and what `find_in_region` asks for.
+use Rattle.std.proofs.lemmas.Grind.{common_steps}
 use Rattle.std.proofs.Common.{◌∙◌, refl, sym, ap, subst, arith, List, None}
 use Rattle.board_file.specs.declared.region.Region.{Region}
 use Rattle.board_file.specs.Limits.{size_of}
 use Rattle.flm_cli.specs.Steps.{FindsInImage}
+use Rattle.flm_cli.proofs.DifferenceLemmas.{uncaused}
 use Rattle.flm_cli.proofs.PlaceLemmas.{fits, regions_then, region_differs, all_regions}
+use Rattle.readback.proofs.ReadbackLemmas.{only_reads_cells_then}
 use Rattle.flm_cli.proofs.verify.find_in_regions.Goals as goal
 
 pub find_in_region-requires-clause-fits : goal.find_in_region-requires-clause-fits
@@ -35,3 +38,12 @@ returns-clause-ok g c =
     subst (λ (rs : List Region). FindsInImage g.B.Bench.tells (g.B.Bench.state c.args.bench.now).cells rs c.args.image.now None) c.as_slice-regions.ensures
     (all_regions g.B.Bench.tells _ _ c.as_slice-regions.result.now c.args.image.now c.loop-region.region-index c.loop-region.start c.loop-region.invariant
     c.loop-region-test.false)
+
+pub overflow_add-start : goal.overflow_add-start
+overflow_add-start g c = grind (arith, common_steps)
+
+pub returns-then-is_some-clause-bench : goal.returns-then-is_some-clause-bench
+returns-then-is_some-clause-bench g c = only_reads_cells_then c.loop-region.invariant.bench c.in_ok-found.ensures.bench
+
+pub returns-then-is_some-clause-cause : goal.returns-then-is_some-clause-cause
+returns-then-is_some-clause-cause g c = uncaused c.in_ok-found.found _ _ (c.in_ok-found.ensures.cause.on_ok refl ∙ c.loop-region.invariant.faults)

@@ -1,5 +1,6 @@
 -- `verify`: its contract, `VerifyEnds`, and what `read_files` and `tell_found` ask for.
-use Rattle.std.proofs.Common.{rules, ◌≡◌, ◌∙◌, sym, subst, ℕ, Err}
+use Rattle.std.proofs.Common.{◌∙◌, sym, subst, ℕ}
+use Rattle.std.proofs.lemmas.Result.{err_from_is_err_and}
 use Rattle.command_words.specs.Requested.{files_of}
 use Rattle.command_files.specs.Inputs.{inputs_call}
 use Rattle.board_file.specs.Limits.{size_of}
@@ -28,17 +29,15 @@ tell_found-requires g c =
 
 pub returns-in_err-files : goal.returns-in_err-files
 returns-in_err-files g c =
-    let u = c.from_residual.ensures in
-    let is : c.from_residual.result ≡ Err c.in_err-files.field-0.0 = search rules in
-    rw is (ends_untaken g.B.Bench.tells g.O.Sink.tells (g.B.Bench.state c.args.bench.now) (g.O.Sink.state c.args.out.now)
+    let is = err_from_is_err_and c.from_residual.result c.from_residual.ensures.1 in
+    rw (is.1, is.2) (ends_untaken g.B.Bench.tells g.O.Sink.tells (g.B.Bench.state c.args.bench.now) (g.O.Sink.state c.args.out.now)
     (inputs_call g.I.Inputs.tells (g.I.Inputs.state c.args.inputs.now) (g.I.Inputs.state c.take_files.new.inputs)) (files_of c.args.names.now)
     (shown c.in_err-files.field-0.0) c.in_err-files.ensures.takes)
 
 pub returns-in_err-wanted : goal.returns-in_err-wanted
 returns-in_err-wanted g c =
-    let u = c.from_residual-in_err-wanted.ensures in
-    let is : c.from_residual-in_err-wanted.result ≡ Err c.in_err-wanted.field-0.0 = search rules in
-    rw is (ends_unread g.B.Bench.tells g.O.Sink.tells (g.B.Bench.state c.args.bench.now) (g.O.Sink.state c.args.out.now)
+    let is = err_from_is_err_and c.from_residual-in_err-wanted.result c.from_residual-in_err-wanted.ensures.1 in
+    rw (is.1, is.2) (ends_unread g.B.Bench.tells g.O.Sink.tells (g.B.Bench.state c.args.bench.now) (g.O.Sink.state c.args.out.now)
     (inputs_call g.I.Inputs.tells (g.I.Inputs.state c.args.inputs.now) (g.I.Inputs.state c.take_files.new.inputs)) (files_of c.args.names.now)
     (bytes_of c.in_ok-files.files) c.requires.no_flm c.in_ok-files.ensures.takes.0 c.in_ok-files.ensures.takes.1 (shown c.in_err-wanted.field-0.0)
     c.in_err-wanted.ensures)

@@ -15,3 +15,8 @@ returns-in-Ok c =
     (sym c.in-Ok.is)
     (parts_to (surveyed c.args.session) (job_in c.args.session) c.args.window c.into_parts-parts.result c.make_slot.result c.into_parts-parts.ensures.job
     c.into_parts-parts.ensures.player c.make_slot.ensures)
+
+pub returns-in-Err : goal.returns-in-Err
+returns-in-Err c =
+    subst (λ (r : Result (Unit {0}) SurveyFault). GivesSlot (job_in c.args.session) (surveyed c.args.session) c.args.window r c.refused.result)
+    (sym c.in-Err.is) (c.refused.ensures (job_in c.args.session) (surveyed c.args.session) c.args.window)

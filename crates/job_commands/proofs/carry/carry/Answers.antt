@@ -1,7 +1,8 @@
--- `carry`: its clauses `told`, `early`, `kind`, `sound`, `prints` and `counts`, and what `carry_on` asks for.
+-- `carry`: its clauses `told`, `early`, `kind`, `sound`, `prints`, `goes_on` and `counts`, and what `carry_on` asks for.
 use Rattle.std.proofs.Common.{◌∙◌, refl, sym, subst, ℕ, List}
 use Rattle.bench_model.specs.History.{LeftOnly}
 use Rattle.bench_model.specs.State.{file_half}
+use Rattle.bench_model.proofs.Moments.{goes_then}
 use Rattle.job_text.specs.Stands.{StandsFor}
 use Rattle.flash_session.specs.Sessions.{job_in}
 use Rattle.report_text.specs.Refusal.{Refusal}
@@ -52,17 +53,17 @@ returns-in-Err-clause-prints g c =
     subst (λ (r : Refusal). PrintsWork n out (refused r)) (sym c.session_refusal.ensures)
     (session_prints n out c.in-Err.fault (record { taken = refl; faults = refl }))
 
-pub carry_on-requires-clause-stands : goal.carry_on-requires-clause-stands
-carry_on-requires-clause-stands g c = λ told. subst (λ (f : List ℕ). StandsFor (job_in c.in-Ok.session) f) (sym (c.open.ensures.file told))
+pub carry_on-end-requires-clause-stands : goal.carry_on-end-requires-clause-stands
+carry_on-end-requires-clause-stands g c = λ told. subst (λ (f : List ℕ). StandsFor (job_in c.in-Ok.session) f) (sym (c.open.ensures.file told))
     (c.in-Ok.ensures.ok told)
 
-pub carry_on-requires-clause-only : goal.carry_on-requires-clause-only
-carry_on-requires-clause-only g c = λ told.
+pub carry_on-end-requires-clause-only : goal.carry_on-end-requires-clause-only
+carry_on-end-requires-clause-only g c = λ told.
     subst (λ (f : List ℕ). LeftOnly f (file_half (g.B.Bench.state c.open.new.bench))) (sym (c.open.ensures.file told)) (c.in-Ok.ensures.only told)
 
 pub returns-in-Ok-clause-told : goal.returns-in-Ok-clause-told
 returns-in-Ok-clause-told g c = λ told.
-    c.carry_on.ensures.told told c.args.bench.now (record {
+    c.carry_on-end.ensures.told told c.args.bench.now (record {
       stands = c.in-Ok.ensures.ok told;
       sized = c.in-Ok.ensures.sized ∙ c.open.ensures.count;
       file = c.open.ensures.file told;
@@ -74,15 +75,19 @@ returns-in-Ok-clause-told g c = λ told.
     })
 
 pub returns-in-Ok-clause-early : goal.returns-in-Ok-clause-early
-returns-in-Ok-clause-early g c = c.carry_on.ensures.early c.args.bench.now
+returns-in-Ok-clause-early g c = c.carry_on-end.ensures.early c.args.bench.now
 
 pub returns-in-Ok-clause-prints : goal.returns-in-Ok-clause-prints
 returns-in-Ok-clause-prints g c =
-    subst (λ (n : ℕ). PrintsWork n (sink_call g.O.Sink.tells (g.O.Sink.state c.args.out.now) (g.O.Sink.state c.carry_on.new.out)) (answer_of c.carry_on.result))
-    c.open.ensures.count c.carry_on.ensures.prints
+    subst (λ (n : ℕ).
+    PrintsWork n (sink_call g.O.Sink.tells (g.O.Sink.state c.args.out.now) (g.O.Sink.state c.carry_on-end.new.out)) (answer_of c.carry_on-end.result))
+    c.open.ensures.count c.carry_on-end.ensures.prints
 
 pub returns-in-Ok-clause-counts : goal.returns-in-Ok-clause-counts
 returns-in-Ok-clause-counts g c =
-    counted_behind g.B.Bench.tells (g.B.Bench.state c.args.bench.now) (g.B.Bench.state c.open.new.bench) (g.B.Bench.state c.carry_on.new.bench)
-    (sink_call g.O.Sink.tells (g.O.Sink.state c.args.out.now) (g.O.Sink.state c.carry_on.new.out)) (answer_of c.carry_on.result)
-    (c.in-Ok.ensures.store.on_other refl) (c.in-Ok.ensures.device.on_other refl) c.carry_on.ensures.counts
+    counted_behind g.B.Bench.tells (g.B.Bench.state c.args.bench.now) (g.B.Bench.state c.open.new.bench) (g.B.Bench.state c.carry_on-end.new.bench)
+    (sink_call g.O.Sink.tells (g.O.Sink.state c.args.out.now) (g.O.Sink.state c.carry_on-end.new.out)) (answer_of c.carry_on-end.result)
+    (c.in-Ok.ensures.store.on_other refl) (c.in-Ok.ensures.device.on_other refl) c.carry_on-end.ensures.counts
+
+pub returns-in-Ok-clause-goes_on : goal.returns-in-Ok-clause-goes_on
+returns-in-Ok-clause-goes_on g c = λ told. goes_then c.open.ensures.pairs.files (c.carry_on-end.ensures.goes_on told)

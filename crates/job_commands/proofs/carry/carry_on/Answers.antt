@@ -1,9 +1,9 @@
--- `carry_on`: its clauses `sound`, `told`, `early`, `counts`, `kind` and `prints`, and what `put_plans` and `finish` ask for.
+-- `carry_on`: its clauses `sound`, `told`, `early`, `counts`, `kind`, `prints` and `goes_on`, and what `put_plans` and `finish` ask for.
 use Rattle.std.proofs.Common.{◌∙◌, refl, sym, subst, ℕ, List, IsSomeAnd}
 use Rattle.std.proofs.lemmas.Result.{err_from_is_err_and}
 use Rattle.bench_model.specs.History.{LeftOnly}
 use Rattle.bench_model.specs.State.{file_half}
-use Rattle.bench_model.proofs.Moments.{still_only}
+use Rattle.bench_model.proofs.Moments.{goes_then, still_only}
 use Rattle.job_text.specs.Said.{algorithms_shown}
 use Rattle.job_text.specs.declared.job.Job as code
 use Rattle.job_text.specs.Stands.{StandsFor}
@@ -152,3 +152,6 @@ finish-requires-clause-only g c = λ told.
 
 pub finish-requires-clause-idle : goal.finish-requires-clause-idle
 finish-requires-clause-idle g c = λ told. c.survey.ensures.reads.cells.operation told ∙ c.requires.idle told
+
+pub returns-clause-goes_on : goal.returns-clause-goes_on
+returns-clause-goes_on g c = λ told. goes_then c.survey.ensures.reads.file.moments.goes_on (c.finish.ensures.goes_on told)

@@ -1,5 +1,5 @@
--- `finish`: its clauses `sound` and `told`, and what `close` and `address_of` ask for.
-use Rattle.std.proofs.Common.{◌≡◌, ◌<◌, ◌∙◌, ℕ, refl, sym, ap, subst, drop, List, Some}
+-- `finish`: its clauses `sound`, `told` and `goes_on`, and what `close` and `address_of` ask for.
+use Rattle.std.proofs.Common.{◌≡◌, ◌<◌, ◌∙◌, ℕ, refl, sym, ap, subst, drop, List, Option, Some, IsSome}
 use Rattle.std.proofs.lemmas.Result.{err_from_is_err_and}
 use Rattle.board_file.specs.declared.region.Region.{Region}
 use Rattle.board_file.specs.Limits.{size_of}
@@ -7,12 +7,13 @@ use Rattle.board_file.proofs.Laws.{region_at}
 use Rattle.job_text.specs.Laid.{address_at}
 use Rattle.bench_model.specs.History.{LeftOnly}
 use Rattle.bench_model.specs.State.{file_half}
-use Rattle.bench_model.proofs.Moments.{still_only}
+use Rattle.bench_model.proofs.Moments.{goes_then, still_only}
 use Rattle.job_text.specs.Files.{IsWhole}
 use Rattle.job_commands.proofs.SurveyLemmas.{whole_behind}
 use Rattle.job_text.specs.declared.job.Job as code
 use Rattle.flash_session.specs.Sessions.{job_in, surveyed}
-use Rattle.job_commands.proofs.FinishLemmas.{closed_as, ends_mismatch, ends_failed, ends_at_fault, ends_unread, ends_done, ends_cut, ends_unclosed}
+use Rattle.flash_session.specs.Surveys.{Surveyed}
+use Rattle.job_commands.proofs.FinishLemmas.{closed_as, closed_goes, ends_mismatch, ends_failed, ends_at_fault, ends_unread, ends_done, ends_cut, ends_unclosed}
 use Rattle.job_commands.proofs.carry.finish.Goals as goal
 
 pub returns-in-Mismatch-clause-sound : goal.returns-in-Mismatch-clause-sound
@@ -105,3 +106,21 @@ address_of-requires-clause-inside g c =
 
 pub address_of-requires-clause-fit : goal.address_of-requires-clause-fit
 address_of-requires-clause-fit g c = λ k d less. (region_at c.as_slice.result.now k d less (rw c.as_slice.ensures c.job.result.now.board.regions_fit)).ends
+
+pub returns-in_ok-put_end-in-Ok-clause-goes_on : goal.returns-in_ok-put_end-in-Ok-clause-goes_on
+returns-in_ok-put_end-in-Ok-clause-goes_on g c = λ told.
+    goes_then c.go.ensures.file.moments.goes_on
+    (closed_goes (g.B.Bench.state c.go.new.bench) (g.B.Bench.state c.close.new.bench) (job_in c.go.new.self) (surveyed c.go.new.self)
+    (subst (λ (o : Option Surveyed). IsSome o) (sym c.go.ensures.work) c.requires.surveyed) (c.close.ensures.pairs told))
+
+pub returns-in_err-put_end-in-Ok-clause-goes_on : goal.returns-in_err-put_end-in-Ok-clause-goes_on
+returns-in_err-put_end-in-Ok-clause-goes_on g c = λ told.
+    goes_then c.go.ensures.file.moments.goes_on
+    (closed_goes (g.B.Bench.state c.go.new.bench) (g.B.Bench.state c.close.new.bench) (job_in c.go.new.self) (surveyed c.go.new.self)
+    (subst (λ (o : Option Surveyed). IsSome o) (sym c.go.ensures.work) c.requires.surveyed) (c.close.ensures.pairs told))
+
+pub returns-in-Err-clause-goes_on : goal.returns-in-Err-clause-goes_on
+returns-in-Err-clause-goes_on g c = λ told.
+    goes_then c.go.ensures.file.moments.goes_on
+    (closed_goes (g.B.Bench.state c.go.new.bench) (g.B.Bench.state c.close.new.bench) (job_in c.go.new.self) (surveyed c.go.new.self)
+    (subst (λ (o : Option Surveyed). IsSome o) (sym c.go.ensures.work) c.requires.surveyed) (c.close.ensures.pairs told))

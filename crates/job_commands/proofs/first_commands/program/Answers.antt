@@ -1,5 +1,6 @@
 -- `program`: its contract, `ProgramEnds`, and what `begin_job` asks for.
-use Rattle.std.proofs.Common.{rules, ◌≡◌, ◌∙◌, sym, Err}
+use Rattle.std.proofs.Common.{◌∙◌, sym}
+use Rattle.std.proofs.lemmas.Result.{err_from_is_err_and}
 use Rattle.report_text.specs.Shown.{shown}
 use Rattle.command_words.specs.Requested.{files_of}
 use Rattle.command_files.specs.Inputs.{inputs_call}
@@ -12,9 +13,8 @@ use Rattle.job_commands.proofs.first_commands.program.Goals as goal
 
 pub returns-in_err-said : goal.returns-in_err-said
 returns-in_err-said g c =
-    let u = c.from_residual.ensures in
-    let is : c.from_residual.result ≡ Err c.in_err-said.field-0.0 = search rules in
-    rw is (program_early g.B.Bench.tells g.O.Sink.tells (g.B.Bench.state c.args.bench.now) (g.O.Sink.state c.args.out.now)
+    let is = err_from_is_err_and c.from_residual.result c.from_residual.ensures.1 in
+    rw (is.1, is.2) (program_early g.B.Bench.tells g.O.Sink.tells (g.B.Bench.state c.args.bench.now) (g.O.Sink.state c.args.out.now)
     (inputs_call g.I.Inputs.tells (g.I.Inputs.state c.args.inputs.now) (g.I.Inputs.state c.read_target_files.new.inputs)) (files_of c.args.names.now)
     (λ told. g.met.B.Bench.all_told c.args.bench.now told) (λ told x at. (g.met.B.Bench.as_told c.args.bench.now x told).0 at)
     (shown c.in_err-said.field-0.0) c.in_err-said.ensures.reads)

@@ -1,5 +1,5 @@
 -- `begin_alone`: its clauses `told`, `early`, `kind`, `prints`, `sized`, `sound` and `counts`.
-use Rattle.std.proofs.Common.{rules, ◌≡◌, refl, Err}
+use Rattle.std.proofs.Common.{refl}
 use Rattle.std.proofs.lemmas.Result.{err_from_is_err_and}
 use Rattle.report_text.specs.Shown.{shown}
 use Rattle.command_answers.specs.Call.{bench_call, sink_call}
@@ -17,8 +17,8 @@ returns-in_err-start g c =
     let o = g.O.Sink.state c.args.out.now in
     let out = sink_call g.O.Sink.tells o o in
     let r = shown c.in_err-start.field-0.0 in
-    let is : c.from_residual.result ≡ Err c.in_err-start.field-0.0 = search rules in
-    rw is (record {
+    let is = err_from_is_err_and c.from_residual.result c.from_residual.ensures.1 in
+    rw (is.1, is.2) (record {
       told = λ told. starts_with (bench_call g.B.Bench.tells a b) out begun_text c.args.parts.now r c.in_err-start.ensures.kind
           (c.in_err-start.ensures.told told g.O.Sink.tells o);
       early = c.in_err-start.ensures.early g.O.Sink.tells o;

@@ -1,5 +1,6 @@
 -- `begin_job`: its clauses `told`, `early`, `kind`, `prints`, `sized`, `sound` and `counts`.
-use Rattle.std.proofs.Common.{rules, ◌≡◌, refl, sym, subst, ℕ, Err}
+use Rattle.std.proofs.Common.{refl, sym, subst, ℕ}
+use Rattle.std.proofs.lemmas.Result.{err_from_is_err_and}
 use Rattle.bench_model.specs.State.{Left}
 use Rattle.job_text.specs.Parts.{job_of}
 use Rattle.flash_session.specs.declared.goal.Goal.TheVariants.{New}
@@ -24,8 +25,8 @@ returns-in_err-start g c =
     let o = g.O.Sink.state c.args.out.now in
     let out = sink_call g.O.Sink.tells o o in
     let r = shown c.in_err-start.field-0.0 in
-    let is : c.from_residual.result ≡ Err c.in_err-start.field-0.0 = search rules in
-    rw is (record {
+    let is = err_from_is_err_and c.from_residual.result c.from_residual.ensures.1 in
+    rw (is.1, is.2) (record {
       told = λ told. begins_refused g.B.Bench.tells g.O.Sink.tells a b o c.args.parts.now r told c.in_err-start.ensures.kind
           (c.in_err-start.ensures.told told g.O.Sink.tells o);
       early = c.in_err-start.ensures.early g.O.Sink.tells o;

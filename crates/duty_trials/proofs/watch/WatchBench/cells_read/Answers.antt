@@ -1,0 +1,13 @@
+-- `Watch::cells_read`: that what it keeps is as its type asks.
+use Rattle.std.proofs.Common.{◌∙◌}
+use Rattle.bench_model.specs.State.{cells_half}
+use Rattle.duty_trials.proofs.WatchLemmas.{seen_later}
+use Rattle.duty_trials.proofs.watch.WatchBench.cells_read.Goals as goal
+
+pub invariant_of-self : goal.invariant_of-self
+invariant_of-self g c = record {
+  tracks = λ told. c.cells_read.ensures.does.operation told ∙ c.args.self.now.tracks told;
+  seen = λ told.
+      seen_later c.args.self.now.outside (cells_half (g.B.Bench.state c.args.self.now.inner)) (cells_half (g.B.Bench.state c.cells_read.new.self))
+      c.cells_read.ensures.does.moments.goes_on (c.args.self.now.seen told);
+}
