@@ -11,7 +11,7 @@ use armv6m_decode::Instr;
 use armv6m_forms::Aim;
 
 /// What an instruction's destination is written as.
-#[derive(Clone, Copy, PartialEq, Eq, Debug)]
+#[derive(Clone, Copy)]
 pub enum Destination<'a> {
     /// The name of a label.
     Label { name: &'a [u8] },
@@ -20,7 +20,7 @@ pub enum Destination<'a> {
 }
 
 /// What a statement does at its place.
-#[derive(Clone, Copy, PartialEq, Eq, Debug)]
+#[derive(Clone, Copy)]
 pub enum Operation<'a> {
     /// Nothing: there is only a label, or a comment, or neither.
     Nothing,
@@ -42,7 +42,7 @@ pub enum Operation<'a> {
 }
 
 /// A line's statement.
-#[derive(Clone, Copy, PartialEq, Eq, Debug)]
+#[derive(Clone, Copy)]
 pub struct Statement<'a> {
     pub label: Option<&'a [u8]>,
     pub operation: Operation<'a>,

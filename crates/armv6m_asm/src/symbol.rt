@@ -10,7 +10,7 @@ use crate::token::{Token, split_token};
 use armv6m_forms::{read_register, read_special};
 
 /// What a token is among operands.
-#[derive(Clone, Copy, PartialEq, Eq)]
+#[derive(Clone, Copy)]
 pub(crate) enum Symbol {
     /// A register, 0 to 15.
     Register { number: u8 },

@@ -11,36 +11,35 @@ pub(crate) fn fits(op: Alu) -> bool
     ensures { result ≡ fields_fit (Instr.Alu op) }
 {
     match op {
-        Alu::LslsImmediate { d, m, immediate } => d < 8 && m < 8 && immediate < 32,
-        Alu::LsrsImmediate { d, m, immediate } => d < 8 && m < 8 && immediate < 32,
-        Alu::AsrsImmediate { d, m, immediate } => d < 8 && m < 8 && immediate < 32,
-        Alu::AddsRegister { d, n, m } => d < 8 && n < 8 && m < 8,
-        Alu::SubsRegister { d, n, m } => d < 8 && n < 8 && m < 8,
-        Alu::AddsImmediate3 { d, n, immediate } => d < 8 && n < 8 && immediate < 8,
-        Alu::SubsImmediate3 { d, n, immediate } => d < 8 && n < 8 && immediate < 8,
-        Alu::MovsImmediate { d, immediate: _ } => d < 8,
+        Alu::LslsImmediate { d, m, immediate }
+        | Alu::LsrsImmediate { d, m, immediate }
+        | Alu::AsrsImmediate { d, m, immediate } => d < 8 && m < 8 && immediate < 32,
+        Alu::AddsRegister { d, n, m } | Alu::SubsRegister { d, n, m } => d < 8 && n < 8 && m < 8,
+        Alu::AddsImmediate3 { d, n, immediate } | Alu::SubsImmediate3 { d, n, immediate } => d < 8
+            && n < 8
+            && immediate < 8,
+        Alu::MovsImmediate { d, immediate: _ }
+        | Alu::AddsImmediate8 { d, immediate: _ }
+        | Alu::SubsImmediate8 { d, immediate: _ } => d < 8,
         Alu::CmpImmediate { n, immediate: _ } => n < 8,
-        Alu::AddsImmediate8 { d, immediate: _ } => d < 8,
-        Alu::SubsImmediate8 { d, immediate: _ } => d < 8,
-        Alu::Ands { d, m } => d < 8 && m < 8,
-        Alu::Eors { d, m } => d < 8 && m < 8,
-        Alu::LslsRegister { d, m } => d < 8 && m < 8,
-        Alu::LsrsRegister { d, m } => d < 8 && m < 8,
-        Alu::AsrsRegister { d, m } => d < 8 && m < 8,
-        Alu::Adcs { d, m } => d < 8 && m < 8,
-        Alu::Sbcs { d, m } => d < 8 && m < 8,
-        Alu::Rors { d, m } => d < 8 && m < 8,
-        Alu::Tst { d, m } => d < 8 && m < 8,
+        Alu::Ands { d, m }
+        | Alu::Eors { d, m }
+        | Alu::LslsRegister { d, m }
+        | Alu::LsrsRegister { d, m }
+        | Alu::AsrsRegister { d, m }
+        | Alu::Adcs { d, m }
+        | Alu::Sbcs { d, m }
+        | Alu::Rors { d, m }
+        | Alu::Tst { d, m }
+        | Alu::CmpRegister { d, m }
+        | Alu::Cmn { d, m }
+        | Alu::Orrs { d, m }
+        | Alu::Muls { d, m }
+        | Alu::Bics { d, m }
+        | Alu::Mvns { d, m } => d < 8 && m < 8,
         Alu::Rsbs { d, n } => d < 8 && n < 8,
-        Alu::CmpRegister { d, m } => d < 8 && m < 8,
-        Alu::Cmn { d, m } => d < 8 && m < 8,
-        Alu::Orrs { d, m } => d < 8 && m < 8,
-        Alu::Muls { d, m } => d < 8 && m < 8,
-        Alu::Bics { d, m } => d < 8 && m < 8,
-        Alu::Mvns { d, m } => d < 8 && m < 8,
-        Alu::AddHigh { d, m } => d < 16 && m < 16,
+        Alu::AddHigh { d, m } | Alu::MovHigh { d, m } => d < 16 && m < 16,
         Alu::CmpHigh { n, m } => n < 16 && m < 16,
-        Alu::MovHigh { d, m } => d < 16 && m < 16,
     }
 }
 

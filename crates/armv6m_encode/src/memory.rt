@@ -11,23 +11,23 @@ pub(crate) fn fits(op: Memory) -> bool
     ensures { result ≡ fields_fit (Instr.Memory op) }
 {
     match op {
-        Memory::LdrLiteral { t, immediate: _ } => t < 8,
-        Memory::StrRegister { t, n, m } => t < 8 && n < 8 && m < 8,
-        Memory::StrhRegister { t, n, m } => t < 8 && n < 8 && m < 8,
-        Memory::StrbRegister { t, n, m } => t < 8 && n < 8 && m < 8,
-        Memory::LdrsbRegister { t, n, m } => t < 8 && n < 8 && m < 8,
-        Memory::LdrRegister { t, n, m } => t < 8 && n < 8 && m < 8,
-        Memory::LdrhRegister { t, n, m } => t < 8 && n < 8 && m < 8,
-        Memory::LdrbRegister { t, n, m } => t < 8 && n < 8 && m < 8,
-        Memory::LdrshRegister { t, n, m } => t < 8 && n < 8 && m < 8,
-        Memory::StrImmediate { t, n, immediate } => t < 8 && n < 8 && immediate < 32,
-        Memory::LdrImmediate { t, n, immediate } => t < 8 && n < 8 && immediate < 32,
-        Memory::StrbImmediate { t, n, immediate } => t < 8 && n < 8 && immediate < 32,
-        Memory::LdrbImmediate { t, n, immediate } => t < 8 && n < 8 && immediate < 32,
-        Memory::StrhImmediate { t, n, immediate } => t < 8 && n < 8 && immediate < 32,
-        Memory::LdrhImmediate { t, n, immediate } => t < 8 && n < 8 && immediate < 32,
-        Memory::StrSp { t, immediate: _ } => t < 8,
-        Memory::LdrSp { t, immediate: _ } => t < 8,
+        Memory::LdrLiteral { t, immediate: _ }
+        | Memory::StrSp { t, immediate: _ }
+        | Memory::LdrSp { t, immediate: _ } => t < 8,
+        Memory::StrRegister { t, n, m }
+        | Memory::StrhRegister { t, n, m }
+        | Memory::StrbRegister { t, n, m }
+        | Memory::LdrsbRegister { t, n, m }
+        | Memory::LdrRegister { t, n, m }
+        | Memory::LdrhRegister { t, n, m }
+        | Memory::LdrbRegister { t, n, m }
+        | Memory::LdrshRegister { t, n, m } => t < 8 && n < 8 && m < 8,
+        Memory::StrImmediate { t, n, immediate }
+        | Memory::LdrImmediate { t, n, immediate }
+        | Memory::StrbImmediate { t, n, immediate }
+        | Memory::LdrbImmediate { t, n, immediate }
+        | Memory::StrhImmediate { t, n, immediate }
+        | Memory::LdrhImmediate { t, n, immediate } => t < 8 && n < 8 && immediate < 32,
     }
 }
 

@@ -13,32 +13,30 @@ pub(crate) fn fits(op: Other) -> bool
     ensures { result ≡ fields_fit (Instr.Other op) }
 {
     match op {
-        Other::Adr { d, immediate: _ } => d < 8,
-        Other::AddFromSp { d, immediate: _ } => d < 8,
-        Other::AddToSp { immediate } => immediate < 0x80,
-        Other::SubFromSp { immediate } => immediate < 0x80,
-        Other::Sxth { d, m } => d < 8 && m < 8,
-        Other::Sxtb { d, m } => d < 8 && m < 8,
-        Other::Uxth { d, m } => d < 8 && m < 8,
-        Other::Uxtb { d, m } => d < 8 && m < 8,
-        Other::Cpsie => true,
-        Other::Cpsid => true,
-        Other::Rev { d, m } => d < 8 && m < 8,
-        Other::Rev16 { d, m } => d < 8 && m < 8,
-        Other::Revsh { d, m } => d < 8 && m < 8,
-        Other::Bkpt { immediate: _ } => true,
-        Other::Nop => true,
-        Other::Yield => true,
-        Other::Wfe => true,
-        Other::Wfi => true,
-        Other::Sev => true,
-        Other::Udf { immediate: _ } => true,
-        Other::Svc { immediate: _ } => true,
+        Other::Adr { d, immediate: _ } | Other::AddFromSp { d, immediate: _ } => d < 8,
+        Other::AddToSp { immediate } | Other::SubFromSp { immediate } => immediate < 0x80,
+        Other::Sxth { d, m }
+        | Other::Sxtb { d, m }
+        | Other::Uxth { d, m }
+        | Other::Uxtb { d, m }
+        | Other::Rev { d, m }
+        | Other::Rev16 { d, m }
+        | Other::Revsh { d, m } => d < 8 && m < 8,
+        Other::Cpsie
+        | Other::Cpsid
+        | Other::Bkpt { immediate: _ }
+        | Other::Nop
+        | Other::Yield
+        | Other::Wfe
+        | Other::Wfi
+        | Other::Sev
+        | Other::Udf { immediate: _ }
+        | Other::Svc { immediate: _ }
+        | Other::Dsb
+        | Other::Dmb
+        | Other::Isb => true,
         Other::Mrs { d, special: _ } => d < 16,
         Other::Msr { n, special: _ } => n < 16,
-        Other::Dsb => true,
-        Other::Dmb => true,
-        Other::Isb => true,
     }
 }
 

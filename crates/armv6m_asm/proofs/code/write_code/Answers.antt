@@ -1,5 +1,6 @@
--- `write_code`: its clause `err`, that its loop keeps what it has to, what `add_operation` asks for, and that no number overflows.
+-- `write_code`: its clauses `err` and `ok`, what `add_operation` asks for, that no number overflows, and that its loop keeps what it has to.
 use Rattle.std.proofs.Common.{◌+◌, ℕ, subst, sym, arith}
+use Rattle.std.proofs.lemmas.Grind.{common_steps}
 use Rattle.std.specs.Prelude.{Contains}
 use Rattle.std.proofs.lemmas.Result.{err_from_is_err_and}
 use Rattle.armv6m_asm.specs.Label.{names_of}
@@ -29,3 +30,6 @@ loop-statement-preserved c =
     (l.line + 1) c.add_operation.new.bytes.items) (sym c.size-place.ensures)
     (written_more c.args.labels.now c.args.statements.now l.statement-index l.place l.line nothing l.bytes.items c.add_operation.new.bytes.items
     (omega arith) l.invariant c.in_ok-add_operation.ensures.ok)
+
+pub returns-clause-ok : goal.returns-clause-ok
+returns-clause-ok c = grind (arith, common_steps)

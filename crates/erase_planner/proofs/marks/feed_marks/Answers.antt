@@ -1,5 +1,6 @@
--- `feed_marks`: that its loop keeps what it has to.
+-- `feed_marks`: its clause `marked`, and that its loop keeps what it has to.
 use Rattle.std.proofs.Common.{◌≡◌, ℕ, ◌+◌, ◌<◌, List, [], ◌∷◌, ◌++◌, length, take, get_or, arith, sym, ap, ◌∙◌, set}
+use Rattle.std.proofs.lemmas.Grind.{common_steps}
 use Rattle.std.proofs.Math.ListN.{length-set}
 use Rattle.std.proofs.lemmas.List.{take_more, append_assoc, length-append, length-take-le}
 use Rattle.erase_planner.specs.Marks.{AreMarks, with_byte, mark_at}
@@ -40,3 +41,6 @@ loop-index-preserved c =
           c.pages-pages.ensures.lawful c.loop-index.marks before c.page_from-here.result.0 c.page_from-here.ensures.number inside in
           rw (c.with_byte-marked.ensures, ← more o c.args.old.now k h, ← more w c.args.want.now k h2) here;
     }
+
+pub returns-clause-marked : goal.returns-clause-marked
+returns-clause-marked c = grind (arith, common_steps)

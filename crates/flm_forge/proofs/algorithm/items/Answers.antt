@@ -1,5 +1,6 @@
--- `items`: that it keeps its contract, and that its loop keeps what it has to.
+-- `items`: that its loop keeps what it has to, that it keeps its contract, and that no number overflows.
 use Rattle.std.proofs.Common.{◌+◌, ◌*◌, ◌++◌, List, drop, get_or, sym, ap, ◌∙◌, arith}
+use Rattle.std.proofs.lemmas.Grind.{common_steps}
 use Rattle.board_file.specs.declared.sectors.SectorRun.{SectorRun}
 use Rattle.flm_descriptor.specs.declared.items.SectorItem.{SectorItem}
 use Rattle.flm_forge.specs.Listed.{items_from}
@@ -24,3 +25,9 @@ pub returns : goal.returns
 returns c =
     let l = c.loop-run in
     c.from_vec.ensures ∙ sym (items_end c.args.runs.now l.run-index l.offset l.items.items (omega arith)) ∙ l.invariant.made
+
+pub overflow_add-offset : goal.overflow_add-offset
+overflow_add-offset c = grind (arith, common_steps)
+
+pub overflow_mul-offset : goal.overflow_mul-offset
+overflow_mul-offset c = grind (arith, common_steps)

@@ -1,9 +1,10 @@
 -- `gather_run`: its clause `text`, and that its loop keeps what it has to.
 use Rattle.std.proofs.Common.{◌+◌, ◌-◌, ◌≤◌, [], ◌∷◌, length, drop, arith}
+use Rattle.std.proofs.lemmas.Grind.{common_steps}
 use Rattle.std.specs.Prelude.{slice_range}
 use Rattle.byte_map.specs.Image.{Run}
-use Rattle.image_more.specs.Rows.{run_rows}
 use Rattle.outside_io.proofs.GatherLemmas.{gathers_as, gathers_failed}
+use Rattle.image_more.specs.Rows.{run_rows}
 use Rattle.image_more.proofs.RowLemmas.{row_next, one_row, rows_more, rows_break}
 use Rattle.image_more.proofs.text.gather_run.Goals as goal
 
@@ -32,3 +33,6 @@ loop-from-preserved g c =
           (gathers_as (one_row c.loop-from.form row) c.in_ok-gather_row.ensures),
       omega (arith, c.min-count.ensures, c.loop-from-test.true),
     )
+
+pub returns-clause-text : goal.returns-clause-text
+returns-clause-text g c = grind (arith, common_steps)

@@ -1,5 +1,6 @@
--- `lay_all`: that its loop keeps what it has to.
+-- `lay_all`: that its loop keeps what it has to, and that it keeps its contract.
 use Rattle.std.proofs.Common.{◌<◌, ◌∙◌, [], length, sym, arith}
+use Rattle.std.proofs.lemmas.Grind.{common_steps}
 use Rattle.std.proofs.lemmas.Option.{get_or_from_slice_get}
 use Rattle.byte_map.specs.Image.{Run}
 use Rattle.record_lines.proofs.Unions.{where_some, union_more}
@@ -14,3 +15,6 @@ loop-index-preserved c =
     let lays = where_some c.lay.result c.in_ok-ok.field-0 (sym c.ok.ensures.value ∙ c.in_ok-ok.was) c.lay.ensures.ok in
     union_more runs index run c.loop-index.map c.lay.new.self lt (get_or_from_slice_get runs index run (record { at = 0; bytes = [] }) c.run-at.ensures) lays
     c.loop-index.invariant
+
+pub returns : goal.returns
+returns c = grind (arith, common_steps)

@@ -1,5 +1,6 @@
 -- A slice is the steps that were made.
 use Rattle.std.proofs.Common.{◌≡◌, ℕ, slice_index, refl, sym, arith, ◌∙◌, ap, subst}
+use Rattle.std.proofs.lemmas.Bool.{false≢true}
 use Rattle.bench_model.proofs.Moments.{file_stays_then}
 use Rattle.armv6m_step.specs.declared.ends.StepEnd.TheVariants as step
 use Rattle.armv6m_step.specs.Ends.{is_device_end as is_device_step}
@@ -29,7 +30,7 @@ returns-then-pc-return_at-clause-end g c told = (
       (run.Returned (slice_index x.regs 0)) (point_of x c.steps.line)) (sym c.go_to.ensures)
       (ends_returned c.args.return_at c.args.fuel _ c.steps.made _ (c.steps.invariant.so_far.told told).is
       (c.steps.invariant.reads ∙ c.if-pc-return_at.true)),
-  λ before fine. absurd (cc before),
+  λ before fine. absurd (false≢true (sym before)),
 )
 
 pub returns-then-made-fuel-clause-end : goal.returns-then-made-fuel-clause-end
@@ -40,7 +41,7 @@ returns-then-made-fuel-clause-end g c told = (
       (point_of (moved c.steps.core c.steps.pc) c.steps.line)) c.steps.invariant.reads
       (ends_no_fuel c.args.return_at c.args.fuel _ c.steps.made _ (c.steps.invariant.so_far.told told).is
       (λ back. c.if-pc-return_at.false (sym c.steps.invariant.reads ∙ back)) c.if-made-fuel.true)),
-  λ before fine. absurd (cc before),
+  λ before fine. absurd (false≢true (sym before)),
 )
 
 pub returns-then-made-least-clause-end : goal.returns-then-made-least-clause-end
@@ -96,7 +97,7 @@ returns-in-Err-clause-end g c told = (
       (moved c.instruction.new.core c.instruction.new.pc) c.instruction.new.line c.instruction.result c.steps.invariant.so_far
       c.instruction.ensures.does told
       c.tick.new.line (went_of c.instruction.result _ (sym c.in_default.ensures)) (c.in-Err.ensures.err told),
-  λ before fine. absurd (cc fine),
+  λ before fine. absurd (false≢true (sym fine)),
 )
 
 pub returns-in-Err-clause-file : goal.returns-in-Err-clause-file

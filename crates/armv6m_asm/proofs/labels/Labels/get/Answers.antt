@@ -1,6 +1,7 @@
 -- `Labels::get`: its clauses `cases` and `first`, and that its loop keeps what it has to.
 use Rattle.std.proofs.Common.{◌≡◌, ◌≢◌, ◌∙◌, List, sym, take, subst, arith}
 use Rattle.std.specs.Prelude.{Contains}
+use Rattle.std.proofs.lemmas.Bool.{false≢true}
 use Rattle.std.proofs.lemmas.List.{take_all}
 use Rattle.std.proofs.lemmas.Slice.Eq.{bytes_eq-Decides}
 use Rattle.armv6m_asm.specs.declared.labels.Label.{Label}
@@ -15,7 +16,7 @@ loop-label-preserved c =
     let name = c.args.name.now in
     let other : d.name ≢ name = λ same.
     let yes = (bytes_eq-Decides c.bytes.result.now name).1 (c.bytes.ensures ∙ same) in
-    absurd (cc (yes, c.eq.ensures, c.if-eq.false)) in
+    absurd (false≢true (sym c.if-eq.false ∙ c.eq.ensures ∙ yes)) in
     not_yet labels c.loop-label.label-index d name (omega arith) c.loop-label.invariant (subst (λ (l : Label). l.name ≢ name) c.label-item.is other)
 
 pub returns-clause-cases : goal.returns-clause-cases

@@ -1,5 +1,6 @@
--- `FlashMap::find`: its clauses `value` and `inside`, and that its loop keeps what it has to.
-use Rattle.std.proofs.Common.{◌∙◌, ap, sym, List}
+-- `FlashMap::find`: its clauses `value` and `inside`, that its loop keeps what it has to, and that no number overflows.
+use Rattle.std.proofs.Common.{◌∙◌, ap, sym, List, arith}
+use Rattle.std.proofs.lemmas.Grind.{common_steps}
 use Rattle.std.proofs.lemmas.List.{drop_all}
 use Rattle.flash_layout.specs.declared.area.Area.{Area}
 use Rattle.flash_layout.specs.Areas.{find}
@@ -24,3 +25,9 @@ pub returns-clause-value : goal.returns-clause-value
 returns-clause-value c =
     looked_none c.deref-area-items.result.now c.args.at c.loop-area.area-index c.loop-area.from (drop_all _ _ c.loop-area-test.false) c.loop-area.invariant ∙
     ap (λ (l : List Area). find l 0 c.args.at) c.deref-area-items.ensures.value
+
+pub overflow_add-place : goal.overflow_add-place
+overflow_add-place c = grind (arith, common_steps)
+
+pub overflow_add-from : goal.overflow_add-from
+overflow_add-from c = grind (arith, common_steps)

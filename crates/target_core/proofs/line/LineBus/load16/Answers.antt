@@ -1,5 +1,7 @@
 -- `LineBus::load16`: its clause `acts`.
-use Rattle.std.proofs.Common.{refl}
+use Rattle.std.proofs.Common.{refl, arith}
+use Rattle.std.proofs.lemmas.Grind.{common_steps}
+use Rattle.target_core.specs.World.{world_answer, world_asks}
 use Rattle.target_core.proofs.LineLemmas.{loads}
 use Rattle.target_core.proofs.RamLemmas.{only_here}
 use Rattle.target_core.proofs.line.LineBus.load16.Goals as goal
@@ -19,3 +21,7 @@ returns-in-Some-clause-acts g c =
           only_here c.args.self.now.arena.now c.args.self.now.window;
     }) refl refl refl
     c.in-Some.ensures.value c.load16_from.ensures.value
+
+pub returns-in-None-clause-acts : goal.returns-in-None-clause-acts
+unfolding world_answer world_asks
+returns-in-None-clause-acts g c = grind (arith, common_steps)

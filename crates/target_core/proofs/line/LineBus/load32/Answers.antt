@@ -1,5 +1,7 @@
 -- `LineBus::load32`: that it keeps its contract.
-use Rattle.std.proofs.Common.{refl}
+use Rattle.std.proofs.Common.{refl, arith}
+use Rattle.std.proofs.lemmas.Grind.{common_steps}
+use Rattle.target_core.specs.World.{world_answer, world_asks}
 use Rattle.target_core.proofs.LineLemmas.{loads}
 use Rattle.target_core.proofs.RamLemmas.{only_here}
 use Rattle.target_core.proofs.line.LineBus.load32.Goals as goal
@@ -19,3 +21,7 @@ returns-in-Some g c =
           only_here c.args.self.now.arena.now c.args.self.now.window;
     }) refl refl refl
     c.in-Some.ensures.value c.load32_from.ensures.value
+
+pub returns-in-None : goal.returns-in-None
+unfolding world_answer world_asks
+returns-in-None g c = grind (arith, common_steps)

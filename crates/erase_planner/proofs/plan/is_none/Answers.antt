@@ -1,0 +1,7 @@
+-- `is_none`: that it keeps its contract.
+use Rattle.std.proofs.Common.{arith}
+use Rattle.std.proofs.lemmas.Grind.{common_steps}
+use Rattle.erase_planner.proofs.plan.is_none.Goals as goal
+
+pub returns : goal.returns
+returns c = grind (arith, common_steps)

@@ -1,0 +1,7 @@
+-- `put_symbols`: that its loop keeps what it has to.
+use Rattle.std.proofs.Common.{arith}
+use Rattle.std.proofs.lemmas.Grind.{common_steps}
+use Rattle.flm_forge.proofs.symbol.put_symbols.Goals as goal
+
+pub loop-symbol-preserved : goal.loop-symbol-preserved
+loop-symbol-preserved c = grind (arith, common_steps)

@@ -1,0 +1,7 @@
+-- `put_halves`: that its loop keeps what it has to.
+use Rattle.std.proofs.Common.{arith}
+use Rattle.std.proofs.lemmas.Grind.{common_steps}
+use Rattle.flm_forge.proofs.write.put_halves.Goals as goal
+
+pub loop-number-preserved : goal.loop-number-preserved
+loop-number-preserved c = grind (arith, common_steps)

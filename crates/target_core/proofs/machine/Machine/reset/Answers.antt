@@ -1,0 +1,7 @@
+-- `Machine::reset`: its clause `ram_stays`.
+use Rattle.std.proofs.Common.{arith}
+use Rattle.std.proofs.lemmas.Grind.{common_steps}
+use Rattle.target_core.proofs.machine.Machine.reset.Goals as goal
+
+pub returns-in-Ok-clause-ram_stays : goal.returns-in-Ok-clause-ram_stays
+returns-in-Ok-clause-ram_stays g c = grind (arith, common_steps)
