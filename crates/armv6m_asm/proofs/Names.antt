@@ -1,5 +1,5 @@
 -- Names as labels and destinations.
-use Rattle.std.proofs.Common.{◌≡◌, ◌≢◌, ◌<◌, ◌+◌, inl, inr, ℕ, List, [], ◌∷◌, ◌++◌, length, get_or, take, subst, ◌∙◌, arith, drop, refl, sym, ap}
+use Rattle.std.proofs.Common.{◌≡◌, ◌≢◌, ◌<◌, ◌+◌, inl, inr, ℕ, List, [], ◌∷◌, ◌++◌, length, get_or, take, subst, ◌∙◌, arith, drop, sym, ap}
 use Rattle.std.specs.Prelude.{Contains}
 use Rattle.std.proofs.lemmas.List.{get_or_default, map_more}
 use Rattle.std.proofs.lemmas.List.Quantifiers.{all_pairs_push}

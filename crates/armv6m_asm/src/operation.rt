@@ -1,7 +1,6 @@
 //! What a statement does.
-ghost use Rattle.std.specs.Prelude.{◌≡◌, ◌↔◌, ℕ, List, [], ◌∷◌, codes, IsTrue, MatchOption};
+ghost use Rattle.std.specs.Prelude.{◌↔◌, ℕ, [], ◌∷◌, codes, IsTrue, MatchOption};
 ghost use Rattle.armv6m_decode.specs.declared.instr.Instr.{Instr};
-ghost use Rattle.armv6m_forms.specs.Text.{IsBranch};
 ghost use Rattle.armv6m_forms.specs.declared.form.Aim.{Aim};
 ghost use Rattle.armv6m_asm.specs.Statement.{Are, exactly, number, ArePlain, AreAimed, AreOperation};
 ghost use Rattle.armv6m_asm.specs.Token.{word, tokens_of};

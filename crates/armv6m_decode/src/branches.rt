@@ -1,6 +1,6 @@
 //! The halfwords C000 to FFFF: loads and stores of several registers, branches, and halfwords that begin a pair (A5.2.6, A5.3).
 
-ghost use Rattle.std.specs.Prelude.{◌≡◌, ◌/◌, ◌%◌, ◌^◌};
+ghost use Rattle.std.specs.Prelude.{◌≡◌, ◌/◌, ◌%◌};
 ghost use Rattle.armv6m_decode.specs.Table.{decoded};
 
 use crate::Condition;

@@ -1,7 +1,7 @@
 //! The halfwords 0000 to 47FF: shifts, sums, moves and comparisons (A5.2.1), data processing (A5.2.2), and special data
 //! instructions with branch and exchange (A5.2.3).
 
-ghost use Rattle.std.specs.Prelude.{◌≡◌, ◌/◌, ◌%◌, ◌^◌};
+ghost use Rattle.std.specs.Prelude.{◌≡◌, ◌/◌, ◌%◌};
 ghost use Rattle.armv6m_decode.specs.Table.{decoded};
 
 use crate::instr::{Alu, Branch, Decoded, Instr};

@@ -1,6 +1,6 @@
 //! The halfwords 4800 to 9FFF: loads from the literal pool, and loads and stores of one register (A5.2.4).
 
-ghost use Rattle.std.specs.Prelude.{◌≡◌, ◌/◌, ◌%◌, ◌^◌};
+ghost use Rattle.std.specs.Prelude.{◌≡◌, ◌/◌, ◌%◌};
 ghost use Rattle.armv6m_decode.specs.Table.{decoded};
 
 use crate::instr::{Decoded, Instr, Memory};

@@ -1,6 +1,6 @@
 //! The halfwords A000 to BFFF: addresses from PC and SP, and the miscellaneous instructions (A5.2.5).
 
-ghost use Rattle.std.specs.Prelude.{◌≡◌, ◌/◌, ◌%◌, ◌^◌};
+ghost use Rattle.std.specs.Prelude.{◌≡◌, ◌/◌, ◌%◌};
 ghost use Rattle.armv6m_decode.specs.Table.{decoded};
 
 use crate::instr::{Decoded, Instr, Many, Other};

@@ -1,6 +1,6 @@
 //! From instructions to their code.
 
-ghost use Rattle.std.specs.Prelude.{◌≡◌, true, IsTrue};
+ghost use Rattle.std.specs.Prelude.{◌≡◌, IsTrue};
 ghost use Rattle.armv6m_encode.specs.Encoding.{fields_fit, IsEncodedAs};
 
 use crate::{alu, branch, many, memory, other};

@@ -1,6 +1,6 @@
 //! The encodings of loads and stores of one register: a function for each row, named in a comment as the manual names it (A6.7).
 
-ghost use Rattle.std.specs.Prelude.{◌≡◌, ◌<◌, true, IsTrue};
+ghost use Rattle.std.specs.Prelude.{◌≡◌, ◌<◌, IsTrue};
 ghost use Rattle.armv6m_decode.specs.Table.{decoded};
 ghost use Rattle.armv6m_encode.specs.Encoding.{fields_fit};
 

@@ -1,6 +1,6 @@
 //! The encodings of two halfwords (A5.3.1).
 
-ghost use Rattle.std.specs.Prelude.{◌≡◌, ◌<◌, ◌^◌};
+ghost use Rattle.std.specs.Prelude.{◌<◌, ◌^◌};
 ghost use Rattle.armv6m_encode.specs.Encoding.{IsEncodedAs};
 
 use crate::code::Encoding;

@@ -1,5 +1,5 @@
 -- The form of each instruction: its mnemonic and its operands, as the Armv6-M Architecture Reference Manual writes them (A6.7).
-use Rattle.std.specs.Prelude.{◌≡◌, ◌⊎◌, ℕ, ◌+◌, ◌-◌, ◌*◌, ◌/◌, ◌%◌, ◌^◌, ◌&&◌, Bool, true, not, IsTrue, nat_eq, nat_lt, if◌then◌else◌}
+use Rattle.std.specs.Prelude.{◌≡◌, ◌⊎◌, ℕ, ◌+◌, ◌*◌, ◌^◌, ◌&&◌, Bool, true, not, IsTrue, nat_eq, nat_lt, if◌then◌else◌}
 use Rattle.armv6m_decode.specs.declared.instr.Instr.{Instr}
 use Rattle.armv6m_decode.specs.declared.instr.Instr.TheVariants as instr
 use Rattle.armv6m_decode.specs.declared.instr.Alu.TheVariants.{LslsImmediate, LsrsImmediate, AsrsImmediate, AddsRegister, SubsRegister, AddsImmediate3}

@@ -1,7 +1,7 @@
 //! From an instruction to its form.
 
-ghost use Rattle.std.specs.Prelude.{◌≡◌, ℕ};
-ghost use Rattle.armv6m_forms.specs.Form.{form_of, with_register};
+ghost use Rattle.std.specs.Prelude.{◌≡◌};
+ghost use Rattle.armv6m_forms.specs.Form.{form_of};
 
 use crate::form::{Aim, Form, Operands};
 use crate::mnemonic::Mnemonic;

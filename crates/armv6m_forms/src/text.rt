@@ -1,5 +1,5 @@
 //! The text of a form.
-ghost use Rattle.std.specs.Prelude.{◌≡◌, ◌+◌, ◌≤◌, ◌<◌, ◌++◌, [], ℕ, length, codes, if◌then◌else◌};
+ghost use Rattle.std.specs.Prelude.{◌≡◌, ◌+◌, ◌≤◌, ◌<◌, ◌++◌, [], length, codes, if◌then◌else◌};
 ghost use Rattle.armv6m_forms.specs.Room.{IsShort, HasShortList, HasRoom, low_list};
 ghost use Rattle.armv6m_forms.specs.Text.{register_text, immediate_text, special_text, target_text, comma_text, list_text, operands_text, aim_text};
 ghost use Rattle.armv6m_forms.specs.Text.{aim_register, form_text};

@@ -2,7 +2,6 @@
 use Rattle.std.proofs.Common.{◌≡◌, ℕ, zero, suc, ◌+◌, ◌/◌, ◌%◌, ◌^◌, ◌<◌, Bool, sym, ap, arith}
 use Rattle.std.proofs.lemmas.Bool.Decides.{nat_tests}
 use Rattle.std.proofs.Math.Pow.{shr-shr}
-use Rattle.armv6m_alu.specs.declared.Shifted.{Shifted}
 use Rattle.armv6m_alu.specs.Bits.{is_bit_set}
 use Rattle.armv6m_alu.specs.Shifts.{shifted, shifted_right}
 use Rattle.armv6m_step.specs.DataRows.{shift_amount}

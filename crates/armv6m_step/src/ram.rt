@@ -1,7 +1,7 @@
 //! Loads and stores of bytes at the addresses from a base on, little-endian. Each is done where all its bytes lie there.
 #![tactic(auto, using(std::proofs::lemmas::Bool::Decides::nat_tests))]
 
-ghost use Rattle.std.specs.Prelude.{◌≡◌, ◌≤◌, ◌<◌, ◌+◌, ◌^◌, true, false, Some, None, IfSome, if◌then◌else◌, length};
+ghost use Rattle.std.specs.Prelude.{◌≡◌, ◌≤◌, ◌<◌, ◌+◌, ◌^◌, true, false, Some, None, IfSome, if◌then◌else◌};
 ghost use Rattle.armv6m_step.specs.Ram.{ram_at, place_of, loaded_from, stored_in};
 
 /// The index of the first byte of an access that lies in so many bytes.

@@ -1,5 +1,5 @@
 //! The limits on what the keys of a text say together.
-ghost use Rattle.std.specs.Prelude.{◌≡◌, ◌<◌, ◌≤◌, ◌+◌, ◌++◌, false, not, List, None, map, option_map, length, IsTrue, IfOk, IfSome};
+ghost use Rattle.std.specs.Prelude.{◌≡◌, ◌<◌, ◌≤◌, ◌+◌, ◌++◌, false, not, None, map, option_map, length, IsTrue, IfOk, IfSome};
 ghost use Rattle.std.specs.List.{list_all, list_any};
 ghost use Rattle.board_file.specs.Answer.{Gives};
 ghost use Rattle.board_file.specs.Limits.{run_fits, region_fits, cells_of, sectors_of, size_of, sectors_in, fixed_parts, quiet_parts, named_overlap, parts_of};

@@ -1,5 +1,5 @@
 -- What the steps answer that take and read a command's files.
-use Rattle.std.specs.Prelude.{◌≡◌, ◌≤◌, ◌<◌, ◌⊎◌, ℕ, All, List, [], ◌∷◌, map, length, Option, option_to_list, Some, Result, Ok, Err}
+use Rattle.std.specs.Prelude.{◌≡◌, ◌≤◌, ◌⊎◌, ℕ, All, List, ◌∷◌, map, length, Option, option_to_list, Result, Ok, Err}
 use Rattle.std.specs.Option.{ForSome}
 use Rattle.faults.specs.Counts.{Rose}
 use Rattle.byte_map.specs.Image.{Run}
@@ -12,7 +12,6 @@ use Rattle.flm_descriptor.specs.declared.algorithm.Algorithm.{Algorithm}
 use Rattle.image_set.specs.Union.{IsUnion}
 use Rattle.image_more.specs.declared.fault.AnyFault.{AnyFault}
 use Rattle.image_more.specs.Any.{IsAnyImage, IsAnyFault}
-use Rattle.image_more.specs.Files.{IsUnionBefore}
 use Rattle.report_text.specs.Refusal as refusal
 use Rattle.report_text.specs.Shown.{shown}
 use Rattle.report_text.specs.declared.refusal.Refusal.{Refusal}

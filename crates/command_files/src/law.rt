@@ -1,5 +1,5 @@
 //! A law of the files.
-ghost use Rattle.std.specs.Prelude.{◌≡◌, ℕ, Option};
+ghost use Rattle.std.specs.Prelude.{◌≡◌};
 ghost use Rattle.report_text.specs.Refusal.{Refusal};
 ghost use Rattle.command_words.specs.Files.{FilesAsked};
 ghost use Rattle.command_files.specs.Inputs.{FilesGiven};

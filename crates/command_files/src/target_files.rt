@@ -1,5 +1,5 @@
 //! What a command on a target is to do.
-ghost use Rattle.std.specs.Prelude.{◌≡◌, ◌≤◌, All, IsSome, IfOk, length};
+ghost use Rattle.std.specs.Prelude.{◌≤◌, All, IsSome, IfOk, length};
 ghost use Rattle.std.specs.Option.{ForSome};
 ghost use Rattle.command_words.specs.Files.{names_in};
 ghost use Rattle.command_words.specs.Requested.{files_of};

@@ -1,5 +1,5 @@
 //! What the plan of the first run erases and programs, in numbers.
-ghost use Rattle.std.specs.Prelude.{◌≡◌, IfOk, ℕ};
+ghost use Rattle.std.specs.Prelude.{◌≡◌, IfOk};
 ghost use Rattle.algo_calls.specs.Duties.{device_of};
 ghost use Rattle.flm_descriptor.specs.Shown.{shown as flm_shown};
 ghost use Rattle.demo_job.specs.Plan.{erased, programmed};

@@ -1,5 +1,5 @@
 //! The board and the algorithm of the demonstration.
-ghost use Rattle.std.specs.Prelude.{◌≡◌, IfOk, IsSomeAnd, slice_get};
+ghost use Rattle.std.specs.Prelude.{IfOk, IsSomeAnd, slice_get};
 ghost use Rattle.board_file.specs.Shown.{shown as board_shown};
 ghost use Rattle.board_file.specs.Text.{IsBoard};
 ghost use Rattle.flm_descriptor.specs.Shown.{shown as flm_shown};

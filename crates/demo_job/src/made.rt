@@ -1,6 +1,6 @@
 //! What a seed makes: the cells, the image, and after how many calls the job is stopped.
 ghost use Rattle.std.specs.Prelude.{◌≡◌, ◌≤◌, ◌+◌, ◌^◌, ◌++◌, [], ◌∷◌, replicate, length, IfOk, OnOk};
-ghost use Rattle.demo_job.specs.Generator.{draws, after};
+ghost use Rattle.demo_job.specs.Generator.{draws};
 ghost use Rattle.demo_job.specs.Made.{sector_of, after_sector, sectors, after_sectors, cells_of, image_of, run_of, after_run, stop_from, stop_of};
 
 use crate::draws::Draws;

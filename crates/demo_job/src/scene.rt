@@ -4,7 +4,6 @@ ghost use Rattle.board_file.specs.Shown.{shown as board_shown};
 ghost use Rattle.flm_descriptor.specs.Shown.{shown as flm_shown};
 ghost use Rattle.job_text.specs.Fits.{Suits};
 ghost use Rattle.byte_map.specs.Image.{over};
-ghost use Rattle.job_text.specs.Parts.{AreParts};
 ghost use Rattle.demo_job.specs.Made.{base};
 ghost use Rattle.demo_job.specs.Fixture.{board_text};
 ghost use Rattle.demo_job.specs.Scene.{IsScene};

@@ -1,5 +1,5 @@
 -- What commands do that look at the cells, and what they print of them.
-use Rattle.std.specs.Prelude.{◌≡◌, ◌⊎◌, ℕ, IsTrue, List, None, Result, OnOk, OnErr}
+use Rattle.std.specs.Prelude.{◌≡◌, ◌⊎◌, IsTrue, None, Result, OnOk, OnErr}
 use Rattle.faults.specs.Counts.{HasCause}
 use Rattle.bench_model.specs.State.{cells_half, SameOutside}
 use Rattle.bench_model.specs.History.{AddsNothing}

@@ -1,6 +1,6 @@
 //! Whole reads and writes of the cells.
 ghost use Rattle.std.specs.Prelude.{◌≡◌, ◌≤◌, ◌<◌, ◌+◌, ◌^◌, length, take, drop, replicate, IsTrue, true, false, OnOk};
-ghost use Rattle.bench_model.specs.Calls.{written, Torn};
+ghost use Rattle.bench_model.specs.Calls.{written};
 ghost use Rattle.disk_files.specs.DiskDoes.{InRange, WritesBytes, ReadsBytes, IsSynced, IsReadyToChange};
 ghost use Rattle.disk_files.specs.Fails.{Fails};
 

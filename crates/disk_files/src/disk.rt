@@ -1,5 +1,5 @@
 //! What the files of a host can do.
-ghost use Rattle.std.specs.Prelude.{◌≡◌, ◌≤◌, ◌+◌, ◌<◌, ◌^◌, ◌↔◌, List, ℕ, Bool, true, false, All, length, take, drop, IsTrue, IfOk, None, Option};
+ghost use Rattle.std.specs.Prelude.{◌≡◌, ◌≤◌, ◌+◌, ◌<◌, ◌^◌, ◌↔◌, List, ℕ, Bool, true, false, All, length, take, drop, IsTrue, IfOk, None};
 ghost use Rattle.std.specs.Option.{ForSome};
 ghost use Rattle.bench_model.specs.History.{left};
 ghost use Rattle.bench_model.specs.State.{SameOutside};

@@ -1,6 +1,6 @@
 //! The job file: opened with its entry on the disk, read and written whole in as many calls as it takes.
 ghost use Rattle.std.specs.Prelude.{◌≡◌, ◌≤◌, ◌<◌, ◌+◌, ◌^◌, length, take, drop, IsTrue, true, false, OnOk, IfOk};
-ghost use Rattle.bench_model.specs.History.{Leaves, AddsNothing, LeftOnly};
+ghost use Rattle.bench_model.specs.History.{Leaves, LeftOnly};
 ghost use Rattle.bench_model.specs.Calls.{written, Torn, Follows};
 ghost use Rattle.disk_files.specs.DiskState.{job_half, CellsAsWere};
 ghost use Rattle.disk_files.specs.DiskDoes.{OnlyReadsJob, IsReady};

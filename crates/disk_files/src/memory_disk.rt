@@ -1,5 +1,5 @@
 //! A disk in memory, over a bench.
-ghost use Rattle.std.specs.Prelude.{◌≡◌, ◌≤◌, ◌+◌, ◌<◌, ◌^◌, length, IsTrue, vec_len, false, true, None};
+ghost use Rattle.std.specs.Prelude.{◌≡◌, ◌≤◌, ◌+◌, ◌<◌, IsTrue, vec_len, false, true, None};
 ghost use Rattle.std.specs.Option.{ForSome};
 ghost use Rattle.disk_files.specs.DiskDoes.{ClosesRange};
 ghost use Rattle.disk_files.specs.DiskState.{disk_over};

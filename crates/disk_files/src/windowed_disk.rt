@@ -1,5 +1,5 @@
 //! Cells that are read through a window.
-ghost use Rattle.std.specs.Prelude.{◌≡◌, ◌≤◌, ◌+◌, length, take, drop, vec_len, IsTrue};
+ghost use Rattle.std.specs.Prelude.{◌≡◌, ◌+◌, vec_len, IsTrue};
 ghost use Rattle.disk_files.specs.DiskDoes.{ReadsBytes};
 ghost use Rattle.disk_files.specs.Fails.{CallMoves};
 ghost use Rattle.disk_files.specs.Window.{IsCopy};

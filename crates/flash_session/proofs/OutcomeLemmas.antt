@@ -10,7 +10,6 @@ use Rattle.flash_session.specs.declared.session.SessionEnd.{SessionEnd}
 use Rattle.flash_session.specs.declared.session.SessionEnd.TheVariants as end
 use Rattle.flash_session.specs.Differs.{DiffersFirst}
 use Rattle.flash_session.specs.Moves.{Move, Stand, Failure, failure, run}
-use Rattle.flash_session.specs.Script.{script}
 use Rattle.flash_session.specs.Outcome.{GoTo, FailAt, IsEnd}
 
 -- ---- one outcome

@@ -2,7 +2,6 @@
 -- Surveys and work are of regions, and the goal and the comparison of all cells: so each is a part of the other.
 use Rattle.std.proofs.Common.{◌≡◌, ◌≤◌, ◌+◌, ◌-◌, ◌++◌, ◌∙◌, ℕ, List, length, take, drop, sym, ap, arith}
 use Rattle.std.proofs.lemmas.List.{drop-drop, drop-take, take-take, take-append-drop, take_all}
-use Rattle.algo_calls.specs.Duties.{part}
 
 pub part_at : (start size at n : ℕ) (goal : List ℕ) → at + n ≤ size → take n (drop (start + at) goal) ≡ take n (drop at (take size (drop start goal)))
 part_at start size at n goal inside =

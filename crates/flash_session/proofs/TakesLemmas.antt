@@ -1,5 +1,5 @@
 -- A turn does one thing.
-use Rattle.std.proofs.Common.{◌≡◌, ◌-◌, ℕ, Bool, List, refl, sym, subst}
+use Rattle.std.proofs.Common.{◌≡◌, ℕ, Bool, List, refl, sym, subst}
 use Rattle.bench_model.specs.Calls.{CellsAreRead}
 use Rattle.bench_model.specs.State.{BenchState}
 use Rattle.algo_calls.specs.declared.call.Call.{Call}

@@ -1,9 +1,6 @@
 -- What the preparing of a call leaves.
 use Rattle.std.specs.Prelude.{◌≡◌, ℕ, Bool, IsTrue, List, length, Result, Ok, Err}
-use Rattle.bench_model.specs.Calls.{OnlyReads}
-use Rattle.bench_model.specs.State.{BenchState}
 use Rattle.bench_model.specs.declared.bench_fault.StoreFault.{StoreFault}
-use Rattle.faults.specs.Counts.{HasCause}
 use Rattle.target_core.specs.Windows.{OnlyIn}
 use Rattle.algo_calls.specs.declared.call.Call.{Call}
 use Rattle.algo_calls.specs.declared.calls_in.CallsIn.{CallsIn}

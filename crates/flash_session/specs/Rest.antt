@@ -3,7 +3,7 @@ use Rattle.std.specs.Prelude.{◌+◌, ◌-◌, ℕ, zero, suc, Bool, true, fals
 use Rattle.std.specs.Prelude.{length, option_to_list}
 use Rattle.algo_calls.specs.declared.call.Call.TheVariants as call
 use Rattle.algo_calls.specs.Setups.{Setup}
-use Rattle.flash_session.specs.Moves.{Move, Reset, Load, Make}
+use Rattle.flash_session.specs.Moves.{Move, Reset, Make}
 use Rattle.flash_session.specs.Regions.{RegionIndex, First, Second, is_last}
 use Rattle.flash_session.specs.Script.{RegionWork, Torn, Leg, Broken, torn_first, torn_rest, sector_moves, erase_moves, page_at, page_moves, has_verify}
 use Rattle.flash_session.specs.Script.{verify_moves, phase, kind_of}

@@ -1,5 +1,5 @@
 -- What a target shows.
-use Rattle.std.specs.Prelude.{◌≡◌, ◌+◌, ℕ, Bool, true, false, is_some, unwrap_or, Option, Some, None, List, [], ◌∷◌}
+use Rattle.std.specs.Prelude.{ℕ, Bool, true, false, is_some, unwrap_or, Option, Some, None, List, [], ◌∷◌}
 use Rattle.flash_layout.specs.Maps.{FlashMap}
 use Rattle.target_core.specs.Units.{unit_map}
 use Rattle.target_core.specs.Path.{Point}

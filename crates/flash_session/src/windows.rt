@@ -1,5 +1,5 @@
 //! What a target reads of its job file and of its device.
-ghost use Rattle.std.specs.Prelude.{◌≡◌, ◌<◌, ◌≤◌, ◌+◌, ℕ, List, length, take, drop, IsTrue, OnOk, IfOk, None};
+ghost use Rattle.std.specs.Prelude.{◌≡◌, ◌<◌, ◌≤◌, ◌+◌, length, take, drop, IsTrue, OnOk, IfOk, None};
 ghost use Rattle.bench_model.specs.Calls.{OnlyReads, IsRead};
 ghost use Rattle.board_file.specs.Limits.{size_of};
 ghost use Rattle.faults.specs.Counts.{HasCause};

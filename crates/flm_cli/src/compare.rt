@@ -1,5 +1,5 @@
 //! `compare IMAGE`: the cells against the raw bytes of one file.
-ghost use Rattle.std.specs.Prelude.{◌≤◌, ℕ, length, IfOk};
+ghost use Rattle.std.specs.Prelude.{◌≤◌, length, IfOk};
 ghost use Rattle.command_files.specs.Inputs.{inputs_call};
 ghost use Rattle.command_answers.specs.Call.{bench_call, sink_call};
 ghost use Rattle.flm_cli.specs.Compare.{CellsAre, DiffersFrom, CompareEnds};

@@ -1,5 +1,5 @@
 //! The top call.
-ghost use Rattle.std.specs.Prelude.{ℕ, List, Option, All};
+ghost use Rattle.std.specs.Prelude.{Option, All};
 ghost use Rattle.command_words.specs.Lines.{IsReadAs};
 ghost use Rattle.command_words.specs.Words.{Command, Asks, Asked, names_asked};
 ghost use Rattle.command_files.specs.Inputs.{inputs_call};

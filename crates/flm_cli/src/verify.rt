@@ -1,5 +1,5 @@
 //! `verify [--raw-at ADDR] BOARD IMAGE...`: the cells against the image of files, on a board.
-ghost use Rattle.std.specs.Prelude.{◌≡◌, ℕ, List, All, Option, None, ◌≤◌, ◌<◌, ◌+◌, ◌^◌, ◌∷◌, [], Some, length, IsTrue, IfOk};
+ghost use Rattle.std.specs.Prelude.{◌≡◌, All, Option, None, ◌≤◌, ◌<◌, ◌+◌, ◌^◌, ◌∷◌, [], Some, length, IsTrue, IfOk};
 ghost use Rattle.command_words.specs.Files.{names_in};
 ghost use Rattle.command_words.specs.Requested.{files_of};
 ghost use Rattle.command_files.specs.Inputs.{inputs_call};

@@ -3,7 +3,7 @@ ghost use Rattle.std.specs.Prelude.{◌≡◌, ◌<◌, ℕ, Some, codes, length
 ghost use Rattle.flm_descriptor.specs.Lawful.{AreInside, AreInOrder};
 ghost use Rattle.elf32.specs.Tables.{section_of, section_part};
 ghost use Rattle.flm_descriptor.specs.Results.{from_elf, Gives};
-ghost use Rattle.flm_descriptor.specs.Parts.{AreLong, AreTyped, contents_of, end_after, entries_of, entry_of, holds, data_places, needed, needed_value};
+ghost use Rattle.flm_descriptor.specs.Parts.{AreLong, AreTyped, contents_of, end_after, entries_of, entry_of, data_places, needed, needed_value};
 ghost use Rattle.flm_descriptor.specs.Parts.{optional_entry, optional_part, optional_value, place_of, present, sections_of, size_or_none, start_or, symbols_of};
 ghost use Rattle.flm_descriptor.specs.Parts.{text_of};
 ghost use Rattle.flm_descriptor.specs.Seen.{seen};

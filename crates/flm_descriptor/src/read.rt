@@ -1,5 +1,5 @@
 //! Reading an FLM file.
-ghost use Rattle.std.specs.Prelude.{◌≡◌, ◌≢◌, ℕ, ◌+◌, ◌*◌, ◌<◌, ◌≤◌, Ok, Err, length, position, IfOk, IfErr, IfSome};
+ghost use Rattle.std.specs.Prelude.{◌≡◌, ◌≢◌, ◌+◌, ◌*◌, ◌<◌, ◌≤◌, Ok, Err, length, position, IfOk, IfErr, IfSome};
 ghost use Rattle.std.specs.List.{before_first};
 ghost use Rattle.elf32.specs.Search.{first_below};
 ghost use Rattle.elf32.specs.Strings.{is_zero};

@@ -1,7 +1,7 @@
 //! The kinds of algorithms, and their texts.
 ghost use Rattle.std.specs.Prelude.{◌≡◌, ◌++◌, ◌∷◌, [], OnOk};
 ghost use Rattle.flm_forge.specs.Texts.{constant_lines, erase_chip_lines, erase_lines, erase_sector_lines, init_lines, lie_lines, lines, program_page_first};
-ghost use Rattle.flm_forge.specs.Texts.{program_page_lines, text_of, un_init_first, un_init_lines, verify_lines};
+ghost use Rattle.flm_forge.specs.Texts.{program_page_lines, text_of, un_init_first, un_init_lines};
 
 use crate::write::put;
 use faults::OutOfMemory;

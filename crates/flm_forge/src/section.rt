@@ -2,7 +2,7 @@
 ghost use Rattle.std.specs.Prelude.{◌≡◌, ◌<◌, ◌^◌, ◌++◌, OnOk};
 ghost use Rattle.std.specs.List.{flat_map};
 ghost use Rattle.flm_forge.specs.Places.{end_of};
-ghost use Rattle.flm_forge.specs.Sections.{code_header, descriptor_header, elf_header, header_bytes, headers, ident, init_data_header, section_names};
+ghost use Rattle.flm_forge.specs.Sections.{code_header, descriptor_header, elf_header, header_bytes, headers, init_data_header};
 ghost use Rattle.flm_forge.specs.Sections.{symbols_header, zeroed_header};
 
 use crate::sizes::{SECTION_NAMES_AT, SYMBOL_NAMES_AT, SYMBOLS_AT, Sizes};

@@ -1,8 +1,8 @@
 //! The symbols of a file.
-ghost use Rattle.std.specs.Prelude.{◌≡◌, ◌<◌, ◌^◌, ◌++◌, length, IfOk, OnOk};
+ghost use Rattle.std.specs.Prelude.{◌≡◌, ◌<◌, ◌++◌, length, IfOk, OnOk};
 ghost use Rattle.std.specs.List.{flat_map};
 ghost use Rattle.flm_forge.specs.Entries.{place_named, shown_place};
-ghost use Rattle.flm_forge.specs.Symbols.{device_symbol, entry_symbol, entry_symbols, name_at, no_symbol, symbol_bytes};
+ghost use Rattle.flm_forge.specs.Symbols.{device_symbol, entry_symbol, entry_symbols, name_at, symbol_bytes};
 
 use crate::source::Names;
 use crate::write::{put, put_halves, put_words};

@@ -4,7 +4,6 @@ ghost use Rattle.flash_session.specs.declared.target_end.Turn.TheVariants as tur
 ghost use Rattle.gang_run.specs.Gangs.{slot_at};
 ghost use Rattle.gang_run.specs.Slots.{slot_turn};
 ghost use Rattle.report_text.specs.Shown.{shown};
-ghost use Rattle.job_text.specs.Laid.{address_at};
 ghost use Rattle.gang_commands.specs.Lines.{address_in, reason_in, reason};
 ghost use Rattle.gang_commands.specs.Puts.{regions_of, outcome_of};
 

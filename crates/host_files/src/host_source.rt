@@ -1,5 +1,4 @@
 //! The input files of this host.
-ghost use Rattle.std.specs.Prelude.{◌≡◌};
 
 use std::fs::File;
 use std::io;

@@ -1,11 +1,9 @@
 -- A file of any form has one image or one fault, but for want of memory.
-use Rattle.std.proofs.Common.{◌≡◌, ◌≢◌, ◌∙◌, sym, ap, subst, refl, ℕ, Bool, true, false, List, Option}
+use Rattle.std.proofs.Common.{◌≡◌, ◌≢◌, ap, subst, refl, ℕ, Bool, true, false, List, Option}
 use Rattle.byte_map.specs.Image.{Run}
-use Rattle.image_set.specs.declared.fault.ImageFault.{ImageFault}
 use Rattle.image_set.proofs.FileLemmas.{one_image, image_or_fault, one_fault}
 use Rattle.image_more.specs.declared.fault.AnyFault.{AnyFault}
 use Rattle.image_more.specs.declared.fault.AnyFault.TheVariants.{Image, Uf2, OutOfMemory}
-use Rattle.image_more.specs.declared.fault.Uf2Fault.{Uf2Fault}
 use Rattle.image_more.specs.Any.{is_uf2, IsImageBy, IsAnyImage, IsAnyFault}
 use Rattle.image_more.proofs.Uf2Laws.{one_uf2_image, uf2_memory_alone, one_uf2_fault}
 

@@ -1,5 +1,5 @@
 -- A text of a map, or a file of it, is read as that map and as no other.
-use Rattle.std.proofs.Common.{◌≡◌, ◌∙◌, sym, ap, subst, refl, ℕ, Bool, true, false, List, [], ◌∷◌, ◌++◌, Option, Some, None}
+use Rattle.std.proofs.Common.{◌≡◌, sym, subst, refl, ℕ, Bool, false, List, [], ◌∷◌, ◌++◌, Option, Some, None}
 use Rattle.std.specs.Prelude.{codes}
 use Rattle.octets.specs.Lines.{lines_of}
 use Rattle.byte_map.specs.Image.{Run}

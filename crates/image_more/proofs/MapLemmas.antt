@@ -1,14 +1,14 @@
 -- The rows of a map: where they lie, and that they have the map's bytes and no other.
-use Rattle.std.proofs.Common.{◌≡◌, ⊎_elim, ◌≤◌, ◌<◌, ◌+◌, ◌-◌, ◌%◌, ◌/◌, ◌^◌, ◌++◌, ◌∙◌, sym, ap, subst, refl, arith, ℕ, suc, Bool, true, false, cond, List, []}
+use Rattle.std.proofs.Common.{◌≡◌, ⊎_elim, ◌≤◌, ◌<◌, ◌+◌, ◌-◌, ◌%◌, ◌++◌, ◌∙◌, sym, ap, subst, refl, arith, ℕ, suc, Bool, true, false, cond, List, []}
 use Rattle.std.proofs.Common.{◌∷◌, length, Option, Some, None}
 use Rattle.std.specs.Prelude.{◌==◌}
 use Rattle.std.specs.List.{All}
 use Rattle.std.proofs.lemmas.Bool.{cases_lt}
 use Rattle.std.proofs.lemmas.List.Elements.{All-nil, All-cons, All-head, All-tail}
-use Rattle.byte_map.specs.Image.{addresses, Run, end_of, holds, byte_of, byte_at, AreMaximal}
+use Rattle.byte_map.specs.Image.{addresses, Run, end_of, byte_of, byte_at, AreMaximal}
 use Rattle.byte_map.proofs.Runs.{or_else, byte_at-append, holds_no_lower}
 use Rattle.record_lines.specs.Cells.{Cell, held, cells_from}
-use Rattle.record_lines.proofs.CellLemmas.{same_number, other_number, held-append, held-none_above, held-run}
+use Rattle.record_lines.proofs.CellLemmas.{same_number, held-append, held-none_above, held-run}
 use Rattle.image_more.specs.Rows.{with_byte, run_rows, rows_of}
 use Rattle.image_more.proofs.DigitLemmas.{IsByte}
 

@@ -1,6 +1,6 @@
 -- Rows, and the lines of rows that are put one after the other.
 use Rattle.std.proofs.Common.{◌≡◌, ◌⊎◌, ⊎_elim, ◌≤◌, ◌<◌, ◌+◌, ◌-◌, ◌%◌, ◌++◌, ◌∙◌, sym, ap, subst, refl, arith, Bool, true, false, min, ℕ, zero, suc, List, []}
-use Rattle.std.proofs.Common.{◌∷◌, length, take, drop, append_assoc, append-nil, Result, Ok, Err}
+use Rattle.std.proofs.Common.{◌∷◌, length, take, drop, append_assoc, append-nil, Ok, Err}
 use Rattle.std.specs.Prelude.{◌==◌, slice_get, slice_range, Some}
 use Rattle.std.proofs.lemmas.Bool.{cases_lt}
 use Rattle.std.proofs.lemmas.Grind.{flat_map-append}

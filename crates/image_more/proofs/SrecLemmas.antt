@@ -1,5 +1,5 @@
 -- The text of a map as S-records is read as the map.
-use Rattle.std.proofs.Common.{◌≡◌, ◌≤◌, ◌<◌, ◌+◌, ◌^◌, ◌++◌, ◌∙◌, sym, ap, subst, refl, arith, ℕ, suc, Bool, false, cond, List, [], ◌∷◌, length, Option, Some}
+use Rattle.std.proofs.Common.{◌≡◌, ◌≤◌, ◌+◌, ◌++◌, ◌∙◌, sym, ap, subst, refl, arith, ℕ, suc, Bool, false, cond, List, [], ◌∷◌, length, Some}
 use Rattle.std.proofs.Common.{None, Ok}
 use Rattle.std.specs.Prelude.{codes, nat_le, nat_lt}
 use Rattle.std.specs.List.{All}

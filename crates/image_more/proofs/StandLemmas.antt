@@ -1,6 +1,6 @@
 -- A text of records from its first line on.
-use Rattle.std.proofs.Common.{◌≡◌, ◌≤◌, ◌<◌, ◌+◌, ◌++◌, ◌∙◌, sym, ap, subst, refl, arith, below_more, ℕ, suc, Bool, true, false, List, [], ◌∷◌, length, get_or}
-use Rattle.std.proofs.Common.{drop, Option, Some, None, Result}
+use Rattle.std.proofs.Common.{◌≡◌, ◌<◌, ◌+◌, ◌++◌, ◌∙◌, sym, ap, subst, refl, arith, below_more, ℕ, suc, true, false, List, [], ◌∷◌, length, get_or}
+use Rattle.std.proofs.Common.{drop, Option, None, Result}
 use Rattle.std.proofs.lemmas.List.{length-drop, get_or-drop, drop-drop}
 use Rattle.byte_map.specs.Image.{Run}
 use Rattle.record_lines.specs.Cells.{Cell, IsImageOf}

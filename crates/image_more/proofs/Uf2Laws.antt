@@ -1,10 +1,10 @@
 -- A UF2 file has one image or one fault, but for want of memory.
-use Rattle.std.proofs.Common.{◌≡◌, ◌≢◌, ◌<◌, ◌≤◌, ◌+◌, ◌-◌, ◌++◌, ◌∙◌, ◌⊎◌, inl, inr, ⊎_elim, sym, ap, subst, refl, arith, ℕ, zero, suc, Bool, true, false}
+use Rattle.std.proofs.Common.{◌≡◌, ◌≢◌, ◌<◌, ◌+◌, ◌-◌, ◌∙◌, ◌⊎◌, inl, inr, ⊎_elim, sym, ap, subst, refl, arith, ℕ, zero, suc, Bool}
 use Rattle.std.proofs.Common.{cond, List, [], ◌∷◌, length, Option, Some, None}
 use Rattle.std.specs.List.{All}
 use Rattle.std.proofs.lemmas.Bool.{cases_lt}
 use Rattle.std.proofs.lemmas.List.Elements.{All-head}
-use Rattle.byte_map.specs.Image.{addresses, Run, holds, byte_of, byte_at}
+use Rattle.byte_map.specs.Image.{addresses, Run, byte_of, byte_at}
 use Rattle.byte_map.specs.Laying.{IsFirstClash}
 use Rattle.byte_map.proofs.OneList.{one_list}
 use Rattle.record_lines.specs.Gathered.{HasRun, IsUnionOf}

@@ -1,7 +1,7 @@
 -- The blocks of a UF2 file, one after another.
-use Rattle.std.proofs.Common.{◌≡◌, ◌<◌, ◌+◌, ◌++◌, sym, subst, refl, arith, below_more, add-one, ℕ, List, [], false}
+use Rattle.std.proofs.Common.{◌<◌, ◌+◌, ◌++◌, sym, subst, refl, arith, below_more, add-one, ℕ, List, []}
 use Rattle.std.proofs.lemmas.List.Elements.{All-nil}
-use Rattle.byte_map.specs.Image.{Run, holds}
+use Rattle.byte_map.specs.Image.{Run}
 use Rattle.record_lines.specs.Gathered.{HasRun, IsUnionOf}
 use Rattle.image_more.specs.declared.fault.Uf2Fault.{Uf2Fault}
 use Rattle.image_more.specs.declared.fault.Uf2Fault.TheVariants.{BadLength, BadMagic, BadSize, Conflict, PastEnd, OutOfMemory}

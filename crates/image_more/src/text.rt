@@ -1,5 +1,5 @@
 //! Images as texts of records.
-ghost use Rattle.std.specs.Prelude.{◌≡◌, ◌≤◌, ◌+◌, ◌^◌, [], ◌∷◌, length, OnOk};
+ghost use Rattle.std.specs.Prelude.{◌≡◌, ◌≤◌, ◌+◌, ◌^◌, length, OnOk};
 ghost use Rattle.image_more.specs.Rows.{run_rows, rows_of};
 ghost use Rattle.image_more.specs.Texts.{row_lines, rows_lines, upper_lines, text_of, hex_text, srec_text};
 ghost use Rattle.image_more.specs.Behind.{form_behind};

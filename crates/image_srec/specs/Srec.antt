@@ -1,6 +1,6 @@
 -- A text of S-records: its image, and its fault.
-use Rattle.std.specs.Prelude.{◌≡◌, ◌+◌, ◌^◌, ◌==◌, ℕ, nat_lt, Bool, true, false, List, [], ◌∷◌, length, Option, Some, None, Result, Ok, Err, if◌then◌else◌}
-use Rattle.record_lines.specs.Cells.{Cell, Clash, cells_from}
+use Rattle.std.specs.Prelude.{◌≡◌, ◌+◌, ◌==◌, ℕ, nat_lt, Bool, true, false, List, [], length, Option, Some, None, Ok, Err, if◌then◌else◌}
+use Rattle.record_lines.specs.Cells.{Cell, cells_from}
 use Rattle.record_lines.specs.Format.{Format, IsFaultOfLine, HasNoEnd}
 use Rattle.image_srec.specs.declared.fault.SrecKind.{SrecKind}
 use Rattle.image_srec.specs.declared.fault.SrecKind.TheVariants.{NotRecord, BadDigit, BadLength, BadSum, BadType, CountDiffers, PastEnd, Conflict, NoEnd}

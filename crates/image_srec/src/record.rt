@@ -1,5 +1,5 @@
 //! One S-record.
-ghost use Rattle.std.specs.Prelude.{◌≡◌, ◌+◌, ◌≤◌, ◌<◌, ◌≢◌, length};
+ghost use Rattle.std.specs.Prelude.{◌≡◌, ◌+◌, ◌≤◌, ◌<◌, length};
 ghost use Rattle.image_srec.specs.Record.{read_line, read_digits, checked, record_of, address_len, is_long_enough, number_of};
 
 use crate::fault::SrecKind;

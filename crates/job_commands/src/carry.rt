@@ -10,7 +10,6 @@ ghost use Rattle.flash_session.specs.Sessions.{job_in, surveyed};
 ghost use Rattle.flash_session.specs.Surveys.{HasSurveyed};
 ghost use Rattle.command_answers.specs.Answered.{IsOf, StandsEarly, on_job_file};
 ghost use Rattle.command_answers.specs.Call.{bench_call, sink_call};
-ghost use Rattle.job_text.specs.Laid.{address_at};
 ghost use Rattle.command_answers.specs.Shown.{answer_of};
 ghost use Rattle.job_commands.specs.GoOn.{GoesOnFrom, has_resume};
 ghost use Rattle.job_commands.specs.Answers.{IsSound};

@@ -1,5 +1,5 @@
 //! The plans of a session, as they are printed.
-ghost use Rattle.std.specs.Prelude.{◌≡◌, ◌<◌, ◌++◌, length, get_or, IsSome, IfSome, IsSomeAnd};
+ghost use Rattle.std.specs.Prelude.{◌<◌, ◌++◌, length, get_or, IfSome, IsSomeAnd};
 ghost use Rattle.job_text.specs.Said.{algorithms_shown};
 ghost use Rattle.outside_io.specs.Puts.{Puts};
 ghost use Rattle.flash_session.specs.Script.{Planned};

@@ -3,11 +3,9 @@ ghost use Rattle.std.specs.Prelude.{◌≡◌, ◌≤◌, ◌<◌, ◌+◌, ◌*
 ghost use Rattle.std.specs.List.{concat, flat_map};
 ghost use Rattle.sha2.specs.Sha256.{sha256};
 ghost use Rattle.sha2.specs.Hashers.{Holds256};
-ghost use Rattle.faults.specs.Counts.{HasCause};
 ghost use Rattle.bench_model.specs.History.{Leaves, LeftOnly};
 ghost use Rattle.bench_model.specs.State.{file_half};
-ghost use Rattle.bench_model.specs.Calls.{CellsStay, Follows, CellsAreRead};
-ghost use Rattle.byte_map.specs.Image.{AreMaximal};
+ghost use Rattle.bench_model.specs.Calls.{Follows, CellsAreRead};
 ghost use Rattle.job_text.specs.Body.{flm_len, run_text};
 ghost use Rattle.job_text.specs.Parts.{AreParts, flms_of, head_of_parts, front_of, with_hash};
 ghost use Rattle.job_text.specs.Runs.{run_of, AreShort};

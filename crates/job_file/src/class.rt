@@ -1,6 +1,6 @@
 //! What the file of a bench is, read from the front on. Of a job's snapshot only the length is looked at, and, in the second format, the
 //! hash of all.
-ghost use Rattle.std.specs.Prelude.{◌≡◌, ◌≤◌, ◌<◌, ◌+◌, ◌^◌, ℕ, List, length, take, drop, true, false, IsTrue, OnOk, IfOk, IfErr};
+ghost use Rattle.std.specs.Prelude.{◌≡◌, ◌≤◌, ◌<◌, ◌+◌, ℕ, List, length, take, drop, true, false, IsTrue, OnOk, IfOk, IfErr};
 ghost use Rattle.bench_model.specs.History.{LeftOnly};
 ghost use Rattle.bench_model.specs.State.{file_half};
 ghost use Rattle.bench_model.specs.Calls.{OnlyReads};

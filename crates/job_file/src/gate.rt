@@ -8,7 +8,7 @@ ghost use Rattle.job_text.specs.Files.{IsFree, open_gate};
 ghost use Rattle.job_text.specs.Parts.{AreParts, head_of_parts, front_of, with_hash};
 ghost use Rattle.job_file.specs.Counted.{IsFault, begin_fault};
 ghost use Rattle.bench_model.specs.Counted.{is_store_fault, is_device_fault, fault_in, IsCounted};
-ghost use Rattle.job_file.specs.Stops.{IsFreeOrWhole, IsShut};
+ghost use Rattle.job_file.specs.Stops.{IsFreeOrWhole};
 ghost use Rattle.job_file.specs.Unopened.{UnopenedAtDeviceFault};
 
 use crate::body::put_hashed;

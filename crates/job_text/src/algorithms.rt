@@ -1,5 +1,5 @@
 //! The algorithms of a job.
-ghost use Rattle.std.specs.Prelude.{◌≡◌, [], ◌∷◌, Option, Some, None, IfOk};
+ghost use Rattle.std.specs.Prelude.{◌≡◌, Option, Some, IfOk};
 
 use faults::OutOfMemory;
 use flm_descriptor::Algorithm;

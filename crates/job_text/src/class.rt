@@ -2,7 +2,7 @@
 ghost use Rattle.std.specs.Prelude.{◌≡◌, ◌≤◌, ◌+◌, length, IfOk};
 ghost use Rattle.job_text.specs.Said.{algorithms_shown};
 ghost use Rattle.job_text.specs.Heads.{file_of, second_of, said_in};
-ghost use Rattle.job_text.specs.Reading.{rest_at, places_of, format_in, job_as, job_at, class_behind, class_of, seen_of};
+ghost use Rattle.job_text.specs.Reading.{rest_at, job_as, job_at, class_behind, class_of, seen_of};
 ghost use Rattle.job_text.specs.Shown.{Gives, seen_job, IsClass};
 ghost use Rattle.job_text.specs.Stands.{IsClassOf};
 

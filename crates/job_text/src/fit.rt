@@ -2,7 +2,6 @@
 ghost use Rattle.std.specs.Prelude.{◌≡◌, ◌≤◌, ◌+◌, ◌↔◌, IsTrue, length, slice_get};
 ghost use Rattle.board_file.specs.Shown.{shown as board_shown};
 ghost use Rattle.flm_descriptor.specs.Shown.{shown as flm_shown};
-ghost use Rattle.byte_map.specs.Image.{AreMaximal};
 ghost use Rattle.job_text.specs.Fits.{is_device_of, fits, all_fit, holds, LiesIn, Suits};
 ghost use Rattle.job_text.specs.Reading.{fits_in, reach, covers, all_covered};
 ghost use Rattle.job_text.specs.Said.{algorithms_shown};

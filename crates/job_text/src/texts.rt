@@ -1,5 +1,5 @@
 //! The texts of a board and of FLM files in a body, and what they say.
-ghost use Rattle.std.specs.Prelude.{◌≡◌, ◌≤◌, ◌<◌, ◌+◌, ◌^◌, length, slice_get, IfOk, IsTrue};
+ghost use Rattle.std.specs.Prelude.{◌≡◌, ◌≤◌, ◌<◌, ◌+◌, length, slice_get, IfOk, IsTrue};
 ghost use Rattle.board_file.specs.Shown.{shown as board_shown};
 ghost use Rattle.board_file.specs.Text.{reading};
 ghost use Rattle.flm_descriptor.specs.Shown.{shown as flm_shown};

@@ -1,5 +1,5 @@
 //! A text that is gathered, and put in long pieces.
-ghost use Rattle.std.specs.Prelude.{◌≡◌, [], ◌++◌, length, OnOk};
+ghost use Rattle.std.specs.Prelude.{◌≡◌, [], OnOk};
 ghost use Rattle.std.specs.List.{flat_map};
 ghost use Rattle.outside_io.specs.Gathers.{Gathers};
 ghost use Rattle.outside_io.specs.Puts.{Puts};

@@ -1,5 +1,5 @@
 //! The comparison of cells with bytes.
-ghost use Rattle.std.specs.Prelude.{◌≡◌, ◌≢◌, ◌≤◌, ◌<◌, ◌+◌, ◌^◌, None, length, take, drop, slice_index, IsTrue, IfOk, MatchOption};
+ghost use Rattle.std.specs.Prelude.{◌≡◌, ◌≢◌, ◌≤◌, ◌<◌, ◌+◌, ◌^◌, None, length, take, slice_index, IsTrue, IfOk, MatchOption};
 ghost use Rattle.faults.specs.Counts.{HasCause};
 ghost use Rattle.readback.specs.Readback.{Finds, OnlyReadsCells};
 

@@ -1,5 +1,5 @@
 //! What the refusals of images are called.
-ghost use Rattle.std.specs.Prelude.{◌≡◌, ◌++◌, [], ◌∷◌, decimal};
+ghost use Rattle.std.specs.Prelude.{◌≡◌, ◌++◌, [], ◌∷◌};
 ghost use Rattle.std.specs.List.{concat};
 ghost use Rattle.report_text.specs.Faults.{any_text, checksum_text, conflict_text, counts_text, faulty_line, file_text, hex_kind_text, image_text, place_text};
 ghost use Rattle.report_text.specs.Faults.{srec_kind_text, uf2_text};

@@ -1,5 +1,5 @@
 //! The text of the job in a file.
-ghost use Rattle.std.specs.Prelude.{◌≡◌, map, option_map};
+ghost use Rattle.std.specs.Prelude.{◌≡◌, option_map};
 ghost use Rattle.std.specs.List.{flat_map};
 ghost use Rattle.report_text.specs.Job.{bytes_in, device_line, devices_of, image_line, job_text, status_text};
 ghost use Rattle.outside_io.specs.Puts.{Puts};

@@ -1,6 +1,5 @@
 //! The text of a plan.
-ghost use Rattle.std.specs.Prelude.{◌≡◌, ◌≤◌, ◌<◌, ◌+◌, ◌-◌, ◌^◌, codes, length};
-ghost use Rattle.flm_descriptor.specs.Shape.{range_at};
+ghost use Rattle.std.specs.Prelude.{◌≤◌, ◌<◌, ◌+◌, ◌-◌, ◌^◌, codes, length};
 ghost use Rattle.page_geometry.specs.Geometry.{IsGeometry};
 ghost use Rattle.report_text.specs.Plan.{kind_text, action_text, member_text, set_text, erase_text, cost_text, plan_text};
 ghost use Rattle.outside_io.specs.Gathers.{Gathers};

@@ -1,6 +1,6 @@
 -- What a host's input files and its streams mean, and what calls on them do.
 use Rattle.std.specs.Prelude.{◌≡◌, ◌≤◌, ◌<◌, ◌+◌, ◌++◌, ◌⊎◌, ℕ, List, [], Bool, length, take, drop, IsTrue, Option, Some, None, Result, Ok, Err, IsOk, IfOk}
-use Rattle.std.specs.Prelude.{IfErr, OnOk, OnErr, ⊤, if◌then◌else◌}
+use Rattle.std.specs.Prelude.{IfErr, OnErr, ⊤, if◌then◌else◌}
 use Rattle.std.specs.IoError.{error_kind}
 use Rattle.std.specs.declared.io.Error.{Error}
 use Rattle.std.specs.declared.io.ErrorKind.TheVariants.{Interrupted}

@@ -1,5 +1,5 @@
 //! What a stream of a host can do.
-ghost use Rattle.std.specs.Prelude.{◌≡◌, ◌<◌, ◌^◌, Bool, IsTrue};
+ghost use Rattle.std.specs.Prelude.{◌<◌, ◌^◌, Bool, IsTrue};
 ghost use Rattle.stream_files.specs.Outside.{StreamState, WriteEnds, WritesOn};
 
 use std::io;

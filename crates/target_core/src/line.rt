@@ -1,5 +1,5 @@
 //! What the core sees: the RAM, and the controller with its flash.
-ghost use Rattle.std.specs.Prelude.{◌≡◌, ◌≤◌, ◌-◌, ◌/◌, ◌%◌, ◌^◌, min, nat_eq, if◌then◌else◌, true, IsTrue};
+ghost use Rattle.std.specs.Prelude.{◌≡◌, ◌≤◌, ◌-◌, ◌/◌, ◌%◌, ◌^◌, min, nat_eq, if◌then◌else◌, true};
 ghost use Rattle.ram_arena.specs.Windows.{begin_of};
 ghost use Rattle.target_core.specs.Windows.{IsRam, LiesApart};
 ghost use Rattle.target_core.specs.Units.{UnitAgrees, unit_state, state_runs};

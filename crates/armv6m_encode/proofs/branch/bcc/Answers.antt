@@ -1,5 +1,5 @@
 -- `bcc`: its contract, `Decoded`.
-use Rattle.std.proofs.Common.{◌≡◌, ◌∙◌, ap}
+use Rattle.std.proofs.Common.{◌∙◌, ap}
 use Rattle.armv6m_decode.specs.declared.condition.Condition.{Condition}
 use Rattle.armv6m_decode.specs.declared.instr.Branch.TheVariants.{Bcc}
 use Rattle.armv6m_decode.specs.declared.instr.Instr.TheVariants as instr

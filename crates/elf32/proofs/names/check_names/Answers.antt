@@ -1,6 +1,6 @@
 -- `check_names`: its contract, `Finds`, and that its loop keeps what it has to.
-use Rattle.std.proofs.Common.{◌≡◌, ◌<◌, arith, refl, Option, Some, None}
-use Rattle.std.specs.Prelude.{is_none, MatchOption}
+use Rattle.std.proofs.Common.{◌≡◌, ◌<◌, arith}
+use Rattle.std.specs.Prelude.{is_none}
 use Rattle.std.proofs.lemmas.Result.{err_from_is_err_and}
 use Rattle.elf32.specs.Format.{e_shnum}
 use Rattle.elf32.specs.Checks.{section_name}

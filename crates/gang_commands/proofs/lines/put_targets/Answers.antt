@@ -1,6 +1,5 @@
 -- `put_targets`: its contract, `PutsEnds`, and that its loop keeps what it has to.
 use Rattle.std.proofs.Common.{◌<◌, ◌∙◌, sym, ap, arith, length, Option, option_map, option_copied}
-use Rattle.report_text.specs.Refusal as refusal
 use Rattle.report_text.specs.Shown.{shown}
 use Rattle.report_text.specs.declared.refusal.Refusal.{Refusal}
 use Rattle.gang_commands.specs.Puts.{outcomes, status_behind}

@@ -1,5 +1,5 @@
 -- `gather_srec`: its contract, `Gathers`.
-use Rattle.std.proofs.Common.{List, ℕ, [], ◌∷◌, ◌++◌, Ok, Err}
+use Rattle.std.proofs.Common.{List, ℕ, [], ◌∷◌, ◌++◌}
 use Rattle.std.specs.Prelude.{codes}
 use Rattle.image_more.specs.declared.form.RowForm.TheVariants.{Srec}
 use Rattle.image_more.specs.Rows.{rows_of}
