@@ -1,6 +1,5 @@
 //! The player of a script, and its turns.
 ghost use Rattle.std.specs.Prelude.{◌≡◌, ◌<◌, ◌≤◌, ◌+◌, ◌^◌, ℕ, List, drop, length, IsTrue, IsSomeAnd, is_some, None};
-ghost use Rattle.algo_calls.specs.Setups.{Setup};
 ghost use Rattle.algo_calls.specs.Shows.{setup_at, Fits, MayAsk};
 ghost use Rattle.bench_model.specs.Calls.{OnlyReads, FileIsRead};
 ghost use Rattle.bench_model.specs.Counted.{is_store_fault, is_device_fault, IsCounted};
@@ -729,7 +728,7 @@ impl Player {
         }
     }
 
-    /// Plays the whole script, each call in one turn, and compares all cells with the goal. It takes no memory.
+    /// Plays the whole script, all steps of a call in one turn, and compares all cells with the goal. It takes no memory.
     pub fn go<B: Bench>(&mut self, job: &Job, arena: &mut Arena, bench: &mut B) -> SessionEnd
         requires fit { Fit B.tells self.old arena.old (B.state bench.old) }
         requires first { self.old.place ≡ place.At (at.Begin First stage.Erase) }

@@ -146,7 +146,7 @@ pub record Counts (p : Place) (s t : BenchState) : Type 0 where
   pub device : IsCounted s.device_faults t.device_faults (is_device_fault (place_fault p))
   pub store : IsCounted s.store_faults t.store_faults (is_store_fault (place_fault p))
 
--- A target that hadn't ended has the same work as before; this holds whether the bench tells its contents or not.
+-- A target that hadn't ended has the same job as before; this holds whether the bench tells its contents or not.
 pub record TargetKept (x : GangTarget) (s : BenchState) (new : Slot) (t : BenchState) : Type 0 where
   pub target : GangTarget
   pub is : new ≡ slot.Open target

@@ -5,7 +5,7 @@
 //! `job.bin` is the job file of `small.toml`, `algorithm.flm`, the bytes 01 to 04 at 0x08000000 and a blank device, byte by byte as
 //! the format says, and `first.bin` the same job in the first format. `two.bin` is that of `two.toml`, both FLM files, these bytes, the byte
 //! 55 at 0x1FFFF000 and a blank device. `changes.txt`, `first.txt` and `two.txt` have a line for each file that is made of one of these.
-//! All of them were made outside of this repository's code, the hashes by another SHA-256.
+//! All of them are written by `tools/job_files.py`, the hashes by Python's SHA-256.
 #![tactic(auto)]
 
 ghost use Rattle.std.specs.Prelude.{◌<◌, ◌^◌, length, option_copied, IsTrue, IfOk};
