@@ -7,7 +7,7 @@ use crate::mnemonic::Mnemonic;
 use armv6m_decode::Condition;
 
 /// The operands of an instruction without a target, in the order of the text.
-#[derive(Clone, Copy, PartialEq, Eq, Debug)]
+#[derive(Clone, Copy)]
 pub enum Operands {
     /// No operand: `NOP`
     None,
@@ -57,7 +57,7 @@ pub enum Aim {
 }
 
 /// The form of an instruction.
-#[derive(Clone, Copy, PartialEq, Eq, Debug)]
+#[derive(Clone, Copy)]
 pub enum Form {
     /// An instruction without a target.
     Plain {

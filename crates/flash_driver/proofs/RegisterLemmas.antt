@@ -1,13 +1,14 @@
--- A register answers a load of its word, whatever the cells are.
+-- A register answers a load of its word, whatever the cells are; and registers that are fresh.
 use Rattle.std.proofs.Common.{◌≡◌, ◌<◌, ◌≤◌, ◌+◌, ◌-◌, ℕ, Bool, true, false, List, Option, Some, None, IfSome, Result, Ok, refl, ap, sym, arith, ◌∙◌}
 use Rattle.std.proofs.lemmas.Bool.{le-leb, lt-ltb}
 use Rattle.bench_model.specs.declared.bench_fault.BusEnd.{BusEnd}
+use Rattle.board_file.specs.declared.kind.ControllerKind.{ControllerKind}
 use Rattle.flash_layout.specs.Maps.{FlashMap, in_quiet}
 use Rattle.flash_driver.specs.declared.place.Place.{Place}
 use Rattle.flash_driver.specs.declared.place.Place.TheVariants as place
 use Rattle.flash_driver.specs.declared.state.State.{State}
 use Rattle.flash_driver.specs.Places.{place_of}
-use Rattle.flash_driver.specs.Table.{Table, answered, load_at, load_row, or_quiet, bus_load}
+use Rattle.flash_driver.specs.Table.{Table, answered, fresh, load_at, load_row, or_quiet, bus_load}
 
 at_register : (map : FlashMap) (at : ℕ) → map.base ≤ at → at - map.base < map.block → place_of map at 4 ≡ place.Register (at - map.base)
 unfolding place_of
@@ -33,3 +34,8 @@ register_peeks t map s offset within (Some value) is =
     let there : offset ≡ map.base + offset - map.base = omega arith in
     λ cells. one_load t map s (map.base + offset) (omega arith) (omega (arith, within)) value cells
     (is ∙ ap (λ (n : ℕ). t.load s.registers s.operation n) there)
+
+-- fresh registers while no operation runs
+pub fresh_is : {R : Type 0} (t : Table R) (kind : ControllerKind) (r : R) → r ≡ t.fresh kind →
+    ◌≡◌ {A = State R} (record { registers = r; operation = None }) (fresh t kind)
+fresh_is {R} t kind r is = ap (λ (x : R). let s : State R = record { registers = x; operation = None } in s) is

@@ -1,9 +1,11 @@
 -- A step with the PC at hand is the step of the core that has it.
-use Rattle.std.proofs.Common.{sym, ap, ◌∙◌}
+use Rattle.std.proofs.Common.{sym, ap, ◌∙◌, arith}
 use Rattle.armv6m_step.specs.Registers.{pc_of, moved}
 use Rattle.armv6m_step.specs.Step.{instruction}
 use Rattle.armv6m_step.proofs.InstructionLemmas.{runs_counted}
 use Rattle.armv6m_step.proofs.QuickLemmas.{was_went, was_done, was_left}
+use Rattle.armv6m_step.proofs.RunLemmas.{asks}
+use Rattle.std.proofs.lemmas.Bool.Decides.{nat_tests}
 use Rattle.armv6m_step.proofs.quick.step_at.Goals as goal
 
 pub quick_step-requires : goal.quick_step-requires
@@ -52,3 +54,6 @@ returns-in-Left-clause-cause g c =
     c.quick_step.result c.go_to.ensures c.quick_step.ensures
     c.step_out-end.result c.at_hand-in-Left.result c.step_out-end.new.core c.step_out-end.new.bus c.in-Left.is
     (c.at_hand-in-Left.ensures.same ∙ c.pc-in-Left.ensures) c.step_out-end.ensures.runs)
+
+pub returns-in-Left-clause-pc : goal.returns-in-Left-clause-pc
+returns-in-Left-clause-pc g c = grind (arith, asks, nat_tests)

@@ -1,4 +1,6 @@
 -- A slice is the steps that were made.
+use Rattle.target_core.proofs.LoopLemmas.{not_more}
+use Rattle.bench_model.proofs.CountLemmas.{none_counted, one_counted, counted_then}
 use Rattle.std.proofs.Common.{◌≡◌, ℕ, slice_index, refl, sym, arith, ◌∙◌, ap, subst}
 use Rattle.std.proofs.lemmas.Bool.{false≢true}
 use Rattle.bench_model.proofs.Moments.{file_stays_then}
@@ -12,7 +14,8 @@ use Rattle.target_core.specs.Path.{run_end, EndsWith, EndIs, MoreLeft}
 use Rattle.target_core.specs.Points.{point_of}
 use Rattle.target_core.proofs.PathLemmas.{ends_returned, ends_no_fuel, more_left}
 use Rattle.target_core.proofs.StepLemmas.{same_then}
-use Rattle.target_core.proofs.LoopLemmas.{SoFar, started, step_runs, step_ends, tick_runs, tick_broke, tick_told, went_of, not_fuel, not_steps}
+use Rattle.target_core.proofs.LoopLemmas.{SoFar, started, step_runs, step_ends, tick_runs, tick_broke, tick_told, went_of, not_fuel, not_steps, so_far_runs}
+use Rattle.target_core.proofs.FineLemmas.{run_end_device}
 use Rattle.target_core.proofs.run.slice.Goals as goal
 
 pub steps-init : goal.steps-init
@@ -129,3 +132,52 @@ returns-in-Some-clause-same g c = same_then _ _ _ c.steps.invariant.so_far.same 
 
 pub returns-in-Err-clause-same : goal.returns-in-Err-clause-same
 returns-in-Err-clause-same g c = same_then _ _ _ (same_then _ _ _ c.steps.invariant.so_far.same c.instruction.ensures.does.same) c.in-Err.ensures.same
+
+pub returns-then-pc-return_at-clause-cause : goal.returns-then-pc-return_at-clause-cause
+returns-then-pc-return_at-clause-cause g c = none_counted _ _ c.steps.invariant.so_far.faults
+
+pub returns-then-pc-return_at-clause-run : goal.returns-then-pc-return_at-clause-run
+returns-then-pc-return_at-clause-run g c told = so_far_runs _ _ _ _ _ _ _ _ c.steps.invariant.so_far told
+
+pub returns-then-made-fuel-clause-cause : goal.returns-then-made-fuel-clause-cause
+returns-then-made-fuel-clause-cause g c = none_counted _ _ c.steps.invariant.so_far.faults
+
+pub returns-then-made-fuel-clause-run : goal.returns-then-made-fuel-clause-run
+returns-then-made-fuel-clause-run g c told = so_far_runs _ _ _ _ _ _ _ _ c.steps.invariant.so_far told
+
+pub returns-then-made-least-clause-cause : goal.returns-then-made-least-clause-cause
+returns-then-made-least-clause-cause g c = none_counted _ _ c.steps.invariant.so_far.faults
+
+pub returns-then-made-least-clause-run : goal.returns-then-made-least-clause-run
+returns-then-made-least-clause-run g c told = so_far_runs _ _ _ _ _ _ _ _ c.steps.invariant.so_far told
+
+pub returns-in-Err-clause-more : goal.returns-in-Err-clause-more
+returns-in-Err-clause-more g c same = absurd (not_more _ same)
+
+pub returns-in-Some-clause-more : goal.returns-in-Some-clause-more
+returns-in-Some-clause-more g c same = absurd (not_more _ same)
+
+pub returns-then-pc-return_at-clause-more : goal.returns-then-pc-return_at-clause-more
+returns-then-pc-return_at-clause-more g c same = absurd (not_more _ same)
+
+pub returns-in-Err-clause-cause : goal.returns-in-Err-clause-cause
+returns-in-Err-clause-cause g c =
+    counted_then _ _ _ _ _ (ap is_device_step (went_of c.instruction.result _ (sym c.in_default.ensures)))
+    (counted_then _ _ _ _ _ refl (none_counted _ _ c.steps.invariant.so_far.faults) c.instruction.ensures.does.cause)
+    (one_counted _ _ c.in-Err.ensures.cause.later (c.in-Err.ensures.cause.on_fault refl))
+
+pub returns-in-Some-clause-cause : goal.returns-in-Some-clause-cause
+returns-in-Some-clause-cause g c =
+    rw (run_end_device c.instruction.result c.steps.pc c.in-Some.end (sym c.in-Some.ensures))
+    (counted_then _ _ _ _ _ refl (none_counted _ _ c.steps.invariant.so_far.faults) c.instruction.ensures.does.cause)
+
+pub returns-then-made-fuel-clause-more : goal.returns-then-made-fuel-clause-more
+returns-then-made-fuel-clause-more g c same = absurd (not_more _ same)
+
+pub returns-in-Err-clause-left : goal.returns-in-Err-clause-left
+returns-in-Err-clause-left g c =
+    omega (arith, c.if-made-least.false, c.min-least.ensures, c.steps.invariant.so_far.within, c.steps.invariant.so_far.within_steps)
+
+pub returns-in-Err-clause-made : goal.returns-in-Err-clause-made
+returns-in-Err-clause-made g c =
+    omega (arith, c.if-made-least.false, c.min-least.ensures, c.steps.invariant.so_far.within, c.steps.invariant.so_far.within_steps)

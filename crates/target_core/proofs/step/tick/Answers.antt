@@ -1,11 +1,13 @@
--- `tick`: its contract, `TicksOnce`.
-use Rattle.std.proofs.Common.{ap, refl, sym, ◌∙◌}
+-- `tick`: its contract, `TicksOnce`, and what the line holds after it.
+use Rattle.std.proofs.Common.{ap, refl, sym, ◌∙◌, ◌≡◌, ◌≤◌, subst}
 use Rattle.target_core.specs.Units.{unit_state}
 use Rattle.target_core.proofs.RamLemmas.{only_here}
 use Rattle.target_core.proofs.StepLemmas.{same_here, quiet_tick, tick_from}
 use Rattle.flash_layout.specs.Maps.{map_of}
 use Rattle.flash_driver.proofs.TickLemmas.{idle_tick}
 use Rattle.target_core.specs.AnyTable.{any_table}
+use Rattle.flash_layout.specs.declared.flash_map.FlashMap.{FlashMap}
+use Rattle.flash_layout.specs.Areas.{cells_in}
 use Rattle.target_core.proofs.step.tick.Goals as goal
 
 pub returns-then-not-runs : goal.returns-then-not-runs
@@ -44,3 +46,24 @@ returns g c =
           only_here c.args.line.now.arena.now c.args.line.now.window;
     })
     (c.runs_on.ensures.else_same c.if-runs_on.false) refl refl c.tick_at_end.ensures
+
+pub invariant_of-line : goal.invariant_of-line
+invariant_of-line g c =
+    let l = c.args.line.now in
+    record {
+      reaches = l.reaches;
+      by_halves = l.by_halves;
+      by_words = l.by_words;
+      is_code = l.is_code;
+      by_code = l.by_code;
+      in_block = subst (λ (m : FlashMap). l.apart ≤ m.block) (sym c.runs_on.ensures.layout) l.in_block;
+      at_block = subst (λ (m : FlashMap). l.block ≡ m.base) (sym c.runs_on.ensures.layout) l.at_block;
+      is_apart = l.is_apart;
+      begins = l.begins;
+      ram = l.ram;
+      agrees = record {
+        count = l.agrees.count ∙ ap (λ (m : FlashMap). cells_in m.areas.items) (sym c.runs_on.ensures.layout);
+        operation = λ told. l.agrees.operation told ∙ sym c.runs_on.ensures.operation;
+      };
+      running = l.running ∙ sym c.runs_on.ensures.runs;
+    }

@@ -1,4 +1,5 @@
 -- `Arena::copy_in`: that it keeps its contract, that its loop keeps what it has to, and what `index` and `store8` ask for.
+use Rattle.std.proofs.lemmas.Grind.{common_steps}
 use Rattle.std.proofs.Common.{◌≡◌, ◌+◌, ℕ, List, [], length, get_or, set, sym, ap, ◌∙◌, arith}
 use Rattle.ram_arena.proofs.Windows.{is_there, ends}
 use Rattle.ram_arena.proofs.Loops.{copied, copy_on, copy_done, copy_room, nothing_yet}
@@ -58,3 +59,6 @@ returns c =
     let all : c.loop-i.i ≡ length c.args.bytes.now = omega (arith, c.loop-i-test.false, c.loop-i.auto.i-end) in
     so_far.0 ∙ ap (λ (k : ℕ). set c.args.self.now c.args.window (copied k c.args.offset c.args.bytes.now w)) all
     ∙ ap (λ (l : List ℕ). set c.args.self.now c.args.window l) (copy_done c.args.offset c.args.bytes.now w so_far.1)
+
+pub store8-requires-clause-window : goal.store8-requires-clause-window
+store8-requires-clause-window c = grind (arith, common_steps)

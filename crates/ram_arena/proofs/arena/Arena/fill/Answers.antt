@@ -1,4 +1,5 @@
 -- `Arena::fill`: that it keeps its contract, that its loop keeps what it has to, and what `index` and `store8` ask for.
+use Rattle.std.proofs.lemmas.Grind.{common_steps}
 use Rattle.std.proofs.Common.{◌≡◌, ℕ, List, [], length, get_or, set, sym, ap, ◌∙◌, arith}
 use Rattle.ram_arena.proofs.Windows.{is_there, ends, size}
 use Rattle.ram_arena.proofs.Loops.{filled, fill_on, fill_done, fill_room, nothing_yet}
@@ -56,3 +57,6 @@ returns c =
     let all : c.loop-offset.offset ≡ length w = omega (arith, so_far.1, c.loop-offset-test.false, c.loop-offset.auto.offset-end) in
     so_far.0 ∙ ap (λ (k : ℕ). set c.args.self.now c.args.window (filled k c.args.value w)) all ∙
     ap (λ (l : List ℕ). set c.args.self.now c.args.window l) (fill_done c.args.value w)
+
+pub store8-requires-clause-window : goal.store8-requires-clause-window
+store8-requires-clause-window c = grind (arith, common_steps)

@@ -1,4 +1,5 @@
--- `Arena::new`: that it keeps its contract, that its loop keeps what it has to, and that no number overflows.
+-- `Arena::new`: that it keeps its contract, that its loop keeps what it has to, what `zeroed` asks for, and that no number overflows.
+use Rattle.std.proofs.lemmas.Grind.{common_steps}
 use Rattle.std.proofs.Common.{◌≡◌, ◌+◌, ℕ, suc, List, [], ◌∷◌, ◌++◌, length, get_or, take, replicate, sym, ap, subst, ◌∙◌, arith, take-suc}
 use lib.Seq.{take-length}
 use Rattle.ram_arena.specs.Windows.{total, cut, sizes_of, LieFrom}
@@ -44,3 +45,12 @@ returns c =
     let bytes : c.loop-index.from ≡ total sizes = so_far.2 ∙ ap total every in
     ap (λ (ns : List ℕ). cut ns c.in_ok-bytes.bytes) (so_far.0 ∙ every) ∙ ap (cut sizes) (c.in_ok-bytes.ensures ∙ ap (λ (k : ℕ). replicate {A = ℕ} k 0) bytes) ∙
     blank_is sizes
+
+pub invariant_of-result : goal.invariant_of-result
+invariant_of-result c = grind (arith, common_steps)
+
+pub zeroed-requires : goal.zeroed-requires
+zeroed-requires c = grind (arith, common_steps)
+
+pub loop-index-init : goal.loop-index-init
+loop-index-init c = grind (arith, common_steps)

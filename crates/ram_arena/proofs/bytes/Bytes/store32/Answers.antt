@@ -1,5 +1,6 @@
--- `Bytes::store32`: that it keeps its contract, and that its result is as its type asks.
-use Rattle.std.proofs.Common.{ℕ, ◌+◌, ◌/◌, ◌%◌, List, sym, ap, ◌∙◌}
+-- `Bytes::store32`: that it keeps its contract, what `store32` asks for, and that its result is as its type asks.
+use Rattle.std.proofs.lemmas.Grind.{common_steps}
+use Rattle.std.proofs.Common.{ℕ, ◌+◌, ◌/◌, ◌%◌, List, sym, ap, ◌∙◌, arith}
 use Rattle.ram_arena.specs.Words.{with32}
 use Rattle.ram_arena.proofs.Slots.{start, on, by_name}
 use Rattle.ram_arena.proofs.bytes.Bytes.store32.Goals as goal
@@ -18,3 +19,6 @@ returns c =
     (on (on (on (on (start c.self.inside.cells.slots c.self.invariant.2) c.args.at (c.args.value % 0x100)) (c.args.at + 1) (c.args.value / 0x100 % 0x100))
     (c.args.at + 2) (c.args.value / 0x10000 % 0x100)) (c.args.at + 3) (c.args.value / 0x1000000)) in
     kept.bytes ∙ ap (λ (l : List ℕ). with32 l c.args.at c.args.value) c.self.view_is
+
+pub store32-requires : goal.store32-requires
+store32-requires c = grind (arith, common_steps)

@@ -1,5 +1,6 @@
--- `Bytes::store8`: that it keeps its contract, and that its result is as its type asks.
-use Rattle.std.proofs.Common.{ℕ, List, set, sym, ap, ◌∙◌}
+-- `Bytes::store8`: that it keeps its contract, what `store8` asks for, and that its result is as its type asks.
+use Rattle.std.proofs.lemmas.Grind.{common_steps}
+use Rattle.std.proofs.Common.{ℕ, List, set, sym, ap, ◌∙◌, arith}
 use Rattle.ram_arena.proofs.Slots.{start, on, by_name}
 use Rattle.ram_arena.proofs.bytes.Bytes.store8.Goals as goal
 
@@ -13,3 +14,6 @@ pub returns : goal.returns
 returns c =
     let kept = by_name c.store8.new.self.slots c.store8.ensures.1 (on (start c.self.inside.cells.slots c.self.invariant.2) c.args.at c.args.value) in
     kept.bytes ∙ ap (λ (l : List ℕ). set l c.args.at c.args.value) c.self.view_is
+
+pub store8-requires : goal.store8-requires
+store8-requires c = grind (arith, common_steps)

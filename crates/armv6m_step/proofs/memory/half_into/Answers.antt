@@ -1,0 +1,13 @@
+-- `half_into`: that it keeps its contract.
+use Rattle.std.proofs.Common.{arith}
+use Rattle.armv6m_step.proofs.RunLemmas.{asks}
+use Rattle.armv6m_step.specs.MemoryRows.{load_half}
+use Rattle.armv6m_step.proofs.memory.half_into.Goals as goal
+
+pub returns-in_err-value : goal.returns-in_err-value
+unfolding load_half
+returns-in_err-value g c = grind (arith, asks)
+
+pub returns : goal.returns
+unfolding load_half
+returns g c = grind (arith, asks)

@@ -1,0 +1,8 @@
+-- `exchange`: that it keeps its contract.
+use Rattle.std.proofs.Common.{arith}
+use Rattle.armv6m_step.proofs.RunLemmas.{asks}
+use Rattle.std.proofs.lemmas.Bool.Decides.{nat_tests}
+use Rattle.armv6m_step.proofs.quick.exchange.Goals as goal
+
+pub returns : goal.returns
+returns g c = grind (arith, asks, nat_tests)
