@@ -1,9 +1,9 @@
 -- Marks of the bytes that are pending. A record knows by them which bytes a stop may lose.
 use Rattle.std.proofs.Common.{◌≡◌, ◌⊎◌, ⊎_elim, inl, inr, ◌<◌, ◌≤◌, ◌+◌, ◌-◌, ◌∙◌, ap, subst, sym, refl, ℕ, List, ◌∷◌, ◌++◌, Bool, true, false, length, get_or}
 use Rattle.std.proofs.Common.{take, drop, max, replicate, arith, length-append, length-take, length-drop}
-use Rattle.std.proofs.lemmas.List.{get_or-take, get_or-drop, get_or_append_left, get_or-append_right, get_or-replicate, length-replicate}
-use Rattle.std.proofs.lemmas.Bool.{cases_lt}
-use Rattle.bench_model.specs.Kept.{Kept, IsWritten, IsPending, all_synced, after_write, after_cut}
+use Rattle.std.proofs.lemmas.List.{get_or-take, get_or-drop, get_or_append_left, get_or-append_right, get_or-replicate, get_or_past, length-replicate}
+use Rattle.std.proofs.lemmas.Bool.{cases_lt, false≢true}
+use Rattle.bench_model.specs.Kept.{Kept, IsWritten, IsPending, IsFilled, all_synced, after_write, after_cut}
 use Rattle.bench_model.specs.Record.{Held, after, handed, event_of, marked, marked_by, CanMark, IsMarked}
 use Rattle.bench_model.specs.declared.change.Change.{Change}
 use Rattle.bench_model.specs.declared.change.Change.TheVariants.{Wrote, Cut, Synced, Opened, Settled, Filled, BrokenOff}
@@ -105,4 +105,20 @@ marked_synced file = record {
   enough = omega arith;
   set = λ i below pending. absurd (⊎_elim (λ (none : ⊥). none) (λ (late : length file ≤ i). omega (arith, below, late)) pending);
   clear = λ i below none. get_or-replicate (length file) i false true below;
+}
+
+pub clear_inside : (marks : List Bool) (i : ℕ) → get_or marks i true ≡ false → i < length marks
+clear_inside marks i clear = ⊎_elim (λ (within : i < length marks). within)
+    (λ (past : length marks ≤ i). absurd (false≢true (sym clear ∙ get_or_past marks i true past))) (cases_lt i (length marks))
+
+-- a file of which each byte is as its mark says
+pub filled_by_marks : (k : Kept) (synced : List ℕ) (marks : List Bool) → IsMarked k synced marks → (value : ℕ) (file : List ℕ) → length file ≡ length marks
+    → ((i : ℕ) → i < length marks → get_or marks i true ≡ true → get_or file i 0 ≡ value)
+    → ((i : ℕ) → i < length marks → get_or marks i true ≡ false → get_or file i 0 ≡ get_or synced i 0) → IsFilled value k file
+filled_by_marks k synced marks is value file long set clear = record {
+  long = long ∙ is.long;
+  pending = λ i below pending. set i (omega (arith, below, is.long)) (is.set i below pending);
+  same = λ i below none.
+      let free = is.clear i below none in
+      clear i (clear_inside marks i free) free ∙ ap (λ (l : List ℕ). get_or l i 0) (sym is.same);
 }

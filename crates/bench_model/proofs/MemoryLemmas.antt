@@ -1,12 +1,12 @@
 -- What each recorded call does to a bench in memory. Each call of `MemoryBench` keeps what the trait asks of it by its lemma here.
 use Rattle.std.proofs.Common.{◌≡◌, ◌↔◌, ◌<◌, ◌≤◌, ◌+◌, ◌∙◌, ap, subst, sym, refl, ℕ, List, ◌++◌, length, take, drop, replicate, Option, Some, None, arith}
-use Rattle.std.proofs.Common.{append_assoc, length-append, length-take, length-drop}
+use Rattle.std.proofs.Common.{◌⊎◌, inl, inr, Bool, true, false, append_assoc, length-append, length-take, length-drop}
 use Rattle.std.proofs.lemmas.List.{take_at, drop_at, length-replicate}
 use Rattle.std.proofs.lemmas.Bool.{false≢true}
 use Rattle.std.specs.Prelude.{IfSome, Ok}
 use Rattle.std.specs.Option.{ForSome}
 use Rattle.faults.specs.Counts.{HasCause}
-use Rattle.faults.specs.FailingCalls.{Numbered, went}
+use Rattle.faults.specs.FailingCalls.{Numbered, IsDue, went}
 use Rattle.bench_model.specs.History.{left, Leaves, AddsNothing, Stays, LeftOnly}
 use Rattle.bench_model.specs.Calls.{written, Torn, Cut, Follows, IsOpen}
 use Rattle.bench_model.specs.State.{SameOutside}
@@ -154,6 +154,11 @@ pub went_cause : {T E : Type 0} (value : T) (n new : Numbered) → new ≡ went 
 went_cause value n new is =
     let same : new.faults ≡ n.faults = ap (λ (k : Numbered). k.faults) is in
     record { later = omega (arith, same); on_fault = λ fault. absurd (false≢true fault); on_ok = λ ok. same }
+
+-- a call failed because its number is to fail, or for want of room
+pub why_failed : (n : Numbered) {room : Bool} {Room : Type 0} → (Room → room ≡ true) → (room ≡ false) ⊎ IsDue n → IsDue n ⊎ (Room → ⊥)
+why_failed n told (inl full) = inr (λ there. false≢true (sym full ∙ told there))
+why_failed n told (inr due) = inl due
 
 -- the bytes in the range of the open operation
 pub in_open : (bytes : ℕ → List ℕ) (op : Option (ℕ × ℕ)) (at len : ℕ) → op ≡ Some (at, len) → (cells new : List ℕ) → new ≡ written at (bytes len) cells

@@ -8,3 +8,9 @@ returns-then-bytes-len-clause-items c = grind (arith, common_steps)
 
 pub returns-else-bytes-len-clause-items : goal.returns-else-bytes-len-clause-items
 returns-else-bytes-len-clause-items c = grind (arith, common_steps)
+
+pub returns-else-bytes-len-clause-bytes : goal.returns-else-bytes-len-clause-bytes
+returns-else-bytes-len-clause-bytes c = grind (arith, common_steps)
+
+pub returns-then-bytes-len-clause-bytes : goal.returns-then-bytes-len-clause-bytes
+returns-then-bytes-len-clause-bytes c = grind (arith, common_steps)

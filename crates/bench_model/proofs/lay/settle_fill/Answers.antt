@@ -5,3 +5,6 @@ use Rattle.bench_model.proofs.lay.settle_fill.Goals as goal
 
 pub returns-clause-items : goal.returns-clause-items
 returns-clause-items c = grind (arith, common_steps)
+
+pub returns-clause-bytes : goal.returns-clause-bytes
+returns-clause-bytes c = grind (arith, common_steps)

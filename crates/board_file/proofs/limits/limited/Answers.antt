@@ -38,3 +38,17 @@ returns-clause-few_regions c = grind (arith, common_steps)
 pub returns-in-Some-clause-said : goal.returns-in-Some-clause-said
 unfolding limited
 returns-in-Some-clause-said c = grind (arith, common_steps)
+
+pub returns-clause-few_sectors : goal.returns-clause-few_sectors
+returns-clause-few_sectors c = grind (arith, common_steps)
+
+pub returns-clause-few_cells : goal.returns-clause-few_cells
+returns-clause-few_cells c = grind (arith, common_steps)
+
+pub returns-then-are_quiet_too_big-clause-said : goal.returns-then-are_quiet_too_big-clause-said
+unfolding limited
+returns-then-are_quiet_too_big-clause-said c = grind (arith, common_steps)
+
+pub returns-then-parts_written-gt-MOST_RAM-clause-said : goal.returns-then-parts_written-gt-MOST_RAM-clause-said
+unfolding limited
+returns-then-parts_written-gt-MOST_RAM-clause-said c = grind (arith, common_steps)

@@ -8,3 +8,6 @@ written-preserved c = grind (arith, common_steps)
 
 pub overflow_cast-one : goal.overflow_cast-one
 overflow_cast-one c = grind (arith, common_steps)
+
+pub returns : goal.returns
+returns c = grind (arith, common_steps)

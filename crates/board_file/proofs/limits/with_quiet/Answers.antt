@@ -5,3 +5,6 @@ use Rattle.board_file.proofs.limits.with_quiet.Goals as goal
 
 pub written-preserved : goal.written-preserved
 written-preserved c = grind (arith, common_steps)
+
+pub returns : goal.returns
+returns c = grind (arith, common_steps)

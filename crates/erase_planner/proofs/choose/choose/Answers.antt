@@ -1,5 +1,6 @@
--- `choose`: its clause `least`, and what `fill_pages` asks for.
-use Rattle.std.proofs.Common.{◌&&◌, nat_lt, ◌≡◌, ℕ, ◌+◌, ◌*◌, length, ◌∙◌, ap, sym, List, Bool, false}
+-- `choose`: that it keeps its contract, and what `fill_pages` and `fill_none` ask for.
+use Rattle.std.proofs.lemmas.Grind.{common_steps}
+use Rattle.std.proofs.Common.{◌&&◌, nat_lt, ◌≡◌, ℕ, ◌+◌, ◌*◌, length, ◌∙◌, ap, sym, List, Bool, false, arith}
 use Rattle.page_geometry.specs.Cells.{count_below}
 use Rattle.erase_planner.specs.Plans.{tests}
 use Rattle.erase_planner.specs.Marks.{erases_by, programs_by, wanted_by}
@@ -59,3 +60,6 @@ returns-else-chip-clause-least c empty o w lo lw m =
     (c.fill_pages-programmed.ensures.set ∙ ap (λ (bs : List Bool). tests (length l.pages) (programs_by l c.args.marks.now bs)) set)
     total
     (ap (λ (n : ℕ). c.args.has_chip && nat_lt n (c.cost_of.result + c.cost_of-2.result)) (sym chip) ∙ sym c.takes_chip-chip.ensures.test ∙ c.if-chip.false)
+
+pub fill_none-requires : goal.fill_none-requires
+fill_none-requires c = grind (arith, common_steps)

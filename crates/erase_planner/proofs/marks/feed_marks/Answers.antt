@@ -1,8 +1,7 @@
--- `feed_marks`: its clause `marked`, and that its loop keeps what it has to.
-use Rattle.std.proofs.Common.{◌≡◌, ℕ, ◌+◌, ◌<◌, List, [], ◌∷◌, ◌++◌, length, take, get_or, arith, sym, ap, ◌∙◌, set}
-use Rattle.std.proofs.lemmas.Grind.{common_steps}
+-- `feed_marks`: that it keeps its contract, and that its loop keeps what it has to.
+use Rattle.std.proofs.Common.{◌≡◌, ℕ, ◌+◌, ◌<◌, List, [], ◌∷◌, ◌++◌, length, take, get_or, arith, sym, subst, ap, ◌∙◌, set, ◌≤◌}
 use Rattle.std.proofs.Math.ListN.{length-set}
-use Rattle.std.proofs.lemmas.List.{take_more, append_assoc, length-append, length-take-le}
+use Rattle.std.proofs.lemmas.List.{take_all, take_more, append_assoc, length-append, length-take-le}
 use Rattle.erase_planner.specs.Marks.{AreMarks, with_byte, mark_at}
 use Rattle.erase_planner.proofs.FeedLemmas.{marks_more}
 use Rattle.erase_planner.proofs.marks.feed_marks.Goals as goal
@@ -43,4 +42,12 @@ loop-index-preserved c =
     }
 
 pub returns-clause-marked : goal.returns-clause-marked
-returns-clause-marked c = grind (arith, common_steps)
+returns-clause-marked c = λ o w lo lw m.
+    let l = c.loop-index in
+    let old = c.args.old.now in
+    let want = c.args.want.now in
+    let marked = AreMarks c.args.geometry.now c.args.empty in
+    let ends : length old ≤ l.index = omega (arith, c.loop-index-test.false) in
+    subst (λ (b : List ℕ). marked (o ++ b) (w ++ want) l.marks) (take_all l.index old ends)
+    (subst (λ (b : List ℕ). marked (o ++ take l.index old) (w ++ b) l.marks) (take_all l.index want (omega (arith, ends, c.requires.same)))
+    (l.invariant.fed o w lo lw m))

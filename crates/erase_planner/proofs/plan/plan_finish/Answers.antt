@@ -1,5 +1,6 @@
--- `plan_finish`: its clause `least`.
-use Rattle.std.proofs.Common.{◌≡◌, List, sym, ap, subst, ◌∙◌}
+-- `plan_finish`: that it keeps its contract.
+use Rattle.std.proofs.lemmas.Grind.{common_steps}
+use Rattle.std.proofs.Common.{◌≡◌, List, sym, ap, subst, ◌∙◌, arith}
 use Rattle.erase_planner.specs.declared.marks.Mark.{Mark}
 use Rattle.erase_planner.specs.Plans.{made_of}
 use Rattle.erase_planner.specs.Marks.{AreMarks, PlanView}
@@ -15,3 +16,9 @@ returns-clause-least c empty o w f =
     least_plan c.args.geometry.now c.pages-lawful.ensures.lawful c.args.weights.now c.args.has_chip empty o w lo lw
     (made_of c.choose-chip.result.0 c.choose-chip.new.sectors.items c.choose-chip.new.pages.items c.choose-chip.result.1)
     (c.choose-chip.ensures.least empty o w lo lw marked)
+
+pub choose-chip-requires-clause-long : goal.choose-chip-requires-clause-long
+choose-chip-requires-clause-long c = grind (arith, common_steps)
+
+pub returns-clause-spare : goal.returns-clause-spare
+returns-clause-spare c = grind (arith, common_steps)

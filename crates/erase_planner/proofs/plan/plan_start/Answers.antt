@@ -1,4 +1,5 @@
--- `plan_start`: its clause `fed`.
+-- `plan_start`: that it keeps its contract, and what `start_marks` asks for.
+use Rattle.std.proofs.lemmas.Grind.{common_steps}
 use Rattle.std.proofs.Common.{◌∙◌, refl, arith}
 use Rattle.erase_planner.proofs.FeedLemmas.{mark_blank}
 use Rattle.erase_planner.proofs.plan.plan_start.Goals as goal
@@ -12,3 +13,9 @@ returns-clause-fed c empty = record {
   old_long = refl;
   want_long = refl;
 }
+
+pub start_marks-requires : goal.start_marks-requires
+start_marks-requires c = grind (arith, common_steps)
+
+pub returns-clause-spare : goal.returns-clause-spare
+returns-clause-spare c = grind (arith, common_steps)

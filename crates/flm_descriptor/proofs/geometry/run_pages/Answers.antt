@@ -1,4 +1,4 @@
--- `run_pages`: its clauses `pages` and `small`, and that no number overflows.
+-- `run_pages`: that it keeps its contract, and that no number overflows.
 use Rattle.std.proofs.Common.{◌≡◌, ◌-◌, ◌<◌, arith}
 use Rattle.std.proofs.lemmas.Grind.{common_steps}
 use Rattle.flm_descriptor.specs.Shape.{pieces}
@@ -27,7 +27,7 @@ pub returns-clause-pages : goal.returns-clause-pages
 returns-clause-pages c =
     let all = run_counted c.args.page c.args.run.step c.args.run.start c.args.run.stop c.requires.page c.requires.step c.count_pieces-count.result
     c.count_pieces-each.result c.count_pieces.result c.if-count-eq0.false c.count_pieces-count.ensures c.count_pieces-each.ensures c.count_pieces.ensures in
-    cc (all, c.from.ensures, c.from-2.ensures, c.from-3.ensures)
+    rw (c.from.ensures, c.from-2.ensures, c.from-3.ensures) all
 
 pub returns-clause-small : goal.returns-clause-small
 returns-clause-small c = grind (arith, common_steps)

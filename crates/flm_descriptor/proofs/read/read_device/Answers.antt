@@ -1,5 +1,6 @@
--- `read_device`: its clause `device`.
-use Rattle.std.proofs.Common.{◌≡◌, ◌+◌, length, false, ltb, refl}
+-- `read_device`: that it keeps its contract, what `le32` asks for, that no number overflows, and that each place is inside.
+use Rattle.std.proofs.lemmas.Grind.{common_steps}
+use Rattle.std.proofs.Common.{◌≡◌, ◌+◌, length, false, ltb, refl, arith}
 use Rattle.std.proofs.lemmas.Bool.{le-ltb}
 use Rattle.flm_descriptor.specs.Described.{device_of, fields_at}
 use Rattle.flm_descriptor.proofs.DescribedLemmas.{name_part}
@@ -24,3 +25,36 @@ returns-clause-device c =
       c.le32-6.ensures,
     )
     refl
+
+pub le32-requires-4 : goal.le32-requires-4
+le32-requires-4 c = grind (arith, common_steps)
+
+pub overflow_add-result : goal.overflow_add-result
+overflow_add-result c = grind (arith, common_steps)
+
+pub le32-requires-5 : goal.le32-requires-5
+le32-requires-5 c = grind (arith, common_steps)
+
+pub overflow_add-at-10 : goal.overflow_add-at-10
+overflow_add-at-10 c = grind (arith, common_steps)
+
+pub le32-requires-3 : goal.le32-requires-3
+le32-requires-3 c = grind (arith, common_steps)
+
+pub bounds-bytes-at : goal.bounds-bytes-at
+bounds-bytes-at c = grind (arith, common_steps)
+
+pub returns-clause-long : goal.returns-clause-long
+returns-clause-long c = grind (arith, common_steps)
+
+pub le32-requires-6 : goal.le32-requires-6
+le32-requires-6 c = grind (arith, common_steps)
+
+pub overflow_add-at-7 : goal.overflow_add-at-7
+overflow_add-at-7 c = grind (arith, common_steps)
+
+pub overflow_add-at-9 : goal.overflow_add-at-9
+overflow_add-at-9 c = grind (arith, common_steps)
+
+pub overflow_add-at-8 : goal.overflow_add-at-8
+overflow_add-at-8 c = grind (arith, common_steps)

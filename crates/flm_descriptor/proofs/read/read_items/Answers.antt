@@ -1,4 +1,5 @@
--- `read_items`: that its loop keeps what it has to.
+-- `read_items`: that it keeps its contract, and that its loop keeps what it has to.
+use Rattle.std.proofs.lemmas.Grind.{common_steps}
 use Rattle.std.proofs.Common.{◌∷◌, [], sym, ap, ◌∙◌, arith, length, length-append}
 use Rattle.flm_descriptor.proofs.DescribedLemmas.{items_more}
 use Rattle.flm_descriptor.proofs.read.read_items.Goals as goal
@@ -8,3 +9,6 @@ loop-index-preserved c = (
   rw (c.in_ok-push.ensures.items, c.item.ensures, c.loop-index.invariant.0) (sym (items_more c.args.bytes.now c.args.at c.loop-index.index)),
   ap length c.in_ok-push.ensures.items ∙ length-append c.loop-index.items.items (c.item.result ∷ []) ∙ omega (arith, c.loop-index.invariant.1),
 )
+
+pub returns-clause-few : goal.returns-clause-few
+returns-clause-few c = grind (arith, common_steps)

@@ -18,3 +18,6 @@ restart-requires-clause-cells c = grind (arith, common_steps)
 
 pub invariant_of-self : goal.invariant_of-self
 invariant_of-self c = grind (arith, common_steps)
+
+pub restart-requires-clause-file : goal.restart-requires-clause-file
+restart-requires-clause-file c = grind (arith, common_steps)

@@ -60,3 +60,15 @@ returns-then-not-next_goes-clause-does c = grind (arith, common_steps)
 
 pub returns-then-not-next_goes-2-clause-does : goal.returns-then-not-next_goes-2-clause-does
 returns-then-not-next_goes-2-clause-does c = grind (arith, common_steps)
+
+pub returns-in_default-clause-acts : goal.returns-in_default-clause-acts
+returns-in_default-clause-acts c = grind (arith, common_steps)
+
+pub leave-requires : goal.leave-requires
+leave-requires c = grind (arith, common_steps)
+
+pub returns-then-not-next_goes-clause-acts : goal.returns-then-not-next_goes-clause-acts
+returns-then-not-next_goes-clause-acts c = grind (arith, common_steps)
+
+pub note-requires-clause-room : goal.note-requires-clause-room
+note-requires-clause-room c = grind (arith, common_steps)

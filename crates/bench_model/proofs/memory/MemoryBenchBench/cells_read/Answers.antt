@@ -11,3 +11,9 @@ returns-clause-does c = grind (arith, common_steps)
 
 pub returns-clause-acts : goal.returns-clause-acts
 returns-clause-acts c = grind (arith, common_steps)
+
+pub returns-then-not-next_goes-clause-acts : goal.returns-then-not-next_goes-clause-acts
+returns-then-not-next_goes-clause-acts c = grind (arith, common_steps)
+
+pub copy_from_slice-requires : goal.copy_from_slice-requires
+copy_from_slice-requires c = grind (arith, common_steps)

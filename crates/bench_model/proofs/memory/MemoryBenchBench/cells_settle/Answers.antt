@@ -4,8 +4,10 @@ use Rattle.std.proofs.Common.{arith, refl, ap, sym, subst, ◌∙◌, ◌≡◌,
 use Rattle.bench_model.specs.Calls.{written}
 use Rattle.bench_model.specs.State.{SameOutside}
 use Rattle.bench_model.specs.Memory.{InStep}
+use Rattle.faults.specs.FailingCalls.{Numbered}
+use Rattle.bench_model.specs.Shown.{shown}
 use Rattle.bench_model.specs.Record.{held_now, settled}
-use Rattle.bench_model.proofs.MemoryLemmas.{went_cause, in_open, step_settled, within, length-in_range, only_in_range, length-open, in_step_after}
+use Rattle.bench_model.proofs.MemoryLemmas.{why_failed, went_cause, in_open, step_settled, within, length-in_range, only_in_range, length-open, in_step_after}
 use Rattle.bench_model.proofs.MemoryLemmas.{longest-after, made-after, greatest-after, ended_adds_nothing, file_stays_after}
 use Rattle.bench_model.proofs.memory.MemoryBenchBench.cells_settle.Goals as goal
 
@@ -61,3 +63,15 @@ returns-clause-does c =
 
 pub returns-then-not-next_goes-clause-does : goal.returns-then-not-next_goes-clause-does
 returns-then-not-next_goes-clause-does c = grind (arith, common_steps)
+
+pub note-requires-clause-room : goal.note-requires-clause-room
+note-requires-clause-room c = grind (arith, common_steps)
+
+pub settle-requires : goal.settle-requires
+settle-requires c = grind (arith, common_steps)
+
+pub returns-then-not-next_goes-clause-acts : goal.returns-then-not-next_goes-clause-acts
+returns-then-not-next_goes-clause-acts c =
+    let m = c.args.self.now in
+    let failed = c.next_goes.ensures.fails c.if-not-next_goes.true in
+    (why_failed m.device c.has_room-room.ensures.1 failed.1, ap (λ (n : Numbered). record (shown m) { device = n }) failed.0)

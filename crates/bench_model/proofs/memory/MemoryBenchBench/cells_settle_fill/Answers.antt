@@ -5,8 +5,11 @@ use Rattle.std.proofs.lemmas.List.{length-replicate}
 use Rattle.bench_model.specs.Calls.{written}
 use Rattle.bench_model.specs.State.{SameOutside}
 use Rattle.bench_model.specs.Memory.{InStep}
+use Rattle.faults.specs.FailingCalls.{Numbered}
+use Rattle.bench_model.specs.Shown.{shown}
 use Rattle.bench_model.specs.Record.{held_now, filled}
-use Rattle.bench_model.proofs.MemoryLemmas.{went_cause, in_open, step_filled, within, length-in_range, only_in_range, in_step_after, longest-after, made-after}
+use Rattle.bench_model.proofs.MemoryLemmas.{why_failed, went_cause, in_open, step_filled, within, length-in_range}
+use Rattle.bench_model.proofs.MemoryLemmas.{only_in_range, in_step_after, longest-after, made-after}
 use Rattle.bench_model.proofs.MemoryLemmas.{greatest-after, ended_adds_nothing, file_stays_after}
 use Rattle.bench_model.proofs.memory.MemoryBenchBench.cells_settle_fill.Goals as goal
 
@@ -62,3 +65,15 @@ returns-clause-does c =
 
 pub returns-then-not-next_goes-clause-does : goal.returns-then-not-next_goes-clause-does
 returns-then-not-next_goes-clause-does c = grind (arith, common_steps)
+
+pub note-requires-clause-room : goal.note-requires-clause-room
+note-requires-clause-room c = grind (arith, common_steps)
+
+pub returns-then-not-next_goes-clause-acts : goal.returns-then-not-next_goes-clause-acts
+returns-then-not-next_goes-clause-acts c =
+    let m = c.args.self.now in
+    let failed = c.next_goes.ensures.fails c.if-not-next_goes.true in
+    (why_failed m.device c.has_room-room.ensures.1 failed.1, ap (λ (n : Numbered). record (shown m) { device = n }) failed.0)
+
+pub settle_fill-requires : goal.settle_fill-requires
+settle_fill-requires c = grind (arith, common_steps)

@@ -1,10 +1,13 @@
 -- `MemoryBenchBench::file_cut`: that it keeps its contract.
 use Rattle.std.proofs.lemmas.Grind.{common_steps}
-use Rattle.std.proofs.Common.{arith, refl, sym, subst, ◌∙◌, ◌<◌, ℕ, List, All}
+use Rattle.std.proofs.Common.{ap, arith, refl, sym, subst, ◌∙◌, ◌<◌, ℕ, List, All}
 use Rattle.std.proofs.lemmas.List.Elements.{All-take}
 use Rattle.bench_model.specs.Memory.{InStep}
+use Rattle.faults.specs.FailingCalls.{Numbered}
+use Rattle.bench_model.specs.Shown.{shown}
 use Rattle.bench_model.specs.Record.{held_now, cut}
-use Rattle.bench_model.proofs.MemoryLemmas.{went_cause, step_cut, in_step_after, longest-after, made-after, greatest-after, cut_leaves, cells_stay_after}
+use Rattle.bench_model.proofs.MemoryLemmas.{why_failed, went_cause, step_cut, in_step_after, longest-after}
+use Rattle.bench_model.proofs.MemoryLemmas.{made-after, greatest-after, cut_leaves, cells_stay_after}
 use Rattle.bench_model.proofs.memory.MemoryBenchBench.file_cut.Goals as goal
 
 pub invariant_of-self-2 : goal.invariant_of-self-2
@@ -42,3 +45,15 @@ returns-clause-does c =
 
 pub returns-then-not-next_goes-clause-does : goal.returns-then-not-next_goes-clause-does
 returns-then-not-next_goes-clause-does c = grind (arith, common_steps)
+
+pub returns-then-not-next_goes-clause-acts : goal.returns-then-not-next_goes-clause-acts
+returns-then-not-next_goes-clause-acts c =
+    let m = c.args.self.now in
+    let failed = c.next_goes.ensures.fails c.if-not-next_goes.true in
+    (why_failed m.store c.has_room-room.ensures.1 failed.1, ap (λ (n : Numbered). record (shown m) { store = n }) failed.0)
+
+pub note-requires-clause-room : goal.note-requires-clause-room
+note-requires-clause-room c = grind (arith, common_steps)
+
+pub note-requires-clause-marks : goal.note-requires-clause-marks
+note-requires-clause-marks c = grind (arith, common_steps)

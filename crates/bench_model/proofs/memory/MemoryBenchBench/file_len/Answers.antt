@@ -8,3 +8,6 @@ returns-then-not-next_goes-clause-does c = grind (arith, common_steps)
 
 pub returns-clause-does : goal.returns-clause-does
 returns-clause-does c = grind (arith, common_steps)
+
+pub returns-then-not-next_goes-clause-acts : goal.returns-then-not-next_goes-clause-acts
+returns-then-not-next_goes-clause-acts c = grind (arith, common_steps)

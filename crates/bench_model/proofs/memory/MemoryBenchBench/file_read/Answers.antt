@@ -11,3 +11,15 @@ returns-clause-does c = grind (arith, common_steps)
 
 pub returns-clause-acts : goal.returns-clause-acts
 returns-clause-acts c = grind (arith, common_steps)
+
+pub returns-then-not-next_goes-clause-acts : goal.returns-then-not-next_goes-clause-acts
+returns-then-not-next_goes-clause-acts c = grind (arith, common_steps)
+
+pub overflow_add-at : goal.overflow_add-at
+overflow_add-at c = grind (arith, common_steps)
+
+pub slice_bounds-copy_from_slice-end : goal.slice_bounds-copy_from_slice-end
+slice_bounds-copy_from_slice-end c = grind (arith, common_steps)
+
+pub copy_from_slice-requires : goal.copy_from_slice-requires
+copy_from_slice-requires c = grind (arith, common_steps)

@@ -1,8 +1,10 @@
 -- `MemoryBenchBench::file_sync`: that it keeps its contract.
 use Rattle.std.proofs.lemmas.Grind.{common_steps}
 use Rattle.std.proofs.Common.{arith, refl, ap, ◌∙◌, length}
+use Rattle.faults.specs.FailingCalls.{Numbered}
 use Rattle.bench_model.specs.Record.{held_now, synced}
-use Rattle.bench_model.proofs.MemoryLemmas.{went_cause, step_synced, in_step_after, longest-after, made-after, greatest-after, synced_adds_nothing}
+use Rattle.bench_model.specs.Shown.{shown}
+use Rattle.bench_model.proofs.MemoryLemmas.{why_failed, went_cause, step_synced, in_step_after, longest-after, made-after, greatest-after, synced_adds_nothing}
 use Rattle.bench_model.proofs.MemoryLemmas.{synced_leaves_only, cells_stay_after}
 use Rattle.bench_model.proofs.memory.MemoryBenchBench.file_sync.Goals as goal
 
@@ -46,3 +48,12 @@ returns-clause-does c =
 
 pub returns-then-not-next_goes-clause-does : goal.returns-then-not-next_goes-clause-does
 returns-then-not-next_goes-clause-does c = grind (arith, common_steps)
+
+pub note_sync-requires-clause-room : goal.note_sync-requires-clause-room
+note_sync-requires-clause-room c = grind (arith, common_steps)
+
+pub returns-then-not-next_goes-clause-acts : goal.returns-then-not-next_goes-clause-acts
+returns-then-not-next_goes-clause-acts c =
+    let m = c.args.self.now in
+    let failed = c.next_goes.ensures.fails c.if-not-next_goes.true in
+    (why_failed m.store c.has_room-room.ensures.1 failed.1, ap (λ (n : Numbered). record (shown m) { store = n }) failed.0)

@@ -1,9 +1,12 @@
 -- `MemoryBenchBench::file_write`: that it keeps its contract.
 use Rattle.std.proofs.lemmas.Grind.{common_steps}
-use Rattle.std.proofs.Common.{arith, refl, sym, subst, ◌∙◌, ◌+◌, ◌≤◌, ℕ, List, length}
+use Rattle.std.proofs.Common.{ap, arith, refl, sym, subst, ◌∙◌, ◌+◌, ◌≤◌, ℕ, List, length}
 use Rattle.bench_model.specs.Memory.{InStep}
+use Rattle.faults.specs.FailingCalls.{Numbered}
+use Rattle.bench_model.specs.Shown.{shown}
 use Rattle.bench_model.specs.Record.{held_now, wrote}
-use Rattle.bench_model.proofs.MemoryLemmas.{went_cause, step_wrote, in_step_after, longest-after, made-after, greatest-after, wrote_leaves, cells_stay_after}
+use Rattle.bench_model.proofs.MemoryLemmas.{why_failed, went_cause, step_wrote, in_step_after, longest-after}
+use Rattle.bench_model.proofs.MemoryLemmas.{made-after, greatest-after, wrote_leaves, cells_stay_after}
 use Rattle.bench_model.proofs.memory.MemoryBenchBench.file_write.Goals as goal
 
 pub invariant_of-self-2 : goal.invariant_of-self-2
@@ -45,3 +48,21 @@ returns-then-not-next_goes-clause-does c = grind (arith, common_steps)
 
 pub returns-clause-acts : goal.returns-clause-acts
 returns-clause-acts c = grind (arith, common_steps)
+
+pub note-requires-clause-marks : goal.note-requires-clause-marks
+note-requires-clause-marks c = grind (arith, common_steps)
+
+pub overwrite-requires-clause-room : goal.overwrite-requires-clause-room
+overwrite-requires-clause-room c = grind (arith, common_steps)
+
+pub overwrite-requires-clause-inside : goal.overwrite-requires-clause-inside
+overwrite-requires-clause-inside c = grind (arith, common_steps)
+
+pub note-requires-clause-room : goal.note-requires-clause-room
+note-requires-clause-room c = grind (arith, common_steps)
+
+pub returns-then-not-next_goes-clause-acts : goal.returns-then-not-next_goes-clause-acts
+returns-then-not-next_goes-clause-acts c =
+    let m = c.args.self.now in
+    let failed = c.next_goes.ensures.fails c.if-not-next_goes.true in
+    (why_failed m.store c.can_write-room.ensures.1 failed.1, ap (λ (n : Numbered). record (shown m) { store = n }) failed.0)

@@ -1,4 +1,5 @@
 -- `Record::note`: that it keeps its contract, and that its result is as its type asks.
+use Rattle.std.proofs.lemmas.Grind.{common_steps}
 use Rattle.std.proofs.Common.{sym, subst, arith, ℕ, List, Bool, length}
 use Rattle.bench_model.specs.Record.{Held, Recorded, CanMark, HasRoom, IsMarked, after, at_rest, event_of, events_of, held_now, replay}
 use Rattle.bench_model.proofs.RecordLemmas.{events-after, replay-after, used-after, units-after, recorded, handed_of-event_of}
@@ -47,3 +48,9 @@ returns c =
     c.requires.handed c.push.ensures.changes c.push.ensures.handed)
     (handed_of-event_of c.args.change c.args.bytes.now c.requires.handed)
     c.self.view_is
+
+pub mark_by-requires-clause-can : goal.mark_by-requires-clause-can
+mark_by-requires-clause-can c = grind (arith, common_steps)
+
+pub push-requires-clause-change_room : goal.push-requires-clause-change_room
+push-requires-clause-change_room c = grind (arith, common_steps)

@@ -1,4 +1,5 @@
 -- `Record::note_sync`: that it keeps its contract, and that its result is as its type asks.
+use Rattle.std.proofs.lemmas.Grind.{common_steps}
 use Rattle.std.proofs.Common.{◌≡◌, sym, subst, refl, arith, ℕ, List, [], Bool, length, replicate, false}
 use Rattle.bench_model.specs.Kept.{all_synced}
 use Rattle.bench_model.specs.Record.{Held, Recorded, HasRoom, IsMarked, after, synced, at_rest, events_of, held_now, replay}
@@ -48,3 +49,6 @@ returns c =
     (events-after r.changes.items c.push.new.changes.items Synced r.handed.items c.push.new.handed.items [] c.self.invariant.all refl c.push.ensures.changes
     c.push.ensures.handed)
     refl c.self.view_is
+
+pub push-requires-clause-change_room : goal.push-requires-clause-change_room
+push-requires-clause-change_room c = grind (arith, common_steps)

@@ -5,3 +5,12 @@ use Rattle.bench_model.proofs.stop.StopBenchBench.file_cut.Goals as goal
 
 pub returns-then-self-eq0-clause-does : goal.returns-then-self-eq0-clause-does
 returns-then-self-eq0-clause-does g c = grind (arith, common_steps)
+
+pub returns-clause-does : goal.returns-clause-does
+returns-clause-does g c = grind (arith, common_steps)
+
+pub returns-clause-acts : goal.returns-clause-acts
+returns-clause-acts g c = grind (arith, common_steps)
+
+pub returns-then-self-eq0-clause-acts : goal.returns-then-self-eq0-clause-acts
+returns-then-self-eq0-clause-acts g c = grind (arith, common_steps)

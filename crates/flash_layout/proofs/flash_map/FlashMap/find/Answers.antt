@@ -1,4 +1,4 @@
--- `FlashMap::find`: its clauses `value` and `inside`, that its loop keeps what it has to, and that no number overflows.
+-- `FlashMap::find`: that it keeps its contract, that its loop keeps what it has to, and that no number overflows.
 use Rattle.std.proofs.Common.{◌∙◌, ap, sym, List, arith}
 use Rattle.std.proofs.lemmas.Grind.{common_steps}
 use Rattle.std.proofs.lemmas.List.{drop_all}
@@ -31,3 +31,6 @@ overflow_add-place c = grind (arith, common_steps)
 
 pub overflow_add-from : goal.overflow_add-from
 overflow_add-from c = grind (arith, common_steps)
+
+pub overflow_sub-place : goal.overflow_sub-place
+overflow_sub-place c = grind (arith, common_steps)

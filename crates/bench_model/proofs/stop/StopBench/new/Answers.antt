@@ -1,0 +1,7 @@
+-- `new`: that it keeps its contract.
+use Rattle.std.proofs.Common.{arith}
+use Rattle.std.proofs.lemmas.Grind.{common_steps}
+use Rattle.bench_model.proofs.stop.StopBench.new.Goals as goal
+
+pub returns-clause-same : goal.returns-clause-same
+returns-clause-same g c = grind (arith, common_steps)

@@ -1,0 +1,7 @@
+-- `algorithm`: that its result is as its type asks.
+use Rattle.std.proofs.Common.{arith}
+use Rattle.std.proofs.lemmas.Grind.{common_steps}
+use Rattle.flm_descriptor.proofs.read.algorithm.Goals as goal
+
+pub invariant_of-result : goal.invariant_of-result
+invariant_of-result c = grind (arith, common_steps)

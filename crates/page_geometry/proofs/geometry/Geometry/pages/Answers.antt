@@ -1,0 +1,7 @@
+-- `pages`: that it keeps its contract.
+use Rattle.std.proofs.Common.{arith}
+use Rattle.std.proofs.lemmas.Grind.{common_steps}
+use Rattle.page_geometry.proofs.geometry.Geometry.pages.Goals as goal
+
+pub returns-clause-lawful : goal.returns-clause-lawful
+returns-clause-lawful c = grind (arith, common_steps)

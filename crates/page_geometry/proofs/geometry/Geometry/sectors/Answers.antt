@@ -1,0 +1,7 @@
+-- `sectors`: that it keeps its contract.
+use Rattle.std.proofs.Common.{arith}
+use Rattle.std.proofs.lemmas.Grind.{common_steps}
+use Rattle.page_geometry.proofs.geometry.Geometry.sectors.Goals as goal
+
+pub returns-clause-lawful : goal.returns-clause-lawful
+returns-clause-lawful c = grind (arith, common_steps)
