@@ -1,3 +1,4 @@
+pub mod HandedOn
 pub mod Leaf
 pub mod LeafWalk
 pub mod Parsed

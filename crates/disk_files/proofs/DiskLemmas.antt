@@ -1,5 +1,5 @@
 -- Writes over bytes and cells in memory. `end_range` settles a range so.
-use Rattle.std.proofs.Common.{◌≡◌, ◌≤◌, ◌+◌, ◌-◌, ◌∙◌, ap, sym, refl, ℕ, List, ◌++◌, length, take, drop, arith, append_assoc, append-nil, length-take}
+use Rattle.std.proofs.Common.{◌≡◌, ◌≤◌, ◌+◌, ◌-◌, ◌∙◌, ap, sym, subst, refl, ℕ, List, ◌++◌, length, take, drop, arith, append_assoc, append-nil, length-take}
 use Rattle.std.proofs.Common.{length-drop, length-append, Option, Some, None}
 use Rattle.std.proofs.Math.Seq.{take-add}
 use Rattle.std.proofs.lemmas.List.{take_at, drop_at, take_all, drop_all, take-take, drop-drop, take-append-drop}
@@ -71,6 +71,14 @@ pub differs_then : (operation : Option (ℕ × ℕ)) (cells x y : List ℕ) (at 
     → length y ≡ length x → DiffersInside operation cells y
 differs_then operation cells x y at n inside out torn long =
     differs_inside operation cells y (outside_then operation cells x y at n inside (outside_of operation cells x out) torn long)
+
+pub differs_written : {told operation : Option (ℕ × ℕ)} {cells x y : List ℕ} (at : ℕ) (bytes : List ℕ) → told ≡ operation → InRange at (length bytes) told
+    → DiffersInside operation cells x → at + length bytes ≤ length x → y ≡ written at bytes x → DiffersInside operation cells y
+differs_written {operation = operation} {cells = cells} {x = x} at bytes same inside out fits is =
+    let before : at ≤ length x = omega (arith, fits) in
+    subst (λ (l : List ℕ). DiffersInside operation cells l) (sym is)
+    (differs_then operation cells x (written at bytes x) at (length bytes) (subst (λ (o : Option (ℕ × ℕ)). InRange at (length bytes) o) same inside) out
+    (written_torn at bytes x before) (written_long at bytes x before fits))
 
 -- a range that is opened over cells that stand there
 pub differs_opened : (at n : ℕ) (cells bytes : List ℕ) → DiffersInside None cells bytes → DiffersInside (Some (at, n)) cells bytes

@@ -1,9 +1,12 @@
 -- When several calls of the files fail. Loops over calls count their faults by them.
-use Rattle.std.proofs.Common.{◌≡◌, ◌≤◌, ◌+◌, ◌∙◌, inl, inr, ⊎_elim, sym, refl, ℕ, Bool, IsTrue, arith, Result, Ok, Err, IsOk, IsErr}
+use Rattle.std.proofs.Common.{◌≡◌, ◌≤◌, ◌+◌, ◌∙◌, ap, inl, inr, ⊎_elim, sym, subst, refl, ℕ, Bool, IsTrue, arith, Result, Ok, Err, IsOk, IsErr}
 use Rattle.std.proofs.lemmas.Bool.{false≢true}
 use Rattle.faults.specs.Counts.{Rose}
 use Rattle.disk_files.specs.DiskState.{DiskState}
-use Rattle.disk_files.specs.Fails.{KeepsSyncs, IsBroken, Fails}
+use Rattle.disk_files.specs.Fails.{KeepsSyncs, IsBroken, CallMoves, Fails}
+use Rattle.std.specs.IoError.{error_kind}
+use Rattle.std.specs.declared.io.Error.{Error}
+use Rattle.std.specs.declared.io.ErrorKind.TheVariants.{Interrupted}
 
 -- no call has failed so far, and so many were interrupted
 pub record GoesSo (tells : Bool) (old now : DiskState) (count : ℕ) : Type 0 where
@@ -67,4 +70,38 @@ fails_then {a = a} {b = b} {c = c} told so_far result two is_err answer failed =
       (λ broken. inr (broken_before (so_far.syncs told) broken))
       (two.on_fault is_err);
   on_ok = λ went. absurd (not_both answer failed went);
+}
+
+-- calls of which the last fails for good, and the answer made of that
+pub fails_at_last : {T E : Type 0} {tells : Bool} {a b c : DiskState} {stops wanted : ℕ} {fault : Error} → IsTrue tells → GoesSo tells a b stops
+    → CallMoves b c wanted (Err fault) → (error_kind fault ≡ Interrupted → ⊥) → (answer : Result T E) → IsErr answer → Fails a c answer
+fails_at_last {a = a} {b = b} {c = c} told so_far call for_good answer failed = record {
+  later = omega (arith, so_far.errors told, call.later);
+  on_fault = λ fault. inl (rose_from a.errors b.errors c.errors (so_far.errors told) (call.failed for_good));
+  on_ok = λ went. absurd (not_both answer failed went);
+}
+
+-- a call told in other words
+pub moves_from : {a b c : DiskState} {n m : ℕ} {result : Result ℕ Error} → a ≡ b → n ≡ m → CallMoves a c n result → CallMoves b c m result
+moves_from {b = b} {c = c} {n = n} {result = result} same long call =
+    subst (λ (k : ℕ). CallMoves b c k result) long (subst (λ (d : DiskState). CallMoves d c n result) same call)
+
+-- a call after one that moved something
+pub moves_then : {a b c : DiskState} {wanted : ℕ} (result : Result ℕ Error) → b.errors ≡ a.errors → b.interrupted ≡ a.interrupted → KeepsSyncs a b
+    → CallMoves b c wanted result → CallMoves a c wanted result
+moves_then {a = a} {b = b} {c = c} (Ok n) errors stops syncs call = record {
+  later = omega (arith, errors, call.later);
+  moved = λ some. ((call.moved some).0 ∙ errors, (call.moved some).1 ∙ stops);
+  nothing = λ none wants. rose_from a.errors b.errors c.errors errors (call.nothing none wants);
+  stopped = tt;
+  failed = tt;
+  syncs = keeps_then syncs call.syncs;
+}
+moves_then {a = a} {b = b} {c = c} (Err fault) errors stops syncs call = record {
+  later = omega (arith, errors, call.later);
+  moved = tt;
+  nothing = tt;
+  stopped = λ kind. ((call.stopped kind).0 ∙ errors, (call.stopped kind).1 ∙ ap (λ (n : ℕ). n + 1) stops);
+  failed = λ kind. rose_from a.errors b.errors c.errors errors (call.failed kind);
+  syncs = keeps_then syncs call.syncs;
 }

@@ -1,5 +1,6 @@
 -- `matches_for`: its clause `usage`.
-use Rattle.std.proofs.Common.{◌≢◌, refl, rules, Ok, Err}
+use Rattle.std.proofs.lemmas.Grind.{common_steps}
+use Rattle.std.proofs.Common.{◌≢◌, refl, rules, Ok, Err, arith}
 use Rattle.clap.specs.Values.{kind_of}
 use Rattle.clap.specs.Simple.{app_of}
 use Rattle.clap.specs.Faults.{fault_of}
@@ -21,3 +22,9 @@ returns-clause-usage c =
     let kinds = fails tool (app_of c.in-Ok.tool) c.in-Ok.ensures c.args.words.now (Err c.in-Err-2.field-0) refl c.in-Err-2.ensures.kinds in
     let others : kind_of c.in-Err-2.field-0 ≢ kind.OutOfMemory = search rules in
     λ _. some_fault (fault_of tool c.args.words.now) c.in-Err-2.field-0 kinds others
+
+pub returns-in-Err-clause-usage : goal.returns-in-Err-clause-usage
+returns-in-Err-clause-usage c = grind (arith, common_steps)
+
+pub returns-in_default-clause-usage : goal.returns-in_default-clause-usage
+returns-in_default-clause-usage c = grind (arith, common_steps)

@@ -1,4 +1,5 @@
 -- `form_and_board`: its clauses `none` and `some`.
+use Rattle.std.proofs.lemmas.Grind.{common_steps}
 use Rattle.std.proofs.Common.{◌≡◌, ◌==◌, ◌-◌, ◌∙◌, true, false, refl, sym, ap, arith, ℕ, List, length, take, drop, [], ◌∷◌}
 use Rattle.std.proofs.lemmas.Bool.{eqb-true}
 use Rattle.command_words.specs.Words.{form_text}
@@ -56,3 +57,6 @@ returns-clause-some c =
     (form_text c.in_ok-form.form ∷ c.board-item.result ∷ [])
     (sym c.as_slice.ensures.value ∙ parts ∙ ap (λ (r : List (List ℕ)). c.form-item.result ∷ c.board-item.result ∷ r) none
     ∙ ap (λ (w : List ℕ). w ∷ c.board-item.result ∷ []) word)
+
+pub returns-in_err-form-clause-some : goal.returns-in_err-form-clause-some
+returns-in_err-form-clause-some c = grind (arith, common_steps)

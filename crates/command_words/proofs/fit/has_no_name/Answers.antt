@@ -1,5 +1,6 @@
 -- `has_no_name`: its contract, `Positional`.
-use Rattle.std.proofs.Common.{◌≡◌, ◌==◌, ◌∙◌, sym, ap, rules, ℕ, length, []}
+use Rattle.std.proofs.lemmas.Grind.{common_steps}
+use Rattle.std.proofs.Common.{◌≡◌, ◌==◌, ◌∙◌, sym, ap, rules, ℕ, length, [], arith}
 use Rattle.std.proofs.lemmas.Bool.{eqb-true}
 use Rattle.std.specs.Vec.{vec_len}
 use Rattle.command_words.proofs.FitLemmas.{names_alone, as_many, nil_of}
@@ -16,3 +17,6 @@ returns-then-is_empty c =
       (λ positional. c.is_empty-then-is_empty.ensures
           ∙ ap (λ (n : ℕ). n == 0) (sym count ∙ as_many others line.addresses.items line.names.items spells [] positional)),
     )
+
+pub returns-else-is_empty : goal.returns-else-is_empty
+returns-else-is_empty c = grind (arith, common_steps)

@@ -1,7 +1,8 @@
 -- `fill_range`: its clause `fails`, and that its loop keeps what it has to.
-use Rattle.std.proofs.Common.{arith, length, refl, ◌≤◌, ◌∙◌, ◌+◌, ap, ℕ}
+use Rattle.std.proofs.Common.{arith, length, refl, sym, ◌≤◌, ◌∙◌, ◌+◌, ap, ℕ}
+use Rattle.std.proofs.lemmas.Grind.{common_steps}
 use Rattle.std.proofs.lemmas.List.{take-replicate, length-replicate}
-use Rattle.disk_files.proofs.CellLemmas.{filled_more, writes_then}
+use Rattle.disk_files.proofs.CellLemmas.{filled_more, piece_in_range, rest_in_range, writes_then}
 use Rattle.disk_files.proofs.FailLemmas.{goes_whole, fails_then}
 use Rattle.disk_files.proofs.cells_half.fill_range.Goals as goal
 
@@ -45,3 +46,22 @@ loop-done-preserved g c =
             c.from-in-loop-done-2.ensures,
           ))) refl,
     )
+
+pub slice_bounds-write_range-end : goal.slice_bounds-write_range-end
+slice_bounds-write_range-end g c =
+    let least : c.min-size.result ≤ 4096 = omega (arith, c.min-size.ensures) in
+    sym (ap length (take-replicate c.min-size.result 4096 c.args.value least) ∙ length-replicate c.min-size.result c.args.value)
+
+pub write_range-requires : goal.write_range-requires
+write_range-requires g c = λ told.
+    let least : c.min-size.result ≤ 4096 = omega (arith, c.min-size.ensures) in
+    let long = ap length (take-replicate c.min-size.result 4096 c.args.value least) ∙ length-replicate c.min-size.result c.args.value in
+    let within : c.loop-done.done + c.min-size.result ≤ c.args.len = omega (arith, c.min-size.ensures, c.loop-done.invariant.0, c.from-in-loop-done.ensures) in
+    piece_in_range (c.loop-done.invariant.2.operation told) (ap (λ (n : ℕ). n + c.loop-done.done) c.from-in-loop-done-2.ensures) long
+    (rest_in_range _ c.args.at c.args.len c.loop-done.done c.min-size.result within (c.requires.range told))
+
+pub loop-done-init : goal.loop-done-init
+loop-done-init g c = grind (arith, common_steps)
+
+pub returns-clause-fails : goal.returns-clause-fails
+returns-clause-fails g c = grind (arith, common_steps)

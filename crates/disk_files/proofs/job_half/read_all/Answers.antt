@@ -1,11 +1,14 @@
 -- `read_all`: that it keeps its contract.
 use Rattle.std.proofs.lemmas.Grind.{common_steps}
-use Rattle.std.proofs.Common.{rules, ap, arith, length, length-drop, ◌-◌, ◌≡◌, ◌<◌, ◌∙◌}
+use Rattle.std.proofs.Common.{rules, ap, arith, length, length-drop, ◌-◌, ◌≡◌, ◌<◌, ◌∙◌, Err, refl, sym}
 use Rattle.std.proofs.lemmas.List.{take_rest}
 use Rattle.std.specs.IoError.{error_kind}
 use Rattle.std.specs.declared.io.ErrorKind.TheVariants.{Interrupted}
-use Rattle.disk_files.proofs.FailLemmas.{goes_ok, goes_stopped}
-use Rattle.disk_files.proofs.ReadLemmas.{read_more, read_no_more}
+use Rattle.disk_files.proofs.FailLemmas.{goes_ok, goes_stopped, keeps_then, fails_at_last}
+use Rattle.disk_files.proofs.ReadLemmas.{read_more, read_no_more, only_reads_then}
+use denote.Enum.Bare.{same_true, same_false}
+use Rattle.std.specs.contracts.io.ErrorKind.{the_type}
+use Rattle.disk_files.proofs.job_half.read_all.Goals.{then-eq+else-stops-lt18446744073709551615, else-eq}
 use Rattle.disk_files.proofs.job_half.read_all.Goals as goal
 
 pub loop-done-preserved-in-Ok : goal.loop-done-preserved-in-Ok
@@ -31,7 +34,7 @@ loop-done-preserved g c =
     let rest = ap length (take_rest c.loop-done.out c.loop-done.done) ∙ length-drop c.loop-done.done c.loop-done.out in
     let long : length c.job_read_at.new.out ≡ length c.loop-done.out - c.loop-done.done = omega (arith, c.job_read_at.auto.out, rest) in
     let known = c.loop-done.invariant in
-    let kind : error_kind c.in-Err.fault ≡ Interrupted = search rules in (
+    let kind : error_kind c.in-Err.fault ≡ Interrupted = sym c.kind.ensures ∙ same_true the_type (search rules) _ _ (sym c.if-eq.ensures) in (
       read_no_more g.F.Disk.tells (S c.args.disk.now) (S c.loop-done.disk) (S c.job_read_at.new.self) c.args.at c.args.out.now c.loop-done.out c.loop-done.done
           known.0
           c.job_read_at.new.out long c.job_read_at.ensures.entry c.job_read_at.ensures.does,
@@ -46,3 +49,50 @@ loop-done-init g c = grind (arith, common_steps)
 
 pub returns-in-Ok-eq0-clause-fails : goal.returns-in-Ok-eq0-clause-fails
 returns-in-Ok-eq0-clause-fails g c = grind (arith, common_steps)
+
+pub returns-clause-fails : goal.returns-clause-fails
+returns-clause-fails g c = grind (arith, common_steps)
+
+pub returns-then-is_none-clause-does : goal.returns-then-is_none-clause-does
+returns-then-is_none-clause-does g c = grind (arith, common_steps)
+
+pub returns-then-is_none-clause-fails : goal.returns-then-is_none-clause-fails
+returns-then-is_none-clause-fails g c = grind (arith, common_steps)
+
+pub overflow_add-done : goal.overflow_add-done
+overflow_add-done g c = grind (arith, common_steps)
+
+pub returns-clause-ok : goal.returns-clause-ok
+returns-clause-ok g c = grind (arith, common_steps)
+
+pub returns-in-Ok-eq0-clause-does : goal.returns-in-Ok-eq0-clause-does
+returns-in-Ok-eq0-clause-does g c = only_reads_then c.loop-done.invariant.0.does c.job_read_at.ensures.does
+
+pub returns-in-Ok-eq0-clause-whole : goal.returns-in-Ok-eq0-clause-whole
+returns-in-Ok-eq0-clause-whole g c = λ told. (keeps_then (c.loop-done.invariant.4.syncs told) (c.job_read_at.ensures.fails told).syncs).file_whole
+
+pub returns-in-Err-2-clause-does : goal.returns-in-Err-2-clause-does
+returns-in-Err-2-clause-does g c = only_reads_then c.loop-done.invariant.0.does c.job_read_at.ensures.does
+
+pub returns-in-Err-2-clause-whole : goal.returns-in-Err-2-clause-whole
+returns-in-Err-2-clause-whole g c = λ told. (keeps_then (c.loop-done.invariant.4.syncs told) (c.job_read_at.ensures.fails told).syncs).file_whole
+
+pub returns-in-Err-2-clause-fails : goal.returns-in-Err-2-clause-fails
+returns-in-Err-2-clause-fails g c = λ told fits.
+    let few = g.met.F.Disk.few_signals c.loop-done.disk told in
+    let for_good : error_kind c.in-Err.fault ≡ Interrupted → ⊥ = elim c.if-eq.branch [
+      | then-eq+else-stops-lt18446744073709551615 w ↦ λ is. absurd (omega (
+        arith,
+        w.if-stops-lt18446744073709551615.false,
+        c.loop-done.invariant.4.stops told,
+        few,
+      ))
+      | else-eq w ↦ λ is. same_false the_type c.kind.result Interrupted (sym c.eq.ensures ∙ w.if-eq.false) (c.kind.ensures ∙ is)
+    ] in
+    fails_at_last told c.loop-done.invariant.4 (c.in-Err.ensures.fails told) for_good (Err c.in-Err.fault) refl
+
+pub returns-in-Ok-eq0-clause-entry : goal.returns-in-Ok-eq0-clause-entry
+returns-in-Ok-eq0-clause-entry g c = λ told. c.job_read_at.ensures.entry told ∙ c.loop-done.invariant.0.entry told
+
+pub returns-in-Err-2-clause-entry : goal.returns-in-Err-2-clause-entry
+returns-in-Err-2-clause-entry g c = λ told. c.job_read_at.ensures.entry told ∙ c.loop-done.invariant.0.entry told

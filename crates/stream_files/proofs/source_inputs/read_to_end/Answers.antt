@@ -1,7 +1,11 @@
 -- `read_to_end`: that it keeps its contract.
 use Rattle.std.proofs.lemmas.Grind.{common_steps}
-use Rattle.std.proofs.Common.{◌≡◌, ◌<◌, ◌+◌, [], arith, inr, length, vec_len}
+use Rattle.std.proofs.Common.{◌≡◌, ◌<◌, ◌+◌, [], arith, inr, length, vec_len, rules, inl}
 use Rattle.stream_files.proofs.RunLemmas.{read_all, read_nothing, at_least}
+use Rattle.std.proofs.lemmas.Bool.{false≢true}
+use Rattle.faults.proofs.CountLemmas.{Rose-after}
+use Rattle.std.specs.IoError.{error_kind}
+use Rattle.std.specs.declared.io.ErrorKind.TheVariants.{Interrupted}
 use Rattle.stream_files.proofs.source_inputs.read_to_end.Goals as goal
 
 pub returns-in-Ok-eq0-clause-ok : goal.returns-in-Ok-eq0-clause-ok
@@ -34,3 +38,34 @@ returns-in-Ok-clause-err g c = λ told.
 
 pub loop-stops-preserved-in-Continue-1 : goal.loop-stops-preserved-in-Continue-1
 loop-stops-preserved-in-Continue-1 g c = grind (arith, common_steps)
+
+pub loop-stops-smaller-in-Continue-1 : goal.loop-stops-smaller-in-Continue-1
+loop-stops-smaller-in-Continue-1 g c = grind (arith, common_steps)
+
+pub slice_bounds-extend_from_slice-end : goal.slice_bounds-extend_from_slice-end
+slice_bounds-extend_from_slice-end g c = grind (arith, common_steps)
+
+pub returns-in-Ok-clause-went : goal.returns-in-Ok-clause-went
+returns-in-Ok-clause-went g c = grind (arith, common_steps)
+
+pub slice_bounds-chunk-end : goal.slice_bounds-chunk-end
+slice_bounds-chunk-end g c = grind (arith, common_steps)
+
+pub returns-clause-err : goal.returns-clause-err
+returns-clause-err g c = grind (arith, common_steps)
+
+pub returns-in-Ok-clause-later : goal.returns-in-Ok-clause-later
+returns-in-Ok-clause-later g c = grind (arith, common_steps)
+
+pub returns-in-Err-2-clause-err : goal.returns-in-Err-2-clause-err
+returns-in-Err-2-clause-err g c = λ told.
+    let S = g.S.Source.state in
+    let for_good : error_kind c.in-Err.fault ≡ Interrupted → ⊥ = search rules in
+    inr (inl (Rose-after (S c.args.source.now).calls.errors (S c.loop-stops.source).calls.errors (S c.read.new.self).calls.errors
+    (omega (arith, c.loop-stops.invariant.1.errors told)) ((c.in-Err.ensures.fails told).failed for_good)))
+
+pub returns-in-Err-2-clause-later : goal.returns-in-Err-2-clause-later
+returns-in-Err-2-clause-later g c = λ told. omega (arith, c.loop-stops.invariant.1.errors told, (c.read.ensures.fails told).later)
+
+pub returns-in-Err-2-clause-went : goal.returns-in-Err-2-clause-went
+returns-in-Err-2-clause-went g c = λ told ok. absurd (false≢true ok)

@@ -8,3 +8,9 @@ returns-in-Err-clause-does g c = grind (arith, common_steps)
 
 pub returns-in-Ok-clause-does : goal.returns-in-Ok-clause-does
 returns-in-Ok-clause-does g c = grind (arith, common_steps)
+
+pub returns-in-Err-clause-fails : goal.returns-in-Err-clause-fails
+returns-in-Err-clause-fails g c = grind (arith, common_steps)
+
+pub returns-in-Ok-clause-fails : goal.returns-in-Ok-clause-fails
+returns-in-Ok-clause-fails g c = grind (arith, common_steps)

@@ -8,3 +8,18 @@ returns-in-Err-clause-does g c = grind (arith, common_steps)
 
 pub returns-then-is_some-clause-does : goal.returns-then-is_some-clause-does
 returns-then-is_some-clause-does g c = grind (arith, common_steps)
+
+pub returns-in-Ok-clause-does : goal.returns-in-Ok-clause-does
+returns-in-Ok-clause-does g c = grind (arith, common_steps)
+
+pub returns-in-Err-clause-acts : goal.returns-in-Err-clause-acts
+returns-in-Err-clause-acts g c = grind (arith, common_steps)
+
+pub returns-in-Ok-clause-acts : goal.returns-in-Ok-clause-acts
+returns-in-Ok-clause-acts g c = grind (arith, common_steps)
+
+pub invariant_of-self-in-Err : goal.invariant_of-self-in-Err
+invariant_of-self-in-Err g c = grind (arith, common_steps)
+
+pub returns-then-is_some-clause-acts : goal.returns-then-is_some-clause-acts
+returns-then-is_some-clause-acts g c = grind (arith, common_steps)

@@ -5,3 +5,9 @@ use Rattle.disk_files.proofs.disk_bench.DiskBenchBench.cells_read.Goals as goal
 
 pub returns-clause-does : goal.returns-clause-does
 returns-clause-does g c = grind (arith, common_steps)
+
+pub returns-then-cells_at_hand-clause-does : goal.returns-then-cells_at_hand-clause-does
+returns-then-cells_at_hand-clause-does g c = grind (arith, common_steps)
+
+pub returns-then-cells_at_hand-clause-acts : goal.returns-then-cells_at_hand-clause-acts
+returns-then-cells_at_hand-clause-acts g c = grind (arith, common_steps)

@@ -57,3 +57,9 @@ returns-in-Err-clause-acts g c = grind (arith, common_steps)
 
 pub returns-then-is_err-clause-acts : goal.returns-then-is_err-clause-acts
 returns-then-is_err-clause-acts g c = grind (arith, common_steps)
+
+pub invariant_of-self-in-Err : goal.invariant_of-self-in-Err
+invariant_of-self-in-Err g c = grind (arith, common_steps)
+
+pub write_all-requires-clause-at : goal.write_all-requires-clause-at
+write_all-requires-clause-at g c = grind (arith, common_steps)

@@ -1,12 +1,16 @@
 -- `MemoryDisk::end_range`: that it keeps its contract.
 use Rattle.std.proofs.lemmas.Grind.{common_steps}
-use Rattle.std.proofs.Common.{◌≡◌, ◌≤◌, ◌+◌, ◌-◌, ◌∙◌, ap, sym, subst, arith, ℕ, List, length, take, drop, Option, Some}
+use Rattle.std.proofs.Common.{◌≡◌, ◌≤◌, ◌+◌, ◌-◌, ◌∙◌, ap, sym, subst, arith, ℕ, List, length, take, drop, Option, Some, None, vec_len}
 use Rattle.std.specs.Prelude.{IfSome}
+use Rattle.std.specs.Option.{ForSome}
 use Rattle.bench_model.specs.Calls.{written}
 use Rattle.bench_model.specs.State.{SameOutside}
 use Rattle.disk_files.specs.Memory.{outside_of}
 use Rattle.disk_files.proofs.DiskLemmas.{range_written, differs_closed}
 use Rattle.disk_files.proofs.memory_disk.MemoryDisk.end_range.Goals as goal
+
+in_no_range : (P : ℕ × ℕ → Type 0) → ForSome None P
+in_no_range P = λ x is. cc
 
 pub invariant_of-self : goal.invariant_of-self
 invariant_of-self g c =
@@ -31,7 +35,7 @@ invariant_of-self g c =
           (ap (λ (n : ℕ). take n (drop c.in-Some.at c.deref.result.now)) size ∙
           ap (λ (l : List ℕ). take c.in-Some.len (drop c.in-Some.at l)) c.deref.ensures.value)));
       long = m.long ∙ sym c.cells_settle.ensures.does.count;
-      fits = λ x is. cc;
+      fits = in_no_range (λ (r : ℕ × ℕ). r.0 + r.1 ≤ vec_len m.bytes);
     }
 
 pub returns-in-Err-clause-does : goal.returns-in-Err-clause-does
@@ -45,3 +49,12 @@ returns-in-Ok-clause-does g c = grind (arith, common_steps)
 
 pub returns-in_default-clause-does : goal.returns-in_default-clause-does
 returns-in_default-clause-does g c = grind (arith, common_steps)
+
+pub returns-in-Ok-clause-fails : goal.returns-in-Ok-clause-fails
+returns-in-Ok-clause-fails g c = grind (arith, common_steps)
+
+pub returns-in_default-clause-fails : goal.returns-in_default-clause-fails
+returns-in_default-clause-fails g c = grind (arith, common_steps)
+
+pub cells_settle-requires : goal.cells_settle-requires
+cells_settle-requires g c = grind (arith, common_steps)

@@ -14,3 +14,6 @@ returns-then-from-len-clause-does c = grind (arith, common_steps)
 
 pub returns-clause-fails : goal.returns-clause-fails
 returns-clause-fails c = grind (arith, common_steps)
+
+pub copy_from_slice-requires : goal.copy_from_slice-requires
+copy_from_slice-requires c = grind (arith, common_steps)

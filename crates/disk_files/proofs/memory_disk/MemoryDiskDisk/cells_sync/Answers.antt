@@ -5,3 +5,6 @@ use Rattle.disk_files.proofs.memory_disk.MemoryDiskDisk.cells_sync.Goals as goal
 
 pub returns-clause-does : goal.returns-clause-does
 returns-clause-does c = grind (arith, common_steps)
+
+pub returns-clause-fails : goal.returns-clause-fails
+returns-clause-fails c = grind (arith, common_steps)

@@ -5,3 +5,6 @@ use Rattle.disk_files.proofs.memory_disk.MemoryDiskDisk.job_len.Goals as goal
 
 pub returns-in-Err-clause-fails : goal.returns-in-Err-clause-fails
 returns-in-Err-clause-fails c = grind (arith, common_steps)
+
+pub returns-in-Ok-clause-fails : goal.returns-in-Ok-clause-fails
+returns-in-Ok-clause-fails c = grind (arith, common_steps)

@@ -8,3 +8,6 @@ returns-in-Ok-clause-writes c = grind (arith, common_steps)
 
 pub returns-in-Err-clause-fails : goal.returns-in-Err-clause-fails
 returns-in-Err-clause-fails c = grind (arith, common_steps)
+
+pub returns-in-Ok-clause-fails : goal.returns-in-Ok-clause-fails
+returns-in-Ok-clause-fails c = grind (arith, common_steps)

@@ -11,3 +11,12 @@ returns-in-Err-clause-fails c = grind (arith, common_steps)
 
 pub returns-then-len-count-clause-fails : goal.returns-then-len-count-clause-fails
 returns-then-len-count-clause-fails c = grind (arith, common_steps)
+
+pub returns-in-Ok-clause-fails : goal.returns-in-Ok-clause-fails
+returns-in-Ok-clause-fails c = grind (arith, common_steps)
+
+pub returns-in-Ok-clause-does : goal.returns-in-Ok-clause-does
+returns-in-Ok-clause-does c = grind (arith, common_steps)
+
+pub returns-in-Err-clause-does : goal.returns-in-Err-clause-does
+returns-in-Err-clause-does c = grind (arith, common_steps)

@@ -14,3 +14,6 @@ loop-piece-preserved g c =
 
 pub returns : goal.returns
 returns g c = grind (arith, common_steps)
+
+pub loop-piece-init : goal.loop-piece-init
+loop-piece-init g c = grind (arith, common_steps)

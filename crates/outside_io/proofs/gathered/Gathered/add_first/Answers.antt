@@ -5,3 +5,6 @@ use Rattle.outside_io.proofs.gathered.Gathered.add_first.Goals as goal
 
 pub returns-then-is_ok : goal.returns-then-is_ok
 returns-then-is_ok g c = grind (arith, common_steps)
+
+pub returns : goal.returns
+returns g c = grind (arith, common_steps)

@@ -5,3 +5,6 @@ use Rattle.stream_files.proofs.memory_source.MemorySourceSource.open.Goals as go
 
 pub returns-else-eq-clause-fails : goal.returns-else-eq-clause-fails
 returns-else-eq-clause-fails c = grind (arith, common_steps)
+
+pub returns-then-eq-clause-fails : goal.returns-then-eq-clause-fails
+returns-then-eq-clause-fails c = grind (arith, common_steps)

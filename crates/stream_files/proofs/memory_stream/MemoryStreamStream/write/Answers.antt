@@ -8,3 +8,9 @@ returns-in-Err-clause-fails c = grind (arith, common_steps)
 
 pub returns-then-not-is_empty-clause-fails : goal.returns-then-not-is_empty-clause-fails
 returns-then-not-is_empty-clause-fails c = grind (arith, common_steps)
+
+pub returns-in-Ok-clause-fails : goal.returns-in-Ok-clause-fails
+returns-in-Ok-clause-fails c = grind (arith, common_steps)
+
+pub returns-then-self-gt0-clause-fails : goal.returns-then-self-gt0-clause-fails
+returns-then-self-gt0-clause-fails c = grind (arith, common_steps)

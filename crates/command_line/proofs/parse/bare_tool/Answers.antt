@@ -1,0 +1,7 @@
+-- `bare_tool`: that it keeps its contract.
+use Rattle.std.proofs.Common.{arith}
+use Rattle.std.proofs.lemmas.Grind.{common_steps}
+use Rattle.command_line.proofs.parse.bare_tool.Goals as goal
+
+pub returns : goal.returns
+returns c = grind (arith, common_steps)

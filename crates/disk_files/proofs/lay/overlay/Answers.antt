@@ -1,0 +1,7 @@
+-- `overlay`: that it keeps its contract.
+use Rattle.std.proofs.Common.{arith}
+use Rattle.std.proofs.lemmas.Grind.{common_steps}
+use Rattle.disk_files.proofs.lay.overlay.Goals as goal
+
+pub returns : goal.returns
+returns c = grind (arith, common_steps)

@@ -1,0 +1,7 @@
+-- `job_write_at`: that it keeps its contract.
+use Rattle.std.proofs.Common.{arith}
+use Rattle.std.proofs.lemmas.Grind.{common_steps}
+use Rattle.host_files.proofs.host_disk.HostDiskDisk.job_write_at.Goals as goal
+
+pub returns-clause-does : goal.returns-clause-does
+returns-clause-does c = grind (arith, common_steps)

@@ -1,0 +1,7 @@
+-- `open_range`: that it keeps its contract.
+use Rattle.std.proofs.Common.{arith}
+use Rattle.std.proofs.lemmas.Grind.{common_steps}
+use Rattle.host_files.proofs.host_disk.HostDiskDisk.open_range.Goals as goal
+
+pub returns-clause-does : goal.returns-clause-does
+returns-clause-does c = grind (arith, common_steps)
