@@ -7,6 +7,7 @@ pub mod RegionLemmas
 pub mod HeadLemmas
 pub mod BodyLemmas
 pub mod RestLemmas
+pub mod TextsLemmas
 pub mod OneTextLemmas
 pub mod ClassLemmas
 pub mod OneClassLemmas

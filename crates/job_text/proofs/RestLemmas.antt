@@ -4,9 +4,12 @@ use Rattle.std.proofs.lemmas.Bool.{lt-ltb, eq-eqb, ne_eqb}
 use Rattle.faults.specs.Results.{◌>>=◌}
 use Rattle.byte_map.specs.Image.{Run}
 use Rattle.board_file.specs.Limits.{size_of}
+use Rattle.job_text.specs.declared.fault.JobFault.{JobFault}
+use Rattle.job_text.specs.declared.fault.JobFault.TheVariants.{OutOfMemory, NotAJob}
 use Rattle.job_text.specs.declared.format.Format.{Format}
 use Rattle.job_text.specs.declared.head.Head.{Head}
-use Rattle.job_text.specs.Reading.{holds_or, Texts, File, files_in, texts_at, runs_at, Found, places_of, rest_at}
+use Rattle.job_text.specs.Reading.{holds_or, Texts, File, files_in, texts_at, runs_at, Found, places_of, rest_at, seen_of}
+use Rattle.job_text.specs.Shown.{Fails}
 use Rattle.job_text.proofs.Steps.{bind_is, holds}
 
 abbrev pub found_of : Format → Texts → List Run → List ℕ → Found
@@ -64,6 +67,16 @@ pub rest_runless : (d : ℕ) (format : Format) (h : Head) (bytes : List ℕ) (t 
 rest_runless d format h bytes t rest read sized none =
     rest_sized d format h bytes t rest read sized
     ∙ ap (λ (n : ℕ). holds_or (places_of format).runs (ltb 0 n) >>= λ some. runs_behind d format h (t, rest)) none
+
+-- and the runs fail
+pub rest_runs_fail : (d : ℕ) (format : Format) (h : Head) (bytes : List ℕ) (t : Texts) (rest : List ℕ) (e : JobFault) → AreRead d format h bytes t rest
+    → h.cells ≡ size_of t.board.regions → 1 ≤ h.runs → Fails e (runs_at d t.board.regions h.runs 0 rest) → Fails e (seen_of d (rest_at d format h bytes))
+rest_runs_fail d format h bytes t rest OutOfMemory read sized some fails = tt
+rest_runs_fail d format h bytes t rest (NotAJob at) read sized some fails = ap (seen_of d) (
+    rest_sized d format h bytes t rest read sized
+    ∙ bind_is (holds_or (places_of format).runs (ltb 0 h.runs)) (λ some. runs_behind d format h (t, rest)) tt
+    (holds (places_of format).runs (ltb 0 h.runs) (lt-ltb _ _ some))
+    ∙ ap (λ (r : Result (List Run × List ℕ) ℕ). r >>= ends_behind d format h t) fails)
 
 -- and the runs were read
 pub record RunsAre (d : ℕ) (format : Format) (h : Head) (bytes : List ℕ) (t : Texts) (rest : List ℕ) (image : List Run) (end : List ℕ) : Type 0 where

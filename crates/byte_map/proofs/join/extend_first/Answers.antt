@@ -1,5 +1,6 @@
 -- `extend_first`: its clause `ok`, and what `append` asks for.
 use Rattle.std.proofs.Common.{ℕ, ◌+◌, ◌-◌, ◌∙◌, ◌++◌, List, take, drop, refl, ap, arith, length}
+use Rattle.std.proofs.lemmas.Grind.{common_steps}
 use Rattle.byte_map.specs.Image.{Run, run_at, end_of}
 use Rattle.byte_map.specs.Joining.{back_of}
 use Rattle.byte_map.proofs.Grown.{lays_first, append_fits}
@@ -23,3 +24,12 @@ returns-clause-ok c =
     ap (λ (n : ℕ). back_of c.get.result.now (n + length c.args.bytes.now)) c.from.ensures)
     refl
     (c.remove.ensures ∙ ap (λ (rs : List Run). take (c.args.first + 1) rs ++ drop c.args.last rs) c.in_ok-append.ensures.ok)
+
+pub slice_bounds-append-count : goal.slice_bounds-append-count
+slice_bounds-append-count c = grind (arith, common_steps)
+
+pub remove-requires-clause-within : goal.remove-requires-clause-within
+remove-requires-clause-within c = grind (arith, common_steps)
+
+pub slice_bounds-append-start : goal.slice_bounds-append-start
+slice_bounds-append-start c = grind (arith, common_steps)

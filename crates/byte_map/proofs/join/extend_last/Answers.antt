@@ -1,5 +1,6 @@
 -- `extend_last`: its clause `ok`.
-use Rattle.std.proofs.Common.{ℕ, ◌-◌, ◌∙◌, ◌++◌, List, take, drop, refl, ap}
+use Rattle.std.proofs.Common.{ℕ, ◌-◌, ◌∙◌, ◌++◌, List, take, drop, refl, ap, arith}
+use Rattle.std.proofs.lemmas.Grind.{common_steps}
 use Rattle.byte_map.specs.Image.{Run, run_at}
 use Rattle.byte_map.proofs.Grown.{lays_last}
 use Rattle.byte_map.proofs.join.extend_last.Goals as goal
@@ -14,3 +15,15 @@ returns-clause-ok c =
     refl
     refl
     (c.remove.ensures ∙ ap (λ (rs : List Run). take c.args.first rs ++ drop (c.args.last - 1) rs) c.in_ok-prepend.ensures.ok)
+
+pub prepend-requires-clause-fits : goal.prepend-requires-clause-fits
+prepend-requires-clause-fits c = grind (arith, common_steps)
+
+pub slice_bounds-prepend-end : goal.slice_bounds-prepend-end
+slice_bounds-prepend-end c = grind (arith, common_steps)
+
+pub remove-requires-clause-within : goal.remove-requires-clause-within
+remove-requires-clause-within c = grind (arith, common_steps)
+
+pub overflow_sub-uncovered : goal.overflow_sub-uncovered
+overflow_sub-uncovered c = grind (arith, common_steps)

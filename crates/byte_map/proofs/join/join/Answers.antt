@@ -1,5 +1,6 @@
 -- `join`: its clause `ok`, and what `extend_first` and `extend_last` ask for.
 use Rattle.std.proofs.Common.{◌≡◌, ◌-◌, ◌^◌, ℕ, ap, arith}
+use Rattle.std.proofs.lemmas.Grind.{common_steps}
 use Rattle.byte_map.specs.Image.{Run, run_at, end_of}
 use Rattle.byte_map.proofs.Runs.{rising, at_rises, end_rises}
 use Rattle.byte_map.proofs.Grown.{lays_nothing}
@@ -44,3 +45,24 @@ extend_last-requires-in-false-true-clause-begins c =
     (omega (arith, touch.ordered, touch.within)) in
     let at = ap (λ (r : Run). r.at) c.get.ensures in
     omega (arith, up, at, c.at-front.ensures)
+
+pub extend_first-requires-in-true-false-clause-begins : goal.extend_first-requires-in-true-false-clause-begins
+extend_first-requires-in-true-false-clause-begins c = grind (arith, common_steps)
+
+pub put_apart-requires : goal.put_apart-requires
+put_apart-requires c = grind (arith, common_steps)
+
+pub extend_first-requires-clause-begins : goal.extend_first-requires-clause-begins
+extend_first-requires-clause-begins c = grind (arith, common_steps)
+
+pub cover-requires-clause-begins : goal.cover-requires-clause-begins
+cover-requires-clause-begins c = grind (arith, common_steps)
+
+pub extend_last-requires-in-false-true-clause-ends : goal.extend_last-requires-in-false-true-clause-ends
+extend_last-requires-in-false-true-clause-ends c = grind (arith, common_steps)
+
+pub cover-requires-clause-ends : goal.cover-requires-clause-ends
+cover-requires-clause-ends c = grind (arith, common_steps)
+
+pub extend_last-requires-clause-ends : goal.extend_last-requires-clause-ends
+extend_last-requires-clause-ends c = grind (arith, common_steps)

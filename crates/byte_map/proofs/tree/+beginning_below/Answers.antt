@@ -1,6 +1,7 @@
 -- `+beginning_below`: that it keeps its contract, `IsCut`.
 use Rattle.std.proofs.Common.{◌≡◌, ◌≤◌, ◌-◌, ◌^◌, ◌∙◌, ℕ, [], ◌++◌, length, arith, rules, subst, ap}
 use Rattle.std.proofs.lemmas.List.{get_or_default}
+use Rattle.std.proofs.lemmas.Grind.{common_steps}
 use Rattle.byte_map.specs.Image.{Run, run_at, AreMaximal}
 use Rattle.byte_map.specs.Tree.{runs_of}
 use Rattle.byte_map.proofs.Runs.{at_rises}
@@ -79,3 +80,9 @@ beginning_below-requires-then-is_empty t c = grind (arith, cuts)
 
 pub beginning_below-requires : goal.beginning_below-requires
 beginning_below-requires t c = grind (arith, cuts)
+
+pub index-requires-else-from-address : goal.index-requires-else-from-address
+index-requires-else-from-address t c = grind (arith, common_steps)
+
+pub beginning_in-requires : goal.beginning_in-requires
+beginning_in-requires t c = grind (arith, cuts)

@@ -1,6 +1,7 @@
 -- `+ending_below`: that it keeps its contract, `IsCut`.
 use Rattle.std.proofs.Common.{◌≡◌, ◌≤◌, ◌-◌, ◌^◌, ◌∙◌, ℕ, [], ◌++◌, length, arith, rules, subst, ap}
 use Rattle.std.proofs.lemmas.List.{get_or_default}
+use Rattle.std.proofs.lemmas.Grind.{common_steps}
 use Rattle.byte_map.specs.Image.{Run, run_at, end_of, AreMaximal}
 use Rattle.byte_map.specs.Tree.{runs_of}
 use Rattle.byte_map.proofs.Runs.{end_rises}
@@ -78,3 +79,9 @@ ending_below-requires-then-is_empty t c = grind (arith, cuts)
 
 pub ending_below-requires : goal.ending_below-requires
 ending_below-requires t c = grind (arith, cuts)
+
+pub index-requires-else-end-address : goal.index-requires-else-end-address
+index-requires-else-end-address t c = grind (arith, common_steps)
+
+pub ending_in-requires : goal.ending_in-requires
+ending_in-requires t c = grind (arith, cuts)

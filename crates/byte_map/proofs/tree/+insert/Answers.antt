@@ -68,3 +68,12 @@ returns-then-index-before-clause-ok t c = grind (arith, common_steps)
 
 pub put_before-requires : goal.put_before-requires
 put_before-requires t c = grind (arith, sides)
+
+pub invariant_of-node : goal.invariant_of-node
+invariant_of-node t c = grind (arith, common_steps)
+
+pub invariant_of-node-in-Break-branch-3 : goal.invariant_of-node-in-Break-branch-3
+invariant_of-node-in-Break-branch-3 t c = grind (arith, common_steps)
+
+pub invariant_of-node-in-Break-branch-2 : goal.invariant_of-node-in-Break-branch-2
+invariant_of-node-in-Break-branch-2 t c = grind (arith, common_steps)

@@ -1,5 +1,6 @@
 -- `+put_first`: that it keeps its contract.
 use Rattle.std.proofs.Common.{arith}
+use Rattle.std.proofs.lemmas.Grind.{common_steps}
 use Rattle.byte_map.proofs.Sides.{sides}
 use Rattle.byte_map.proofs.tree.+put_first.Goals as goal
 
@@ -11,3 +12,6 @@ overflow_add-node t c = grind (arith, sides)
 
 pub invariant_of-node : goal.invariant_of-node
 invariant_of-node t c = grind (arith, sides)
+
+pub returns : goal.returns
+returns t c = grind (arith, common_steps)

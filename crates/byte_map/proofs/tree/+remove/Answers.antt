@@ -1,5 +1,6 @@
 -- `+remove`: that it keeps its contract, and what `remove` asks for.
 use Rattle.std.proofs.Common.{arith}
+use Rattle.std.proofs.lemmas.Grind.{common_steps}
 use Rattle.byte_map.proofs.Sides.{sides}
 use Rattle.byte_map.proofs.tree.+remove.Goals as goal
 
@@ -20,3 +21,6 @@ returns-then-len-place t c = grind (arith, sides)
 
 pub returns-then-index-before : goal.returns-then-index-before
 returns-then-index-before t c = grind (arith, sides)
+
+pub overflow_sub-node-then-len-place : goal.overflow_sub-node-then-len-place
+overflow_sub-node-then-len-place t c = grind (arith, common_steps)

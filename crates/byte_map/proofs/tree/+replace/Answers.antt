@@ -1,5 +1,6 @@
 -- `+replace`: that it keeps its contract, and what `replace` asks for.
 use Rattle.std.proofs.Common.{arith}
+use Rattle.std.proofs.lemmas.Grind.{common_steps}
 use Rattle.byte_map.proofs.Sides.{resets}
 use Rattle.byte_map.proofs.tree.+replace.Goals as goal
 
@@ -14,3 +15,12 @@ returns-then-len-place t c = grind (arith, resets)
 
 pub returns-then-index-before : goal.returns-then-index-before
 returns-then-index-before t c = grind (arith, resets)
+
+pub invariant_of-node-then-len-place : goal.invariant_of-node-then-len-place
+invariant_of-node-then-len-place t c = grind (arith, common_steps)
+
+pub invariant_of-node-2 : goal.invariant_of-node-2
+invariant_of-node-2 t c = grind (arith, common_steps)
+
+pub invariant_of-node : goal.invariant_of-node
+invariant_of-node t c = grind (arith, common_steps)

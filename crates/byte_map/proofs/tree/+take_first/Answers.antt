@@ -1,5 +1,6 @@
 -- `+take_first`: that it keeps its contract, and that no number overflows.
 use Rattle.std.proofs.Common.{arith}
+use Rattle.std.proofs.lemmas.Grind.{common_steps}
 use Rattle.byte_map.proofs.Sides.{sides}
 use Rattle.byte_map.proofs.tree.+take_first.Goals as goal
 
@@ -11,3 +12,6 @@ returns t c = grind (arith, sides)
 
 pub overflow_sub-node : goal.overflow_sub-node
 overflow_sub-node t c = grind (arith, sides)
+
+pub invariant_of-node : goal.invariant_of-node
+invariant_of-node t c = grind (arith, common_steps)

@@ -1,5 +1,6 @@
 -- `raise_right`: that it keeps its contract.
 use Rattle.std.proofs.Common.{arith}
+use Rattle.std.proofs.lemmas.Grind.{common_steps}
 use Rattle.byte_map.proofs.Sides.{sides}
 use Rattle.byte_map.proofs.tree.raise_right.Goals as goal
 
@@ -14,3 +15,6 @@ overflow_add-lowered c = grind (arith, sides)
 
 pub returns : goal.returns
 returns c = grind (arith, sides)
+
+pub invariant_of-lowered : goal.invariant_of-lowered
+invariant_of-lowered c = grind (arith, common_steps)

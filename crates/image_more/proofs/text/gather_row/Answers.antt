@@ -1,5 +1,6 @@
 -- `gather_row`: its contract, `Gathers`.
-use Rattle.std.proofs.Common.{◌∙◌, ◌/◌, ◌%◌, [], ◌∷◌, sym, ap}
+use Rattle.std.proofs.Common.{◌∙◌, ◌/◌, ◌%◌, [], ◌∷◌, sym, ap, arith}
+use Rattle.std.proofs.lemmas.Grind.{common_steps}
 use Rattle.byte_map.specs.Image.{Run}
 use Rattle.image_more.specs.declared.form.RowForm.{RowForm}
 use Rattle.image_more.specs.Texts.{hex_line, upper_lines, row_lines, text_of}
@@ -23,3 +24,6 @@ returns-in_err-gather_upper-in-Hex g c =
     (gathers_as
     (text-both (upper_lines c.in-Hex.upper (c.args.at / 65536)) last ∙ ap (λ (form : RowForm). text_of (row_lines form row)) (sym c.in-Hex.is))
     (gathers_stops (text_of last) c.in_err-gather_upper-in-Hex.ensures))
+
+pub returns-in-Srec : goal.returns-in-Srec
+returns-in-Srec g c = grind (arith, common_steps)

@@ -36,3 +36,9 @@ loop-from-preserved g c =
 
 pub returns-clause-text : goal.returns-clause-text
 returns-clause-text g c = grind (arith, common_steps)
+
+pub returns-clause-known : goal.returns-clause-known
+returns-clause-known g c = grind (arith, common_steps)
+
+pub loop-from-init : goal.loop-from-init
+loop-from-init g c = grind (arith, common_steps)

@@ -1,5 +1,6 @@
 -- `read_uf2`: its clause `err`, and that its loop keeps what it has to.
 use Rattle.std.proofs.Common.{arith}
+use Rattle.std.proofs.lemmas.Grind.{common_steps}
 use Rattle.image_more.specs.Uf2.{runs_before}
 use Rattle.image_more.proofs.Uf2Lemmas.{block_more, no_block, block_refused}
 use Rattle.image_more.proofs.uf2.read_uf2.Goals as goal
@@ -12,3 +13,9 @@ loop-index-preserved c =
 
 pub returns-in_err-lay_block-clause-err : goal.returns-in_err-lay_block-clause-err
 returns-in_err-lay_block-clause-err c = grind (arith, no_block, block_refused)
+
+pub returns-clause-ok : goal.returns-clause-ok
+returns-clause-ok c = grind (arith, common_steps)
+
+pub loop-index-init : goal.loop-index-init
+loop-index-init c = grind (arith, common_steps)

@@ -2,6 +2,7 @@
 use Rattle.std.proofs.Common.{◌≡◌, ◌<◌, ◌+◌, ℕ, List, true, false, length, refl, sym, subst, arith}
 use Rattle.std.proofs.lemmas.Bool.{eq-eqb, ne_eqb}
 use Rattle.std.proofs.lemmas.Result.{err_from_is_err_and}
+use Rattle.std.proofs.lemmas.Grind.{common_steps}
 use Rattle.byte_map.specs.Laying.{Lays}
 use Rattle.elf32.specs.Format.{e_phnum, segment_at}
 use Rattle.image_set.specs.Segments.{is_loaded, piece_at, is_cut_at, IsImageBefore, IsSegmentFault}
@@ -52,3 +53,6 @@ returns-in_err-lay_segment-clause-err c =
     let refused = subst (λ (b : List ℕ). IsSegmentFault b index c.loop-index.map fault) same c.in_err-lay_segment.ensures.err in
     let p = err_from_is_err_and c.from_residual.result c.from_residual.ensures.1 in
     rw (p.1, p.2) (elf_refused bytes index c.loop-index.map fault c.in-Ok.ensures.good inside loaded c.loop-index.invariant.0 refused)
+
+pub returns-in-Err : goal.returns-in-Err
+returns-in-Err c = grind (arith, common_steps)

@@ -1,6 +1,7 @@
 -- `lay_next`: its clauses `ok` and `refused`, and that no number overflows.
 use Rattle.std.proofs.Common.{◌-◌, ◌^◌, take, sym, subst, arith}
 use Rattle.std.proofs.lemmas.Result.{err_from_is_err_and}
+use Rattle.std.proofs.lemmas.Grind.{common_steps}
 use Rattle.byte_map.proofs.Runs.{few_runs}
 use Rattle.image_set.specs.Union.{IsUnionFault}
 use Rattle.image_set.proofs.UnionLemmas.{union_swap, old_fault, new_fault, united_old, united_new}
@@ -37,3 +38,9 @@ pub returns-in_ok-lay_run-clause-ok : goal.returns-in_ok-lay_run-clause-ok
 returns-in_ok-lay_run-clause-ok c =
     united_new c.args.image.now c.args.other.now c.args.index c.args.old c.args.union.now c.lay_run-else-comes_first.new.union c.requires.maximal.1
     (c.comes_first.ensures.new c.if-comes_first.false) c.requires.united c.in_ok-lay_run.ensures.ok
+
+pub lay_run-requires : goal.lay_run-requires
+lay_run-requires c = grind (arith, common_steps)
+
+pub lay_run-requires-else-comes_first : goal.lay_run-requires-else-comes_first
+lay_run-requires-else-comes_first c = grind (arith, common_steps)

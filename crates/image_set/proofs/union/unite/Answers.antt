@@ -1,5 +1,6 @@
 -- `unite`: that its loop keeps what it has to, and that no number overflows.
 use Rattle.std.proofs.Common.{◌^◌, arith}
+use Rattle.std.proofs.lemmas.Grind.{common_steps}
 use Rattle.byte_map.proofs.Runs.{few_runs}
 use Rattle.image_set.proofs.UnionLemmas.{united_none}
 use Rattle.image_set.proofs.union.unite.Goals as goal
@@ -16,3 +17,6 @@ overflow_add-index-end c =
 
 pub loop-index-init : goal.loop-index-init
 loop-index-init c = united_none c.args.image.now c.args.other.now _ c.new-union.ensures
+
+pub returns-clause-ok : goal.returns-clause-ok
+returns-clause-ok c = grind (arith, common_steps)

@@ -1,6 +1,7 @@
 -- `begin`: its clauses `ok`, `stops`, `after`, `unopened`, `store` and `device`.
 use Rattle.std.proofs.Common.{⊎_elim, inl, ◌≡◌, ◌++◌, ◌∷◌, ℕ, List, length, sym, refl, subst, arith, None, OnOk}
 use Rattle.std.proofs.lemmas.Result.{err_from_is_err_and}
+use Rattle.std.proofs.lemmas.Grind.{common_steps}
 use Rattle.bench_model.specs.History.{LeftOnly, left}
 use Rattle.bench_model.specs.State.{file_half}
 use Rattle.bench_model.proofs.Moments.{leaves_left}
@@ -83,3 +84,30 @@ returns-clause-store g c = counted_behind c.in_ok-head.ensures.counted c.drop_an
 
 pub returns-clause-device : goal.returns-clause-device
 returns-clause-device g c = counted_behind (none_counted _ _ c.prepare.ensures.reads.cells.faults) c.drop_and_put.ensures.device
+
+pub returns-clause-same : goal.returns-clause-same
+returns-clause-same g c = grind (arith, common_steps)
+
+pub returns-clause-looked : goal.returns-clause-looked
+returns-clause-looked g c = λ told other. absurd (other ((c.in_ok-head.ensures.free told).0, c.in_ok-head.ensures.sized refl))
+
+pub returns-clause-refused : goal.returns-clause-refused
+returns-clause-refused g c = grind (arith, common_steps)
+
+pub returns-clause-sound : goal.returns-clause-sound
+returns-clause-sound g c = grind (arith, common_steps)
+
+pub returns-clause-free : goal.returns-clause-free
+returns-clause-free g c = grind (arith, common_steps)
+
+pub returns-clause-sized : goal.returns-clause-sized
+returns-clause-sized g c = λ is. c.in_ok-head.ensures.sized refl
+
+pub returns-clause-cells : goal.returns-clause-cells
+returns-clause-cells g c = grind (arith, common_steps)
+
+pub drop_and_put-requires-clause-free : goal.drop_and_put-requires-clause-free
+drop_and_put-requires-clause-free g c = λ told. subst (λ (f : List ℕ). IsFree f) (sym (c.prepare.ensures.reads.file told)) (c.in_ok-head.ensures.free told).0
+
+pub returns-clause-reads : goal.returns-clause-reads
+returns-clause-reads g c = grind (arith, common_steps)

@@ -1,6 +1,7 @@
 -- `drop_and_put`: its clauses `unopened`, `ok` and `stops`.
-use Rattle.std.proofs.Common.{rules, ◌≡◌, ◌∙◌, ◌++◌, ◌∷◌, ℕ, List, None, inl, inr, Err, OnOk, sym, subst}
+use Rattle.std.proofs.Common.{rules, ◌≡◌, ◌∙◌, ◌++◌, ◌∷◌, ℕ, List, None, inl, inr, Err, OnOk, sym, subst, arith}
 use Rattle.std.proofs.lemmas.Result.{on_ok_weaker}
+use Rattle.std.proofs.lemmas.Grind.{common_steps}
 use Rattle.bench_model.specs.History.{LeftOnly}
 use Rattle.bench_model.specs.State.{file_half}
 use Rattle.bench_model.proofs.Moments.{leaves_as, leaves_then, stays_leaves, stays_adds_nothing}
@@ -44,3 +45,18 @@ returns-clause-stops g c = λ told.
     (leaves_as (IsFreeOrWhole (with_hash (front ++ m.cells))) P
     (λ f either. inr (subst (λ (cells : List ℕ). IsFreeOrWhole (with_hash (front ++ cells)) f) (sym (c.put_job.ensures.cells.cells told)) either))
     (c.put_job.ensures.moments told))
+
+pub returns-clause-device : goal.returns-clause-device
+returns-clause-device g c = grind (arith, common_steps)
+
+pub returns-clause-same : goal.returns-clause-same
+returns-clause-same g c = grind (arith, common_steps)
+
+pub put_job-requires-clause-free : goal.put_job-requires-clause-free
+put_job-requires-clause-free g c = grind (arith, common_steps)
+
+pub returns-clause-cells : goal.returns-clause-cells
+returns-clause-cells g c = grind (arith, common_steps)
+
+pub returns-clause-store : goal.returns-clause-store
+returns-clause-store g c = grind (arith, common_steps)

@@ -28,3 +28,9 @@ returns-clause-store g c = none_counted _ _ (c.in_ok-file_write.ensures.does.cau
 
 pub returns-clause-device : goal.returns-clause-device
 returns-clause-device g c = none_counted _ _ (c.file_write.ensures.does.cells.faults ∙ c.in_ok-cells_read.ensures.does.cause.on_ok refl)
+
+pub file_write-requires : goal.file_write-requires
+file_write-requires g c = grind (arith, common_steps)
+
+pub returns-clause-cells : goal.returns-clause-cells
+returns-clause-cells g c = grind (arith, common_steps)

@@ -92,3 +92,18 @@ returns-clause-store g c = none_counted _ _ c.loop-at.invariant.store
 
 pub returns-clause-device : goal.returns-clause-device
 returns-clause-device g c = none_counted _ _ c.loop-at.invariant.device
+
+pub hash_front-hasher-requires-clause-long : goal.hash_front-hasher-requires-clause-long
+hash_front-hasher-requires-clause-long g c = grind (arith, common_steps)
+
+pub loop-at-smaller : goal.loop-at-smaller
+loop-at-smaller g c = grind (arith, common_steps)
+
+pub slice_bounds-copy_cells-length : goal.slice_bounds-copy_cells-length
+slice_bounds-copy_cells-length g c = grind (arith, common_steps)
+
+pub put_front-requires-clause-end : goal.put_front-requires-clause-end
+put_front-requires-clause-end g c = grind (arith, common_steps)
+
+pub copy_cells-requires-clause-range : goal.copy_cells-requires-clause-range
+copy_cells-requires-clause-range g c = grind (arith, common_steps)

@@ -1,5 +1,6 @@
 -- `class_of_job`: its clause `class`.
-use Rattle.std.proofs.Common.{◌∙◌, ℕ, length, drop, ap, subst}
+use Rattle.std.proofs.Common.{◌∙◌, ℕ, length, drop, ap, subst, arith}
+use Rattle.std.proofs.lemmas.Grind.{common_steps}
 use Rattle.job_text.specs.declared.format.Format.{Format}
 use Rattle.job_text.specs.Reading.{job_as}
 use Rattle.job_text.proofs.ClassLemmas.{not_as}
@@ -22,3 +23,12 @@ returns-in-Err-NotAJob-clause-class g c = λ told.
     (ap (λ (f : Format). job_as (length file) f (drop 1 file)) (c.requires.format told)
     ∙ ap (λ (n : ℕ). job_as n c.args.format (drop 1 file)) (c.requires.told told)
     ∙ subst (λ (e : ReadFault). Fails e (job_as c.args.whole c.args.format (drop 1 file))) c.in-Err-NotAJob.field-0-is (c.in-Err-NotAJob.ensures.err told))
+
+pub returns-in-Err-OutOfMemory-clause-counted : goal.returns-in-Err-OutOfMemory-clause-counted
+returns-in-Err-OutOfMemory-clause-counted g c = grind (arith, common_steps)
+
+pub returns-in-Err-NotAJob-clause-counted : goal.returns-in-Err-NotAJob-clause-counted
+returns-in-Err-NotAJob-clause-counted g c = grind (arith, common_steps)
+
+pub returns-in-Err-StoreFault-clause-counted : goal.returns-in-Err-StoreFault-clause-counted
+returns-in-Err-StoreFault-clause-counted g c = grind (arith, common_steps)

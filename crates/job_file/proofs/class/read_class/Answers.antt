@@ -2,7 +2,9 @@
 use Rattle.std.proofs.Common.{◌∙◌, true, ℕ, List, Bool, length, ap, subst, sym}
 use Rattle.std.proofs.lemmas.Result.{IfOk-weaker}
 use Rattle.job_text.specs.Stands.{IsClassOf}
+use Rattle.bench_model.proofs.Moments.{only_reads_then}
 use Rattle.job_file.specs.Readers.{IsGate}
+use Rattle.job_file.proofs.CountLemmas.{counted_behind}
 use Rattle.job_file.proofs.class.read_class.Goals as goal
 
 pub read_opened-requires-clause-told : goal.read_opened-requires-clause-told
@@ -21,3 +23,9 @@ returns-in-Ok-true-clause-class g c = λ told.
 pub returns-in-Ok-false-clause-class : goal.returns-in-Ok-false-clause-class
 returns-in-Ok-false-clause-class g c = λ told. subst (λ (b : Bool). IsGate (g.B.Bench.state c.args.bench.now).file b) c.in-Ok-false.field-0-test
     (c.in-Ok-false.ensures.gives told)
+
+pub returns-in-Ok-true-clause-reads : goal.returns-in-Ok-true-clause-reads
+returns-in-Ok-true-clause-reads g c = only_reads_then c.is_open.ensures.reads c.read_opened.ensures.reads
+
+pub returns-in-Ok-true-clause-counted : goal.returns-in-Ok-true-clause-counted
+returns-in-Ok-true-clause-counted g c = counted_behind c.in-Ok-true.ensures.counted c.read_opened.ensures.counted

@@ -5,6 +5,7 @@ use Rattle.job_text.specs.Reading.{Found, places_of, rest_at}
 use Rattle.bench_model.proofs.Moments.{only_reads_then}
 use Rattle.job_file.specs.Readers.{Fails, IsJobRest}
 use Rattle.job_file.proofs.JobLemmas.{job_head, job_rest, job_body}
+use Rattle.job_file.proofs.CountLemmas.{counted_behind}
 use Rattle.job_file.proofs.class.read_job.Goals as goal
 
 pub read_rest-requires-clause-told : goal.read_rest-requires-clause-told
@@ -35,3 +36,6 @@ returns-in-Err-clause-err g c = λ told. job_head c.args.whole c.args.format (dr
 
 pub returns-in-Ok-clause-reads : goal.returns-in-Ok-clause-reads
 returns-in-Ok-clause-reads g c = only_reads_then c.read_head.ensures.reads c.read_rest.ensures.reads
+
+pub returns-in-Ok-clause-counted : goal.returns-in-Ok-clause-counted
+returns-in-Ok-clause-counted g c = counted_behind c.in-Ok.ensures.counted c.read_rest.ensures.counted

@@ -1,5 +1,6 @@
 -- `read_opened`: its clauses `class`, `reads` and `counted`, and what `find_damage` asks for.
-use Rattle.std.proofs.Common.{◌≡◌, ◌∙◌, ℕ, List, Option, Some, length, drop, ap, subst, sym, refl}
+use Rattle.std.proofs.Common.{◌≡◌, ◌∙◌, ℕ, List, Option, Some, length, drop, ap, subst, sym, refl, arith, true}
+use Rattle.std.proofs.lemmas.Grind.{common_steps}
 use Rattle.job_text.specs.Reading.{format_in, kept_in}
 use Rattle.job_text.specs.declared.damage.Damage.{Damage}
 use Rattle.job_text.specs.Shown.{IsDamage}
@@ -7,7 +8,8 @@ use Rattle.job_text.specs.Stands.{IsFoundDamaged}
 use Rattle.job_text.proofs.ClassLemmas.{damaged_as}
 use Rattle.bench_model.proofs.Moments.{only_reads_then}
 use Rattle.bench_model.proofs.CountLemmas.{none_counted}
-use Rattle.job_file.proofs.CountLemmas.{counted_behind}
+use Rattle.job_file.proofs.CountLemmas.{counted_behind, caused, stayed}
+use Rattle.job_file.specs.Readers.{IsGate}
 use Rattle.job_file.proofs.class.read_opened.Goals as goal
 
 pub find_damage-requires-clause-told : goal.find_damage-requires-clause-told
@@ -41,3 +43,26 @@ returns-in-Ok-None-clause-counted g c = counted_behind (none_counted _ _ (c.in-O
 
 pub returns-in-Ok-Some-clause-counted : goal.returns-in-Ok-Some-clause-counted
 returns-in-Ok-Some-clause-counted g c = none_counted _ _ (c.in-Ok-Some.ensures.cause.on_ok refl ∙ c.in-Ok.ensures.cause.on_ok refl)
+
+pub class_of_job-requires-clause-told : goal.class_of_job-requires-clause-told
+class_of_job-requires-clause-told g c = λ told. ap (λ (l : List ℕ). length l) (c.find_damage.ensures.reads.file told ∙ c.read_format.ensures.reads.file told)
+    ∙ c.requires.told told
+
+pub returns-in-Err-clause-counted : goal.returns-in-Err-clause-counted
+returns-in-Err-clause-counted g c = caused c.in-Err.ensures.cause
+
+pub class_of_job-requires-clause-opened : goal.class_of_job-requires-clause-opened
+class_of_job-requires-clause-opened g c = λ told. subst (λ (f : List ℕ). IsGate f true)
+    (sym (c.find_damage.ensures.reads.file told ∙ c.read_format.ensures.reads.file told)) (c.requires.opened told)
+
+pub returns-in-Ok-Some-clause-sound : goal.returns-in-Ok-Some-clause-sound
+returns-in-Ok-Some-clause-sound g c = grind (arith, common_steps)
+
+pub returns-in-Err-find_damage-clause-counted : goal.returns-in-Err-find_damage-clause-counted
+returns-in-Err-find_damage-clause-counted g c = counted_behind (stayed c.in-Ok.ensures.cause) (caused c.in-Err-find_damage.ensures.cause)
+
+pub returns-in-Err-find_damage-clause-reads : goal.returns-in-Err-find_damage-clause-reads
+returns-in-Err-find_damage-clause-reads g c = only_reads_then c.read_format.ensures.reads c.find_damage.ensures.reads
+
+pub returns-in-Ok-None-clause-class : goal.returns-in-Ok-None-clause-class
+returns-in-Ok-None-clause-class g c = grind (arith, common_steps)

@@ -159,3 +159,24 @@ invariant_of-result g c =
         said.board.few_cells,
       );
     }
+
+pub returns-in-Err-check_counts-clause-reads : goal.returns-in-Err-check_counts-clause-reads
+returns-in-Err-check_counts-clause-reads g c = c.read_said.ensures.reads
+
+pub read_runs-requires-clause-within : goal.read_runs-requires-clause-within
+read_runs-requires-clause-within g c = c.in-Ok.ensures.fits
+
+pub read_said-requires-clause-told : goal.read_said-requires-clause-told
+read_said-requires-clause-told g c = c.requires.told
+
+pub overflow_sub-left : goal.overflow_sub-left
+overflow_sub-left g c = c.in-Ok-read_runs.ensures.ends
+
+pub returns-in-Err-new-clause-err : goal.returns-in-Err-new-clause-err
+returns-in-Err-new-clause-err g c = λ told. tt
+
+pub returns-in-Err-new-clause-ok : goal.returns-in-Err-new-clause-ok
+returns-in-Err-new-clause-ok g c = λ told. tt
+
+pub read_runs-requires-clause-room : goal.read_runs-requires-clause-room
+read_runs-requires-clause-room g c = c.requires.room

@@ -2,7 +2,7 @@
 use Rattle.std.proofs.Common.{◌∙◌, ℕ, List, take, drop, length, ap, sym, arith, refl}
 use Rattle.std.proofs.lemmas.List.{length-drop, drop-drop}
 use Rattle.sha2.specs.Sha256.{sha256}
-use Rattle.bench_model.proofs.Moments.{only_reads_then}
+use Rattle.bench_model.proofs.Moments.{only_reads_then, only_reads_here}
 use Rattle.job_file.proofs.HashLemmas.{short_intact, damage_is, they_differ}
 use Rattle.job_file.proofs.CountLemmas.{none_caused}
 use Rattle.job_file.proofs.damage.compare_hashes.Goals as goal
@@ -33,3 +33,9 @@ returns-clause-reads g c = only_reads_then c.read_hash.ensures.reads c.read_kept
 
 pub returns-clause-cause : goal.returns-clause-cause
 returns-clause-cause g c = none_caused _ (c.in_ok-kept.ensures.cause.on_ok refl ∙ c.in_ok-found.ensures.cause.on_ok refl)
+
+pub returns-then-whole-lt-FRONT-clause-cause : goal.returns-then-whole-lt-FRONT-clause-cause
+returns-then-whole-lt-FRONT-clause-cause g c = none_caused _ refl
+
+pub returns-then-whole-lt-FRONT-clause-reads : goal.returns-then-whole-lt-FRONT-clause-reads
+returns-then-whole-lt-FRONT-clause-reads g c = only_reads_here _ _

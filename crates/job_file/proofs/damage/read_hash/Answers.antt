@@ -1,6 +1,7 @@
 -- `read_hash`: its clauses `ok` and `reads`, that its loop keeps what it has to, and what `hash_window` asks for.
 use Rattle.std.proofs.Common.{◌≡◌, ◌≤◌, ◌-◌, ◌∙◌, ℕ, List, length, take, drop, ap, refl, arith, length-append}
 use Rattle.std.proofs.lemmas.List.{length-take, length-drop, take_all}
+use Rattle.std.proofs.lemmas.Grind.{common_steps}
 use Rattle.bench_model.proofs.Moments.{only_reads_then, only_reads_here}
 use Rattle.sha2.specs.Sha256.{sha256}
 use Rattle.job_file.proofs.HashLemmas.{window_hashed}
@@ -53,3 +54,9 @@ returns-clause-ok g c = λ told.
 
 pub returns-in_err-hash_window-clause-reads : goal.returns-in_err-hash_window-clause-reads
 returns-in_err-hash_window-clause-reads g c = only_reads_then c.loop-at.invariant.reads c.hash_window.ensures.reads
+
+pub returns-clause-cause : goal.returns-clause-cause
+returns-clause-cause g c = grind (arith, common_steps)
+
+pub slice_bounds-hash_window-length : goal.slice_bounds-hash_window-length
+slice_bounds-hash_window-length g c = grind (arith, common_steps)

@@ -1,6 +1,7 @@
 -- `lay_run`: its clause `ok`, that its loop keeps what it has to, and what `lay_window` asks for.
 use Rattle.std.proofs.Common.{◌≡◌, ◌≤◌, ◌+◌, ◌-◌, ◌++◌, ◌∙◌, [], ℕ, List, length, take, drop, ap, refl, arith, length-append}
 use Rattle.std.proofs.lemmas.List.{length-take, length-drop}
+use Rattle.std.proofs.lemmas.Grind.{common_steps}
 use Rattle.bench_model.proofs.Moments.{only_reads_then, only_reads_here}
 use Rattle.job_file.proofs.ImageLemmas.{window_more, stands_more, behind_window, all_laid}
 use Rattle.job_file.proofs.image.lay_run.Goals as goal
@@ -64,3 +65,9 @@ pub returns-clause-ok : goal.returns-clause-ok
 returns-clause-ok g c =
     all_laid g.B.Bench.tells (g.B.Bench.state c.args.bench.now) (g.B.Bench.state c.loop-at.bench) c.args.from c.args.place c.args.len
     c.loop-at.at c.args.image.now c.loop-at.image c.loop-at.window c.loop-at.invariant (omega arith) c.requires.some
+
+pub slice_bounds-lay_window-length : goal.slice_bounds-lay_window-length
+slice_bounds-lay_window-length g c = grind (arith, common_steps)
+
+pub returns-clause-counted : goal.returns-clause-counted
+returns-clause-counted g c = grind (arith, common_steps)

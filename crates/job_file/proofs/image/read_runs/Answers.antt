@@ -1,5 +1,6 @@
 -- `read_runs`: its clauses `gives`, `text`, `inside`, `taken` and `reads`, that its loop keeps what it has to, and what `read_run` asks for.
 use Rattle.std.proofs.Common.{List, drop, refl, sym, subst, arith}
+use Rattle.std.proofs.lemmas.Grind.{common_steps}
 use Rattle.byte_map.specs.Image.{Run}
 use Rattle.std.proofs.lemmas.Result.{err_from_is_err_and}
 use Rattle.bench_model.proofs.Moments.{only_reads_then}
@@ -58,3 +59,12 @@ returns-clause-taken g c = omega (arith, c.loop.invariant.used, under_most c.arg
 
 pub returns-in_err-place-clause-reads : goal.returns-in_err-place-clause-reads
 returns-in_err-place-clause-reads g c = only_reads_then c.loop.invariant.reads c.read_run.ensures.reads
+
+pub read_run-requires-clause-behind : goal.read_run-requires-clause-behind
+read_run-requires-clause-behind g c = grind (arith, common_steps)
+
+pub read_run-requires-clause-told : goal.read_run-requires-clause-told
+read_run-requires-clause-told g c = grind (arith, common_steps)
+
+pub returns-clause-counted : goal.returns-clause-counted
+returns-clause-counted g c = grind (arith, common_steps)

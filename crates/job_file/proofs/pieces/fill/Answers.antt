@@ -1,6 +1,7 @@
 -- `fill`: that its loop keeps what it has to.
 use Rattle.std.proofs.Common.{rules, ◌≡◌, ◌≤◌, ◌+◌, ◌-◌, ◌∙◌, length, take, drop, ap, refl, arith, List, ℕ}
 use Rattle.std.proofs.lemmas.List.{places, length-take, length-drop}
+use Rattle.std.proofs.lemmas.Grind.{common_steps}
 use Rattle.bench_model.proofs.Moments.{only_reads_then}
 use Rattle.job_file.proofs.PieceLemmas.{front_more}
 use Rattle.job_file.proofs.pieces.fill.Goals as goal
@@ -26,3 +27,15 @@ loop-at-preserved g c =
       reads = only_reads_then so_far.reads (record { file = does.file; moments = does.moments; cells = does.cells });
       faults = does.cause.on_ok refl ∙ so_far.faults;
     }
+
+pub returns-clause-cause : goal.returns-clause-cause
+returns-clause-cause g c = grind (arith, common_steps)
+
+pub file_read-requires : goal.file_read-requires
+file_read-requires g c = grind (arith, common_steps)
+
+pub returns-clause-ok : goal.returns-clause-ok
+returns-clause-ok g c = grind (arith, common_steps)
+
+pub loop-at-init : goal.loop-at-init
+loop-at-init g c = grind (arith, common_steps)

@@ -1,7 +1,9 @@
 -- `read_text`: its clause `gives`, and what `read_bytes` asks for.
-use Rattle.std.proofs.Common.{◌∙◌, ℕ, List, Ok, drop, sym, ap, arith}
+use Rattle.std.proofs.Common.{◌∙◌, ℕ, List, Ok, drop, sym, ap, arith, refl}
 use Rattle.std.proofs.lemmas.List.{length-drop, drop-drop}
 use Rattle.job_text.specs.Reading.{text_at}
+use Rattle.bench_model.proofs.Moments.{only_reads_here}
+use Rattle.bench_model.proofs.CountLemmas.{none_counted}
 use Rattle.job_file.proofs.StepLemmas.{text_here, text_cut}
 use Rattle.job_file.proofs.ImageLemmas.{no_verdict}
 use Rattle.job_file.proofs.pieces.read_text.Goals as goal
@@ -25,3 +27,9 @@ returns-in-Ok-clause-gives g c = λ told.
 pub returns-in-Err-clause-gives : goal.returns-in-Err-clause-gives
 returns-in-Err-clause-gives g c = λ told. no_verdict c.in-Err.fault (text_at c.args.whole c.args.len (drop c.args.at (g.B.Bench.state c.args.bench.now).file))
     c.in-Err.ensures.fault
+
+pub returns-then-left-size-clause-reads : goal.returns-then-left-size-clause-reads
+returns-then-left-size-clause-reads g c = only_reads_here _ _
+
+pub returns-then-left-size-clause-counted : goal.returns-then-left-size-clause-counted
+returns-then-left-size-clause-counted g c = none_counted _ _ refl

@@ -7,6 +7,7 @@ use Rattle.job_text.specs.Reading.{text_at, read_or}
 use Rattle.job_file.specs.Readers.{Gives}
 use Rattle.job_file.proofs.StepLemmas.{bind_err}
 use Rattle.job_file.proofs.TextsLemmas.{fails_within}
+use Rattle.job_file.proofs.CountLemmas.{none_more}
 use Rattle.job_file.proofs.texts.read_board.Goals as goal
 
 pub returns-in-Ok-clause-gives : goal.returns-in-Ok-clause-gives
@@ -22,3 +23,6 @@ returns-in-Err-clause-gives g c = λ told.
     let text = text_at c.args.whole c.args.len (drop c.args.at (g.B.Bench.state c.args.bench.now).file) in
     fails_within c.in-Err.fault text (text >>= λ b. read_or c.args.at (reading b.0)) (λ at is. bind_err text (λ b. read_or c.args.at (reading b.0)) at is)
     (c.in-Err.ensures.gives told)
+
+pub returns-in-Ok-clause-counted : goal.returns-in-Ok-clause-counted
+returns-in-Ok-clause-counted g c = none_more _ _ _ c.board_of.ensures.no_store c.in-Ok.ensures.counted

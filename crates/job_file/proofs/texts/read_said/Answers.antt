@@ -7,7 +7,7 @@ use Rattle.bench_model.proofs.Moments.{only_reads_then}
 use Rattle.job_file.specs.Readers.{Fails, files_checked, file_there, second_there}
 use Rattle.job_file.proofs.TextsLemmas.{IsBoardRead, counted_by, first_by, board_unread, files_uncounted, unchecked, first_unread, second_unread, texts_read}
 use Rattle.job_file.proofs.TextsLemmas.{both_fit}
-use Rattle.job_file.proofs.CountLemmas.{counted_behind}
+use Rattle.job_file.proofs.CountLemmas.{counted_behind, files_miscounted}
 use Rattle.job_file.proofs.texts.read_said.Goals as goal
 
 pub read_file-requires-clause-told : goal.read_file-requires-clause-told
@@ -138,3 +138,19 @@ returns-in-Err-read_file-clause-reads g c = only_reads_then c.read_board.ensures
 
 pub returns-in-Err-read_file-clause-counted : goal.returns-in-Err-read_file-clause-counted
 returns-in-Err-read_file-clause-counted g c = counted_behind c.in-Ok.ensures.counted c.in-Err-read_file.ensures.counted
+
+pub returns-in-Err-read_second-clause-fits : goal.returns-in-Err-read_second-clause-fits
+returns-in-Err-read_second-clause-fits g c = tt
+
+pub returns-in-Ok-read_second-clause-fits : goal.returns-in-Ok-read_second-clause-fits
+returns-in-Ok-read_second-clause-fits g c = c.in-Ok-read_second.ensures.fits
+
+pub returns-in-Err-check_files-clause-counted : goal.returns-in-Err-check_files-clause-counted
+returns-in-Err-check_files-clause-counted g c =
+    files_miscounted c.args.places.now c.args.head.now _ c.in-Err-check_files.fault c.in-Err-check_files.ensures c.in-Ok.ensures.counted
+
+pub returns-in-Err-read_second-clause-ends : goal.returns-in-Err-read_second-clause-ends
+returns-in-Err-read_second-clause-ends g c = tt
+
+pub returns-in-Err-read_second-clause-fit : goal.returns-in-Err-read_second-clause-fit
+returns-in-Err-read_second-clause-fit g c = tt

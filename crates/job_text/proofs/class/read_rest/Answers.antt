@@ -1,13 +1,18 @@
 -- `read_rest`: that it keeps its contract, and that its result is as its type asks.
-use Rattle.std.proofs.Common.{◌≡◌, List, Ok, Err, sym, ap, subst, arith}
-use Rattle.std.proofs.lemmas.Grind.{common_steps}
+use Rattle.std.proofs.Common.{◌≡◌, ◌∙◌, ◌-◌, ℕ, List, length, Ok, Err, sym, ap, subst, arith, IsTrue, Result}
+use Rattle.std.proofs.lemmas.Result.{err_from_is_err_and}
 use Rattle.board_file.specs.declared.region.Region.{Region}
 use Rattle.board_file.specs.Limits.{size_of}
-use Rattle.job_text.specs.Fits.{LiesIn}
+use Rattle.byte_map.specs.Image.{Run}
+use Rattle.board_file.specs.Shown as board
+use Rattle.board_file.specs.Shown.{shown}
+use Rattle.flm_descriptor.specs.Shown as flm
+use Rattle.job_text.specs.Fits.{LiesIn, all_fit}
 use Rattle.job_text.specs.Heads.{texts_of}
-use Rattle.job_text.specs.Reading.{texts_at, runs_at, rest_at, seen_of}
+use Rattle.job_text.specs.Reading.{texts_at, runs_at, rest_at, Seen, seen_of}
+use Rattle.job_text.specs.Shown.{Fails}
 use Rattle.job_text.specs.declared.head.Places.{Places}
-use Rattle.job_text.proofs.RestLemmas.{AreRead, RunsAre, rest_unsized, rest_runless, rest_ends, rest_found}
+use Rattle.job_text.proofs.RestLemmas.{AreRead, RunsAre, rest_unsized, rest_runless, rest_runs_fail, rest_ends, rest_found}
 use Rattle.job_text.proofs.class.read_rest.Goals as goal
 
 pub invariant_of-result-clause-inside : goal.invariant_of-result-clause-inside
@@ -25,8 +30,19 @@ invariant_of-result-clause-early c =
     )
 
 pub returns-in_err-image : goal.returns-in_err-image
-unfolding rest_at
-returns-in_err-image c = grind (arith, common_steps)
+returns-in_err-image c =
+    let d = c.args.whole in
+    let format = c.args.format in
+    let h = c.args.head in
+    let bytes = c.args.bytes.now in
+    let said = c.in_ok-said.said in
+    let rest = c.in_ok-said.rest.now in
+    let read : AreRead d format h bytes (texts_of said) rest =
+    subst (λ (p : Places). texts_at d p h bytes ≡ Ok (texts_of said, rest)) c.places_in-places.ensures.value c.in_ok-said.ensures.gives in
+    let e = c.in_err-image.field-0.0 in
+    let p = err_from_is_err_and c.from_residual-in_err-image.result c.from_residual-in_err-image.ensures.1 in
+    rw (p.1, p.2) (rest_runs_fail d format h bytes (texts_of said) rest e read (omega (arith, c.if-head-cells_in.false, c.cells_in.ensures))
+    (omega (arith, c.if-head-eq0.false)) (subst (λ (rs : List Region). Fails e (runs_at d rs h.runs 0 rest)) c.as_slice.ensures c.in_err-image.ensures.gives))
 
 pub returns-then-head-cells_in : goal.returns-then-head-cells_in
 returns-then-head-cells_in c =
@@ -75,6 +91,9 @@ returns-then-rest-head c =
     } in
     ap (seen_of d) (rest_ends d format h bytes (texts_of said) rest image end runs (λ is. c.if-rest-head.true (omega (arith, is))))
 
+abbrev seen_with : board.Shown → List flm.Shown → List Run → ℕ → Result Seen ℕ
+seen_with b algorithms image at = Ok (record { board = b; algorithms = algorithms; image = image; snapshot_at = at })
+
 pub returns : goal.returns
 returns c =
     let d = c.args.whole in
@@ -93,6 +112,19 @@ returns c =
       some = omega (arith, c.if-head-eq0.false);
       runs = subst (λ (rs : List Region). runs_at d rs h.runs 0 rest ≡ Ok (image, end)) c.as_slice.ensures c.in_ok-image.ensures.gives;
     } in
-    let found = ap (seen_of d) (rest_found d format h bytes (texts_of said) rest image end runs (omega (arith, c.if-rest-head.false))) in
-    let algorithms = c.in_ok-algorithms.ensures in
-    cc
+    ap (seen_of d) (rest_found d format h bytes (texts_of said) rest image end runs (omega (arith, c.if-rest-head.false)))
+    ∙ ap (λ (l : List flm.Shown). seen_with (shown said.board) l image (d - length end)) (sym c.in_ok-algorithms.ensures)
+
+pub invariant_of-result-clause-fit : goal.invariant_of-result-clause-fit
+invariant_of-result-clause-fit c =
+    let said = c.in_ok-said.said in
+    subst (λ (l : List flm.Shown). IsTrue (all_fit (shown said.board) said.board.regions l)) (sym c.in_ok-algorithms.ensures) c.in_ok-said.ensures.fit
+
+pub overflow_sub-result : goal.overflow_sub-result
+overflow_sub-result c = c.in_ok-image.ensures.shorter
+
+pub invariant_of-result-clause-some : goal.invariant_of-result-clause-some
+invariant_of-result-clause-some c = omega (arith, c.in_ok-image.ensures.count, c.if-head-eq0.false)
+
+pub take_runs-requires : goal.take_runs-requires
+take_runs-requires c = omega (arith, c.requires.inside, c.in_ok-said.ensures.shorter)

@@ -1,5 +1,6 @@
 -- `all_covered`: the value that it answers, and that its loop keeps what it has to.
 use Rattle.std.proofs.Common.{rules, ◌≡◌, true, false, arith}
+use Rattle.std.proofs.lemmas.Grind.{common_steps}
 use Rattle.byte_map.specs.Image.{Run, end_of}
 use Rattle.job_text.specs.Runs.{run_of}
 use Rattle.job_text.specs.Reading.{covers}
@@ -17,3 +18,6 @@ each-preserved c =
     let r : Run = run_of c.run-at.result.0 c.run-at.result.1.now in
     let yes_ : covers c.args.regions.now r.at (end_of r) ≡ true = search rules in
     covered_on c.args.regions.now c.args.image.now c.each.index r (omega arith) c.run-at.ensures yes_ c.each.invariant
+
+pub returns : goal.returns
+returns c = grind (arith, common_steps)

@@ -12,3 +12,9 @@ returns-then-regions-algorithms c =
 
 pub returns-then-not-fits : goal.returns-then-not-fits
 returns-then-not-fits c = grind (arith, common_steps)
+
+pub regions-preserved : goal.regions-preserved
+regions-preserved c = grind (arith, common_steps)
+
+pub returns : goal.returns
+returns c = grind (arith, common_steps)

@@ -5,3 +5,6 @@ use Rattle.job_text.proofs.fit.reach.Goals as goal
 
 pub regions-preserved : goal.regions-preserved
 regions-preserved c = grind (arith, common_steps)
+
+pub returns-then-holds : goal.returns-then-holds
+returns-then-holds c = grind (arith, common_steps)

@@ -19,3 +19,14 @@ returns-clause-shorter c =
       c.in_ok-runs.ensures.shorter,
       c.in_ok-cells.ensures.shorter,
     )
+
+pub returns-clause-taken : goal.returns-clause-taken
+returns-clause-taken c =
+    omega (
+      arith,
+      c.in_ok-rest.ensures.taken,
+      c.in_ok-board.ensures.taken,
+      c.in_ok-first.ensures.taken,
+      c.in_ok-runs.ensures.taken,
+      c.in_ok-cells.ensures.taken,
+    )

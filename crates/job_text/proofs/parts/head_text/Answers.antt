@@ -1,4 +1,6 @@
 -- `head_text`: what `put_lengths` asks for.
+use Rattle.std.proofs.Common.{arith}
+use Rattle.std.proofs.lemmas.Grind.{common_steps}
 use Rattle.job_text.proofs.PartLemmas.{blank_small}
 use Rattle.job_text.proofs.parts.head_text.Goals as goal
 
@@ -13,3 +15,6 @@ put_lengths-requires-clause-second c = c.requires.short_second
 
 pub put_lengths-requires-clause-image : goal.put_lengths-requires-clause-image
 put_lengths-requires-clause-image c = (blank_small c.args.parts.now c.requires).runs
+
+pub returns : goal.returns
+returns c = grind (arith, common_steps)

@@ -1,6 +1,7 @@
 -- `take_runs`: its clauses `gives` and `taken`, and that its loop keeps what it has to.
 use Rattle.std.proofs.Common.{◌+◌, length, arith}
 use Rattle.std.proofs.lemmas.Result.{err_from_is_err_and}
+use Rattle.std.proofs.lemmas.Grind.{common_steps}
 use Rattle.job_text.specs.Reading.{runs_at}
 use Rattle.job_text.specs.Runs.{run_of}
 use Rattle.job_text.proofs.CoverLemmas.{under_most}
@@ -27,3 +28,21 @@ returns-clause-gives c = is_done c.args.whole c.args.regions.now c.loop.from c.l
 
 pub returns-clause-taken : goal.returns-clause-taken
 returns-clause-taken c = omega (arith, c.loop.invariant.used, under_most c.args.regions.now c.loop.from)
+
+pub add_run-requires-clause-fits : goal.add_run-requires-clause-fits
+add_run-requires-clause-fits c = grind (arith, common_steps)
+
+pub add_run-requires-clause-some : goal.add_run-requires-clause-some
+add_run-requires-clause-some c = grind (arith, common_steps)
+
+pub overflow_add-from : goal.overflow_add-from
+overflow_add-from c = grind (arith, common_steps)
+
+pub overflow_add-from-in-loop : goal.overflow_add-from-in-loop
+overflow_add-from-in-loop c = grind (arith, common_steps)
+
+pub loop-init : goal.loop-init
+loop-init c = grind (arith, common_steps)
+
+pub add_run-requires-clause-behind : goal.add_run-requires-clause-behind
+add_run-requires-clause-behind c = grind (arith, common_steps)

@@ -1,6 +1,7 @@
 -- `gather`: its contract, `AreRunsOfText`, and that its loop keeps what it has to.
 use Rattle.std.proofs.Common.{◌≡◌, ◌-◌, ◌++◌, ◌∙◌, Bool, suc, List, [], take, drop, sym, subst, arith}
 use Rattle.std.specs.Bool.{OnTrue}
+use Rattle.std.proofs.lemmas.Grind.{common_steps}
 use Rattle.octets.specs.Lines.{lines_of}
 use Rattle.record_lines.specs.Cells.{Cell, AreConsistent, IsImageOf}
 use Rattle.record_lines.specs.Format.{line_cells}
@@ -58,3 +59,6 @@ loop-from-preserved g c =
       );
       roomy = omega (arith, l.invariant.roomy, c.in-Ok-false.ensures.room, c.next_line-start.ensures.further);
     }
+
+pub returns-in_err-ok-in-Ok-false : goal.returns-in_err-ok-in-Ok-false
+returns-in_err-ok-in-Ok-false g c = grind (arith, common_steps)

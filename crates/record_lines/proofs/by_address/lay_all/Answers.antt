@@ -18,3 +18,6 @@ loop-index-preserved c =
 
 pub returns : goal.returns
 returns c = grind (arith, common_steps)
+
+pub returns-in_err-ok : goal.returns-in_err-ok
+returns-in_err-ok c = grind (arith, common_steps)

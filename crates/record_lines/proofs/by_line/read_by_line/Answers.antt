@@ -1,6 +1,7 @@
 -- `read_by_line`: its clauses `ok` and `err`, and that its loop keeps what it has to.
 use Rattle.std.proofs.Common.{◌≡◌, ◌++◌, ◌-◌, ◌∙◌, ℕ, Bool, suc, List, [], take, drop, sym, subst, arith}
 use Rattle.std.specs.Bool.{OnTrue}
+use Rattle.std.proofs.lemmas.Grind.{common_steps}
 use Rattle.octets.specs.Lines.{lines_of}
 use Rattle.record_lines.specs.Cells.{Cell, IsImageOf}
 use Rattle.record_lines.specs.Format.{line_cells, cells_before, IsFaultOfLine, IsLineFault}
@@ -62,3 +63,6 @@ pub returns-clause-err : goal.returns-clause-err
 returns-clause-err g c =
     let (n, h) = c.loop-from.invariant.read in
     read_all g.S.RecordFormat.format c.args.text.now c.loop-from.from c.loop-from.line c.loop-from.known c.loop-from.map n h (omega arith)
+
+pub loop-from-smaller : goal.loop-from-smaller
+loop-from-smaller g c = grind (arith, common_steps)

@@ -8,3 +8,15 @@ invariant_of-self-2 c = grind (arith, common_steps)
 
 pub returns-clause-ok : goal.returns-clause-ok
 returns-clause-ok c = grind (arith, common_steps)
+
+pub overflow_cast-self : goal.overflow_cast-self
+overflow_cast-self c = grind (arith, common_steps)
+
+pub copy_from_slice-requires-2 : goal.copy_from_slice-requires-2
+copy_from_slice-requires-2 c = grind (arith, common_steps)
+
+pub overflow_sub-self : goal.overflow_sub-self
+overflow_sub-self c = grind (arith, common_steps)
+
+pub copy_from_slice-requires : goal.copy_from_slice-requires
+copy_from_slice-requires c = grind (arith, common_steps)

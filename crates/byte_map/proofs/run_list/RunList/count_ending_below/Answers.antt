@@ -1,10 +1,11 @@
 -- `RunList::count_ending_below`: its contract, `IsCut`.
 use Rattle.std.proofs.Common.{◌≡◌, ◌≤◌, ◌^◌, ◌∙◌, [], ◌++◌, length, arith, rules, refl, subst, sym, ap}
 use Rattle.std.proofs.lemmas.List.{get_or_default}
+use Rattle.std.proofs.lemmas.Grind.{common_steps}
 use Rattle.byte_map.specs.Image.{Run, run_at, end_of, AreMaximal}
 use Rattle.byte_map.specs.Tree.{runs_of}
 use Rattle.byte_map.proofs.Runs.{at_rises}
-use Rattle.byte_map.proofs.Cuts.{maximal_right, ends_before, cut_left, cut_right, cut_of, recut}
+use Rattle.byte_map.proofs.Cuts.{maximal_right, ends_before, cut_left, cut_right, cut_of, recut, cuts}
 use Rattle.byte_map.proofs.run_list.RunList.count_ending_below.Goals as goal
 
 pub returns-then-is_empty : goal.returns-then-is_empty
@@ -41,3 +42,12 @@ returns-else-address-from c =
     (cut_right (λ (r : Run). end_of r) (runs_of s.tree) s.tail.items c.args.address c.ending_in.result
     (λ k lt. let up = ends_before (2 ^ 32) (runs_of s.tree) s.tail.items k maximal some lt in
     omega (arith, up, c.from.ensures, c.at.ensures, ap (λ (r : Run). r.at) first)) cut)
+
+pub ending_below-requires : goal.ending_below-requires
+ending_below-requires c = grind (arith, common_steps)
+
+pub ending_below-requires-then-address-from : goal.ending_below-requires-then-address-from
+ending_below-requires-then-address-from c = grind (arith, cuts)
+
+pub ending_in-requires : goal.ending_in-requires
+ending_in-requires c = grind (arith, cuts)

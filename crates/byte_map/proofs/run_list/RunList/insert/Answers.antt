@@ -23,3 +23,15 @@ invariant_of-self-2 c = grind (arith, sides)
 
 pub invariant_of-self-then-index-count : goal.invariant_of-self-then-index-count
 invariant_of-self-then-index-count c = grind (arith, common_steps)
+
+pub insert-requires-clause-few : goal.insert-requires-clause-few
+insert-requires-clause-few c = grind (arith, common_steps)
+
+pub invariant_of-self : goal.invariant_of-self
+invariant_of-self c = grind (arith, common_steps)
+
+pub returns-then-index-count-clause-ok : goal.returns-then-index-count-clause-ok
+returns-then-index-count-clause-ok c = grind (arith, common_steps)
+
+pub insert-requires-2 : goal.insert-requires-2
+insert-requires-2 c = grind (arith, common_steps)

@@ -1,5 +1,6 @@
 -- `BaseRecordFormat::take_line`: its clauses `err` and `ok`.
-use Rattle.std.proofs.Common.{◌≡◌, ◌≤◌, ◌++◌, length, List, ℕ, Some, Ok, Err, None, sym, subst}
+use Rattle.std.proofs.Common.{◌≡◌, ◌≤◌, ◌++◌, length, List, ℕ, Some, Ok, Err, None, sym, subst, arith}
+use Rattle.std.proofs.lemmas.Grind.{common_steps}
 use Rattle.record_lines.specs.Cells.{first_clash, IsImageOf}
 use Rattle.record_lines.specs.Clashes.{IsClashFault}
 use Rattle.record_lines.specs.Format.{IsLineFault}
@@ -32,3 +33,15 @@ returns-in-Err-lay_data-clause-err c = λ before image.
     (c.in-Err-lay_data.ensures.err before image) in
     subst (IsLineFault hex (read_line c.args.line.now) before base) (sym c.fault_of_clash.ensures)
     (clashed (read_line c.args.line.now) c.in-Err-lay_data.fault before base arm.offset arm.bytes is clash)
+
+pub returns-in-Ok-None-2-clause-ok : goal.returns-in-Ok-None-2-clause-ok
+returns-in-Ok-None-2-clause-ok c = grind (arith, common_steps)
+
+pub returns-in-Ok-Some-Sets-clause-ok : goal.returns-in-Ok-Some-Sets-clause-ok
+returns-in-Ok-Some-Sets-clause-ok c = grind (arith, common_steps)
+
+pub returns-in-Ok-None-clause-ok : goal.returns-in-Ok-None-clause-ok
+returns-in-Ok-None-clause-ok c = grind (arith, common_steps)
+
+pub returns-in-Ok-Some-End-clause-ok : goal.returns-in-Ok-Some-End-clause-ok
+returns-in-Ok-Some-End-clause-ok c = grind (arith, common_steps)

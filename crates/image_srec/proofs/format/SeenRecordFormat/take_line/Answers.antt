@@ -1,5 +1,6 @@
 -- `SeenRecordFormat::take_line`: its clauses `err` and `ok`.
 use Rattle.std.proofs.Common.{◌≡◌, ◌++◌, ◌+◌, ◌≤◌, List, ℕ, Some, Ok, Err, None, length, refl, sym, ap, subst, arith}
+use Rattle.std.proofs.lemmas.Grind.{common_steps}
 use Rattle.record_lines.specs.Cells.{cells_from, first_clash, IsImageOf}
 use Rattle.record_lines.specs.Clashes.{IsClashFault}
 use Rattle.record_lines.specs.Format.{IsLineFault}
@@ -31,3 +32,21 @@ returns-in-Err-lay_cells-clause-err c = λ before image.
     (c.in-Err-lay_cells.ensures.err before image) in
     subst (IsLineFault srec (read_line c.args.line.now) before c.args.self.now) (sym c.fault_of_clash.ensures)
     (clashed (read_line c.args.line.now) c.in-Err-lay_cells.fault before c.args.self.now arm.at arm.bytes is fits clash)
+
+pub returns-else-from-seen-clause-ok : goal.returns-else-from-seen-clause-ok
+returns-else-from-seen-clause-ok c = grind (arith, common_steps)
+
+pub returns-then-from-bytes-gt-ADDRESSES-clause-err : goal.returns-then-from-bytes-gt-ADDRESSES-clause-err
+returns-then-from-bytes-gt-ADDRESSES-clause-err c = grind (arith, common_steps)
+
+pub returns-in-Ok-None-2-clause-ok : goal.returns-in-Ok-None-2-clause-ok
+returns-in-Ok-None-2-clause-ok c = grind (arith, common_steps)
+
+pub returns-then-from-seen-clause-err : goal.returns-then-from-seen-clause-err
+returns-then-from-seen-clause-err c = grind (arith, common_steps)
+
+pub returns-in-Ok-Some-End-clause-ok : goal.returns-in-Ok-Some-End-clause-ok
+returns-in-Ok-Some-End-clause-ok c = grind (arith, common_steps)
+
+pub returns-in-Ok-None-clause-ok : goal.returns-in-Ok-None-clause-ok
+returns-in-Ok-None-clause-ok c = grind (arith, common_steps)

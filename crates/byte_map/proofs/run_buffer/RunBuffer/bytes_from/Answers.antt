@@ -1,0 +1,7 @@
+-- `RunBuffer::bytes_from`: that it keeps its contract.
+use Rattle.std.proofs.Common.{arith}
+use Rattle.std.proofs.lemmas.Grind.{common_steps}
+use Rattle.byte_map.proofs.run_buffer.RunBuffer.bytes_from.Goals as goal
+
+pub returns : goal.returns
+returns c = grind (arith, common_steps)

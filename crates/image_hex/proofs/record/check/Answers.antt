@@ -1,0 +1,7 @@
+-- `check`: that it keeps its contract.
+use Rattle.std.proofs.Common.{arith}
+use Rattle.std.proofs.lemmas.Grind.{common_steps}
+use Rattle.image_hex.proofs.record.check.Goals as goal
+
+pub returns : goal.returns
+returns c = grind (arith, common_steps)

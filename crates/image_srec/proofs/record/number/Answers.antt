@@ -1,0 +1,7 @@
+-- `number`: that it keeps its contract.
+use Rattle.std.proofs.Common.{arith}
+use Rattle.std.proofs.lemmas.Grind.{common_steps}
+use Rattle.image_srec.proofs.record.number.Goals as goal
+
+pub returns-in-len4 : goal.returns-in-len4
+returns-in-len4 c = grind (arith, common_steps)

@@ -1,0 +1,7 @@
+-- `Algorithms::new`: that it keeps its contract.
+use Rattle.std.proofs.Common.{arith}
+use Rattle.std.proofs.lemmas.Grind.{common_steps}
+use Rattle.job_text.proofs.algorithms.Algorithms.new.Goals as goal
+
+pub returns : goal.returns
+returns c = grind (arith, common_steps)
