@@ -1,7 +1,7 @@
 -- Names as labels and destinations.
 use Rattle.std.proofs.Common.{◌≡◌, ◌≢◌, ◌<◌, ◌+◌, inl, inr, ℕ, List, [], ◌∷◌, ◌++◌, length, get_or, take, subst, ◌∙◌, arith, drop, sym, ap}
-use Rattle.std.specs.Prelude.{Contains}
-use Rattle.std.proofs.lemmas.List.{get_or_default, map_more}
+use Rattle.std.specs.Prelude.{Contains, Option, Some, None, is_some, true, MatchOption}
+use Rattle.std.proofs.lemmas.List.{get_or_default, get_or-map, length-map, map_more}
 use Rattle.std.proofs.lemmas.List.Quantifiers.{all_pairs_push}
 use Rattle.std.proofs.lemmas.List.Elements.{Contains-push_cases}
 use Rattle.armv6m_asm.specs.declared.labels.Label.{Label}
@@ -40,3 +40,17 @@ first_named labels k d name lt none here same =
           (sym here ∙ ap (λ (n : List ℕ). record { name = n; place = d.place }) same);
       first = none;
     }
+
+-- a label's name is among the names
+named_among : (labels : List Label) (name : List ℕ) (place : ℕ) → Contains labels (record { name = name; place = place }) → Contains (names_of labels) name
+named_among labels name place here = (
+  here.0,
+  omega (arith, here.1, length-map labels (λ (l : Label). l.name)),
+  get_or-map (λ (l : Label). l.name) labels here.0 (record { name = name; place = place }) name here.1 ∙ ap (λ (l : Label). l.name) here.2,
+)
+
+-- a name whose place is found is among them
+pub name_found : (labels : List Label) (name : List ℕ) (P : Type 0) (found : Option ℕ) → is_some found ≡ true
+    → MatchOption found P (λ place. Contains labels (record { name = name; place = place })) → Contains (names_of labels) name
+name_found labels name P None some cases = absurd (cc)
+name_found labels name P (Some place) some cases = named_among labels name place cases

@@ -210,3 +210,12 @@ no_label tokens rest bytes all none (Some label) operation is =
     let is_one : is_name label.now ≡ true = named.1 in
     let e = ap is_name same in
     cc
+
+-- and of a line without a colon as its second token, which is no operation
+pub no_colon_then : (tokens : List Token) → ((bytes : List ℕ) (rest : List Token) → tokens ≢ word bytes ∷ mark 58 ∷ rest)
+    → ((operation : Operation) → AreOperation operation tokens → ⊥)
+    → (label : Option (Bor (List ℕ))) (operation : Operation) → AreStatement label operation tokens → ⊥
+no_colon_then tokens other none None operation is = none operation is
+no_colon_then [] other none (Some label) operation is = is
+no_colon_then (first ∷ []) other none (Some label) operation is = is.1
+no_colon_then (first ∷ second ∷ rest) other none (Some label) operation is = other label.now rest (rw (is.0.0, is.1.0) refl)

@@ -33,3 +33,6 @@ loop-statement-preserved c =
 
 pub returns-clause-ok : goal.returns-clause-ok
 returns-clause-ok c = grind (arith, common_steps)
+
+pub add_operation-requires-clause-usable : goal.add_operation-requires-clause-usable
+add_operation-requires-clause-usable c = grind (arith, common_steps)

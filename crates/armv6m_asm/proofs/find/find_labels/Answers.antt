@@ -1,7 +1,7 @@
--- `find_labels`: its clause `err`, that its loop keeps what it has to, and that no number overflows.
+-- `find_labels`: its clauses `err` and `ok`, that its loop keeps what it has to, and that no number overflows.
 use Rattle.std.proofs.Common.{◌+◌, ℕ, subst, sym, arith}
 use Rattle.std.proofs.lemmas.Result.{err_from_is_err_and}
-use Rattle.armv6m_asm.proofs.Steps.{HasFound, nothing, place_fits, found_more, found_fault}
+use Rattle.armv6m_asm.proofs.Steps.{HasFound, nothing, place_fits, found_more, found_fault, found_all}
 use Rattle.armv6m_asm.proofs.find.find_labels.Goals as goal
 
 pub returns-in_err-add_label-clause-err : goal.returns-in_err-add_label-clause-err
@@ -21,3 +21,8 @@ loop-statement-preserved c =
     let l = c.loop-statement in
     subst (λ (size : ℕ). HasFound c.args.statements.now (l.statement-index + 1) (l.place + size) c.add_label.new.labels) (sym c.size-place.ensures)
     (found_more c.args.statements.now l.statement-index l.place nothing l.labels c.add_label.new.labels (omega arith) l.invariant c.in_ok-add_label.ensures.ok)
+
+pub returns-clause-ok : goal.returns-clause-ok
+returns-clause-ok c =
+    let l = c.loop-statement in
+    found_all c.args.statements.now l.statement-index l.place l.labels l.invariant (omega arith)

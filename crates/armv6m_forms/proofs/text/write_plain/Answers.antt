@@ -1,5 +1,6 @@
--- `write_plain`: its contract, `Plain`.
-use Rattle.std.proofs.Common.{refl}
+-- `write_plain`: its contract, `Plain`, and what `write_operands` asks for.
+use Rattle.std.proofs.Common.{refl, arith}
+use Rattle.std.proofs.lemmas.Grind.{common_steps}
 use Rattle.armv6m_forms.specs.Text.{form_text}
 use Rattle.armv6m_forms.proofs.WritingLemmas.{form_text-plain}
 use Rattle.armv6m_forms.proofs.text.write_plain.Goals as goal
@@ -18,3 +19,6 @@ returns-in_default c =
       c.text.ensures.text,
       c.requires.empty,
     ) refl
+
+pub write_operands-requires : goal.write_operands-requires
+write_operands-requires c = grind (arith, common_steps)

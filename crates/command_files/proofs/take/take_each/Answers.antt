@@ -1,5 +1,6 @@
 -- `take_each`: its clauses `takes` and `short`, that its loop keeps what it has to, and what `take_one` asks for.
 use Rattle.std.proofs.Common.{◌≡◌, ◌≤◌, ◌+◌, ◌∙◌, sym, ap, subst, arith, ℕ, Bool, All, List, ◌∷◌, [], ◌++◌, length, cond}
+use Rattle.std.proofs.lemmas.Grind.{common_steps}
 use Rattle.std.proofs.lemmas.Result.{err_from_is_err_and}
 use Rattle.std.proofs.lemmas.List.{take_all}
 use Rattle.std.proofs.lemmas.List.Elements.{All-nil, All-cons, All-append}
@@ -8,7 +9,7 @@ use Rattle.report_text.specs.Shown.{shown}
 use Rattle.command_words.specs.Names.{names_of}
 use Rattle.command_files.specs.Inputs.{inputs_call, AreEach}
 use Rattle.command_files.specs.Steps.{IsTakeFault}
-use Rattle.command_files.proofs.TakeLemmas.{TakenSoFar, taken_then, untaken_then}
+use Rattle.command_files.proofs.TakeLemmas.{TakenSoFar, taken_then, untaken_then, none_failed_then}
 use Rattle.command_files.proofs.take.take_each.Goals as goal
 
 pub take_one-requires : goal.take_one-requires
@@ -58,3 +59,9 @@ returns-clause-takes g c =
 
 pub returns-clause-short : goal.returns-clause-short
 returns-clause-short g c = c.loop-index.invariant.short
+
+pub loop-index-init : goal.loop-index-init
+loop-index-init g c = grind (arith, common_steps)
+
+pub returns-then-is_err-clause-takes : goal.returns-then-is_err-clause-takes
+returns-then-is_err-clause-takes g c = none_failed_then c.loop-index.invariant.so_far.none_failed c.in_ok-bytes.ensures.takes.1

@@ -5,3 +5,6 @@ use Rattle.command_files.proofs.wanted.cells_of.Goals as goal
 
 pub overflow_add-result : goal.overflow_add-result
 overflow_add-result c = grind (arith, common_steps)
+
+pub returns : goal.returns
+returns c = grind (arith, common_steps)

@@ -1,5 +1,6 @@
 -- `+overlay`: that it keeps its contract, and what `overlay` asks for.
 use Rattle.std.proofs.Common.{◌≡◌, ◌<◌, ◌≤◌, ◌∙◌, ◌-◌, ◌+◌, ◌∷◌, ℕ, List, length, take, drop, sym, ap, arith}
+use Rattle.std.proofs.lemmas.Grind.{common_steps}
 use Rattle.std.proofs.lemmas.List.{length-drop}
 use Rattle.board_file.specs.declared.region.Region.{Region}
 use Rattle.board_file.specs.Limits.{size_of}
@@ -64,3 +65,12 @@ overlay-requires-2 t c =
         fit_rest c.args.regions.now r rest is c.requires.fit,
       ),
     )
+
+pub overlay_into-requires : goal.overlay_into-requires
+overlay_into-requires t c = grind (arith, common_steps)
+
+pub overflow_add-region : goal.overflow_add-region
+overflow_add-region t c = grind (arith, common_steps)
+
+pub returns-in_default : goal.returns-in_default
+returns-in_default t c = grind (arith, common_steps)

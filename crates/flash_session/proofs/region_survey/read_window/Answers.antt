@@ -1,5 +1,7 @@
 -- `read_window`: its clauses `wanted`, `reads`, `spares`, `store` and `device`, and what `want_cells` asks for.
-use Rattle.std.proofs.Common.{◌+◌, ◌∙◌, ℕ, Bool, List, Result, refl}
+use Rattle.std.proofs.Common.{◌+◌, ◌∙◌, ℕ, Bool, List, Result, refl, arith}
+use Rattle.std.proofs.lemmas.Grind.{common_steps}
+use Rattle.std.proofs.lemmas.Bool.{false≢true}
 use Rattle.bench_model.specs.Calls.{IsRead}
 use Rattle.bench_model.specs.Does.{ReadsCells}
 use Rattle.bench_model.specs.State.{BenchState}
@@ -70,3 +72,9 @@ returns-in-Ok-want_cells-clause-store g c = none_counted _ _ (c.in-Ok-want_cells
 pub returns-in-Err-want_cells-clause-store : goal.returns-in-Err-want_cells-clause-store
 returns-in-Err-want_cells-clause-store g c =
     one_since _ _ _ c.read_cells.ensures.file.faults c.in-Err-want_cells.ensures.cause.later (c.in-Err-want_cells.ensures.cause.on_fault refl)
+
+pub returns-in-Err-want_cells-clause-spares : goal.returns-in-Err-want_cells-clause-spares
+returns-in-Err-want_cells-clause-spares g c = λ over. absurd (false≢true (c.in-Err-want_cells.ensures.spares over).1)
+
+pub want_cells-requires-clause-same : goal.want_cells-requires-clause-same
+want_cells-requires-clause-same g c = grind (arith, common_steps)

@@ -1,5 +1,5 @@
--- `survey_cells`: its clauses `part`, `plan` and `reads`, and that an arm is never reached.
-use Rattle.std.proofs.Common.{◌≡◌, false, sym, subst}
+-- `survey_cells`: its clauses `part`, `plan`, `reads` and `cause`, and that an arm is never reached.
+use Rattle.std.proofs.Common.{◌≡◌, false, sym, subst, refl}
 use Rattle.std.proofs.lemmas.Bool.{false≢true}
 use Rattle.bench_model.specs.Counted.{is_store_fault}
 use Rattle.flash_session.specs.declared.windows.Unread.{Unread}
@@ -24,3 +24,13 @@ returns-in-Err-Device-clause-reads g c = only_cells c.survey_region.ensures.read
 pub unreachable-requires : goal.unreachable-requires
 unreachable-requires g c =
     absurd (false≢true (sym (subst (λ (u : Unread). is_store_fault (unread_fault u) ≡ false) c.in-Err-Store.field-0-is (c.in-Err-Store.ensures.spares tt).1)))
+
+pub returns-in-Ok-clause-cause : goal.returns-in-Ok-clause-cause
+returns-in-Ok-clause-cause g c =
+    let device = c.in-Ok.ensures.device in
+    record { later = device.later; on_fault = λ failed. absurd (false≢true failed); on_ok = λ fine. device.on_other refl }
+
+pub returns-in-Err-Device-clause-cause : goal.returns-in-Err-Device-clause-cause
+returns-in-Err-Device-clause-cause g c =
+    let device = rw c.in-Err-Device.field-0-is at c.in-Err-Device.ensures.device in
+    record { later = device.later; on_fault = λ failed. device.on_fault refl; on_ok = λ fine. absurd (false≢true fine) }

@@ -1,4 +1,6 @@
 -- `survey_window`: its clauses `bytes`, `wanted_bytes`, `spares`, `store` and `device`.
+use Rattle.std.proofs.Common.{arith}
+use Rattle.std.proofs.lemmas.Grind.{common_steps}
 use Rattle.std.proofs.lemmas.Result.{err_from_is_err_and}
 use Rattle.flash_session.proofs.region_survey.survey_window.Goals as goal
 
@@ -22,3 +24,9 @@ returns-clause-bytes g c = c.feed.ensures.cells
 
 pub returns-clause-wanted_bytes : goal.returns-clause-wanted_bytes
 returns-clause-wanted_bytes g c = c.feed.ensures.wanted
+
+pub feed-requires-clause-making : goal.feed-requires-clause-making
+feed-requires-clause-making g c = grind (arith, common_steps)
+
+pub feed-requires-clause-same : goal.feed-requires-clause-same
+feed-requires-clause-same g c = grind (arith, common_steps)

@@ -1,8 +1,11 @@
 -- `survey_windows`: its clauses `plan`, `covers`, `spares`, `store` and `device`, that its loop keeps what it has to, and what `survey_window` asks for.
-use Rattle.std.proofs.Common.{◌≡◌, ◌≤◌, ◌<◌, ◌+◌, ◌++◌, ◌∙◌, ◌-◌, ◌^◌, ℕ, take, drop, List, [], refl, sym, ap, subst, length, arith, length-append}
+use Rattle.std.proofs.Common.{arith}
+use Rattle.std.proofs.Common.{◌≡◌, ◌≤◌, ◌<◌, ◌+◌, ◌++◌, ◌∙◌, ◌-◌, ◌^◌, ℕ, take, drop, List, [], refl, sym, ap, subst, length, length-append}
+use Rattle.std.proofs.lemmas.Grind.{common_steps}
 use Rattle.std.proofs.lemmas.List.{length-take}
 use Rattle.std.proofs.lemmas.List.Elements.{All-append}
 use Rattle.std.proofs.lemmas.Result.{err_from_is_err_and}
+use Rattle.bench_model.proofs.CountLemmas.{none_counted}
 use Rattle.bench_model.specs.Counted.{is_store_fault, is_device_fault, IsCounted}
 use Rattle.bench_model.proofs.Moments.{file_stays_here, file_stays_then}
 use Rattle.flm_descriptor.specs.Shown.{shown as algorithm_of}
@@ -124,3 +127,27 @@ returns-in_err-survey_window-clause-device g c =
     let p = err_from_is_err_and c.from_residual.result c.from_residual.ensures.1 in
     rw (p.1, p.2) (subst (λ (n : ℕ). IsCounted n (g.B.Bench.state c.survey_window.new.bench).device_faults
     (is_device_fault (unread_fault c.in_err-survey_window.field-0.0))) c.loop-at.invariant.device c.in_err-survey_window.ensures.device)
+
+pub survey_window-requires-clause-same : goal.survey_window-requires-clause-same
+survey_window-requires-clause-same g c = grind (arith, common_steps)
+
+pub slice_bounds-survey_window-length-in-loop-at : goal.slice_bounds-survey_window-length-in-loop-at
+slice_bounds-survey_window-length-in-loop-at g c = grind (arith, common_steps)
+
+pub survey_window-requires-clause-range : goal.survey_window-requires-clause-range
+survey_window-requires-clause-range g c = grind (arith, common_steps)
+
+pub returns-clause-store : goal.returns-clause-store
+returns-clause-store g c = none_counted _ _ c.loop-at.invariant.store
+
+pub returns-clause-device : goal.returns-clause-device
+returns-clause-device g c = none_counted _ _ c.loop-at.invariant.device
+
+pub loop-at-smaller : goal.loop-at-smaller
+loop-at-smaller g c = grind (arith, common_steps)
+
+pub slice_bounds-survey_window-length : goal.slice_bounds-survey_window-length
+slice_bounds-survey_window-length g c = grind (arith, common_steps)
+
+pub survey_window-requires-clause-some : goal.survey_window-requires-clause-some
+survey_window-requires-clause-some g c = grind (arith, common_steps)

@@ -1,6 +1,7 @@
--- `want_cells`: its clauses `wanted` and `spares`, and what `want_into` asks for.
+-- `want_cells`: its clauses `wanted`, `reads`, `spares` and `cause`, and what `want_into` asks for.
 use Rattle.std.proofs.Common.{◌∙◌, ◌+◌, ℕ, List, sym, ap, subst, refl, arith}
-use Rattle.bench_model.proofs.Moments.{file_stays_here}
+use Rattle.std.proofs.lemmas.Bool.{false≢true}
+use Rattle.bench_model.proofs.Moments.{file_stays_here, only_reads_here}
 use Rattle.byte_map.specs.Image.{over}
 use Rattle.flash_session.specs.declared.region_survey.Source.{Source}
 use Rattle.flash_session.specs.Sources.{AreWanted, IsOverCells, IsSource}
@@ -35,3 +36,9 @@ returns-in-Cells-clause-wanted g c =
 
 pub returns-in-Cells-clause-spares : goal.returns-in-Cells-clause-spares
 returns-in-Cells-clause-spares g c = λ over. (file_stays_here (g.B.Bench.state c.args.bench.now), refl)
+
+pub returns-in-Cells-clause-reads : goal.returns-in-Cells-clause-reads
+returns-in-Cells-clause-reads g c = only_reads_here g.B.Bench.tells (g.B.Bench.state c.args.bench.now)
+
+pub returns-in-Cells-clause-cause : goal.returns-in-Cells-clause-cause
+returns-in-Cells-clause-cause g c = record { later = omega arith; on_fault = λ failed. absurd (false≢true failed); on_ok = λ fine. refl }

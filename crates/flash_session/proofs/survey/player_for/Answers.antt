@@ -1,5 +1,6 @@
 -- `player_for`: its clause `work`, and that its result is as its type asks.
-use Rattle.std.proofs.Common.{ℕ, List, ◌∷◌, length, sym, subst}
+use Rattle.std.proofs.Common.{ℕ, List, ◌∷◌, length, sym, subst, arith}
+use Rattle.std.proofs.lemmas.Grind.{common_steps}
 use Rattle.flm_descriptor.specs.Shown.{Shown as AlgorithmShown, shown as algorithm_of}
 use Rattle.flash_session.specs.Starts.{later_shown}
 use Rattle.flash_session.specs.SurveyFacts.{HasRoom}
@@ -22,3 +23,6 @@ returns-clause-work c = λ regions.
       page = subst (λ (l : List AlgorithmShown). HasRoom l (length c.in_ok-page.page.items)) (sym c.algorithms_of.ensures)
           (subst (λ (n : ℕ). HasRoom (a ∷ rest) n) (sym c.in_ok-page.ensures) c.longest_page.ensures);
     }
+
+pub same-arena : goal.same-arena
+same-arena c = grind (arith, common_steps)

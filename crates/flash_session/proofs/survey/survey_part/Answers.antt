@@ -30,3 +30,9 @@ returns-clause-store g c = unread_counted is_store_fault c.in-Err-Store.field-0 
 
 pub returns-clause-device : goal.returns-clause-device
 returns-clause-device g c = unread_counted is_device_fault c.in-Err-Store.field-0 unread.Store _ _ c.in-Err-Store.field-0-is c.in-Err-Store.ensures.device
+
+pub returns-in-Ok-clause-store : goal.returns-in-Ok-clause-store
+returns-in-Ok-clause-store g c = c.in-Ok.ensures.store
+
+pub returns-in-Ok-clause-device : goal.returns-in-Ok-clause-device
+returns-in-Ok-clause-device g c = c.in-Ok.ensures.device

@@ -1,19 +1,21 @@
 -- `survey_work`: its clauses `found`, `reads`, `store` and `device`, and what `survey_part` asks for.
 use Rattle.std.proofs.Common.{◌∙◌, IsTrue, false, List, [], ◌∷◌, Option, refl, sym, ap, subst, arith}
+use Rattle.std.proofs.lemmas.Grind.{common_steps}
 use Rattle.std.specs.Borrow.{Bor}
+use Rattle.std.proofs.lemmas.Result.{err_from_is_err_and}
 use Rattle.board_file.specs.Shown.{shown as board_of}
 use Rattle.flm_descriptor.specs.declared.algorithm.Algorithm.{Algorithm}
 use Rattle.flm_descriptor.specs.Shown.{Shown as AlgorithmShown, shown as algorithm_of}
 use Rattle.job_text.specs.Fits.{all_fit}
+use Rattle.job_text.specs.Stands.{StandsFor}
+use Rattle.bench_model.proofs.CountLemmas.{counted_then}
+use Rattle.bench_model.specs.Counted.{is_store_fault, is_device_fault}
 use Rattle.flash_session.specs.Found.{AreFound}
 use Rattle.flash_session.specs.Goals.{goal_in}
 use Rattle.flash_session.specs.Starts.{later_shown}
-use Rattle.std.proofs.lemmas.Result.{err_from_is_err_and}
 use Rattle.flash_session.specs.declared.fault.SurveyFault.{SurveyFault}
 use Rattle.flash_session.specs.declared.region_plan.SessionWork.{SessionWork}
 use Rattle.flash_session.proofs.FoundLemmas.{found_then, later_still, refused, handed}
-use Rattle.bench_model.proofs.CountLemmas.{counted_then}
-use Rattle.bench_model.specs.Counted.{is_store_fault, is_device_fault}
 use Rattle.flash_session.proofs.ReadLemmas.{read_then}
 use Rattle.flash_session.proofs.JobLemmas.{sizes_are}
 use Rattle.flash_session.proofs.survey.survey_work.Goals as goal
@@ -92,3 +94,10 @@ returns-clause-store g c = counted_then _ _ _ false _ refl c.in_ok-first.ensures
 
 pub returns-clause-device : goal.returns-clause-device
 returns-clause-device g c = counted_then _ _ _ false _ refl c.in_ok-first.ensures.device c.in_ok-second.ensures.device
+
+pub survey_part-requires-2-clause-stands : goal.survey_part-requires-2-clause-stands
+survey_part-requires-2-clause-stands g c = λ told.
+    subst (StandsFor c.args.job.now) (sym (c.survey_part.ensures.reads.file.file told)) (c.requires.stands told)
+
+pub returns-in_default-clause-found : goal.returns-in_default-clause-found
+returns-in_default-clause-found g c = grind (arith, common_steps)

@@ -1,5 +1,6 @@
 -- `put_items`: that its loop keeps what it has to.
 use Rattle.std.proofs.Common.{arith}
+use Rattle.std.proofs.lemmas.Grind.{common_steps}
 use Rattle.std.proofs.lemmas.List.Elements.{All-more}
 use Rattle.flm_descriptor.specs.declared.items.SectorItem.{SectorItem}
 use Rattle.flm_forge.specs.Device.{ItemFits, item_bytes}
@@ -20,3 +21,6 @@ loop-item-preserved c =
       fit = All-more ItemFits items l.item-index no_item (omega arith) l.invariant.fit
           (record { size = fit 0 0 (omega arith); offset = fit 1 0 (omega arith) });
     }
+
+pub returns-clause-fits : goal.returns-clause-fits
+returns-clause-fits c = grind (arith, common_steps)

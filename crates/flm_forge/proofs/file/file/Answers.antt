@@ -1,4 +1,4 @@
--- `file`: its clause `bytes`.
+-- `file`: its clauses `bytes` and `listing_fits`, and what `put_headers` asks for.
 use Rattle.std.proofs.Common.{◌≡◌, ◌++◌, ℕ, List, ap, ◌∙◌}
 use Rattle.std.specs.List.{flat_map}
 use Rattle.flm_forge.specs.declared.sizes.Sizes.{Sizes}
@@ -36,3 +36,9 @@ returns-clause-bytes c =
     c.put_elf_header.new.out.items c.put.new.out.items c.put-2.new.out.items c.put_symbol.new.out.items c.put_symbol-2.new.out.items c.put_symbols.new.out.items
     c.put-3.new.out.items c.put-4.new.out.items c.put_descriptor.new.out.items c.put_headers.new.out.items
     e1 c.in_ok-put.ensures c.in_ok-put-2.ensures c.in_ok-put_symbol.ensures e5 e6 e7 e8 c.in_ok-put_descriptor.ensures.bytes e10
+
+pub returns-clause-listing_fits : goal.returns-clause-listing_fits
+returns-clause-listing_fits c = c.in_ok-put_descriptor.ensures.fits
+
+pub put_headers-requires : goal.put_headers-requires
+put_headers-requires c = c.requires.fits

@@ -5,3 +5,6 @@ use Rattle.flm_forge.proofs.symbol.put_symbols.Goals as goal
 
 pub loop-symbol-preserved : goal.loop-symbol-preserved
 loop-symbol-preserved c = grind (arith, common_steps)
+
+pub returns : goal.returns
+returns c = grind (arith, common_steps)

@@ -5,3 +5,6 @@ use Rattle.flm_forge.proofs.write.put_halves.Goals as goal
 
 pub loop-number-preserved : goal.loop-number-preserved
 loop-number-preserved c = grind (arith, common_steps)
+
+pub returns : goal.returns
+returns c = grind (arith, common_steps)

@@ -1,7 +1,8 @@
 -- `put_printable`: its contract, `Puts`, and that its loop keeps what it has to.
-use Rattle.std.proofs.Common.{[], ◌∷◌}
-use Rattle.report_text.specs.Inspection.{printable}
+use Rattle.std.proofs.Common.{[], ◌∷◌, arith}
+use Rattle.std.proofs.lemmas.Grind.{common_steps}
 use Rattle.outside_io.proofs.PutTexts.{puts_nothing, puts_more, puts_breaks, puts_failed}
+use Rattle.report_text.specs.Inspection.{printable}
 use Rattle.report_text.proofs.inspection.put_printable.Goals as goal
 
 pub loop-byte-init : goal.loop-byte-init
@@ -14,3 +15,6 @@ loop-byte-preserved g c = puts_more (λ byte. printable byte ∷ []) _ _ _ c.loo
 pub returns-in_err-put_pieces : goal.returns-in_err-put_pieces
 returns-in_err-put_pieces g c = puts_failed _ c.from_residual.ensures.0
     (puts_breaks (λ byte. printable byte ∷ []) _ _ _ c.loop-byte-test.true c.loop-byte.invariant (rw c.printable.ensures at c.in_err-put_pieces.ensures))
+
+pub returns : goal.returns
+returns g c = grind (arith, common_steps)

@@ -1,8 +1,9 @@
 -- `put_devices`: its contract, `Puts`, and that its loop keeps what it has to.
-use Rattle.std.proofs.Common.{ap}
+use Rattle.std.proofs.Common.{ap, arith}
+use Rattle.std.proofs.lemmas.Grind.{common_steps}
 use Rattle.flm_descriptor.specs.declared.algorithm.Algorithm.{Algorithm}
-use Rattle.report_text.specs.Job.{device_line}
 use Rattle.outside_io.proofs.PutTexts.{puts_as, puts_nothing, puts_more, puts_breaks, puts_failed}
+use Rattle.report_text.specs.Job.{device_line}
 use Rattle.report_text.proofs.job.put_devices.Goals as goal
 
 pub loop-algorithm-init : goal.loop-algorithm-init
@@ -20,3 +21,6 @@ returns-in_err-put_device g c =
     puts_failed _ c.from_residual.ensures.0
     (puts_breaks (λ (a : Algorithm). device_line a.device) _ _ a c.loop-algorithm-test.true c.loop-algorithm.invariant
     (puts_as (ap (λ (a : Algorithm). device_line a.device) c.algorithm-item.is) c.in_err-put_device.ensures))
+
+pub returns : goal.returns
+returns g c = grind (arith, common_steps)

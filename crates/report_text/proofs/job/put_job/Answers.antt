@@ -3,3 +3,6 @@ use Rattle.report_text.proofs.job.put_job.Goals as goal
 
 pub returns-in-None : goal.returns-in-None
 returns-in-None g c = rw c.in-None.is c.put_pieces.ensures
+
+pub returns-in-Some : goal.returns-in-Some
+returns-in-Some g c = rw c.in-Some.is c.put_open_job.ensures

@@ -1,8 +1,7 @@
 -- `put_flm_fault`: its contract, `Puts`.
-use Rattle.std.proofs.Common.{ap, sym, arith}
-use Rattle.std.proofs.lemmas.Grind.{common_steps}
+use Rattle.std.proofs.Common.{ap, sym}
+use Rattle.outside_io.proofs.PutTexts.{puts_as, puts_then, puts_stops, puts_failed}
 use Rattle.report_text.specs.Faults.{elf_text, flm_text}
-use Rattle.outside_io.proofs.PutTexts.{puts_as, puts_stops, puts_failed}
 use Rattle.report_text.proofs.reason.put_flm_fault.Goals as goal
 
 pub returns-in_err-put_pieces-in-Elf : goal.returns-in_err-put_pieces-in-Elf
@@ -38,4 +37,28 @@ returns-in-SymbolOutside g c =
 
 pub returns-in_ok-put_pieces-in-Elf : goal.returns-in_ok-put_pieces-in-Elf
 unfolding flm_text
-returns-in_ok-put_pieces-in-Elf g c = grind (arith, common_steps)
+returns-in_ok-put_pieces-in-Elf g c = puts_as (ap flm_text (sym c.in-Elf.is)) (puts_then _ c.in_ok-put_pieces-in-Elf.ensures c.put_elf_fault.ensures)
+
+pub returns-in-SectorOrder : goal.returns-in-SectorOrder
+unfolding flm_text
+returns-in-SectorOrder g c = puts_as (ap flm_text (sym c.in-SectorOrder.is)) c.put_number-in-SectorOrder.ensures
+
+pub returns-in-NoSymbol : goal.returns-in-NoSymbol
+unfolding flm_text
+returns-in-NoSymbol g c = puts_as (ap flm_text (sym c.in-NoSymbol.is)) (rw c.text-in-NoSymbol.ensures at c.put_pieces-in-NoSymbol.ensures)
+
+pub returns-in-NoSection : goal.returns-in-NoSection
+unfolding flm_text
+returns-in-NoSection g c = puts_as (ap flm_text (sym c.in-NoSection.is)) (rw c.text.ensures at c.put_pieces-in-NoSection.ensures)
+
+pub returns-in-BadDevice : goal.returns-in-BadDevice
+unfolding flm_text
+returns-in-BadDevice g c = puts_as (ap flm_text (sym c.in-BadDevice.is)) c.put_number-in-BadDevice.ensures
+
+pub returns-in-SectorGap : goal.returns-in-SectorGap
+unfolding flm_text
+returns-in-SectorGap g c = puts_as (ap flm_text (sym c.in-SectorGap.is)) c.put_pieces-in-SectorGap.ensures
+
+pub returns-in-BadPage : goal.returns-in-BadPage
+unfolding flm_text
+returns-in-BadPage g c = puts_as (ap flm_text (sym c.in-BadPage.is)) c.put_number.ensures

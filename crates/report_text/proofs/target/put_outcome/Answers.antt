@@ -8,3 +8,6 @@ returns-in_err-put_reason-in-Some g c = rw c.in-Some.is (puts_failed _ c.from_re
 
 pub returns-in_ok-put_reason-in-Some : goal.returns-in_ok-put_reason-in-Some
 returns-in_ok-put_reason-in-Some g c = rw c.in-Some.is (puts_then _ c.in_ok-put_reason-in-Some.ensures c.put_pieces-in-Some.ensures)
+
+pub returns-in-None : goal.returns-in-None
+returns-in-None g c = rw c.in-None.is c.put_pieces.ensures

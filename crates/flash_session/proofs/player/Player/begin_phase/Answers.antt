@@ -1,5 +1,6 @@
--- `Player::begin_phase`: its clauses `turns`, `host` and `one`.
-use Rattle.std.proofs.Common.{refl, ap}
+-- `Player::begin_phase`: its clauses `turns`, `host` and `one`, and what `load` asks for.
+use Rattle.std.proofs.Common.{refl, ap, arith}
+use Rattle.std.proofs.lemmas.Grind.{common_steps}
 use Rattle.flash_session.specs.declared.player.Player.{Player}
 use Rattle.flash_session.proofs.TakesLemmas.{begins_so, breaks_so}
 use Rattle.flash_session.proofs.TurnMade.{begin_turn, reset_broken}
@@ -36,3 +37,6 @@ returns-in-Ok-clause-one g c = begins_so c.args.cursor c.args.region c.args.phas
 
 pub returns-in-Err-clause-one : goal.returns-in-Err-clause-one
 returns-in-Err-clause-one g c = breaks_so c.args.cursor c.args.region c.args.phase c.requires.kind
+
+pub load-requires : goal.load-requires
+load-requires g c = grind (arith, common_steps)

@@ -1,5 +1,6 @@
 -- `Player::call_step`: its clause `step`.
-use Rattle.std.proofs.Common.{◌+◌, ℕ, sym, subst}
+use Rattle.std.proofs.Common.{◌+◌, ℕ, sym, subst, arith}
+use Rattle.std.proofs.lemmas.Grind.{common_steps}
 use Rattle.algo_calls.specs.declared.call.Call.TheVariants.{UnInit}
 use Rattle.flash_session.specs.declared.cursor.Cursor.{Cursor}
 use Rattle.flash_session.specs.declared.cursor.Cursor.TheVariants as at
@@ -25,3 +26,6 @@ returns-in-None-clause-step c =
     (subst (λ (n : ℕ). IsStep c.args.self.now (at.Calls c.args.region c.args.phase c.args.index)
     (step.Call (UnInit n) 0 0 (after (has_second c.args.self.now) c.args.region c.args.phase))) (sym c.kind.ensures)
     (step_uninit c.args.self.now c.args.region c.args.phase c.args.index c.requires.cursor c.in-None.ensures))
+
+pub overflow_add-result : goal.overflow_add-result
+overflow_add-result c = grind (arith, common_steps)

@@ -1,13 +1,14 @@
--- `Player::compare_through`: its clauses `turns`, `one` and `still`.
+-- `Player::compare_through`: its clauses `turns`, `one` and `still`, what `compare_window` asks for, and that slices end within.
 use Rattle.std.proofs.Common.{◌≡◌, ◌-◌, ◌∙◌, ℕ, [], Option, Some, None, length, take, refl, sym, subst, arith}
+use Rattle.std.proofs.lemmas.Grind.{common_steps}
 use Rattle.std.proofs.lemmas.List.{length-take}
 use Rattle.bench_model.specs.Counted.{is_store_fault, is_device_fault}
 use Rattle.readback.specs.declared.compare.Difference.{Difference}
 use Rattle.flash_session.specs.Differs.{FindsIn}
-use Rattle.flash_session.proofs.JobLemmas.{goal_length}
 use Rattle.flash_session.specs.declared.target_end.TargetEnd.TheVariants as ended
 use Rattle.flash_session.specs.Targets.{goal_for}
 use Rattle.flash_session.specs.declared.windows.Unread.TheVariants as unread
+use Rattle.flash_session.proofs.JobLemmas.{goal_length}
 use Rattle.flash_session.proofs.UnreadLemmas.{unread_counted}
 use Rattle.flash_session.proofs.TakesLemmas.{read_still}
 use Rattle.flash_session.proofs.TurnMade.{compare_at, compare_count, alike_turn, closing_turn, differs_turn, compare_unread}
@@ -130,3 +131,33 @@ returns-then-at-len-clause-still g c = read_still g.B.Bench.tells c.args.self.no
 pub returns-else-at-len-clause-still : goal.returns-else-at-len-clause-still
 returns-else-at-len-clause-still g c = read_still g.B.Bench.tells c.args.self.now _ c.args.arena.now (g.B.Bench.state c.args.bench.now)
     (g.B.Bench.state c.compare_window.new.bench) c.compare_window.ensures.reads.cells
+
+pub compare_window-requires-clause-same : goal.compare_window-requires-clause-same
+compare_window-requires-clause-same g c = grind (arith, common_steps)
+
+pub slice_bounds-compare_window-end-4 : goal.slice_bounds-compare_window-end-4
+slice_bounds-compare_window-end-4 g c = grind (arith, common_steps)
+
+pub slice_bounds-compare_window-end-2 : goal.slice_bounds-compare_window-end-2
+slice_bounds-compare_window-end-2 g c = grind (arith, common_steps)
+
+pub compare_window-requires-clause-some : goal.compare_window-requires-clause-some
+compare_window-requires-clause-some g c = grind (arith, common_steps)
+
+pub compare_window-requires-clause-range : goal.compare_window-requires-clause-range
+compare_window-requires-clause-range g c = grind (arith, common_steps)
+
+pub overflow_cast-len : goal.overflow_cast-len
+overflow_cast-len g c = grind (arith, common_steps)
+
+pub overflow_cast-self : goal.overflow_cast-self
+overflow_cast-self g c = grind (arith, common_steps)
+
+pub overflow_sub-count : goal.overflow_sub-count
+overflow_sub-count g c = grind (arith, common_steps)
+
+pub overflow_add-self : goal.overflow_add-self
+overflow_add-self g c = grind (arith, common_steps)
+
+pub overflow_add-at : goal.overflow_add-at
+overflow_add-at g c = grind (arith, common_steps)

@@ -1,5 +1,6 @@
--- `Player::go_on`: its clauses `turns`, `one` and `slice`.
-use Rattle.std.proofs.Common.{refl}
+-- `Player::go_on`: its clauses `turns`, `one` and `slice`, and what `judge` asks for.
+use Rattle.std.proofs.Common.{refl, arith}
+use Rattle.std.proofs.lemmas.Grind.{common_steps}
 use Rattle.flash_session.proofs.TakesLemmas.{judges_so, slice_more, slice_ended}
 use Rattle.flash_session.proofs.TurnMade.{further_turn, came_turn}
 use Rattle.flash_session.proofs.player.Player.go_on.Goals as goal
@@ -33,3 +34,6 @@ returns-in-Ended-clause-slice g c =
     slice_ended g.B.Bench.tells c.args.steps c.args.self.now c.judge.new.self c.slice.new.self c.args.arena.now c.slice.new.arena
     (g.B.Bench.state c.args.bench.now) (g.B.Bench.state c.slice.new.bench) c.args.call c.args.len c.args.left c.slice.new.left c.args.next c.in-Ended.end
     c.in-Ended.ensures c.judge.ensures
+
+pub judge-requires : goal.judge-requires
+judge-requires g c = grind (arith, common_steps)

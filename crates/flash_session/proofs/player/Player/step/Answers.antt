@@ -1,5 +1,6 @@
 -- `Player::step`: its clause `step`.
-use Rattle.std.proofs.Common.{ℕ, sym, subst}
+use Rattle.std.proofs.Common.{ℕ, sym, subst, arith}
+use Rattle.std.proofs.lemmas.Grind.{common_steps}
 use Rattle.algo_calls.specs.declared.call.Call.TheVariants.{Init}
 use Rattle.flash_session.specs.declared.cursor.Cursor.{Cursor}
 use Rattle.flash_session.specs.declared.cursor.Cursor.TheVariants as at
@@ -16,3 +17,6 @@ returns-in-Init-clause-step c =
     (subst (λ (n : ℕ). IsStep g (at.Init c.in-Init.region c.in-Init.phase) (step.Call (Init n) 0 0 (at.Calls c.in-Init.region c.in-Init.phase 0)))
     (sym c.kind.ensures)
     (step_init g c.in-Init.region c.in-Init.phase (subst (λ (x : Cursor). IsCursor (has_second g) g.moved x) c.in-Init.is c.requires.cursor)))
+
+pub returns-in-Last-clause-step : goal.returns-in-Last-clause-step
+returns-in-Last-clause-step c = grind (arith, common_steps)

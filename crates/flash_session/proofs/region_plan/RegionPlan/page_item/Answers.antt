@@ -1,5 +1,6 @@
 -- `RegionPlan::page_item`: its contract, `IsItem`.
 use Rattle.std.proofs.Common.{arith}
+use Rattle.std.proofs.lemmas.Grind.{common_steps}
 use Rattle.flash_session.proofs.ItemLemmas.{page_next}
 use Rattle.flash_session.proofs.region_plan.RegionPlan.page_item.Goals as goal
 
@@ -13,3 +14,6 @@ returns-in-Some c = λ s region_work entry.
 
 pub returns-in-None : goal.returns-in-None
 returns-in-None c = λ s region_work entry bytes. c.in-None.ensures c.args.verifies s bytes
+
+pub overflow_add-self : goal.overflow_add-self
+overflow_add-self c = grind (arith, common_steps)

@@ -1,5 +1,6 @@
 -- `Session::survey`: its clauses `ok`, `made`, `err`, `job`, `pairs`, `store` and `device`, and what `survey_for` asks for.
-use Rattle.std.proofs.Common.{◌∙◌, Option, IsSome, IsSomeAnd, refl, sym, ap, subst}
+use Rattle.std.proofs.Common.{◌∙◌, Option, IsSome, IsSomeAnd, refl, sym, ap, subst, arith}
+use Rattle.std.proofs.lemmas.Grind.{common_steps}
 use Rattle.std.proofs.lemmas.Result.{err_from_is_err_and}
 use Rattle.bench_model.specs.Counted.{is_store_fault, is_device_fault}
 use Rattle.board_file.specs.Limits.{size_of}
@@ -51,3 +52,6 @@ pub returns-in_err-survey-clause-err : goal.returns-in_err-survey-clause-err
 returns-in_err-survey-clause-err g c =
     let p = err_from_is_err_and c.from_residual.result c.from_residual.ensures.1 in
     rw p.1 (ap shown_in c.keep.ensures.survey)
+
+pub keep-requires : goal.keep-requires
+keep-requires g c = grind (arith, common_steps)
