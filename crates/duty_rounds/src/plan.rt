@@ -3,7 +3,7 @@
 use duty_trials::{PageBytes, Work};
 
 /// What the cells hold before a list.
-#[derive(Clone, Copy, Debug, PartialEq, Eq)]
+#[derive(Clone, Copy)]
 pub enum Contents {
     /// The empty value.
     Blank,
@@ -16,7 +16,7 @@ pub enum Contents {
 }
 
 /// A list of a round: what it works on, the contents before it, and the bytes of pages that it programs.
-#[derive(Clone, Copy, Debug, PartialEq, Eq)]
+#[derive(Clone, Copy)]
 pub struct Plan {
     pub work: Work,
     pub contents: Contents,

@@ -1,5 +1,5 @@
 //! Rounds of lists, and what all of them show.
-ghost use Rattle.std.specs.Prelude.{◌≡◌, ℕ, length, map, [], ◌∷◌, IsTrue, IfOk};
+ghost use Rattle.std.specs.Prelude.{◌≡◌, length, map, [], ◌∷◌, IsTrue, IfOk};
 ghost use Rattle.board_file.specs.Shown.{shown as board_of};
 ghost use Rattle.flm_descriptor.specs.Shown.{Shown as AlgorithmShown, shown as algorithm_of};
 ghost use Rattle.algo_calls.specs.Duties.{Serves};
@@ -19,7 +19,7 @@ use serve_law::a1_serves;
 use std::alloc::Global;
 
 /// How many rounds to make, and the seed of their contents and bytes.
-#[derive(Clone, Copy, Debug, PartialEq, Eq)]
+#[derive(Clone, Copy)]
 pub struct Rounds {
     pub seed: u32,
     pub rounds: u32,

@@ -1,5 +1,5 @@
 //! The trial of one list of a round.
-ghost use Rattle.std.specs.Prelude.{◌≡◌, ◌<◌, ◌≤◌, ℕ, length, slice_index, IfOk, IfSome, IfNone};
+ghost use Rattle.std.specs.Prelude.{◌≡◌, ◌<◌, ℕ, length, slice_index, IfOk, IfSome, IfNone};
 ghost use Rattle.duty_trials.specs.Ended.{IfBroken};
 ghost use Rattle.duty_trials.specs.Lists.{HasFunction};
 ghost use Rattle.duty_trials.specs.Subjects.{board_in, algorithm_in};

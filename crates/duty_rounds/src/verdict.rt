@@ -5,7 +5,7 @@ use crate::plan::Plan;
 use duty_trials::{Breach, Tally, Turn};
 
 /// A cell that differs from what the ideal device leaves: its place among all cells, the byte that is wanted, and the one that was found.
-#[derive(Clone, Copy, Debug, PartialEq, Eq)]
+#[derive(Clone, Copy)]
 pub struct Difference {
     pub place: usize,
     pub wanted: u8,

@@ -3,7 +3,7 @@ ghost use Rattle.std.specs.Prelude.{◌≡◌, ◌≤◌, ◌<◌, ℕ, length, 
 ghost use Rattle.duty_trials.specs.Ended.{OnlyBetween};
 
 /// The bytes that pages are programmed with.
-#[derive(Clone, Copy, Debug, PartialEq, Eq)]
+#[derive(Clone, Copy)]
 pub enum PageBytes {
     /// Random ones.
     Random,
@@ -18,7 +18,7 @@ pub enum PageBytes {
 }
 
 /// The bytes of pages, of which the random ones come of a seed, and the value of an empty cell.
-#[derive(Clone, Copy, Debug, PartialEq, Eq)]
+#[derive(Clone, Copy)]
 pub struct Filling {
     pub bytes: PageBytes,
     pub seed: u64,

@@ -4,7 +4,7 @@ ghost use Rattle.std.specs.Prelude.{◌≡◌};
 use crate::stand::{Breach, Tried};
 
 /// What the calls of a list between Init and UnInit work on.
-#[derive(Clone, Copy, Debug, PartialEq, Eq)]
+#[derive(Clone, Copy)]
 pub enum Work {
     /// Sectors, which are erased.
     Sectors,
@@ -17,7 +17,7 @@ pub enum Work {
 }
 
 /// A call of a list.
-#[derive(Clone, Copy, Debug, PartialEq, Eq)]
+#[derive(Clone, Copy)]
 pub enum Turn {
     /// The first.
     Init,
@@ -28,7 +28,7 @@ pub enum Turn {
 }
 
 /// What the trial of a list shows.
-#[derive(Clone, Copy, Debug, PartialEq, Eq)]
+#[derive(Clone, Copy)]
 pub enum Ended {
     /// No breach was seen.
     Kept,

@@ -31,7 +31,7 @@ pub struct Stand {
 }
 
 /// How a call broke its duty.
-#[derive(Clone, Copy, Debug, PartialEq, Eq)]
+#[derive(Clone, Copy)]
 pub enum Breach {
     /// It didn't end with the value of success.
     NotDone {

@@ -40,7 +40,7 @@ pub struct Subject<'a> {
 }
 
 /// A sector, a page or the whole device: the address of its first byte, and its first place among all cells and the one behind its last.
-#[derive(Clone, Copy, Debug, PartialEq, Eq)]
+#[derive(Clone, Copy)]
 pub struct Span {
     pub address: u32,
     pub from: u32,

@@ -4,7 +4,7 @@ ghost use Rattle.std.specs.Prelude.{◌≡◌};
 use algo_calls::Call;
 
 /// The calls of one function: how many, the most steps that one took, and the steps that its time-out allows.
-#[derive(Clone, Copy, Debug, Default, PartialEq, Eq)]
+#[derive(Clone, Copy, Default)]
 pub struct Count {
     pub calls: u64,
     pub most: u64,
@@ -12,7 +12,7 @@ pub struct Count {
 }
 
 /// The calls of each function.
-#[derive(Clone, Copy, Debug, Default, PartialEq, Eq)]
+#[derive(Clone, Copy, Default)]
 pub struct Tally {
     pub init: Count,
     pub uninit: Count,

@@ -1,5 +1,5 @@
 //! The call of the program.
-ghost use Rattle.std.specs.Prelude.{◌≡◌, ◌⊎◌, ℕ, List, All};
+ghost use Rattle.std.specs.Prelude.{◌≡◌, ◌⊎◌, All};
 ghost use Rattle.command_words.specs.Files.{names_in};
 ghost use Rattle.command_files.specs.Inputs.{inputs_call};
 ghost use Rattle.command_answers.specs.Call.{sink_call};

@@ -11,7 +11,7 @@ use outside_io::{OutputFault, Sink, put_all};
 use target_core::RunEnd;
 
 /// How a call broke its duty.
-#[derive(Clone, Copy, Debug, PartialEq, Eq)]
+#[derive(Clone, Copy)]
 pub enum Duty {
     /// It returned another value than that of success.
     Answer,
@@ -30,7 +30,7 @@ pub enum Duty {
 }
 
 /// What is told of algorithms.
-#[derive(Clone, Copy, Debug, PartialEq, Eq)]
+#[derive(Clone, Copy)]
 pub enum Ending {
     /// They keep their duties, by a theorem.
     Proved,

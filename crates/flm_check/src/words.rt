@@ -16,7 +16,7 @@ pub struct Request<'a> {
 }
 
 /// A number that an option gives.
-#[derive(Clone, Copy, Debug, PartialEq, Eq)]
+#[derive(Clone, Copy)]
 enum Setting {
     Seed(u32),
     Rounds(u32),

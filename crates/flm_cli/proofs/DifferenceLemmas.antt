@@ -160,8 +160,8 @@ pub runs_here : (tells : Bool) (s : BenchState) (first base size : ℕ) (image :
 runs_here tells s first base size image = record { agree = λ told offset byte inside is. absurd (cc); bench = only_reads_cells_here tells s; faults = refl }
 
 -- what was found, where no fault was counted
-pub uncaused : (found : Option Difference) (before now : ℕ) → now ≡ before → HasCause {T = Option Difference} {E = DeviceFault} before now (Ok found)
-uncaused found before now same = record { later = omega (arith, same); on_fault = λ e. cc; on_ok = λ e. same }
+pub uncaused : {T : Type 0} (found : T) (before now : ℕ) → now ≡ before → HasCause {T = T} {E = DeviceFault} before now (Ok found)
+uncaused {T} found before now same = record { later = omega (arith, same); on_fault = λ e. cc; on_ok = λ e. same }
 
 -- the run at a place of an image
 pub run_is : (image : List Run) (k : ℕ) (run : Run) → slice_get image k ≡ Some run → run_at image k ≡ run

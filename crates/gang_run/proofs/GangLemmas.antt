@@ -277,9 +277,15 @@ pub slot_rests : (tells : Bool) (steps : ℕ) (self new : Slot) (x : GangTarget)
 slot_rests tells steps self new x state arena arena' s t is shown over = subst (λ (z : Slot). SlotTakes tells steps z arena s new arena' t) (sym is)
     (λ going. absurd (over_going x.player.place (sym shown ∙ over) going))
 
-going_of : (p : Place) → turn_of p ≡ turn.More → IsUnended p
+pub going_of : (p : Place) → turn_of p ≡ turn.More → IsUnended p
 going_of (place.Ended e) more = cc
 going_of p more = tt
+
+-- one that hasn't is ready
+pub ready_more : (tells : Bool) (self : Slot) (x : GangTarget) (state : Turn) (arena : List (List ℕ)) (b : BenchState) → self ≡ slot.Open x
+    → state ≡ turn_of x.player.place → state ≡ turn.More → IsReady tells self arena b → Ready tells x arena b
+ready_more tells self x state arena b is shown more ready =
+    subst (λ (z : Slot). IsReady tells z arena b) is ready (going_of x.player.place (sym shown ∙ more))
 
 -- ---- what a turn keeps
 

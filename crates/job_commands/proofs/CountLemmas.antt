@@ -11,13 +11,22 @@ use Rattle.bench_model.specs.Counted.{is_store_fault, is_device_fault}
 use Rattle.flash_session.specs.declared.fault.SurveyFault.{SurveyFault}
 use Rattle.flash_session.specs.declared.fault.SurveyFault.TheVariants as survey
 use Rattle.flash_session.specs.Surveys.{Surveyed, survey_fault}
-use Rattle.report_text.specs.Refusal.{Refusal, input_fault, no_job, output_fault}
+use Rattle.flash_session.specs.declared.fault.SessionFault.{SessionFault}
+use Rattle.flash_session.specs.declared.fault.SessionFault.TheVariants as session
+use Rattle.flash_session.specs.Opened.{session_fault}
+use Rattle.job_file.specs.declared.fault.OpenFault.{OpenFault}
+use Rattle.job_file.specs.declared.fault.OpenFault.TheVariants as opening
+use Rattle.job_file.specs.declared.fault.BeginFault.{BeginFault}
+use Rattle.job_file.specs.declared.fault.BeginFault.TheVariants as beginning
+use Rattle.job_file.specs.Counted.{open_fault, begin_fault}
+use Rattle.report_text.specs.Refusal.{Refusal, input_fault, no_job, store_fault, output_fault}
+use Rattle.report_text.specs.Refused.{of_open}
 use Rattle.command_files.specs.Inputs.{InputsCall, NoneFailed}
 use Rattle.command_answers.specs.Call.{BenchCall, SinkCall, Answer, done, refused, bench_call, sink_call}
 use Rattle.command_answers.specs.Answered.{Fault, input, store, device, output, fault_in, IsCounted, StandsEarly, IsOf, EndsLawfully, on_job_file}
 use Rattle.command_answers.proofs.AnswerLemmas.{unraised, never_input}
 use Rattle.job_commands.specs.Steps.{BenchCounted, begun}
-use Rattle.job_commands.specs.Refused.{of_survey}
+use Rattle.job_commands.specs.Refused.{of_session, of_survey, of_begin}
 
 -- the work after the files, of a command that may take some
 pub worked_lawful : (bench : BenchCall) (inputs : InputsCall) (out : SinkCall) (has its : Refusal → Bool) (names : List (List ℕ)) (answer : Answer)
@@ -104,31 +113,106 @@ counted_behind tells a b d out answer stores devices counts = record {
   out_count = counts.out_count;
 }
 
--- its survey failed
+-- A call on the bench counted the fault that it answered, and nothing was put.
+
+abbrev fault_of : Option bench.BenchFault → Option Fault
+fault_of None = None
+fault_of (Some bench.store) = Some store
+fault_of (Some bench.device) = Some device
+
+pub call_counted : (tells sinks : Bool) (a b : BenchState) (o : SinkState) (was : Option bench.BenchFault) (answer : Answer)
+    → bench.IsCounted a.store_faults b.store_faults (is_store_fault was) → bench.IsCounted a.device_faults b.device_faults (is_device_fault was)
+    → fault_in answer ≡ fault_of was → BenchCounted (bench_call tells a b) (sink_call sinks o o) answer
+call_counted tells sinks a b o None answer stores devices is = record {
+  store_count = unraised a.store_faults b.store_faults store answer (stores.on_other refl) (λ its. let none : None ≡ Some store = sym is ∙ its in cc);
+  device_count = unraised a.device_faults b.device_faults device answer (devices.on_other refl) (λ its. let none : None ≡ Some device = sym is ∙ its in cc);
+  out_count = unraised o.faults o.faults output answer refl (λ its. let none : None ≡ Some output = sym is ∙ its in cc);
+}
+call_counted tells sinks a b o (Some bench.store) answer stores devices is = record {
+  store_count = raised_here a.store_faults a.store_faults b.store_faults store answer refl (stores.on_fault refl) stores.later is;
+  device_count = unraised a.device_faults b.device_faults device answer (devices.on_other refl)
+      (λ its. let both : Some store ≡ Some device = sym is ∙ its in let same : store ≡ device = cc in cc);
+  out_count = unraised o.faults o.faults output answer refl
+      (λ its. let both : Some store ≡ Some output = sym is ∙ its in let same : store ≡ output = cc in cc);
+}
+call_counted tells sinks a b o (Some bench.device) answer stores devices is = record {
+  store_count = unraised a.store_faults b.store_faults store answer (stores.on_other refl)
+      (λ its. let both : Some device ≡ Some store = sym is ∙ its in let same : device ≡ store = cc in cc);
+  device_count = raised_here a.device_faults a.device_faults b.device_faults device answer refl (devices.on_fault refl) devices.later is;
+  out_count = unraised o.faults o.faults output answer refl
+      (λ its. let both : Some device ≡ Some output = sym is ∙ its in let same : device ≡ output = cc in cc);
+}
+
+-- a session's survey failed
+survey_is : (fault : SurveyFault) → fault_in (refused (of_survey fault)) ≡ fault_of (survey_fault fault)
+survey_is survey.OutOfMemory = refl
+survey_is survey.DeviceFault = refl
+survey_is survey.StoreFault = refl
+
 pub survey_counted : (tells sinks : Bool) (b m : BenchState) (p : SinkState) (fault : SurveyFault)
     → bench.IsCounted b.store_faults m.store_faults (is_store_fault (survey_fault fault))
     → bench.IsCounted b.device_faults m.device_faults (is_device_fault (survey_fault fault))
     → BenchCounted (bench_call tells b m) (sink_call sinks p p) (refused (of_survey fault))
-survey_counted tells sinks b m p survey.OutOfMemory counts causes =
-    let answer = refused (of_survey survey.OutOfMemory) in
+survey_counted tells sinks b m p fault stores devices =
+    call_counted tells sinks b m p (survey_fault fault) (refused (of_survey fault)) stores devices (survey_is fault)
+
+-- no session was opened
+open_is : (fault : OpenFault) → fault_in (refused (of_open fault)) ≡ fault_of (open_fault fault)
+open_is opening.OutOfMemory = refl
+open_is opening.NoJob = refl
+open_is (opening.NotAJob at) = refl
+open_is (opening.Damaged kept found) = refl
+open_is opening.StoreFault = refl
+open_is (opening.CellsDiffer said found) = refl
+
+session_is : (fault : SessionFault) → fault_in (refused (of_session fault)) ≡ fault_of (session_fault fault)
+session_is session.OutOfMemory = refl
+session_is (session.Open fault) = open_is fault
+session_is session.DeviceFault = refl
+
+pub session_counted : (tells sinks : Bool) (a b : BenchState) (o : SinkState) (fault : SessionFault)
+    → bench.IsCounted a.store_faults b.store_faults (is_store_fault (session_fault fault))
+    → bench.IsCounted a.device_faults b.device_faults (is_device_fault (session_fault fault))
+    → BenchCounted (bench_call tells a b) (sink_call sinks o o) (refused (of_session fault))
+session_counted tells sinks a b o fault stores devices =
+    call_counted tells sinks a b o (session_fault fault) (refused (of_session fault)) stores devices (session_is fault)
+
+-- no job was begun
+begin_is : (fault : BeginFault) → fault_in (refused (of_begin fault)) ≡ fault_of (begin_fault fault)
+begin_is beginning.OutOfMemory = refl
+begin_is beginning.JobOpen = refl
+begin_is beginning.StoreFault = refl
+begin_is beginning.DeviceFault = refl
+begin_is (beginning.CellsDiffer said found) = refl
+begin_is (beginning.NotAJob at) = refl
+begin_is (beginning.Damaged kept found) = refl
+
+pub begin_counted : (tells sinks : Bool) (a b : BenchState) (o : SinkState) (fault : BeginFault)
+    → bench.IsCounted a.store_faults b.store_faults (is_store_fault (begin_fault fault))
+    → bench.IsCounted a.device_faults b.device_faults (is_device_fault (begin_fault fault))
+    → BenchCounted (bench_call tells a b) (sink_call sinks o o) (refused (of_begin fault))
+begin_counted tells sinks a b o fault stores devices =
+    call_counted tells sinks a b o (begin_fault fault) (refused (of_begin fault)) stores devices (begin_is fault)
+
+-- calls on the bench counted nothing
+pub none_counted : (tells sinks : Bool) (a b : BenchState) (o : SinkState) → b.store_faults ≡ a.store_faults → b.device_faults ≡ a.device_faults
+    → BenchCounted (bench_call tells a b) (sink_call sinks o o) done
+none_counted tells sinks a b o stores devices = record {
+  store_count = unraised a.store_faults b.store_faults store done stores (λ its. cc);
+  device_count = unraised a.device_faults b.device_faults device done devices (λ its. cc);
+  out_count = unraised o.faults o.faults output done refl (λ its. cc);
+}
+
+-- the script was played, and no fault was counted; then the job couldn't be closed
+pub unclosed_counted : (tells sinks : Bool) (a m b : BenchState) (o : SinkState) → m.store_faults ≡ a.store_faults → b.device_faults ≡ a.device_faults
+    → Rose m.store_faults b.store_faults → m.store_faults ≤ b.store_faults
+    → BenchCounted (bench_call tells a b) (sink_call sinks o o) (refused store_fault)
+unclosed_counted tells sinks a m b o stores devices rose later =
+    let answer = refused store_fault in
     record {
-      store_count = unraised b.store_faults m.store_faults store answer (counts.on_other refl) (λ is. cc);
-      device_count = unraised b.device_faults m.device_faults device answer (causes.on_other refl) (λ is. cc);
-      out_count = unraised p.faults p.faults output answer refl (λ is. cc);
-    }
-survey_counted tells sinks b m p survey.DeviceFault counts causes =
-    let answer = refused (of_survey survey.DeviceFault) in
-    record {
-      store_count = unraised b.store_faults m.store_faults store answer (counts.on_other refl) (λ its. let same : device ≡ store = cc in cc);
-      device_count = raised_here b.device_faults b.device_faults m.device_faults device answer refl (causes.on_fault refl) causes.later refl;
-      out_count = unraised p.faults p.faults output answer refl (λ its. let same : device ≡ output = cc in cc);
-    }
-survey_counted tells sinks b m p survey.StoreFault counts causes =
-    let answer = refused (of_survey survey.StoreFault) in
-    record {
-      store_count = raised_here b.store_faults b.store_faults m.store_faults store answer refl (counts.on_fault refl) counts.later refl;
-      device_count = unraised b.device_faults m.device_faults device answer (causes.on_other refl) (λ its. let same : store ≡ device = cc in cc);
-      out_count = unraised p.faults p.faults output answer refl (λ its. let same : store ≡ output = cc in cc);
+      store_count = raised_here a.store_faults m.store_faults b.store_faults store answer stores rose later refl;
+      device_count = unraised a.device_faults b.device_faults device answer devices (λ its. let same : store ≡ device = cc in cc);
+      out_count = unraised o.faults o.faults output answer refl (λ its. let same : store ≡ output = cc in cc);
     }
 
 -- A session was surveyed, and no fault was counted; then its plans were put.

@@ -1,13 +1,13 @@
 -- `survey`: its clauses `looks` and `surveyed`.
-use Rattle.std.proofs.Common.{rules, ◌≡◌, ◌∙◌, sym, Err}
+use Rattle.std.proofs.Common.{◌∙◌, sym}
+use Rattle.std.proofs.lemmas.Result.{err_from_is_err_and}
 use Rattle.device_dump.proofs.LooksLemmas.{looks_dropped, looks_by, only_reads, all_read}
 use Rattle.device_dump.proofs.cell_survey.survey.Goals as goal
 
 pub returns-in_err-cells_drop-clause-looks : goal.returns-in_err-cells_drop-clause-looks
 returns-in_err-cells_drop-clause-looks g c =
-    let u = c.from_residual.ensures in
-    let is : c.from_residual.result ≡ Err c.in_err-cells_drop.field-0.0 = search rules in
-    rw is (looks_dropped c.in_err-cells_drop.field-0.0 c.in_err-cells_drop.ensures.does)
+    let p = err_from_is_err_and c.from_residual.result c.from_residual.ensures.1 in
+    rw (p.1, p.2) (looks_dropped c.in_err-cells_drop.field-0.0 c.in_err-cells_drop.ensures.does)
 
 pub returns-clause-surveyed : goal.returns-clause-surveyed
 returns-clause-surveyed g c = all_read c.args.cells.now c.read_cells.new.out c.read_cells.result c.read_cells.ensures

@@ -1,5 +1,6 @@
 -- `dump`: its contract, `DumpEnds`, and what `dump_cells` asks for.
-use Rattle.std.proofs.Common.{rules, ◌≡◌, ◌∙◌, sym, subst, arith, ℕ, List, Err}
+use Rattle.std.proofs.Common.{◌≡◌, ◌∙◌, sym, subst, arith, ℕ, List}
+use Rattle.std.proofs.lemmas.Result.{err_from_is_err_and}
 use Rattle.board_file.specs.Limits.{size_of}
 use Rattle.board_file.specs.Shown as board
 use Rattle.command_files.specs.Inputs.{inputs_call, IsFile}
@@ -13,20 +14,18 @@ use Rattle.device_dump.proofs.text.dump.Goals as goal
 
 pub returns-in_err-file : goal.returns-in_err-file
 returns-in_err-file g c =
-    let u = c.from_residual.ensures in
-    let is : c.from_residual.result ≡ Err c.in_err-file.field-0.0 = search rules in
-    rw is (ends_untaken c.args.form c.args.board.now g.B.Bench.tells g.O.Sink.tells (g.B.Bench.state c.args.bench.now) (g.O.Sink.state c.args.out.now)
+    let p = err_from_is_err_and c.from_residual.result c.from_residual.ensures.1 in
+    rw (p.1, p.2) (ends_untaken c.args.form c.args.board.now g.B.Bench.tells g.O.Sink.tells (g.B.Bench.state c.args.bench.now) (g.O.Sink.state c.args.out.now)
     (inputs_call g.I.Inputs.tells (g.I.Inputs.state c.args.inputs.now) (g.I.Inputs.state c.take_one.new.inputs)) (shown c.in_err-file.field-0.0)
     c.in_err-file.ensures.takes)
 
 pub returns-in_err-board : goal.returns-in_err-board
 returns-in_err-board g c =
     let inputs = inputs_call g.I.Inputs.tells (g.I.Inputs.state c.args.inputs.now) (g.I.Inputs.state c.take_one.new.inputs) in
-    let u = c.from_residual-in_err-board.ensures in
-    let is : c.from_residual-in_err-board.result ≡ Err c.in_err-board.field-0.0 = search rules in
     let file = subst (λ (f : List ℕ). IsFile inputs c.args.board.now f) (sym c.bytes.ensures) (c.in_ok-file.ensures.takes.0.each 0 (omega arith)) in
-    rw is (ends_unread c.args.form c.args.board.now g.B.Bench.tells g.O.Sink.tells (g.B.Bench.state c.args.bench.now) (g.O.Sink.state c.args.out.now) inputs
-    c.bytes.result.now file c.in_ok-file.ensures.takes.1 (shown c.in_err-board.field-0.0) c.in_err-board.ensures)
+    let p = err_from_is_err_and c.from_residual-in_err-board.result c.from_residual-in_err-board.ensures.1 in
+    rw (p.1, p.2) (ends_unread c.args.form c.args.board.now g.B.Bench.tells g.O.Sink.tells (g.B.Bench.state c.args.bench.now) (g.O.Sink.state c.args.out.now)
+    inputs c.bytes.result.now file c.in_ok-file.ensures.takes.1 (shown c.in_err-board.field-0.0) c.in_err-board.ensures)
 
 pub returns-then-found-wanted : goal.returns-then-found-wanted
 returns-then-found-wanted g c =

@@ -1,4 +1,6 @@
 -- `empty_page`: its clauses `here` and `others`.
+use Rattle.std.proofs.Common.{arith}
+use Rattle.std.proofs.lemmas.Grind.{common_steps}
 use Rattle.duty_rounds.proofs.ContentLemmas.{page_emptied, page_stays_empty}
 use Rattle.duty_rounds.proofs.contents.empty_page.Goals as goal
 
@@ -10,3 +12,6 @@ returns-clause-here c = λ is.
 pub returns-clause-others : goal.returns-clause-others
 returns-clause-others c = λ k less may.
     page_stays_empty c.args.subject.now k c.page-span.result c.args.cells.now c.fill.new.cells less c.fill.ensures.only c.fill.ensures.inside may
+
+pub returns-then-not-set-number-clause-here : goal.returns-then-not-set-number-clause-here
+returns-then-not-set-number-clause-here c = grind (arith, common_steps)

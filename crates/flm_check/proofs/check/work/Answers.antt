@@ -1,5 +1,5 @@
 -- `work`: its contract, `Works`, and what it calls asks for.
-use Rattle.std.proofs.Common.{rules, ◌≡◌, ◌++◌, ◌∙◌, sym, ap, subst, arith, refl, List, map, Err}
+use Rattle.std.proofs.Common.{◌++◌, ◌∙◌, sym, ap, subst, arith, refl, List, map}
 use Rattle.std.specs.Vec.{vec_len}
 use Rattle.std.proofs.lemmas.List.{length-map}
 use Rattle.std.proofs.lemmas.Option.{slice_get_within}
@@ -52,9 +52,8 @@ returns-in_default g c =
 
 pub returns-in_err-checked : goal.returns-in_err-checked
 returns-in_err-checked g c =
-    let u = c.from_residual.ensures in
-    let is : c.from_residual.result ≡ Err c.in_err-checked.field-0.0 = search rules in
-    rw is (works_untaken c.args.words.now (inputs_call g.I.Inputs.tells (g.I.Inputs.state c.args.inputs.now)
+    let p = err_from_is_err_and c.from_residual.result c.from_residual.ensures.1 in
+    rw (p.1, p.2) (works_untaken c.args.words.now (inputs_call g.I.Inputs.tells (g.I.Inputs.state c.args.inputs.now)
     (g.I.Inputs.state c.take_board_algorithms.new.inputs))
     g.O.Sink.tells (g.O.Sink.state c.args.out.now) (asked_of c.in-Some.request) c.in_err-checked.field-0.0 c.in-Some.ensures.some c.in_err-checked.ensures)
 

@@ -1,5 +1,6 @@
 -- `read_board_algorithms`: its contract, `ReadsBoardAlgorithms`, and what `read_algorithms` asks for.
-use Rattle.std.proofs.Common.{rules, ◌≡◌, ◌++◌, ap, subst, arith, ℕ, List, length, map, option_to_list, Err}
+use Rattle.std.proofs.Common.{◌≡◌, ◌++◌, ap, subst, arith, ℕ, List, length, map, option_to_list}
+use Rattle.std.proofs.lemmas.Result.{err_from_is_err_and}
 use Rattle.board_file.specs.Shown as board
 use Rattle.board_file.specs.Text.{IsBoard}
 use Rattle.flm_descriptor.specs.Shown as flm
@@ -16,9 +17,8 @@ read_algorithms-requires c =
 
 pub returns-in_err-board : goal.returns-in_err-board
 returns-in_err-board c =
-    let u = c.from_residual.ensures in
-    let is : c.from_residual.result ≡ Err c.in_err-board.field-0.0 = search rules in
-    rw is (board_refusal (bytes_of c.args.files.now) (shown c.in_err-board.field-0.0)
+    let p = err_from_is_err_and c.from_residual.result c.from_residual.ensures.1 in
+    rw (p.1, p.2) (board_refusal (bytes_of c.args.files.now) (shown c.in_err-board.field-0.0)
     (subst (λ (text : List ℕ). IsBoardRefusal text (shown c.in_err-board.field-0.0)) c.bytes.ensures c.in_err-board.ensures))
 
 pub returns-then-count-regions : goal.returns-then-count-regions
@@ -37,11 +37,10 @@ pub returns-in_err-algorithms : goal.returns-in_err-algorithms
 returns-in_err-algorithms c =
     let files = bytes_of c.args.files.now in
     let b = board.shown c.in_ok-board.board in
-    let u = c.from_residual-in_err-algorithms.ensures in
-    let is : c.from_residual-in_err-algorithms.result ≡ Err c.in_err-algorithms.field-0.0 = search rules in
     let count : length c.as_slice-regions.result.now ≡ length b.regions = ap length c.as_slice-regions.ensures in
     let others : length c.as_slice-others.result.now ≡ length files.images = ap length c.as_slice-others.ensures.value in
-    rw is (flms_refusal files b (shown c.in_err-algorithms.field-0.0)
+    let p = err_from_is_err_and c.from_residual-in_err-algorithms.result c.from_residual-in_err-algorithms.ensures.1 in
+    rw (p.1, p.2) (flms_refusal files b (shown c.in_err-algorithms.field-0.0)
     (record {
       is_board = subst (λ (text : List ℕ). IsBoard text b) c.bytes.ensures c.in_ok-board.ensures;
       each = omega (arith, count, others, count_of files.flm files.images c.requires);

@@ -1,5 +1,6 @@
 -- `take_board_algorithms`: its contract, `TakesBoardAlgorithms`, and what `read_board_algorithms` asks for.
-use Rattle.std.proofs.Common.{rules, ◌≡◌, inl, Err}
+use Rattle.std.proofs.Common.{inl}
+use Rattle.std.proofs.lemmas.Result.{err_from_is_err_and}
 use Rattle.command_words.specs.Requested.{files_of}
 use Rattle.command_files.specs.Inputs.{inputs_call}
 use Rattle.command_files.specs.Steps.{bytes_of}
@@ -14,9 +15,8 @@ read_board_algorithms-requires g c =
 
 pub returns-in_err-files : goal.returns-in_err-files
 returns-in_err-files g c =
-    let u = c.from_residual.ensures in
-    let is : c.from_residual.result ≡ Err c.in_err-files.field-0.0 = search rules in
-    rw is (inl c.in_err-files.ensures.takes)
+    let p = err_from_is_err_and c.from_residual.result c.from_residual.ensures.1 in
+    rw (p.1, p.2) (inl c.in_err-files.ensures.takes)
 
 pub returns : goal.returns
 returns g c =

@@ -1,4 +1,5 @@
--- `print_plans`: its contract, `PlansCells`, and what `make_parts` asks for.
+-- `print_plans`: its contract, `PlansCells`, and what `make_parts` and `print_from` ask for.
+use Rattle.std.proofs.lemmas.Grind.{common_steps}
 use Rattle.std.proofs.Common.{◌<◌, ◌^◌, List, map, sym, subst, arith}
 use Rattle.std.proofs.lemmas.Result.{err_from_is_err_and}
 use Rattle.flm_descriptor.specs.declared.algorithm.Algorithm.{Algorithm}
@@ -20,3 +21,6 @@ returns-in_err-parts g c =
     let p = err_from_is_err_and c.from_residual.result c.from_residual.ensures.1 in
     rw (p.1, p.2) (plans_nothing g.B.Bench.tells g.O.Sink.tells (g.B.Bench.state c.args.bench.now) (g.O.Sink.state c.args.out.now)
     (text_of (aim_of c.args.wanted.now)))
+
+pub print_from-requires-clause-parts : goal.print_from-requires-clause-parts
+print_from-requires-clause-parts g c = grind (arith, common_steps)

@@ -1,5 +1,6 @@
 -- `survey`: its clauses `looks` and `plans`, and what `survey_parts` asks for.
-use Rattle.std.proofs.Common.{rules, ◌≡◌, ◌∙◌, sym, Err}
+use Rattle.std.proofs.Common.{◌∙◌, sym}
+use Rattle.std.proofs.lemmas.Result.{err_from_is_err_and}
 use Rattle.device_dump.proofs.LooksLemmas.{looks_dropped, looks_by}
 use Rattle.flm_cli.proofs.PlanLemmas.{plans_since}
 use Rattle.flm_cli.proofs.plan.survey.Goals as goal
@@ -9,9 +10,8 @@ survey_parts-requires-clause-cells g c = c.requires.cells ∙ sym c.in_ok-cells_
 
 pub returns-in_err-cells_drop-clause-looks : goal.returns-in_err-cells_drop-clause-looks
 returns-in_err-cells_drop-clause-looks g c =
-    let u = c.from_residual.ensures in
-    let is : c.from_residual.result ≡ Err c.in_err-cells_drop.field-0.0 = search rules in
-    rw is (looks_dropped c.in_err-cells_drop.field-0.0 c.in_err-cells_drop.ensures.does)
+    let p = err_from_is_err_and c.from_residual.result c.from_residual.ensures.1 in
+    rw (p.1, p.2) (looks_dropped c.in_err-cells_drop.field-0.0 c.in_err-cells_drop.ensures.does)
 
 pub returns-clause-plans : goal.returns-clause-plans
 returns-clause-plans g c =

@@ -1,7 +1,8 @@
--- `survey_parts`: its clauses `plans` and `reads`, that its loop keeps what it has to, and what `index` and `survey_cells` ask for.
-use Rattle.std.proofs.lemmas.Grind.{common_steps}
+-- `survey_parts`: its clauses `plans`, `reads` and `cause`, that its loop keeps what it has to, and what `index` and `survey_cells` ask for.
 use Rattle.std.proofs.Common.{◌<◌, get_or, length, ap, refl, arith}
+use Rattle.readback.proofs.ReadbackLemmas.{only_reads_cells_then}
 use Rattle.flash_session.specs.declared.region_plan.RegionPlan.{RegionPlan}
+use Rattle.flm_cli.proofs.DifferenceLemmas.{uncaused}
 use Rattle.flm_cli.proofs.PlanLemmas.{many_parts, surveyed_none, surveyed_more, one_of, surveyed_all}
 use Rattle.flm_cli.proofs.plan.survey_parts.Goals as goal
 
@@ -65,4 +66,7 @@ returns-clause-plans g c =
     (omega (arith, l.auto.parts, c.loop-index-test.false))
 
 pub returns-in_err-survey_cells-clause-reads : goal.returns-in_err-survey_cells-clause-reads
-returns-in_err-survey_cells-clause-reads g c = grind (arith, common_steps)
+returns-in_err-survey_cells-clause-reads g c = only_reads_cells_then c.loop-index.invariant.reads c.in_err-survey_cells.ensures.reads
+
+pub returns-clause-cause : goal.returns-clause-cause
+returns-clause-cause g c = uncaused tt _ _ c.loop-index.invariant.faults

@@ -1,6 +1,6 @@
 -- `find_in_region`: its clauses `ok`, `bench` and `cause`, that its loop keeps what it has to, and what `find_in_run` asks for.
-use Rattle.std.proofs.Common.{refl, sym, arith, ◌∙◌}
-use Rattle.flm_cli.proofs.DifferenceLemmas.{run_ends, runs_then, runs_differ, all_agree, uncaused}
+use Rattle.std.proofs.Common.{refl, sym, arith, ◌∙◌, None}
+use Rattle.flm_cli.proofs.DifferenceLemmas.{runs_here, run_ends, runs_then, runs_differ, all_agree, uncaused}
 use Rattle.readback.proofs.ReadbackLemmas.{only_reads_cells_then}
 use Rattle.flm_cli.proofs.verify.find_in_region.Goals as goal
 
@@ -32,3 +32,13 @@ returns-then-is_some-clause-bench g c = only_reads_cells_then c.loop-index.invar
 
 pub returns-then-is_some-clause-cause : goal.returns-then-is_some-clause-cause
 returns-then-is_some-clause-cause g c = uncaused c.in_ok-found.found _ _ (c.in_ok-found.ensures.cause.on_ok refl ∙ c.loop-index.invariant.faults)
+
+pub returns-clause-cause : goal.returns-clause-cause
+returns-clause-cause g c = uncaused None _ _ c.loop-index.invariant.faults
+
+pub loop-index-init : goal.loop-index-init
+loop-index-init g c =
+    runs_here g.B.Bench.tells (g.B.Bench.state c.args.bench.now) c.args.start c.args.region.now.base c.args.region.now.size c.args.image.now
+
+pub returns-in_err-found-clause-bench : goal.returns-in_err-found-clause-bench
+returns-in_err-found-clause-bench g c = only_reads_cells_then c.loop-index.invariant.bench c.in_err-found.ensures.bench

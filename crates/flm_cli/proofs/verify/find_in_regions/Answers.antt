@@ -5,7 +5,7 @@ use Rattle.board_file.specs.declared.region.Region.{Region}
 use Rattle.board_file.specs.Limits.{size_of}
 use Rattle.flm_cli.specs.Steps.{FindsInImage}
 use Rattle.flm_cli.proofs.DifferenceLemmas.{uncaused}
-use Rattle.flm_cli.proofs.PlaceLemmas.{fits, regions_then, region_differs, all_regions}
+use Rattle.flm_cli.proofs.PlaceLemmas.{none_so_far, fits, regions_then, region_differs, all_regions}
 use Rattle.readback.proofs.ReadbackLemmas.{only_reads_cells_then}
 use Rattle.flm_cli.proofs.verify.find_in_regions.Goals as goal
 
@@ -47,3 +47,12 @@ returns-then-is_some-clause-bench g c = only_reads_cells_then c.loop-region.inva
 
 pub returns-then-is_some-clause-cause : goal.returns-then-is_some-clause-cause
 returns-then-is_some-clause-cause g c = uncaused c.in_ok-found.found _ _ (c.in_ok-found.ensures.cause.on_ok refl ∙ c.loop-region.invariant.faults)
+
+pub loop-region-init : goal.loop-region-init
+loop-region-init g c = none_so_far g.B.Bench.tells (g.B.Bench.state c.args.bench.now) c.as_slice-regions.result.now c.args.image.now
+
+pub returns-in_err-found-clause-bench : goal.returns-in_err-found-clause-bench
+returns-in_err-found-clause-bench g c = only_reads_cells_then c.loop-region.invariant.bench c.in_err-found.ensures.bench
+
+pub returns-clause-cause : goal.returns-clause-cause
+returns-clause-cause g c = uncaused None _ _ c.loop-region.invariant.faults

@@ -1,9 +1,10 @@
 -- `put_targets`: its contract, `PutsEnds`, and that its loop keeps what it has to.
 use Rattle.std.proofs.Common.{◌<◌, ◌∙◌, sym, ap, arith, length, Option, option_map, option_copied}
+use Rattle.std.proofs.lemmas.List.{length-map}
 use Rattle.report_text.specs.Shown.{shown}
 use Rattle.report_text.specs.declared.refusal.Refusal.{Refusal}
-use Rattle.gang_commands.specs.Puts.{outcomes, status_behind}
-use Rattle.gang_commands.proofs.LineLemmas.{any_outcome, in_place, within, puts_one, puts_cut, puts_ended}
+use Rattle.gang_commands.specs.Puts.{outcome_of, outcomes, status_behind}
+use Rattle.gang_commands.proofs.LineLemmas.{any_outcome, in_place, within, puts_first, puts_one, puts_all, puts_cut, puts_ended}
 use Rattle.gang_commands.proofs.lines.put_targets.Goals as goal
 
 pub returns-in_err-put_target : goal.returns-in_err-put_target
@@ -28,3 +29,11 @@ loop-target-preserved g c =
     _ c.first_status-status.result c.in_ok-put_target.ensures
     (c.first_status-status.ensures ∙ ap (λ (o : Option Refusal). status_behind c.loop-target.status (option_map shown o))
     (c.as_ref-in-loop-target.ensures.value ∙ sym c.as_ref.ensures.value))
+
+pub loop-target-init : goal.loop-target-init
+loop-target-init g c = puts_first g.O.Sink.tells (g.O.Sink.state c.args.out.now) (outcomes c.args.gang.now)
+
+pub returns : goal.returns
+returns g c =
+    puts_all g.O.Sink.tells (g.O.Sink.state c.args.out.now) (g.O.Sink.state c.loop-target.out) (outcomes c.args.gang.now) c.loop-target.target
+    c.loop-target.status (omega (arith, length-map c.args.gang.now.slots.items outcome_of, c.requires.count, c.loop-target-test.false)) c.loop-target.invariant

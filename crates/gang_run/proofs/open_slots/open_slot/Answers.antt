@@ -1,5 +1,6 @@
--- `open_slot`: its clauses `slot` and `looked`.
-use Rattle.std.proofs.Common.{refl}
+-- `open_slot`: its clauses `slot` and `looked`, and what `survey_slot` asks for.
+use Rattle.std.proofs.Common.{refl, sym, subst, ℕ, List}
+use Rattle.job_text.specs.Stands.{StandsFor}
 use Rattle.flash_session.specs.declared.session.Session.{Session}
 use Rattle.flash_session.specs.Sessions.{job_in}
 use Rattle.gang_run.proofs.OpenLemmas.{opens_then, looked_then, unopened_device}
@@ -23,3 +24,7 @@ returns-in-Err-DeviceFault-clause-slot g c =
     unopened_device Session g.B.Bench.tells c.in-Err-DeviceFault.field-0 (g.B.Bench.state c.args.bench.now) (g.B.Bench.state c.open.new.bench)
     c.in-Err-DeviceFault.field-0-is c.in-Err-DeviceFault.ensures.refused c.in-Err-DeviceFault.ensures.sound
     c.in-Err-DeviceFault.ensures.store c.in-Err-DeviceFault.ensures.device
+
+pub survey_slot-requires-clause-stands : goal.survey_slot-requires-clause-stands
+survey_slot-requires-clause-stands g c = λ told.
+    subst (λ (f : List ℕ). StandsFor (job_in c.in-Ok.session) f) (sym (c.open.ensures.file told)) (c.in-Ok.ensures.ok told)

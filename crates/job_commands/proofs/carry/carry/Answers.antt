@@ -12,12 +12,13 @@ use Rattle.command_answers.specs.Shown.{answer_of}
 use Rattle.job_commands.specs.Answers.{IsSound}
 use Rattle.job_commands.specs.GoOn.{GoesOnFrom, has_resume}
 use Rattle.job_commands.specs.Printed.{PrintsWork}
+use Rattle.job_commands.specs.Steps.{BenchCounted}
 use Rattle.job_commands.proofs.TurnLemmas.{off_at_end}
 use Rattle.job_commands.proofs.CarryLemmas.{entered}
 use Rattle.job_commands.proofs.KindLemmas.{session_kind, session_sound}
 use Rattle.job_commands.proofs.PrintLemmas.{session_prints}
 use Rattle.job_commands.proofs.OpenLemmas.{refuses_open, open_stands}
-use Rattle.job_commands.proofs.CountLemmas.{counted_behind}
+use Rattle.job_commands.proofs.CountLemmas.{counted_behind, session_counted}
 use Rattle.job_commands.proofs.carry.carry.Goals as goal
 
 pub returns-in-Err-clause-told : goal.returns-in-Err-clause-told
@@ -91,3 +92,11 @@ returns-in-Ok-clause-counts g c =
 
 pub returns-in-Ok-clause-goes_on : goal.returns-in-Ok-clause-goes_on
 returns-in-Ok-clause-goes_on g c = λ told. goes_then c.open.ensures.pairs.files (c.carry_on-end.ensures.goes_on told)
+
+pub returns-in-Err-clause-counts : goal.returns-in-Err-clause-counts
+returns-in-Err-clause-counts g c =
+    let a = g.B.Bench.state c.args.bench.now in
+    let b = g.B.Bench.state c.open.new.bench in
+    let o = g.O.Sink.state c.args.out.now in
+    subst (λ (r : Refusal). BenchCounted (bench_call g.B.Bench.tells a b) (sink_call g.O.Sink.tells o o) (refused r)) (sym c.session_refusal.ensures)
+    (session_counted g.B.Bench.tells g.O.Sink.tells a b o c.in-Err.fault c.in-Err.ensures.store c.in-Err.ensures.device)

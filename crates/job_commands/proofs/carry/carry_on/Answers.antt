@@ -1,9 +1,10 @@
 -- `carry_on`: its clauses `sound`, `told`, `early`, `counts`, `kind`, `prints` and `goes_on`, and what `put_plans` and `finish` ask for.
-use Rattle.std.proofs.Common.{◌∙◌, refl, sym, subst, ℕ, List, IsSomeAnd}
+use Rattle.std.proofs.Common.{◌∙◌, refl, sym, ap, subst, ℕ, List, IsSomeAnd}
 use Rattle.std.proofs.lemmas.Result.{err_from_is_err_and}
 use Rattle.bench_model.specs.History.{LeftOnly}
 use Rattle.bench_model.specs.State.{file_half}
 use Rattle.bench_model.proofs.Moments.{goes_then, still_only}
+use Rattle.board_file.specs.Limits.{size_of}
 use Rattle.job_text.specs.Said.{algorithms_shown}
 use Rattle.job_text.specs.declared.job.Job as code
 use Rattle.job_text.specs.Stands.{StandsFor}
@@ -155,3 +156,7 @@ finish-requires-clause-idle g c = λ told. c.survey.ensures.reads.cells.operatio
 
 pub returns-clause-goes_on : goal.returns-clause-goes_on
 returns-clause-goes_on g c = λ told. goes_then c.survey.ensures.reads.file.moments.goes_on (c.finish.ensures.goes_on told)
+
+pub finish-requires-clause-count : goal.finish-requires-clause-count
+finish-requires-clause-count g c =
+    c.survey.ensures.reads.cells.count ∙ (c.requires.count ∙ ap (λ (j : code.Job). size_of j.board.regions) (sym c.survey.ensures.job))

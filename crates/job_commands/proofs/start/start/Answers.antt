@@ -1,13 +1,14 @@
--- `start`: its clauses `told`, `early`, `kind` and `sound`.
+-- `start`: its clauses `told`, `early`, `kind`, `sound` and `counts`.
 use Rattle.std.proofs.Common.{◌≡◌, ◌∙◌, refl, sym, subst, length, []}
 use Rattle.report_text.specs.Refusal.{Refusal}
 use Rattle.command_answers.specs.Answered.{StandsEarly, IsOf, on_job_file}
 use Rattle.command_answers.specs.Call.{bench_call, sink_call, refused}
 use Rattle.job_commands.specs.Answers.{IsSound}
-use Rattle.job_commands.specs.Steps.{has_start, StartsParts}
+use Rattle.job_commands.specs.Steps.{has_start, BenchCounted, StartsParts}
 use Rattle.job_commands.proofs.TurnLemmas.{off_at_end}
 use Rattle.job_commands.proofs.CarryLemmas.{entered}
 use Rattle.job_commands.proofs.KindLemmas.{begin_kind, begin_sound}
+use Rattle.job_commands.proofs.CountLemmas.{none_counted, begin_counted}
 use Rattle.job_commands.proofs.StartLemmas.{begin_stands, refuses_begin, starts_done}
 use Rattle.job_commands.proofs.start.start.Goals as goal
 
@@ -48,3 +49,18 @@ returns-in-Err-clause-kind g c = subst (λ (r : Refusal). IsOf has_start (refuse
 pub returns-in-Err-clause-sound : goal.returns-in-Err-clause-sound
 returns-in-Err-clause-sound g c = subst (λ (r : Refusal). IsSound (refused r)) (sym c.begin_refusal.ensures)
     (begin_sound c.args.parts.now.size (g.B.Bench.state c.args.bench.now).cell_count c.in-Err.fault c.in-Err.ensures.sound)
+
+pub returns-in-Err-clause-counts : goal.returns-in-Err-clause-counts
+returns-in-Err-clause-counts g c = λ sinks o.
+    let a = g.B.Bench.state c.args.bench.now in
+    let b = g.B.Bench.state c.begin.new.bench in
+    subst (λ (r : Refusal). BenchCounted (bench_call g.B.Bench.tells a b) (sink_call sinks o o) (refused r)) (sym c.begin_refusal.ensures)
+    (begin_counted g.B.Bench.tells sinks a b o c.in-Err.fault c.in-Err.ensures.store c.in-Err.ensures.device)
+
+pub returns-in-Ok-clause-counts : goal.returns-in-Ok-clause-counts
+returns-in-Ok-clause-counts g c = λ sinks o.
+    none_counted g.B.Bench.tells sinks (g.B.Bench.state c.args.bench.now) (g.B.Bench.state c.begin.new.bench) o (c.in-Ok.ensures.store.on_other refl)
+    (c.in-Ok.ensures.device.on_other refl)
+
+pub returns-in-Ok-clause-sized : goal.returns-in-Ok-clause-sized
+returns-in-Ok-clause-sized g c = c.in-Ok.ensures.sized

@@ -1,5 +1,6 @@
--- `Stand::make`: its clause `gives`.
-use Rattle.std.proofs.Common.{refl, subst}
+-- `Stand::make`: its clause `gives`, that a number fits its type, and that an arm is never reached.
+use Rattle.std.proofs.lemmas.Grind.{common_steps}
+use Rattle.std.proofs.Common.{refl, subst, arith}
 use Rattle.bench_model.specs.Shown.{bench_of}
 use Rattle.target_core.specs.Targets.{SliceFrom}
 use Rattle.target_core.specs.declared.run.SliceEnd.{SliceEnd}
@@ -21,3 +22,9 @@ returns-clause-gives c =
     c.prepare-fuel.result x (point_at c.slice.new.self c.slice.new.arena 0 c.slice.new.bench.inner.cells.items) (bench_of c.slice.new.bench.inner))
     c.in-Ended.is
     (c.slice.ensures.run refl))
+
+pub overflow_cast-bytes : goal.overflow_cast-bytes
+overflow_cast-bytes c = grind (arith, common_steps)
+
+pub unreachable-requires : goal.unreachable-requires
+unreachable-requires c = grind (arith, common_steps)

@@ -1,5 +1,6 @@
 -- `Stand::step`: its clause `broken`, where an operation lay outside and where a cell differs, and its clauses `cells`, `bytes` and `calls`.
-use Rattle.std.proofs.Common.{◌≡◌, ◌≤◌, ◌+◌, true, false, ℕ, List, refl, sym, ◌∙◌, ap, subst}
+use Rattle.std.proofs.lemmas.Grind.{common_steps}
+use Rattle.std.proofs.Common.{◌≡◌, ◌≤◌, ◌+◌, true, false, ℕ, List, refl, sym, ◌∙◌, ap, subst, arith}
 use Rattle.bench_model.specs.State.{BenchState}
 use Rattle.algo_calls.specs.Calls.{CallGives}
 use Rattle.algo_calls.specs.Ends.{is_device_call}
@@ -100,3 +101,9 @@ returns-then-same-clause-calls c = one_more _ _ _ _ _ (c.note.ensures
 pub returns-else-same-clause-calls : goal.returns-else-same-clause-calls
 returns-else-same-clause-calls c = one_more _ _ _ _ _ (c.note.ensures
     ∙ ap (λ (t : Tally). noted t c.args.call.now c.make-end.result.steps c.make-end.result.allowed) c.make-end.ensures.tally)
+
+pub returns-in-Done-default-Some-clause-broken : goal.returns-in-Done-default-Some-clause-broken
+returns-in-Done-default-Some-clause-broken c = grind (arith, common_steps)
+
+pub returns-in-Done-default-Some-2-clause-broken : goal.returns-in-Done-default-Some-2-clause-broken
+returns-in-Done-default-Some-2-clause-broken c = grind (arith, common_steps)

@@ -1,4 +1,5 @@
--- `Stand::try_list`: its clause `broken`, and that its loop keeps what it has to.
+-- `Stand::try_list`: its clause `broken`, that its loop keeps what it has to, and what `try_member` asks for.
+use Rattle.std.proofs.lemmas.Grind.{common_steps}
 use Rattle.std.proofs.Common.{ℕ, [], sym, ◌∙◌, ap, arith}
 use Rattle.target_core.specs.World.{World}
 use Rattle.algo_calls.specs.declared.call.Call.TheVariants as call
@@ -70,3 +71,12 @@ returns-clause-broken c =
     (end_breaks t (setup_in c.loop-number.self) (world_in c.loop-number.self) (asked (call.UnInit c.kind-kind.result) [])
     (asked (call.UnInit (kind_in c.args.work)) []) c.loop-number.ideal c.step-last.result c.step-last.ensures.broken
     (ap (λ (n : ℕ). asked (call.UnInit n) []) (sym c.kind-kind.ensures)) goes.cells (goes.long ∙ c.requires.long) broken))
+
+pub try_member-requires-clause-set : goal.try_member-requires-clause-set
+try_member-requires-clause-set c = grind (arith, common_steps)
+
+pub try_member-requires-clause-number : goal.try_member-requires-clause-number
+try_member-requires-clause-number c = grind (arith, common_steps)
+
+pub try_member-requires-clause-setup : goal.try_member-requires-clause-setup
+try_member-requires-clause-setup c = grind (arith, common_steps)

@@ -1,4 +1,5 @@
--- `Gang::open`: its clauses `looked`, `opened`, `first`, `gang` and `ready`, that its loop keeps what it has to, and what `new` asks for.
+-- `Gang::open`: its contract, that its loop keeps what it has to, that an index fits, and what `new` asks for.
+use Rattle.std.proofs.lemmas.Grind.{common_steps}
 use Rattle.std.proofs.Common.{◌≤◌, ◌^◌, ◌∙◌, ℕ, List, get_or, sym, ap, subst, arith}
 use Rattle.ram_arena.specs.Windows.{total, blank}
 use Rattle.gang_run.proofs.OpeningLemmas.{opening_first, opening_on, looked_last, sizes_fit, all_opened, all_synced, all_ready, is_gang}
@@ -46,3 +47,15 @@ pub returns-clause-ready : goal.returns-clause-ready
 returns-clause-ready g c = all_ready g.B.Bench c.args.benches.now c.loop-index.benches (record { arena = c.in_ok-arena.arena; slots = c.loop-index.slots })
     c.loop-index.sizes.items c.loop-index.index c.loop-index.invariant (omega (arith, c.loop-index.invariant.count, c.loop-index-test.false))
     (c.in_ok-arena.ensures ∙ ap (λ (l : List ℕ). blank l) c.deref.ensures.value)
+
+pub offset_bounds-benches-index : goal.offset_bounds-benches-index
+offset_bounds-benches-index g c = grind (arith, common_steps)
+
+pub returns-in-Err-clause-benches : goal.returns-in-Err-clause-benches
+returns-in-Err-clause-benches g c = grind (arith, common_steps)
+
+pub returns-clause-benches : goal.returns-clause-benches
+returns-clause-benches g c = grind (arith, common_steps)
+
+pub returns-clause-count : goal.returns-clause-count
+returns-clause-count g c = grind (arith, common_steps)

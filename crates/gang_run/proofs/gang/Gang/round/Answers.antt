@@ -1,5 +1,6 @@
--- `Gang::round`: that its loop keeps what it has to.
-use Rattle.std.proofs.Common.{refl}
+-- `Gang::round`: its clauses `nearer` and `gives`, and that its loop keeps what it has to.
+use Rattle.std.proofs.lemmas.Grind.{common_steps}
+use Rattle.std.proofs.Common.{refl, arith}
 use Rattle.gang_run.proofs.GangLemmas.{round_here, round_on, round_then}
 use Rattle.gang_run.proofs.gang.Gang.round.Goals as goal
 
@@ -18,3 +19,9 @@ loop-target-preserved g c = record {
   gives = round_then g.B.Bench c.args.steps c.loop-target.target c.args.self.now c.loop-target.self c.turn.new.self c.args.benches.now c.loop-target.benches
       c.turn.new.benches c.loop-target.invariant.gives (record { turn = c.turn.ensures.turn; takes = c.turn.ensures.one });
 }
+
+pub returns-clause-nearer : goal.returns-clause-nearer
+returns-clause-nearer g c = grind (arith, common_steps)
+
+pub returns-clause-gives : goal.returns-clause-gives
+returns-clause-gives g c = grind (arith, common_steps)

@@ -1,5 +1,6 @@
--- `Gang::run`: its clauses `gives`, `since`, `kept` and `count`, and that its loop keeps what it has to.
-use Rattle.std.proofs.Common.{refl}
+-- `Gang::run`: its clauses `gives`, `since`, `kept` and `count`, that its loop keeps what it has to, and that it ends.
+use Rattle.std.proofs.lemmas.Grind.{common_steps}
+use Rattle.std.proofs.Common.{refl, arith}
 use Rattle.gang_run.proofs.GangLemmas.{playing_here, round_more}
 use Rattle.gang_run.proofs.gang.Gang.run.Goals as goal
 
@@ -29,3 +30,6 @@ returns-then-not-round-clause-kept g c = (c.round.ensures.plays c.args.self.now 
 
 pub returns-then-not-round-clause-count : goal.returns-then-not-round-clause-count
 returns-then-not-round-clause-count g c = (c.round.ensures.plays c.args.self.now c.args.benches.now c.rounds.invariant.playing).count
+
+pub rounds-smaller : goal.rounds-smaller
+rounds-smaller g c = grind (arith, common_steps)

@@ -1,4 +1,5 @@
--- `Gang::turns`: its clause `gives`, and that its loop keeps what it has to.
+-- `Gang::turns`: its clause `gives`, that its loop keeps what it has to, and what `turn` asks for.
+use Rattle.std.proofs.lemmas.Grind.{common_steps}
 use Rattle.std.proofs.Common.{List, refl, subst, arith}
 use Rattle.std.proofs.lemmas.List.{take_all}
 use Rattle.gang_run.specs.declared.gang.Asked.{Asked}
@@ -25,3 +26,6 @@ loop-next-preserved g c = record {
 pub returns-clause-gives : goal.returns-clause-gives
 returns-clause-gives g c = subst (λ (l : List Asked). GivesTurns g.B.Bench l c.args.self.now c.args.benches.now c.loop-next.self c.loop-next.benches)
     (take_all c.loop-next.next-index c.args.asked.now (omega arith)) c.loop-next.invariant.gives
+
+pub turn-requires-clause-target : goal.turn-requires-clause-target
+turn-requires-clause-target g c = grind (arith, common_steps)
