@@ -1,7 +1,7 @@
 //! Instructions that end otherwise than by going on: each leaves every register and flag as it was.
 
 use super::{BASE, HERE, assert_step, assert_stores, bus_with, core_at};
-use crate::same::assert_same;
+use crate::expect::expect;
 use armv6m_decode::registers::{PC, SP};
 use armv6m_step::StepEnd::{self, BusFault, Unaligned, Undefined};
 use armv6m_step::{Core, MemoryBus, step};
@@ -37,7 +37,7 @@ fn stores_before_a_fault_stand(rt: HostRuntime) -> Result<(), AllocError> {
 /// A step at an address ends so.
 fn assert_end(rt: &impl Abort, core: &mut Core, bus: &mut MemoryBus, pc: u32, due: StepEnd) {
     core.regs[PC as usize] = pc;
-    assert_same(rt, &step(core, bus), &due);
+    expect(rt, &step(core, bus), &due);
 }
 
 /// A fetch at an odd address, and one whose second halfword is past the memory.

@@ -1,6 +1,6 @@
 //! Forms there and back, and a case of each rule. Statements that other tools write are compared by `armv6m_vectors`.
 
-use crate::same::{assert_bytes, assert_same};
+use crate::expect::expect;
 use armv6m_decode::registers::{LR, SP};
 use armv6m_decode::{Alu, Branch, Condition, Decoded, Instr, Many, Memory, Other, decode16};
 use armv6m_forms::{
@@ -30,7 +30,7 @@ fn read(form: Form, at: u32) -> Option<Instr> {
 
 /// The instruction that is made comes back from the form at an address.
 fn assert_back(rt: &impl Abort, instr: Instr, at: u32) {
-    assert_same(rt, &read(form_at(&instr, at), at), &Some(made(instr)));
+    expect(rt, &read(form_at(&instr, at), at), &Some(made(instr)));
 }
 
 #[test]
@@ -54,7 +54,7 @@ fn each_long_branch_comes_back(rt: HostRuntime) {
 /// What reaches each target from an address.
 fn assert_reached(rt: &impl Abort, aim: Aim, reached: &[(u32, u32, Option<Instr>)]) {
     for &(at, target, due) in reached {
-        assert_same(rt, &reach(aim, at, target), &due);
+        expect(rt, &reach(aim, at, target), &due);
     }
 }
 
@@ -150,14 +150,14 @@ fn fields(rt: HostRuntime) {
         with_lr(Mnemonic::Pop),
     ];
     let due = [Some(by_32), None, Some(on_stack), None, Some(push), None];
-    assert_same(&rt, &found, &due);
+    expect(&rt, &found, &due);
 }
 
 /// The line of an instruction at an address.
 fn assert_line(rt: &impl Abort, instr: Instr, at: u32, due: &[u8]) {
     let mut line = Line::new();
     disassemble(&instr, at, &mut line);
-    assert_bytes(rt, line.bytes(), due);
+    expect(rt, line.bytes(), due);
 }
 
 /// A field that no encoding has is written as it stands.
@@ -178,10 +178,10 @@ fn lines(rt: HostRuntime) {
 #[test]
 fn a_line_holds_what_was_written_last(rt: HostRuntime) {
     let mut line = Line::new();
-    assert_bytes(&rt, line.bytes(), b"");
+    expect(&rt, line.bytes(), b"".as_slice());
     disassemble(&Instr::Other(Other::Cpsie), 0, &mut line);
     disassemble(&Instr::Other(Other::Wfi), 0, &mut line);
-    assert_bytes(&rt, line.bytes(), b"WFI");
+    expect(&rt, line.bytes(), b"WFI".as_slice());
 }
 
 #[test]
@@ -201,5 +201,5 @@ fn words(rt: HostRuntime) {
         [Some(SP), None],
         [Some(16), None],
     );
-    assert_same(&rt, &found, &due);
+    expect(&rt, &found, &due);
 }

@@ -1,7 +1,8 @@
 //! Images as texts of records. The longer ones are the data records of GNU objcopy 2.40 (`-I binary -O ihex`, `-O srec
 //! --srec-forceS3`) of the same bytes.
 
-use crate::expect::{expect, map_of};
+use crate::expect::expect;
+use crate::images::maps::map_of;
 use byte_map::{ByteMap, LayFault};
 use faults::OutOfMemory;
 use image_hex::read_hex;

@@ -1,14 +1,10 @@
-//! Maps that are made of pieces, and what an answer or a map has to be.
+//! Maps that are made of pieces, and what a map has to be.
 
+use crate::expect::expect;
 use byte_map::{ByteMap, LayFault};
 use std::alloc::Global;
 use std::fmt::Debug;
 use std::process::Abort;
-
-/// Asserts that an answer is the one that is due.
-pub fn expect<T: Copy + Debug + PartialEq>(rt: &impl Abort, found: T, due: T) {
-    assert_eq!(rt; found, due);
-}
 
 /// A piece to lay, or a run that is wanted: an address and bytes.
 pub type Piece<'a> = (u32, &'a [u8]);

@@ -1,6 +1,7 @@
 //! Maps laid in every order.
 
-use crate::expect::{Piece, expect, expect_map, expect_runs, map_of};
+use crate::expect::expect;
+use crate::images::maps::{Piece, expect_map, expect_runs, map_of};
 use byte_map::{ByteMap, LayFault};
 use std::process::Abort;
 use std::test::Fail;

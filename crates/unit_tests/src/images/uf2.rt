@@ -1,6 +1,7 @@
 //! UF2 files by hand, by the table of a block's fields.
 
-use crate::expect::{expect, expect_map};
+use crate::expect::expect;
+use crate::images::maps::expect_map;
 use image_more::{AnyFault, Uf2Fault, read_any, read_uf2};
 use image_set::ImageFault;
 use std::alloc::Global;

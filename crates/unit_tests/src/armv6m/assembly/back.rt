@@ -1,7 +1,7 @@
 //! What the disassembler writes of an instruction is assembled to its code again.
 
-use crate::encoding::{code_of, read_pair};
-use crate::same::{assert_bytes, assert_same};
+use crate::armv6m::encoding::{code_of, read_pair};
+use crate::expect::expect;
 use armv6m_asm::{Line, assemble, disassemble};
 use armv6m_decode::registers::{APSR, MSP, PC, PRIMASK, SP};
 use armv6m_decode::{Alu, Branch, Decoded, Instr, Many, Other, decode16};
@@ -28,7 +28,7 @@ fn assert_back(rt: &impl Abort, alloc: Global, instr: &Instr, due: &[u8]) -> Res
     let mut line = Line::new();
     disassemble(instr, 0, &mut line);
     let code = assemble(alloc, line.bytes())?;
-    assert_bytes(rt, code.bytes.bytes(), due);
+    expect(rt, code.bytes.bytes(), due);
     Ok(())
 }
 
@@ -44,7 +44,7 @@ fn each_halfword_comes_back(rt: HostRuntime) -> Result<(), Fail> {
             }
         }
     }
-    assert_same(&rt, &open, &592);
+    expect(&rt, &open, &592);
     Ok(())
 }
 
@@ -52,7 +52,7 @@ fn each_halfword_comes_back(rt: HostRuntime) -> Result<(), Fail> {
 fn assert_pair_back(rt: &impl Abort, alloc: Global, instr: &Instr) -> Result<(), Fail> {
     let code = code_of(instr);
     let due = Some((Decoded::NeedsSecond, Some(*instr)));
-    assert_same(rt, &read_pair(code), &due);
+    expect(rt, &read_pair(code), &due);
     if let Some(Encoding::Pair { first, second }) = code {
         let [a, b] = first.to_le_bytes();
         let [c, d] = second.to_le_bytes();

@@ -1,6 +1,7 @@
 //! Texts by hand, by the rules of the format.
 
-use crate::expect::{expect, expect_read};
+use crate::expect::expect;
+use crate::images::maps::expect_read;
 use image_srec::{SrecFault, SrecKind, read_srec};
 
 /// Each width of address, digits of either case, blank lines, counts, a header, and what follows the end record.

@@ -4,7 +4,7 @@
 mod ends;
 mod worked;
 
-use crate::same::{assert_bytes, assert_same};
+use crate::expect::expect;
 use armv6m_decode::registers::PC;
 use armv6m_step::{Core, MemoryBus, StepEnd, step};
 use std::alloc::{AllocError, Global};
@@ -73,14 +73,14 @@ fn assert_step(
     due: (StepEnd, Core),
 ) -> Result<(), AllocError> {
     let found = stepped(alloc, before, code, data)?;
-    assert_same(rt, &found, &due);
+    expect(rt, &found, &due);
     Ok(())
 }
 
 /// The memory has these bytes from a place on.
 fn assert_memory(rt: &impl Abort, bus: &MemoryBus, at: usize, due: &[u8]) {
     let end = at.wrapping_add(due.len());
-    assert_bytes(rt, bus.bytes().get(at..end).unwrap_or(&[]), due);
+    expect(rt, bus.bytes().get(at..end).unwrap_or(&[]), due);
 }
 
 /// A step of a halfword ends so, leaves this core, and stores these bytes from a place on.
@@ -96,7 +96,7 @@ fn assert_stores(
     let mut bus = bus_with(alloc, code, 0, &[])?;
     let mut core = before;
     let end = step(&mut core, &mut bus);
-    assert_same(rt, &(end, core), &due);
+    expect(rt, &(end, core), &due);
     assert_memory(rt, &bus, at, stored);
     Ok(())
 }

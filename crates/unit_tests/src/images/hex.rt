@@ -1,6 +1,7 @@
 //! Texts by hand, by the rules of the format.
 
-use crate::expect::{expect, expect_read};
+use crate::expect::expect;
+use crate::images::maps::expect_read;
 use image_hex::{HexFault, HexKind, read_hex};
 
 /// Addresses behind a segment wrap within its 64 KiB.

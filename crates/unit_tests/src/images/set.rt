@@ -2,7 +2,8 @@
 
 mod files;
 
-use crate::expect::{expect, expect_map, expect_runs, map_of};
+use crate::expect::expect;
+use crate::images::maps::{expect_map, expect_runs, map_of};
 use byte_map::ByteMap;
 use elf32::{ElfFault, Field};
 use image_hex::{HexFault, HexKind};

@@ -3,7 +3,7 @@
 mod back;
 mod texts;
 
-use crate::same::{assert_bytes, assert_same};
+use crate::expect::expect;
 use armv6m_asm::{Code, Label, Labels, assemble};
 use std::alloc::Global;
 use std::process::Abort;
@@ -19,14 +19,14 @@ fn a_flash_algorithm(rt: HostRuntime) -> Result<(), Fail> {
 
 /// The place of a label, if there is one of this name.
 fn assert_place(rt: &impl Abort, labels: &Labels, name: &[u8], place: Option<u32>) {
-    assert_same(rt, &labels.get(name), &place);
+    expect(rt, &labels.get(name), &place);
 }
 
 /// The code and the labels of the flash algorithm.
 fn assert_algorithm(rt: &impl Abort, code: &Code) {
-    assert_same(rt, &code.bytes.len(), &144);
-    assert_bytes(rt, code.bytes.bytes(), algorithm_code());
-    assert_same(rt, &code.labels.as_slice().len(), &19);
+    expect(rt, &code.bytes.len(), &144);
+    expect(rt, code.bytes.bytes(), algorithm_code());
+    expect(rt, &code.labels.as_slice().len(), &19);
     for (name, place) in [
         (b"Init".as_slice(), Some(0)),
         (b"UnInit".as_slice(), Some(0x0E)),
@@ -44,7 +44,7 @@ fn assert_algorithm(rt: &impl Abort, code: &Code) {
 /// The code of a text.
 fn assert_code(rt: &impl Abort, alloc: Global, text: &[u8], due: &[u8]) -> Result<(), Fail> {
     let code = assemble(alloc, text)?;
-    assert_bytes(rt, code.bytes.bytes(), due);
+    expect(rt, code.bytes.bytes(), due);
     Ok(())
 }
 
@@ -89,9 +89,9 @@ fn assert_vector(rt: &impl Abort, labels: Labels) {
 
 /// Five labels, whose third is c.
 fn assert_third(rt: &impl Abort, labels: &[Label]) {
-    assert_same(rt, &labels.len(), &5);
+    expect(rt, &labels.len(), &5);
     if let Some(third) = labels.get(2) {
-        assert_bytes(rt, third.name.bytes(), b"c");
+        expect(rt, third.name.bytes(), b"c");
     }
 }
 
