@@ -1,7 +1,7 @@
 //! A call that changed something, as a bench in memory records it.
 
 /// A recorded call. The bytes that it was handed stand beside it in the record.
-#[derive(Clone, Copy, Debug, PartialEq, Eq)]
+#[derive(Clone, Copy)]
 pub(crate) enum Change {
     // place and length
     Wrote(u64, u64),

@@ -8,7 +8,7 @@ use crate::names::Names;
 use octets::Word;
 
 /// A command, as its first word names it.
-#[derive(Clone, Copy, Debug, PartialEq, Eq)]
+#[derive(Clone, Copy)]
 pub enum CommandName {
     Program,
     Begin,

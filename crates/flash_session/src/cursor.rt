@@ -26,7 +26,7 @@ impl RegionIndex {
 }
 
 /// Where a target stands in its script, between two moves. Each phase is of a region.
-#[derive(Clone, Copy, Debug, PartialEq, Eq)]
+#[derive(Clone, Copy)]
 pub enum Cursor {
     /// Before a phase, or what follows it where it is left out.
     Begin {
@@ -49,7 +49,7 @@ pub enum Cursor {
 }
 
 /// Where a target stands between two turns.
-#[derive(Clone, Copy, Debug, PartialEq, Eq)]
+#[derive(Clone, Copy)]
 pub enum Place {
     /// Between two moves of its script.
     At(Cursor),

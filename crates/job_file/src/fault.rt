@@ -5,7 +5,7 @@ use faults::OutOfMemory;
 use thiserror::Error;
 
 /// Why no job was read from a file.
-#[derive(Clone, Copy, Debug, PartialEq, Eq)]
+#[derive(Clone, Copy)]
 pub enum ReadFault {
     OutOfMemory,
     StoreFault,
@@ -36,7 +36,7 @@ impl From<StoreFault> for ReadFault {
 }
 
 /// Why a file was not read.
-#[derive(Clone, Copy, Debug, PartialEq, Eq)]
+#[derive(Clone, Copy)]
 pub enum LookFault {
     OutOfMemory,
     StoreFault,
