@@ -7,8 +7,8 @@
 # folder of its own, which it leaves where something is wrong, and ends with status 0 where all is as wanted.
 set -u
 program=$(realpath "${1:-out/flm_check}") || exit 1
-data=$(realpath ../call_vectors/data) || exit 1
-forged=$(realpath ../forge_vectors/stdout) || exit 1
+data=$(realpath ../target_vectors/data) || exit 1
+forged=$(realpath ../armv6m_vectors/stdout) || exit 1
 tests=$(realpath ../flm_tool/tests) || exit 1
 folder=$(mktemp -d) || exit 1
 cd "$folder" || exit 1

@@ -7,7 +7,7 @@
 set -u
 program=$(realpath "${1:-out/flm_tool}") || exit 1
 kills=${2:-100}
-data=$(realpath ../call_vectors/data) || exit 1
+data=$(realpath ../target_vectors/data) || exit 1
 tests=$(realpath tests) || exit 1
 folder=$(mktemp -d) || exit 1
 cd "$folder" || exit 1

@@ -13,7 +13,7 @@ program=$(realpath "${1:-out/flm_tool}") || exit 1
 times=${2:-1}
 programs=("$program")
 [ $# -lt 3 ] || programs+=("$(realpath "$3")") || exit 1
-data=$(realpath ../call_vectors/data) || exit 1
+data=$(realpath ../target_vectors/data) || exit 1
 tests=$(realpath tests) || exit 1
 folder=$(mktemp -d) || exit 1
 trap 'rm -rf "$folder"' EXIT

@@ -1,5 +1,5 @@
 # What the scripts on whole devices share: boards, flash algorithms, firmware and cells. A script reads it in, in a folder of its own, with
-# `data` set to the folder crates/call_vectors/data and `tests` to this one. It wants as, ld, gcc and objcopy of arm-none-eabi.
+# `data` set to the folder crates/target_vectors/data and `tests` to this one. It wants as, ld, gcc and objcopy of arm-none-eabi.
 . "$tests/bytes.sh"
 
 # A board: NAME SECTORS SIZE, of so many sectors of so many bytes.

@@ -6,7 +6,7 @@
 # It works in a folder of its own, and ends with status 0 where all is as wanted.
 set -u
 program=$(realpath "${1:-out/flm_tool}") || exit 1
-data=$(realpath ../call_vectors/data) || exit 1
+data=$(realpath ../target_vectors/data) || exit 1
 tests=$(realpath tests) || exit 1
 folder=$(mktemp -d) || exit 1
 trap 'rm -rf "$folder"' EXIT

@@ -5,7 +5,7 @@
 #   bash tests/on_a_terminal.sh [PROGRAM]        (from crates/flm_tool; else out/flm_tool)
 set -u
 program=$(realpath "${1:-out/flm_tool}") || exit 1
-data=$(realpath ../call_vectors/data) || exit 1
+data=$(realpath ../target_vectors/data) || exit 1
 tests=$(realpath tests) || exit 1
 folder=$(mktemp -d) || exit 1
 trap 'rm -rf "$folder"' EXIT

@@ -1,0 +1,13 @@
+//! Both flash controllers, row by row of their tables. It prints the name of each row that holds, and ends with an error at the first step
+//! that answers otherwise. The rows of a file are of one controller.
+//!
+//! A line is `row NAME`, or one of these, with numbers in hexadecimal digits: `new BOARD CELLS FAIL` (FC1 for a file with a board,
+//! or for `areas`; the number of the cell call that fails, or 0), `fpec BOARD CELLS FAIL` (the same with FPEC),
+//! `store AT WIDTH VALUE END`, `load AT WIDTH END`, `tick COUNT END`, `reset END`, `cells CELLS`. An end is `ok`, a number, `fault` or
+//! `device`.
+
+mod made;
+mod steps;
+mod trial;
+
+pub use steps::check;

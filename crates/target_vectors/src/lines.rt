@@ -1,0 +1,25 @@
+//! The lines of the cases, and those that are printed.
+
+use anyhow::Result;
+use row_text::number;
+use std::alloc::Global;
+
+/// The words of a line.
+pub fn words(alloc: Global, line: &str) -> Result<Vec<&str>> {
+    Ok(line.split_whitespace().collect::<Vec<&str>>(alloc)?)
+}
+
+/// The first of some words, as numbers. One that isn't there is 0.
+pub fn numbers<const N: usize>(words: &[&str]) -> Result<[u32; N]> {
+    let mut numbers = [0; N];
+    for (place, word) in numbers.iter_mut().zip(words) {
+        *place = number(word)?;
+    }
+    Ok(numbers)
+}
+
+/// Prints a line.
+pub fn put_line(rt: &HostRuntime, text: &str) -> Result<()> {
+    println!(rt; "{text}")?;
+    Ok(())
+}

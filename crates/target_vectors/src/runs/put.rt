@@ -1,0 +1,49 @@
+//! What is found, in words.
+
+use crate::lines::put_line;
+use anyhow::Result;
+use target_core::{FaultKind, RunEnd};
+
+/// A text and a number.
+fn put_number(rt: &HostRuntime, text: &str, number: u32) -> Result<()> {
+    print!(rt; "{text}{number:08X}")?;
+    Ok(())
+}
+
+/// How a run ended.
+pub fn put_end(rt: &HostRuntime, end: RunEnd) -> Result<()> {
+    match end {
+        RunEnd::Returned { r0 } => put_number(rt, "returned ", r0),
+        RunEnd::NoFuel { pc } => put_number(rt, "no fuel at ", pc),
+        RunEnd::StrayBreak { pc } => put_number(rt, "stray break at ", pc),
+        RunEnd::Faulted { kind, pc } => put_fault(rt, kind, pc),
+        RunEnd::DeviceFault => {
+            print!(rt; "device fault")?;
+            Ok(())
+        }
+    }
+}
+
+/// The fault that ended a run.
+fn put_fault(rt: &HostRuntime, kind: FaultKind, pc: u32) -> Result<()> {
+    match kind {
+        FaultKind::Undefined => put_number(rt, "undefined at ", pc),
+        FaultKind::BusFault { at } => put_access(rt, "bus fault at ", pc, at),
+        FaultKind::Unaligned { at } => put_access(rt, "unaligned at ", pc, at),
+        FaultKind::BadState => put_number(rt, "bad state at ", pc),
+    }
+}
+
+/// The fault of an access, and its address.
+fn put_access(rt: &HostRuntime, text: &str, pc: u32, at: u32) -> Result<()> {
+    put_number(rt, text, pc)?;
+    put_number(rt, " address ", at)
+}
+
+/// A line of cells.
+pub fn put_cells(rt: &HostRuntime, cells: &[u8]) -> Result<()> {
+    for cell in cells {
+        print!(rt; "{cell:02X}")?;
+    }
+    put_line(rt, "")
+}
