@@ -1,9 +1,0 @@
--- `play_drawn`: that its loop keeps what it has to.
-use Rattle.std.proofs.Common.{◌∙◌, refl, sym}
-use Rattle.gang_vectors.proofs.gangs.play_drawn.Goals as goal
-
-pub loop-number-init : goal.loop-number-init
-loop-number-init g c = (c.requires.gang, c.requires.ready, refl, sym c.requires.count)
-
-pub loop-number-preserved : goal.loop-number-preserved
-loop-number-preserved g c = (c.turns.ensures.gang, c.turns.ensures.ready, c.turns.ensures.count ∙ c.loop-number.invariant.2, sym c.turns.ensures.places)
