@@ -7,3 +7,8 @@ use std::process::Abort;
 pub fn expect<T: Copy + Debug + PartialEq>(rt: &impl Abort, found: T, due: T) {
     assert_eq!(rt; found, due);
 }
+
+/// Asserts the same of what isn't printed.
+pub fn expect_same<T: PartialEq>(rt: &impl Abort, found: &T, due: &T) {
+    assert!(rt; *found == *due);
+}

@@ -1,6 +1,6 @@
 //! A few rows in plain sight. The table's rows, and what binutils says of an instruction of each, are compared by `armv6m_vectors`.
 
-use crate::expect::expect;
+use crate::expect::expect_same;
 use armv6m_decode::registers::{LR, PRIMASK};
 use armv6m_decode::{
     Alu, Branch, Condition, Decoded, Instr, Many, Other, decode16, decode32, registers, targets,
@@ -36,13 +36,13 @@ fn halfwords(rt: HostRuntime) {
         (0xB100, Decoded::Undefined),
         (0xE800, Decoded::NeedsSecond),
     ] {
-        expect(&rt, &decode16(half), &due);
+        expect_same(&rt, &decode16(half), &due);
     }
 }
 
 /// A pair is this instruction, or none.
 fn assert_pair(rt: &impl Abort, first: u16, second: u16, due: Option<Instr>) {
-    expect(rt, &decode32(first, second), &due);
+    expect_same(rt, &decode32(first, second), &due);
 }
 
 #[test]
@@ -89,14 +89,14 @@ fn targets_of_branches(rt: HostRuntime) {
         targets::literal(0x1002, 1),
     ];
     let due = [0x1102, 0x0F04, 0x0804, 0x0010_0004, 0x1008];
-    expect(&rt, &found, &due);
+    expect_same(&rt, &found, &due);
 }
 
 /// A condition has this code, and is that of the code.
 fn assert_code(rt: &impl Abort, condition: Condition, code: u8) {
     let found = condition.code();
     let back = Condition::with_code(found);
-    expect(rt, &(found, back), &(code, condition));
+    expect_same(rt, &(found, back), &(code, condition));
 }
 
 #[test]

@@ -1,6 +1,6 @@
 //! Forms there and back, and a case of each rule. Statements that other tools write are compared by `armv6m_vectors`.
 
-use crate::expect::expect;
+use crate::expect::{expect, expect_same};
 use armv6m_decode::registers::{LR, SP};
 use armv6m_decode::{Alu, Branch, Condition, Decoded, Instr, Many, Memory, Other, decode16};
 use armv6m_forms::{
@@ -30,7 +30,7 @@ fn read(form: Form, at: u32) -> Option<Instr> {
 
 /// The instruction that is made comes back from the form at an address.
 fn assert_back(rt: &impl Abort, instr: Instr, at: u32) {
-    expect(rt, &read(form_at(&instr, at), at), &Some(made(instr)));
+    expect_same(rt, &read(form_at(&instr, at), at), &Some(made(instr)));
 }
 
 #[test]
@@ -54,7 +54,7 @@ fn each_long_branch_comes_back(rt: HostRuntime) {
 /// What reaches each target from an address.
 fn assert_reached(rt: &impl Abort, aim: Aim, reached: &[(u32, u32, Option<Instr>)]) {
     for &(at, target, due) in reached {
-        expect(rt, &reach(aim, at, target), &due);
+        expect_same(rt, &reach(aim, at, target), &due);
     }
 }
 
@@ -150,7 +150,7 @@ fn fields(rt: HostRuntime) {
         with_lr(Mnemonic::Pop),
     ];
     let due = [Some(by_32), None, Some(on_stack), None, Some(push), None];
-    expect(&rt, &found, &due);
+    expect_same(&rt, &found, &due);
 }
 
 /// The line of an instruction at an address.
