@@ -28,13 +28,13 @@ for file in "$folder"/jobs/*/*; do
     crate=$(basename "$(dirname "$file")")
     compare "$crate/data/$(basename "$file")" "$file" "crates/$crate/data/$(basename "$file")"
 done
-stored=crates/job_vectors/stdout
+stored=crates/session_vectors/stdout
 for list in changes.txt two.txt; do
-    compare "the hashes of $list" <(python3 tools/job_files.py hashes $list) crates/job_vectors/data/$list
+    compare "the hashes of $list" <(python3 tools/job_files.py hashes $list) crates/session_vectors/data/$list
 done
 compare 'jobs of the first format' <(python3 tools/job_files.py first) <(between $stored 'a job of the first format' 'a job of the second format')
 compare 'jobs of the second format' <(python3 tools/job_files.py second) <(between $stored 'a job of the second format' 'a job of two regions')
-compare 'jobs of two regions' <(python3 tools/job_files.py two) <(between $stored 'a job of two regions')
+compare 'jobs of two regions' <(python3 tools/job_files.py two) <(between $stored 'a job of two regions' 'a blank device')
 compare 'jobs that are begun and opened' <(python3 tools/job_files.py stops) <(sed '/^a job of the first format$/,$d' $stored)
 first=$(head -n 1 crates/file_vectors/data/sweeps.txt)
 compare 'the sweeps' <(python3 tools/sweeps.py) <(echo "$first"; between crates/file_vectors/stdout "$first")

@@ -1,13 +1,13 @@
 #!/usr/bin/env python3
-"""The job files that `job_vectors`, `file_vectors` and `program_vectors` read and compare, by the format, and what `job_vectors` has to print of files that
-are made of them.
+"""The job files that `session_vectors`, `file_vectors` and `program_vectors` read and compare, by the format, and what `session_vectors` has to print of
+files that are made of them.
 
   python3 tools/job_files.py write FOLDER     writes all of them, into folders that are named like the crates
   python3 tools/job_files.py hashes NAME      prints the list of changes of that name (changes.txt, two.txt) with the hashes that its files keep
-  python3 tools/job_files.py first            prints what is made of a job of the first format: in crates/job_vectors/stdout behind that line
+  python3 tools/job_files.py first            prints what is made of a job of the first format: in crates/session_vectors/stdout behind that line
   python3 tools/job_files.py second           the same of one of the second format
   python3 tools/job_files.py two              the same of one of two regions
-  python3 tools/job_files.py stops            prints how the job is begun, stopped, closed and opened: the beginning of crates/job_vectors/stdout
+  python3 tools/job_files.py stops            prints how the job is begun, stopped, closed and opened: the beginning of crates/session_vectors/stdout
 
 They are called from the repository's top. Each line of a list is `WHAT: CHANGE..`, a CHANGE `AT=BYTES`, `cut=LENGTH` or `more=BYTES`."""
 import hashlib
@@ -24,14 +24,14 @@ ONE = {0x08000041: 0xAA}
 BLANK = b"\xff"
 
 
-def read(name, crate="job_vectors"):
+def read(name, crate="session_vectors"):
     with open("crates/%s/data/%s" % (crate, name), "rb") as file:
         return file.read()
 
 
 def files():
-    """The three job files of `job_vectors`: of the small board in both formats, and of two regions."""
-    small, two, flm, second = read("small.toml"), read("two.toml"), read("algorithm.flm"), read("second.flm")
+    """The three job files of `session_vectors`: of the small board in both formats, and of two regions."""
+    small, two, flm, second = read("one.toml"), read("two.toml"), read("algorithm.flm"), read("second.flm")
     return {"job.bin": job_file(small, [flm], FOUR, BLANK * 1024), "first.bin": job_file(small, [flm], FOUR, BLANK * 1024, False),
             "two.bin": job_file(two, [flm, second], BOTH, BLANK * 1280)}
 
@@ -56,7 +56,7 @@ def for_second_region(flm, base, size):
 
 def other_files():
     """Those of the other crates. A job that was closed has 00 for its first byte."""
-    small, flm, a1, full = read("small.toml"), read("algorithm.flm"), read("a1.flm", "file_vectors"), bytes(range(256)) + BLANK * 768
+    small, flm, a1, full = read("one.toml"), read("algorithm.flm"), read("a1.flm", "file_vectors"), bytes(range(256)) + BLANK * 768
     closed = {"one_region.job": job_file(small, [a1], FOUR, BLANK * 1024),
               "two_regions.job": job_file(read("two.toml"), [a1, for_second_region(a1, 0x1FFFF000, 256)], BOTH, BLANK * 1280)}
     one_sector = job_file(small, [a1], ONE, full, False)
@@ -166,7 +166,7 @@ def begin(bench, two=False):
     if two:
         jobs.begin(bench, read("two.toml"), [read("algorithm.flm"), read("second.flm")], BOTH, 1280)
     else:
-        jobs.begin(bench, read("small.toml"), [read("algorithm.flm")], FOUR, 1024)
+        jobs.begin(bench, read("one.toml"), [read("algorithm.flm")], FOUR, 1024)
 
 
 def begin_and_close(bench):
@@ -233,7 +233,7 @@ def main(words):
     os.chdir(os.path.join(os.path.dirname(os.path.abspath(__file__)), ".."))
     made = files()
     if words[0] == "write":
-        for crate, its in {"job_vectors": made, **other_files()}.items():
+        for crate, its in {"session_vectors": made, **other_files()}.items():
             os.makedirs(os.path.join(words[1], crate), exist_ok=True)
             for name, data in its.items():
                 with open(os.path.join(words[1], crate, name), "wb") as file:

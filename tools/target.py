@@ -134,7 +134,7 @@ def parse(lines):
 
 def texts():
     """The parsed text of each kind, by its name."""
-    with open("crates/call_vectors/data/algorithms.s") as file:
+    with open("crates/target_vectors/data/algorithms.s") as file:
         text = file.read()
     found = {"A%d" % kind: parse(of_kind(text, kind)) for kind in range(1, 8)}
     found["F1"] = parse(F1.strip().splitlines())
@@ -488,7 +488,7 @@ def codes(cache={}):
     """The code of each kind, by the files of other tools: A1 to A7; that of F1 is marked."""
     if not cache:
         for kind in range(1, 8):
-            with open("crates/call_vectors/data/a%d.flm" % kind, "rb") as file:
+            with open("crates/target_vectors/data/a%d.flm" % kind, "rb") as file:
                 cache["A%d" % kind] = [Algorithm(file.read()).code]
         with open("crates/file_vectors/data/a1.flm", "rb") as file:
             code = Algorithm(file.read()).code

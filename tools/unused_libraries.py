@@ -3,6 +3,8 @@
 
 A library is used where a .rt file of src/ names it in code or in a contract (`NAME::`, `use NAME`, `Rattle.NAME.`), or an
 .antt file of specs/ or proofs/ names its statements (`Rattle.NAME.`). Comments and texts don't count. Ends with 1 where it found one.
+
+The last line adds up, for all libraries, the paths from each of them down to what it stands on: along each `rt` reads all sources, twice.
 """
 import os
 import re
@@ -39,16 +41,25 @@ def is_used(text, library):
     return re.search(rf"\bRattle\.{library}\b|(?<![\w:]){library}\s*::|\buse\s+{library}\b", text) is not None
 
 
+def paths_down(libraries, crates, known):
+    """Returns how many paths lead down from these crates, each with itself."""
+    for it in libraries:
+        if it not in known:
+            known[it] = 1 + paths_down([below for below in crates[it] if below in crates], crates, known)
+    return sum(known[it] for it in libraries)
+
+
 def main():
     root = sys.argv[1] if len(sys.argv) > 1 else os.path.dirname(os.path.dirname(os.path.abspath(__file__)))
-    count = 0
-    for crate, libraries in crates_of(root).items():
+    count, crates = 0, crates_of(root)
+    for crate, libraries in crates.items():
         text = text_of(f"{root}/crates/{crate}")
         unused = [it for it in libraries if not is_used(text, it)]
         count += len(unused)
         if unused:
             print(f"{crate}: {' '.join(unused)}")
-    print(f"{count} unused")
+    made = [it for it in crates if os.path.isfile(f"{root}/crates/{it}/src/lib.rt")]
+    print(f"{count} unused; {paths_down(made, crates, {}):,} paths")
     return 1 if count else 0
 
 

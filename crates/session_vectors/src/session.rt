@@ -19,7 +19,7 @@
 //! `a1_windows.flm` and `a2_windows.flm` have a device of 13 sectors of 768 cells and pages of 12, which are written over those of `a1.flm` and
 //! `a2.flm`: a page of it lies across the place 4,096, and its cells are read in three windows.
 //!
-//! The algorithms A1 to A7 are made as `call_vectors` makes them: A3 with an erase time-out of one millisecond, A2 and A4 with
+//! The algorithms A1 to A7 are made as `target_vectors` makes them: A3 with an erase time-out of one millisecond, A2 and A4 with
 //! `arm-none-eabi-objcopy --strip-symbol=Verify` behind it, so that they have no Verify. `picky.s` says how its own file is made.
 
 mod apart;

@@ -1,5 +1,4 @@
 //! Inputs and sinks over files and streams that give and take a few bytes at a time.
-ghost use Rattle.std.specs.Prelude.{◌≡◌};
 
 use crate::expect::expect_all;
 use faults::OutOfMemory;
