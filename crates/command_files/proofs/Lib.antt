@@ -3,3 +3,8 @@ pub mod ImageLemmas
 pub mod TakeLemmas
 pub mod WantedLemmas
 pub mod TargetFilesLemmas
+pub mod AnswerLemmas
+pub mod FileLemmas
+pub mod ReadingLemmas
+pub mod PlaceLemmas
+pub mod RefusalLemmas

@@ -2,3 +2,8 @@ pub mod Inputs
 pub mod Files
 pub mod Refused
 pub mod Steps
+pub mod Call
+pub mod Said
+pub mod Answered
+pub mod Shown
+pub mod Reading

@@ -3,10 +3,10 @@ use Rattle.std.proofs.Common.{◌≡◌, sym, subst, refl, arith, inl, inr, ◌�
 use Rattle.faults.specs.Counts.{Rose}
 use Rattle.report_text.specs.Refusal.{out_of_memory, no_job, not_a_job, damaged, cells_differ, store_fault, device_fault, output_fault, call_failed, mismatch}
 use Rattle.command_files.specs.Inputs.{InputsCall, TakesNothing}
-use Rattle.command_answers.specs.Call.{BenchCall, SinkCall, IsUntouched, Answer, done, refused}
-use Rattle.command_answers.specs.Said.{TookPart}
-use Rattle.command_answers.specs.Answered.{input, store, device, output, on_job_file, on_own_bench, IsOf, StandsEarly, EndsLawfully}
-use Rattle.command_answers.proofs.AnswerLemmas.{unraised}
+use Rattle.command_files.specs.Call.{BenchCall, SinkCall, IsUntouched, Answer, done, refused}
+use Rattle.command_files.specs.Said.{TookPart}
+use Rattle.command_files.specs.Answered.{input, store, device, output, on_job_file, on_own_bench, IsOf, StandsEarly, EndsLawfully}
+use Rattle.command_files.proofs.AnswerLemmas.{unraised}
 use Rattle.demo_job.specs.Run.{silence}
 use Rattle.demo_job.specs.Command.{Prints, Tells, resumed_in, TellsLawfully, DemoSays, SaysLawfully, DemoEnds}
 use Rattle.job_commands.specs.GoOn.{has_resume}

@@ -26,8 +26,8 @@ use Rattle.flash_session.specs.declared.goal.Goal.TheVariants.{New}
 use Rattle.report_text.specs.Refusal.{Refusal as Reason, out_of_memory, no_job, cells_differ, status_of}
 use Rattle.report_text.specs.declared.refusal.Refusal.{Refusal}
 use Rattle.report_text.proofs.StatusLemmas.{some_status}
-use Rattle.command_answers.specs.Call.{bench_call, Answer, done, refused}
-use Rattle.command_answers.specs.Answered.{yields, Refuses, OnlyLooked}
+use Rattle.command_files.specs.Call.{bench_call, Answer, done, refused}
+use Rattle.command_files.specs.Answered.{yields, Refuses, OnlyLooked}
 use Rattle.job_commands.specs.GoOn.{work_to, GoesOnFrom}
 use Rattle.demo_job.specs.Made.{cells_of, image_of, laid_of}
 use Rattle.demo_job.specs.Fixture.{board_text, Fixture, IsFixture}

@@ -6,9 +6,9 @@ use Rattle.bench_model.specs.Shown as bench
 use Rattle.bench_model.specs.declared.memory.MemoryBench.{MemoryBench}
 use Rattle.report_text.specs.Refusal.{out_of_memory, output_fault}
 use Rattle.command_files.specs.Inputs.{InputsCall, TakesNothing}
-use Rattle.command_answers.specs.Call.{BenchCall, bench_call, SinkCall, IsUntouched, Answer, refused}
-use Rattle.command_answers.specs.Said.{TookNothing, TookAll, TookPart}
-use Rattle.command_answers.specs.Answered.{on_own_bench, EndsLawfully}
+use Rattle.command_files.specs.Call.{BenchCall, bench_call, SinkCall, IsUntouched, Answer, refused}
+use Rattle.command_files.specs.Said.{TookNothing, TookAll, TookPart}
+use Rattle.command_files.specs.Answered.{on_own_bench, EndsLawfully}
 use Rattle.demo_job.specs.Made.{cells_of}
 use Rattle.demo_job.specs.Run.{IsFresh, answer_in}
 use Rattle.demo_job.specs.Lines.{demo_text}

@@ -21,8 +21,8 @@ use Rattle.report_text.specs.Shown as refusal
 use Rattle.report_text.specs.Refusal.{out_of_memory, status_of}
 use Rattle.report_text.specs.declared.refusal.Refusal.{Refusal}
 use Rattle.command_files.specs.Inputs.{InputsCall, TakesNothing}
-use Rattle.command_answers.specs.Call.{bench_call, SinkCall, sink_call, Answer, done, refused}
-use Rattle.command_answers.specs.Answered.{IsOf}
+use Rattle.command_files.specs.Call.{bench_call, SinkCall, sink_call, Answer, done, refused}
+use Rattle.command_files.specs.Answered.{IsOf}
 use Rattle.job_commands.specs.Work.{Work, plan_in}
 use Rattle.job_commands.specs.Carry.{Carries}
 use Rattle.job_commands.specs.GoOn.{work_to, GoOnEnds}

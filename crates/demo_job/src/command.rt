@@ -1,7 +1,7 @@
 //! `demo N`: the demonstration of a seed.
 ghost use Rattle.std.specs.Prelude.{◌≡◌, IfOk};
-ghost use Rattle.command_answers.specs.Call.{sink_call};
-ghost use Rattle.command_answers.specs.Shown.{answer_of};
+ghost use Rattle.command_files.specs.Call.{sink_call};
+ghost use Rattle.command_files.specs.Shown.{answer_of};
 ghost use Rattle.demo_job.specs.Run.{answer_in};
 ghost use Rattle.demo_job.specs.Command.{DemoSays, IsShown, Prints};
 

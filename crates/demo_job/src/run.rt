@@ -3,7 +3,7 @@ ghost use Rattle.std.specs.Prelude.{◌≡◌, ◌↔◌, IfOk, IsTrue};
 ghost use Rattle.bench_model.specs.Shown.{bench_of};
 ghost use Rattle.demo_job.specs.Demo.{Shows};
 ghost use Rattle.algo_calls.specs.Duties.{device_of};
-ghost use Rattle.command_answers.specs.Shown.{answer_of};
+ghost use Rattle.command_files.specs.Shown.{answer_of};
 ghost use Rattle.demo_job.specs.Run.{BeginsOver, IsFresh, IsLost, answer_in, plan_of, status_in};
 ghost use Rattle.demo_job.specs.Scene.{IsScene, IsCounted, fixture_of};
 ghost use Rattle.bench_model.specs.declared.memory.MemoryBench.{MemoryBench};

@@ -19,10 +19,10 @@ use Rattle.report_text.specs.Refusal.{Refusal, out_of_memory, input_fault, board
 use Rattle.command_words.specs.declared.command.TextForm.{TextForm}
 use Rattle.command_files.specs.Inputs.{InputsCall, IsFile, NoneFailed}
 use Rattle.command_files.specs.Steps.{IsTakeFault, IsBoardRefusal}
-use Rattle.command_answers.specs.Call.{BenchCall, SinkCall, Answer, done, refused, bench_call, sink_call}
-use Rattle.command_answers.specs.Said.{PrintsText}
-use Rattle.command_answers.specs.Answered.{input, store, device, output, fault_in, yields, IsUnless, StandsEarly, IsOf, EndsLawfully, on_files}
-use Rattle.command_answers.proofs.AnswerLemmas.{unraised, never_store, did_nothing, plain_lawful, untaken_lawful, one_file}
+use Rattle.command_files.specs.Call.{BenchCall, SinkCall, Answer, done, refused, bench_call, sink_call}
+use Rattle.command_files.specs.Said.{PrintsText}
+use Rattle.command_files.specs.Answered.{input, store, device, output, fault_in, yields, IsUnless, StandsEarly, IsOf, EndsLawfully, on_files}
+use Rattle.command_files.proofs.AnswerLemmas.{unraised, never_store, did_nothing, plain_lawful, untaken_lawful, one_file}
 use Rattle.device_dump.specs.CellMaps.{IsMapOfCells}
 use Rattle.device_dump.specs.Dump.{text_in, StandsBehind, DumpLeaves, ComesOfBoard, IsDueForBoard, DumpEnds, has_dump}
 use Rattle.device_dump.specs.Looks.{LooksAtCells, PrintsNothing}

@@ -7,7 +7,7 @@ use Rattle.bench_model.specs.Does.{DropsCells, ReadsCells}
 use Rattle.bench_model.specs.declared.bench_fault.DeviceFault.{DeviceFault}
 use Rattle.bench_model.proofs.Moments.{adds_nothing_then, file_stays_then}
 use Rattle.readback.specs.Readback.{OnlyReadsCells}
-use Rattle.command_answers.specs.Call.{bench_call}
+use Rattle.command_files.specs.Call.{bench_call}
 use Rattle.device_dump.specs.Looks.{IsBrokenOff, LooksAtCells}
 
 -- the break-off failed

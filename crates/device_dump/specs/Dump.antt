@@ -15,9 +15,9 @@ use Rattle.report_text.specs.Refusal.{out_of_memory, input_fault, board_refused,
 use Rattle.command_words.specs.declared.command.TextForm.{TextForm}
 use Rattle.command_words.specs.declared.command.TextForm.TheVariants.{Hex, Srec}
 use Rattle.command_files.specs.Inputs.{InputsCall, IsFile}
-use Rattle.command_answers.specs.Call.{BenchCall, SinkCall, Answer, done, refused}
-use Rattle.command_answers.specs.Said.{PrintsText}
-use Rattle.command_answers.specs.Answered.{IsUnless, Refuses, DidNothing, EndsLawfully, on_files}
+use Rattle.command_files.specs.Call.{BenchCall, SinkCall, Answer, done, refused}
+use Rattle.command_files.specs.Said.{PrintsText}
+use Rattle.command_files.specs.Answered.{IsUnless, Refuses, DidNothing, EndsLawfully, on_files}
 use Rattle.device_dump.specs.CellMaps.{IsMapOfCells}
 use Rattle.device_dump.specs.Looks.{IsBrokenOff, IsStillOpen, PrintsNothing}
 

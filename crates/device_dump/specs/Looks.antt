@@ -6,8 +6,8 @@ use Rattle.bench_model.specs.History.{AddsNothing}
 use Rattle.bench_model.specs.Calls.{FileStays}
 use Rattle.bench_model.specs.declared.bench_fault.DeviceFault.{DeviceFault}
 use Rattle.report_text.specs.Refusal.{output_fault}
-use Rattle.command_answers.specs.Call.{BenchCall, SinkCall, Answer, done, refused}
-use Rattle.command_answers.specs.Said.{TookNothing}
+use Rattle.command_files.specs.Call.{BenchCall, SinkCall, Answer, done, refused}
+use Rattle.command_files.specs.Said.{TookNothing}
 
 -- an operation open at entry was broken off: none is open, and the cells outside its range are as they were
 pub record IsBrokenOff (bench : BenchCall) : Type 0 where

@@ -6,9 +6,9 @@ use Rattle.board_file.specs.Limits.{size_of}
 use Rattle.board_file.specs.declared.region.Region.{Region}
 use Rattle.report_text.specs.Refusal.{out_of_memory, device_fault, output_fault}
 use Rattle.command_words.specs.declared.command.TextForm.{TextForm}
-use Rattle.command_answers.specs.Call.{BenchCall, SinkCall, Answer, done, refused}
-use Rattle.command_answers.specs.Said.{TookNothing, PrintsText}
-use Rattle.command_answers.specs.Answered.{device, output, IsCounted}
+use Rattle.command_files.specs.Call.{BenchCall, SinkCall, Answer, done, refused}
+use Rattle.command_files.specs.Said.{TookNothing, PrintsText}
+use Rattle.command_files.specs.Answered.{device, output, IsCounted}
 use Rattle.device_dump.specs.CellMaps.{IsMapOfCells}
 use Rattle.device_dump.specs.Dump.{text_in, DumpLeaves, IsDumped}
 

@@ -1,6 +1,6 @@
 //! The cells as they are.
 ghost use Rattle.std.specs.Prelude.{◌≡◌, length, IsTrue, OnOk};
-ghost use Rattle.command_answers.specs.Call.{bench_call};
+ghost use Rattle.command_files.specs.Call.{bench_call};
 ghost use Rattle.device_dump.specs.Looks.{LooksAtCells};
 
 use bench_model::{Bench, DeviceFault};

@@ -2,8 +2,8 @@
 ghost use Rattle.std.specs.Prelude.{◌≡◌, length};
 ghost use Rattle.board_file.specs.Limits.{size_of};
 ghost use Rattle.command_files.specs.Inputs.{inputs_call};
-ghost use Rattle.command_answers.specs.Call.{bench_call, sink_call};
-ghost use Rattle.command_answers.specs.Shown.{answer_of};
+ghost use Rattle.command_files.specs.Call.{bench_call, sink_call};
+ghost use Rattle.command_files.specs.Shown.{answer_of};
 ghost use Rattle.outside_io.specs.Puts.{Puts};
 ghost use Rattle.device_dump.specs.Dump.{text_in, DumpEnds};
 ghost use Rattle.device_dump.specs.Steps.{DumpsCells, PutsCells};

@@ -14,8 +14,8 @@ use Rattle.report_text.specs.Lines.{line_of}
 use Rattle.command_words.specs.Files.{names_in}
 use Rattle.command_files.specs.Inputs.{InputsCall, FilesGiven, NoneFailed}
 use Rattle.command_files.specs.Steps.{IsTakeFault, TookFiles}
-use Rattle.command_answers.specs.Call.{SinkCall, sink_call}
-use Rattle.command_answers.specs.Said.{TookNothing, TookAll, TookPart}
+use Rattle.command_files.specs.Call.{SinkCall, sink_call}
+use Rattle.command_files.specs.Said.{TookNothing, TookAll, TookPart}
 use Rattle.duty_rounds.specs.declared.verdict.Verdict.{Verdict}
 use Rattle.duty_rounds.specs.declared.verdict.Verdict.TheVariants as verdict
 use Rattle.duty_rounds.specs.Verdicts.{IsTrueOf}

@@ -11,8 +11,8 @@ use Rattle.report_text.specs.declared.refusal.Refusal.{Refusal}
 use Rattle.command_words.specs.Files.{names_in}
 use Rattle.command_files.specs.Inputs.{InputsCall, FilesGiven, NoneFailed}
 use Rattle.command_files.specs.Steps.{IsTakeFault, TookFiles}
-use Rattle.command_answers.specs.Call.{SinkCall}
-use Rattle.command_answers.specs.Said.{TookNothing, TookAll, TookPart}
+use Rattle.command_files.specs.Call.{SinkCall}
+use Rattle.command_files.specs.Said.{TookNothing, TookAll, TookPart}
 use Rattle.flm_check.specs.Words.{Asked, Asks, AsksNothing}
 use Rattle.flm_check.specs.BoardAlgorithms.{AreBoardAlgorithms, IsRefused}
 use Rattle.flm_check.specs.Endings.{status_of, first_line}

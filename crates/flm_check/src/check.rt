@@ -2,8 +2,8 @@
 ghost use Rattle.std.specs.Prelude.{◌≡◌, ◌⊎◌, All};
 ghost use Rattle.command_words.specs.Files.{names_in};
 ghost use Rattle.command_files.specs.Inputs.{inputs_call};
-ghost use Rattle.command_answers.specs.Call.{sink_call};
-ghost use Rattle.command_answers.specs.Said.{TookAll, TookPart};
+ghost use Rattle.command_files.specs.Call.{sink_call};
+ghost use Rattle.command_files.specs.Said.{TookAll, TookPart};
 ghost use Rattle.outside_io.specs.Puts.{Puts};
 ghost use Rattle.report_text.specs.Refusal.{status_of};
 ghost use Rattle.report_text.specs.Shown.{shown};

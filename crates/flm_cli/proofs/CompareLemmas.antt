@@ -10,12 +10,12 @@ use Rattle.report_text.specs.Refusal.{Refusal, out_of_memory, input_fault, image
 use Rattle.readback.specs.Difference.{IsFirstDifference}
 use Rattle.command_files.specs.Inputs.{InputsCall, IsFile, NoneFailed}
 use Rattle.command_files.specs.Steps.{IsTakeFault}
-use Rattle.command_answers.specs.Call.{BenchCall, SinkCall, Answer, refused, bench_call, sink_call}
-use Rattle.command_answers.specs.Answered.{yields, DidNothing, IsOf, on_files}
+use Rattle.command_files.specs.Call.{BenchCall, SinkCall, Answer, refused, bench_call, sink_call}
+use Rattle.command_files.specs.Answered.{yields, DidNothing, IsOf, on_files}
 use Rattle.flm_cli.specs.Comparison.{Compares}
 use Rattle.flm_cli.specs.Comparison as comparison
 use Rattle.flm_cli.specs.Compare.{CellsAre, DiffersFrom, IsComparedWithFile, OfFile, ComesOfFile, IsDueForFile, CompareEnds, has_compare}
-use Rattle.command_answers.proofs.AnswerLemmas.{did_nothing, plain_lawful, untaken_lawful, one_file}
+use Rattle.command_files.proofs.AnswerLemmas.{did_nothing, plain_lawful, untaken_lawful, one_file}
 use Rattle.flm_cli.proofs.FoundLemmas.{leaves_early, found_cases, compared_lawful, is_due, due_yielding}
 
 -- The cells and the bytes of a file.

@@ -5,12 +5,12 @@ use Rattle.std.specs.Result.{ForOk}
 use Rattle.bench_model.specs.declared.bench_fault.DeviceFault.{DeviceFault}
 use Rattle.readback.specs.declared.compare.Difference.{Difference}
 use Rattle.report_text.specs.Refusal.{device_fault, output_fault, differs}
-use Rattle.command_answers.specs.Call.{BenchCall, SinkCall, Answer, done, refused}
-use Rattle.command_answers.specs.Answered.{device, output}
+use Rattle.command_files.specs.Call.{BenchCall, SinkCall, Answer, done, refused}
+use Rattle.command_files.specs.Answered.{device, output}
 use Rattle.flm_cli.specs.Comparison.{Compares}
 use Rattle.device_dump.specs.Looks.{LooksAtCells}
 use Rattle.flm_cli.specs.Steps.{FoundBy, TellsFound}
-use Rattle.command_answers.proofs.AnswerLemmas.{unraised}
+use Rattle.command_files.proofs.AnswerLemmas.{unraised}
 
 module _ (bench : BenchCall) (out : SinkCall) (base : ℕ) (Agrees : Type 0) (Differs : ℕ → ℕ → ℕ → Type 0) where
   pub compares_by : (found : Result (Option Difference) DeviceFault) (answer : Answer) → LooksAtCells bench found → IfOk found (FoundBy base Agrees Differs)

@@ -5,9 +5,9 @@ use Rattle.bench_model.proofs.Moments.{adds_nothing_here, file_stays_here, cells
 use Rattle.outside_io.specs.State.{SinkState}
 use Rattle.report_text.specs.Refusal.{Refusal, store_fault, device_fault, output_fault, differs}
 use Rattle.command_files.specs.Inputs.{InputsCall, NoneFailed}
-use Rattle.command_answers.specs.Call.{BenchCall, SinkCall, Answer, done, refused, bench_call, sink_call}
-use Rattle.command_answers.specs.Answered.{input, store, device, output, fault_in, yields, StandsEarly, IsOf, EndsLawfully, on_files}
-use Rattle.command_answers.proofs.AnswerLemmas.{unraised, never_store}
+use Rattle.command_files.specs.Call.{BenchCall, SinkCall, Answer, done, refused, bench_call, sink_call}
+use Rattle.command_files.specs.Answered.{input, store, device, output, fault_in, yields, StandsEarly, IsOf, EndsLawfully, on_files}
+use Rattle.command_files.proofs.AnswerLemmas.{unraised, never_store}
 use Rattle.flm_cli.specs.Comparison.{ComparisonLeaves, Found, Compares, IsCompared, IsDue}
 
 -- a refusal that is no answer of the comparison

@@ -11,11 +11,11 @@ use Rattle.report_text.specs.Refusal.{Refusal, out_of_memory, input_fault, flm_r
 use Rattle.report_text.specs.Refused.{of_flm}
 use Rattle.command_files.specs.Inputs.{InputsCall, IsFile, NoneFailed}
 use Rattle.command_files.specs.Steps.{IsTakeFault}
-use Rattle.command_answers.specs.Call.{BenchCall, SinkCall, Answer, done, refused, bench_call, sink_call}
-use Rattle.command_answers.specs.Said.{TookAll, TookPart}
-use Rattle.command_answers.specs.Answered.{input, store, device, output, yields, DidNothing, on_files}
+use Rattle.command_files.specs.Call.{BenchCall, SinkCall, Answer, done, refused, bench_call, sink_call}
+use Rattle.command_files.specs.Said.{TookAll, TookPart}
+use Rattle.command_files.specs.Answered.{input, store, device, output, yields, DidNothing, on_files}
 use Rattle.flm_cli.specs.Inspect.{IsDueForFlm, InspectEnds, has_inspect}
-use Rattle.command_answers.proofs.AnswerLemmas.{did_nothing, untouched_here, plain_lawful, untaken_lawful, unraised, one_file}
+use Rattle.command_files.proofs.AnswerLemmas.{did_nothing, untouched_here, plain_lawful, untaken_lawful, unraised, one_file}
 
 due_yielding : (bench : BenchCall) (out : SinkCall) (answer : Answer) (bytes : List ℕ) → yields answer ≡ true → DidNothing bench out
     → IsDueForFlm bench out answer bytes

@@ -2,7 +2,7 @@
 use Rattle.std.proofs.Common.{⊎_elim, inl, inr, List, [], ◌∷◌, Some}
 use Rattle.flash_session.specs.declared.goal.Goal.{Goal}
 use Rattle.flash_session.specs.declared.goal.Goal.TheVariants.{New, Old}
-use Rattle.command_answers.specs.Call.{Call}
+use Rattle.command_files.specs.Call.{Call}
 use Rattle.command_words.specs.Files.{FilesAsked}
 use Rattle.command_words.specs.Words.{program, begin}
 use Rattle.job_commands.specs.GoOn.{GoOnAnswers}

@@ -7,7 +7,7 @@ use Rattle.board_file.specs.declared.region.Region.{Region}
 use Rattle.readback.specs.Difference.{IsFirstDifference}
 use Rattle.readback.specs.Readback.{OnlyReadsCells, Finds}
 use Rattle.readback.specs.declared.compare.Difference.{Difference}
-use Rattle.command_answers.specs.Call.{bench_call}
+use Rattle.command_files.specs.Call.{bench_call}
 use Rattle.flm_cli.specs.Compare.{CellsAre, DiffersFrom}
 use Rattle.flm_cli.specs.Verify.{CellsAgree, CellsAgreeBelow, AgreesWith, DiffersAt}
 use Rattle.flm_cli.specs.Steps.{FindsInImage, FoundBy}

@@ -11,7 +11,7 @@ use Rattle.board_file.specs.Limits.{size_of}
 use Rattle.readback.specs.declared.compare.Difference.{Difference}
 use Rattle.readback.specs.Readback.{OnlyReadsCells}
 use Rattle.readback.proofs.ReadbackLemmas.{only_reads_cells_here, only_reads_cells_then}
-use Rattle.command_answers.proofs.PlaceLemmas.{chosen_first, chosen_later, address_first, address_later}
+use Rattle.command_files.proofs.PlaceLemmas.{chosen_first, chosen_later, address_first, address_later}
 use Rattle.flm_cli.specs.Verify.{wanted_at}
 use Rattle.job_text.specs.Laid.{address_at}
 use Rattle.flm_cli.specs.Steps.{FindsInImage, RegionAgreesBelow, IsFirstInRegion, FindsInRegion}

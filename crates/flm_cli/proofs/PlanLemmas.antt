@@ -38,15 +38,15 @@ use Rattle.command_files.specs.Files.{others_of, AreFor, Aim, IsAim}
 use Rattle.command_files.specs.Refused.{IsRefused}
 use Rattle.command_files.specs.Steps.{IsTakeFault, IsFilesRefusal, aim_of}
 use Rattle.command_files.specs.declared.wanted.Wanted.{Wanted}
-use Rattle.command_answers.specs.Call.{BenchCall, SinkCall, Answer, done, refused, bench_call, sink_call}
-use Rattle.command_answers.specs.Said.{PrintsText}
-use Rattle.command_answers.specs.Answered.{input, store, device, output, fault_in, yields, IsUnless, StandsEarly, IsOf, EndsLawfully, on_files}
-use Rattle.command_answers.specs.Reading.{ShowsFiles}
+use Rattle.command_files.specs.Call.{BenchCall, SinkCall, Answer, done, refused, bench_call, sink_call}
+use Rattle.command_files.specs.Said.{PrintsText}
+use Rattle.command_files.specs.Answered.{input, store, device, output, fault_in, yields, IsUnless, StandsEarly, IsOf, EndsLawfully, on_files}
+use Rattle.command_files.specs.Reading.{ShowsFiles}
 use Rattle.flm_cli.specs.Plan.{text_for, plans_for, text_of, PlanLeaves, IsPlanned, ShowsPlan, IsDueForPlan, PlanEnds, has_plan}
 use Rattle.device_dump.specs.Looks.{LooksAtCells, PrintsNothing}
 use Rattle.flm_cli.specs.Steps.{AreDevices, AreParts, ArePlanned, cells_on, part_text, parts_text, IsPrinted, Printed, PlansCells}
-use Rattle.command_answers.proofs.ReadingLemmas.{answers_yielding, answers_refused, answers_worked}
-use Rattle.command_answers.proofs.AnswerLemmas.{unraised, never_store, did_nothing, plain_lawful, untaken_lawful}
+use Rattle.command_files.proofs.ReadingLemmas.{answers_yielding, answers_refused, answers_worked}
+use Rattle.command_files.proofs.AnswerLemmas.{unraised, never_store, did_nothing, plain_lawful, untaken_lawful}
 use Rattle.flm_cli.proofs.FoundLemmas.{is_early}
 
 -- The work on the cells.

@@ -10,8 +10,8 @@ use Rattle.report_text.specs.Refusal as refusal
 use Rattle.command_words.specs.Words.{Command, program, begin, resume, revert, plan, verify, compare, status, inspect, dump, demo, Asked}
 use Rattle.command_words.proofs.WordsLemmas.{one_asked}
 use Rattle.command_files.specs.Inputs.{InputsCall, TakesNothing, NoneFailed, inputs_call}
-use Rattle.command_answers.specs.Call.{BenchCall, SinkCall, Answer, refused, bench_call, sink_call}
-use Rattle.command_answers.proofs.AnswerLemmas.{did_nothing}
+use Rattle.command_files.specs.Call.{BenchCall, SinkCall, Answer, refused, bench_call, sink_call}
+use Rattle.command_files.proofs.AnswerLemmas.{did_nothing}
 use Rattle.job_commands.proofs.GoOnLemmas as go_on
 use Rattle.job_commands.proofs.ProgramLemmas.{program_untaken, begin_untaken}
 use Rattle.job_file.specs.declared.fault.OpenFault.TheVariants as opening

@@ -18,16 +18,16 @@ use Rattle.command_files.specs.Steps.{IsTakeFault, IsFilesRefusal, aim_of}
 use Rattle.command_files.specs.declared.wanted.Wanted.{Wanted}
 use Rattle.image_set.proofs.UnionLemmas.{below_end}
 use Rattle.command_files.proofs.ImageLemmas.{maximal_union}
-use Rattle.command_answers.specs.Call.{BenchCall, SinkCall, Answer, done, refused, bench_call, sink_call}
-use Rattle.command_answers.specs.Answered.{yields, DidNothing, IsOf, on_files}
+use Rattle.command_files.specs.Call.{BenchCall, SinkCall, Answer, done, refused, bench_call, sink_call}
+use Rattle.command_files.specs.Answered.{yields, DidNothing, IsOf, on_files}
 use Rattle.flm_cli.specs.Comparison as comparison
 use Rattle.flm_cli.specs.Comparison.{Compares}
-use Rattle.command_answers.specs.Reading.{ShowsFiles, AnswersFiles}
+use Rattle.command_files.specs.Reading.{ShowsFiles, AnswersFiles}
 use Rattle.job_text.specs.Laid.{address_at}
 use Rattle.flm_cli.specs.Verify.{wanted_at, CellsAgree, IsLeastDifference, DiffersAt, AgreesWith, IsComparedWithImage, Shows, IsDueForImage, VerifyEnds}
 use Rattle.flm_cli.specs.Verify.{has_verify}
-use Rattle.command_answers.proofs.ReadingLemmas.{answers_yielding, answers_refused, answers_worked}
-use Rattle.command_answers.proofs.AnswerLemmas.{did_nothing, plain_lawful, untaken_lawful}
+use Rattle.command_files.proofs.ReadingLemmas.{answers_yielding, answers_refused, answers_worked}
+use Rattle.command_files.proofs.AnswerLemmas.{did_nothing, plain_lawful, untaken_lawful}
 use Rattle.flm_cli.proofs.FoundLemmas.{leaves_early, found_cases, compared_lawful, is_due, due_yielding}
 use Rattle.flm_cli.proofs.PlaceLemmas.{wanted_address}
 

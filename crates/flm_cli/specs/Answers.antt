@@ -4,8 +4,8 @@ use Rattle.report_text.specs.Refusal as refusal
 use Rattle.command_words.specs.Files.{FilesAsked}
 use Rattle.command_words.specs.Words.{Command, program, begin, resume, revert, plan, verify, compare, status, inspect, dump, demo}
 use Rattle.command_files.specs.Inputs.{InputsCall, TakesNothing}
-use Rattle.command_answers.specs.Call.{BenchCall, SinkCall, Call, Answer, refused}
-use Rattle.command_answers.specs.Answered.{DidNothing, AnswersBy}
+use Rattle.command_files.specs.Call.{BenchCall, SinkCall, Call, Answer, refused}
+use Rattle.command_files.specs.Answered.{DidNothing, AnswersBy}
 use Rattle.demo_job.specs.Command.{DemoEnds}
 use Rattle.device_dump.specs.Dump.{DumpEnds}
 use Rattle.flash_session.specs.declared.goal.Goal.{Goal}

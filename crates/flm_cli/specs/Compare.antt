@@ -3,8 +3,8 @@ use Rattle.std.specs.Prelude.{◌≡◌, ◌≤◌, ◌<◌, ℕ, IsTrue, List, 
 use Rattle.report_text.specs.Refusal.{out_of_memory, input_fault, image_too_long, Refusal, device_fault, output_fault, differs}
 use Rattle.readback.specs.Difference.{IsFirstDifference}
 use Rattle.command_files.specs.Inputs.{InputsCall, IsFile}
-use Rattle.command_answers.specs.Call.{BenchCall, SinkCall, Answer, refused}
-use Rattle.command_answers.specs.Answered.{Refuses, DidNothing, EndsLawfully, on_files}
+use Rattle.command_files.specs.Call.{BenchCall, SinkCall, Answer, refused}
+use Rattle.command_files.specs.Answered.{Refuses, DidNothing, EndsLawfully, on_files}
 use Rattle.flm_cli.specs.Comparison.{ComparisonLeaves, Found, IsDue}
 
 -- each byte of the file is the cell at its place, from place 0 on

@@ -8,9 +8,9 @@ use Rattle.report_text.specs.Refusal.{device_fault, output_fault, differs}
 use Rattle.report_text.specs.End.{end_text}
 use Rattle.report_text.specs.declared.end.End.TheVariants.{Same}
 use Rattle.command_files.specs.Files.{Aim}
-use Rattle.command_answers.specs.Call.{BenchCall, SinkCall, Answer, done, refused}
-use Rattle.command_answers.specs.Said.{PrintsText}
-use Rattle.command_answers.specs.Answered.{device, output, IsCounted, yields, IsUnless}
+use Rattle.command_files.specs.Call.{BenchCall, SinkCall, Answer, done, refused}
+use Rattle.command_files.specs.Said.{PrintsText}
+use Rattle.command_files.specs.Answered.{device, output, IsCounted, yields, IsUnless}
 use Rattle.device_dump.specs.Looks.{IsBrokenOff, IsStillOpen}
 
 -- What stands of the cells. The answers that come before the cells are looked at leave the bench as it was.

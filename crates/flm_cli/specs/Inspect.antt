@@ -6,9 +6,9 @@ use Rattle.flm_descriptor.specs.declared.fault.FlmFault.{FlmFault}
 use Rattle.report_text.specs.Inspection.{inspection_text}
 use Rattle.report_text.specs.Refusal.{out_of_memory, input_fault, flm_refused, output_fault, Refusal}
 use Rattle.command_files.specs.Inputs.{InputsCall, IsFile}
-use Rattle.command_answers.specs.Call.{BenchCall, SinkCall, Answer, done, refused, IsUntouched}
-use Rattle.command_answers.specs.Said.{TookNothing, TookAll, TookPart}
-use Rattle.command_answers.specs.Answered.{IsUnless, Refuses, DidNothing, EndsLawfully, on_files}
+use Rattle.command_files.specs.Call.{BenchCall, SinkCall, Answer, done, refused, IsUntouched}
+use Rattle.command_files.specs.Said.{TookNothing, TookAll, TookPart}
+use Rattle.command_files.specs.Answered.{IsUnless, Refuses, DidNothing, EndsLawfully, on_files}
 
 -- The bytes under the name are the FLM file of this algorithm.
 pub record IsAlgorithm (inputs : InputsCall) (flm : List ℕ) (algorithm : Shown) : Type 0 where

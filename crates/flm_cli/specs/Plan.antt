@@ -17,12 +17,12 @@ use Rattle.algo_calls.specs.Duties.{device_of}
 use Rattle.command_words.specs.Files.{FilesAsked, names_in}
 use Rattle.command_files.specs.Inputs.{InputsCall}
 use Rattle.command_files.specs.Files.{Aim}
-use Rattle.command_answers.specs.Call.{BenchCall, SinkCall, Answer, done, refused}
-use Rattle.command_answers.specs.Said.{PrintsText}
-use Rattle.command_answers.specs.Answered.{IsUnless, Refuses, DidNothing, EndsLawfully, on_files}
+use Rattle.command_files.specs.Call.{BenchCall, SinkCall, Answer, done, refused}
+use Rattle.command_files.specs.Said.{PrintsText}
+use Rattle.command_files.specs.Answered.{IsUnless, Refuses, DidNothing, EndsLawfully, on_files}
 use Rattle.device_dump.specs.Looks.{PrintsNothing}
 use Rattle.flm_cli.specs.Comparison.{Stands, HasOtherSize}
-use Rattle.command_answers.specs.Reading.{AnswersFiles}
+use Rattle.command_files.specs.Reading.{AnswersFiles}
 
 -- The plan.
 

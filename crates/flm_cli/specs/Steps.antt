@@ -14,9 +14,9 @@ use Rattle.report_text.specs.Region.{region_text, plans_text}
 use Rattle.report_text.specs.Refusal.{out_of_memory, device_fault, output_fault, differs}
 use Rattle.report_text.specs.End.{end_text}
 use Rattle.report_text.specs.declared.end.End.TheVariants.{Same}
-use Rattle.command_answers.specs.Call.{BenchCall, SinkCall, Answer, done, refused}
-use Rattle.command_answers.specs.Said.{TookNothing, PrintsText, SaysText}
-use Rattle.command_answers.specs.Answered.{device, output, IsCounted}
+use Rattle.command_files.specs.Call.{BenchCall, SinkCall, Answer, done, refused}
+use Rattle.command_files.specs.Said.{TookNothing, PrintsText, SaysText}
+use Rattle.command_files.specs.Answered.{device, output, IsCounted}
 use Rattle.flm_cli.specs.Plan.{PlanLeaves}
 use Rattle.job_text.specs.Laid.{address_at}
 use Rattle.flm_cli.specs.Verify.{CellsAgree, IsLeastDifference}

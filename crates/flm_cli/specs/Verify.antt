@@ -8,11 +8,11 @@ use Rattle.report_text.specs.Refusal.{output_fault, differs}
 use Rattle.command_words.specs.Files.{FilesAsked, names_in}
 use Rattle.command_files.specs.Inputs.{InputsCall}
 use Rattle.command_files.specs.Files.{Aim}
-use Rattle.command_answers.specs.Call.{BenchCall, SinkCall, Answer, refused}
+use Rattle.command_files.specs.Call.{BenchCall, SinkCall, Answer, refused}
 use Rattle.job_text.specs.Laid.{address_at}
-use Rattle.command_answers.specs.Answered.{Refuses, DidNothing, EndsLawfully, on_files}
+use Rattle.command_files.specs.Answered.{Refuses, DidNothing, EndsLawfully, on_files}
 use Rattle.flm_cli.specs.Comparison.{ComparisonLeaves, Found, IsDue, HasOtherSize}
-use Rattle.command_answers.specs.Reading.{AnswersFiles}
+use Rattle.command_files.specs.Reading.{AnswersFiles}
 
 -- The cells of regions against an image.
 

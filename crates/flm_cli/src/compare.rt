@@ -1,9 +1,9 @@
 //! `compare IMAGE`: the cells against the raw bytes of one file.
 ghost use Rattle.std.specs.Prelude.{◌≤◌, length, IfOk};
 ghost use Rattle.command_files.specs.Inputs.{inputs_call};
-ghost use Rattle.command_answers.specs.Call.{bench_call, sink_call};
+ghost use Rattle.command_files.specs.Call.{bench_call, sink_call};
 ghost use Rattle.flm_cli.specs.Compare.{CellsAre, DiffersFrom, CompareEnds};
-ghost use Rattle.command_answers.specs.Shown.{answer_of};
+ghost use Rattle.command_files.specs.Shown.{answer_of};
 ghost use Rattle.flm_cli.specs.Steps.{FoundBy};
 ghost use Rattle.device_dump.specs.Looks.{LooksAtCells};
 

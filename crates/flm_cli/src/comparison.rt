@@ -2,8 +2,8 @@
 ghost use Rattle.std.specs.Prelude.{◌<◌, ◌+◌, ◌^◌};
 ghost use Rattle.std.specs.Option.{ForSome};
 ghost use Rattle.std.specs.Result.{ForOk};
-ghost use Rattle.command_answers.specs.Call.{sink_call};
-ghost use Rattle.command_answers.specs.Shown.{answer_of};
+ghost use Rattle.command_files.specs.Call.{sink_call};
+ghost use Rattle.command_files.specs.Shown.{answer_of};
 ghost use Rattle.flm_cli.specs.Steps.{TellsFound};
 
 use bench_model::DeviceFault;

@@ -1,8 +1,8 @@
 //! `inspect FLM`: what an FLM file says of itself.
 ghost use Rattle.command_files.specs.Inputs.{inputs_call};
-ghost use Rattle.command_answers.specs.Call.{bench_call, sink_call};
+ghost use Rattle.command_files.specs.Call.{bench_call, sink_call};
 ghost use Rattle.flm_cli.specs.Inspect.{InspectEnds};
-ghost use Rattle.command_answers.specs.Shown.{answer_of};
+ghost use Rattle.command_files.specs.Shown.{answer_of};
 
 use bench_model::Bench;
 use command_files::take_one;

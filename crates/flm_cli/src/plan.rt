@@ -9,9 +9,9 @@ ghost use Rattle.command_words.specs.Files.{names_in};
 ghost use Rattle.command_words.specs.Requested.{files_of};
 ghost use Rattle.command_files.specs.Inputs.{inputs_call};
 ghost use Rattle.command_files.specs.Steps.{aim_of};
-ghost use Rattle.command_answers.specs.Call.{bench_call, sink_call};
+ghost use Rattle.command_files.specs.Call.{bench_call, sink_call};
 ghost use Rattle.flm_cli.specs.Plan.{text_of, PlanEnds};
-ghost use Rattle.command_answers.specs.Shown.{answer_of};
+ghost use Rattle.command_files.specs.Shown.{answer_of};
 ghost use Rattle.flm_cli.specs.Steps.{AreDevices, AreParts, ArePlanned, cells_on, part_text, parts_text, PlansCells};
 ghost use Rattle.device_dump.specs.Looks.{LooksAtCells};
 

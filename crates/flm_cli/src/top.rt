@@ -4,9 +4,9 @@ ghost use Rattle.command_words.specs.Lines.{IsReadAs};
 ghost use Rattle.command_words.specs.Words.{Command, Asks, Asked, names_asked};
 ghost use Rattle.command_files.specs.Inputs.{inputs_call};
 ghost use Rattle.flm_cli.specs.Answers.{EndsOf, Answers};
-ghost use Rattle.command_answers.specs.Call.{call_of, bench_call, sink_call};
-ghost use Rattle.command_answers.specs.Said.{Says};
-ghost use Rattle.command_answers.specs.Shown.{answer_of};
+ghost use Rattle.command_files.specs.Call.{call_of, bench_call, sink_call};
+ghost use Rattle.command_files.specs.Said.{Says};
+ghost use Rattle.command_files.specs.Shown.{answer_of};
 
 use crate::compare::compare;
 use crate::inspect::inspect;

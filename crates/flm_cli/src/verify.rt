@@ -3,8 +3,8 @@ ghost use Rattle.std.specs.Prelude.{◌≡◌, All, Option, None, ◌≤◌, ◌
 ghost use Rattle.command_words.specs.Files.{names_in};
 ghost use Rattle.command_words.specs.Requested.{files_of};
 ghost use Rattle.command_files.specs.Inputs.{inputs_call};
-ghost use Rattle.command_answers.specs.Call.{bench_call, sink_call};
-ghost use Rattle.command_answers.specs.Shown.{answer_of};
+ghost use Rattle.command_files.specs.Call.{bench_call, sink_call};
+ghost use Rattle.command_files.specs.Shown.{answer_of};
 ghost use Rattle.flm_cli.specs.Verify.{VerifyEnds, AgreesWith, DiffersAt};
 ghost use Rattle.faults.specs.Counts.{HasCause};
 ghost use Rattle.board_file.specs.Limits.{size_of};

@@ -29,8 +29,8 @@ use Rattle.flash_session.specs.Script.{Leg}
 use Rattle.flash_session.specs.Sessions.{Goes, IsAsSurveyed, JobServes, job_legs}
 use Rattle.flash_session.specs.Starts.{job_start}
 use Rattle.flash_session.specs.Surveys.{Surveyed, HasSurveyed}
-use Rattle.command_answers.specs.Call.{SinkCall}
-use Rattle.command_answers.proofs.FileLemmas.{AreOne, not_free, one_job}
+use Rattle.command_files.specs.Call.{SinkCall}
+use Rattle.command_files.proofs.FileLemmas.{AreOne, not_free, one_job}
 use Rattle.job_commands.specs.Refused.{of_session, of_survey}
 use Rattle.report_text.specs.Refusal.{status_of}
 use Rattle.flash_session.specs.declared.target_end.TargetEnd.{TargetEnd}

@@ -54,7 +54,7 @@ use Rattle.gang_commands.specs.Works.{Carries, Comes, ComesBy, IsSound}
 use Rattle.gang_commands.specs.Ends.{EndsOn, AllEndOn}
 use Rattle.gang_commands.specs.Puts.{end_of, outcome_of, outcomes, HasEndedUpto}
 use Rattle.gang_commands.proofs.EndLemmas.{of_job, refused_ends}
-use Rattle.command_answers.proofs.PlaceLemmas.{has_address}
+use Rattle.command_files.proofs.PlaceLemmas.{has_address}
 
 -- ---- an end by a script
 

@@ -14,8 +14,8 @@ use Rattle.flash_session.specs.declared.target_end.TargetEnd.TheVariants as ende
 use Rattle.gang_run.specs.declared.gang.Gang.{Gang}
 use Rattle.gang_run.specs.declared.slot.Slot.TheVariants as slot
 use Rattle.gang_run.specs.Gangs.{slot_at}
-use Rattle.command_answers.specs.Call.{SinkCall, sink_call}
-use Rattle.command_answers.specs.Said.{TookPart}
+use Rattle.command_files.specs.Call.{SinkCall, sink_call}
+use Rattle.command_files.specs.Said.{TookPart}
 use Rattle.gang_commands.specs.Lines.{Outcome, reason, lines_from, lines_of, status_before, status_in}
 use Rattle.gang_commands.specs.Puts.{status_behind, PutsEnds, outcome_of, outcomes}
 

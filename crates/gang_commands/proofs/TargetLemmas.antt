@@ -30,7 +30,7 @@ use Rattle.flash_session.specs.Sessions.{job_legs}
 use Rattle.flash_session.specs.Starts.{job_start}
 use Rattle.report_text.proofs.PlainLemmas.{is_of_gang, IsOfGang}
 use Rattle.report_text.proofs.StatusLemmas.{some_status}
-use Rattle.command_answers.proofs.FileLemmas.{AreOne, not_free, one_job}
+use Rattle.command_files.proofs.FileLemmas.{AreOne, not_free, one_job}
 use Rattle.job_commands.specs.Refused.{of_session, of_survey}
 use Rattle.gang_commands.specs.Ends.{HasFinished, as_resume, KeepsOn}
 use Rattle.gang_commands.specs.Lines.{Outcome, reason, reason_in, status_before}

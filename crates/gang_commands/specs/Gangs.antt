@@ -3,8 +3,8 @@ use Rattle.std.specs.Prelude.{◌≡◌, ◌⊎◌, ℕ, List, length}
 use Rattle.bench_model.specs.declared.bench.Bench.{Ghosts}
 use Rattle.gang_run.specs.Opening.{AreLookedAt}
 use Rattle.report_text.specs.Refusal.{usage, out_of_memory, output_fault}
-use Rattle.command_answers.specs.Call.{SinkCall, refused}
-use Rattle.command_answers.specs.Said.{TookNothing, TookAll, TookPart, Says}
+use Rattle.command_files.specs.Call.{SinkCall, refused}
+use Rattle.command_files.specs.Said.{TookNothing, TookAll, TookPart, Says}
 use Rattle.gang_commands.specs.Words.{DoFit}
 use Rattle.gang_commands.specs.Lines.{Outcome, lines_of, status_in}
 use Rattle.gang_commands.specs.Ends.{AllEndOn}

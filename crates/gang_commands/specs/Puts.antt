@@ -6,8 +6,8 @@ use Rattle.board_file.specs.declared.region.Region.{Region}
 use Rattle.job_text.specs.declared.job.Job.{Job}
 use Rattle.outside_io.specs.declared.sink.OutputFault.{OutputFault}
 use Rattle.report_text.specs.Refusal.{Refusal, status_of}
-use Rattle.command_answers.specs.Call.{SinkCall}
-use Rattle.command_answers.specs.Said.{TookAll, TookPart}
+use Rattle.command_files.specs.Call.{SinkCall}
+use Rattle.command_files.specs.Said.{TookAll, TookPart}
 use Rattle.flash_session.specs.declared.cursor.Place.{Place}
 use Rattle.flash_session.specs.declared.cursor.Place.TheVariants as place
 use Rattle.flash_session.specs.declared.target_end.TargetEnd.{TargetEnd}

@@ -1,6 +1,6 @@
 //! The lines of a gang's targets.
 ghost use Rattle.std.specs.Prelude.{◌≡◌, ◌≤◌, length, option_map, option_copied};
-ghost use Rattle.command_answers.specs.Call.{sink_call};
+ghost use Rattle.command_files.specs.Call.{sink_call};
 ghost use Rattle.report_text.specs.Shown.{shown};
 ghost use Rattle.gang_commands.specs.Puts.{outcomes, HasEndedUpto, status_behind, PutsEnds};
 

@@ -1,8 +1,8 @@
 //! The call of a gang.
 ghost use Rattle.std.specs.Prelude.{◌≡◌, ◌≤◌, ◌↔◌, ◌⊎◌, true, length, IsTrue};
 ghost use Rattle.faults.specs.Counts.{Rose};
-ghost use Rattle.command_answers.specs.Call.{sink_call, refused};
-ghost use Rattle.command_answers.specs.Said.{Says};
+ghost use Rattle.command_files.specs.Call.{sink_call, refused};
+ghost use Rattle.command_files.specs.Said.{Says};
 ghost use Rattle.gang_run.specs.Gangs.{IsGang, AreReady};
 ghost use Rattle.report_text.specs.Shown.{shown};
 ghost use Rattle.gang_commands.specs.Ends.{AllFinished, AllKeep, AllServed, NoneRoseIn};

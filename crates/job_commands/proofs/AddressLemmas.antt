@@ -2,7 +2,7 @@
 use Rattle.std.proofs.Common.{◌≡◌, ◌≤◌, ◌<◌, ◌+◌, ◌-◌, ◌∙◌, sym, ap, ℕ, List, ◌∷◌, length, get_or, drop, Some, None}
 use Rattle.std.proofs.lemmas.List.{drop_more, drop_all}
 use Rattle.board_file.specs.declared.region.Region.{Region}
-use Rattle.command_answers.proofs.PlaceLemmas.{address_first, address_later}
+use Rattle.command_files.proofs.PlaceLemmas.{address_first, address_later}
 use Rattle.job_text.specs.Laid.{address_at}
 
 drop_front : (rs : List Region) (k : ℕ) (r : Region) → k < length rs → r ≡ get_or rs k r → drop k rs ≡ r ∷ drop (k + 1) rs

@@ -15,10 +15,10 @@ use Rattle.flash_session.specs.declared.goal.Goal.TheVariants.{New}
 use Rattle.flash_session.specs.Script.{Broken}
 use Rattle.report_text.specs.Refusal.{Refusal, out_of_memory, input_fault, no_job, not_a_job, damaged, cells_differ, store_fault, device_fault, output_fault}
 use Rattle.report_text.specs.Refusal.{call_failed, mismatch}
-use Rattle.command_answers.specs.Call.{BenchCall, SinkCall, Answer, done, refused, bench_call, sink_call}
-use Rattle.command_answers.specs.Said.{TookPartBehind}
-use Rattle.command_answers.specs.Answered.{yields, StandsEarly, IsOf, on_job_file}
-use Rattle.command_answers.proofs.FileLemmas.{not_free}
+use Rattle.command_files.specs.Call.{BenchCall, SinkCall, Answer, done, refused, bench_call, sink_call}
+use Rattle.command_files.specs.Said.{TookPartBehind}
+use Rattle.command_files.specs.Answered.{yields, StandsEarly, IsOf, on_job_file}
+use Rattle.command_files.proofs.FileLemmas.{not_free}
 use Rattle.job_commands.specs.Answers.{is_of_work}
 use Rattle.job_commands.specs.Work.{Work, body, shown_plan, Breaks, IsOnPath, IsOutsidePlanAsSurveyed}
 use Rattle.job_commands.specs.Carry.{EndsInBegin, NeverBegun, EndsBeforePlan, EndsInPlan, EndsInScript, EndsInClose, HasClosed, Comes, CellsInTurn, BrokenOff}

@@ -14,9 +14,9 @@ use Rattle.target_core.proofs.UnitLemmas.{fresh_idle}
 use Rattle.flash_session.specs.Script.{Broken}
 use Rattle.flash_session.specs.Starts.{start_of}
 use Rattle.report_text.specs.Refusal.{out_of_memory, store_fault, device_fault, output_fault, call_failed, mismatch}
-use Rattle.command_answers.specs.Call.{SinkCall, Answer, done, refused, bench_call, sink_call}
-use Rattle.command_answers.specs.Said.{TookNothing, TookAll, TookPart, TookPartBehind}
-use Rattle.command_answers.specs.Answered.{yields}
+use Rattle.command_files.specs.Call.{SinkCall, Answer, done, refused, bench_call, sink_call}
+use Rattle.command_files.specs.Said.{TookNothing, TookAll, TookPart, TookPartBehind}
+use Rattle.command_files.specs.Answered.{yields}
 use Rattle.job_commands.specs.Answers.{is_of_work}
 use Rattle.job_commands.specs.Work.{Work, body, shown_plan, Breaks, IsOnPath, IsOutsidePlanAsSurveyed}
 use Rattle.job_commands.specs.Carry.{EndsBeforePlan, HasJob, HasReached, Comes, Carries, done_text, BrokenOff}

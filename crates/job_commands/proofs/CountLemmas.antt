@@ -22,9 +22,9 @@ use Rattle.job_file.specs.Counted.{open_fault, begin_fault}
 use Rattle.report_text.specs.Refusal.{Refusal, input_fault, no_job, store_fault, output_fault}
 use Rattle.report_text.specs.Refused.{of_open}
 use Rattle.command_files.specs.Inputs.{InputsCall, NoneFailed}
-use Rattle.command_answers.specs.Call.{BenchCall, SinkCall, Answer, done, refused, bench_call, sink_call}
-use Rattle.command_answers.specs.Answered.{Fault, input, store, device, output, fault_in, IsCounted, StandsEarly, IsOf, EndsLawfully, on_job_file}
-use Rattle.command_answers.proofs.AnswerLemmas.{unraised, never_input}
+use Rattle.command_files.specs.Call.{BenchCall, SinkCall, Answer, done, refused, bench_call, sink_call}
+use Rattle.command_files.specs.Answered.{Fault, input, store, device, output, fault_in, IsCounted, StandsEarly, IsOf, EndsLawfully, on_job_file}
+use Rattle.command_files.proofs.AnswerLemmas.{unraised, never_input}
 use Rattle.job_commands.specs.Steps.{BenchCounted, begun}
 use Rattle.job_commands.specs.Refused.{of_session, of_survey, of_begin}
 

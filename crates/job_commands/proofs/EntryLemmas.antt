@@ -15,9 +15,9 @@ use Rattle.flash_session.specs.declared.goal.Goal.TheVariants.{New}
 use Rattle.report_text.specs.Refusal.{Refusal, out_of_memory, input_fault}
 use Rattle.command_files.specs.Inputs.{FilesGiven}
 use Rattle.command_files.specs.Files.{Aim, IsAim}
-use Rattle.command_answers.specs.Call.{Answer, refused, bench_call, sink_call}
-use Rattle.command_answers.specs.Answered.{yields}
-use Rattle.command_answers.proofs.AnswerLemmas.{only_looked}
+use Rattle.command_files.specs.Call.{Answer, refused, bench_call, sink_call}
+use Rattle.command_files.specs.Answered.{yields}
+use Rattle.command_files.proofs.AnswerLemmas.{only_looked}
 use Rattle.job_commands.specs.Work.{Work, body}
 use Rattle.job_commands.specs.Answers.{is_of_free, is_of_work}
 use Rattle.job_commands.specs.Carry.{Comes, BrokenOff}

@@ -38,9 +38,9 @@ use Rattle.flash_session.specs.Surveys.{Surveyed, IsPlannedFor, ArePlannedFor, H
 use Rattle.flash_session.specs.Sessions.{Goes, JobServes, IsAsSurveyed, job_legs, legs_for}
 use Rattle.flash_session.specs.Local.{IsInPlans, SameBut}
 use Rattle.report_text.specs.Refusal.{store_fault, device_fault, output_fault, call_failed, mismatch}
-use Rattle.command_answers.specs.Call.{SinkCall, Answer, done, refused, bench_call, sink_call}
-use Rattle.command_answers.specs.Said.{TookNothing, TookAll, TookPart}
-use Rattle.command_answers.specs.Answered.{IsUnless}
+use Rattle.command_files.specs.Call.{SinkCall, Answer, done, refused, bench_call, sink_call}
+use Rattle.command_files.specs.Said.{TookNothing, TookAll, TookPart}
+use Rattle.command_files.specs.Answered.{IsUnless}
 use Rattle.job_commands.specs.Work.{Work, body, plan_in, plans_in, plans_of, legs_of, start_for, Ends, IsOnPath, KeepsDuties, IsOutsidePlanAsSurveyed}
 use Rattle.job_commands.specs.Carry.{HasReached, done_text}
 use Rattle.job_commands.specs.GoOn.{goal_in as text_goal_in}

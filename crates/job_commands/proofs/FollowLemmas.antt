@@ -14,7 +14,7 @@ use Rattle.campaign.proofs.CampaignLemmas.{in_turn, reads, one, enters, campaign
 use Rattle.command_words.specs.Files.{FilesAsked}
 use Rattle.command_files.specs.Inputs.{FilesGiven}
 use Rattle.command_files.specs.Files.{Aim}
-use Rattle.command_answers.specs.Call.{Call}
+use Rattle.command_files.specs.Call.{Call}
 use Rattle.job_commands.specs.GoOn.{GoOnAnswers}
 use Rattle.job_commands.specs.Beginning.{HasTexts, job_for}
 use Rattle.job_commands.specs.Law.{FirstAnswers, aim_of, asked_by, later_call, FollowingCall, AllAnswer, IsFirst, AllFollow, calls_of, campaign_of, IsSafeFrom}

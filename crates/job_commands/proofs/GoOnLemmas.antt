@@ -6,9 +6,9 @@ use Rattle.outside_io.specs.State.{SinkState}
 use Rattle.flash_session.specs.declared.goal.Goal.{Goal}
 use Rattle.report_text.specs.Refusal.{out_of_memory}
 use Rattle.command_files.specs.Inputs.{InputsCall, TakesNothing}
-use Rattle.command_answers.specs.Call.{refused, bench_call, sink_call}
-use Rattle.command_answers.specs.Answered.{on_job_file}
-use Rattle.command_answers.proofs.AnswerLemmas.{only_looked, plain_lawful, took_none}
+use Rattle.command_files.specs.Call.{refused, bench_call, sink_call}
+use Rattle.command_files.specs.Answered.{on_job_file}
+use Rattle.command_files.proofs.AnswerLemmas.{only_looked, plain_lawful, took_none}
 use Rattle.job_commands.specs.GoOn.{GoOnEnds, has_resume}
 use Rattle.job_commands.proofs.EntryLemmas.{goes_on_unread}
 

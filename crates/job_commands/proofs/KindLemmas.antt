@@ -12,8 +12,8 @@ use Rattle.flash_session.specs.declared.fault.SurveyFault.TheVariants as survey
 use Rattle.report_text.specs.Refusal.{Refusal, out_of_memory}
 use Rattle.report_text.specs.Refusal.{no_job, store_fault, device_fault, output_fault, call_failed}
 use Rattle.report_text.specs.Refusal.{mismatch}
-use Rattle.command_answers.specs.Call.{BenchCall, SinkCall, Answer, done, refused}
-use Rattle.command_answers.specs.Answered.{StandsEarly, IsOf, on_job_file}
+use Rattle.command_files.specs.Call.{BenchCall, SinkCall, Answer, done, refused}
+use Rattle.command_files.specs.Answered.{StandsEarly, IsOf, on_job_file}
 use Rattle.job_commands.specs.Answers.{is_of_work, IsSound}
 use Rattle.job_commands.specs.Steps.{has_script, has_start, has_alone, has_work, begun}
 use Rattle.job_commands.specs.Refused.{of_session, of_survey, of_begin}

@@ -20,10 +20,10 @@ use Rattle.report_text.specs.Refusal.{no_job, cells_differ}
 use Rattle.command_words.specs.Files.{FilesAsked}
 use Rattle.command_files.specs.Inputs.{FilesGiven}
 use Rattle.command_files.specs.Files.{Aim, IsAim}
-use Rattle.command_answers.specs.Call.{Call, Answer, done}
-use Rattle.command_answers.specs.Answered.{OnlyLooked, StandsEarly, on_job_file}
-use Rattle.command_answers.proofs.FileLemmas.{not_free}
-use Rattle.command_answers.proofs.RefusalLemmas.{looks, not_done}
+use Rattle.command_files.specs.Call.{Call, Answer, done}
+use Rattle.command_files.specs.Answered.{OnlyLooked, StandsEarly, on_job_file}
+use Rattle.command_files.proofs.FileLemmas.{not_free}
+use Rattle.command_files.proofs.RefusalLemmas.{looks, not_done}
 use Rattle.job_commands.specs.Work.{Work, body}
 use Rattle.job_commands.specs.Carry.{Comes, Carries}
 use Rattle.job_commands.specs.GoOn.{goal_in, work_to, GoOnAnswers}

@@ -20,10 +20,10 @@ use Rattle.flash_session.specs.declared.session.Session.{Session}
 use Rattle.flash_session.specs.declared.goal.Goal.{Goal}
 use Rattle.flash_session.specs.Opened.{IsSessionFault, ReadsIfRefused}
 use Rattle.report_text.specs.Refusal.{Refusal, not_a_job, out_of_memory, store_fault, device_fault}
-use Rattle.command_answers.specs.Call.{BenchCall, SinkCall, Answer, refused, bench_call, sink_call}
-use Rattle.command_answers.specs.Said.{TookNothing}
-use Rattle.command_answers.specs.Answered.{OnlyLooked, StandsEarly, yields, on_job_file}
-use Rattle.command_answers.proofs.FileLemmas.{not_free, damaged_open, one_reason, one_kept, one_found, one_job}
+use Rattle.command_files.specs.Call.{BenchCall, SinkCall, Answer, refused, bench_call, sink_call}
+use Rattle.command_files.specs.Said.{TookNothing}
+use Rattle.command_files.specs.Answered.{OnlyLooked, StandsEarly, yields, on_job_file}
+use Rattle.command_files.proofs.FileLemmas.{not_free, damaged_open, one_reason, one_kept, one_found, one_job}
 use Rattle.job_commands.specs.Work.{Work, body}
 use Rattle.job_commands.specs.Carry.{Carries, BrokenOff}
 use Rattle.job_commands.specs.GoOn.{work_to, GoesOnFrom}

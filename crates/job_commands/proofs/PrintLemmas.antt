@@ -30,9 +30,9 @@ use Rattle.flash_session.specs.Surveys.{Surveyed, ArePlannedFor, HasSurveyed}
 use Rattle.report_text.specs.Plan.{plan_text}
 use Rattle.report_text.specs.Region.{region_text}
 use Rattle.report_text.specs.Refusal.{Refusal, no_job, store_fault, device_fault, output_fault, call_failed, mismatch}
-use Rattle.command_answers.specs.Call.{SinkCall, sink_call, Answer, done, refused}
-use Rattle.command_answers.specs.Said.{TookNothing, TookAll}
-use Rattle.command_answers.specs.Answered.{IsOf}
+use Rattle.command_files.specs.Call.{SinkCall, sink_call, Answer, done, refused}
+use Rattle.command_files.specs.Said.{TookNothing, TookAll}
+use Rattle.command_files.specs.Answered.{IsOf}
 use Rattle.job_commands.specs.Work.{shown_region, plans_shown}
 use Rattle.job_commands.specs.Printed.{IsPlanFor, ArePlansFor, AreChosen, OfSomePlans, PrintsWork, PrintsEnd}
 use Rattle.job_commands.specs.Steps.{has_script, has_start, begun}

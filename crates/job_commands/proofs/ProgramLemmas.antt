@@ -23,11 +23,11 @@ use Rattle.command_files.specs.Files.{flm_files, Aim, IsAim}
 use Rattle.command_files.specs.Refused.{IsRefused}
 use Rattle.command_files.specs.Steps.{IsTakeFault, IsFilesRefusal, TookFiles, said_aim, AreTargetFiles}
 use Rattle.command_files.specs.declared.target_files.TargetFiles.{TargetFiles}
-use Rattle.command_answers.specs.Call.{BenchCall, SinkCall, Answer, done, refused, bench_call, sink_call}
-use Rattle.command_answers.specs.Answered.{fault_in, Refuses, OnlyLooked, StandsEarly, IsOf, on_job_file}
-use Rattle.command_answers.specs.Reading.{ShowsFiles}
-use Rattle.command_answers.proofs.AnswerLemmas.{did_nothing, only_looked, plain_lawful, untaken_lawful}
-use Rattle.command_answers.proofs.ReadingLemmas.{answers_refused, answers_worked}
+use Rattle.command_files.specs.Call.{BenchCall, SinkCall, Answer, done, refused, bench_call, sink_call}
+use Rattle.command_files.specs.Answered.{fault_in, Refuses, OnlyLooked, StandsEarly, IsOf, on_job_file}
+use Rattle.command_files.specs.Reading.{ShowsFiles}
+use Rattle.command_files.proofs.AnswerLemmas.{did_nothing, only_looked, plain_lawful, untaken_lawful}
+use Rattle.command_files.proofs.ReadingLemmas.{answers_refused, answers_worked}
 use Rattle.job_commands.specs.Carry.{Carries}
 use Rattle.job_commands.specs.GoOn.{work_to}
 use Rattle.job_commands.specs.Printed.{PrintsWork}

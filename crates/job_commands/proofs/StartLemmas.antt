@@ -21,10 +21,10 @@ use Rattle.job_file.specs.declared.fault.BeginFault.{BeginFault}
 use Rattle.job_file.specs.declared.fault.BeginFault.TheVariants as beginning
 use Rattle.campaign.specs.Stops.{IsUntouched}
 use Rattle.report_text.specs.Refusal.{Refusal, out_of_memory, input_fault, not_a_job, store_fault, device_fault, output_fault}
-use Rattle.command_answers.specs.Call.{BenchCall, SinkCall, Answer, done, refused, bench_call, sink_call}
-use Rattle.command_answers.specs.Said.{TookNothing, TookAll, TookPart}
-use Rattle.command_answers.specs.Answered.{OnlyLooked, StandsEarly, IsOf, yields, on_job_file}
-use Rattle.command_answers.proofs.FileLemmas.{not_free, damaged_open, one_reason, one_kept, one_found}
+use Rattle.command_files.specs.Call.{BenchCall, SinkCall, Answer, done, refused, bench_call, sink_call}
+use Rattle.command_files.specs.Said.{TookNothing, TookAll, TookPart}
+use Rattle.command_files.specs.Answered.{OnlyLooked, StandsEarly, IsOf, yields, on_job_file}
+use Rattle.command_files.proofs.FileLemmas.{not_free, damaged_open, one_reason, one_kept, one_found}
 use Rattle.job_commands.specs.Carry.{EndsInBegin, BrokenOff}
 use Rattle.job_commands.specs.Answers.{is_of_free}
 use Rattle.job_commands.specs.Beginning.{OverFile}

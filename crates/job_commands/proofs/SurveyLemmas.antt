@@ -16,7 +16,7 @@ use Rattle.flash_session.specs.declared.fault.SurveyFault.{SurveyFault}
 use Rattle.flash_session.specs.declared.goal.Goal.{Goal}
 use Rattle.flash_session.specs.Surveys.{Surveyed, HasSurveyed}
 use Rattle.report_text.specs.Refusal.{output_fault}
-use Rattle.command_answers.specs.Call.{SinkCall, Answer, refused, bench_call, sink_call}
+use Rattle.command_files.specs.Call.{SinkCall, Answer, refused, bench_call, sink_call}
 use Rattle.job_commands.specs.Opened.{IsOpened}
 use Rattle.job_commands.specs.Work.{Work, body, plans_shown, shown_plan}
 use Rattle.job_commands.specs.GoOn.{GoesOnFrom}

@@ -2,7 +2,7 @@
 use Rattle.std.specs.Prelude.{◌≢◌, Bool, true, false}
 use Rattle.flash_session.specs.Plays.{IsNotDone}
 use Rattle.report_text.specs.Refusal.{output_fault, damaged, cells_differ, call_failed, mismatch}
-use Rattle.command_answers.specs.Call.{Answer, done, refused}
+use Rattle.command_files.specs.Call.{Answer, done, refused}
 
 -- the answers that come only after a job was begun
 abbrev pub is_of_work : Answer → Bool

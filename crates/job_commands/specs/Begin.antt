@@ -15,9 +15,9 @@ use Rattle.report_text.specs.Refusal.{other_device, no_room, image_refused, imag
 use Rattle.command_words.specs.Files.{FilesAsked}
 use Rattle.command_files.specs.Inputs.{InputsCall, FilesGiven}
 use Rattle.command_files.specs.Files.{Aim}
-use Rattle.command_answers.specs.Call.{BenchCall, SinkCall, Call, Answer, done, refused}
-use Rattle.command_answers.specs.Said.{TookAll, TookPart, PrintsText}
-use Rattle.command_answers.specs.Answered.{AnswersBy, OnlyLooked}
+use Rattle.command_files.specs.Call.{BenchCall, SinkCall, Call, Answer, done, refused}
+use Rattle.command_files.specs.Said.{TookAll, TookPart, PrintsText}
+use Rattle.command_files.specs.Answered.{AnswersBy, OnlyLooked}
 use Rattle.job_commands.specs.Carry.{IsAsEntered, EndsInBegin, NeverBegun, BrokenOff}
 use Rattle.job_commands.specs.Beginning.{job_for, EndsOnJob}
 

@@ -10,9 +10,9 @@ use Rattle.report_text.specs.Refusal.{Refusal, out_of_memory, job_open, not_a_jo
 use Rattle.command_words.specs.Files.{FilesAsked, names_in}
 use Rattle.command_files.specs.Inputs.{InputsCall, FilesGiven, Given}
 use Rattle.command_files.specs.Files.{flm_files, Aim}
-use Rattle.command_answers.specs.Call.{BenchCall, SinkCall, Answer, refused}
-use Rattle.command_answers.specs.Answered.{EndsLawfully, Refuses, DidNothing, OnlyLooked, on_job_file}
-use Rattle.command_answers.specs.Reading.{AnswersFiles, WantAnAim}
+use Rattle.command_files.specs.Call.{BenchCall, SinkCall, Answer, refused}
+use Rattle.command_files.specs.Answered.{EndsLawfully, Refuses, DidNothing, OnlyLooked, on_job_file}
+use Rattle.command_files.specs.Reading.{AnswersFiles, WantAnAim}
 use Rattle.job_commands.specs.Answers.{is_of_work, is_of_free, IsSound}
 
 -- A command has FLM files, and the texts of its job are no longer than a file that can be taken.

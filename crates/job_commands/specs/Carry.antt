@@ -10,9 +10,9 @@ use Rattle.flash_session.specs.Script.{Broken}
 use Rattle.report_text.specs.End.{end_text}
 use Rattle.report_text.specs.declared.end.End.TheVariants.{Done}
 use Rattle.report_text.specs.Refusal.{out_of_memory, input_fault, store_fault, device_fault, output_fault, call_failed, mismatch}
-use Rattle.command_answers.specs.Call.{BenchCall, SinkCall, Answer, done, refused}
-use Rattle.command_answers.specs.Said.{TookNothing, TookAll, TookPart, TookPartBehind}
-use Rattle.command_answers.specs.Answered.{IsUnless}
+use Rattle.command_files.specs.Call.{BenchCall, SinkCall, Answer, done, refused}
+use Rattle.command_files.specs.Said.{TookNothing, TookAll, TookPart, TookPartBehind}
+use Rattle.command_files.specs.Answered.{IsUnless}
 use Rattle.job_commands.specs.Answers.{is_of_work}
 use Rattle.job_commands.specs.Work.{Work, body, shown_plan, Ends, Fails, Misses, Breaks, IsOnPath, KeepsDuties, IsOutsidePlanAsSurveyed}
 

@@ -14,8 +14,8 @@ use Rattle.job_text.specs.Laid.{overlaid}
 use Rattle.report_text.specs.Refusal.{no_job, not_a_job, damaged, cells_differ, Refusal, out_of_memory, store_fault, device_fault, output_fault, call_failed}
 use Rattle.report_text.specs.Refusal.{mismatch}
 use Rattle.command_files.specs.Inputs.{InputsCall, TakesNothing}
-use Rattle.command_answers.specs.Call.{BenchCall, SinkCall, Call, Answer}
-use Rattle.command_answers.specs.Answered.{AnswersBy, EndsLawfully, Refuses, OnlyLooked, on_job_file}
+use Rattle.command_files.specs.Call.{BenchCall, SinkCall, Call, Answer}
+use Rattle.command_files.specs.Answered.{AnswersBy, EndsLawfully, Refuses, OnlyLooked, on_job_file}
 use Rattle.job_commands.specs.Work.{Work, work_on}
 use Rattle.job_commands.specs.Carry.{Carries}
 use Rattle.job_commands.specs.Answers.{IsSound}

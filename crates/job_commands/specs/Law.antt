@@ -17,7 +17,7 @@ use Rattle.job_text.specs.Laid.{overlaid}
 use Rattle.command_words.specs.Files.{FilesAsked}
 use Rattle.command_files.specs.Inputs.{FilesGiven, AreFiles}
 use Rattle.command_files.specs.Files.{Aim, IsAim}
-use Rattle.command_answers.specs.Call.{Call}
+use Rattle.command_files.specs.Call.{Call}
 use Rattle.job_commands.specs.Beginning.{HasTexts, job_for}
 use Rattle.job_commands.specs.Program.{ProgramAnswers}
 use Rattle.job_commands.specs.Begin.{BeginAnswers}

@@ -9,8 +9,8 @@ use Rattle.flash_session.specs.Script.{Planned}
 use Rattle.flash_session.specs.Surveys.{IsSomePlan}
 use Rattle.report_text.specs.Refusal.{store_fault, device_fault, output_fault, call_failed, mismatch}
 use Rattle.algo_calls.specs.Duties.{device_of}
-use Rattle.command_answers.specs.Call.{SinkCall, Answer, done, refused}
-use Rattle.command_answers.specs.Said.{TookNothing, TookAll, TookPart, TookPartBehind, PrintsText}
+use Rattle.command_files.specs.Call.{SinkCall, Answer, done, refused}
+use Rattle.command_files.specs.Said.{TookNothing, TookAll, TookPart, TookPartBehind, PrintsText}
 use Rattle.job_commands.specs.Work.{plans_shown}
 use Rattle.job_commands.specs.Carry.{done_text}
 

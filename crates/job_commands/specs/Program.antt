@@ -9,8 +9,8 @@ use Rattle.report_text.specs.Refusal.{mismatch}
 use Rattle.command_words.specs.Files.{FilesAsked}
 use Rattle.command_files.specs.Inputs.{InputsCall, FilesGiven}
 use Rattle.command_files.specs.Files.{Aim}
-use Rattle.command_answers.specs.Call.{BenchCall, SinkCall, Call, Answer}
-use Rattle.command_answers.specs.Answered.{AnswersBy}
+use Rattle.command_files.specs.Call.{BenchCall, SinkCall, Call, Answer}
+use Rattle.command_files.specs.Answered.{AnswersBy}
 use Rattle.job_commands.specs.Carry.{Carries}
 use Rattle.job_commands.specs.Printed.{PrintsWork}
 use Rattle.job_commands.specs.GoOn.{work_to}

@@ -17,9 +17,9 @@ use Rattle.flash_session.specs.declared.goal.Goal.TheVariants.{New}
 use Rattle.flash_session.specs.Script.{Broken}
 use Rattle.report_text.specs.Refusal.{Refusal, out_of_memory, job_open, no_job, not_a_job, damaged, cells_differ, store_fault, device_fault, output_fault}
 use Rattle.report_text.specs.Refusal.{call_failed, mismatch}
-use Rattle.command_answers.specs.Call.{BenchCall, SinkCall, Answer, done, refused}
-use Rattle.command_answers.specs.Said.{TookNothing, TookAll, TookPart}
-use Rattle.command_answers.specs.Answered.{store, device, output, IsCounted, IsUnless}
+use Rattle.command_files.specs.Call.{BenchCall, SinkCall, Answer, done, refused}
+use Rattle.command_files.specs.Said.{TookNothing, TookAll, TookPart}
+use Rattle.command_files.specs.Answered.{store, device, output, IsCounted, IsUnless}
 use Rattle.job_commands.specs.Work.{Work, body, Fails, Misses, Breaks, IsOnPath, KeepsDuties, IsOutsidePlanAsSurveyed}
 use Rattle.job_commands.specs.Carry.{HasJob, HasReached, HasClosed, Carries, done_text}
 use Rattle.job_commands.specs.GoOn.{work_to}

@@ -5,8 +5,8 @@ ghost use Rattle.command_words.specs.Files.{names_in};
 ghost use Rattle.command_words.specs.Requested.{files_of};
 ghost use Rattle.command_files.specs.Inputs.{inputs_call};
 ghost use Rattle.command_files.specs.Steps.{said_aim};
-ghost use Rattle.command_answers.specs.Call.{bench_call, sink_call};
-ghost use Rattle.command_answers.specs.Shown.{answer_of};
+ghost use Rattle.command_files.specs.Call.{bench_call, sink_call};
+ghost use Rattle.command_files.specs.Shown.{answer_of};
 ghost use Rattle.job_commands.specs.Program.{ProgramEnds};
 ghost use Rattle.job_commands.specs.Begin.{BeginEnds};
 

@@ -2,9 +2,9 @@
 ghost use Rattle.std.specs.Prelude.{◌≡◌, true, IsTrue};
 ghost use Rattle.job_text.specs.Parts.{AreParts};
 ghost use Rattle.job_file.specs.First.{SyncsFirst};
-ghost use Rattle.command_answers.specs.Answered.{IsOf, StandsEarly, on_job_file};
-ghost use Rattle.command_answers.specs.Call.{bench_call, sink_call};
-ghost use Rattle.command_answers.specs.Shown.{answer_of};
+ghost use Rattle.command_files.specs.Answered.{IsOf, StandsEarly, on_job_file};
+ghost use Rattle.command_files.specs.Call.{bench_call, sink_call};
+ghost use Rattle.command_files.specs.Shown.{answer_of};
 ghost use Rattle.job_commands.specs.Begin.{begun_text, PrintsBegun};
 ghost use Rattle.job_commands.specs.Steps.{has_alone, has_work, begun, BenchCounted, StartsParts, BeginsParts};
 ghost use Rattle.job_commands.specs.Answers.{is_of_work, IsSound};

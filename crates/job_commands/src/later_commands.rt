@@ -1,8 +1,8 @@
 //! `resume` and `revert`: they go on with the job in the file.
 ghost use Rattle.job_file.specs.First.{SyncsFirst};
 ghost use Rattle.command_files.specs.Inputs.{InputsCall, TakesNothing};
-ghost use Rattle.command_answers.specs.Call.{bench_call, sink_call};
-ghost use Rattle.command_answers.specs.Shown.{answer_of};
+ghost use Rattle.command_files.specs.Call.{bench_call, sink_call};
+ghost use Rattle.command_files.specs.Shown.{answer_of};
 ghost use Rattle.job_commands.specs.GoOn.{GoOnEnds};
 
 use crate::carry::carry;

@@ -2,7 +2,7 @@
 ghost use Rattle.std.specs.Prelude.{ℕ, List};
 ghost use Rattle.flash_session.specs.declared.goal.Goal.{Goal};
 ghost use Rattle.command_words.specs.Files.{FilesAsked};
-ghost use Rattle.command_answers.specs.Call.{Call};
+ghost use Rattle.command_files.specs.Call.{Call};
 ghost use Rattle.job_commands.specs.GoOn.{GoOnAnswers};
 ghost use Rattle.command_files.specs.Inputs.{FilesGiven};
 ghost use Rattle.command_files.specs.Files.{Aim};

@@ -3,9 +3,9 @@ ghost use Rattle.std.specs.Prelude.{◌≡◌, Bool, [], IsTrue, IsOk};
 ghost use Rattle.outside_io.specs.State.{SinkState};
 ghost use Rattle.job_text.specs.Parts.{AreParts};
 ghost use Rattle.job_file.specs.First.{SyncsFirst};
-ghost use Rattle.command_answers.specs.Answered.{IsOf, StandsEarly, on_job_file};
-ghost use Rattle.command_answers.specs.Call.{bench_call, sink_call};
-ghost use Rattle.command_answers.specs.Shown.{answer_of};
+ghost use Rattle.command_files.specs.Answered.{IsOf, StandsEarly, on_job_file};
+ghost use Rattle.command_files.specs.Call.{bench_call, sink_call};
+ghost use Rattle.command_files.specs.Shown.{answer_of};
 ghost use Rattle.job_commands.specs.Answers.{IsSound};
 ghost use Rattle.job_commands.specs.Steps.{has_start, BenchCounted, StartsParts};
 

@@ -27,11 +27,11 @@ use Rattle.report_text.specs.Job.{job_text, no_job_text}
 use Rattle.report_text.specs.Refusal.{Refusal, out_of_memory, not_a_job, damaged, cells_differ, store_fault, output_fault}
 use Rattle.report_text.specs.Refused.{of_open}
 use Rattle.command_files.specs.Inputs.{InputsCall, TakesNothing}
-use Rattle.command_answers.specs.Call.{BenchCall, SinkCall, Answer, done, refused, bench_call, sink_call}
-use Rattle.command_answers.specs.Said.{SaysText}
-use Rattle.command_answers.specs.Answered.{input, store, device, output, fault_in, AreCounted, EndsLawfully, on_job_file}
-use Rattle.command_answers.proofs.AnswerLemmas.{unraised}
-use Rattle.command_answers.proofs.FileLemmas.{not_free, damaged_open, one_reason, one_kept, one_found, one_job}
+use Rattle.command_files.specs.Call.{BenchCall, SinkCall, Answer, done, refused, bench_call, sink_call}
+use Rattle.command_files.specs.Said.{SaysText}
+use Rattle.command_files.specs.Answered.{input, store, device, output, fault_in, AreCounted, EndsLawfully, on_job_file}
+use Rattle.command_files.proofs.AnswerLemmas.{unraised}
+use Rattle.command_files.proofs.FileLemmas.{not_free, damaged_open, one_reason, one_kept, one_found, one_job}
 use Rattle.job_status.specs.Status.{IsSaid, SaysNone, devices_of, IsJobWith, SaysJob, ComesOfJobFile, IsDueForJobFile, StatusEnds, has_status}
 
 -- the devices of algorithms that fit regions have the regions' sizes together

@@ -11,9 +11,9 @@ use Rattle.job_file.specs.Faults.{IsOtherSize}
 use Rattle.report_text.specs.Job.{job_text, no_job_text}
 use Rattle.report_text.specs.Refusal.{out_of_memory, not_a_job, damaged, cells_differ, store_fault, output_fault, Refusal}
 use Rattle.command_files.specs.Inputs.{InputsCall, TakesNothing}
-use Rattle.command_answers.specs.Call.{BenchCall, SinkCall, Answer, done, refused}
-use Rattle.command_answers.specs.Said.{TookNothing, TookAll, TookPart, SaysText}
-use Rattle.command_answers.specs.Answered.{yields, Refuses, on_job_file, EndsLawfully}
+use Rattle.command_files.specs.Call.{BenchCall, SinkCall, Answer, done, refused}
+use Rattle.command_files.specs.Said.{TookNothing, TookAll, TookPart, SaysText}
+use Rattle.command_files.specs.Answered.{yields, Refuses, on_job_file, EndsLawfully}
 
 -- What goes to `out`.
 

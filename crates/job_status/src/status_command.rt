@@ -2,9 +2,9 @@
 ghost use Rattle.std.specs.Prelude.{option_map};
 ghost use Rattle.report_text.specs.Job.{status_text};
 ghost use Rattle.command_files.specs.Inputs.{InputsCall, TakesNothing};
-ghost use Rattle.command_answers.specs.Call.{bench_call, sink_call};
-ghost use Rattle.command_answers.specs.Said.{SaysText};
-ghost use Rattle.command_answers.specs.Shown.{answer_of};
+ghost use Rattle.command_files.specs.Call.{bench_call, sink_call};
+ghost use Rattle.command_files.specs.Said.{SaysText};
+ghost use Rattle.command_files.specs.Shown.{answer_of};
 ghost use Rattle.job_status.specs.Status.{StatusEnds};
 
 use bench_model::Bench;

@@ -11,10 +11,10 @@ use Rattle.report_text.specs.Refusal.{no_room, board_refused, job_open, not_a_jo
 use Rattle.command_words.specs.Files.{FilesAsked}
 use Rattle.command_files.specs.Inputs.{FilesGiven, Given}
 use Rattle.command_files.specs.Files.{Aim}
-use Rattle.command_answers.specs.Call as answers
-use Rattle.command_answers.specs.Call.{BenchCall, SinkCall, Answer, done, refused}
-use Rattle.command_answers.specs.Answered.{DidNothing}
-use Rattle.command_answers.specs.Reading.{WantAnAim}
+use Rattle.command_files.specs.Call as answers
+use Rattle.command_files.specs.Call.{BenchCall, SinkCall, Answer, done, refused}
+use Rattle.command_files.specs.Answered.{DidNothing}
+use Rattle.command_files.specs.Reading.{WantAnAim}
 use Rattle.job_commands.specs.Beginning.{EndsOnJob, ShowsJob, job_for}
 use Rattle.job_commands.specs.Printed.{PrintsWork}
 use Rattle.job_commands.specs.Program as program

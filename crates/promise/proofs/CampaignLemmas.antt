@@ -14,7 +14,7 @@ use Rattle.campaign.proofs.CampaignLemmas.{in_turn, reads, enters}
 use Rattle.flash_session.specs.declared.goal.Goal.{Goal}
 use Rattle.flash_session.specs.declared.goal.Goal.TheVariants.{New, Old}
 use Rattle.command_words.specs.Files.{FilesAsked}
-use Rattle.command_answers.proofs.FileLemmas.{not_free}
+use Rattle.command_files.proofs.FileLemmas.{not_free}
 use Rattle.promise.specs.Job.{Job, laid, aim_of}
 use Rattle.promise.specs.Texts.{Says}
 use Rattle.promise.specs.Promise.{Call, AtEachStop, IsRefused, IsBegun, Programs, Begins, GoesOn, Keeps}

@@ -15,8 +15,8 @@ use Rattle.campaign.specs.Stops.{IsAtClose}
 use Rattle.flash_session.specs.declared.goal.Goal.{Goal}
 use Rattle.flash_session.specs.declared.goal.Goal.TheVariants.{New, Old}
 use Rattle.report_text.specs.Refusal.{no_job, not_a_job, damaged, cells_differ}
-use Rattle.command_answers.specs.Call as answers
-use Rattle.command_answers.specs.Call.{Answer, done}
+use Rattle.command_files.specs.Call as answers
+use Rattle.command_files.specs.Call.{Answer, done}
 use Rattle.job_commands.specs.Carry as carry
 use Rattle.job_commands.specs.GoOn.{goal_in, work_to, GoOnAnswers}
 use Rattle.promise.specs.Job.{Job, laid}

@@ -7,10 +7,10 @@ use Rattle.report_text.specs.Refusal.{out_of_memory, input_fault, store_fault, d
 use Rattle.job_text.specs.Body as written
 use Rattle.command_words.specs.Files.{FilesAsked, Command, program, begin, resume, revert, plan, verify, compare, status, inspect, dump, demo}
 use Rattle.command_words.specs.Words.{Asks}
-use Rattle.command_answers.specs.Call as answers
-use Rattle.command_answers.specs.Call.{BenchCall, SinkCall, Answer, done, refused}
-use Rattle.command_answers.specs.Said.{Says as SaysOn}
-use Rattle.command_answers.specs.Answered.{yields, IsUnless, AreCounted}
+use Rattle.command_files.specs.Call as answers
+use Rattle.command_files.specs.Call.{BenchCall, SinkCall, Answer, done, refused}
+use Rattle.command_files.specs.Said.{Says as SaysOn}
+use Rattle.command_files.specs.Answered.{yields, IsUnless, AreCounted}
 use Rattle.job_commands.specs.GoOn.{GoOnAnswers}
 use Rattle.job_commands.specs.Program as programs
 use Rattle.job_commands.specs.Begin as begins

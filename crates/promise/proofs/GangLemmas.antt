@@ -18,9 +18,9 @@ use Rattle.report_text.specs.Target.{target_line}
 use Rattle.report_text.proofs.DoneLemmas.{only_done}
 use Rattle.report_text.proofs.PlainLemmas.{IsOfGang, is_of_gang, said_of, line_is, one_line}
 use Rattle.report_text.proofs.StatusLemmas.{some_status}
-use Rattle.command_answers.proofs.FileLemmas.{not_free}
-use Rattle.command_answers.specs.Call.{SinkCall}
-use Rattle.command_answers.specs.Said.{TookNothing}
+use Rattle.command_files.proofs.FileLemmas.{not_free}
+use Rattle.command_files.specs.Call.{SinkCall}
+use Rattle.command_files.specs.Said.{TookNothing}
 use Rattle.flash_session.specs.declared.target_end.TargetEnd.TheVariants as ended
 use Rattle.gang_commands.specs.Works.{aim_of}
 use Rattle.gang_commands.specs.Ends.{HasFinished, KeepsOn, AllKeep}

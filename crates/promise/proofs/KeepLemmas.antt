@@ -2,7 +2,7 @@
 use Rattle.std.proofs.Common.{IsTrue, Some}
 use Rattle.flash_session.specs.declared.goal.Goal.TheVariants.{New, Old}
 use Rattle.command_words.specs.Files.{Command, program, begin, resume, revert, plan, verify, compare, status, inspect, dump, demo}
-use Rattle.command_answers.specs.Call as answers
+use Rattle.command_files.specs.Call as answers
 use Rattle.flm_cli.specs.Answers.{Answers}
 use Rattle.promise.specs.Promise.{Keeps}
 use Rattle.promise.proofs.ClassLemmas.{AreBytes}

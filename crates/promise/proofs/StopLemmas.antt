@@ -2,7 +2,7 @@
 use Rattle.bench_model.specs.History.{AddsNothing}
 use Rattle.bench_model.specs.State.{cells_half, Left}
 use Rattle.bench_model.specs.Calls.{FileStays, OnlyReads}
-use Rattle.command_answers.specs.Call as answers
+use Rattle.command_files.specs.Call as answers
 use Rattle.promise.specs.Promise.{Call, AtEachStop, call_of}
 
 -- the call as the promise sees it

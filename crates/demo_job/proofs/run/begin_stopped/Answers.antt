@@ -3,8 +3,8 @@ use Rattle.std.proofs.Common.{◌∙◌, sym, subst, List, [], ◌∷◌}
 use Rattle.bench_model.specs.Stopped.{stopped}
 use Rattle.byte_map.specs.Image.{Run}
 use Rattle.job_text.specs.Fits.{Suits}
-use Rattle.command_answers.specs.Answered.{IsOf}
-use Rattle.command_answers.specs.Call.{bench_call, Answer}
+use Rattle.command_files.specs.Answered.{IsOf}
+use Rattle.command_files.specs.Call.{bench_call, Answer}
 use Rattle.job_commands.specs.Steps.{BeginsParts, BenchCounted, has_work}
 use Rattle.demo_job.specs.Run.{silence}
 use Rattle.demo_job.specs.Scene.{fixture_of}

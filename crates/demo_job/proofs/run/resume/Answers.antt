@@ -2,7 +2,7 @@
 use Rattle.std.proofs.Common.{◌∙◌, refl, sym, subst, true}
 use Rattle.bench_model.specs.Shown.{bench_of}
 use Rattle.flash_session.specs.declared.goal.Goal.TheVariants.{New}
-use Rattle.command_answers.specs.Call.{bench_call, Answer}
+use Rattle.command_files.specs.Call.{bench_call, Answer}
 use Rattle.job_commands.specs.GoOn.{GoesOnFrom, GoOnEnds}
 use Rattle.demo_job.specs.Run.{Resumes, silence}
 use Rattle.demo_job.specs.Scene.{fixture_of}

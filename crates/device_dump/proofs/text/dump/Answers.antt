@@ -6,8 +6,8 @@ use Rattle.board_file.specs.Shown as board
 use Rattle.command_files.specs.Inputs.{inputs_call, IsFile}
 use Rattle.report_text.specs.Refusal.{cells_differ}
 use Rattle.report_text.specs.Shown.{shown}
-use Rattle.command_answers.specs.Call.{bench_call, sink_call, refused}
-use Rattle.command_answers.specs.Shown.{answer_of}
+use Rattle.command_files.specs.Call.{bench_call, sink_call, refused}
+use Rattle.command_files.specs.Shown.{answer_of}
 use Rattle.device_dump.specs.Dump.{DumpEnds}
 use Rattle.device_dump.proofs.DumpLemmas.{ends_untaken, ends_unread, ends_other_count, ends_dumped}
 use Rattle.device_dump.proofs.text.dump.Goals as goal

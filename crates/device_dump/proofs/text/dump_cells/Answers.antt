@@ -3,8 +3,8 @@ use Rattle.std.proofs.Common.{◌≡◌, ◌∙◌, sym, subst, arith, List, ℕ
 use Rattle.std.proofs.lemmas.Grind.{common_steps}
 use Rattle.std.proofs.lemmas.Result.{err_from_is_err_and}
 use Rattle.board_file.specs.declared.region.Region.{Region}
-use Rattle.command_answers.specs.Call.{bench_call, sink_call}
-use Rattle.command_answers.specs.Shown.{answer_of}
+use Rattle.command_files.specs.Call.{bench_call, sink_call}
+use Rattle.command_files.specs.Shown.{answer_of}
 use Rattle.device_dump.specs.Steps.{PutsCells}
 use Rattle.device_dump.proofs.DumpLemmas.{dumps_nothing, dumps_fault, dumps_put, written_back}
 use Rattle.device_dump.proofs.text.dump_cells.Goals as goal

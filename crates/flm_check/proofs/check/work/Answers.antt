@@ -10,7 +10,7 @@ use Rattle.flm_descriptor.specs.declared.algorithm.Algorithm.{Algorithm}
 use Rattle.report_text.specs.Shown.{shown}
 use Rattle.command_files.specs.Inputs.{inputs_call}
 use Rattle.command_files.proofs.TakeLemmas.{none_failed_here}
-use Rattle.command_answers.specs.Call.{sink_call}
+use Rattle.command_files.specs.Call.{sink_call}
 use Rattle.duty_rounds.specs.Verdicts.{AreFit, IsTrueOf}
 use Rattle.flm_check.specs.Endings.{first_line}
 use Rattle.flm_check.specs.Requested.{asked_of}

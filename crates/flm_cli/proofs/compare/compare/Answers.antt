@@ -4,9 +4,9 @@ use Rattle.std.proofs.lemmas.Result.{err_from_is_err_and}
 use Rattle.command_files.specs.Inputs.{inputs_call, IsFile}
 use Rattle.report_text.specs.Refusal.{image_too_long}
 use Rattle.report_text.specs.Shown.{shown}
-use Rattle.command_answers.specs.Call.{bench_call, sink_call, refused}
+use Rattle.command_files.specs.Call.{bench_call, sink_call, refused}
 use Rattle.flm_cli.specs.Compare.{CellsAre, DiffersFrom, CompareEnds}
-use Rattle.command_answers.specs.Shown.{answer_of}
+use Rattle.command_files.specs.Shown.{answer_of}
 use Rattle.flm_cli.proofs.CompareLemmas.{ends_untaken, ends_too_long, ends_compared}
 use Rattle.flm_cli.proofs.ComparisonLemmas.{compares_by, told_fits}
 use Rattle.flm_cli.proofs.compare.compare.Goals as goal

@@ -4,7 +4,7 @@ use Rattle.std.proofs.lemmas.Result.{err_from_is_err_and}
 use Rattle.flm_descriptor.specs.Shown as flm
 use Rattle.command_files.specs.Inputs.{inputs_call, IsFile}
 use Rattle.report_text.specs.Shown.{shown}
-use Rattle.command_answers.specs.Call.{sink_call}
+use Rattle.command_files.specs.Call.{sink_call}
 use Rattle.flm_cli.proofs.InspectLemmas.{ends_untaken, ends_unread, ends_done, ends_cut}
 use Rattle.flm_cli.proofs.inspect.inspect.Goals as goal
 

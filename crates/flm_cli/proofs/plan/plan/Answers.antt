@@ -8,9 +8,9 @@ use Rattle.command_files.specs.Steps.{bytes_of, aim_of}
 use Rattle.command_files.proofs.TargetFilesLemmas.{has_file}
 use Rattle.report_text.specs.Refusal.{cells_differ}
 use Rattle.report_text.specs.Shown.{shown}
-use Rattle.command_answers.specs.Call.{bench_call, sink_call, refused}
+use Rattle.command_files.specs.Call.{bench_call, sink_call, refused}
 use Rattle.flm_cli.specs.Plan.{PlanEnds}
-use Rattle.command_answers.specs.Shown.{answer_of}
+use Rattle.command_files.specs.Shown.{answer_of}
 use Rattle.flm_cli.proofs.PlanLemmas.{ends_untaken, ends_unread, ends_other_size, ends_planned, devices_of}
 use Rattle.flm_cli.proofs.plan.plan.Goals as goal
 

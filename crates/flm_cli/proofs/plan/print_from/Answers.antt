@@ -3,7 +3,7 @@ use Rattle.std.proofs.Common.{◌∙◌, sym}
 use Rattle.std.proofs.lemmas.Result.{err_from_is_err_and}
 use Rattle.outside_io.proofs.PutTexts.{puts_as}
 use Rattle.command_files.specs.Steps.{aim_of}
-use Rattle.command_answers.specs.Call.{bench_call}
+use Rattle.command_files.specs.Call.{bench_call}
 use Rattle.flm_cli.specs.Plan.{text_of}
 use Rattle.flm_cli.proofs.PlanLemmas.{device_cells, plans_fault, plans_done, plans_cut, parts_end, read_of, read_told, read_text}
 use Rattle.flm_cli.proofs.plan.print_from.Goals as goal

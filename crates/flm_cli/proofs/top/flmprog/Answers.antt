@@ -1,8 +1,8 @@
 -- `flmprog`: its contract, `Answers`, and what `run` asks for.
 use Rattle.report_text.specs.Refusal.{out_of_memory}
-use Rattle.command_answers.specs.Call.{refused}
-use Rattle.command_answers.specs.Shown.{answer_of}
-use Rattle.command_answers.proofs.AnswerLemmas.{zero_is_done}
+use Rattle.command_files.specs.Call.{refused}
+use Rattle.command_files.specs.Shown.{answer_of}
+use Rattle.command_files.proofs.AnswerLemmas.{zero_is_done}
 use Rattle.flm_cli.proofs.TopLemmas.{ends_unread}
 use Rattle.flm_cli.proofs.top.flmprog.Goals as goal
 

@@ -4,9 +4,9 @@ use Rattle.std.proofs.lemmas.List.Elements.{All-head}
 use Rattle.command_words.specs.Words.{program, begin, resume, revert, plan, verify, compare, status, inspect, dump, demo, Asked}
 use Rattle.command_words.specs.Requested.{files_of}
 use Rattle.command_files.specs.Inputs.{inputs_call}
-use Rattle.command_answers.specs.Call.{bench_call, sink_call}
-use Rattle.command_answers.specs.Shown.{answer_of}
-use Rattle.command_answers.proofs.AnswerLemmas.{untouched_here}
+use Rattle.command_files.specs.Call.{bench_call, sink_call}
+use Rattle.command_files.specs.Shown.{answer_of}
+use Rattle.command_files.proofs.AnswerLemmas.{untouched_here}
 use Rattle.demo_job.proofs.EndLemmas.{demo_ends}
 use Rattle.flm_cli.proofs.TopLemmas.{ends_as, unfit}
 use Rattle.flm_cli.proofs.top.run.Goals as goal

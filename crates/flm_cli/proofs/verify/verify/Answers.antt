@@ -7,8 +7,8 @@ use Rattle.board_file.specs.Limits.{size_of}
 use Rattle.command_files.specs.Steps.{bytes_of, aim_of}
 use Rattle.report_text.specs.Refusal.{cells_differ}
 use Rattle.report_text.specs.Shown.{shown}
-use Rattle.command_answers.specs.Call.{bench_call, sink_call, refused}
-use Rattle.command_answers.specs.Shown.{answer_of}
+use Rattle.command_files.specs.Call.{bench_call, sink_call, refused}
+use Rattle.command_files.specs.Shown.{answer_of}
 use Rattle.flm_cli.specs.Verify.{AgreesWith, DiffersAt, VerifyEnds}
 use Rattle.flm_cli.proofs.VerifyLemmas.{ends_untaken, ends_unread, ends_other_size, ends_compared, address_fits}
 use Rattle.flm_cli.proofs.ComparisonLemmas.{compares_by, told_fits}

@@ -1,6 +1,6 @@
 -- `flmgang`: its clauses `answers`, `usage`, `finished`, `campaigns` and `complete`, and what `open` and `run` ask for.
 use Rattle.std.proofs.Common.{◌≡◌, ◌∙◌, length, refl, arith, inl, inr}
-use Rattle.command_answers.specs.Call.{sink_call}
+use Rattle.command_files.specs.Call.{sink_call}
 use Rattle.gang_commands.proofs.CallLemmas.{have_ended, unfit_answers, unfit_finished, unfit_keeps, memory_answers, memory_finished, memory_keeps}
 use Rattle.gang_commands.proofs.CallLemmas.{ended_answers, ended_usage, ended_finished, ended_keeps, ended_complete}
 use Rattle.gang_commands.proofs.WordLemmas.{some_benches, few_benches, not_fit, does_fit}

@@ -1,8 +1,8 @@
 -- `run`: its contract, `Runs`, and what `put_targets` asks for.
 use Rattle.std.proofs.Common.{◌≡◌, ℕ, Result, refl, sym, subst, arith, inl, inr}
 use Rattle.outside_io.specs.declared.sink.OutputFault.{OutputFault}
-use Rattle.command_answers.specs.Call.{SinkCall, sink_call}
-use Rattle.command_answers.specs.Said.{TookAll, TookPart}
+use Rattle.command_files.specs.Call.{SinkCall, sink_call}
+use Rattle.command_files.specs.Said.{TookAll, TookPart}
 use Rattle.gang_commands.specs.Lines.{lines_of, status_in}
 use Rattle.gang_commands.specs.Puts.{PutsEnds, outcomes}
 use Rattle.gang_commands.proofs.top.run.Goals as goal

@@ -10,9 +10,9 @@ use Rattle.job_text.specs.declared.job.Job as code
 use Rattle.job_text.specs.Stands.{StandsFor}
 use Rattle.flash_session.specs.Sessions.{job_in, surveyed}
 use Rattle.report_text.specs.Refusal.{Refusal}
-use Rattle.command_answers.specs.Answered.{StandsEarly, IsOf, on_job_file}
-use Rattle.command_answers.specs.Call.{bench_call, sink_call, refused}
-use Rattle.command_answers.specs.Shown.{answer_of}
+use Rattle.command_files.specs.Answered.{StandsEarly, IsOf, on_job_file}
+use Rattle.command_files.specs.Call.{bench_call, sink_call, refused}
+use Rattle.command_files.specs.Shown.{answer_of}
 use Rattle.job_commands.specs.Answers.{IsSound}
 use Rattle.job_commands.specs.GoOn.{GoesOnFrom, has_resume}
 use Rattle.job_commands.specs.Printed.{ArePlansFor, PrintsWork}

@@ -5,8 +5,8 @@ use Rattle.report_text.specs.Shown.{shown}
 use Rattle.command_words.specs.Requested.{files_of}
 use Rattle.command_files.specs.Inputs.{inputs_call}
 use Rattle.command_files.specs.Steps.{said_aim}
-use Rattle.command_answers.specs.Call.{bench_call, sink_call}
-use Rattle.command_answers.specs.Shown.{answer_of}
+use Rattle.command_files.specs.Call.{bench_call, sink_call}
+use Rattle.command_files.specs.Shown.{answer_of}
 use Rattle.job_commands.proofs.RegionLemmas.{said_parts, said_texts}
 use Rattle.job_commands.proofs.ProgramLemmas.{begin_early, said_starts, begin_worked}
 use Rattle.job_commands.proofs.first_commands.begin.Goals as goal

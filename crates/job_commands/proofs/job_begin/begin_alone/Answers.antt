@@ -2,7 +2,7 @@
 use Rattle.std.proofs.Common.{refl}
 use Rattle.std.proofs.lemmas.Result.{err_from_is_err_and}
 use Rattle.report_text.specs.Shown.{shown}
-use Rattle.command_answers.specs.Call.{bench_call, sink_call}
+use Rattle.command_files.specs.Call.{bench_call, sink_call}
 use Rattle.job_commands.specs.Begin.{begun_text}
 use Rattle.job_commands.proofs.KindLemmas.{start_alone, start_before}
 use Rattle.job_commands.proofs.PrintLemmas.{start_prints_begun}

@@ -5,9 +5,9 @@ use Rattle.bench_model.specs.State.{Left}
 use Rattle.job_text.specs.Parts.{job_of}
 use Rattle.flash_session.specs.declared.goal.Goal.TheVariants.{New}
 use Rattle.report_text.specs.Shown.{shown}
-use Rattle.command_answers.specs.Answered.{StandsEarly, IsOf, on_job_file}
-use Rattle.command_answers.specs.Call.{Answer, bench_call, sink_call}
-use Rattle.command_answers.specs.Shown.{answer_of}
+use Rattle.command_files.specs.Answered.{StandsEarly, IsOf, on_job_file}
+use Rattle.command_files.specs.Call.{Answer, bench_call, sink_call}
+use Rattle.command_files.specs.Shown.{answer_of}
 use Rattle.job_commands.specs.Answers.{IsSound}
 use Rattle.job_commands.specs.GoOn.{work_to}
 use Rattle.job_commands.specs.Printed.{PrintsWork}

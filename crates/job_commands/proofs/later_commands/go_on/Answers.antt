@@ -1,8 +1,8 @@
 -- `go_on`: its clause `ends`.
 use Rattle.std.proofs.Common.{refl, []}
-use Rattle.command_answers.specs.Call.{bench_call, sink_call}
-use Rattle.command_answers.specs.Shown.{answer_of}
-use Rattle.command_answers.proofs.AnswerLemmas.{took_none}
+use Rattle.command_files.specs.Call.{bench_call, sink_call}
+use Rattle.command_files.specs.Shown.{answer_of}
+use Rattle.command_files.proofs.AnswerLemmas.{took_none}
 use Rattle.job_commands.proofs.CountLemmas.{worked_lawful}
 use Rattle.job_commands.proofs.later_commands.go_on.Goals as goal
 use Rattle.job_commands.specs.GoOn.{has_resume}

@@ -1,7 +1,7 @@
 -- `address_of`: that an arm is never reached.
 use Rattle.std.proofs.Common.{◌∙◌, ℕ, Option, IsSome, sym, subst}
 use Rattle.std.proofs.lemmas.Bool.{false≢true}
-use Rattle.command_answers.proofs.PlaceLemmas.{has_address}
+use Rattle.command_files.proofs.PlaceLemmas.{has_address}
 use Rattle.job_commands.proofs.places.address_of.Goals as goal
 
 pub unreachable-requires : goal.unreachable-requires

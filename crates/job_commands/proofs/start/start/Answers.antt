@@ -1,8 +1,8 @@
 -- `start`: its clauses `told`, `early`, `kind`, `sound` and `counts`.
 use Rattle.std.proofs.Common.{◌≡◌, ◌∙◌, refl, sym, subst, length, []}
 use Rattle.report_text.specs.Refusal.{Refusal}
-use Rattle.command_answers.specs.Answered.{StandsEarly, IsOf, on_job_file}
-use Rattle.command_answers.specs.Call.{bench_call, sink_call, refused}
+use Rattle.command_files.specs.Answered.{StandsEarly, IsOf, on_job_file}
+use Rattle.command_files.specs.Call.{bench_call, sink_call, refused}
 use Rattle.job_commands.specs.Answers.{IsSound}
 use Rattle.job_commands.specs.Steps.{has_start, BenchCounted, StartsParts}
 use Rattle.job_commands.proofs.TurnLemmas.{off_at_end}

@@ -9,8 +9,8 @@ use Rattle.job_file.specs.Counted.{open_fault}
 use Rattle.job_file.specs.Faults.{IsOpenFault}
 use Rattle.job_file.specs.declared.fault.OpenFault.{OpenFault}
 use Rattle.job_file.specs.declared.fault.OpenFault.TheVariants.{NoJob}
-use Rattle.command_answers.specs.Call.{sink_call}
-use Rattle.command_answers.specs.Shown.{answer_of}
+use Rattle.command_files.specs.Call.{sink_call}
+use Rattle.command_files.specs.Shown.{answer_of}
 use Rattle.job_status.proofs.StatusLemmas.{devices_fill, shown_devices, ends_free, ends_job, ends_refused}
 use Rattle.job_status.proofs.status_command.status.Goals as goal
 

@@ -1,7 +1,7 @@
 -- `flash`: its clauses `promise` and `complete`.
 use Rattle.std.proofs.Common.{Some}
 use Rattle.command_files.specs.Inputs.{inputs_call}
-use Rattle.command_answers.specs.Call.{call_of, bench_call, sink_call}
+use Rattle.command_files.specs.Call.{call_of, bench_call, sink_call}
 use Rattle.promise.proofs.KeepLemmas.{keeps}
 use Rattle.promise.proofs.CompleteLemmas.{completes}
 use Rattle.promise.proofs.top.flash.Goals as goal

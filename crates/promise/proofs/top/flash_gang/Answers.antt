@@ -1,6 +1,6 @@
 -- `flash_gang`: its contract, `GangKeeps`.
 use Rattle.std.proofs.Common.{length}
-use Rattle.command_answers.specs.Call.{sink_call}
+use Rattle.command_files.specs.Call.{sink_call}
 use Rattle.promise.proofs.GangLemmas.{gang_keeps}
 use Rattle.promise.proofs.top.flash_gang.Goals as goal
 

@@ -1,8 +1,8 @@
 -- What a refusal leaves, whether it is answered or yields.
 use Rattle.std.proofs.Common.{◌≡◌, ⊎_elim, ◌∙◌, sym, ap, subst, true}
 use Rattle.report_text.specs.Refusal.{Refusal}
-use Rattle.command_answers.specs.Call.{BenchCall, SinkCall, Answer, done, refused}
-use Rattle.command_answers.specs.Answered.{yields, Refuses, OnlyLooked, StandsEarly, on_job_file}
+use Rattle.command_files.specs.Call.{BenchCall, SinkCall, Answer, done, refused}
+use Rattle.command_files.specs.Answered.{yields, Refuses, OnlyLooked, StandsEarly, on_job_file}
 
 -- A refusal of a job file only looks at it, whether it is answered or yields.
 pub looks : (bench : BenchCall) (out : SinkCall) (answer : Answer) (refusal : Refusal)

@@ -2,7 +2,7 @@
 use Rattle.std.specs.Prelude.{Result, Ok, Err}
 use Rattle.report_text.specs.Shown.{shown}
 use Rattle.report_text.specs.declared.refusal.Refusal.{Refusal}
-use Rattle.command_answers.specs.Call.{Answer, done, refused}
+use Rattle.command_files.specs.Call.{Answer, done, refused}
 
 abbrev pub answer_of : Result (Unit {0}) Refusal → Answer
 answer_of (Ok _) = done

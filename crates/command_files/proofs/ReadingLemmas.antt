@@ -7,9 +7,9 @@ use Rattle.command_files.specs.Inputs.{InputsCall, FilesGiven, AreFiles}
 use Rattle.command_files.specs.Files.{Aim, IsAim}
 use Rattle.command_files.specs.Refused.{IsRefused}
 use Rattle.command_files.proofs.FilesLemmas.{one_given, one_aim, one_refusal, aim_or_refused}
-use Rattle.command_answers.specs.Call.{BenchCall, SinkCall, Answer, refused}
-use Rattle.command_answers.specs.Answered.{yields, DidNothing}
-use Rattle.command_answers.specs.Reading.{ShowsFiles, AnswersFiles}
+use Rattle.command_files.specs.Call.{BenchCall, SinkCall, Answer, refused}
+use Rattle.command_files.specs.Answered.{yields, DidNothing}
+use Rattle.command_files.specs.Reading.{ShowsFiles, AnswersFiles}
 
 module _ (bench : BenchCall) (inputs : InputsCall) (out : SinkCall) (asked : FilesAsked) (Holds Goes : FilesGiven → Aim → Type 0) where
   pub answers_yielding : (answer : Answer) → yields answer ≡ true → DidNothing bench out → ((files : FilesGiven) (aim : Aim) → Goes files aim)

@@ -6,8 +6,8 @@ use Rattle.report_text.specs.Refusal.{Refusal, out_of_memory, usage, input_fault
 use Rattle.report_text.specs.Refusal.{image_refused, image_misplaced, job_open, no_job, not_a_job, damaged, cells_differ, store_fault, device_fault}
 use Rattle.report_text.specs.Refusal.{output_fault}
 use Rattle.command_files.specs.Inputs.{InputsCall, IsUntaken}
-use Rattle.command_answers.specs.Call.{BenchCall, SinkCall, Call, IsUntouched, Answer, done, refused}
-use Rattle.command_answers.specs.Said.{TookNothing, Says}
+use Rattle.command_files.specs.Call.{BenchCall, SinkCall, Call, IsUntouched, Answer, done, refused}
+use Rattle.command_files.specs.Said.{TookNothing, Says}
 
 -- Faults.
 

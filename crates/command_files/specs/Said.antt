@@ -4,7 +4,7 @@ use Rattle.faults.specs.Counts.{Rose}
 use Rattle.outside_io.specs.Appends.{AppendsPart}
 use Rattle.report_text.specs.Refusal.{status_of, output_fault}
 use Rattle.report_text.specs.Lines.{line_of}
-use Rattle.command_answers.specs.Call.{SinkCall, Answer, done, refused}
+use Rattle.command_files.specs.Call.{SinkCall, Answer, done, refused}
 
 -- What a sink took.
 

@@ -6,8 +6,8 @@ use Rattle.command_words.specs.Files.{FilesAsked}
 use Rattle.command_files.specs.Inputs.{InputsCall, FilesGiven, AreFiles, Given}
 use Rattle.command_files.specs.Files.{Aim, IsAim}
 use Rattle.command_files.specs.Refused.{IsRefused}
-use Rattle.command_answers.specs.Call.{BenchCall, SinkCall, Answer, refused}
-use Rattle.command_answers.specs.Answered.{Refuses, DidNothing}
+use Rattle.command_files.specs.Call.{BenchCall, SinkCall, Answer, refused}
+use Rattle.command_files.specs.Answered.{Refuses, DidNothing}
 
 -- files that are right; of them and of what they want this holds
 pub record WantAnAim (asked : FilesAsked) (Holds : FilesGiven → Aim → Type 0) (files : FilesGiven) : Type 0 where

@@ -9,10 +9,10 @@ use Rattle.report_text.specs.Refusal.{output_fault}
 use Rattle.report_text.proofs.StatusLemmas.{some_status}
 use Rattle.command_files.specs.Inputs.{InputsCall, IsFile, IsUntaken, NoneFailed, TakesNothing}
 use Rattle.command_files.specs.Steps.{IsTakeFault}
-use Rattle.command_answers.specs.Call.{BenchCall, SinkCall, Answer, done, refused, bench_call, sink_call, IsUntouched}
-use Rattle.command_answers.specs.Said.{Says}
-use Rattle.command_answers.specs.Answered.{Fault, input, store, device, output, fault_in, IsCounted, AreCounted, DidNothing, OnlyLooked, Scope, on_files}
-use Rattle.command_answers.specs.Answered.{on_job_file, on_own_bench, AtSeven, AtOne, StandsEarly, IsOf, EndsLawfully}
+use Rattle.command_files.specs.Call.{BenchCall, SinkCall, Answer, done, refused, bench_call, sink_call, IsUntouched}
+use Rattle.command_files.specs.Said.{Says}
+use Rattle.command_files.specs.Answered.{Fault, input, store, device, output, fault_in, IsCounted, AreCounted, DidNothing, OnlyLooked, Scope, on_files}
+use Rattle.command_files.specs.Answered.{on_job_file, on_own_bench, AtSeven, AtOne, StandsEarly, IsOf, EndsLawfully}
 
 -- The status.
 
