@@ -119,7 +119,8 @@ module _ {R : Type 0} (t : Table R) (map : FlashMap) (s : State R) (cells : List
       (subst (λ (b : Bool). StoreGives (if b then (Err bus.Fault, s) else programmed t map s cells width value found) s result after) (sym idle) gives)
 
   -- while an operation runs, no cell answers
-  pub busy_load : (found : Found) → place.Flash found ≡ place_of map at width → is_running s ≡ true → LoadGives (load_row t map s cells at width) (Err bus.Fault)
+  pub busy_load : (found : Found) → place.Flash found ≡ place_of map at width → is_running s ≡ true →
+      LoadGives (load_row t map s cells at width) (Err bus.Fault)
   unfolding load_row
   busy_load found is busy = subst (λ (p : Place). LoadGives (load_at t s cells width p) (Err bus.Fault)) is
       (subst (λ (b : Bool). LoadGives (if b then Err bus.Fault else Ok (value_of (cells_at cells found.place width))) (Err bus.Fault)) (sym busy) (inr refl))
