@@ -6,9 +6,6 @@ use Rattle.gang_commands.proofs.refusals.end_refusal.Goals as goal
 pub returns-in-Open : goal.returns-in-Open
 returns-in-Open c = rw c.in-Open.is (ap (λ (r : Refusal). Some r) c.session_refusal.ensures)
 
-pub returns-in-Survey : goal.returns-in-Survey
-returns-in-Survey c = rw c.in-Survey.is (ap (λ (r : Refusal). Some r) c.survey_refusal.ensures)
-
 pub returns-in-Done : goal.returns-in-Done
 returns-in-Done c = rw c.in-Done.is refl
 
