@@ -1,11 +1,11 @@
 #!/usr/bin/env python3
-"""What `program_vectors` has to print, row by row: its commands on benches in memory, stopped, with calls that fail, with the algorithms A1 to A7 and F1.
+"""What `program_vectors` has to print of its rows: its commands on benches in memory, stopped, with calls that fail, with the algorithms A1 to A7 and F1.
 
-  python3 tools/answers.py > FILE       from the repository's top: all that crates/program_vectors/stdout has
+  python3 tools/answers.py > FILE       from the repository's top: what crates/program_vectors/stdout has of them
   python3 tools/answers.py check        says of each row whether crates/program_vectors/stdout has it so
 
-The language of the rows stands in crates/program_vectors/src/lines.rt. commands.py is a model of the program, jobs.py of the calls on a bench, target.py of
-the target."""
+The language of the rows stands in crates/program_vectors/src/memory/lines.rt. commands.py is a model of the program, jobs.py of the calls on a bench,
+target.py of the target."""
 import difflib
 import os
 import sys
@@ -304,7 +304,7 @@ def listed(name):
 
 
 def order():
-    with open("crates/program_vectors/args") as file:
+    with open(DATA + "order.txt") as file:
         return file.read().split()
 
 
@@ -315,9 +315,11 @@ def rows():
 
 
 def check():
-    """Compares the rows with what is stored, each behind its name; what words ask for has no name, and two lines each."""
+    """Compares the rows with what is stored before the jobs of a host, each behind its name; what words ask for has no name, and two lines each."""
     with open("crates/program_vectors/stdout") as file:
         stored = file.read().splitlines()
+    with open(DATA + "host/calls.txt") as file:
+        stored = stored[:stored.index(file.readline().rstrip("\n"))]
     made, begins, at = list(rows()), [], 0
     for _, title, _ in made:
         at = stored.index(title, at) if title else at

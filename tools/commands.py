@@ -529,7 +529,7 @@ def without(flm, name):
 def forged(kind, board, page, time, region="0"):
     """An algorithm's FLM file for a region of a board: A1 and F1 by the bytes of A1 on the small board, the others by those of another tool."""
     own = kind in ("A1", "F1")
-    with open("crates/file_vectors/data/a1.flm" if own else "crates/target_vectors/data/%s.flm" % kind.lower(), "rb") as file:
+    with open("crates/program_vectors/data/a1.flm" if own else "crates/target_vectors/data/%s.flm" % kind.lower(), "rb") as file:
         flm = file.read()
     base, size, empty, _, sectors = Board(board).regions[int(region)]
     if region != "0":

@@ -36,8 +36,9 @@ compare 'jobs of the first format' <(python3 tools/job_files.py first) <(between
 compare 'jobs of the second format' <(python3 tools/job_files.py second) <(between $stored 'a job of the second format' 'a job of two regions')
 compare 'jobs of two regions' <(python3 tools/job_files.py two) <(between $stored 'a job of two regions' 'a blank device')
 compare 'jobs that are begun and opened' <(python3 tools/job_files.py stops) <(sed '/^a job of the first format$/,$d' $stored)
-first=$(head -n 1 crates/file_vectors/data/sweeps.txt)
-compare 'the sweeps' <(python3 tools/sweeps.py) <(echo "$first"; between crates/file_vectors/stdout "$first")
+first=$(head -n 1 crates/program_vectors/data/sweeps.txt)
+row=$(sed -n 's/^row //p' crates/program_vectors/data/rows.txt | head -n 1)
+compare 'the sweeps' <(python3 tools/sweeps.py) <(echo "$first"; between crates/program_vectors/stdout "$first" "$row")
 if python3 tools/answers.py check; then right=$((right + 1)); else wrong=$((wrong + 1)); fi
 echo "$right right, $wrong wrong"
 [ $wrong = 0 ]

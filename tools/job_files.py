@@ -1,5 +1,5 @@
 #!/usr/bin/env python3
-"""The job files that `session_vectors`, `file_vectors` and `program_vectors` read and compare, by the format, and what `session_vectors` has to print of
+"""The job files that `session_vectors` and `program_vectors` read and compare, by the format, and what `session_vectors` has to print of
 files that are made of them.
 
   python3 tools/job_files.py write FOLDER     writes all of them, into folders that are named like the crates
@@ -55,13 +55,13 @@ def for_second_region(flm, base, size):
 
 
 def other_files():
-    """Those of the other crates. A job that was closed has 00 for its first byte."""
-    small, flm, a1, full = read("one.toml"), read("algorithm.flm"), read("a1.flm", "file_vectors"), bytes(range(256)) + BLANK * 768
+    """Those of the other crate. A job that was closed has 00 for its first byte."""
+    small, flm, a1, full = read("one.toml"), read("algorithm.flm"), read("a1.flm", "program_vectors"), bytes(range(256)) + BLANK * 768
     closed = {"one_region.job": job_file(small, [a1], FOUR, BLANK * 1024),
               "two_regions.job": job_file(read("two.toml"), [a1, for_second_region(a1, 0x1FFFF000, 256)], BOTH, BLANK * 1280)}
     one_sector = job_file(small, [a1], ONE, full, False)
-    return {"file_vectors": {"sector.job": one_sector},
-            "program_vectors": {"job.bin": job_file(small, [flm], FOUR, BLANK * 1024, False), "first_format.job": one_sector,
+    return {"program_vectors": {"job.bin": job_file(small, [flm], FOUR, BLANK * 1024, False),
+                                "first_format.job": one_sector, "sector.job": one_sector,
                                 "two_runs.bin": job_file(small, [flm], {**FOUR, **ONE}, BLANK * 1024, False),
                                 **{name: b"\0" + data[1:] for name, data in closed.items()}}}
 

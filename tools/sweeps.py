@@ -1,15 +1,15 @@
 #!/usr/bin/env python3
-"""What `file_vectors` has to print of its 24 sweeps: how often each answer comes, and the digest of all answers in their order.
+"""What `program_vectors` has to print of its 24 sweeps: how often each answer comes, and the digest of all answers in their order.
 
-  python3 tools/sweeps.py > FILE        from the repository's top; FILE is then the end of crates/file_vectors/stdout
+  python3 tools/sweeps.py > FILE        from the repository's top; FILE is then a part of crates/program_vectors/stdout
 
-The list of sweeps is crates/file_vectors/data/sweeps.txt: `WHAT; READER HOW FROM TO STEP FILE`."""
+The list of sweeps is crates/program_vectors/data/sweeps.txt: `WHAT; READER HOW FROM TO STEP FILE`."""
 import os
 import re
 
 from formats import Algorithm, Damaged, Elf, Job, NotAJob, Refused, fnv, is_free, read_hex, read_srec, said_of_image, words
 
-DATA = "crates/file_vectors/data/"
+DATA = "crates/program_vectors/data/"
 VALUES = {
     "byte": lambda old: [b"\x00", b"\xff", bytes([old[0] ^ 255])],
     "char": lambda old: [b"0", b"F", b"\n"],

@@ -490,7 +490,7 @@ def codes(cache={}):
         for kind in range(1, 8):
             with open("crates/target_vectors/data/a%d.flm" % kind, "rb") as file:
                 cache["A%d" % kind] = [Algorithm(file.read()).code]
-        with open("crates/file_vectors/data/a1.flm", "rb") as file:
+        with open("crates/program_vectors/data/a1.flm", "rb") as file:
             code = Algorithm(file.read()).code
         cache["A1"].append(code)
         cache["F1"] = [marked(code)]

@@ -9,7 +9,7 @@ program=$(realpath "${1:-out/flm_tool}") || exit 1
 times=${2:-1}
 devices=${3:-16}
 sectors=${4:-1024}
-small=$(realpath ../file_jobs/data) || exit 1
+small=$(realpath ../program_vectors/data/host) || exit 1
 tests=$(realpath tests) || exit 1
 folder=$(mktemp -d) || exit 1
 trap 'rm -rf "$folder"' EXIT

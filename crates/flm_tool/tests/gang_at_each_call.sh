@@ -8,7 +8,7 @@
 set -u
 program=$(realpath "${1:-out/flm_tool}") || exit 1
 step=${2:-1}
-small=$(realpath ../file_jobs/data) || exit 1
+small=$(realpath ../program_vectors/data/host) || exit 1
 tests=$(realpath tests) || exit 1
 folder=$(mktemp -d) || exit 1
 cd "$folder" || exit 1

@@ -1,5 +1,5 @@
 # What the scripts on gangs share: a board, the algorithm at hand for it, and devices with a job that is begun on each. A script reads it in, in a
-# folder of its own, with `program` set to the built program, `small` to the folder crates/file_jobs/data and `tests` to this one.
+# folder of its own, with `program` set to the built program, `small` to the folder crates/program_vectors/data/host and `tests` to this one.
 . "$tests/rows.sh"
 . "$tests/bytes.sh"
 

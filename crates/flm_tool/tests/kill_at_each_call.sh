@@ -15,7 +15,7 @@ regions=${3:-1}
 step=${4:-1}
 command=${5:-program}
 data=$(realpath ../session_vectors/data) || exit 1
-small=$(realpath ../file_jobs/data) || exit 1
+small=$(realpath ../program_vectors/data/host) || exit 1
 tests=$(realpath tests) || exit 1
 folder=$(mktemp -d) || exit 1
 cd "$folder" || exit 1

@@ -9,7 +9,7 @@
 # wrong, and ends with status 0 where all is as wanted.
 set -u
 program=$(realpath "${1:-out/flm_tool}") || exit 1
-small=$(realpath ../file_jobs/data) || exit 1
+small=$(realpath ../program_vectors/data/host) || exit 1
 tests=$(realpath tests) || exit 1
 folder=$(realpath "$(mktemp -d)") || exit 1
 cd "$folder" || exit 1

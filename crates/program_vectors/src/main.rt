@@ -1,34 +1,50 @@
-//! Runs commands in memory through the top call, row by row: `program_vectors ROWS..`, files of lines (`lines`), each of which begins without
-//! files. It prints each row's name, and of each call what it put on standard output and on standard error, its status, and what it left of the
-//! cells and of the job file. Where calls are stopped at each of their moments, it ends with an error at the first that leaves anything else than
-//! a job that can be carried on or back.
+//! What the flash programmer does, row by row: what its readers say of files (`readers`), its commands in memory (`memory`), and whole jobs on
+//! real files (`host`).
 //!
-//! GCC 12.2 for Arm made the binary files in data/, but for those of UF2, for the job files, and for the cells: the blocks of UF2 are written out by
-//! the fields of Microsoft's specification, as `uf2conv` does it, with 256 bytes and a family. The algorithms `*.flm` are in the manner of `FlashOS.h`,
-//! in Thumb assembler, for a device with sectors of 256 bytes and pages of 64: `small` is for 1,024 bytes from 0x08000000 on, and each other one has
-//! one thing otherwise, as its name says. `firmware.elf` is C code with `-Os -nostdlib -Wl,-n`, linked at 0x08000000; `objcopy --strip-all` left this
-//! of it, and made the other forms of it.
+//! `program_vectors JOB CELLS COMMAND WORDS` goes through all of them, in that order. It ends as `host` does, which runs these words at last. In
+//! place of these words, `rows FILE..` goes through files of rows alone (`memory`), `elf WORD..`, `map WORD..` and `symbols COUNT` do only what is
+//! hard on a reader (`readers::hard`), and `images BINARY IMAGE..` compares these image files alone. The time that each takes is to be measured from
+//! outside.
 #![tactic(auto)]
 
-mod call;
-mod counts;
-mod files;
-mod job;
-mod left;
-mod lines;
-mod pairs;
-mod print;
-mod run;
-mod sweep;
-mod trial;
-mod words;
+mod host;
+mod memory;
+mod readers;
 
 use anyhow::Result;
 use std::env;
+use std::process::ExitCode;
 
-fn main(rt: HostRuntime) -> Result<()> {
-    for name in env::args(&rt)?.skip(1) {
-        lines::go_through(&rt, name.as_str())?;
+/// Goes through all parts.
+fn go_through(rt: &HostRuntime) -> Result<ExitCode> {
+    readers::answer_all(rt)?;
+    memory::go_through_all(rt)?;
+    Ok(host::carry(rt))
+}
+
+/// Does one thing alone.
+fn measure(rt: &HostRuntime, words: &[&str]) -> Result<ExitCode> {
+    match words {
+        ["rows", names @ ..] => memory::go_through(rt, names)?,
+        ["images", names @ ..] => readers::compare(rt, names)?,
+        words => readers::read_hard(rt, words)?,
     }
-    Ok(())
+    Ok(ExitCode::SUCCESS)
+}
+
+/// Does what the words ask for.
+fn follow(rt: &HostRuntime, words: &[&str]) -> Result<ExitCode> {
+    match words {
+        ["rows" | "images" | "elf" | "map" | "symbols", ..] => measure(rt, words),
+        _ => go_through(rt),
+    }
+}
+
+fn main(rt: HostRuntime) -> Result<ExitCode> {
+    let words = env::args(&rt)?.skip(1).collect::<Vec<String>>(rt.alloc())?;
+    let words = words
+        .iter()
+        .map(|word| word.as_str())
+        .collect::<Vec<&str>>(rt.alloc())?;
+    follow(&rt, &words)
 }

@@ -1,0 +1,102 @@
+//! Commands of which two calls on the job file fail.
+
+use crate::memory::call::status_of;
+use crate::memory::counts::{Counts, STATUSES};
+use crate::memory::left::{Aims, Left, OTHER, is_open};
+use crate::memory::print::Piece::{Number, Text};
+use crate::memory::print::{put, put_line};
+use crate::memory::trial::{Fails, Trial};
+use anyhow::{Context, Result, bail, ensure};
+use bench_model::MemoryBench;
+use std::alloc::Global;
+
+/// What came of pairs of faults: how often the command and `resume` were called, and the statuses.
+#[derive(Clone, Copy)]
+struct Pairs {
+    called: Counts,
+    statuses: Counts,
+}
+
+/// How a call is named: the command itself, and `resume`.
+const CALLED: [&str; 2] = ["begun", "resumed"];
+
+/// Lets every pair of the first calls on the job file fail. Prints how many pairs there were, and what was called.
+pub fn fail_pairs(
+    rt: &HostRuntime,
+    trial: &Trial,
+    aims: &Aims,
+    most: u64,
+    line: &str,
+) -> Result<()> {
+    let mut pairs = Pairs {
+        called: Counts::new(),
+        statuses: Counts::new(),
+    };
+    let mut count = 0u64;
+    for second in 1..=most {
+        bring_with(rt.alloc(), trial, aims, line, second, &mut pairs)?;
+        count = count.saturating_add(second - 1);
+    }
+    put(rt, &[Number(count), Text(" pairs")]);
+    pairs.called.put(rt, &CALLED);
+    pairs.statuses.put(rt, &STATUSES);
+    put_line(rt, "");
+    Ok(())
+}
+
+/// Lets each call before the one of a number fail together with it.
+fn bring_with(
+    alloc: Global,
+    trial: &Trial,
+    aims: &Aims,
+    line: &str,
+    second: u64,
+    pairs: &mut Pairs,
+) -> Result<()> {
+    for first in 1..second {
+        bring(alloc, trial, aims, line, [first, second], pairs)?;
+    }
+    Ok(())
+}
+
+/// Goes on until a command is done, where two calls on the job file fail.
+fn bring(
+    alloc: Global,
+    trial: &Trial,
+    aims: &Aims,
+    line: &str,
+    files: [u64; 2],
+    pairs: &mut Pairs,
+) -> Result<()> {
+    let mut fails = Fails::none();
+    fails.files = files;
+    let mut bench = trial.bench_with(alloc, &trial.cells, &trial.job, fails)?;
+    bring_on(alloc, trial, aims, line, &mut bench, pairs)
+}
+
+/// The same on this bench: calls the command, or `resume` where a job is left. Three calls are enough.
+fn bring_on(
+    alloc: Global,
+    trial: &Trial,
+    aims: &Aims,
+    line: &str,
+    bench: &mut MemoryBench,
+    pairs: &mut Pairs,
+) -> Result<()> {
+    for _call in 0..3 {
+        let (line, called) = if is_open(bench.file()) {
+            ("resume", 1)
+        } else {
+            (line, 0)
+        };
+        let status = status_of(alloc, trial, bench, line)?;
+        pairs.statuses.count(status);
+        pairs.called.count(called);
+        let left = aims.look(trial, bench).context(OTHER)?;
+        if status == 0 {
+            ensure!(left == Left::Finished, "done, and not finished");
+            return Ok(());
+        }
+    }
+    bail!("two faults, and three calls that are not done");
+}

@@ -1,0 +1,165 @@
+//! What a row meets.
+ghost use Rattle.std.specs.Prelude.{◌≡◌, IfOk, None};
+ghost use Rattle.bench_model.specs.Shown.{bench_of};
+
+use crate::memory::files::Files;
+use anyhow::{Context, Result, bail};
+use bench_model::{Bench, MemoryBench};
+use std::alloc::Global;
+
+/// The calls that are to fail, by their numbers from 1, and 0 for none: two on the job file, one on the cells, a put on standard output, a put
+/// on standard error, and a file that is taken.
+#[derive(Clone, Copy)]
+pub struct Fails {
+    pub files: [u64; 2],
+    pub cell: u64,
+    pub out: u64,
+    pub err: u64,
+    pub take: u64,
+}
+
+impl Fails {
+    /// None.
+    pub fn none() -> Fails {
+        Fails {
+            files: [0, 0],
+            cell: 0,
+            out: 0,
+            err: 0,
+            take: 0,
+        }
+    }
+
+    /// Lets the call of this number fail: a call on the job file or on the cells, a put on standard output or on standard error, or the taking
+    /// of a file.
+    pub fn set(&mut self, object: &str, number: u64) -> Result<()> {
+        match object {
+            "file" => self.files = [number, 0],
+            "cells" => self.cell = number,
+            "put" => self.out = number,
+            "line" => self.err = number,
+            "take" => self.take = number,
+            _ => bail!("{object}: no such call"),
+        }
+        Ok(())
+    }
+}
+
+/// The files; the room for the job file and for the record of the calls; the bytes of the job file and the cells with which a bench begins,
+/// and the operation that is open on them; and the calls that are to fail.
+#[derive(Drop)]
+pub struct Trial {
+    pub files: Files,
+    pub room: u64,
+    pub job: Vec<u8>,
+    pub cells: Vec<u8>,
+    pub open: Option<(u32, u32)>,
+    pub fails: Fails,
+}
+
+/// The most cells: 64 MiB, the longest file that is taken.
+pub const MOST: usize = 1 << 26;
+
+/// The room for the job file, and for the record of the calls, where no more is asked for.
+const ROOM: u64 = 1 << 18;
+
+impl Trial {
+    /// No files, no job, no cells.
+    pub fn new(alloc: Global) -> Trial {
+        Trial {
+            files: Files::new(alloc),
+            room: ROOM,
+            job: Vec::new(alloc),
+            cells: Vec::new(alloc),
+            open: None,
+            fails: Fails::none(),
+        }
+    }
+
+    /// Begins a row: the files stay.
+    pub fn begin(&mut self, alloc: Global) -> Result<()> {
+        self.cells = vec![in alloc; 0xFF; 1024]?;
+        self.job = Vec::new(alloc);
+        self.open = None;
+        self.fails = Fails::none();
+        self.room = ROOM;
+        Ok(())
+    }
+
+    /// Sets each cell of a range to its place modulo 256.
+    pub fn count(&mut self, at: usize, len: usize) {
+        for (place, cell) in self.cells.iter_mut().enumerate() {
+            if place >= at && place - at < len {
+                *cell = (place % 256) as u8;
+            }
+        }
+    }
+
+    /// The job file or the cells are the file under a name.
+    pub fn take(&mut self, alloc: Global, object: &str, name: &str) -> Result<()> {
+        let bytes = copy(alloc, self.files.bytes(name)?)?;
+        match object {
+            "job" => self.job = bytes,
+            _ => self.cells = bytes,
+        }
+        Ok(())
+    }
+
+    /// The row begins with these cells and this job file.
+    pub fn begin_with(&mut self, alloc: Global, cells: &[u8], job: &[u8]) -> Result<()> {
+        self.cells = copy(alloc, cells)?;
+        self.job = copy(alloc, job)?;
+        Ok(())
+    }
+
+    /// Changes the byte of the job file that stands so many places before its end.
+    pub fn spoil(&mut self, back: usize) -> Result<()> {
+        let place = self.job.len().checked_sub(back).context("no such byte")?;
+        let byte = self.job.get_mut(place).context("no such byte")?;
+        *byte = !*byte;
+        Ok(())
+    }
+
+    /// A bench as the row begins.
+    pub fn bench(&self, alloc: Global) -> Result<MemoryBench> {
+        let mut bench = self.bench_with(alloc, &self.cells, &self.job, self.fails)?;
+        if let Some((at, len)) = self.open {
+            let end = u64::from(at) + u64::from(len);
+            if len == 0
+                || end > u64::from(bench.cells_len())
+                || bench.cells_open(at, len).is_err()
+            {
+                bail!("no such operation");
+            }
+        }
+        Ok(bench)
+    }
+
+    /// A bench with these cells and this job file, and no operation. What is broken off first leaves 5A.
+    pub fn bench_with(
+        &self,
+        alloc: Global,
+        cells: &[u8],
+        job: &[u8],
+        fails: Fails,
+    ) -> Result<MemoryBench>
+        ensures { IfOk result (λ bench. (bench_of bench).operation ≡ None) }
+    {
+        let cells = &cells[..cells.len().min(MOST)];
+        Ok(MemoryBench::new(
+            alloc,
+            cells,
+            job,
+            self.room,
+            self.room,
+            &fails.files,
+            &[fails.cell],
+            &[0x5A],
+        )?)
+    }
+}
+
+/// A copy of bytes.
+pub fn copy(alloc: Global, bytes: &[u8]) -> Result<Vec<u8>> {
+    Ok(Vec::from_slice(alloc, bytes)?)
+}
