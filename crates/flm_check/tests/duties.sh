@@ -8,7 +8,7 @@
 set -u
 program=$(realpath "${1:-out/flm_check}") || exit 1
 data=$(realpath ../target_vectors/data) || exit 1
-forged=$(realpath ../armv6m_vectors/stdout) || exit 1
+forged=$(realpath ../target_vectors/stdout) || exit 1
 tests=$(realpath ../flm_tool/tests) || exit 1
 folder=$(mktemp -d) || exit 1
 cd "$folder" || exit 1
@@ -82,7 +82,7 @@ assembled() {
 
 # Two regions, of which the second has an algorithm that was forged for it.
 two_regions() {
-    cp "$(dirname "$forged")/data/two.toml" two.toml
+    cp "$data/two.toml" two.toml
     forged 'A1 second' second.flm
     forged 'A2 second' idle.flm
     answers 'two regions' tried 0 two.toml first.flm second.flm

@@ -23,3 +23,11 @@ pub fn put_line(rt: &HostRuntime, text: &str) -> Result<()> {
     println!(rt; "{text}")?;
     Ok(())
 }
+
+/// Prints a line of bytes, each by its two hexadecimal digits.
+pub fn put_bytes(rt: &HostRuntime, bytes: &[u8]) -> Result<()> {
+    for byte in bytes {
+        print!(rt; "{byte:02X}")?;
+    }
+    put_line(rt, "")
+}

@@ -1,8 +1,11 @@
-//! What is done on an emulated target and to its flash, and by what: code that runs (`runs`), calls of flash algorithms (`calls`), plans for
-//! devices of any shape (`plans`), and both flash controllers, driven row by row of their tables (`controllers`).
+//! What instructions of Armv6-M do (`instructions`), files of flash algorithms that are made of them (`forged`), and what is done on an emulated
+//! target and to its flash, and by what: code that runs (`runs`), calls of flash algorithms (`calls`), plans for devices of any shape (`plans`), and
+//! both flash controllers, driven row by row of their tables (`controllers`).
 //!
-//! `target_vectors RUNS CALLS FLM PLANS ROWS..` goes through files of cases. How their lines are read stands at the head of `runs`, `calls`,
-//! `plans::commands` and `controllers`. The plans take the geometry from an FLM file, whose size, page and sector items they change.
+//! `target_vectors TABLE CODE STATEMENTS TEXT TEXT_CODE STEPS STEPS ENDS CONDITIONS COMPILED SUMS RUNS CALLS FLM PLANS ROWS..` goes through files:
+//! those of instructions, each of which is compared, and those of cases. Between them it forges files for boards and a listing in files of fixed
+//! names. How the lines of cases are read stands at the head of `runs`, `calls`, `plans::commands` and `controllers`. The plans take the geometry
+//! from an FLM file, whose size, page and sector items they change.
 //!
 //! These are to be measured from outside:
 //!
@@ -16,11 +19,13 @@
 mod calls;
 mod controllers;
 mod files;
+mod forged;
+mod instructions;
 mod lines;
 mod plans;
 mod runs;
 
-use anyhow::{Result, bail};
+use anyhow::{Result, bail, ensure};
 use runs::{measure, measure_files};
 use std::{env, fs};
 
@@ -42,8 +47,8 @@ fn check_file(rt: &HostRuntime, kind: Kind, name: &str) -> Result<()> {
     }
 }
 
-/// Goes through all files.
-fn check_all(rt: &HostRuntime, names: &[&str]) -> Result<()> {
+/// Goes through the files of cases.
+fn check_cases(rt: &HostRuntime, names: &[&str]) -> Result<()> {
     let [runs, calls, flm, plans, rows @ ..] = names else {
         bail!("RUNS CALLS FLM PLANS ROWS.. are wanted");
     };
@@ -54,6 +59,14 @@ fn check_all(rt: &HostRuntime, names: &[&str]) -> Result<()> {
         check_file(rt, Kind::Rows, name)?;
     }
     Ok(())
+}
+
+/// Goes through all files, the eleven of instructions first.
+fn check_all(rt: &HostRuntime, names: &[&str]) -> Result<()> {
+    ensure!(names.len() >= 11, "the files of instructions are wanted");
+    instructions::check_all(rt, &names[..11])?;
+    forged::put_all(rt)?;
+    check_cases(rt, &names[11..])
 }
 
 /// Does what the words say.

@@ -1,6 +1,5 @@
 //! What is found, in words.
 
-use crate::lines::put_line;
 use anyhow::Result;
 use target_core::{FaultKind, RunEnd};
 
@@ -38,12 +37,4 @@ fn put_fault(rt: &HostRuntime, kind: FaultKind, pc: u32) -> Result<()> {
 fn put_access(rt: &HostRuntime, text: &str, pc: u32, at: u32) -> Result<()> {
     put_number(rt, text, pc)?;
     put_number(rt, " address ", at)
-}
-
-/// A line of cells.
-pub fn put_cells(rt: &HostRuntime, cells: &[u8]) -> Result<()> {
-    for cell in cells {
-        print!(rt; "{cell:02X}")?;
-    }
-    put_line(rt, "")
 }

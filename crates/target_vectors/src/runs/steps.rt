@@ -1,10 +1,10 @@
 //! The steps of the cases.
 
-use crate::lines::{put_line, words};
+use crate::lines::{put_bytes, put_line, words};
 use crate::runs::left::Left;
 use crate::runs::measured::measure;
 use crate::runs::pair::Pair;
-use crate::runs::put::{put_cells, put_end};
+use crate::runs::put::put_end;
 use crate::runs::trial::{BOARD, FPEC_BOARD, Trial, alone, frame};
 use anyhow::{Context, Result, bail, ensure};
 use board_file::read_board;
@@ -142,7 +142,7 @@ fn go(rt: &HostRuntime, trial: &mut Trial, words: &[&str]) -> Result<()> {
         "run" => run(rt, trial, rest),
         "slices" => slices(rt, trial, rest),
         "turns" => turns(rt, rest),
-        "cells" if rest.is_empty() => put_cells(rt, trial.cells()),
+        "cells" if rest.is_empty() => put_bytes(rt, trial.cells()),
         "measure" => measure(rt, rest),
         _ => bail!("no step"),
     }

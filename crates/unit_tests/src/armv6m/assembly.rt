@@ -1,4 +1,4 @@
-//! Whole texts: their code, their labels, and why they are refused. More of them are compared by `armv6m_vectors`.
+//! Whole texts: their code, their labels, and why they are refused. More of them are compared by `target_vectors`.
 
 mod back;
 mod texts;

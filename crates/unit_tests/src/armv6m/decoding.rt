@@ -1,4 +1,4 @@
-//! A few rows in plain sight. The table's rows, and what binutils says of an instruction of each, are compared by `armv6m_vectors`.
+//! A few rows in plain sight. The table's rows, and what binutils says of an instruction of each, are compared by `target_vectors`.
 
 use crate::expect::expect_same;
 use armv6m_decode::registers::{LR, PRIMASK};

@@ -1,4 +1,4 @@
-//! Forms there and back, and a case of each rule. Statements that other tools write are compared by `armv6m_vectors`.
+//! Forms there and back, and a case of each rule. Statements that other tools write are compared by `target_vectors`.
 
 use crate::expect::{expect, expect_same};
 use armv6m_decode::registers::{LR, SP};

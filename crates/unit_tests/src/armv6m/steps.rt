@@ -1,5 +1,5 @@
 //! Tests of single instructions. What QEMU leaves after one of each row, each condition, each end and compiled code are compared by
-//! `armv6m_vectors`.
+//! `target_vectors`.
 
 mod ends;
 mod worked;

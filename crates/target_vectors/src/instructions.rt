@@ -12,18 +12,18 @@ mod steps;
 mod sums;
 mod table;
 
+use crate::lines::put_line;
 use anyhow::{Context, Result};
 use rows::Kind;
 use std::fs;
 
 /// The name of a file that the command line gives.
-fn name(names: &[String], index: usize) -> Result<&str> {
-    let name = names.get(index).context("a file is missing")?;
-    Ok(name.as_str())
+fn name<'a>(names: &[&'a str], index: usize) -> Result<&'a str> {
+    Ok(*names.get(index).context("a file is missing")?)
 }
 
 /// The text of such a file.
-fn text(rt: &HostRuntime, names: &[String], index: usize) -> Result<String> {
+fn text(rt: &HostRuntime, names: &[&str], index: usize) -> Result<String> {
     Ok(fs::read_to_string(rt, name(names, index)?)?)
 }
 
@@ -34,7 +34,7 @@ fn put(rt: &HostRuntime, count: usize, what: &str) -> Result<()> {
 }
 
 /// Compares the table.
-fn check_table(rt: &HostRuntime, names: &[String]) -> Result<()> {
+fn check_table(rt: &HostRuntime, names: &[&str]) -> Result<()> {
     let text = text(rt, names, 0)?;
     let rows = table::check(text.as_str(), rt.alloc())?;
     put(rt, rows, "rows of the table")
@@ -43,7 +43,7 @@ fn check_table(rt: &HostRuntime, names: &[String]) -> Result<()> {
 /// Compares the rows of a file.
 fn check_rows(
     rt: &HostRuntime,
-    names: &[String],
+    names: &[&str],
     index: usize,
     kind: Kind,
     what: &str,
@@ -61,18 +61,17 @@ fn check_code(rt: &HostRuntime, text: &str, name: &str) -> Result<()> {
 }
 
 /// Compares a whole text with the code that binutils make of it.
-fn check_whole(rt: &HostRuntime, names: &[String]) -> Result<()> {
+fn check_whole(rt: &HostRuntime, names: &[&str]) -> Result<()> {
     let code = name(names, 4)?;
     let text = text(rt, names, 3)?;
     check_code(rt, text.as_str(), code)
 }
 
 /// Runs compiled code.
-fn check_compiled(rt: &HostRuntime, names: &[String]) -> Result<()> {
+fn check_compiled(rt: &HostRuntime, names: &[&str]) -> Result<()> {
     let code = fs::read(rt, name(names, 9)?)?;
     compiled::check(&code, rt.alloc())?;
-    println!(rt; "compiled code")?;
-    Ok(())
+    put_line(rt, "compiled code")
 }
 
 /// Steps, each file with its place among the names, and with what its rows are.
@@ -84,7 +83,7 @@ const STEPS: [(usize, Kind, &str); 4] = [
 ];
 
 /// Compares the steps.
-fn check_steps(rt: &HostRuntime, names: &[String]) -> Result<()> {
+fn check_steps(rt: &HostRuntime, names: &[&str]) -> Result<()> {
     for (index, kind, what) in STEPS {
         check_rows(rt, names, index, kind, what)?;
     }
@@ -92,7 +91,7 @@ fn check_steps(rt: &HostRuntime, names: &[String]) -> Result<()> {
 }
 
 /// Makes all comparisons with these files.
-pub fn check_all(rt: &HostRuntime, names: &[String]) -> Result<()> {
+pub fn check_all(rt: &HostRuntime, names: &[&str]) -> Result<()> {
     check_table(rt, names)?;
     check_rows(
         rt,

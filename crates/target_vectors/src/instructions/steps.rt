@@ -1,6 +1,7 @@
 //! One step against what QEMU leaves, and against what was worked out by hand.
 
 use crate::instructions::row::half;
+use crate::lines::numbers;
 use anyhow::{Result, bail};
 use armv6m_decode::registers::{LR, PC, SP};
 use armv6m_step::{Core, MemoryBus, StepEnd, step};
@@ -65,15 +66,6 @@ pub fn stepped(
     Ok((end, core))
 }
 
-/// The numbers of the first seven words.
-fn numbers(words: &[&str]) -> Result<[u32; 7]> {
-    let mut numbers = [0; 7];
-    for (found, word) in numbers.iter_mut().zip(words) {
-        *found = number(word)?;
-    }
-    Ok(numbers)
-}
-
 /// Sets the flags that a word names, and clears the others.
 fn set_flags(core: &mut Core, flags: &str) {
     core.n = flags.contains('N');
@@ -88,7 +80,7 @@ fn core_of(words: &[&str], pc: u32) -> Result<Core> {
     let [_, _, _, _, _, _, _, flags] = words else {
         bail!("not eight words");
     };
-    let [r0, r1, r2, r3, r8, sp, lr] = numbers(words)?;
+    let [r0, r1, r2, r3, r8, sp, lr] = numbers::<7>(words)?;
     let mut core = core_at(pc);
     core.regs[0] = r0;
     core.regs[1] = r1;

@@ -3,14 +3,13 @@
 //! on five boards, whether they are A1 on a board that A1 serves.
 
 mod data;
-mod files;
 mod put;
 mod serves;
 
+use crate::files::board;
 use anyhow::Result;
 use board_file::Board;
 use data::with_data;
-use files::board;
 use flm_forge::{Kind, listing, listing_at};
 use put::put;
 use std::fs;

@@ -1,7 +1,7 @@
 //! Asks of forged algorithms whether they are A1 on a board that A1 serves. Each line has the board, the algorithm, the bytes of a page and
 //! the answer. The last line says whether the text of A1 makes `A1_CODE`.
 
-use crate::forged::files::board;
+use crate::files::board;
 use anyhow::Result;
 use armv6m_asm::assemble;
 use board_file::Board;

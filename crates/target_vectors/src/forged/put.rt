@@ -1,5 +1,6 @@
 //! What is printed of a listing.
 
+use crate::lines::{put_bytes, put_line};
 use anyhow::Result;
 use flm_descriptor::{Algorithm, read_flm};
 use flm_forge::{Listing, forge};
@@ -11,7 +12,7 @@ const LINE_LEN: usize = 32;
 
 /// Makes the file of a listing, and puts what it says and its bytes.
 pub fn put(rt: &HostRuntime, name: &str, listing: &Listing) -> Result<()> {
-    println!(rt; "{name}")?;
+    put_line(rt, name)?;
     let file = forge(rt.alloc(), listing)?;
     put_file(rt, file.bytes())
 }
@@ -45,16 +46,7 @@ fn put_utf8(rt: &HostRuntime, bytes: &[u8]) -> Result<()> {
 /// Puts the bytes of a file, line by line.
 fn put_lines(rt: &HostRuntime, file: &[u8]) -> Result<()> {
     for line in file.chunks(LINE_LEN) {
-        put_line(rt, line)?;
+        put_bytes(rt, line)?;
     }
-    Ok(())
-}
-
-/// Puts bytes, each by its two hexadecimal digits, and the line's end.
-fn put_line(rt: &HostRuntime, bytes: &[u8]) -> Result<()> {
-    for byte in bytes {
-        print!(rt; "{byte:02X}")?;
-    }
-    println!(rt)?;
     Ok(())
 }
