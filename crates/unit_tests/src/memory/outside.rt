@@ -40,8 +40,8 @@ fn lengths_in_memory(alloc: Global) -> Result<[Option<usize>; 4], OutOfMemory> {
 
 /// Adds both files, and takes four.
 fn lengths_of(inputs: &mut MemoryInputs, alloc: Global) -> Result<[Option<usize>; 4], OutOfMemory> {
-    add_image(inputs, alloc, b"ab")?;
-    add_image(inputs, alloc, b"abc")?;
+    add(alloc, inputs, "image", b"ab")?;
+    add(alloc, inputs, "image", b"abc")?;
     Ok([
         length_under(inputs, alloc, "image")?,
         length_under(inputs, alloc, "other")?,
@@ -51,8 +51,13 @@ fn lengths_of(inputs: &mut MemoryInputs, alloc: Global) -> Result<[Option<usize>
 }
 
 /// Adds a file.
-fn add_image(inputs: &mut MemoryInputs, alloc: Global, bytes: &[u8]) -> Result<(), OutOfMemory> {
-    let name = Word::copy(alloc, "image")?;
+pub fn add(
+    alloc: Global,
+    inputs: &mut MemoryInputs,
+    name: &str,
+    bytes: &[u8],
+) -> Result<(), OutOfMemory> {
+    let name = Word::copy(alloc, name)?;
     inputs.add(alloc, &name, bytes)
 }
 

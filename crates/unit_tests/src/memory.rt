@@ -6,3 +6,5 @@ mod counts;
 mod outside;
 mod streams;
 mod windows;
+
+pub use outside::add;
