@@ -3,8 +3,6 @@
 
 A library is used where a .rt file of src/ names it in code or in a contract (`NAME::`, `use NAME`, `Rattle.NAME.`), or an
 .antt file of specs/ or proofs/ names its statements (`Rattle.NAME.`). Comments and texts don't count. Ends with 1 where it found one.
-
-The last line adds up, for all libraries, the paths from each of them down to what it stands on: along each `rt` reads all sources, twice.
 """
 import os
 import re
@@ -41,14 +39,6 @@ def is_used(text, library):
     return re.search(rf"\bRattle\.{library}\b|(?<![\w:]){library}\s*::|\buse\s+{library}\b", text) is not None
 
 
-def paths_down(libraries, crates, known):
-    """Returns how many paths lead down from these crates, each with itself."""
-    for it in libraries:
-        if it not in known:
-            known[it] = 1 + paths_down([below for below in crates[it] if below in crates], crates, known)
-    return sum(known[it] for it in libraries)
-
-
 def main():
     root = sys.argv[1] if len(sys.argv) > 1 else os.path.dirname(os.path.dirname(os.path.abspath(__file__)))
     count, crates = 0, crates_of(root)
@@ -58,8 +48,7 @@ def main():
         count += len(unused)
         if unused:
             print(f"{crate}: {' '.join(unused)}")
-    made = [it for it in crates if os.path.isfile(f"{root}/crates/{it}/src/lib.rt")]
-    print(f"{count} unused; {paths_down(made, crates, {}):,} paths")
+    print(f"{count} unused")
     return 1 if count else 0
 
 
