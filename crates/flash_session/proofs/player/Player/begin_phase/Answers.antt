@@ -1,7 +1,8 @@
--- `Player::begin_phase`: its clauses `turns`, `host` and `one`, and what `load` asks for.
+-- `Player::begin_phase`: its clauses `turns`, `host` and `one`, and what `turn_to` and `load` ask for.
 use Rattle.std.proofs.Common.{refl, ap, arith}
 use Rattle.std.proofs.lemmas.Grind.{common_steps}
 use Rattle.flash_session.specs.declared.player.Player.{Player}
+use Rattle.flash_session.proofs.MachineLemmas.{twins_kept}
 use Rattle.flash_session.proofs.TakesLemmas.{begins_so, breaks_so}
 use Rattle.flash_session.proofs.TurnMade.{begin_turn, reset_broken}
 use Rattle.flash_session.proofs.player.Player.begin_phase.Goals as goal
@@ -40,3 +41,7 @@ returns-in-Err-clause-one g c = breaks_so c.args.cursor c.args.region c.args.pha
 
 pub load-requires : goal.load-requires
 load-requires g c = grind (arith, common_steps)
+
+pub turn_to-requires-clause-twins : goal.turn_to-requires-clause-twins
+turn_to-requires-clause-twins g c =
+    twins_kept c.args.self.now c.reset.new.self c.reset.ensures.setup c.reset.ensures.map c.requires.fit.scripted.twins
