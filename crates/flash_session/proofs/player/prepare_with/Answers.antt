@@ -1,4 +1,4 @@
--- `prepare_with`: its clauses `long` and `reads`, and what `prepare` asks for.
+-- `prepare_with`: its clause `long`, and what `prepare` asks for.
 use Rattle.std.proofs.Common.{arith}
 use Rattle.std.proofs.lemmas.Grind.{common_steps}
 use Rattle.flash_session.proofs.player.prepare_with.Goals as goal
@@ -8,6 +8,3 @@ returns-in-Ok-clause-long g c = grind (arith, common_steps)
 
 pub prepare-requires-clause-may : goal.prepare-requires-clause-may
 prepare-requires-clause-may g c = grind (arith, common_steps)
-
-pub returns-in-Ok-clause-reads : goal.returns-in-Ok-clause-reads
-returns-in-Ok-clause-reads g c = c.read_bytes.ensures.reads

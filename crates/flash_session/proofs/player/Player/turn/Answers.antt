@@ -20,3 +20,12 @@ returns-then-is_closing-clause-one g c = grind (arith, common_steps)
 
 pub play-requires-clause-playing : goal.play-requires-clause-playing
 play-requires-clause-playing g c = grind (arith, common_steps)
+
+pub returns-else-is_closing-clause-turns : goal.returns-else-is_closing-clause-turns
+returns-else-is_closing-clause-turns g c = c.play.ensures.turns
+
+pub returns-else-is_closing-clause-one : goal.returns-else-is_closing-clause-one
+returns-else-is_closing-clause-one g c = c.play.ensures.one
+
+pub returns-else-is_closing-clause-slice : goal.returns-else-is_closing-clause-slice
+returns-else-is_closing-clause-slice g c = c.play.ensures.slice
