@@ -1,0 +1,5 @@
+-- `at_sp`: that it keeps its contract.
+use Rattle.armv6m_step.proofs.quick.at_sp.Goals as goal
+
+pub returns : goal.returns
+returns c = cc
