@@ -11,3 +11,6 @@ returns-in-Err-clause-err g c = grind (arith, common_steps)
 
 pub returns-in-Err-clause-others : goal.returns-in-Err-clause-others
 returns-in-Err-clause-others g c = grind (arith, common_steps)
+
+pub returns-in-Ok-clause-bytes : goal.returns-in-Ok-clause-bytes
+returns-in-Ok-clause-bytes g c = grind (arith, common_steps)
