@@ -1,5 +1,6 @@
 -- `at_sp`: that it keeps its contract.
+use Rattle.std.proofs.Common.{arith}
 use Rattle.armv6m_step.proofs.quick.at_sp.Goals as goal
 
 pub returns : goal.returns
-returns c = cc
+returns c = grind arith
