@@ -5,3 +5,6 @@ use Rattle.job_text.proofs.damage.differing_hashes.Goals as goal
 
 pub returns-then-body-lt-HEAD_LEN : goal.returns-then-body-lt-HEAD_LEN
 returns-then-body-lt-HEAD_LEN c = grind (arith, common_steps)
+
+pub returns-else-are_same : goal.returns-else-are_same
+returns-else-are_same c = grind (arith, common_steps)
