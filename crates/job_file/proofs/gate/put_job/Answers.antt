@@ -1,6 +1,7 @@
--- `put_job`: its clauses `moments`, `unopened`, `store`, `device` and `cells`.
-use Rattle.std.proofs.Common.{◌∙◌, ◌++◌, ◌∷◌, ap, inl, inr, List, ℕ, arith, refl}
+-- `put_job`: its clauses `ok`, `moments`, `unopened`, `store`, `device` and `cells`.
+use Rattle.std.proofs.Common.{◌≡◌, ◌∙◌, ◌++◌, ◌∷◌, ap, subst, drop, inl, inr, List, ℕ, arith, refl}
 use Rattle.std.proofs.lemmas.Result.{err_from_is_err_and}
+use Rattle.bench_model.specs.History.{LeftOnly}
 use Rattle.bench_model.specs.State.{file_half}
 use Rattle.bench_model.proofs.Moments.{leaves_as, leaves_then, leaves_step, leaves_then_nothing}
 use Rattle.job_text.specs.Files.{IsFree}
@@ -67,3 +68,14 @@ pub returns-clause-cells : goal.returns-clause-cells
 returns-clause-cells g c = let tells = g.B.Bench.tells in
     cells_read_then (cells_read_then (cells_read_then (cells_read_stay tells _ _ c.shut.ensures.cells) c.put_hashed.ensures.cells)
     (cells_read_stay tells _ _ c.file_sync.ensures.does.cells)) (cells_read_stay tells _ _ c.write_synced.ensures.cells)
+
+pub returns-clause-ok : goal.returns-clause-ok
+returns-clause-ok g c = λ told.
+    let s = g.B.Bench.state c.args.bench.now in
+    let d = g.B.Bench.state c.write_synced.new.bench in
+    let front = front_of c.args.parts.now in
+    let written = c.in_ok-write_synced.ensures.ok told in
+    let is = c.in_ok-file_sync.ensures.does.file told ∙ c.in_ok-put_hashed.ensures.ok told
+    ∙ ap (λ (l : List ℕ). 0 ∷ with_hash (front ++ l)) c.in_ok-shut.ensures.cells.cells in
+    let file : d.file ≡ 165 ∷ with_hash (front ++ s.cells) = written.0 ∙ ap (λ (f : List ℕ). 165 ∷ drop 1 f) is in
+    (file, subst (λ (f : List ℕ). LeftOnly f (file_half d)) file written.1)

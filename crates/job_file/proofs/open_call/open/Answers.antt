@@ -20,3 +20,6 @@ returns-clause-sound g c = grind (arith, common_steps)
 
 pub returns-clause-ok : goal.returns-clause-ok
 returns-clause-ok g c = grind (arith, common_steps)
+
+pub returns-clause-first : goal.returns-clause-first
+returns-clause-first g c = c.look.ensures.first

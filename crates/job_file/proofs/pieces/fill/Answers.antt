@@ -28,6 +28,11 @@ loop-at-preserved g c =
       faults = does.cause.on_ok refl ∙ so_far.faults;
     }
 
+pub returns-in_err-file_read-clause-reads : goal.returns-in_err-file_read-clause-reads
+returns-in_err-file_read-clause-reads g c =
+    let does = c.in_err-file_read.ensures.does in
+    only_reads_then c.loop-at.invariant.reads (record { file = does.file; moments = does.moments; cells = does.cells })
+
 pub returns-clause-cause : goal.returns-clause-cause
 returns-clause-cause g c = grind (arith, common_steps)
 
