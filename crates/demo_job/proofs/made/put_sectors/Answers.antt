@@ -1,5 +1,6 @@
--- `put_sectors`: that its loop keeps what it has to.
-use Rattle.std.proofs.Common.{sym}
+-- `put_sectors`: its clause `state`, and that its loop keeps what it has to.
+use Rattle.std.proofs.Common.{◌≡◌, ℕ, sym, subst, arith}
+use Rattle.demo_job.specs.Made.{after_sectors}
 use Rattle.demo_job.proofs.MadeLemmas.{begin_sectors, more_sectors, more_after, not_after_sectors}
 use Rattle.demo_job.proofs.made.put_sectors.Goals as goal
 
@@ -14,3 +15,7 @@ loop-sector-preserved c = record {
   state = more_after c.loop-sector._sector c.args.draws.now.state c.loop-sector.draws.state c.put_sector.new.draws.state c.loop-sector.invariant.state
       c.in_ok-put_sector.ensures.state;
 }
+
+pub returns-clause-state : goal.returns-clause-state
+returns-clause-state c =
+    subst (λ (n : ℕ). c.loop-sector.draws.state ≡ after_sectors n c.args.draws.now.state) (omega arith) c.loop-sector.invariant.state

@@ -1,5 +1,6 @@
--- `Draws::put`: that its loop keeps what it has to.
-use Rattle.std.proofs.Common.{sym}
+-- `Draws::put`: that it keeps its contract, and that its loop keeps what it has to.
+use Rattle.std.proofs.Common.{◌≡◌, ◌++◌, ℕ, sym, subst, arith}
+use Rattle.demo_job.specs.Generator.{draws, after}
 use Rattle.demo_job.proofs.GeneratorLemmas.{begin_bytes, more_bytes, more_state, not_after}
 use Rattle.demo_job.proofs.draws.Draws.put.Goals as goal
 
@@ -13,3 +14,10 @@ loop-draw-preserved c = record {
       c.loop-draw.invariant.state c.loop-draw.invariant.bytes c.draw.ensures.byte c.in_ok-push.ensures.items;
   state = more_state c.loop-draw._draw c.args.self.now.state c.loop-draw.self.state c.draw.new.self.state c.loop-draw.invariant.state c.draw.ensures.state;
 }
+
+pub returns-clause-bytes : goal.returns-clause-bytes
+returns-clause-bytes c =
+    subst (λ (n : ℕ). c.loop-draw.out.items ≡ c.args.out.now.items ++ draws n c.args.self.now.state) (omega arith) c.loop-draw.invariant.bytes
+
+pub returns-clause-state : goal.returns-clause-state
+returns-clause-state c = subst (λ (n : ℕ). c.loop-draw.self.state ≡ after n c.args.self.now.state) (omega arith) c.loop-draw.invariant.state
