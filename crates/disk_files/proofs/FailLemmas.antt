@@ -1,5 +1,5 @@
 -- When several calls of the files fail. Loops over calls count their faults by them.
-use Rattle.std.proofs.Common.{◌≡◌, ◌≤◌, ◌+◌, ◌∙◌, ap, inl, inr, ⊎_elim, sym, subst, refl, ℕ, Bool, IsTrue, arith, Result, Ok, Err, IsOk, IsErr}
+use Rattle.std.proofs.Common.{◌≡◌, ◌≤◌, ◌<◌, ◌+◌, ◌∙◌, ap, inl, inr, ⊎_elim, sym, subst, refl, ℕ, Bool, IsTrue, arith, Result, Ok, Err, IsOk, IsErr}
 use Rattle.std.proofs.lemmas.Bool.{false≢true}
 use Rattle.faults.specs.Counts.{Rose}
 use Rattle.disk_files.specs.DiskState.{DiskState}
@@ -80,6 +80,18 @@ fails_at_last {a = a} {b = b} {c = c} told so_far call for_good answer failed = 
   on_fault = λ fault. inl (rose_from a.errors b.errors c.errors (so_far.errors told) (call.failed for_good));
   on_ok = λ went. absurd (not_both answer failed went);
 }
+
+-- calls of which the last moved nothing, and the answer made of that
+pub fails_at_none : {T E : Type 0} {tells : Bool} {a b c : DiskState} {stops wanted : ℕ} → IsTrue tells → GoesSo tells a b stops
+    → (moved : Result ℕ Error) (n : ℕ) → moved ≡ Ok n → n ≡ 0 → CallMoves b c wanted moved → 0 < wanted → (answer : Result T E) → IsErr answer
+    → Fails a c answer
+fails_at_none {a = a} {b = b} {c = c} {wanted = wanted} told so_far moved n is none call wants answer failed =
+    let went : CallMoves b c wanted (Ok n) = subst (λ (r : Result ℕ Error). CallMoves b c wanted r) is call in
+    record {
+      later = omega (arith, so_far.errors told, call.later);
+      on_fault = λ fault. inl (rose_from a.errors b.errors c.errors (so_far.errors told) (went.nothing none wants));
+      on_ok = λ ok. absurd (not_both answer failed ok);
+    }
 
 -- a call told in other words
 pub moves_from : {a b c : DiskState} {n m : ℕ} {result : Result ℕ Error} → a ≡ b → n ≡ m → CallMoves a c n result → CallMoves b c m result

@@ -11,3 +11,12 @@ returns-clause-fails g c = grind (arith, common_steps)
 
 pub returns-then-cells-clause-fails : goal.returns-then-cells-clause-fails
 returns-then-cells-clause-fails g c = grind (arith, common_steps)
+
+pub returns-clause-ok : goal.returns-clause-ok
+returns-clause-ok g c = grind (arith, common_steps)
+
+pub returns-clause-pending : goal.returns-clause-pending
+returns-clause-pending g c = grind (arith, common_steps)
+
+pub returns-clause-safe : goal.returns-clause-safe
+returns-clause-safe g c = grind (arith, common_steps)

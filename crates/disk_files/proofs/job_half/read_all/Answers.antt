@@ -4,7 +4,7 @@ use Rattle.std.proofs.Common.{rules, ap, arith, length, length-drop, ◌-◌, �
 use Rattle.std.proofs.lemmas.List.{take_rest}
 use Rattle.std.specs.IoError.{error_kind}
 use Rattle.std.specs.declared.io.ErrorKind.TheVariants.{Interrupted}
-use Rattle.disk_files.proofs.FailLemmas.{goes_ok, goes_stopped, keeps_then, fails_at_last}
+use Rattle.disk_files.proofs.FailLemmas.{goes_ok, goes_stopped, keeps_then, fails_at_last, fails_at_none}
 use Rattle.disk_files.proofs.ReadLemmas.{read_more, read_no_more, only_reads_then}
 use denote.Enum.Bare.{same_true, same_false}
 use Rattle.std.specs.contracts.io.ErrorKind.{the_type}
@@ -48,7 +48,13 @@ pub loop-done-init : goal.loop-done-init
 loop-done-init g c = grind (arith, common_steps)
 
 pub returns-in-Ok-eq0-clause-fails : goal.returns-in-Ok-eq0-clause-fails
-returns-in-Ok-eq0-clause-fails g c = grind (arith, common_steps)
+returns-in-Ok-eq0-clause-fails g c = λ told fits.
+    let rest = ap length (take_rest c.loop-done.out c.loop-done.done) ∙ length-drop c.loop-done.done c.loop-done.out in
+    fails_at_none told c.loop-done.invariant.4 c.job_read_at.result c.in-Ok-eq0.field-0 c.in-Ok-eq0.is c.in-Ok-eq0.field-0-test (c.job_read_at.ensures.fails told)
+    (omega (arith, rest, c.loop-done-test.true)) _ refl
+
+pub returns-in-Ok-eq0-clause-ok : goal.returns-in-Ok-eq0-clause-ok
+returns-in-Ok-eq0-clause-ok g c = λ told. tt
 
 pub returns-clause-fails : goal.returns-clause-fails
 returns-clause-fails g c = grind (arith, common_steps)

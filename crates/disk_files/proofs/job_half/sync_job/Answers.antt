@@ -11,3 +11,6 @@ returns-clause-fails g c = grind (arith, common_steps)
 
 pub returns-clause-does : goal.returns-clause-does
 returns-clause-does g c = grind (arith, common_steps)
+
+pub returns-clause-ok : goal.returns-clause-ok
+returns-clause-ok g c = grind (arith, common_steps)

@@ -1,10 +1,10 @@
 -- `write_all`: that it keeps its contract.
 use Rattle.std.proofs.lemmas.Grind.{common_steps}
-use Rattle.std.proofs.Common.{rules, ◌≡◌, ◌<◌, arith, Err, refl, ◌∙◌, sym}
+use Rattle.std.proofs.Common.{rules, ◌≡◌, ◌<◌, arith, Err, refl, ◌∙◌, sym, ap, length, length-drop}
 use Rattle.std.proofs.lemmas.List.{take_rest}
 use Rattle.std.specs.IoError.{error_kind}
 use Rattle.std.specs.declared.io.ErrorKind.TheVariants.{Interrupted}
-use Rattle.disk_files.proofs.FailLemmas.{goes_ok, goes_stopped, keeps_then, fails_at_last, goes_here}
+use Rattle.disk_files.proofs.FailLemmas.{goes_ok, goes_stopped, keeps_then, fails_at_last, fails_at_none, goes_here}
 use Rattle.disk_files.proofs.WriteLemmas.{written_more, written_no_more, cells_as_were_then, written_none}
 use denote.Enum.Bare.{same_true, same_false}
 use Rattle.std.specs.contracts.io.ErrorKind.{the_type}
@@ -72,7 +72,13 @@ pub job_write_at-requires-clause-at : goal.job_write_at-requires-clause-at
 job_write_at-requires-clause-at g c = grind (arith, common_steps)
 
 pub returns-in-Ok-eq0-clause-fails : goal.returns-in-Ok-eq0-clause-fails
-returns-in-Ok-eq0-clause-fails g c = grind (arith, common_steps)
+returns-in-Ok-eq0-clause-fails g c = λ told fits.
+    let rest = ap length (take_rest c.args.bytes.now c.loop-done.done) ∙ length-drop c.loop-done.done c.args.bytes.now in
+    fails_at_none told c.loop-done.invariant.5 c.job_write_at.result c.in-Ok-eq0.field-0 c.in-Ok-eq0.is c.in-Ok-eq0.field-0-test (c.job_write_at.ensures.fails told)
+    (omega (arith, rest, c.loop-done-test.true)) _ refl
+
+pub returns-in-Ok-eq0-clause-ok : goal.returns-in-Ok-eq0-clause-ok
+returns-in-Ok-eq0-clause-ok g c = λ told. tt
 
 pub returns-clause-fails : goal.returns-clause-fails
 returns-clause-fails g c = grind (arith, common_steps)
