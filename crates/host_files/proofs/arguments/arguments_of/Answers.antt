@@ -11,3 +11,6 @@ returns-in-Err-clause-faulty c = grind (arith, common_steps)
 
 pub returns-in-Err-clause-taken : goal.returns-in-Err-clause-taken
 returns-in-Err-clause-taken c = grind (arith, common_steps)
+
+pub returns-in-Err-2-clause-failed : goal.returns-in-Err-2-clause-failed
+returns-in-Err-2-clause-failed c = grind (arith, common_steps)
