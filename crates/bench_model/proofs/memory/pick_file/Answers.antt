@@ -8,3 +8,6 @@ returns-in-AsOld-clause-bytes c = grind (arith, common_steps)
 
 pub returns-in-Filled-clause-bytes : goal.returns-in-Filled-clause-bytes
 returns-in-Filled-clause-bytes c = grind (arith, common_steps)
+
+pub returns-in-AsOld-clause-items : goal.returns-in-AsOld-clause-items
+returns-in-AsOld-clause-items c = grind (arith, common_steps)
