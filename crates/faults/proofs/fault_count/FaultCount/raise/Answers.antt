@@ -1,0 +1,7 @@
+-- `raise`: that it keeps its contract.
+use Rattle.std.proofs.Common.{arith}
+use Rattle.std.proofs.lemmas.Grind.{common_steps}
+use Rattle.faults.proofs.fault_count.FaultCount.raise.Goals as goal
+
+pub returns-clause-count : goal.returns-clause-count
+returns-clause-count c = grind (arith, common_steps)
