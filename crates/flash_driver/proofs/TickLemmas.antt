@@ -1,8 +1,10 @@
--- Ticks that ask no bench: no operation runs, or it has more than one tick left.
-use Rattle.std.proofs.Common.{◌≡◌, ◌<◌, ◌-◌, ℕ, Bool, true, false, IsTrue, is_some, List, Option, Some, None, refl, ap, sym, ◌∙◌}
+-- Ticks that ask no bench, where no operation runs or it has more than one tick left, and the tick that ends an operation.
+use Rattle.std.proofs.Common.{◌≡◌, ◌<◌, ◌≤◌, ◌-◌, ℕ, Bool, true, false, IsTrue, is_some, List, [], Option, Some, None, refl, ap, sym, ◌∙◌}
 use Rattle.std.proofs.lemmas.Bool.{false≢true}
+use Rattle.bench_model.specs.Calls.{written}
 use Rattle.flash_layout.specs.declared.work.Operation.{Operation}
-use Rattle.flash_layout.proofs.WorkLemmas.{tick_more}
+use Rattle.flash_layout.specs.Work.{work_bytes, tick_at}
+use Rattle.flash_layout.proofs.WorkLemmas.{tick_more, tick_last}
 use Rattle.flash_driver.specs.declared.state.State.{State}
 use Rattle.flash_driver.specs.Calls.{LowersTo}
 use Rattle.flash_driver.specs.Table.{Table, is_running, done, running, tick_on, tick_row}
@@ -30,3 +32,14 @@ pub lower_tick : {R : Type 0} (t : Table R) (s : State R) (cells : List ℕ) (ne
     (record s { operation = next }, cells) ≡ tick_row t s cells
 lower_tick t s cells next true was lowers = lower t s cells next lowers
 lower_tick t s cells next false was lowers = absurd (false≢true was)
+
+-- the tick that ends an operation: the state, and with it the cells
+pub last_tick : {R : Type 0} (t : Table R) (s : State R) (ended : R) (o : Operation) → ended ≡ t.ended s.registers → o.ticks ≤ 1 →
+    (record { registers = ended; operation = None }) ≡ (tick_at (done t s) (running s) [] o o.ticks).0
+last_tick {R} t s ended o end few =
+    cc (tick_last (done t s) (running s) [] o o.ticks few)
+
+pub last_cells : {R : Type 0} (t : Table R) (s : State R) (ended : R) (o : Operation) (cells now : List ℕ) → ended ≡ t.ended s.registers → o.ticks ≤ 1 →
+    now ≡ written o.place (work_bytes o.work) cells → (record { registers = ended; operation = None }, now) ≡ tick_at (done t s) (running s) cells o o.ticks
+last_cells {R} t s ended o cells now end few last =
+    cc (tick_last (done t s) (running s) cells o o.ticks few)
