@@ -9,6 +9,7 @@
 
 mod host;
 mod memory;
+mod print;
 mod readers;
 
 use anyhow::Result;

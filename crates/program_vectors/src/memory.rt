@@ -16,7 +16,6 @@ mod job;
 mod left;
 pub mod lines;
 mod pairs;
-mod print;
 mod run;
 mod sweep;
 pub mod trial;

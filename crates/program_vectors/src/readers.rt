@@ -10,11 +10,12 @@ mod elf;
 mod flm;
 mod hard;
 mod images;
-mod piece;
 mod reader;
 mod sweeps;
 mod tally;
 
+use crate::print::Piece::Text;
+use crate::print::put;
 use anyhow::{Context, Result, bail};
 pub use hard::read as read_hard;
 pub use images::compare;
@@ -61,7 +62,7 @@ fn answer(rt: &HostRuntime, line: &str) -> Result<()> {
     };
     let number = number.parse::<u32>()?;
     let bytes = changed(rt, file, words)?;
-    print!(rt; "{line}: ")?;
+    put(rt, &[Text(line), Text(": ")]);
     if what == "flm" {
         flm::answer(rt, &bytes)
     } else {
@@ -92,7 +93,7 @@ fn answer_changes(rt: &HostRuntime) -> Result<()> {
 fn answer_texts(rt: &HostRuntime) -> Result<()> {
     let texts = fs::read_to_string(rt, "texts.txt")?;
     for text in texts.split("----\n") {
-        board::answer_text(rt, text)?;
+        board::answer_text(rt, text);
     }
     Ok(())
 }

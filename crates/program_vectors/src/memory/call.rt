@@ -1,9 +1,9 @@
 //! A call.
 
 use crate::memory::files::Files;
-use crate::memory::print::Piece::{Number, Text};
-use crate::memory::print::put;
 use crate::memory::trial::{Fails, Trial};
+use crate::print::Piece::{Number, Text};
+use crate::print::put;
 use anyhow::Result;
 use bench_model::{Bench, MemoryBench, Pick, StopBench};
 use octets::Word;
@@ -41,18 +41,8 @@ impl Said {
     pub fn print<'a>(&'a self, rt: &HostRuntime, left: &'a str) {
         let out = str::from_utf8(self.out.bytes()).unwrap_or("no text\n");
         let err = str::from_utf8(self.err.bytes()).unwrap_or("no text\n");
-        let status = Number(u64::from(self.status));
-        put(
-            rt,
-            &[
-                Text(out),
-                Text(err),
-                Text("status "),
-                status,
-                Text(left),
-                Text("\n"),
-            ],
-        );
+        let status = Number("status ", u32::from(self.status));
+        put(rt, &[Text(out), Text(err), status, Text(left), Text("\n")]);
     }
 
     /// Whether another call put the same on standard error, with the same status.

@@ -1,7 +1,7 @@
 //! How often what came.
 
-use crate::memory::print::Piece::{Number, Text};
-use crate::memory::print::put;
+use crate::print::Piece::{Number, Text};
+use crate::print::put;
 
 /// The statuses, in their order, and behind them whatever else is answered.
 pub const STATUSES: [&str; 16] = [
@@ -44,10 +44,7 @@ impl Counts {
     pub fn put(&self, rt: &HostRuntime, names: &[&str]) {
         for (count, name) in self.counts.iter().zip(names.iter()) {
             if *count > 0 {
-                put(
-                    rt,
-                    &[Text(", "), Number(u64::from(*count)), Text(" "), Text(name)],
-                );
+                put(rt, &[Number(", ", *count), Text(" "), Text(name)]);
             }
         }
     }

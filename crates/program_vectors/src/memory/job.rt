@@ -3,9 +3,9 @@
 use crate::memory::call::call_in;
 use crate::memory::files::put_file;
 use crate::memory::lines::first_of;
-use crate::memory::print::Piece::{Number, Text};
-use crate::memory::print::put;
 use crate::memory::trial::{Fails, MOST, Trial};
+use crate::print::Piece::{Number, Text};
+use crate::print::put;
 use anyhow::{Result, ensure};
 use bench_model::MemoryBench;
 use std::alloc::Global;
@@ -57,10 +57,7 @@ fn carry(rt: &HostRuntime, trial: &Trial) -> Result<()> {
     } else {
         "\nother cells\n"
     };
-    put(
-        rt,
-        &[Text("status "), Number(u64::from(status)), Text(cells)],
-    );
+    put(rt, &[Number("status ", u32::from(status)), Text(cells)]);
     Ok(())
 }
 

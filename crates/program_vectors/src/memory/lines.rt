@@ -33,12 +33,12 @@
 use crate::memory::files::lay;
 use crate::memory::job::run_random;
 use crate::memory::left::body_of;
-use crate::memory::print::Piece::Text;
-use crate::memory::print::{put, put_line};
 use crate::memory::run::{keep, run, run_apart, stop};
 use crate::memory::sweep::sweep_by;
 use crate::memory::trial::{MOST, Trial};
 use crate::memory::words::ask_all;
+use crate::print::Piece::Text;
+use crate::print::{put, put_line};
 use anyhow::{Result, bail};
 use bench_model::MemoryBench;
 use row_text::{bytes_of, lines_of};

@@ -3,9 +3,9 @@
 use crate::memory::call::status_of;
 use crate::memory::counts::{Counts, STATUSES};
 use crate::memory::left::{Aims, Left, OTHER, is_open};
-use crate::memory::print::Piece::{Number, Text};
-use crate::memory::print::{put, put_line};
 use crate::memory::trial::{Fails, Trial};
+use crate::print::Piece::{Count, Text};
+use crate::print::{put, put_line};
 use anyhow::{Context, Result, bail, ensure};
 use bench_model::MemoryBench;
 use std::alloc::Global;
@@ -37,7 +37,7 @@ pub fn fail_pairs(
         bring_with(rt.alloc(), trial, aims, line, second, &mut pairs)?;
         count = count.saturating_add(second - 1);
     }
-    put(rt, &[Number(count), Text(" pairs")]);
+    put(rt, &[Count("", count as usize), Text(" pairs")]);
     pairs.called.put(rt, &CALLED);
     pairs.statuses.put(rt, &STATUSES);
     put_line(rt, "");

@@ -2,10 +2,10 @@
 
 use crate::memory::call::{call, stopped};
 use crate::memory::lines::first_of;
-use crate::memory::print::Piece::{Byte, Number, Text};
-use crate::memory::print::{put, put_line};
 use crate::memory::sweep::pick_of;
 use crate::memory::trial::{Trial, copy};
+use crate::print::Piece::{Count, Hex2, Text};
+use crate::print::{put, put_line};
 use anyhow::{Result, bail};
 use bench_model::MemoryBench;
 use std::alloc::Global;
@@ -99,30 +99,23 @@ fn print_bench(rt: &HostRuntime, cells: &[u8], file: &[u8], bench: &MemoryBench)
 
 /// Prints how many cells aren't as the row began, and the first four of them.
 pub fn print_cells(rt: &HostRuntime, before: &[u8], after: &[u8]) {
-    let mut others = 0u64;
+    let mut others = 0usize;
     for (place, (old, new)) in before.iter().zip(after.iter()).enumerate() {
         if old != new {
             if others < 4 {
-                let place = Number(place as u64);
-                let (old, new) = (Byte(*old), Byte(*new));
-                put(
-                    rt,
-                    &[
-                        Text("cell "),
-                        place,
-                        Text(": "),
-                        old,
-                        Text(" is "),
-                        new,
-                        Text("\n"),
-                    ],
-                );
+                let pieces = [
+                    Count("cell ", place),
+                    Hex2(": ", *old),
+                    Hex2(" is ", *new),
+                    Text("\n"),
+                ];
+                put(rt, &pieces);
             }
             others = others.saturating_add(1);
         }
     }
     match others {
         0 => put_line(rt, "the same cells"),
-        _ => put(rt, &[Number(others), Text(" other cells\n")]),
+        _ => put(rt, &[Count("", others), Text(" other cells\n")]),
     }
 }

@@ -5,10 +5,10 @@ use crate::memory::counts::{Counts, STATUSES};
 use crate::memory::left::{Aims, LEFT, Left, OTHER, body_of, brought};
 use crate::memory::lines::first_of;
 use crate::memory::pairs::fail_pairs;
-use crate::memory::print::Piece::{Number, Text};
-use crate::memory::print::{put, put_line};
 use crate::memory::run::print_cells;
 use crate::memory::trial::{Fails, Trial, copy};
+use crate::print::Piece::{Count, Number, Text};
+use crate::print::{put, put_line};
 use anyhow::{Context, Result, bail, ensure};
 use bench_model::{MemoryBench, Pick};
 use std::alloc::Global;
@@ -94,11 +94,7 @@ fn stop_tenths(rt: &HostRuntime, trial: &Trial, aims: &Aims, pick: &str, line: &
 fn fail_each(rt: &HostRuntime, trial: &Trial, aims: &Aims, line: &str) -> Result<()> {
     put(
         rt,
-        &[
-            Text("status "),
-            Number(u64::from(aims.said.status)),
-            Text("\n"),
-        ],
+        &[Number("status ", u32::from(aims.said.status)), Text("\n")],
     );
     print_cells(rt, &trial.cells, aims.bench.cells());
     for (title, object) in OBJECTS.iter() {
@@ -161,7 +157,7 @@ fn print_ends(rt: &HostRuntime, title: &str, number: u64, way: Way<'_>, ends: &E
     };
     put(
         rt,
-        &[Text(title), Text(behind), Number(number), Text(stops)],
+        &[Text(title), Count(behind, number as usize), Text(stops)],
     );
     ends.failed.put(rt, &STATUSES);
     ends.left.put(rt, &LEFT);

@@ -1,8 +1,8 @@
 //! What the words of lines ask for, in text.
 
 use crate::memory::call::words_of;
-use crate::memory::print::Piece::{Address, Number, Text};
-use crate::memory::print::{put, put_line};
+use crate::print::Piece::{Hex8, Number, Text};
+use crate::print::{put, put_line};
 use anyhow::Result;
 use command_words::{CommandLine, FileNames, Request, TextForm};
 use octets::Word;
@@ -40,7 +40,7 @@ fn show(rt: &HostRuntime, request: &Request<'_>) {
         Request::Compare { image } => show_name(rt, " ", image),
         Request::Inspect { flm } => show_name(rt, " ", flm),
         Request::Dump { form: _, board } => show_name(rt, " board ", board),
-        Request::Demo { seed } => put(rt, &[Text(" "), Number(u64::from(*seed))]),
+        Request::Demo { seed } => put(rt, &[Number(" ", *seed)]),
         Request::Resume | Request::Revert | Request::Status => {}
     }
     put_line(rt, "");
@@ -74,7 +74,7 @@ fn show_name<'a>(rt: &HostRuntime, what: &'a str, name: &'a Word) {
 /// Prints the files of a command.
 fn show_files(rt: &HostRuntime, files: &FileNames<'_>) {
     if let Some(at) = files.raw_at {
-        put(rt, &[Text(" raw at "), Address(at)]);
+        put(rt, &[Hex8(" raw at ", at)]);
     }
     show_name(rt, " board ", files.board);
     if let Some(flm) = files.flm {

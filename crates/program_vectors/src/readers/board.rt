@@ -1,13 +1,13 @@
 //! Questions about the texts of boards.
 
-use crate::readers::piece::Piece::{Hex2, Hex8, Number, Text};
-use crate::readers::piece::{put, put_fault};
+use crate::print::Piece::{Hex2, Hex8, Number, Text};
+use crate::print::{put, put_fault};
 use anyhow::{Context, Result};
 use board_file::{Board, ControllerKind, QuietRange, Region, SectorRun, read_board};
 use std::alloc::Global;
 
 /// Prints what a text says: the board's numbers, its regions and quiet ranges, or why it is refused.
-fn put_answer(rt: &HostRuntime, text: &[u8]) -> Result<()> {
+fn put_answer(rt: &HostRuntime, text: &[u8]) {
     match read_board(rt.alloc(), text) {
         Ok(board) => put_board(rt, &board),
         Err(fault) => put_fault(rt, fault),
@@ -15,18 +15,18 @@ fn put_answer(rt: &HostRuntime, text: &[u8]) -> Result<()> {
 }
 
 /// Prints a board, and then the line's end.
-fn put_board(rt: &HostRuntime, board: &Board) -> Result<()> {
-    put_numbers(rt, board)?;
+fn put_board(rt: &HostRuntime, board: &Board) {
+    put_numbers(rt, board);
     for region in board.regions.as_slice() {
-        put_region(rt, region)?;
+        put_region(rt, region);
     }
-    put_kind(rt, board.kind)?;
-    put_quiet(rt, board.quiet.as_slice())?;
-    put(rt, &[Text("\n")])
+    put_kind(rt, board.kind);
+    put_quiet(rt, board.quiet.as_slice());
+    put(rt, &[Text("\n")]);
 }
 
 /// Prints the RAM, the controller, the clock and the weights.
-fn put_numbers(rt: &HostRuntime, board: &Board) -> Result<()> {
+fn put_numbers(rt: &HostRuntime, board: &Board) {
     let pieces = [
         Hex8("ram ", board.ram_base),
         Number(" ", board.ram_size),
@@ -41,43 +41,40 @@ fn put_numbers(rt: &HostRuntime, board: &Board) -> Result<()> {
         Number(" ", board.weights.page),
         Number(" ", board.weights.chip),
     ];
-    put(rt, &pieces)
+    put(rt, &pieces);
 }
 
 /// Prints a region.
-fn put_region(rt: &HostRuntime, region: &Region) -> Result<()> {
+fn put_region(rt: &HostRuntime, region: &Region) {
     let pieces = [
         Hex8(" region ", region.base),
         Number(" ", region.size),
         Hex2(" ", region.empty),
         Number(" ", region.unit),
     ];
-    put(rt, &pieces)?;
-    put_runs(rt, region.sectors.as_slice())
+    put(rt, &pieces);
+    put_runs(rt, region.sectors.as_slice());
 }
 
 /// Prints runs of sectors.
-fn put_runs(rt: &HostRuntime, runs: &[SectorRun]) -> Result<()> {
+fn put_runs(rt: &HostRuntime, runs: &[SectorRun]) {
     for run in runs {
-        put(rt, &[Number(" ", run.count), Number("x", run.size)])?;
+        put(rt, &[Number(" ", run.count), Number("x", run.size)]);
     }
-    Ok(())
 }
 
 /// Prints a kind of controller that isn't FC1.
-fn put_kind(rt: &HostRuntime, kind: ControllerKind) -> Result<()> {
+fn put_kind(rt: &HostRuntime, kind: ControllerKind) {
     if kind == ControllerKind::Fpec {
-        return put(rt, &[Text(" fpec")]);
+        put(rt, &[Text(" fpec")]);
     }
-    Ok(())
 }
 
 /// Prints quiet ranges.
-fn put_quiet(rt: &HostRuntime, ranges: &[QuietRange]) -> Result<()> {
+fn put_quiet(rt: &HostRuntime, ranges: &[QuietRange]) {
     for range in ranges {
-        put(rt, &[Hex8(" quiet ", range.base), Number(" ", range.size)])?;
+        put(rt, &[Hex8(" quiet ", range.base), Number(" ", range.size)]);
     }
-    Ok(())
 }
 
 /// A key's name among those of the region, or among those of the text itself.
@@ -117,9 +114,9 @@ fn changed(alloc: Global, base: &str, key: &str, value: &str) -> Result<String> 
 }
 
 /// Answers a text, behind what it is called.
-fn answer_named<'a>(rt: &HostRuntime, name: &'a str, end: &'a str, text: &str) -> Result<()> {
-    put(rt, &[Text(name), Text(end)])?;
-    put_answer(rt, text.as_bytes())
+fn answer_named<'a>(rt: &HostRuntime, name: &'a str, end: &'a str, text: &str) {
+    put(rt, &[Text(name), Text(end)]);
+    put_answer(rt, text.as_bytes());
 }
 
 /// Answers a board in which one key has another value: `KEY = VALUE`. Where the value is empty, the key is left out. A key of
@@ -127,10 +124,11 @@ fn answer_named<'a>(rt: &HostRuntime, name: &'a str, end: &'a str, text: &str) -
 pub fn answer_change(rt: &HostRuntime, base: &str, change: &str) -> Result<()> {
     let (key, value) = change.split_once(" =").context("KEY = VALUE is wanted")?;
     let text = changed(rt.alloc(), base, key, value)?;
-    answer_named(rt, change, ": ", text.as_str())
+    answer_named(rt, change, ": ", text.as_str());
+    Ok(())
 }
 
 /// Answers a text.
-pub fn answer_text(rt: &HostRuntime, text: &str) -> Result<()> {
-    answer_named(rt, text, "----: ", text)
+pub fn answer_text(rt: &HostRuntime, text: &str) {
+    answer_named(rt, text, "----: ", text);
 }

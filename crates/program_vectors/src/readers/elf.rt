@@ -1,16 +1,17 @@
 //! Questions about ELF files.
 
-use crate::readers::piece::Piece::{Count, Hex2, Hex5, Hex6, Hex8, Number, Text};
-use crate::readers::piece::{put, put_fault};
+use crate::print::Piece::{Count, Hex2, Hex5, Hex6, Hex8, Number, Text};
+use crate::print::{put, put_fault};
 use anyhow::{Result, bail};
 use elf32::{Elf, ElfFault, Section, Segment, Symbol};
 
 /// Prints what a file says: `read`, `section NAME TYPE`, `bytes NAME TYPE`, `symbol NAME` or `segment - INDEX`.
 pub fn answer(rt: &HostRuntime, bytes: &[u8], what: &str, name: &str, number: u32) -> Result<()> {
     match Elf::read(rt.alloc(), bytes) {
-        Ok(elf) => put_answer(rt, &elf, what, name, number),
+        Ok(elf) => put_answer(rt, &elf, what, name, number)?,
         Err(fault) => put_fault(rt, fault),
     }
+    Ok(())
 }
 
 /// Prints what a file says that is read.
@@ -23,20 +24,21 @@ fn put_answer(rt: &HostRuntime, elf: &Elf, what: &str, name: &str, number: u32) 
         "segment" => segment(rt, elf, number as usize),
         _ => bail!("{what}: no question"),
     }
+    Ok(())
 }
 
 /// Prints how many segments there are.
-fn read(rt: &HostRuntime, elf: &Elf) -> Result<()> {
-    put(rt, &[Count("", elf.segments()), Text(" segments\n")])
+fn read(rt: &HostRuntime, elf: &Elf) {
+    put(rt, &[Count("", elf.segments()), Text(" segments\n")]);
 }
 
 /// Prints that there is nothing.
-fn put_none(rt: &HostRuntime) -> Result<()> {
-    put(rt, &[Text("none\n")])
+fn put_none(rt: &HostRuntime) {
+    put(rt, &[Text("none\n")]);
 }
 
 /// Prints the address, the offset and the size of a section.
-fn section(rt: &HostRuntime, elf: &Elf, name: &str, kind: u32) -> Result<()> {
+fn section(rt: &HostRuntime, elf: &Elf, name: &str, kind: u32) {
     match elf.section(name.as_bytes(), kind) {
         Some(found) => put_section(rt, &found),
         None => put_none(rt),
@@ -44,26 +46,26 @@ fn section(rt: &HostRuntime, elf: &Elf, name: &str, kind: u32) -> Result<()> {
 }
 
 /// Prints the fields of a section's header.
-fn put_section(rt: &HostRuntime, found: &Section) -> Result<()> {
+fn put_section(rt: &HostRuntime, found: &Section) {
     let pieces = [
         Hex8("", found.addr),
         Hex6(" ", found.offset),
         Hex6(" ", found.size),
         Text("\n"),
     ];
-    put(rt, &pieces)
+    put(rt, &pieces);
 }
 
 /// Prints bytes in hexadecimal digits.
-fn put_bytes(rt: &HostRuntime, bytes: &[u8]) -> Result<()> {
+fn put_bytes(rt: &HostRuntime, bytes: &[u8]) {
     for byte in bytes {
-        put(rt, &[Hex2("", *byte)])?;
+        put(rt, &[Hex2("", *byte)]);
     }
-    put(rt, &[Count(" ", bytes.len()), Text(" bytes\n")])
+    put(rt, &[Count(" ", bytes.len()), Text(" bytes\n")]);
 }
 
 /// Prints bytes, or why there are none.
-fn put_found(rt: &HostRuntime, answer: Result<&[u8], ElfFault>) -> Result<()> {
+fn put_found(rt: &HostRuntime, answer: Result<&[u8], ElfFault>) {
     match answer {
         Ok(bytes) => put_bytes(rt, bytes),
         Err(fault) => put_fault(rt, fault),
@@ -71,7 +73,7 @@ fn put_found(rt: &HostRuntime, answer: Result<&[u8], ElfFault>) -> Result<()> {
 }
 
 /// Prints the bytes of a section.
-fn section_bytes(rt: &HostRuntime, elf: &Elf, name: &str, kind: u32) -> Result<()> {
+fn section_bytes(rt: &HostRuntime, elf: &Elf, name: &str, kind: u32) {
     match elf.section(name.as_bytes(), kind) {
         Some(found) => put_found(rt, elf.section_bytes(&found)),
         None => put_none(rt),
@@ -79,7 +81,7 @@ fn section_bytes(rt: &HostRuntime, elf: &Elf, name: &str, kind: u32) -> Result<(
 }
 
 /// Prints the value and the size of a symbol.
-fn symbol(rt: &HostRuntime, elf: &Elf, name: &str) -> Result<()> {
+fn symbol(rt: &HostRuntime, elf: &Elf, name: &str) {
     match elf.symbol(name.as_bytes()) {
         Ok(Some(found)) => put_symbol(rt, found),
         Ok(None) => put_none(rt),
@@ -88,22 +90,22 @@ fn symbol(rt: &HostRuntime, elf: &Elf, name: &str) -> Result<()> {
 }
 
 /// Prints the value and the size of a symbol that is found.
-fn put_symbol(rt: &HostRuntime, found: Symbol) -> Result<()> {
+fn put_symbol(rt: &HostRuntime, found: Symbol) {
     let pieces = [Hex8("", found.value), Number(" ", found.size), Text("\n")];
-    put(rt, &pieces)
+    put(rt, &pieces);
 }
 
 /// Prints the fields of a program header, and its bytes in the file.
-fn segment(rt: &HostRuntime, elf: &Elf, index: usize) -> Result<()> {
+fn segment(rt: &HostRuntime, elf: &Elf, index: usize) {
     if index >= elf.segments() {
         return put_none(rt);
     }
-    put_segment(rt, &elf.segment(index))?;
-    put_found(rt, elf.segment_bytes(index))
+    put_segment(rt, &elf.segment(index));
+    put_found(rt, elf.segment_bytes(index));
 }
 
 /// Prints the fields of a program header.
-fn put_segment(rt: &HostRuntime, found: &Segment) -> Result<()> {
+fn put_segment(rt: &HostRuntime, found: &Segment) {
     let pieces = [
         Number("type ", found.kind),
         Hex6(" offset ", found.offset),
@@ -115,5 +117,5 @@ fn put_segment(rt: &HostRuntime, found: &Segment) -> Result<()> {
         Number(" align ", found.align),
         Text(" "),
     ];
-    put(rt, &pieces)
+    put(rt, &pieces);
 }

@@ -2,8 +2,8 @@
 //! `refused` is a table: each of its lines is what it shows, and then a text by itself, where `|` stands for a line feed; the fault of each is
 //! printed.
 
-use crate::readers::piece::Piece::{Count, Hex8, Text};
-use crate::readers::piece::{put, put_fault};
+use crate::print::Piece::{Count, Hex8, Text};
+use crate::print::{put, put_fault};
 use anyhow::{Context, Result, bail};
 use byte_map::ByteMap;
 use image_hex::read_hex;
@@ -32,11 +32,12 @@ fn text_of(alloc: Global, line: &str) -> Result<Vec<u8>> {
 }
 
 /// Prints the fault of a table's text, behind what it shows.
-fn print_fault(rt: &HostRuntime, name: &str, line: &str) -> Result<()> {
+fn print_fault<'a>(rt: &HostRuntime, name: &'a str, line: &'a str) -> Result<()> {
     let (shows, text) = line.split_once("; ").context("what it shows is wanted")?;
-    print!(rt; "{name}: {shows}: ")?;
+    put(rt, &[Text(name), Text(": "), Text(shows), Text(": ")]);
     let text = text_of(rt.alloc(), text)?;
-    print_answer(rt, name, &text)
+    print_answer(rt, name, &text);
+    Ok(())
 }
 
 /// Prints the fault of each text of a table.
@@ -54,7 +55,7 @@ fn runs_of(alloc: Global, name: &str, text: &[u8]) -> Result<usize> {
 }
 
 /// Prints how many runs the image of a text has, or why there is none.
-fn print_answer(rt: &HostRuntime, name: &str, text: &[u8]) -> Result<()> {
+fn print_answer(rt: &HostRuntime, name: &str, text: &[u8]) {
     match runs_of(rt.alloc(), name, text) {
         Ok(runs) => put(rt, &[Count("", runs), Text(" runs\n")]),
         Err(fault) => put_fault(rt, fault),
@@ -77,7 +78,8 @@ fn print_image<'a>(rt: &HostRuntime, name: &'a str, map: &ByteMap, wanted: &[u8]
             ", other\n"
         }),
     ];
-    put(rt, &pieces)
+    put(rt, &pieces);
+    Ok(())
 }
 
 /// Compares an image's text.

@@ -1,5 +1,6 @@
 //! Many inputs made of one file. Their answers are counted.
 
+use crate::print::put_line;
 use crate::readers::reader::Reader;
 use crate::readers::tally::Tally;
 use anyhow::{Context, Result, bail};
@@ -132,7 +133,8 @@ fn try_places(alloc: Global, tally: &mut Tally, sweep: &Sweep, file: &[u8]) -> R
 fn put_sweep(rt: &HostRuntime, sweep: &Sweep, file: &[u8]) -> Result<()> {
     let mut tally = Tally::new(rt.alloc());
     try_places(rt.alloc(), &mut tally, sweep, file)?;
-    tally.put(rt)
+    tally.put(rt);
+    Ok(())
 }
 
 /// Goes through a sweep of the file of that name.
@@ -158,7 +160,7 @@ fn go(rt: &HostRuntime, words: &[&str]) -> Result<()> {
 
 /// Goes through a sweep, after what it shows.
 fn go_line(rt: &HostRuntime, line: &str) -> Result<()> {
-    println!(rt; "{line}")?;
+    put_line(rt, line);
     let (_shows, words) = line.split_once("; ").context("what it shows is wanted")?;
     let words = words
         .split_ascii_whitespace()

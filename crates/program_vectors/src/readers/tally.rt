@@ -1,8 +1,8 @@
 //! Answers that are counted.
 
+use crate::print::Piece::{Count, Hex8, Text};
+use crate::print::put;
 use crate::readers::digest::Digest;
-use crate::readers::piece::Piece::{Hex8, Text};
-use crate::readers::piece::put;
 use anyhow::Result;
 use std::alloc::Global;
 
@@ -10,7 +10,7 @@ use std::alloc::Global;
 #[derive(Drop)]
 struct Kind {
     name: String,
-    count: u64,
+    count: usize,
 }
 
 /// How often each kind of answer came, in the order in which they came first, and the digest of all answers in their order.
@@ -66,10 +66,11 @@ impl Tally {
     }
 
     /// Prints the counts, and the digest.
-    pub fn put(&self, rt: &HostRuntime) -> Result<()> {
+    pub fn put(&self, rt: &HostRuntime) {
         for kind in self.kinds.iter() {
-            println!(rt; "{} {}", kind.name, kind.count)?;
+            let name = Text(kind.name.as_str());
+            put(rt, &[name, Count(" ", kind.count), Text("\n")]);
         }
-        put(rt, &[Hex8("digest ", self.digest.value()), Text("\n")])
+        put(rt, &[Hex8("digest ", self.digest.value()), Text("\n")]);
     }
 }

@@ -6,8 +6,8 @@
 //! file among them, and what would be slow if a body moved more than it must.
 ghost use Rattle.std.specs.Prelude.{◌≤◌, length};
 
-use crate::readers::piece::Piece::{Count, Text};
-use crate::readers::piece::put;
+use crate::print::Piece::{Count, Text};
+use crate::print::put;
 use anyhow::Result;
 use byte_map::ByteMap;
 use image_set::{merge, read_image};
@@ -211,7 +211,7 @@ fn lay(alloc: Global, map: &mut ByteMap, way: Way, plan: &Plan) -> Result<()> {
 }
 
 /// Prints how many runs a map has, and how many bytes the first of them has.
-fn put_map(rt: &HostRuntime, map: &ByteMap) -> Result<()> {
+fn put_map(rt: &HostRuntime, map: &ByteMap) {
     let len = if map.runs() == 0 {
         0
     } else {
@@ -222,14 +222,15 @@ fn put_map(rt: &HostRuntime, map: &ByteMap) -> Result<()> {
         Count(" runs, ", len),
         Text(" bytes in the first\n"),
     ];
-    put(rt, &pieces)
+    put(rt, &pieces);
 }
 
 /// Prints what comes of a plan.
 fn try_plan(rt: &HostRuntime, way: Way, plan: &Plan) -> Result<()> {
     let mut map = ByteMap::new(rt.alloc());
     lay(rt.alloc(), &mut map, way, plan)?;
-    put_map(rt, &map)
+    put_map(rt, &map);
+    Ok(())
 }
 
 /// Prints what comes of records that are apart, in an order.

@@ -1,9 +1,9 @@
 //! Reads an ELF file of 65,279 sections and looks for one by its name, as often as it is told: `program_vectors elf NAMES TIMES`, or
 //! `program_vectors elf colliding TIMES TABLE`. It prints the place of the section in the file's table.
 
+use crate::print::Piece::{Number, Text};
+use crate::print::put;
 use crate::readers::hard::names::{Names, Table};
-use crate::readers::piece::Piece::{Number, Text};
-use crate::readers::piece::put;
 use anyhow::{Result, bail};
 use elf32::{Elf, Section};
 use std::alloc::{AllocError, Global};
@@ -82,7 +82,7 @@ fn look(alloc: Global, file: &[u8], sought: &[u8], times: u32) -> Result<Option<
 }
 
 /// Prints a section's place in the file's table.
-fn put_found(rt: &HostRuntime, found: Option<u32>) -> Result<()> {
+fn put_found(rt: &HostRuntime, found: Option<u32>) {
     match found {
         Some(place) => put(rt, &[Number("section ", place), Text("\n")]),
         None => put(rt, &[Text("no section\n")]),
@@ -94,7 +94,8 @@ fn look_in(rt: &HostRuntime, table: &Table, times: u32) -> Result<()> {
     let mut file = Vec::new(rt.alloc());
     push_file(&mut file, table)?;
     let found = look(rt.alloc(), &file, &table.sought, times)?;
-    put_found(rt, found)
+    put_found(rt, found);
+    Ok(())
 }
 
 /// Does what the words ask for.

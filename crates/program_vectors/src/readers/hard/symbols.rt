@@ -1,9 +1,9 @@
 //! Reads an ELF file of so many symbols, and looks for a symbol that isn't there as often as the reader of FLM files looks for one:
 //! `program_vectors symbols COUNT`. It prints how often it was found.
 
+use crate::print::Piece::{Count, Number, Text};
+use crate::print::put;
 use crate::readers::hard::sections::{HEADER_LEN, SECTION_LEN, push_header, push_words};
-use crate::readers::piece::Piece::{Count, Number, Text};
-use crate::readers::piece::put;
 use anyhow::Result;
 use elf32::{Elf, ElfFault, Section};
 use std::alloc::{AllocError, Global};
@@ -72,7 +72,8 @@ fn put_found(rt: &HostRuntime, file: &[u8]) -> Result<()> {
         Number(" bytes, found ", found),
         Text(" times\n"),
     ];
-    put(rt, &pieces)
+    put(rt, &pieces);
+    Ok(())
 }
 
 /// Looks for a symbol among so many.

@@ -1,6 +1,5 @@
-//! Lines that are printed piece by piece.
+//! Lines that are printed piece by piece. What can't be printed is missed where the output is compared, so no call tells it.
 
-use anyhow::Result;
 use std::fmt::Display;
 
 /// A piece of a line: a text, or one with a number behind it. Numbers in hexadecimal digits have at least as many as the name says.
@@ -18,8 +17,8 @@ pub enum Piece<'a> {
 }
 
 /// Prints a piece.
-fn put_piece(rt: &HostRuntime, piece: &Piece) -> Result<()> {
-    let printed = match piece {
+fn put_piece(rt: &HostRuntime, piece: &Piece) {
+    let _ = match piece {
         Piece::Text(text) => print!(rt; "{text}"),
         Piece::Number(text, number) => print!(rt; "{text}{number}"),
         Piece::Count(text, number) => print!(rt; "{text}{number}"),
@@ -30,20 +29,21 @@ fn put_piece(rt: &HostRuntime, piece: &Piece) -> Result<()> {
         Piece::Hex6(text, number) => print!(rt; "{text}{number:06X}"),
         Piece::Hex8(text, number) => print!(rt; "{text}{number:08X}"),
     };
-    printed?;
-    Ok(())
 }
 
 /// Prints pieces one behind the other.
-pub fn put(rt: &HostRuntime, pieces: &[Piece]) -> Result<()> {
+pub fn put(rt: &HostRuntime, pieces: &[Piece]) {
     for piece in pieces {
-        put_piece(rt, piece)?;
+        put_piece(rt, piece);
     }
-    Ok(())
+}
+
+/// Prints a line.
+pub fn put_line(rt: &HostRuntime, text: &str) {
+    let _ = println!(rt; "{text}");
 }
 
 /// Prints why something is refused, and then the line's end.
-pub fn put_fault<F: Display + Drop>(rt: &HostRuntime, fault: F) -> Result<()> {
-    println!(rt; "{fault}")?;
-    Ok(())
+pub fn put_fault<F: Display + Drop>(rt: &HostRuntime, fault: F) {
+    let _ = println!(rt; "{fault}");
 }
