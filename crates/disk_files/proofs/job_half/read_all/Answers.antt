@@ -50,8 +50,8 @@ loop-done-init g c = grind (arith, common_steps)
 pub returns-in-Ok-eq0-clause-fails : goal.returns-in-Ok-eq0-clause-fails
 returns-in-Ok-eq0-clause-fails g c = λ told fits.
     let rest = ap length (take_rest c.loop-done.out c.loop-done.done) ∙ length-drop c.loop-done.done c.loop-done.out in
-    fails_at_none told c.loop-done.invariant.4 c.job_read_at.result c.in-Ok-eq0.field-0 c.in-Ok-eq0.is c.in-Ok-eq0.field-0-test (c.job_read_at.ensures.fails told)
-    (omega (arith, rest, c.loop-done-test.true)) _ refl
+    fails_at_none told c.loop-done.invariant.4 c.job_read_at.result c.in-Ok-eq0.field-0 c.in-Ok-eq0.is c.in-Ok-eq0.field-0-test
+    (c.job_read_at.ensures.fails told) (omega (arith, rest, c.loop-done-test.true)) _ refl
 
 pub returns-in-Ok-eq0-clause-ok : goal.returns-in-Ok-eq0-clause-ok
 returns-in-Ok-eq0-clause-ok g c = λ told. tt

@@ -74,8 +74,8 @@ job_write_at-requires-clause-at g c = grind (arith, common_steps)
 pub returns-in-Ok-eq0-clause-fails : goal.returns-in-Ok-eq0-clause-fails
 returns-in-Ok-eq0-clause-fails g c = λ told fits.
     let rest = ap length (take_rest c.args.bytes.now c.loop-done.done) ∙ length-drop c.loop-done.done c.args.bytes.now in
-    fails_at_none told c.loop-done.invariant.5 c.job_write_at.result c.in-Ok-eq0.field-0 c.in-Ok-eq0.is c.in-Ok-eq0.field-0-test (c.job_write_at.ensures.fails told)
-    (omega (arith, rest, c.loop-done-test.true)) _ refl
+    fails_at_none told c.loop-done.invariant.5 c.job_write_at.result c.in-Ok-eq0.field-0 c.in-Ok-eq0.is c.in-Ok-eq0.field-0-test
+    (c.job_write_at.ensures.fails told) (omega (arith, rest, c.loop-done-test.true)) _ refl
 
 pub returns-in-Ok-eq0-clause-ok : goal.returns-in-Ok-eq0-clause-ok
 returns-in-Ok-eq0-clause-ok g c = λ told. tt
