@@ -1,5 +1,6 @@
 -- `end_refusal`: its contract.
-use Rattle.std.proofs.Common.{ap, refl, ℕ, Some}
+use Rattle.std.proofs.Common.{ap, refl, ℕ, Some, arith}
+use Rattle.std.proofs.lemmas.Grind.{common_steps}
 use Rattle.report_text.specs.Refusal.{Refusal, mismatch}
 use Rattle.gang_commands.proofs.refusals.end_refusal.Goals as goal
 
@@ -22,3 +23,6 @@ pub returns-in-Mismatch : goal.returns-in-Mismatch
 returns-in-Mismatch c =
     let d = c.in-Mismatch.difference in
     rw c.in-Mismatch.is (ap (λ (at : ℕ). Some (mismatch at d.want d.got)) c.address_of.ensures)
+
+pub returns-in-Survey : goal.returns-in-Survey
+returns-in-Survey c = rw c.in-Survey.is (grind (arith, common_steps))
