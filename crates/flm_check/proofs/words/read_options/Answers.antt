@@ -1,5 +1,6 @@
 -- `read_options`: its clauses `some` and `none`.
 use Rattle.std.proofs.Common.{subst, arith, ℕ, List}
+use Rattle.std.proofs.lemmas.Grind.{common_steps}
 use Rattle.flm_check.specs.Words.{AreOptions}
 use Rattle.flm_check.proofs.WordLemmas.{two_words, four_words, options_one, no_first, no_second, both_some, both_none}
 use Rattle.flm_check.proofs.words.read_options.Goals as goal
@@ -57,3 +58,6 @@ returns-in_ok-other-in-len4-clause-none c =
     c.name-item-then-options-lt5.is c.value-item-then-options-lt5.is c.other_name-item.is c.other_value-item.is in
     both_none name word other_name other_word c.args.options.now c.in_ok-one-in-len4.one c.in_ok-other-in-len4.other c.rounds_of_both.result all
     c.in_ok-one-in-len4.ensures.some c.in_ok-other-in-len4.ensures.some c.rounds_of_both.ensures.none
+
+pub returns-in_ok-read_setting-in-len2-clause-some : goal.returns-in_ok-read_setting-in-len2-clause-some
+returns-in_ok-read_setting-in-len2-clause-some c = grind (arith, common_steps)

@@ -1,6 +1,7 @@
--- `read_words`: its clause `none`.
+-- `read_words`: that it keeps its contract.
 use Rattle.std.proofs.Common.{◌≡◌, ◌-◌, sym, subst, arith, ℕ, List, length, length-drop, take, drop}
 use Rattle.std.proofs.lemmas.List.{take_all}
+use Rattle.std.proofs.lemmas.Grind.{common_steps}
 use Rattle.command_words.proofs.FitLemmas.{two_fronts}
 use Rattle.flm_check.specs.Words.{AreOptions}
 use Rattle.flm_check.proofs.WordLemmas.{words_few, words_apart, options_behind}
@@ -21,3 +22,6 @@ returns-in_err-rounds-clause-none c =
     c.in_err-rounds.ensures.none asked.seed asked.rounds (subst (λ (o : List (List ℕ)). AreOptions o asked.seed asked.rounds) (sym behind)
     (options_behind k rest asked.files.images asks.options asked.seed asked.rounds c.count_names-others.ensures.few c.count_names-others.ensures.inside
     c.count_names-others.ensures.names c.count_names-others.ensures.all apart.rest_is asks.few apart.names asks.are_options)))
+
+pub returns-clause-some : goal.returns-clause-some
+returns-clause-some c = grind (arith, common_steps)
