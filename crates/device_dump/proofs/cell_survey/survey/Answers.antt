@@ -1,5 +1,5 @@
--- `survey`: its clauses `looks` and `surveyed`.
-use Rattle.std.proofs.Common.{◌∙◌, sym}
+-- `survey`: its clauses `looks` and `surveyed`, and what `read_cells` asks for.
+use Rattle.std.proofs.Common.{◌∙◌, sym, rules}
 use Rattle.std.proofs.lemmas.Result.{err_from_is_err_and}
 use Rattle.device_dump.proofs.LooksLemmas.{looks_dropped, looks_by, only_reads, all_read}
 use Rattle.device_dump.proofs.cell_survey.survey.Goals as goal
@@ -15,3 +15,6 @@ returns-clause-surveyed g c = all_read c.args.cells.now c.read_cells.new.out c.r
 
 pub returns-clause-looks : goal.returns-clause-looks
 returns-clause-looks g c = looks_by _ c.in_ok-cells_drop.ensures.does (only_reads c.read_cells.ensures) c.read_cells.result c.read_cells.ensures.cause
+
+pub read_cells-requires-clause-idle : goal.read_cells-requires-clause-idle
+read_cells-requires-clause-idle g c = search rules
