@@ -1,5 +1,5 @@
 -- `lay_all`: that its loop keeps what it has to, and that it keeps its contract.
-use Rattle.std.proofs.Common.{◌<◌, ◌∙◌, [], length, sym, arith}
+use Rattle.std.proofs.Common.{◌<◌, ◌∙◌, [], length, sym, arith, rules}
 use Rattle.std.proofs.lemmas.Grind.{common_steps}
 use Rattle.std.proofs.lemmas.Option.{get_or_from_slice_get}
 use Rattle.byte_map.specs.Image.{Run}
@@ -21,3 +21,6 @@ returns c = grind (arith, common_steps)
 
 pub returns-in_err-ok : goal.returns-in_err-ok
 returns-in_err-ok c = grind (arith, common_steps)
+
+pub loop-index-init : goal.loop-index-init
+loop-index-init c = search rules
