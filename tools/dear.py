@@ -2,7 +2,7 @@
 """dear.py [ROOT] [CRATE..]: lists the functions whose proofs are dear, the dearest first, from what a check or a gate left in crates/*/out.
 
 What a function costs goes with the size of its model: after `rt check` that is the file *.Lts.oantt of the function below out/incremental
-(20 MB is about two minutes). After a gate, and for libraries alone, the function's text in toolchain/mir.json of the library tells as much
+(a megabyte is a second or two, and dearer the larger it is). After a gate, and for libraries alone, the function's text in toolchain/mir.json of the library tells as much
 (above 100 KB it is dear). Functions below these limits are not listed: --all lists the twenty dearest of each crate. Where both kinds are
 left of a crate, both are listed.
 """

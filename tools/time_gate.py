@@ -49,9 +49,10 @@ class Process:
 
     def look(self, pid):
         """Finds out what the process is for; one that its own words don't show is for what its parent is."""
-        words, folder = read(f"/proc/{pid}/cmdline") + "\0", folder_of(pid)
-        if self.part and not folder:
-            return  # (it has ended, and has no words any more)
+        words, folder = read(f"/proc/{pid}/cmdline"), folder_of(pid)
+        if self.part and not (words and folder):
+            return  # (it is ending: it has no words any more, and then no folder)
+        words += "\0"
         run, named = RUN.search(words), NAMED.search(words)
         if run:
             self.part = run[1], "run"
