@@ -7,7 +7,7 @@
 use crate::Condition;
 
 /// Data processing: the rows 0000 to 4600.
-#[derive(Clone, Copy, PartialEq, Eq)]
+#[derive(Clone, Copy)]
 pub enum Alu {
     /// `LSLS d, m, #immediate`
     LslsImmediate { d: u8, m: u8, immediate: u8 },
@@ -72,7 +72,7 @@ pub enum Alu {
 }
 
 /// Loads and stores of one register: the rows 4800 to 9800.
-#[derive(Clone, Copy, PartialEq, Eq)]
+#[derive(Clone, Copy)]
 pub enum Memory {
     /// `LDR t, label`, at the aligned PC plus 4 times the immediate
     LdrLiteral { t: u8, immediate: u8 },
@@ -111,7 +111,7 @@ pub enum Memory {
 }
 
 /// Loads and stores of a list of registers.
-#[derive(Clone, Copy, PartialEq, Eq)]
+#[derive(Clone, Copy)]
 pub enum Many {
     /// `PUSH {list}`, with LR
     Push { lr: bool, list: u8 },
@@ -124,7 +124,7 @@ pub enum Many {
 }
 
 /// Branches. An `immediate` counts halfwords from the instruction's address plus 4, as a signed number of its width.
-#[derive(Clone, Copy, PartialEq, Eq)]
+#[derive(Clone, Copy)]
 pub enum Branch {
     /// `BX m`
     Bx { m: u8 },
@@ -139,7 +139,7 @@ pub enum Branch {
 }
 
 /// All others: addresses, extensions, byte orders, hints, barriers and special registers.
-#[derive(Clone, Copy, PartialEq, Eq)]
+#[derive(Clone, Copy)]
 pub enum Other {
     /// `ADR d, label`, the aligned PC plus 4 times the immediate
     Adr { d: u8, immediate: u8 },
@@ -196,7 +196,7 @@ pub enum Other {
 }
 
 /// An instruction.
-#[derive(Clone, Copy, PartialEq, Eq)]
+#[derive(Clone, Copy)]
 pub enum Instr {
     Alu(Alu),
     Memory(Memory),
@@ -206,7 +206,7 @@ pub enum Instr {
 }
 
 /// What a halfword stands for.
-#[derive(Clone, Copy, PartialEq, Eq)]
+#[derive(Clone, Copy)]
 pub enum Decoded {
     /// The instruction whose row the halfword fits.
     Op(Instr),

@@ -8,11 +8,6 @@ pub fn expect<T: Copy + Debug + PartialEq>(rt: &impl Abort, found: T, due: T) {
     assert_eq!(rt; found, due);
 }
 
-/// Asserts the same of what isn't printed.
-pub fn expect_same<T: PartialEq>(rt: &impl Abort, found: &T, due: &T) {
-    assert!(rt; *found == *due);
-}
-
 /// Asserts that all of this holds.
 pub fn expect_all(rt: &impl Abort, seen: &[bool]) {
     assert!(rt; !seen.contains(&false), "{seen:?}");

@@ -1,6 +1,7 @@
 //! A few rows in plain sight. The table's rows, and what binutils says of an instruction of each, are compared by `target_vectors`.
 
-use crate::expect::expect_same;
+use crate::armv6m::encoding::code_if;
+use crate::expect::{expect, expect_all};
 use armv6m_decode::registers::{LR, PRIMASK};
 use armv6m_decode::{
     Alu, Branch, Condition, Decoded, Instr, Many, Other, decode16, decode32, registers, targets,
@@ -28,21 +29,34 @@ fn halfwords(rt: HostRuntime) {
         immediate: 0xFC,
     };
     for (half, due) in [
-        (0x0808, Decoded::Op(Instr::Alu(by_32))),
-        (0x44CD, Decoded::Op(Instr::Alu(to_sp))),
-        (0x4770, Decoded::Op(Instr::Branch(Branch::Bx { m: LR }))),
-        (0xBD42, Decoded::Op(Instr::Many(pop))),
-        (0xD1FC, Decoded::Op(Instr::Branch(back))),
-        (0xB100, Decoded::Undefined),
-        (0xE800, Decoded::NeedsSecond),
+        (0x0808, Instr::Alu(by_32)),
+        (0x44CD, Instr::Alu(to_sp)),
+        (0x4770, Instr::Branch(Branch::Bx { m: LR })),
+        (0xBD42, Instr::Many(pop)),
+        (0xD1FC, Instr::Branch(back)),
     ] {
-        expect_same(&rt, &decode16(half), &due);
+        expect(&rt, &code_if(read_half(half)), &code_if(Some(due)));
     }
+}
+
+/// The instruction of a halfword.
+fn read_half(half: u16) -> Option<Instr> {
+    match decode16(half) {
+        Decoded::Op(instr) => Some(instr),
+        Decoded::NeedsSecond | Decoded::Undefined => None,
+    }
+}
+
+#[test]
+fn halfwords_without_a_row(rt: HostRuntime) {
+    let undefined = matches!(decode16(0xB100), Decoded::Undefined);
+    let needs_second = matches!(decode16(0xE800), Decoded::NeedsSecond);
+    expect_all(&rt, &[undefined, needs_second]);
 }
 
 /// A pair is this instruction, or none.
 fn assert_pair(rt: &impl Abort, first: u16, second: u16, due: Option<Instr>) {
-    expect_same(rt, &decode32(first, second), &due);
+    expect(rt, &code_if(decode32(first, second)), &code_if(due));
 }
 
 #[test]
@@ -89,14 +103,14 @@ fn targets_of_branches(rt: HostRuntime) {
         targets::literal(0x1002, 1),
     ];
     let due = [0x1102, 0x0F04, 0x0804, 0x0010_0004, 0x1008];
-    expect_same(&rt, &found, &due);
+    expect(&rt, &found, &due);
 }
 
 /// A condition has this code, and is that of the code.
 fn assert_code(rt: &impl Abort, condition: Condition, code: u8) {
     let found = condition.code();
     let back = Condition::with_code(found);
-    expect_same(rt, &(found, back), &(code, condition));
+    expect(rt, &(found, back), &(code, condition));
 }
 
 #[test]

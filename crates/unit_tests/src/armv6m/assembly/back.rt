@@ -1,7 +1,7 @@
 //! What the disassembler writes of an instruction is assembled to its code again.
 
-use crate::armv6m::encoding::{code_of, read_pair};
-use crate::expect::{expect, expect_same};
+use crate::armv6m::encoding::{assert_read_back, code_of};
+use crate::expect::expect;
 use armv6m_asm::{Line, assemble, disassemble};
 use armv6m_decode::registers::{APSR, MSP, PC, PRIMASK, SP};
 use armv6m_decode::{Alu, Branch, Decoded, Instr, Many, Other, decode16};
@@ -50,10 +50,8 @@ fn each_halfword_comes_back(rt: HostRuntime) -> Result<(), Fail> {
 
 /// The text of a pair's instruction assembles to the pair.
 fn assert_pair_back(rt: &impl Abort, alloc: Global, instr: &Instr) -> Result<(), Fail> {
-    let code = code_of(instr);
-    let due = Some((Decoded::NeedsSecond, Some(*instr)));
-    expect_same(rt, &read_pair(code), &due);
-    if let Some(Encoding::Pair { first, second }) = code {
+    assert_read_back(rt, instr);
+    if let Some(Encoding::Pair { first, second }) = code_of(instr) {
         let [a, b] = first.to_le_bytes();
         let [c, d] = second.to_le_bytes();
         assert_back(rt, alloc, instr, &[a, b, c, d])?;
