@@ -13,7 +13,7 @@ use thiserror::Error;
 const CODE_FROM: u32 = 32;
 
 /// Addresses in the RAM of a target.
-#[derive(Clone, Copy, Debug, PartialEq, Eq)]
+#[derive(Clone, Copy, PartialEq, Eq)]
 pub struct Layout {
     /// Where calls return to: the RAM's first byte.
     pub return_at: u32,

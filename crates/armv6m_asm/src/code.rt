@@ -18,7 +18,7 @@ use octets::Bytes;
 use std::alloc::{AllocError, Global};
 
 /// The code of a text, which begins at address 0, and its labels.
-#[derive(Debug, Drop)]
+#[derive(Drop)]
 pub struct Code {
     pub bytes: Bytes,
     pub labels: Labels,

@@ -5,14 +5,14 @@ use std::alloc::{AllocFailed, Global};
 use std::marker::Model;
 
 /// A label of a text, with the place of its statement, in bytes from the text's start.
-#[derive(Debug, Drop)]
+#[derive(Drop)]
 pub struct Label {
     pub name: Word,
     pub place: u32,
 }
 
 /// The labels of a text in their order. A contract sees them as a list.
-#[derive(Debug, Drop)]
+#[derive(Drop)]
 pub struct Labels {
     items: Vec<Label>,
 }

@@ -4,7 +4,7 @@ ghost use Rattle.std.specs.Prelude.{◌≡◌};
 use std::marker::Model;
 
 /// A quiet range: `size` addresses from `base` on, both multiples of 4.
-#[derive(Clone, Copy, Debug, PartialEq, Eq)]
+#[derive(Clone, Copy, PartialEq, Eq)]
 pub struct QuietRange {
     /// The first address.
     pub base: u32,
@@ -13,7 +13,7 @@ pub struct QuietRange {
 }
 
 /// The quiet ranges of a board, in the order of its text. A contract sees the list of the ranges.
-#[derive(Debug, Drop)]
+#[derive(Drop)]
 pub struct QuietRanges {
     ranges: Vec<QuietRange>,
 }

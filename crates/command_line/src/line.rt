@@ -15,7 +15,7 @@ use octets::Word;
 use std::alloc::Global;
 
 /// A command by its name, with the addresses that its options give and with its positional words, each in their order.
-#[derive(Debug, Drop)]
+#[derive(Drop)]
 pub struct Line {
     pub command: Word,
     pub addresses: Vec<Word>,

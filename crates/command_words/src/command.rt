@@ -47,7 +47,7 @@ impl CommandName {
 }
 
 /// How cells are written as a text.
-#[derive(Clone, Copy, Debug, PartialEq, Eq)]
+#[derive(Clone, Copy, PartialEq, Eq)]
 pub enum TextForm {
     /// Intel HEX.
     Hex,

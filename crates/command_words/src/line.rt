@@ -12,7 +12,7 @@ use octets::Word;
 use std::alloc::Global;
 
 /// The words of a command line, as they were read.
-#[derive(Debug, Drop)]
+#[derive(Drop)]
 pub enum CommandLine {
     /// They fit no command.
     Faulty,

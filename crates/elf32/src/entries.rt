@@ -1,7 +1,7 @@
 //! The entries of a file's tables.
 
 /// A section header's fields (System V ABI, "Sections"); sizes and offsets are in bytes.
-#[derive(Clone, Copy, Debug, PartialEq, Eq)]
+#[derive(Clone, Copy, PartialEq, Eq)]
 pub struct Section {
     pub addr: u32,
     pub offset: u32,
@@ -11,14 +11,14 @@ pub struct Section {
 }
 
 /// A symbol's value and size in bytes (System V ABI, "Symbol Table").
-#[derive(Clone, Copy, Debug, PartialEq, Eq)]
+#[derive(Clone, Copy, PartialEq, Eq)]
 pub struct Symbol {
     pub value: u32,
     pub size: u32,
 }
 
 /// A program header (System V ABI, "Program Header"); sizes and offsets are in bytes.
-#[derive(Clone, Copy, Debug, PartialEq, Eq)]
+#[derive(Clone, Copy, PartialEq, Eq)]
 pub struct Segment {
     pub kind: u32,
     pub offset: u32,

@@ -13,7 +13,7 @@ use std::marker::Model;
 
 /// What to erase and to program: the whole chip or a set of sectors, then a set of pages with their wanted bytes. A plan is made, or
 /// in the making between `plan_start` and `plan_finish`.
-#[derive(Debug, Drop)]
+#[derive(Drop)]
 pub struct Plan {
     chip: bool,
     sectors: Vec<bool>,

@@ -27,7 +27,7 @@ use std::alloc::Global;
 const WORD: usize = 4;
 
 /// The controller of a board: where its flash lies, and what it holds.
-#[derive(Debug, Drop)]
+#[derive(Drop)]
 pub struct Driver<R> {
     /// Where the flash and the registers lie.
     pub layout: FlashMap,

@@ -10,7 +10,7 @@ use crate::{Area, Found, SectorCells};
 use board_file::{ControllerKind, QuietRange, SectorRun};
 
 /// The areas of a board in order, the sectors of all of them in order, the controller's kind, its registers and its ticks.
-#[derive(Debug, Drop)]
+#[derive(Drop)]
 pub struct FlashMap {
     /// The kind of the controller.
     pub kind: ControllerKind,

@@ -7,7 +7,7 @@ use crate::target_end::TargetEnd;
 use algo_calls::Call;
 
 /// A region of a board that has one or two.
-#[derive(Clone, Copy, Debug, PartialEq, Eq)]
+#[derive(Clone, Copy, PartialEq, Eq)]
 pub enum RegionIndex {
     First,
     Second,

@@ -27,7 +27,7 @@ pub enum TargetEnd {
 }
 
 /// Whether a target has ended.
-#[derive(Clone, Copy, Debug, PartialEq, Eq)]
+#[derive(Clone, Copy, PartialEq, Eq)]
 pub enum Turn {
     /// It goes on.
     More,

@@ -6,7 +6,7 @@ use std::alloc::Global;
 
 /// A flash device. Sizes are in bytes, times in milliseconds; `name` is what stands before the first zero byte of DevName,
 /// `empty` the value of erased memory.
-#[derive(Debug, Drop)]
+#[derive(Drop)]
 pub struct Device {
     pub vers: u16,
     pub name: Bytes,

@@ -5,14 +5,14 @@ use std::alloc::Global;
 use std::marker::Model;
 
 /// From the offset of an item, sectors have its size, both in bytes.
-#[derive(Clone, Copy, Debug, PartialEq, Eq)]
+#[derive(Clone, Copy, PartialEq, Eq)]
 pub struct SectorItem {
     pub size: u32,
     pub offset: u32,
 }
 
 /// Sector items in their order. A contract sees them as a list.
-#[derive(Debug, Drop)]
+#[derive(Drop)]
 pub struct Items {
     items: Vec<SectorItem>,
 }

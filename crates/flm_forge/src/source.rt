@@ -5,7 +5,7 @@ use octets::Bytes;
 use std::marker::Model;
 
 /// A flash algorithm as text and numbers. Sizes are in bytes, times in milliseconds.
-#[derive(Debug, Drop)]
+#[derive(Drop)]
 pub struct Listing {
     /// The assembler's text. A label with an entry's name is that entry.
     pub text: Bytes,
@@ -34,7 +34,7 @@ pub struct Listing {
 }
 
 /// Names in their order. A contract sees them as a list.
-#[derive(Debug, Drop)]
+#[derive(Drop)]
 pub struct Names {
     names: Vec<Name>,
 }

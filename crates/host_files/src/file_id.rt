@@ -7,7 +7,7 @@ use std::os::unix::fs::MetadataExt;
 use std::{fs, io};
 
 /// A file's device, and its number there.
-#[derive(Clone, Copy, Debug, PartialEq, Eq)]
+#[derive(Clone, Copy, PartialEq, Eq)]
 pub struct FileId {
     device: u64,
     number: u64,

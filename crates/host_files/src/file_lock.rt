@@ -7,7 +7,7 @@ use std::io;
 use std::io::ErrorKind;
 
 /// What a program holds of a file.
-#[derive(Clone, Copy, Debug, PartialEq, Eq)]
+#[derive(Clone, Copy, PartialEq, Eq)]
 enum Hold {
     Nothing,
     // no other program writes the file

@@ -14,7 +14,7 @@ use std::marker::Model;
 /// item, sectors have its size until the next item's offset or the end of the device; each sector is cut from its start into
 /// pages of szPage bytes; the last sector of an item and the last page of a sector may be shorter. Places, lengths and sizes are
 /// in bytes, places from the device's first byte on; sectors and pages are numbered from 0 on, in rising order.
-#[derive(Debug, Drop)]
+#[derive(Drop)]
 pub struct Geometry {
     size: u32,
     page: u32,

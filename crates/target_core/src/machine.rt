@@ -26,7 +26,7 @@ use ram_arena::Arena;
 use std::alloc::Global;
 
 /// How a run begins.
-#[derive(Clone, Copy, PartialEq, Eq, Debug)]
+#[derive(Clone, Copy, PartialEq, Eq)]
 pub struct Frame {
     /// All registers: R0 to R12, SP, LR and PC.
     pub regs: [u32; 16],
@@ -35,7 +35,7 @@ pub struct Frame {
 }
 
 /// A core with the flash controller of its board. Each call is lent the RAM.
-#[derive(Debug, Drop)]
+#[derive(Drop)]
 pub struct Machine {
     /// The core.
     pub core: Core,
