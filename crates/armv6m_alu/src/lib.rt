@@ -8,7 +8,7 @@ ghost use Rattle.armv6m_alu.specs.Sums.{sum_with_carry, is_sign_lost};
 ghost use Rattle.armv6m_alu.specs.Shifts.{shifted_left, shifted_right, shifted_right_signed, rotated_right};
 
 /// A sum's value, with the carry and the overflow that it leaves.
-#[derive(Clone, Copy, PartialEq, Eq)]
+#[derive(Clone, Copy)]
 pub struct Sum {
     /// The low 32 bits of the exact sum.
     pub value: u32,
@@ -19,7 +19,7 @@ pub struct Sum {
 }
 
 /// What a shift leaves, with its carry.
-#[derive(Clone, Copy, PartialEq, Eq)]
+#[derive(Clone, Copy)]
 pub struct Shifted {
     /// The shifted number.
     pub value: u32,

@@ -22,7 +22,7 @@ pub enum StepEnd {
 }
 
 /// Why an instruction is not done: the ends but for `StepEnd::Went`.
-#[derive(Clone, Copy, PartialEq, Eq)]
+#[derive(Clone, Copy)]
 pub enum Stop {
     Break { pc: u32 },
     Undefined { pc: u32 },

@@ -1,7 +1,7 @@
 //! What a stop of the power leaves of a bench in memory.
 
 /// Which of the files and cells that a stop may leave is left.
-#[derive(Clone, Copy, PartialEq, Eq)]
+#[derive(Clone, Copy)]
 pub enum Pick {
     /// The file as read; the cells of an open operation keep their old bytes.
     AsWritten,

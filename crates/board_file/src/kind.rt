@@ -5,7 +5,7 @@ ghost use Rattle.board_file.specs.Kinds.{kind_named, block_of, takes_of_region, 
 use crate::key::{ADDRESSES, Key};
 
 /// A kind of flash controller.
-#[derive(Clone, Copy, PartialEq, Eq)]
+#[derive(Clone, Copy)]
 pub enum ControllerKind {
     /// FC1, this project's own: `"fc1"`.
     Fc1,

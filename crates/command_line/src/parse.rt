@@ -81,7 +81,7 @@ fn made<'a>(alloc: Global) -> Result<Command<'a>, AllocError>
 }
 
 /// Why no line is read.
-#[derive(Clone, Copy, PartialEq, Eq)]
+#[derive(Clone, Copy)]
 pub enum LineFault {
     OutOfMemory,
 

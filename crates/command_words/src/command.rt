@@ -47,7 +47,7 @@ impl CommandName {
 }
 
 /// How cells are written as a text.
-#[derive(Clone, Copy, PartialEq, Eq)]
+#[derive(Clone, Copy)]
 pub enum TextForm {
     /// Intel HEX.
     Hex,

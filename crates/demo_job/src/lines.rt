@@ -7,7 +7,7 @@ use itoa::Buffer;
 use outside_io::{OutputFault, Sink, put_all};
 
 /// What the lines of a demonstration say.
-#[derive(Clone, Copy, PartialEq, Eq)]
+#[derive(Clone, Copy)]
 pub struct DemoLines {
     /// The seed.
     pub seed: u32,

@@ -1,7 +1,7 @@
 //! The entries of a file's tables.
 
 /// A section header's fields (System V ABI, "Sections"); sizes and offsets are in bytes.
-#[derive(Clone, Copy, PartialEq, Eq)]
+#[derive(Clone, Copy)]
 pub struct Section {
     pub addr: u32,
     pub offset: u32,
@@ -18,7 +18,7 @@ pub struct Symbol {
 }
 
 /// A program header (System V ABI, "Program Header"); sizes and offsets are in bytes.
-#[derive(Clone, Copy, PartialEq, Eq)]
+#[derive(Clone, Copy)]
 pub struct Segment {
     pub kind: u32,
     pub offset: u32,

@@ -5,7 +5,7 @@ ghost use Rattle.erase_planner.specs.Marks.{AreMarks, IsPageAt, mark_at, needs_e
 use page_geometry::Geometry;
 
 /// What the bytes so far say of a page.
-#[derive(Clone, Copy, PartialEq, Eq)]
+#[derive(Clone, Copy)]
 pub struct Mark {
     /// Old and wanted bytes differ.
     pub differs: bool,

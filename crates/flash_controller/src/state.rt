@@ -6,7 +6,7 @@ ghost use Rattle.flash_controller.specs.Table.{after_reset, may_program};
 use flash_layout::{Area, Lock, Operation, flag_value};
 
 /// What the registers hold.
-#[derive(Clone, Copy, PartialEq, Eq)]
+#[derive(Clone, Copy)]
 pub struct State {
     /// How far it is unlocked.
     pub lock: Lock,

@@ -6,7 +6,7 @@ ghost use Rattle.flash_driver.specs.Places.{place_of, PlaceInside};
 use flash_layout::{FlashMap, Found};
 
 /// What an access goes to: a word of the controller's block, a cell of the flash, or nothing.
-#[derive(Clone, Copy, PartialEq, Eq)]
+#[derive(Clone, Copy)]
 pub enum Place {
     /// A word of the block, where a register may be.
     Register {

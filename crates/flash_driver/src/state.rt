@@ -3,7 +3,7 @@
 use flash_layout::Operation;
 
 /// What a controller holds: its registers, and the operation that runs.
-#[derive(Clone, Copy, PartialEq, Eq)]
+#[derive(Clone, Copy)]
 pub struct State<R> {
     /// The registers.
     pub registers: R,
@@ -12,7 +12,7 @@ pub struct State<R> {
 }
 
 /// What a store does, beside what it leaves in the registers.
-#[derive(Clone, Copy, PartialEq, Eq)]
+#[derive(Clone, Copy)]
 pub enum Effect {
     /// A bus fault: nothing takes it.
     Fault,

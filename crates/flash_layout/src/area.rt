@@ -5,7 +5,7 @@ ghost use Rattle.flash_layout.specs.Areas.{holds, area_of};
 use board_file::Region;
 
 /// A region of flash without its sectors: `size` bytes from the address `base` on.
-#[derive(Clone, Copy, PartialEq, Eq)]
+#[derive(Clone, Copy)]
 pub struct Area {
     /// The address of the first byte.
     pub base: u32,
@@ -18,7 +18,7 @@ pub struct Area {
 }
 
 /// The area that holds an address, and the cell of that address.
-#[derive(Clone, Copy, PartialEq, Eq)]
+#[derive(Clone, Copy)]
 pub struct Found {
     /// The area.
     pub area: Area,
@@ -27,7 +27,7 @@ pub struct Found {
 }
 
 /// The cells of a sector.
-#[derive(Clone, Copy, PartialEq, Eq)]
+#[derive(Clone, Copy)]
 pub struct SectorCells {
     /// The place of the first cell.
     pub place: u32,

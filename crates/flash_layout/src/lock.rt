@@ -3,7 +3,7 @@ ghost use Rattle.std.specs.Prelude.{◌≡◌};
 ghost use Rattle.flash_layout.specs.Lock.{is_unlocked, next_lock, flag_value};
 
 /// How far the two keys have unlocked the controller.
-#[derive(Clone, Copy, PartialEq, Eq)]
+#[derive(Clone, Copy)]
 pub enum Lock {
     /// No key was seen.
     Locked,

@@ -3,7 +3,7 @@ ghost use Rattle.std.specs.Prelude.{◌≡◌};
 ghost use Rattle.flash_layout.specs.Work.{work_len, unit_work};
 
 /// What an operation leaves in its cells.
-#[derive(Clone, Copy, PartialEq, Eq)]
+#[derive(Clone, Copy)]
 pub enum Work {
     /// The two bytes of a stored halfword, the low one first.
     Half {
@@ -25,7 +25,7 @@ pub enum Work {
 }
 
 /// An operation that runs.
-#[derive(Clone, Copy, PartialEq, Eq)]
+#[derive(Clone, Copy)]
 pub struct Operation {
     /// What it leaves.
     pub work: Work,

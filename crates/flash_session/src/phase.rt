@@ -1,7 +1,7 @@
 //! The phases of a script.
 
 /// A phase of a script in a region.
-#[derive(Clone, Copy, PartialEq, Eq)]
+#[derive(Clone, Copy)]
 pub enum Phase {
     /// Its sectors are erased, or the whole chip.
     Erase,

@@ -27,7 +27,7 @@ pub enum TargetEnd {
 }
 
 /// Whether a target has ended.
-#[derive(Clone, Copy, PartialEq, Eq)]
+#[derive(Clone, Copy)]
 pub enum Turn {
     /// It goes on.
     More,

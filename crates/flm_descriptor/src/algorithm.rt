@@ -11,7 +11,7 @@ use octets::Bytes;
 use std::alloc::Global;
 
 /// The places of the functions, in bytes from the start of PrgCode.
-#[derive(Clone, Copy, PartialEq, Eq)]
+#[derive(Clone, Copy)]
 pub struct Entries {
     pub init: u32,
     pub uninit: u32,

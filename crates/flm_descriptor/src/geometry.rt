@@ -5,7 +5,7 @@ ghost use Rattle.flm_descriptor.specs.Shape.{cut, item_end, pages_of, pieces, ru
 use crate::items::SectorItem;
 
 /// Where the sectors of an item lie, and their size, all in bytes.
-#[derive(Clone, Copy, PartialEq, Eq)]
+#[derive(Clone, Copy)]
 pub struct Run {
     pub start: u32,
     pub stop: u32,

@@ -8,7 +8,7 @@ use faults::OutOfMemory;
 use octets::hex_digits;
 
 /// An algorithm that programs flash, for a board with unit 2: A1 to A7 by the controller FC1, and F1 by FPEC.
-#[derive(Clone, Copy, Debug, PartialEq, Eq)]
+#[derive(Clone, Copy, Debug)]
 pub enum Kind {
     /// It does as it should.
     A1,

@@ -6,7 +6,7 @@ ghost use Rattle.fpec_controller.specs.Table.{with_bits, after_reset, has_bit, m
 use flash_layout::{Lock, Operation, Work, flag_value};
 
 /// What the registers hold.
-#[derive(Clone, Copy, PartialEq, Eq)]
+#[derive(Clone, Copy)]
 pub struct State {
     /// How far it is unlocked.
     pub lock: Lock,

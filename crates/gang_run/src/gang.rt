@@ -23,7 +23,7 @@ pub struct Gang {
 }
 
 /// A turn that is asked for: whose, and of how many steps at most.
-#[derive(Clone, Copy, PartialEq, Eq)]
+#[derive(Clone, Copy)]
 pub struct Asked {
     pub target: usize,
     pub steps: u64,

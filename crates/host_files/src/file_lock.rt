@@ -7,7 +7,7 @@ use std::io;
 use std::io::ErrorKind;
 
 /// What a program holds of a file.
-#[derive(Clone, Copy, PartialEq, Eq)]
+#[derive(Clone, Copy)]
 enum Hold {
     Nothing,
     // no other program writes the file

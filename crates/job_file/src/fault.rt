@@ -102,7 +102,7 @@ impl From<LookFault> for OpenFault {
 }
 
 /// Why no job was begun.
-#[derive(Clone, Copy, Debug, PartialEq, Eq, Error)]
+#[derive(Clone, Copy, Debug, Error)]
 pub enum BeginFault {
     /// No memory was left.
     #[error("OutOfMemory")]
@@ -175,7 +175,7 @@ impl From<DeviceFault> for BeginFault {
 }
 
 /// Why a job was not closed.
-#[derive(Clone, Copy, Debug, PartialEq, Eq, Error)]
+#[derive(Clone, Copy, Debug, Error)]
 pub enum CloseFault {
     /// The store of the file failed.
     #[error("StoreFault")]

@@ -5,7 +5,7 @@ ghost use Rattle.job_text.specs.Reading.{format_in};
 use crate::damage::is_second;
 
 /// A format of a body. Jobs are written in the second one alone.
-#[derive(Clone, Copy, PartialEq, Eq)]
+#[derive(Clone, Copy)]
 pub enum Format {
     /// `FLMJOB1`: one FLM file, and no hash.
     First,

@@ -10,7 +10,7 @@ pub enum ClashFault {
 }
 
 /// Why a line was not taken.
-#[derive(Clone, Copy, PartialEq, Eq)]
+#[derive(Clone, Copy)]
 pub enum LineFault<F> {
     /// What is at fault with it.
     Refused(F),
@@ -19,7 +19,7 @@ pub enum LineFault<F> {
 }
 
 /// Why a text was not read. Lines count from 1, and stand still at 4,294,967,295.
-#[derive(Clone, Copy, PartialEq, Eq)]
+#[derive(Clone, Copy)]
 pub enum TextFault<F> {
     /// What is at fault with a line.
     Line { line: u32, fault: F },

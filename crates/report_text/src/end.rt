@@ -6,7 +6,7 @@ use crate::pieces::put_pieces;
 use outside_io::{OutputFault, Sink};
 
 /// How a call ends that does what was asked.
-#[derive(Clone, Copy, PartialEq, Eq)]
+#[derive(Clone, Copy)]
 pub enum End {
     /// A job was closed.
     Done,

@@ -26,7 +26,7 @@ use ram_arena::Arena;
 use std::alloc::Global;
 
 /// How a run begins.
-#[derive(Clone, Copy, PartialEq, Eq)]
+#[derive(Clone, Copy)]
 pub struct Frame {
     /// All registers: R0 to R12, SP, LR and PC.
     pub regs: [u32; 16],
