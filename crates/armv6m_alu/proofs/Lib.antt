@@ -1,1 +1,2 @@
+-- Powers of two that fit 32 bits.
 pub mod PowerLemmas

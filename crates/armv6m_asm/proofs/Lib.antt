@@ -1,3 +1,4 @@
+-- What the words of a line spell, where each statement stands, and that a text has one code or one refusal.
 pub mod Even
 mod LawLemmas
 mod ListLemmas

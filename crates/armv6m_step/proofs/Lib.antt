@@ -1,3 +1,4 @@
+-- An instruction as its accesses, and that a quick step is the instruction of its halfword.
 pub mod RunLemmas
 pub mod ShiftLemmas
 pub mod ListLemmas

@@ -148,22 +148,6 @@ pub pairs_have : (a b : BenchState) (P Q : List ℕ → Type 0) → Leaves (file
     → (file cells : List ℕ) → LeftSince b a.moment file cells → P file × Q cells
 pairs_have a b P Q files cells f c (k, from, to, f_at, c_at) = (files.each k f from to f_at, cells.each k c from to c_at)
 
--- where the cells' half stayed, the pairs left since then are the files left since then, each with any cells of that half
-pub pairs_where_cells_stay : (a b : BenchState) → Stays (cells_half a) (cells_half b) → (file cells : List ℕ)
-    → LeftSince b a.moment file cells ↔ (((k : ℕ) × (a.moment ≤ k) × (k ≤ b.moment) × b.files_at k file) × left (cells_half a) cells)
-pairs_where_cells_stay a b stay f c = (
-  (λ (k, from, to, f_at, c_at). ((k, from, to, f_at), (stay.same k c from to).0 c_at)),
-  (λ (since, now). (since.0, since.1, since.2, since.3, (stay.same since.0 c since.1 since.2).1 now)),
-)
-
--- and the same with files and cells exchanged
-pub pairs_where_file_stays : (a b : BenchState) → Stays (file_half a) (file_half b) → (file cells : List ℕ)
-    → LeftSince b a.moment file cells ↔ (left (file_half a) file × ((k : ℕ) × (a.moment ≤ k) × (k ≤ b.moment) × b.cells_at k cells))
-pairs_where_file_stays a b stay f c = (
-  (λ (k, from, to, f_at, c_at). ((stay.same k f from to).0 f_at, (k, from, to, c_at))),
-  (λ (now, since). (since.0, since.1, since.2, (stay.same since.0 f since.1 since.2).1 now, since.3)),
-)
-
 -- a piece of a run in which each half is known by itself
 pub pairs_of : {a b : BenchState} (P Q : List ℕ → Type 0) (R : List ℕ → List ℕ → Type 0) → Leaves (file_half a) (file_half b) P →
     Leaves (cells_half a) (cells_half b) Q

@@ -1,3 +1,4 @@
+-- What the files of a command say and want of the cells, and what a refusal leaves of them.
 pub mod FilesLemmas
 pub mod ImageLemmas
 pub mod TakeLemmas

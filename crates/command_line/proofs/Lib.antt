@@ -1,3 +1,4 @@
+-- A command's words, as `clap` walks them and as the rule on words scans them.
 pub mod HandedOn
 pub mod Leaf
 pub mod LeafWalk

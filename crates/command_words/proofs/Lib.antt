@@ -1,3 +1,4 @@
+-- What words ask for: lines, their options, addresses and names.
 pub mod AddressLemmas
 pub mod ArgumentLemmas
 pub mod FitLemmas

@@ -1,3 +1,4 @@
+-- A demonstration: what it makes, what its run leaves, and the lines that show it.
 pub mod GeneratorLemmas
 pub mod MadeLemmas
 pub mod PlanLemmas

@@ -1,3 +1,4 @@
+-- What the trial of a list of calls says of an algorithm, call after call.
 pub mod BeginLemmas
 pub mod ListLemmas
 pub mod IdealLemmas

@@ -1,3 +1,4 @@
+-- The chosen plan: that it leads to the wanted contents, what it costs, and that no list costs less.
 pub mod NeedLemmas
 pub mod SetLemmas
 pub mod LeastLemmas

@@ -1,3 +1,4 @@
+-- Ticks, accesses and registers of a controller, row by row of its table.
 pub mod TickLemmas
 pub mod TouchLemmas
 pub mod RegisterLemmas

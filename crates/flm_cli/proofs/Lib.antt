@@ -1,3 +1,4 @@
+-- From the steps of `compare`, `inspect`, `plan` and `verify` to their ends.
 pub mod CompareLemmas
 pub mod ComparisonLemmas
 pub mod FoundLemmas

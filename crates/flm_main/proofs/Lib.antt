@@ -1,1 +1,2 @@
+-- The pairs among words.
 mod PairLemmas

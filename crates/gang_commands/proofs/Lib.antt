@@ -1,3 +1,4 @@
+-- Lines, refusals and ends of the targets of a gang, and what its status says of each bench.
 mod LineLemmas
 mod RefusalLemmas
 pub mod WordLemmas

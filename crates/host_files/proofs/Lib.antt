@@ -1,1 +1,2 @@
+-- Benches that were opened one beside the other.
 pub mod BesideLemmas

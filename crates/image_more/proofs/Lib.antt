@@ -1,3 +1,4 @@
+-- UF2 blocks and the rows of maps, and that a text or a file of a map is read as that map.
 pub mod Uf2Lemmas
 pub mod RowLemmas
 pub mod DigitLemmas

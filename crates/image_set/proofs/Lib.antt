@@ -1,3 +1,4 @@
+-- Unions of images and ELF segments, and that a file has one image or one fault.
 pub mod SegmentLemmas
 pub mod UnionLemmas
 pub mod RangeLemmas

@@ -1,3 +1,4 @@
+-- From the steps of a command on a job to its end, and that what it answers is what a campaign asks of it.
 pub mod TurnLemmas
 pub mod KindLemmas
 pub mod FinishLemmas

@@ -1,1 +1,2 @@
+-- From what `open` answers to the end of `status`.
 pub mod StatusLemmas

@@ -1,3 +1,4 @@
+-- The body of a job, field by field: what was put is what is read, and a body says one job.
 pub mod Steps
 pub mod TakeLemmas
 pub mod CoverLemmas

@@ -1,3 +1,4 @@
+-- From the records of the commands to the promise: each call keeps it, and so does each campaign.
 mod StopLemmas
 mod RefusedLemmas
 mod ClassLemmas

@@ -1,1 +1,2 @@
+-- A comparison that goes on window by window.
 pub mod ReadbackLemmas

@@ -1,0 +1,1 @@
+-- No lemmas: the crate's answers need none.

@@ -1,3 +1,4 @@
+-- A target's run: its steps, slices and ends, its RAM and registers, and what it leaves of the cells.
 pub mod StepLemmas
 pub mod UnitLemmas
 pub mod PathLemmas

@@ -1,1 +1,2 @@
+-- What a call in one of two windows leaves of both.
 mod BothLemmas
