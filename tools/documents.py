@@ -6,16 +6,30 @@ src/, specs/ or proofs/), and the flags behind a script must stand in it; a comm
 of a function of that name; and a name of this project's kind (with a '_', a '::' or two capitals) must stand as a word in some source,
 script or stored run. In the tables by crates of README.md and docs/CLAUSES.md it must stand in one of their crates. Links must lead to a
 file and to a heading. Each crate of crates.txt must be named in README.md or docs/TESTS.md, and in docs/ARCHITECTURE.md. What is to be
-short must be: documents, decisions, lines. The last table of docs/PROMISES.md must be what tools/closure.py prints. Ends with 1 where
-something doesn't hold."""
+short must be: documents, decisions, lines, and the sentences of README.md and docs/USE.md. Words that a reader stumbles over must not stand
+in prose. The last table of docs/PROMISES.md must be what tools/closure.py prints. Ends with 1 where something doesn't hold."""
 import os, re, subprocess, sys
 
 ROOT = os.path.dirname(os.path.dirname(os.path.abspath(__file__)))
 DOCUMENTS = ["README.md", *sorted(f"docs/{it}" for it in os.listdir(f"{ROOT}/docs"))]
 SOURCES = (".rt", ".antt", ".sh", ".py", ".txt", ".toml", ".edit")
 ENDS = ("", ".rt", ".antt")
-MOST_LINES = {"README.md": 220, "docs/PROMISES.md": 250, "docs/GATE.md": 90, "docs/MEASURED.md": 120}
-MOST_PROVED, MOST_DECISION, MOST_WIDE = 40, 6, 160
+MOST_LINES = {"README.md": 200, "docs/PROMISES.md": 250, "docs/GATE.md": 90, "docs/MEASURED.md": 120}
+MOST_PROVED, MOST_DECISION, MOST_WIDE, MOST_WORDS = 40, 6, 160, 30
+# What a reader stumbles over, and what says it plainly.
+STUMBLES = {
+    r"behind": "after",
+    r"so many": "N",
+    r"of which": "a sentence of its own",
+    r"told": "reported, known",
+    r"gone on with": "resumed",
+    r"to be had": "available",
+    r"in vain": "for nothing",
+    r"hand(?:s|ed)? on": "pass on",
+    r"want of memory": "out of memory",
+}
+# The promise in the words that are fixed.
+HEADLINE = re.compile(r"^> (?:For every algorithm file|it had when the job began|finished; and an algorithm)")
 OUTSIDE = {"toProg", "toErase"}  # fields of FlashOS.h
 OF_RT = set("ci check try test run lib lemma fmt tidy expand plant seed verdict all must-fail new doc version help".split())
 SCRIPT = r"[\w./-]+\.(?:sh|py|rt|antt)"
@@ -183,19 +197,58 @@ def faults_of_line(path, line):
             yield f"no place {to}#{anchor}"
 
 
+def prose_of(line):
+    """A line without its code and without where its links lead."""
+    return re.sub(r"\]\([^)]*\)", "]", re.sub(r"`[^`]*`", "X", line))
+
+
+def faults_of_words(line):
+    """Of a line outside a block: the words that a reader stumbles over."""
+    if not HEADLINE.match(line):
+        for words, plain in STUMBLES.items():
+            if found := re.search(rf"\b(?:{words})\b", prose_of(line), re.I):
+                yield f"'{found[0]}': say {plain}"
+
+
+def paragraphs_of(text):
+    """(line number, text) of each paragraph, item and cell of a table outside the blocks."""
+    number, held, in_block = 0, "", False
+    for at, line in enumerate([*text.split("\n"), ""], 1):
+        in_block ^= line.startswith("```")
+        begins = re.match(r"\||#|- |\d+\. |$|```|> ?$|!\[", line)
+        if held and (begins or in_block):
+            yield number, held
+            held = ""
+        if in_block or line.startswith(("```", "#", "![")):
+            continue
+        if line.startswith("|"):
+            yield from ((at, cell) for cell in prose_of(line).strip("|").split("|"))
+        elif line.strip(" >"):
+            number, held = (number, f"{held} {line}") if held else (at, line)
+
+
+def faults_of_sentences(path):
+    """Of README.md and docs/USE.md: sentences that are too long to be read once."""
+    for number, text in paragraphs_of(read(f"{ROOT}/{path}")) if path in ("README.md", "docs/USE.md") else ():
+        for sentence in re.split(r"(?<=[.!?:;])\s+(?=[A-Z\[*])", prose_of(text)):
+            words = len(re.findall(r"[\w'/-]+", sentence))
+            if words > MOST_WORDS and not HEADLINE.match(text):
+                yield f"{path}:{number}: a sentence of {words} words, more than {MOST_WORDS}: {sentence.strip()[:60]}"
+
+
 def faults_of_document(path):
     in_block = False
     for number, line in enumerate(read(f"{ROOT}/{path}").split("\n"), 1):
         if line.startswith("```"):
             in_block = not in_block
         elif not in_block:
-            yield from (f"{path}:{number}: {it}" for it in faults_of_line(path, line))
+            yield from (f"{path}:{number}: {it}" for it in [*faults_of_line(path, line), *faults_of_words(line)])
         elif line.startswith("rt "):
             yield from (f"{path}:{number}: {it}" for it in faults_of_command(line.split()))
 
 
 def main():
-    found = [*faults_of_all(), *(it for path in DOCUMENTS for it in faults_of_document(path))]
+    found = [*faults_of_all(), *(it for path in DOCUMENTS for it in [*faults_of_document(path), *faults_of_sentences(path)])]
     print("\n".join([*found, f"{len(found)} wrong"]))
     return 1 if found else 0
 
