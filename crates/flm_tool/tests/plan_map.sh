@@ -30,10 +30,15 @@ refused() {
     same "$name" "1 plan_map: $wanted" "$("$map" "$@" > out 2> err; echo $?) $(cat err)$(cat out)"
 }
 
+# How many boxes of this look and height the picture has.
+boxes() { grep -c "^<rect class=\"$1\".*height=\"$2\"/>" picture.svg; }
+
 cp "$data/a1.flm" .
-printf 'ram = { base = 0x20000000, size = 4096 }\nregion = [{ base = 0x08000000, sectors = [[4, 256]] }]\ncontroller.base = 0x40022000\n' > board.toml
-printf 'ram = { base = 0x20000000, size = 4096 }\nregion = [{ base = 0x08000000, sectors = [[2, 256]] }, { base = 0x1FFFF000, sectors = [[1, 256]] }]\n' > two.toml
-printf 'controller.base = 0x40022000\n' >> two.toml
+# A board: NAME REGIONS.
+board() { printf 'ram = { base = 0x20000000, size = 4096 }\nregion = [%s]\ncontroller.base = 0x40022000\n' "$2" > "$1"; }
+
+board board.toml '{ base = 0x08000000, sectors = [[4, 256]] }'
+board two.toml '{ base = 0x08000000, sectors = [[2, 256]] }, { base = 0x1FFFF000, sectors = [[1, 256]] }'
 head -c 1024 /dev/zero | tr '\000' '\377' > blank
 
 # What the program plans: a blank device, old contents that are kept, and nothing to do.
@@ -43,10 +48,12 @@ map 'a blank device, across two sectors' '08000000 ++..|.  as it is: 2|+  progra
 cp blank cells && printf 'old' | dd of=cells bs=1 seek=64 conv=notrunc status=none && printf 'old contents' | dd of=cells conv=notrunc status=none
 "$program" job cells plan --raw-at 0x08000000 board.toml a1.flm new.bin > plan
 map 'old contents, as the plan alone shows them' '08000000 #...|.  as it is: 3|#  erased and programmed: 1|' board.toml plan
-map 'old contents that are kept' '08000000 @...|.  as it is: 3|@  erased, kept bytes written back: 1|' --cells cells --image new.bin --raw-at 0x08000000 board.toml plan
+map 'old contents that are kept' \
+    '08000000 @...|.  as it is: 3|@  erased, kept bytes written back: 1|' --cells cells --image new.bin --raw-at 0x08000000 board.toml plan
 head -c 256 /dev/zero | tr '\000' '1' > whole.bin
 "$program" job cells plan --raw-at 0x08000000 board.toml a1.flm whole.bin > plan
-map 'an image of the whole sector keeps nothing' '08000000 #...|.  as it is: 3|#  erased and programmed: 1|' --cells cells --image whole.bin --raw-at 0x08000000 board.toml plan
+map 'an image of the whole sector keeps nothing' \
+    '08000000 #...|.  as it is: 3|#  erased and programmed: 1|' --cells cells --image whole.bin --raw-at 0x08000000 board.toml plan
 head -c 256 blank > emptied.bin
 "$program" job cells plan --raw-at 0x08000000 board.toml a1.flm emptied.bin > plan
 map 'a sector that becomes empty' '08000000 -...|.  as it is: 3|-  erased and left empty: 1|' board.toml plan
@@ -60,8 +67,9 @@ printf 'region 08000000\nplan chip\nerase chip\ncost 5\nregion 1FFFF000\nplan se
 map 'two regions, whose chip is the first' '08000000 --|-  erased and left empty: 2|1FFFF000 +|+  programmed: 1|' two.toml plan
 map 'the same with a picture' '08000000 --|-  erased and left empty: 2|1FFFF000 +|+  programmed: 1|' --svg picture.svg two.toml plan
 same 'its boxes' '2 erased, 1 not, 1 page' \
-    "$(grep -c '^<rect class="erased".*height="26"' picture.svg) erased, $(grep -c '^<rect class="box".*height="26"' picture.svg) not, $(grep -c '^<rect class="page".*height="18"' picture.svg) page"
-same 'its heads' '08000000 256: erased and left empty|08000100 256: erased and left empty|1FFFF000 256: programmed|' "$(sed -n 's:.*<title>\(.*\)</title>:\1:p' picture.svg | sort -u | tr '\n' '|')"
+    "$(boxes erased 26) erased, $(boxes box 26) not, $(boxes page 18) page"
+same 'its heads' \
+    '08000000 256: erased and left empty|08000100 256: erased and left empty|1FFFF000 256: programmed|' "$(sed -n 's:.*<title>\(.*\)</title>:\1:p' picture.svg | sort -u | tr '\n' '|')"
 
 # Inputs that are wrong.
 refused 'no board' 'none.toml: No such file or directory' none.toml plan
@@ -89,7 +97,7 @@ refused 'an image of no form' 'image new.bin: NoForm' --cells cells --image new.
 same 'an output that is full' 1 "$("$map" board.toml none > /dev/full 2> err; echo $?)"
 
 # A million lines: 16 MiB in sectors of 4 KiB, each second page of 8 bytes.
-printf 'ram = { base = 0x20000000, size = 4096 }\nregion = [{ base = 0x08000000, sectors = [[4096, 4096]] }]\ncontroller.base = 0x40022000\n' > large.toml
+board large.toml '{ base = 0x08000000, sectors = [[4096, 4096]] }'
 awk 'BEGIN { print "plan sectors"; for (k = 0; k < 1048576; k++) printf "program %08X 8\n", 134217728 + 16 * k; print "cost 10485760" }' > plan
 begun=$(date +%s)
 same 'a million lines' '+  programmed: 4096' "$("$map" large.toml plan | tail -n 1)"
