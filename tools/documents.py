@@ -11,7 +11,7 @@ something doesn't hold."""
 import os, re, subprocess, sys
 
 ROOT = os.path.dirname(os.path.dirname(os.path.abspath(__file__)))
-DOCUMENTS = ["README.md", *sorted(f"docs/{it}" for it in os.listdir(f"{ROOT}/docs"))]
+DOCUMENTS = ["README.md", *sorted(f"docs/{it}" for it in os.listdir(f"{ROOT}/docs") if it.endswith(".md"))]
 SOURCES = (".rt", ".antt", ".sh", ".py", ".txt", ".toml", ".edit")
 ENDS = ("", ".rt", ".antt")
 MOST_LINES = {"README.md": 220, "docs/PROMISES.md": 250, "docs/GATE.md": 90, "docs/MEASURED.md": 120}
