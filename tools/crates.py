@@ -78,6 +78,9 @@ def copy_sources(names, to):
 def take_built(name, to, part="rlib"):
     """Gives that checkout what this one has in out/ of the crate: by default its library, of which files are replaced and never changed."""
     here, there = f"{ROOT}/crates/{name}/out/{part}", f"{to}/crates/{name}/out/{part}"
+    # (a library is built with a new stamp, so the same file says that it was taken before)
+    if os.path.isfile(f"{there}/stamp") and os.path.isfile(f"{here}/stamp") and os.path.samefile(f"{here}/stamp", f"{there}/stamp"):
+        return
     shutil.rmtree(there, ignore_errors=True)
     if os.path.isdir(here):
         shutil.copytree(here, there, copy_function=link_or_copy if part == "rlib" else link_proved)
