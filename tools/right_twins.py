@@ -6,8 +6,8 @@ A wrong body, crates/CRATE/must-fail/EDIT.edit, has after each line `new: TEXT` 
 such line. Here the right texts take the place of the wrong ones, in a copy of the crate, over what `rt check` kept of it and the libraries that it stands on.
 A wrong body whose twin is refused as well shows nothing: what was refused is then the change of the text, and not the value.
 
---refusals tries the wrong bodies too, and says what each refusal shows: a counterexample; no decision, where a search gave up; an answer that no longer fits;
-a proof that names what the edit took away. Only the first is evidence. After it stands the first line that says so.
+--refusals tries the wrong bodies too, and says what each refusal shows: a counterexample; no decision, where a search gave up or found nothing; an answer that
+no longer fits; a proof that names what the edit took away. Only the first is evidence. The first line that says so stands below it.
 
 The status is 0 where each wrong body has a twin, each twin that was tried is proved and, with --refusals, each refusal shows a counterexample; else 1, or 2
 where nothing can be tried, or 128 and the number of a signal that ended it.
@@ -28,7 +28,7 @@ from crates import ROOT, alone_in, below, copy_sources, libraries_of, take_built
 # What the output of a refusal has, in the order in which they are looked for.
 KINDS = [
     ("a counterexample", r"the goal does not follow|the facts known there allow values"),
-    ("no decision", r"gave up|found no proof|stopped at its own limit|found nothing"),
+    ("no decision", r"gave up|found no proof|no proof of|stopped at its own limit"),
     ("an answer that doesn't fit", r"the two types|expected type|as printed"),
     ("a proof that names what is gone", r"has no field|is not in scope|has no `|was not admitted"),
 ]
@@ -98,7 +98,7 @@ def check(folder, texts):
 
 def refusal(status, said):
     """Returns what a check came to, in words, and the line that says so."""
-    lines = [it for it in said.splitlines() if SAYS.match(it)]
+    lines = [it for it in said.splitlines() if SAYS.match(it) and re.search(r": error\b|it is not proved", it)]
     if status == 0:
         return "NOT REFUSED", ""
     if "logic=not-proved" not in said:
@@ -107,7 +107,7 @@ def refusal(status, said):
         for line in lines:
             if re.search(words, line):
                 return kind, line
-    return "no reason that is known here", (lines or [""])[0]
+    return "a goal without a proof, and nothing more is said", (lines or [""])[0]
 
 
 class Tries:
