@@ -13,28 +13,7 @@ import subprocess
 import sys
 import tempfile
 
-PARTS = "src", "specs", "proofs"
-
-
-def libraries_of(root):
-    """Returns the libraries that each crate's line of crates.txt names, by the crate's name."""
-    found = {}
-    with open(f"{root}/crates.txt", encoding="utf-8") as lines:
-        for line in lines:
-            name, colon, libraries = line.partition(":")
-            if colon and not line.startswith("#"):
-                found[name.strip()] = libraries.split()
-    return found
-
-
-def below(crate, libraries, found=None):
-    """Returns the repository's libraries that the crate stands on, each once."""
-    found = {} if found is None else found
-    for it in libraries[crate]:
-        if it in libraries and it not in found:
-            found[it] = None
-            below(it, libraries, found)
-    return found
+from crates import PARTS, below, libraries_of
 
 
 def words_of(root, crate):

@@ -8,18 +8,9 @@ import os
 import re
 import sys
 
+from crates import libraries_of
+
 COMMENTS = {".rt": r'"(?:\\.|[^"\\])*"|//[^\n]*', ".antt": r"--[^\n]*"}
-
-
-def crates_of(root):
-    """Returns the libraries that each crate's line names, by the crate's name."""
-    found = {}
-    with open(f"{root}/crates.txt", encoding="utf-8") as lines:
-        for line in lines:
-            name, colon, libraries = line.partition(":")
-            if colon and not line.startswith("#"):
-                found[name.strip()] = libraries.split()
-    return found
 
 
 def text_of(folder):
@@ -41,7 +32,7 @@ def is_used(text, library):
 
 def main():
     root = sys.argv[1] if len(sys.argv) > 1 else os.path.dirname(os.path.dirname(os.path.abspath(__file__)))
-    count, crates = 0, crates_of(root)
+    count, crates = 0, libraries_of(root)
     for crate, libraries in crates.items():
         text = text_of(f"{root}/crates/{crate}")
         unused = [it for it in libraries if not is_used(text, it)]

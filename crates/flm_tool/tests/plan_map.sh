@@ -68,8 +68,8 @@ map 'two regions, whose chip is the first' '08000000 --|-  erased and left empty
 map 'the same with a picture' '08000000 --|-  erased and left empty: 2|1FFFF000 +|+  programmed: 1|' --svg picture.svg two.toml plan
 same 'its boxes' '2 erased, 1 not, 1 page' \
     "$(boxes erased 26) erased, $(boxes box 26) not, $(boxes page 18) page"
-same 'its heads' \
-    '08000000 256: erased and left empty|08000100 256: erased and left empty|1FFFF000 256: programmed|' "$(sed -n 's:.*<title>\(.*\)</title>:\1:p' picture.svg | sort -u | tr '\n' '|')"
+same 'its heads' '08000000 256: erased and left empty|08000100 256: erased and left empty|1FFFF000 256: programmed|' \
+    "$(sed -n 's:.*<title>\(.*\)</title>:\1:p' picture.svg | sort -u | tr '\n' '|')"
 
 # Inputs that are wrong.
 refused 'no board' 'none.toml: No such file or directory' none.toml plan
