@@ -10,6 +10,7 @@ mod file_lock;
 mod host_disk;
 mod host_source;
 mod job_file;
+mod plan_totals;
 mod progress_line;
 mod purpose;
 mod std_sink;
