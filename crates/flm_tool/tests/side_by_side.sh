@@ -103,7 +103,7 @@ cp old cells
     head -c 65536 /dev/zero
     "$program" job cells program --raw-at 0x08000010 small.toml a1.flm first 2> err.1
     echo $? > status.1
-} | { sleep 5; cat > out.1; } &
+} | { sleep 6; cat > out.1; } &
 running=$!
 until [ -s job ]; do sleep 0.01; done
 sleep 0.2
