@@ -72,7 +72,13 @@ row 'one terminal: the texts as on a pipe' "$(cmp -s out texts; echo $?)"
 
 # An interrupt leaves the line as it was, and the terminal on a new line after it.
 begin
-script -qec "timeout -s INT 0.7 $program job cells ${words[*]} > out_there" seen > shown < /dev/null
+rm -f shown
+{
+    until grep -aqs "$whole" shown; do sleep 0.02; done
+    kill -INT "$(cat pid)"
+} &
+script -qfec "echo \$\$ > pid; exec $program job cells ${words[*]} > out_there" seen > shown < /dev/null
+wait
 row 'an interrupt: the last line is whole' "$(tail -n 1 shown | tr -d '\r' | sed 's/.*\x1b\[K//' | grep -qx "$whole"; echo $?)"
 row 'an interrupt: a new line' "$([ -z "$(tail -c 1 shown)" ]; echo $?)"
 
