@@ -132,6 +132,7 @@ impl ShownBench<DiskBench<WindowedDisk<HostDisk>>> {
         ensures store { (state_of self.new).store_faults ≡ (state_of self.old).store_faults }
         ensures device { (state_of self.new).device_faults ≡ (state_of self.old).device_faults }
     {
+        line.set_cells(self.bench.cells_len());
         self.line = line;
     }
 }

@@ -5,6 +5,8 @@
 enum Action {
     Erase,
     Program,
+    // it names a region of several
+    Region,
     Other,
 }
 
@@ -14,17 +16,21 @@ impl Action {
         match first {
             b'e' => Action::Erase,
             b'p' => Action::Program,
+            b'r' => Action::Region,
             _ => Action::Other,
         }
     }
 }
 
 /// The cells that a plan erases and programs, summed up while its text passes, cut anywhere. A line that begins with `erase` or `program` has an
-/// address and a number of cells after that. Only `erase chip` has none, and is no part of the sum.
+/// address and a number of cells after that. Only `erase chip` has none: it counts for all cells of the device, and for none on a board of two
+/// regions, which are two chips.
 #[derive(Clone, Copy)]
 pub struct PlanTotals {
     pub erased: u64,
     pub programmed: u64,
+    // the cells of the chip
+    cells: u64,
     // of the line that passes: what it asks for, once a byte of it has passed; its blanks so far; and the number after the second of them
     action: Option<Action>,
     blanks: u32,
@@ -37,10 +43,16 @@ impl PlanTotals {
         PlanTotals {
             erased: 0,
             programmed: 0,
+            cells: 0,
             action: None,
             blanks: 0,
             number: 0,
         }
+    }
+
+    /// Takes the device to have this number of cells.
+    pub fn set_cells(&mut self, cells: u64) {
+        self.cells = cells;
     }
 
     /// Follows a piece of the text.
@@ -53,8 +65,8 @@ impl PlanTotals {
         }
     }
 
-    /// How much of the plan is done with these cells, in percent. It isn't known where more is done than the text said: where the whole chip is
-    /// erased, or where there was no such text.
+    /// How much of the plan is done with these cells, in percent. It isn't known where more is done than the text said: where one chip of two is
+    /// erased whole, or where there was no such text.
     pub fn percent(&self, erased: u64, programmed: u64) -> Option<u64> {
         let all = self.erased.saturating_add(self.programmed);
         if all == 0 || erased > self.erased || programmed > self.programmed {
@@ -81,9 +93,13 @@ impl PlanTotals {
     /// Adds up a line.
     fn end_line(&mut self) {
         match self.action {
+            Some(Action::Erase) if self.blanks == 1 => {
+                self.erased = self.erased.saturating_add(self.cells);
+            }
             Some(Action::Erase) => self.erased = self.erased.saturating_add(self.number),
             Some(Action::Program) => self.programmed = self.programmed.saturating_add(self.number),
-            _ => {}
+            Some(Action::Region) => self.cells = 0,
+            Some(Action::Other) | None => {}
         }
         self.action = None;
         self.blanks = 0;

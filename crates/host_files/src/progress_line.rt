@@ -165,6 +165,15 @@ impl ProgressLine {
         }
     }
 
+    /// Takes the device to have this number of cells.
+    pub fn set_cells(&self, cells: u32) {
+        if let Some(shared) = &self.shared {
+            let mut plan = shared.plan.get();
+            plan.set_cells(u64::from(cells));
+            shared.plan.set(plan);
+        }
+    }
+
     /// Follows a piece of what is put on a stream: a plan in it says how many cells there are to erase and to program.
     pub fn follow(&self, piece: &[u8]) {
         if let Some(shared) = &self.shared {
