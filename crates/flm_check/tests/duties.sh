@@ -209,7 +209,7 @@ terminal() {
     same 'a terminal: a line' 0 "$(grep -aq '[0-9]* lists tried, [0-9]* calls' shown; echo $?)"
     same 'a terminal: wiped at the end' "$(printf '\r\033[K')" "$(tail -c 4 shown)"
     script -qec "$program small.toml flash.flm --rounds 40" seen > shown < /dev/null
-    same 'one terminal: the texts as on a pipe' '' "$(tr -d '\r' < shown | sed 's/.*\x1b\[K//' | cmp - out 2>&1)"
+    same 'one terminal: the texts as on a pipe' '' "$(tr -d '\r' < shown | sed 's/.*\x1b\[K//' | grep -v ' lists tried, ' | cmp - out 2>&1)"
 }
 
 # The algorithm of another project, where it is installed.

@@ -6,8 +6,25 @@ ghost use Rattle.flm_main.specs.Line.{job_name, cells_name, IsForGang, job_names
 use crate::arguments::Arguments;
 use crate::pairs::{count_pairs, pair_at};
 use faults::OutOfMemory;
-use host_files::{FileBench, ProgressLine};
+use host_files::{FileBench, ProgressLine, Purpose};
 use octets::Word;
+
+/// What a command of these words is about to do with the files.
+fn purpose_of(words: &[Word]) -> Purpose {
+    match words.first() {
+        Some(word) => purpose_named(word.text()),
+        None => Purpose::Looks,
+    }
+}
+
+/// What the command of this name is about to do with them.
+fn purpose_named(command: &str) -> Purpose {
+    match command {
+        "program" | "begin" => Purpose::Begins,
+        "resume" | "revert" => Purpose::GoesOn,
+        _ => Purpose::Looks,
+    }
+}
 
 /// The bench of one device.
 pub fn open_one(
@@ -21,7 +38,7 @@ pub fn open_one(
 {
     let job = Word::copy(rt.alloc(), arguments.job())?;
     let cells = Word::copy(rt.alloc(), arguments.cells())?;
-    let mut bench = FileBench::new(rt, job, cells);
+    let mut bench = FileBench::opened(rt, job, cells, &[], purpose_of(arguments.words()));
     bench.show_on(line.share());
     Ok(bench)
 }
@@ -42,7 +59,7 @@ fn open_bench(
     let pair = pair_at(words, index);
     let job = Word::copy(rt.alloc(), pair.job.text())?;
     let cells = Word::copy(rt.alloc(), pair.cells.text())?;
-    let mut bench = FileBench::beside(rt, job, cells, others);
+    let mut bench = FileBench::opened(rt, job, cells, others, Purpose::GoesOn);
     bench.show_on(line.share());
     Ok(bench)
 }

@@ -1,6 +1,6 @@
 #!/bin/bash
-# Runs the built program where others use the same files: two at once on one JOB and CELLS, files that another program has locked, JOB
-# and CELLS as one file, cells that can't be written, and a terminal.
+# Runs the built program where others use the same files: two at once on one JOB and CELLS, some that look on all the while, a job that runs, files
+# that another program has locked, JOB and CELLS as one file, cells that can't be written, and a terminal.
 #   bash tests/side_by_side.sh [PROGRAM [TIMES]]        (from crates/flm_tool; else out/flm_tool, 40 pairs at once)
 # It wants flock, script and setpriv (of Debian's util-linux and bsdutils), and works in a folder of its own. It ends with status 0 where
 # all is as wanted.
@@ -69,6 +69,54 @@ for turn in $(seq "$times"); do
     same "turn $turn: the job" 'job none' "$("$program" job cells status)"
 done
 echo "$busy of $((2 * times)) were refused"
+
+# Others that look on all the while: `status`, `verify` and `dump`, each in turn every tenth of a second. None of them fails, and no job.
+poll() {
+    local words
+    while [ ! -e over ]; do
+        for words in status 'verify --raw-at 0x08000010 small.toml first' 'dump hex small.toml'; do
+            "$program" job cells $words > polled.out 2> polled.err
+            echo "$? ${words%% *}" >> polled
+        done
+        sleep 0.1
+    done
+}
+rm -f job
+head -c 1024 /dev/urandom > cells
+poll &
+poller=$!
+failed=0
+for turn in $(seq 50); do
+    for image in first second; do
+        "$program" job cells program --raw-at 0x08000010 small.toml a1.flm $image > out 2> err || failed=$((failed + 1))
+    done
+done
+: > over
+wait $poller
+same 'jobs beside a poll' 0 $failed yes "$([ "$(wc -l < polled)" -ge 6 ] && echo yes)"
+same 'a poll beside jobs' '' "$(grep -vx -e '0 .*' -e '13 verify' polled)"
+
+# A job that runs, here one whose output nobody takes for some seconds: a program beside it fails within two seconds, and changes nothing.
+rm -f job
+cp old cells
+{
+    head -c 65536 /dev/zero
+    "$program" job cells program --raw-at 0x08000010 small.toml a1.flm first 2> err.1
+    echo $? > status.1
+} | { sleep 6; cat > out.1; } &
+running=$!
+until [ -s job ]; do sleep 0.01; done
+sleep 0.2
+for words in 'program --raw-at 0x08000200 small.toml a1.flm second' resume revert status; do
+    start=$(date +%s%N)
+    run 8 '' 'flmprog: store fault' -- job cells $words
+    took=$((($(date +%s%N) - start) / 1000000))
+    same "$words beside a job that runs: $took ms" yes "$([ $took -lt 2000 ] && echo yes)"
+done
+same 'a job that runs: the cells' 0 "$(cmp -s cells old; echo $?)"
+wait $running
+laid expected first 16
+same 'a job that ran' 0 "$(cat status.1)" 0 "$(cmp -s cells expected; echo $?)" 'job none' "$("$program" job cells status)"
 
 # Files that another program has locked: nothing is written where it only reads, and nothing is read where it writes.
 head -c 1024 /dev/urandom > old

@@ -37,7 +37,7 @@ impl CellsFile {
             file,
             writable,
             count,
-            lock: FileLock::new(),
+            lock: FileLock::new(rt),
         }
     }
 
@@ -46,7 +46,15 @@ impl CellsFile {
         ensures name { self.new.name ≡ self.old.name }
         ensures lock { self.new.lock.hold ≡ hold.Lost }
     {
-        self.lock = FileLock::lost();
+        self.lock.lose();
+    }
+
+    /// Says whether other programs are to be kept from reading the cells from the first call on, where none reads them then.
+    pub fn claim(&mut self, claims: bool)
+        ensures name { self.new.name ≡ self.old.name }
+        ensures lock { self.new.lock.hold ≡ self.old.lock.hold }
+    {
+        self.lock.claim(claims);
     }
 
     /// The number of cells: the file's length, at most 2^32 - 1, or 0 where it can't be opened.

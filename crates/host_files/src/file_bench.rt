@@ -7,21 +7,26 @@ use crate::file_id::FileId;
 use crate::host_disk::HostDisk;
 use crate::job_file::JobFile;
 use crate::progress_line::ProgressLine;
+use crate::purpose::Purpose;
 use bench_model::{Bench, DeviceFault, StoreFault};
 use disk_files::{DiskBench, WindowedDisk};
 use octets::Word;
 
-/// A bench over two files of the system. It tells no contents.
+/// A bench that hands each call to the one in it. It counts on a line the cells that were erased and programmed, and knows which files of the
+/// system the one in it is over.
 #[derive(Drop)]
-pub struct FileBench {
-    bench: DiskBench<WindowedDisk<HostDisk>>,
+pub struct ShownBench<B> {
+    bench: B,
     line: ProgressLine,
     // the length of the operation that was opened last
     open_len: u32,
-    // which files these are: the job file where it was there
+    // the job file where it was there when the bench was made, and the cells file
     job: Option<FileId>,
     cells: Option<FileId>,
 }
+
+/// The bench over two files of the system. Since `HostDisk` tells nothing, neither does it.
+pub type FileBench = ShownBench<DiskBench<WindowedDisk<HostDisk>>>;
 
 /// Whether one of these benches has this file.
 fn has_one(file: FileId, benches: &[FileBench]) -> bool
@@ -45,7 +50,7 @@ fn is_taken(benches: &[FileBench], found: Option<FileId>) -> bool
     }
 }
 
-impl FileBench {
+impl ShownBench<DiskBench<WindowedDisk<HostDisk>>> {
     ghost use Rattle.host_files.specs.Bench.{state_of, job_name_of, cells_name_of, IsBeside};
 
     /// Opens the cells file. One that can't be opened counts as no cells, and each call on it that can fail does. The
@@ -56,7 +61,7 @@ impl FileBench {
         ensures store { (state_of result).store_faults ≡ 0 }
         ensures device { (state_of result).device_faults ≡ 0 }
     {
-        FileBench::beside(rt, job_name, cells_name, &[])
+        FileBench::opened(rt, job_name, cells_name, &[], Purpose::Looks)
     }
 
     /// The same beside other benches of this program. A file that one of these has counts as one that another program writes: each call on it
@@ -74,18 +79,39 @@ impl FileBench {
         ensures store { (state_of result).store_faults ≡ 0 }
         ensures device { (state_of result).device_faults ≡ 0 }
     {
+        FileBench::opened(rt, job_name, cells_name, others, Purpose::Looks)
+    }
+
+    /// The same for a purpose. Where that is to change the files, other programs are kept from reading each from its first call on, if none
+    /// reads it then: so none that begins to read it later is in the way.
+    pub fn opened(
+        rt: HostRuntime,
+        job_name: Word,
+        cells_name: Word,
+        others: &[FileBench],
+        purpose: Purpose,
+    ) -> FileBench
+        ensures job { job_name_of result ≡ job_name }
+        ensures cells { cells_name_of result ≡ cells_name }
+        ensures beside { IsBeside others.now result }
+        ensures store { (state_of result).store_faults ≡ 0 }
+        ensures device { (state_of result).device_faults ≡ 0 }
+    {
         let job_id = FileId::named(rt, job_name.text());
         let mut cells = CellsFile::open(rt, cells_name);
         let cells_id = cells.id();
         let count = cells.count();
         let mut job = JobFile::new(rt, job_name, cells_id);
+        let claims = purpose.claims(job_id);
+        job.claim(claims);
+        cells.claim(claims);
         if is_taken(others, job_id) {
             job.shut();
         }
         if is_taken(others, cells_id) {
             cells.shut();
         }
-        FileBench {
+        ShownBench {
             bench: DiskBench::new(
                 WindowedDisk::new(rt.alloc(), HostDisk::new(job, cells)),
                 count,
@@ -97,48 +123,47 @@ impl FileBench {
         }
     }
 
+    /// Counts from now on on this line which cells were erased and programmed.
+    pub fn show_on(&mut self, line: ProgressLine)
+        ensures job { job_name_of self.new ≡ job_name_of self.old }
+        ensures cells { cells_name_of self.new ≡ cells_name_of self.old }
+        ensures beside { (others : List _) → IsBeside others self.old → IsBeside others self.new }
+        ensures count { (state_of self.new).cell_count ≡ (state_of self.old).cell_count }
+        ensures store { (state_of self.new).store_faults ≡ (state_of self.old).store_faults }
+        ensures device { (state_of self.new).device_faults ≡ (state_of self.old).device_faults }
+    {
+        line.set_cells(self.bench.cells_len());
+        self.line = line;
+    }
+}
+
+impl<B> ShownBench<B> {
     /// Whether one of its files is this one.
     fn has(&self, file: FileId) -> bool
         ensures { result ≡ has_file file self.now }
     {
         file.matches(self.job) || file.matches(self.cells)
     }
-
-    /// Counts from now on on this line which cells were erased and programmed.
-    pub fn show_on(&mut self, line: ProgressLine)
-        ensures job { job_name_of self.new ≡ job_name_of self.old }
-        ensures cells { cells_name_of self.new ≡ cells_name_of self.old }
-        ensures beside { (others : List FileBench) → IsBeside others self.old → IsBeside others self.new }
-        ensures count { (state_of self.new).cell_count ≡ (state_of self.old).cell_count }
-        ensures store { (state_of self.new).store_faults ≡ (state_of self.old).store_faults }
-        ensures device { (state_of self.new).device_faults ≡ (state_of self.old).device_faults }
-    {
-        self.line = line;
-    }
 }
 
-impl Bench for FileBench {
-    ghost use Rattle.std.specs.Prelude.{false};
-    ghost use Rattle.bench_model.specs.Untold.{untold_law};
-    ghost use Rattle.host_files.specs.Bench.{state_of};
+impl<B: Bench> Bench for ShownBench<B> {
+    ghost tells = { B.tells };
 
-    ghost tells = { false };
+    ghost state = { λ b. B.state b.bench };
 
-    ghost state = { state_of };
+    ghost acts = { λ before act after. B.acts before.bench act after.bench };
 
-    ghost acts = { λ before act after. Unit {0} };
+    ghost as_read = { λ b told. B.as_read b.bench told };
 
-    ghost as_read = { λ b told. untold_law told };
+    ghost as_told = { λ b cells told. B.as_told b.bench cells told };
 
-    ghost as_told = { λ b cells told. untold_law told };
+    ghost all_told = { λ b told. B.all_told b.bench told };
 
-    ghost all_told = { λ b told. untold_law told };
+    ghost bytes = { λ b told. B.bytes b.bench told };
 
-    ghost bytes = { λ b told. untold_law told };
+    ghost few = { λ b. B.few b.bench };
 
-    ghost few = { λ b. b.bench.few };
-
-    ghost inside = { λ b told. untold_law told };
+    ghost inside = { λ b told. B.inside b.bench told };
 
     fn file_len(&mut self) -> Result<u64, StoreFault> {
         self.bench.file_len()

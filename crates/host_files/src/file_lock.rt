@@ -1,10 +1,20 @@
 //! Advisory locks on whole files, so that two programs at one file don't mix.
-ghost use Rattle.std.specs.Prelude.{◌≡◌, IsOk, IsErr, OnOk};
+ghost use Rattle.std.specs.Prelude.{◌≡◌, ◌≢◌, IsOk, IsErr, OnOk, OnErr};
 ghost use Rattle.std.specs.declared.io.Error.{Error};
 
 use std::fs::{File, TryLockError};
-use std::io;
 use std::io::ErrorKind;
+use std::time::{Duration, Instant};
+use std::{io, thread};
+
+/// How long a lock that another program holds is asked for again, in milliseconds.
+const PATIENCE: u64 = 1_000;
+
+/// The time before it is asked for again, in milliseconds.
+const PAUSE: u64 = 10;
+
+/// How many times it is asked for again at most, should the clock stand still.
+const MOST_AGAIN: u32 = 100;
 
 /// What a program holds of a file.
 #[derive(Clone, Copy)]
@@ -19,26 +29,45 @@ enum Hold {
 }
 
 /// The advisory lock on an open file. It is kept until the file is closed. A file system that has no locks is gone on with.
+///
+/// A lock that another program holds is asked for again for up to a second, the first time that it is in the way: a program that only looks at the
+/// file is done by then. Where a shared lock is held an exclusive one is asked for only once. If it is refused the system has taken the shared one
+/// away, and another program may have changed the file.
 #[derive(Drop)]
 pub struct FileLock {
+    rt: HostRuntime,
     hold: Hold,
+    // whether the first lock that is asked for is the exclusive one
+    claims: bool,
+    // whether a lock that another program holds is still waited for
+    waits: bool,
 }
 
 impl FileLock {
     /// Nothing is held yet.
-    pub fn new() -> FileLock
+    pub fn new(rt: HostRuntime) -> FileLock
         ensures { result.hold ≡ Hold.Nothing }
     {
         FileLock {
+            rt,
             hold: Hold::Nothing,
+            claims: false,
+            waits: true,
         }
     }
 
-    /// Nothing is held, and nothing ever will be.
-    pub fn lost() -> FileLock
-        ensures { result.hold ≡ Hold.Lost }
+    /// Gives the lock up: nothing is held, and nothing ever will be.
+    pub fn lose(&mut self)
+        ensures { self.new.hold ≡ Hold.Lost }
     {
-        FileLock { hold: Hold::Lost }
+        self.hold = Hold::Lost;
+    }
+
+    /// Says whether other programs are to be kept from reading the file from the first call on, where none reads it then.
+    pub fn claim(&mut self, claims: bool)
+        ensures { self.new.hold ≡ self.old.hold }
+    {
+        self.claims = claims;
     }
 
     /// Keeps other programs from writing the file. Where one does, or has since this lock was lost, it is an error.
@@ -47,22 +76,44 @@ impl FileLock {
         ensures kept { self.old.hold ≡ Hold.Exclusive → self.new.hold ≡ Hold.Exclusive }
     {
         match self.hold {
-            Hold::Nothing => self.take(file.try_lock_shared(), Hold::Shared),
+            Hold::Nothing => {
+                if self.claims && self.own(file).is_ok() {
+                    return Ok(());
+                }
+                let answer = self.ask(file, Hold::Shared);
+                self.take(answer, Hold::Shared)
+            }
             Hold::Lost => Err(io::Error::from(ErrorKind::WouldBlock)),
             Hold::Shared | Hold::Exclusive => Ok(()),
         }
     }
 
-    /// Keeps other programs from reading and writing the file. Where one does, it is an error.
+    /// Keeps other programs from reading and writing the file. Where one does, it is an error, and a shared lock that was held is lost.
     pub fn own(&mut self, file: &File) -> io::Result<()>
         ensures lost { self.old.hold ≡ Hold.Lost → IsErr result }
         ensures owned { OnOk result (self.new.hold ≡ Hold.Exclusive) }
+        ensures refused { OnErr result (self.old.hold ≢ Hold.Nothing → self.new.hold ≡ Hold.Lost) }
     {
         match self.hold {
-            Hold::Nothing | Hold::Shared => self.take(file.try_lock(), Hold::Exclusive),
+            Hold::Nothing | Hold::Shared => {
+                let answer = self.ask(file, Hold::Exclusive);
+                self.take(answer, Hold::Exclusive)
+            }
             Hold::Lost => Err(io::Error::from(ErrorKind::WouldBlock)),
             Hold::Exclusive => Ok(()),
         }
+    }
+
+    /// Asks the system for this lock, and where nothing is held waits for another program that has it.
+    fn ask(&mut self, file: &File, wanted: Hold) -> Result<(), TryLockError>
+        ensures { self.new.hold ≡ self.old.hold }
+    {
+        let answer = try_for(file, wanted);
+        if self.hold != Hold::Nothing || !self.waits || !is_busy(&answer) {
+            return answer;
+        }
+        self.waits = false;
+        wait_for(self.rt, file, wanted)
     }
 
     /// Follows what the system answered. One that didn't give the lock took the one that was held. A file system that has no locks is gone on with.
@@ -70,6 +121,8 @@ impl FileLock {
         ensures took { OnOk result (self.new.hold ≡ wanted) }
         ensures without { (fault : Error) → answer ≡ Err (TryLockError.Error fault) → IsOk result }
         ensures kept_off { answer ≡ Err TryLockError.WouldBlock → IsErr result }
+        ensures free { OnErr result (self.old.hold ≡ Hold.Nothing → self.new.hold ≡ Hold.Nothing) }
+        ensures lost { OnErr result (self.old.hold ≢ Hold.Nothing → self.new.hold ≡ Hold.Lost) }
     {
         match answer {
             Ok(()) | Err(TryLockError::Error(_)) => {
@@ -83,5 +136,40 @@ impl FileLock {
                 Err(io::Error::from(ErrorKind::WouldBlock))
             }
         }
+    }
+}
+
+/// Asks the system once for a lock.
+fn try_for(file: &File, wanted: Hold) -> Result<(), TryLockError> {
+    match wanted {
+        Hold::Exclusive => file.try_lock(),
+        _ => file.try_lock_shared(),
+    }
+}
+
+/// Whether another program holds a lock that was asked for.
+fn is_busy(answer: &Result<(), TryLockError>) -> bool {
+    matches!(answer, Err(TryLockError::WouldBlock))
+}
+
+/// Asks for a lock that another program holds, again and again for a second. The processor is free meanwhile.
+fn wait_for(rt: HostRuntime, file: &File, wanted: Hold) -> Result<(), TryLockError> {
+    let start = Instant::now(&rt).ok();
+    for _ in 0..MOST_AGAIN {
+        thread::sleep(&rt, Duration::from_millis(PAUSE));
+        let answer = try_for(file, wanted);
+        if !is_busy(&answer) || has_passed(rt, start) {
+            return answer;
+        }
+    }
+    try_for(file, wanted)
+}
+
+/// Whether the second since this moment has passed. A clock that can't be read says no.
+fn has_passed(rt: HostRuntime, start: Option<Instant>) -> bool {
+    match (start, Instant::now(&rt)) {
+        (Some(start), Ok(now)) => now.saturating_duration_since(start)
+            >= Duration::from_millis(PATIENCE),
+        _ => false,
     }
 }

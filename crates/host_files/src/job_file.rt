@@ -41,7 +41,7 @@ impl JobFile {
             name,
             cells,
             opened: None,
-            lock: FileLock::new(),
+            lock: FileLock::new(rt),
         }
     }
 
@@ -50,7 +50,15 @@ impl JobFile {
         ensures name { self.new.name ≡ self.old.name }
         ensures lock { self.new.lock.hold ≡ hold.Lost }
     {
-        self.lock = FileLock::lost();
+        self.lock.lose();
+    }
+
+    /// Says whether other programs are to be kept from reading the file from the first call on, where none reads it then.
+    pub fn claim(&mut self, claims: bool)
+        ensures name { self.new.name ≡ self.old.name }
+        ensures lock { self.new.lock.hold ≡ self.old.lock.hold }
+    {
+        self.lock.claim(claims);
     }
 
     /// Opens the file, or makes it where it is missing.

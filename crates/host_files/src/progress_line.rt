@@ -1,4 +1,6 @@
 //! A line on the terminal that says how far a call has come.
+
+use crate::plan_totals::PlanTotals;
 use std::cell::Cell;
 use std::io::{IsTerminal, Print};
 use std::rc::Rc;
@@ -7,8 +9,11 @@ use std::time::{Duration, Instant};
 /// The least time between two texts of the line, in milliseconds.
 const INTERVAL: u64 = 100;
 
-/// Goes to the beginning of the terminal's line and clears it.
-const CLEAR: &[u8] = b"\r\x1b[K";
+/// Clears the line of the terminal on which the cursor stands.
+const CLEAR: &str = "\r\x1b[K";
+
+/// Goes back to the line that is shown, and clears it.
+const BACK: &str = "\x1b[A\r\x1b[K";
 
 /// What all holders of one line share.
 #[derive(Drop)]
@@ -18,6 +23,7 @@ struct Shared {
     programmed: Cell<u64>,
     lists: Cell<u64>,
     calls: Cell<u64>,
+    plan: Cell<PlanTotals>,
     is_shown: Cell<bool>,
     last: Cell<Option<Instant>>,
 }
@@ -37,10 +43,15 @@ impl Shared {
         true
     }
 
-    /// Rewrites the line. An error of the terminal is passed over.
+    /// What goes before a text of the line.
+    fn lead(&self) -> &'static str {
+        if self.is_shown.get() { BACK } else { CLEAR }
+    }
+
+    /// Rewrites the line by such a text, which goes to a new line at its end: so what ends the program anywhere leaves the terminal there. An
+    /// error of the terminal is passed over.
     fn put(&self, text: &str) {
         self.is_shown.set(true);
-        let _cleared = self.rt.stderr().write_all(CLEAR).is_ok();
         let _shown = self.rt.stderr().write_all(text.as_bytes()).is_ok();
     }
 
@@ -49,11 +60,21 @@ impl Shared {
         if !self.is_due() {
             return;
         }
+        let lead = self.lead();
         let erased = self.erased.get();
         let programmed = self.programmed.get();
-        if let Ok(text) = format!(in self.rt.alloc();
-            "{erased} cells erased, {programmed} programmed"
-        ) {
+        let plan = self.plan.get();
+        let to_erase = plan.erased;
+        let to_program = plan.programmed;
+        let text = match plan.percent(erased, programmed) {
+            Some(percent) => format!(in self.rt.alloc();
+                "{lead}{erased} of {to_erase} cells erased, {programmed} of {to_program} programmed, {percent}%\n"
+            ),
+            None => format!(in self.rt.alloc();
+                "{lead}{erased} cells erased, {programmed} programmed\n"
+            ),
+        };
+        if let Ok(text) = text {
             self.put(&text);
         }
     }
@@ -63,9 +84,12 @@ impl Shared {
         if !self.is_due() {
             return;
         }
+        let lead = self.lead();
         let lists = self.lists.get();
         let calls = self.calls.get();
-        if let Ok(text) = format!(in self.rt.alloc(); "{lists} lists tried, {calls} calls") {
+        if let Ok(text) = format!(in self.rt.alloc();
+            "{lead}{lists} lists tried, {calls} calls\n"
+        ) {
             self.put(&text);
         }
     }
@@ -74,13 +98,14 @@ impl Shared {
     fn wipe(&self) {
         if self.is_shown.get() {
             self.is_shown.set(false);
-            let _cleared = self.rt.stderr().write_all(CLEAR).is_ok();
+            let _cleared = self.rt.stderr().write_all(BACK.as_bytes()).is_ok();
         }
     }
 }
 
-/// A line on standard error that counts the cells erased and programmed so far, or the lists of calls that were tried, rewritten at most ten times
-/// a second. There is one only where standard error is a terminal, so that nothing else ever gets it. Those who hold it share it.
+/// A line on standard error that counts the cells erased and programmed so far, of how many where a plan has passed, or the lists of calls that
+/// were tried, rewritten at most ten times a second. There is one only where standard error is a terminal, so that nothing else ever gets it.
+/// Those who hold it share it.
 #[derive(Drop)]
 pub struct ProgressLine {
     shared: Option<Rc<Shared>>,
@@ -103,6 +128,7 @@ impl ProgressLine {
             programmed: Cell::new(0),
             lists: Cell::new(0),
             calls: Cell::new(0),
+            plan: Cell::new(PlanTotals::new()),
             is_shown: Cell::new(false),
             last: Cell::new(None),
         };
@@ -136,6 +162,24 @@ impl ProgressLine {
                 .programmed
                 .set(shared.programmed.get().saturating_add(cells));
             shared.show_cells();
+        }
+    }
+
+    /// Takes the device to have this number of cells.
+    pub fn set_cells(&self, cells: u32) {
+        if let Some(shared) = &self.shared {
+            let mut plan = shared.plan.get();
+            plan.set_cells(u64::from(cells));
+            shared.plan.set(plan);
+        }
+    }
+
+    /// Follows a piece of what is put on a stream: a plan in it says how many cells there are to erase and to program.
+    pub fn follow(&self, piece: &[u8]) {
+        if let Some(shared) = &self.shared {
+            let mut plan = shared.plan.get();
+            plan.pass(piece);
+            shared.plan.set(plan);
         }
     }
 

@@ -55,7 +55,7 @@ impl<P: Print + Drop> StdSink<P> {
         }
     }
 
-    /// Clears this line before each piece from now on.
+    /// Clears this line before each piece from now on, and has it follow the piece.
     pub fn wipe_first(&mut self, line: ProgressLine)
         ensures { self.new ≡ self.old }
     {
@@ -72,6 +72,7 @@ impl<P: Print + Drop> Sink for StdSink<P> {
 
     fn put(&mut self, piece: &[u8]) -> Result<(), OutputFault> {
         self.line.wipe();
+        self.line.follow(piece);
         self.sink.put(piece)
     }
 }
