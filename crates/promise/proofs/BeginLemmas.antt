@@ -20,10 +20,11 @@ use Rattle.job_commands.specs.Printed.{PrintsWork}
 use Rattle.job_commands.specs.Program as program
 use Rattle.job_commands.specs.Begin as begin
 use Rattle.promise.specs.Promise.{IsRefused, Programs, Begins}
+use Rattle.promise.specs.Recovery.{IsTaken}
 use Rattle.promise.proofs.ClassLemmas.{IsDamagedSo, IsNoJobSo, AreBytes, something}
 use Rattle.promise.proofs.StopLemmas.{its}
 use Rattle.promise.proofs.RefusedLemmas.{looked, nothing}
-use Rattle.promise.proofs.CarryLemmas.{job_of, carries}
+use Rattle.promise.proofs.CarryLemmas.{job_of, carries, taken}
 use Rattle.promise.proofs.FileLemmas.{of_files}
 
 module _ (has : Refusal → Bool) (Prints : ℕ → SinkCall → Answer → Type 0) (Starts : BenchCall → SinkCall → FilesGiven → Aim → Answer → Type 0)
@@ -54,7 +55,7 @@ module _ (has : Refusal → Bool) (Prints : ℕ → SinkCall → Answer → Type
 
   module _ (told : IsTrue call.bench.tells) (bytes : AreBytes call.bench.before.file) (answer : Answer) (zero : call.status ≡ 0 → answer ≡ done)
       (ends : EndsOnJob has Prints Starts asked call.bench call.inputs call.out answer) (Begun : Type 0)
-      (begun : (works : Works answer) → IsFree call.bench.before.file → Starts call.bench call.out works.files works.holds.aim answer → Begun) where
+      (begun : (works : Works answer) → IsFree call.bench.before.file → size_of works.holds.aim.board.regions ≡ call.bench.before.cell_count → Starts call.bench call.out works.files works.holds.aim answer → Begun) where
     worked : Works answer → IsRefused (its call) ⊎ Begun
     worked works =
         let file = call.bench.before.file in
@@ -64,7 +65,7 @@ module _ (has : Refusal → Bool) (Prints : ℕ → SinkCall → Answer → Type
         ⊎_elim
         (λ (is_free : IsFree file). ⊎_elim
         (λ (same : size_of works.holds.aim.board.regions ≡ call.bench.before.cell_count). inr
-        (begun works is_free (over.begins works.holds.holds.has_texts is_free same)))
+        (begun works is_free same (over.begins works.holds.holds.has_texts is_free same)))
         (λ (other : size_of works.holds.aim.board.regions ≢ call.bench.before.cell_count).
         inl (looked call answer (cells_differ size call.bench.before.cell_count) told zero (λ early. early) stands (over.other_size is_free other)))
         (cases_eq size call.bench.before.cell_count))
@@ -85,12 +86,14 @@ module _ (has : Refusal → Bool) (Prints : ℕ → SinkCall → Answer → Type
 
 module _ (asked : FilesAsked) (call : answers.Call) (told : IsTrue call.bench.tells) (told_files : IsTrue call.inputs.tells)
     (bytes : AreBytes call.bench.before.file) where
-  pub programs : program.ProgramAnswers asked call → IsRefused (its call) ⊎ Programs (its call) asked
-  programs it = begun_or_refused program.has_program PrintsWork program.Begins asked call told bytes it.answer it.zero it.ends (Programs (its call) asked)
-      (λ works is_free starts.
+  pub programs : program.ProgramAnswers asked call → IsRefused (its call)
+      ⊎ ((p : Programs (its call) asked) × IsTaken (its call) p.job p.begun.files.says)
+  programs it = begun_or_refused program.has_program PrintsWork program.Begins asked call told bytes it.answer it.zero it.ends
+      ((p : Programs (its call) asked) × IsTaken (its call) p.job p.begun.files.says)
+      (λ works is_free same starts.
       let aim = works.holds.aim in
       let text = job_for works.files aim starts.snapshot in
-      record {
+      let p : Programs (its call) asked = record {
         job = job_of text aim.board;
         begun = record {
           files = of_files call.inputs asked works.files aim starts.snapshot told_files works.are_files works.holds.is_aim works.holds.holds.has_texts
@@ -98,16 +101,19 @@ module _ (asked : FilesAsked) (call : answers.Call) (told : IsTrue call.bench.te
           free = is_free;
           snapshot = starts.carries.surveyed;
         };
-        carries = carries call it.answer it.zero New text aim.board aim.algorithms starts.is_job (IsUntouched call.bench.before) starts.snapshot
+        carries = carries call it.answer it.zero it.says New text aim.board aim.algorithms starts.is_job (IsUntouched call.bench.before) starts.snapshot
             starts.carries;
-      })
+      } in
+      (p, taken call text aim.board aim.algorithms starts.is_job same p.begun.files.says))
 
-  pub begins : begin.BeginAnswers asked call → IsRefused (its call) ⊎ Begins (its call) asked
-  begins it = begun_or_refused begin.has_begin begin.PrintsBegun begin.Starts asked call told bytes it.answer it.zero it.ends (Begins (its call) asked)
-      (λ works is_free starts.
+  pub begins : begin.BeginAnswers asked call → IsRefused (its call)
+      ⊎ ((b : Begins (its call) asked) × IsTaken (its call) b.job b.begun.files.says)
+  begins it = begun_or_refused begin.has_begin begin.PrintsBegun begin.Starts asked call told bytes it.answer it.zero it.ends
+      ((b : Begins (its call) asked) × IsTaken (its call) b.job b.begun.files.says)
+      (λ works is_free same starts.
       let aim = works.holds.aim in
       let text = job_for works.files aim starts.snapshot in
-      record {
+      let b : Begins (its call) asked = record {
         job = job_of text aim.board;
         begun = record {
           files = of_files call.inputs asked works.files aim starts.snapshot told_files works.are_files works.holds.is_aim works.holds.holds.has_texts
@@ -119,4 +125,5 @@ module _ (asked : FilesAsked) (call : answers.Call) (told : IsTrue call.bench.te
             let comes = subst (λ (a : Answer). begin.BegunComes call.bench call.out begin.begun_text text a) (it.zero is_zero) starts.begins.comes in
             (comes.0.file, comes.0.cells, comes.0.idle);
         stopped = λ k f c from to f_at c_at. starts.begins.pairs.each k f c from to f_at c_at;
-      })
+      } in
+      (b, taken call text aim.board aim.algorithms starts.is_job same b.begun.files.says))

@@ -27,7 +27,7 @@ use Rattle.gang_commands.specs.Ends.{HasFinished, KeepsOn, AllKeep}
 use Rattle.gang_commands.specs.Gangs.{HasNoUsage, HasNoMemory, HaveEnded, Answers}
 use Rattle.gang_commands.specs.Lines.{Outcome, reason, lines_from, status_before, status_in}
 use Rattle.gang_commands.specs.Words.{DoFit}
-use Rattle.gang_commands.proofs.TargetLemmas.{done_alone, its_reason, finished_by, keeps_by}
+use Rattle.gang_commands.proofs.TargetLemmas.{done_alone, its_reason, finished_by, keeps_by, same_pairs, ClosesEach, looked_closes, closes_by}
 use Rattle.gang_commands.proofs.WordLemmas.{fits_or_not}
 use Rattle.command_words.specs.Files.{resume}
 use Rattle.promise.specs.Job.{laid}
@@ -37,23 +37,24 @@ use Rattle.promise.proofs.CarryLemmas.{job_of, says}
 
 -- ---- one bench
 
-module _ (status : ℕ) (s t : BenchState) (keeps : KeepsOn status s t) where
+module _ (status : ℕ) (s t : BenchState) (keeps : KeepsOn status s t) (closes : ClosesEach status s t) where
   abbrev call : Call
   call = call_of (λ name. None) s t (0, 0) (0, 0) status
 
   on_job : (job : Job) (b : board.Shown) (xs : List flm.Shown) → IsJob job b xs → IsWhole (body_of job) s.file
       → (status ≡ 0 → IsDone (body_of job) (aim_of job b).laid t) → GoesOn call laid
   on_job job b xs is whole done =
-      let kept = keeps.keeps job b xs is (inr whole) in
+      let its = closes job b xs is whole in
       record {
         job = job_of job b;
         whole = whole;
         carries = record {
           says = says job b xs is;
           done = done;
-          closing = kept.0;
-          before = λ k f c from to f_at c_at early. ((kept.1 k from to).stands whole).pairs.before k f c from to early f_at c_at;
-          from = λ k f c from to f_at c_at late. ((kept.1 k from to).stands whole).pairs.from k f c late to f_at c_at;
+          closing = its.turn;
+          before = λ k f c from to f_at c_at early. its.stops.pairs.before k f c from to early f_at c_at;
+          from = λ k f c from to f_at c_at late. its.stops.pairs.from k f c late to f_at c_at;
+          no_close = its.no_close;
         };
       }
 
@@ -89,9 +90,9 @@ no_reason None is = refl
 no_reason (Some r) is = absurd (omega (arith, some_status r, is))
 
 bench_keeps : (s t : BenchState) (number : ℕ) (why : Option Refusal) → IsOfGang why → AreBytes s.file → KeepsOn (status_before why 0) s t
-    → (status_before why 0 ≡ 0 → HasFinished s t) → BenchKeeps s t number (answer_of number why)
-bench_keeps s t number why of bytes keeps finished = record {
-  keeps = resumes (status_before why 0) s t keeps finished bytes;
+    → ClosesEach (status_before why 0) s t → (status_before why 0 ≡ 0 → HasFinished s t) → BenchKeeps s t number (answer_of number why)
+bench_keeps s t number why of bytes keeps closes finished = record {
+  keeps = resumes (status_before why 0) s t keeps closes finished bytes;
   said = said_of why;
   line_is = line_is number why;
   one_line = one_line why of;
@@ -153,8 +154,9 @@ module _ {B : Type 0} (G : Ghosts B) (told : IsTrue G.tells) (bytes : (b : B) �
 
   -- it was refused as a whole
   refused_call : (r : Refusal) → is_of_gang r ≡ true → status ≡ status_of r → (status ≡ 1) ⊎ (status ≡ 2) → TookNothing out
+      → ((i : ℕ) (b : B) → i < length benches → ClosesEach (status_of r) (G.state (get_or benches i b)) (G.state (get_or after i b)))
       → AllKeep G status benches after → Kept
-  refused_call r of is which nothing keep =
+  refused_call r of is which nothing closes keep =
       let reasons : List (Option Refusal) = map (λ (b : B). Some r) benches in
       let long : length reasons ≡ length benches = length-map benches (λ (b : B). Some r) in
       record {
@@ -168,7 +170,7 @@ module _ {B : Type 0} (G : Ghosts B) (told : IsTrue G.tells) (bytes : (b : B) �
             subst (λ (n : ℕ). KeepsOn n s (G.state (get_or after i b))) is (keep i b less) in
             subst (λ (x : BenchAnswer). BenchKeeps s (G.state (get_or after i b)) (i + 1) x)
             (sym (answer_at 1 (i + 1) reasons i t None (omega arith) within ∙ ap (λ (w : Option Refusal). answer_of (i + 1) w) why))
-            (bench_keeps s (G.state (get_or after i b)) (i + 1) (Some r) of (bytes (get_or benches i b)) keeps
+            (bench_keeps s (G.state (get_or after i b)) (i + 1) (Some r) of (bytes (get_or benches i b)) keeps (closes i b less)
             (λ zero. absurd (omega (arith, some_status r, zero))));
         said = [];
         says = inr (inr (which, refl));
@@ -196,7 +198,7 @@ module _ {B : Type 0} (G : Ghosts B) (told : IsTrue G.tells) (bytes : (b : B) �
         subst (λ (y : BenchAnswer). BenchKeeps s now (i + 1) y)
         (sym (answer_at 1 (i + 1) reasons i t None (omega arith) within ∙ ap (λ (w : Option Refusal). answer_of (i + 1) w) why))
         (bench_keeps s now (i + 1) (reason x) (its_reason x) (bytes (get_or benches i b))
-        (keeps_by G (status_before (reason x) 0) s x now x.end refl comes (done_alone x))
+        (keeps_by G (status_before (reason x) 0) s x now x.end refl comes (done_alone x)) (closes_by G s x now comes)
         (λ zero. finished_by G s x now comes (done_alone x zero)))
 
     count_is : length (answers_from 1 reasons) ≡ length benches
@@ -227,10 +229,13 @@ module _ {B : Type 0} (G : Ghosts B) (told : IsTrue G.tells) (bytes : (b : B) �
   pub gang_keeps : (words : ℕ) → Answers G words benches after out err status → AllKeep G status benches after → Kept
   gang_keeps words answers keep = ⊎_elim
       (λ (fit : DoFit words (length benches)). ⊎_elim
-      (λ (wants : HasNoMemory G benches after out err status). refused_call out_of_memory refl wants.says.0 (inl wants.says.0) wants.prints keep)
+      (λ (wants : HasNoMemory G benches after out err status). refused_call out_of_memory refl wants.says.0 (inl wants.says.0) wants.prints
+      (λ i b less. looked_closes 1 (G.state (get_or benches i b)) (G.state (get_or after i b)) (wants.looked i b less).pairs) keep)
       (λ (have : HaveEnded G benches after out err status). ended_call have)
       (answers.fit fit))
       (λ (unfit : DoFit words (length benches) → ⊥).
       let has : HasNoUsage benches after out err status = answers.unfit unfit in
-      refused_call usage refl has.says.0 (inr has.says.0) has.prints keep)
+      refused_call usage refl has.says.0 (inr has.says.0) has.prints
+      (λ i b less. subst (λ (l : List B). ClosesEach 2 (G.state (get_or benches i b)) (G.state (get_or l i b))) (sym has.same)
+      (looked_closes 2 (G.state (get_or benches i b)) (G.state (get_or benches i b)) (same_pairs (G.state (get_or benches i b))))) keep)
       (fits_or_not words (length benches))

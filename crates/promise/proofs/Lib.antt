@@ -2,11 +2,13 @@
 mod StopLemmas
 mod RefusedLemmas
 mod ClassLemmas
+mod RightLemmas
 mod CarryLemmas
 mod FileLemmas
 mod BeginLemmas
 mod KeepLemmas
 mod CampaignLemmas
+mod RecoveryLemmas
 mod BackLemmas
 mod CompleteLemmas
 mod GangLemmas

@@ -6,7 +6,7 @@ use Rattle.bench_model.specs.declared.bench.Bench.{Ghosts}
 use Rattle.bench_model.specs.State.{BenchState, Left, SameOutside}
 use Rattle.job_text.specs.Files.{IsFree, IsWhole}
 use Rattle.report_text.specs.DoneLine.{target_head, done_line}
-use Rattle.campaign.specs.Stops.{IsUntouched, IsAtClose, IsDone}
+use Rattle.campaign.specs.Stops.{IsUntouched, IsAtClose, HasNoClose, IsDone}
 use Rattle.command_words.specs.Files.{FilesAsked, Command, program, begin, resume, revert}
 use Rattle.promise.specs.Job.{Job, laid}
 use Rattle.promise.specs.Texts.{Says, IsOfFiles}
@@ -32,13 +32,14 @@ pub record IsRefused (call : Call) : Type 0 where
 
 -- A call carries a job to a goal. With status 0 the cells are the goal, no operation is open, and the file is closed behind the job. Up to
 -- the moment of its close a stop leaves file and cells as at the entry, in the sense of the command, or the job whole in its file; from then
--- on the cells are the goal, and the file is whole or closed.
+-- on the cells are the goal, and the file is whole or closed. With status 1, 9, 11 or 12 that moment never comes.
 pub record Carries (call : Call) (job : Job) (goal : List ℕ) (AsEntered : List ℕ → List ℕ → Type 0) : Type 0 where
   pub says : Says job
   pub done : call.status ≡ 0 → IsDone job.body goal call.new
   pub closing : ℕ
   pub before : AtEachStop call (λ moment file cells. moment < closing → AsEntered file cells ⊎ IsWhole job.body file)
   pub from : AtEachStop call (λ moment file cells. closing ≤ moment → IsAtClose job.body goal file cells)
+  pub no_close : HasNoClose call.status → call.new.moment < closing
 
 -- A job of these files is begun over a free file. Its snapshot is the cells of the entry, but in the range of an operation that was open.
 pub record IsBegun (call : Call) (asked : FilesAsked) (job : Job) : Type 0 where

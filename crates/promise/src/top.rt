@@ -4,6 +4,7 @@ ghost use Rattle.command_words.specs.Files.{Command, names_asked};
 ghost use Rattle.command_words.specs.Words.{Asks};
 ghost use Rattle.promise.specs.Promise.{Keeps, GangKeeps, call_of};
 ghost use Rattle.promise.specs.Complete.{Completes};
+ghost use Rattle.promise.specs.Recovery.{Resumes};
 
 use bench_model::Bench;
 use flm_cli::flmprog;
@@ -27,6 +28,9 @@ pub fn flash<B: Bench, I: Inputs, O: Sink, E: Sink>(
         ((I.state inputs.old).faults, (I.state inputs.new).faults) ((O.state out.old).faults, (O.state out.new).faults) result) }
     ensures complete { IsTrue B.tells → IsTrue I.tells → (command : Command) → Asks words.now command
         → Completes command (call_of (I.state inputs.old).stands (B.state bench.old) (B.state bench.new)
+        ((I.state inputs.old).faults, (I.state inputs.new).faults) ((O.state out.old).faults, (O.state out.new).faults) result) }
+    ensures resumes { IsTrue B.tells → IsTrue I.tells → (command : Command) → Asks words.now command
+        → Resumes command (call_of (I.state inputs.old).stands (B.state bench.old) (B.state bench.new)
         ((I.state inputs.old).faults, (I.state inputs.new).faults) ((O.state out.old).faults, (O.state out.new).faults) result) }
 {
     flmprog(alloc, words, bench, inputs, out, err)
