@@ -1,10 +1,9 @@
 -- Files of a command that are those of a job are right.
-use Rattle.std.proofs.Common.{◌≡◌, refl, sym, subst, arith, ap, ◌∙◌, ◌-◌, ◌≤◌, ◌<◌, ◌||◌, ℕ, zero, suc, Bool, true, IsTrue, IsSome, All, List, [], ◌∷◌, ◌++◌}
+use Rattle.std.proofs.Common.{◌≡◌, refl, sym, subst, arith, ap, ◌∙◌, ◌-◌, ◌≤◌, ◌<◌, ◌||◌, ℕ, zero, suc, Bool, true, IsTrue, IsSome, List, [], ◌∷◌, ◌++◌}
 use Rattle.std.proofs.Common.{length, take, drop, Option, option_to_list, Some, None}
 use Rattle.std.specs.List.{list_any}
 use Rattle.std.proofs.lemmas.Bool.{and_parts, eqb-true, leb-true}
 use Rattle.std.proofs.lemmas.List.{length-append}
-use Rattle.std.proofs.lemmas.List.Elements.{All-head, All-tail}
 use Rattle.byte_map.specs.Image.{Run, run_at, end_of, byte_at}
 use Rattle.byte_map.proofs.Runs.{holder, held_from, held_to}
 use Rattle.board_file.specs.declared.region.Region.{Region}
@@ -20,7 +19,6 @@ use Rattle.job_text.proofs.RegionLemmas.{same_count, same_files}
 use Rattle.command_words.specs.Files.{FilesAsked}
 use Rattle.command_files.specs.Inputs.{InputsCall, IsFile, name_at, AreEach, FilesGiven, AreFiles}
 use Rattle.command_files.specs.Files.{flm_files, image_files, AreFor, ranges_of, Aim, IsAim}
-use Rattle.job_commands.specs.Beginning.{HasTexts}
 use Rattle.promise.specs.Job.{Job}
 use Rattle.promise.specs.Texts.{Stand, Says, IsOfFiles}
 
@@ -133,11 +131,9 @@ pub record AreRight (inputs : InputsCall) (asked : FilesAsked) (aim : Aim) : Typ
   pub files : FilesGiven
   pub are_files : AreFiles inputs asked files
   pub is_aim : IsAim asked.raw_at files aim
-  pub has_texts : HasTexts files aim
 
 module _ (inputs : InputsCall) (asked : FilesAsked) (job : Job) (some : IsSome asked.flm) (of : IsOfFiles inputs.before.stands asked job)
-    (algorithms : List flm.Shown) (is_job : IsJob of.says.text of.says.board algorithms)
-    (short : All (λ (file : List ℕ). length file ≤ 67108864) (of.says.text.board ∷ of.says.text.flms)) where
+    (algorithms : List flm.Shown) (is_job : IsJob of.says.text of.says.board algorithms) where
   abbrev says : Says job
   says = of.says
 
@@ -202,11 +198,5 @@ module _ (inputs : InputsCall) (asked : FilesAsked) (job : Job) (some : IsSome a
         union = subst (λ (l : List (List ℕ)). IsUnionBefore asked.raw_at l (length l) says.text.image) (sym images_are) union;
       };
       inside = lies_inside says.board.regions says.text.image is_job.suits.some is_job.suits.inside;
-    };
-    has_texts = record {
-      has_flm = refl;
-      short_board = All-head (λ (file : List ℕ). length file ≤ 67108864) says.text.board says.text.flms short;
-      short_flms = subst (λ (l : List (List ℕ)). All (λ (file : List ℕ). length file ≤ 67108864) l) (sym flms_are)
-          (All-tail (λ (file : List ℕ). length file ≤ 67108864) says.text.board says.text.flms short);
     };
   }

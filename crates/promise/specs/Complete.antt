@@ -1,5 +1,5 @@
 -- When a call comes to its end: with algorithms that keep their duties, and no fault counted, it is answered 0, or 1 for want of memory.
-use Rattle.std.specs.Prelude.{◌≡◌, ◌≤◌, ◌⊎◌, ℕ, All, List, ◌∷◌, length}
+use Rattle.std.specs.Prelude.{◌≡◌, ◌⊎◌, List, length}
 use Rattle.faults.specs.Counts.{Rose}
 use Rattle.flm_descriptor.specs.Shown as flm
 use Rattle.algo_calls.specs.Duties.{AllServe}
@@ -33,11 +33,10 @@ pub record IsReady (call : Call) (job : Job) : Type 0 where
   pub whole : IsWhole job.body call.old.file
   pub sized : length job.snapshot ≡ call.old.cell_count
 
--- The files of a command are right, and no longer than may be taken; and the job file is free for a job of as many cells as there are.
+-- The files of a command are right, and the job file is free for a job of as many cells as there are.
 pub record IsReadyFor (call : Call) (asked : FilesAsked) (job : Job) : Type 0 where
   pub files : IsOfFiles call.under asked job
   pub right : IsRight job files.says
-  pub short : All (λ (file : List ℕ). length file ≤ 67108864) (files.says.text.board ∷ files.says.text.flms)
   pub free : IsFree call.old.file
   pub sized : length job.snapshot ≡ call.old.cell_count
 
