@@ -11,3 +11,4 @@ mod BackLemmas
 mod CompleteLemmas
 mod GangLemmas
 mod CellLemmas
+mod TopLemmas
