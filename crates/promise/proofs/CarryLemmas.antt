@@ -20,8 +20,8 @@ use Rattle.command_files.specs.Call.{Answer, done}
 use Rattle.job_commands.specs.Carry as carry
 use Rattle.job_commands.specs.GoOn.{goal_in, work_to, GoOnAnswers}
 use Rattle.promise.specs.Job.{Job, laid}
-use Rattle.promise.specs.Texts.{Says}
-use Rattle.promise.specs.Promise.{Carries, IsRefused, GoesOn}
+use Rattle.promise.specs.Texts.{SaysJob}
+use Rattle.promise.specs.Promise.{CarriesOut, IsIdle, TakesUp}
 use Rattle.promise.proofs.ClassLemmas.{IsDamagedSo, IsNoJobSo, AreBytes, something}
 use Rattle.promise.proofs.StopLemmas.{its}
 use Rattle.promise.proofs.RefusedLemmas.{looked}
@@ -34,7 +34,7 @@ goal_for Old job = job.snapshot
 abbrev pub job_of : written.Job → board.Shown → Job
 job_of text b = record { body = body_of text; regions = b.regions; image = text.image; snapshot = text.snapshot }
 
-abbrev pub says : (text : written.Job) (b : board.Shown) (algorithms : List flm.Shown) → IsJob text b algorithms → Says (job_of text b)
+abbrev pub says : (text : written.Job) (b : board.Shown) (algorithms : List flm.Shown) → IsJob text b algorithms → SaysJob (job_of text b)
 says text b algorithms is = record {
   text = text;
   board = b;
@@ -54,7 +54,7 @@ module _ (call : answers.Call) (answer : Answer) (zero : call.status ≡ 0 → a
     (algorithms : List flm.Shown) (is : IsJob text b algorithms) where
   pub carries : (First : List ℕ → List ℕ → Type 0) (surveyed : List ℕ)
       → carry.Carries call.bench call.out First (work_to goal text b algorithms surveyed) answer
-      → Carries (its call) (job_of text b) (goal_for goal (job_of text b)) First
+      → CarriesOut (its call) (job_of text b) (goal_for goal (job_of text b)) First
   carries First surveyed it = record {
     says = says text b algorithms is;
     done = λ is_zero.
@@ -69,7 +69,7 @@ module _ (call : answers.Call) (answer : Answer) (zero : call.status ≡ 0 → a
 
 -- `resume` and `revert`
 pub goes_on : (goal : Goal) (call : answers.Call) → IsTrue call.bench.tells → AreBytes call.bench.before.file → GoOnAnswers goal call
-    → IsRefused (its call) ⊎ GoesOn (its call) (goal_for goal)
+    → IsIdle (its call) ⊎ TakesUp (its call) (goal_for goal)
 goes_on goal call told bytes answers =
     let file = call.bench.before.file in
     let from = answers.ends.told told in

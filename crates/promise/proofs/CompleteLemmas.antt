@@ -24,7 +24,7 @@ use Rattle.job_commands.specs.Program as programs
 use Rattle.job_commands.specs.Begin as begins
 use Rattle.flm_cli.specs.Answers.{Answers}
 use Rattle.promise.specs.Job.{Job}
-use Rattle.promise.specs.Texts.{Says}
+use Rattle.promise.specs.Texts.{SaysJob}
 use Rattle.promise.specs.Complete.{NoFault, IsRight, KeepsDuties, IsReady, IsReadyFor, IsComplete, Completes}
 use Rattle.promise.proofs.StopLemmas.{its}
 use Rattle.promise.proofs.CampaignLemmas.{whole_text}
@@ -44,7 +44,7 @@ ends call (refused r) says counts none unless = ⊎_elim
     (λ (is : yields (refused r) ≡ true). absurd (cc))
     unless
 
-its_size : (job : Job) (says : Says job) (right : IsRight job says) (count : ℕ) → length job.snapshot ≡ count → size_of says.board.regions ≡ count
+its_size : (job : Job) (says : SaysJob job) (right : IsRight job says) (count : ℕ) → length job.snapshot ≡ count → size_of says.board.regions ≡ count
 its_size job says right count is = sym right.is_job.cells ∙ ap (λ (l : List ℕ). length l) (sym says.snapshot_is) ∙ is
 
 goes_on : (goal : Goal) (call : answers.Call) → IsTrue call.bench.tells → GoOnAnswers goal call

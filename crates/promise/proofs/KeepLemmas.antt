@@ -4,14 +4,14 @@ use Rattle.flash_session.specs.declared.goal.Goal.TheVariants.{New, Old}
 use Rattle.command_words.specs.Files.{Command, program, begin, resume, revert, plan, verify, compare, status, inspect, dump, demo}
 use Rattle.command_files.specs.Call as answers
 use Rattle.flm_cli.specs.Answers.{Answers}
-use Rattle.promise.specs.Promise.{Keeps}
+use Rattle.promise.specs.Promise.{KeepsPromise}
 use Rattle.promise.proofs.ClassLemmas.{AreBytes}
 use Rattle.promise.proofs.StopLemmas.{its, only_reads, untouched, adds_nothing}
 use Rattle.promise.proofs.CarryLemmas.{goes_on}
 use Rattle.promise.proofs.BeginLemmas.{programs, begins}
 
 pub keeps : (command : Command) (call : answers.Call) → IsTrue call.bench.tells → IsTrue call.inputs.tells → AreBytes call.bench.before.file
-    → Answers call (Some command) → Keeps command (its call)
+    → Answers call (Some command) → KeepsPromise command (its call)
 keeps (program asked) call told told_files bytes it = programs asked call told told_files bytes it
 keeps (begin asked) call told told_files bytes it = begins asked call told told_files bytes it
 keeps resume call told told_files bytes it = goes_on New call told bytes it

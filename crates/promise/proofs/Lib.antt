@@ -11,4 +11,6 @@ mod BackLemmas
 mod CompleteLemmas
 mod GangLemmas
 mod CellLemmas
+mod MomentLemmas
 mod TopLemmas
+mod MadeLemmas

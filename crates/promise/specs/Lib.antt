@@ -3,3 +3,4 @@ pub mod Texts
 pub mod Promise
 pub mod Campaign
 pub mod Complete
+pub mod Made
