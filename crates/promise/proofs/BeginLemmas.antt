@@ -19,7 +19,7 @@ use Rattle.job_commands.specs.Beginning.{EndsOnJob, ShowsJob, job_for}
 use Rattle.job_commands.specs.Printed.{PrintsWork}
 use Rattle.job_commands.specs.Program as program
 use Rattle.job_commands.specs.Begin as begin
-use Rattle.promise.specs.Promise.{IsRefused, Programs, Begins}
+use Rattle.promise.specs.Promise.{IsIdle, ProgramsJob, BeginsJob}
 use Rattle.promise.specs.Recovery.{IsTaken}
 use Rattle.promise.proofs.ClassLemmas.{IsDamagedSo, IsNoJobSo, AreBytes, something}
 use Rattle.promise.proofs.StopLemmas.{its}
@@ -29,14 +29,14 @@ use Rattle.promise.proofs.FileLemmas.{of_files}
 
 module _ (has : Refusal → Bool) (Prints : ℕ → SinkCall → Answer → Type 0) (Starts : BenchCall → SinkCall → FilesGiven → Aim → Answer → Type 0)
     (asked : FilesAsked) (call : answers.Call) where
-  abbrev Works : Answer → Type 0
+  abbrev pub Works : Answer → Type 0
   Works answer = Given call.inputs asked (WantAnAim asked (ShowsJob Prints Starts call.bench call.out answer))
 
-  abbrev Stays : Answer → Type 0
+  abbrev pub Stays : Answer → Type 0
   Stays answer = (answer ≡ done → ⊥) × DidNothing call.bench call.out
 
   -- each answer comes before the work, with nothing done, or of the work
-  by_answer : (answer : Answer) → EndsOnJob has Prints Starts asked call.bench call.inputs call.out answer → Stays answer ⊎ Works answer
+  pub by_answer : (answer : Answer) → EndsOnJob has Prints Starts asked call.bench call.inputs call.out answer → Stays answer ⊎ Works answer
   by_answer done ends = inr ends.files.shows
   by_answer (refused out_of_memory) ends = ⊎_elim
       (λ (did : DidNothing call.bench call.out). inl ((λ is. cc), did))
@@ -56,7 +56,7 @@ module _ (has : Refusal → Bool) (Prints : ℕ → SinkCall → Answer → Type
   module _ (told : IsTrue call.bench.tells) (bytes : AreBytes call.bench.before.file) (answer : Answer) (zero : call.status ≡ 0 → answer ≡ done)
       (ends : EndsOnJob has Prints Starts asked call.bench call.inputs call.out answer) (Begun : Type 0)
       (begun : (works : Works answer) → IsFree call.bench.before.file → size_of works.holds.aim.board.regions ≡ call.bench.before.cell_count → Starts call.bench call.out works.files works.holds.aim answer → Begun) where
-    worked : Works answer → IsRefused (its call) ⊎ Begun
+    worked : Works answer → IsIdle (its call) ⊎ Begun
     worked works =
         let file = call.bench.before.file in
         let size = size_of works.holds.aim.board.regions in
@@ -78,7 +78,7 @@ module _ (has : Refusal → Bool) (Prints : ℕ → SinkCall → Answer → Type
         rest)
         (something file bytes)
 
-    pub begun_or_refused : IsRefused (its call) ⊎ Begun
+    pub begun_or_refused : IsIdle (its call) ⊎ Begun
     begun_or_refused = ⊎_elim
         (λ (stays : Stays answer). inl (nothing call answer zero stays.0 stays.1))
         (λ (works : Works answer). worked works)
@@ -86,14 +86,14 @@ module _ (has : Refusal → Bool) (Prints : ℕ → SinkCall → Answer → Type
 
 module _ (asked : FilesAsked) (call : answers.Call) (told : IsTrue call.bench.tells) (told_files : IsTrue call.inputs.tells)
     (bytes : AreBytes call.bench.before.file) where
-  pub programs : program.ProgramAnswers asked call → IsRefused (its call)
-      ⊎ ((p : Programs (its call) asked) × IsTaken (its call) p.job p.begun.files.says)
+  pub programs : program.ProgramAnswers asked call → IsIdle (its call)
+      ⊎ ((p : ProgramsJob (its call) asked) × IsTaken (its call) p.job p.begun.files.says)
   programs it = begun_or_refused program.has_program PrintsWork program.Begins asked call told bytes it.answer it.zero it.ends
-      ((p : Programs (its call) asked) × IsTaken (its call) p.job p.begun.files.says)
+      ((p : ProgramsJob (its call) asked) × IsTaken (its call) p.job p.begun.files.says)
       (λ works is_free same starts.
       let aim = works.holds.aim in
       let text = job_for works.files aim starts.snapshot in
-      let p : Programs (its call) asked = record {
+      let p : ProgramsJob (its call) asked = record {
         job = job_of text aim.board;
         begun = record {
           files = of_files call.inputs asked works.files aim starts.snapshot told_files works.are_files works.holds.is_aim works.holds.holds.has_texts
@@ -106,14 +106,14 @@ module _ (asked : FilesAsked) (call : answers.Call) (told : IsTrue call.bench.te
       } in
       (p, taken call text aim.board aim.algorithms starts.is_job same p.begun.files.says))
 
-  pub begins : begin.BeginAnswers asked call → IsRefused (its call)
-      ⊎ ((b : Begins (its call) asked) × IsTaken (its call) b.job b.begun.files.says)
+  pub begins : begin.BeginAnswers asked call → IsIdle (its call)
+      ⊎ ((b : BeginsJob (its call) asked) × IsTaken (its call) b.job b.begun.files.says)
   begins it = begun_or_refused begin.has_begin begin.PrintsBegun begin.Starts asked call told bytes it.answer it.zero it.ends
-      ((b : Begins (its call) asked) × IsTaken (its call) b.job b.begun.files.says)
+      ((b : BeginsJob (its call) asked) × IsTaken (its call) b.job b.begun.files.says)
       (λ works is_free same starts.
       let aim = works.holds.aim in
       let text = job_for works.files aim starts.snapshot in
-      let b : Begins (its call) asked = record {
+      let b : BeginsJob (its call) asked = record {
         job = job_of text aim.board;
         begun = record {
           files = of_files call.inputs asked works.files aim starts.snapshot told_files works.are_files works.holds.is_aim works.holds.holds.has_texts

@@ -16,25 +16,25 @@ use Rattle.flash_session.specs.declared.goal.Goal.{Goal}
 use Rattle.flash_session.specs.declared.goal.Goal.TheVariants.{New, Old}
 use Rattle.command_words.specs.Files.{FilesAsked}
 use Rattle.command_files.proofs.FileLemmas.{not_free}
-use Rattle.promise.specs.Job.{Job, laid, aim_of}
-use Rattle.promise.specs.Texts.{Says}
-use Rattle.promise.specs.Promise.{Call, AtEachStop, IsRefused, IsBegun, Programs, Begins, GoesOn, Keeps}
+use Rattle.promise.specs.Job.{Job, laid, campaign_job}
+use Rattle.promise.specs.Texts.{SaysJob}
+use Rattle.promise.specs.Promise.{Call, AtEachStop, IsIdle, IsBegun, ProgramsJob, BeginsJob, TakesUp, KeepsPromise}
 use Rattle.promise.specs.Campaign.{Later, command_to, goal_of, IsWithin, AllFollow, AllKeep, IsSafeCall, AllSafe, IsSafeFrom, AllEnter, AllIdle, IsIdleFrom}
 use Rattle.promise.specs.Campaign.{IsFirst}
 
 -- ---- one job
 
-pub whole_text : (job : Job) (says : Says job) (f : List ℕ) → IsWhole job.body f → IsWhole (written.body_of says.text) f
+pub whole_text : (job : Job) (says : SaysJob job) (f : List ℕ) → IsWhole job.body f → IsWhole (written.body_of says.text) f
 whole_text job says f whole = subst (λ (b : List ℕ). IsWhole b f) says.body_is whole
 
-never_free : (job : Job) → Says job → (f : List ℕ) → IsWhole job.body f → IsFree f → ⊥
+never_free : (job : Job) → SaysJob job → (f : List ℕ) → IsWhole job.body f → IsFree f → ⊥
 never_free job says f whole free = not_free says.text f (whole_text job says f whole) free
 
 one_body : (a b f : List ℕ) → IsWhole a f → IsWhole b f → a ≡ b
 one_body a b f one two = let e : 165 ∷ a ≡ 165 ∷ b = sym one ∙ two in cc
 
 -- one body has one goal
-same_goal : (goal : Goal) (a b : Job) → Says a → Says b → a.body ≡ b.body → goal_of goal a ≡ goal_of goal b
+same_goal : (goal : Goal) (a b : Job) → SaysJob a → SaysJob b → a.body ≡ b.body → goal_of goal a ≡ goal_of goal b
 same_goal goal a b says said body = by goal
   where
     texts : says.text ≡ said.text
@@ -100,13 +100,13 @@ closes body call end goal First within at early_stops late_stops = ⊎_elim
     })
     (cases_lt at call.old.moment)
 
-went : (goal : Goal) (call : Call) → Keeps (command_to goal) call → IsRefused call ⊎ GoesOn call (goal_of goal)
+went : (goal : Goal) (call : Call) → KeepsPromise (command_to goal) call → IsIdle call ⊎ TakesUp call (goal_of goal)
 went New call keeps = keeps
 went Old call keeps = keeps
 
-module _ (start : BenchState) (job : Job) (says : Says job) (free : (g : List ℕ) → left (file_half start) g → IsFree g) where
+module _ (start : BenchState) (job : Job) (says : SaysJob job) (free : (g : List ℕ) → left (file_half start) g → IsFree g) where
   abbrev Good : Option (List ℕ) → List ℕ → List ℕ → Type 0
-  Good last f c = IsSafePair start (aim_of job) last f c
+  Good last f c = IsSafePair start (campaign_job job) last f c
 
   record Step (last : Option (List ℕ)) (goal : Goal) (call : Call) (end : ℕ) : Type 0 where
     closing : ℕ
@@ -115,12 +115,12 @@ module _ (start : BenchState) (job : Job) (says : Says job) (free : (g : List �
   -- one later call
   step : (last : Option (List ℕ)) (goal : Goal) (call : Call) (end : ℕ) → IsWithin call end
       → ((f c : List ℕ) → left (file_half call.old) f → left (cells_half call.old) c → Good last f c) → IsTold call.old
-      → Keeps (command_to goal) call → Step last goal call end
+      → KeepsPromise (command_to goal) call → Step last goal call end
   step last goal call end within good told keeps = ⊎_elim
-      (λ (refused : IsRefused call). record {
+      (λ (refused : IsIdle call). record {
         closing = suc call.new.moment;
         safe = record {
-          stopped = in_turn start (aim_of job) last call.old call.new (suc call.new.moment) (goal_of goal job) (λ f c. Left call.old f c)
+          stopped = in_turn start (campaign_job job) last call.old call.new (suc call.new.moment) (goal_of goal job) (λ f c. Left call.old f c)
               (λ f c l. good f c l.0 l.1) (never job.body call end (goal_of goal job) (λ f c. Left call.old f c) within refused.stopped);
           before = λ k f c from to f_at c_at early. inl (refused.stopped k f c from to f_at c_at);
           from = λ k f c from to f_at c_at late. absurd (omega (arith, to, late));
@@ -129,11 +129,11 @@ module _ (start : BenchState) (job : Job) (says : Says job) (free : (g : List �
           done = λ zero. absurd (refused.not_done zero);
         };
       })
-      (λ (goes : GoesOn call (goal_of goal)).
+      (λ (goes : TakesUp call (goal_of goal)).
       let whole : IsWhole job.body call.old.file = ⊎_elim
       (λ (is_free : IsFree call.old.file). absurd (never_free goes.job goes.carries.says call.old.file goes.whole is_free))
       (λ (is_whole : IsWhole job.body call.old.file). is_whole)
-      (reads start (aim_of job) last call.old.file call.old.cells free (good call.old.file call.old.cells told.as_read told.as_told)) in
+      (reads start (campaign_job job) last call.old.file call.old.cells free (good call.old.file call.old.cells told.as_read told.as_told)) in
       let body : goes.job.body ≡ job.body = one_body goes.job.body job.body call.old.file goes.whole whole in
       finish goes whole body (same_goal goal goes.job job goes.carries.says says body))
       (went goal call keeps)
@@ -141,7 +141,7 @@ module _ (start : BenchState) (job : Job) (says : Says job) (free : (g : List �
       first : (f c : List ℕ) → Left call.old f c ⊎ IsWhole job.body f → Good last f c
       first f c either = ⊎_elim (λ (l : Left call.old f c). good f c l.0 l.1) (λ (w : IsWhole job.body f). inr (inl w)) either
 
-      finish : (goes : GoesOn call (goal_of goal)) → IsWhole job.body call.old.file → goes.job.body ≡ job.body → goal_of goal goes.job ≡ goal_of goal job
+      finish : (goes : TakesUp call (goal_of goal)) → IsWhole job.body call.old.file → goes.job.body ≡ job.body → goal_of goal goes.job ≡ goal_of goal job
           → Step last goal call end
       finish goes whole body same =
           let early_stops : AtEachStop call (λ moment f c. moment < goes.carries.closing → Left call.old f c ⊎ IsWhole job.body f) =
@@ -155,7 +155,7 @@ module _ (start : BenchState) (job : Job) (says : Says job) (free : (g : List �
           record {
             closing = it.closing;
             safe = record {
-              stopped = in_turn start (aim_of job) last call.old call.new it.closing (goal_of goal job) (λ f c. Left call.old f c ⊎ IsWhole job.body f)
+              stopped = in_turn start (campaign_job job) last call.old call.new it.closing (goal_of goal job) (λ f c. Left call.old f c ⊎ IsWhole job.body f)
                   first it.pairs;
               before = λ k f c from to f_at c_at early. it.pairs.before k f c from to early f_at c_at;
               from = λ k f c from to f_at c_at late. it.pairs.from k f c late to f_at c_at;
@@ -170,12 +170,12 @@ module _ (start : BenchState) (job : Job) (says : Says job) (free : (g : List �
           }
 
   all : (last : Option (List ℕ)) (old new : BenchState) (closing : ℕ) (goal : List ℕ) (end : ℕ) (later : List Later) → old.moment ≤ end → end ≤ new.moment
-      → IsSafe start (aim_of job) last old new closing goal → AllKeep later → AllFollow job new end later
+      → IsSafe start (campaign_job job) last old new closing goal → AllKeep later → AllFollow job new end later
       → AllSafe start job (last_at last closing goal end) later
   all last old new closing goal end [] entered in_time safe keep follow = tt
   all last old new closing goal end (next ∷ rest) entered in_time safe keep follow =
       let now = last_at last closing goal end in
-      let good = enters start (aim_of job) last old new closing goal end next.call.old entered in_time safe follow.0 in
+      let good = enters start (campaign_job job) last old new closing goal end next.call.old entered in_time safe follow.0 in
       let s = step now next.goal next.call next.end follow.1 good follow.0.told keep.0 in (
         s.closing,
         s.safe,
@@ -193,27 +193,27 @@ module _ (start : BenchState) (free : (g : List ℕ) → left (file_half start) 
       let is_free : IsFree next.call.old.file =
       free next.call.old.file (entered next.call.old.file next.call.old.cells (enter.0.as_read, enter.0.as_told)).0 in
       ⊎_elim
-      (λ (refused : IsRefused next.call). (
+      (λ (refused : IsIdle next.call). (
         refused.not_done,
         (λ k f c from to f_at c_at. entered f c (refused.stopped k f c from to f_at c_at)),
         all_idle next.call.new next.end rest
             (λ f c f_at c_at. entered f c (refused.stopped next.end f c enter.2.0 enter.2.1 f_at c_at)) keep.1 enter.3,
       ))
-      (λ (goes : GoesOn next.call (goal_of next.goal)). absurd (never_free goes.job goes.carries.says next.call.old.file goes.whole is_free))
+      (λ (goes : TakesUp next.call (goal_of next.goal)). absurd (never_free goes.job goes.carries.says next.call.old.file goes.whole is_free))
       (went next.goal next.call keep.0)
 
 -- ---- from the first call on
 
 module _ (asked : FilesAsked) (first : Call) (end : ℕ) (later : List Later) (is : IsFirst asked first end) (keep : AllKeep later) where
-  either : (job : Job) (f c : List ℕ) → IsUntouched first.old f c ⊎ IsWhole job.body f → IsSafePair first.old (aim_of job) None f c
+  either : (job : Job) (f c : List ℕ) → IsUntouched first.old f c ⊎ IsWhole job.body f → IsSafePair first.old (campaign_job job) None f c
   either job f c first_ = ⊎_elim (λ (u : IsUntouched first.old f c). inl u) (λ (w : IsWhole job.body f). inr (inl w)) first_
 
   abbrev Pairs : Job → ℕ → Type 0
   Pairs job closing =
       PairsInTurn first.old first.new closing (λ f c. IsUntouched first.old f c ⊎ IsWhole job.body f) (IsAtClose job.body (laid job))
 
-  safe_by : (job : Job) (closing : ℕ) → Pairs job closing → IsSafe first.old (aim_of job) None first.old first.new closing (laid job)
-  safe_by job closing pairs = in_turn first.old (aim_of job) None first.old first.new closing (laid job)
+  safe_by : (job : Job) (closing : ℕ) → Pairs job closing → IsSafe first.old (campaign_job job) None first.old first.new closing (laid job)
+  safe_by job closing pairs = in_turn first.old (campaign_job job) None first.old first.new closing (laid job)
       (λ f c. IsUntouched first.old f c ⊎ IsWhole job.body f) (either job) pairs
 
   follows : (job : Job) (begun : IsBegun first asked job) (closing : ℕ) → Pairs job closing → AllFollow job first.new end later
@@ -234,32 +234,32 @@ module _ (asked : FilesAsked) (first : Call) (end : ℕ) (later : List Later) (i
     safe = follows job begun closing pairs;
   }
 
-  program_closes : (it : Programs first asked)
+  program_closes : (it : ProgramsJob first asked)
       → Closes it.job.body first (laid it.job) (λ f c. IsUntouched first.old f c ⊎ IsWhole it.job.body f) it.carries.closing
   program_closes it = closes it.job.body first end (laid it.job) (λ f c. IsUntouched first.old f c ⊎ IsWhole it.job.body f) is.within
       it.carries.closing it.carries.before it.carries.from
 
-  begin_pairs : (it : Begins first asked) → Pairs it.job (suc first.new.moment)
+  begin_pairs : (it : BeginsJob first asked) → Pairs it.job (suc first.new.moment)
   begin_pairs it = never it.job.body first end (laid it.job) (λ f c. IsUntouched first.old f c ⊎ IsWhole it.job.body f) is.within it.stopped
 
-  programmed : Programs first asked → IsSafeFrom asked first end later
+  programmed : ProgramsJob first asked → IsSafeFrom asked first end later
   programmed it =
       let c = program_closes it in begun_safe it.job it.begun c.closing c.pairs (λ none. omega (arith, it.carries.no_close none, c.later))
 
-  only_begun : Begins first asked → IsSafeFrom asked first end later
+  only_begun : BeginsJob first asked → IsSafeFrom asked first end later
   only_begun it = begun_safe it.job it.begun (suc first.new.moment) (begin_pairs it) (λ none. omega arith)
 
-  pub program_follows : (it : Programs first asked) → AllFollow it.job first.new end later
+  pub program_follows : (it : ProgramsJob first asked) → AllFollow it.job first.new end later
       → (last : Option (List ℕ)) × AllSafe first.old it.job last later
   program_follows it follow =
       let c = program_closes it in (last_at None c.closing (laid it.job) end, follows it.job it.begun c.closing c.pairs follow)
 
-  pub begin_follows : (it : Begins first asked) → AllFollow it.job first.new end later
+  pub begin_follows : (it : BeginsJob first asked) → AllFollow it.job first.new end later
       → (last : Option (List ℕ)) × AllSafe first.old it.job last later
   begin_follows it follow =
       (last_at None (suc first.new.moment) (laid it.job) end, follows it.job it.begun (suc first.new.moment) (begin_pairs it) follow)
 
-  nothing_done : IsRefused first → IsIdleFrom first end later
+  nothing_done : IsIdle first → IsIdleFrom first end later
   nothing_done refused = record {
     refused = refused;
     idle = λ enter. all_idle first.old is.free first.new end later
@@ -268,7 +268,7 @@ module _ (asked : FilesAsked) (first : Call) (end : ℕ) (later : List Later) (i
 
   pub are_safe : IsIdleFrom first end later ⊎ IsSafeFrom asked first end later
   are_safe = ⊎_elim
-      (λ (either_ : IsRefused first ⊎ Programs first asked). ⊎_elim (λ (r : IsRefused first). inl (nothing_done r)) (λ (it : Programs first asked). inr (programmed it))
+      (λ (either_ : IsIdle first ⊎ ProgramsJob first asked). ⊎_elim (λ (r : IsIdle first). inl (nothing_done r)) (λ (it : ProgramsJob first asked). inr (programmed it))
       either_)
-      (λ (either_ : IsRefused first ⊎ Begins first asked). ⊎_elim (λ (r : IsRefused first). inl (nothing_done r)) (λ (it : Begins first asked). inr (only_begun it)) either_)
+      (λ (either_ : IsIdle first ⊎ BeginsJob first asked). ⊎_elim (λ (r : IsIdle first). inl (nothing_done r)) (λ (it : BeginsJob first asked). inr (only_begun it)) either_)
       is.keeps

@@ -23,8 +23,8 @@ use Rattle.job_commands.specs.Answers.{has_no_close}
 use Rattle.job_commands.specs.Carry as carry
 use Rattle.job_commands.specs.GoOn.{goal_in, work_to, GoOnAnswers}
 use Rattle.promise.specs.Job.{Job, laid}
-use Rattle.promise.specs.Texts.{Says}
-use Rattle.promise.specs.Promise.{Carries, IsRefused, GoesOn}
+use Rattle.promise.specs.Texts.{SaysJob}
+use Rattle.promise.specs.Promise.{CarriesOut, IsIdle, TakesUp}
 use Rattle.promise.specs.Recovery.{IsTaken}
 use Rattle.promise.proofs.ClassLemmas.{IsDamagedSo, IsNoJobSo, AreBytes, something}
 use Rattle.promise.proofs.StopLemmas.{its}
@@ -39,7 +39,7 @@ goal_for Old job = job.snapshot
 abbrev pub job_of : written.Job → board.Shown → Job
 job_of text b = record { body = body_of text; regions = b.regions; image = text.image; snapshot = text.snapshot }
 
-abbrev pub says : (text : written.Job) (b : board.Shown) (algorithms : List flm.Shown) → IsJob text b algorithms → Says (job_of text b)
+abbrev pub says : (text : written.Job) (b : board.Shown) (algorithms : List flm.Shown) → IsJob text b algorithms → SaysJob (job_of text b)
 says text b algorithms is = record {
   text = text;
   board = b;
@@ -70,7 +70,7 @@ module _ (call : answers.Call) (answer : Answer) (zero : call.status ≡ 0 → a
     (algorithms : List flm.Shown) (is : IsJob text b algorithms) where
   pub carries : (First : List ℕ → List ℕ → Type 0) (surveyed : List ℕ)
       → carry.Carries call.bench call.out First (work_to goal text b algorithms surveyed) answer
-      → Carries (its call) (job_of text b) (goal_for goal (job_of text b)) First
+      → CarriesOut (its call) (job_of text b) (goal_for goal (job_of text b)) First
   carries First surveyed it = record {
     says = says text b algorithms is;
     done = λ is_zero.
@@ -86,7 +86,7 @@ module _ (call : answers.Call) (answer : Answer) (zero : call.status ≡ 0 → a
 
 -- the whole file of such a job stands for it
 pub taken : (call : answers.Call) (text : written.Job) (b : board.Shown) (algorithms : List flm.Shown) → IsJob text b algorithms
-    → size_of b.regions ≡ call.bench.before.cell_count → (said : Says (job_of text b)) → IsTaken (its call) (job_of text b) said
+    → size_of b.regions ≡ call.bench.before.cell_count → (said : SaysJob (job_of text b)) → IsTaken (its call) (job_of text b) said
 taken call text b algorithms is size said = record {
   right = right_as (job_of text b) (says text b algorithms is) said (record { algorithms = algorithms; is_job = is });
   sized = is.cells ∙ size;
@@ -94,7 +94,7 @@ taken call text b algorithms is size said = record {
 
 -- `resume` and `revert`
 pub goes_on : (goal : Goal) (call : answers.Call) → IsTrue call.bench.tells → AreBytes call.bench.before.file → GoOnAnswers goal call
-    → IsRefused (its call) ⊎ ((it : GoesOn (its call) (goal_for goal)) × IsTaken (its call) it.job it.carries.says)
+    → IsIdle (its call) ⊎ ((it : TakesUp (its call) (goal_for goal)) × IsTaken (its call) it.job it.carries.says)
 goes_on goal call told bytes answers =
     let file = call.bench.before.file in
     let from = answers.ends.told told in
@@ -105,7 +105,7 @@ goes_on goal call told bytes answers =
     (λ (some : IsSomeJob file). ⊎_elim
     (λ (size : size_of some.board.regions ≡ call.bench.before.cell_count).
     let carried = from.stands some.job some.board some.algorithms some.is some.whole size in
-    let it : GoesOn (its call) (goal_for goal) = record {
+    let it : TakesUp (its call) (goal_for goal) = record {
       job = job_of some.job some.board;
       whole = some.whole;
       carries = carries call answers.answer answers.zero answers.says goal some.job some.board some.algorithms some.is (Left call.bench.before) carried.0 carried.1;

@@ -4,7 +4,7 @@ use Rattle.flash_session.specs.declared.goal.Goal.TheVariants.{New, Old}
 use Rattle.command_words.specs.Files.{Command, program, begin, resume, revert, plan, verify, compare, status, inspect, dump, demo}
 use Rattle.command_files.specs.Call as answers
 use Rattle.flm_cli.specs.Answers.{Answers}
-use Rattle.promise.specs.Promise.{Keeps}
+use Rattle.promise.specs.Promise.{KeepsPromise}
 use Rattle.promise.specs.Recovery.{Resumes}
 use Rattle.promise.proofs.ClassLemmas.{AreBytes}
 use Rattle.promise.proofs.StopLemmas.{its, only_reads, untouched, adds_nothing}
@@ -31,7 +31,7 @@ alone : {R P : Type 0} {T : P → Type 0} → R ⊎ ((p : P) × T p) → R ⊎ P
 alone {R} {P} {T} either = ⊎_elim (λ (r : R). inl r) (λ (it : (p : P) × T p). inr it.0) either
 
 pub keeps : (command : Command) (call : answers.Call) → IsTrue call.bench.tells → IsTrue call.inputs.tells → AreBytes call.bench.before.file
-    → Answers call (Some command) → Keeps command (its call)
+    → Answers call (Some command) → KeepsPromise command (its call)
 keeps (program asked) call told told_files bytes it = alone (programs asked call told told_files bytes it)
 keeps (begin asked) call told told_files bytes it = alone (begins asked call told told_files bytes it)
 keeps resume call told told_files bytes it = alone (goes_on New call told bytes it)

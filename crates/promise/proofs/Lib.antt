@@ -13,3 +13,6 @@ mod BackLemmas
 mod CompleteLemmas
 mod GangLemmas
 mod CellLemmas
+mod MomentLemmas
+mod TopLemmas
+mod MadeLemmas

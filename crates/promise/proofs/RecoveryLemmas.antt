@@ -6,8 +6,8 @@ use Rattle.flash_session.specs.declared.goal.Goal.{Goal}
 use Rattle.flash_session.specs.declared.goal.Goal.TheVariants.{New, Old}
 use Rattle.command_words.specs.Files.{FilesAsked, program, begin}
 use Rattle.promise.specs.Job.{Job}
-use Rattle.promise.specs.Texts.{Says}
-use Rattle.promise.specs.Promise.{Call, IsRefused, Programs, Begins}
+use Rattle.promise.specs.Texts.{SaysJob}
+use Rattle.promise.specs.Promise.{Call, IsIdle, ProgramsJob, BeginsJob}
 use Rattle.promise.specs.Complete.{NoFault, IsRight, KeepsDuties, IsReady, IsComplete, Completes}
 use Rattle.promise.specs.Campaign.{Later, command_to, goal_of, AllKeep, AllSafe}
 use Rattle.promise.specs.Recovery.{IsTaken, Resumes, IsFirstTaken, AllComplete, AllRecover, IsRecoveredFrom}
@@ -17,7 +17,7 @@ ends : (goal : Goal) (job : Job) (call : Call) → Completes (command_to goal) c
 ends New job call completes = completes job
 ends Old job call completes = completes job
 
-module _ (start : BenchState) (job : Job) (says : Says job) (right : IsRight job says) (count : ℕ) (sized : length job.snapshot ≡ count) where
+module _ (start : BenchState) (job : Job) (says : SaysJob job) (right : IsRight job says) (count : ℕ) (sized : length job.snapshot ≡ count) where
   all_recover : (last : Option (List ℕ)) (later : List Later) → AllSafe start job last later → AllComplete later → AllRecover job count later
   all_recover last [] safe complete = tt
   all_recover last (next ∷ rest) safe complete = (
@@ -30,7 +30,7 @@ module _ (start : BenchState) (job : Job) (says : Says job) (right : IsRight job
 
 module _ (asked : FilesAsked) (first : Call) (end : ℕ) (later : List Later) (is : IsFirstTaken asked first end) (keep : AllKeep later)
     (complete : AllComplete later) where
-  programmed : (it : Programs first asked) → IsTaken first it.job it.begun.files.says → IsRecoveredFrom asked first end later
+  programmed : (it : ProgramsJob first asked) → IsTaken first it.job it.begun.files.says → IsRecoveredFrom asked first end later
   programmed it taken = record {
     job = it.job;
     begun = it.begun;
@@ -40,7 +40,7 @@ module _ (asked : FilesAsked) (first : Call) (end : ℕ) (later : List Later) (i
         all_recover first.old it.job it.begun.files.says taken.right first.old.cell_count taken.sized safe.0 later safe.1 complete;
   }
 
-  begun : (it : Begins first asked) → IsTaken first it.job it.begun.files.says → IsRecoveredFrom asked first end later
+  begun : (it : BeginsJob first asked) → IsTaken first it.job it.begun.files.says → IsRecoveredFrom asked first end later
   begun it taken = record {
     job = it.job;
     begun = it.begun;
@@ -50,10 +50,10 @@ module _ (asked : FilesAsked) (first : Call) (end : ℕ) (later : List Later) (i
         all_recover first.old it.job it.begun.files.says taken.right first.old.cell_count taken.sized safe.0 later safe.1 complete;
   }
 
-  pub are_recovered : IsRefused first ⊎ IsRecoveredFrom asked first end later
+  pub are_recovered : IsIdle first ⊎ IsRecoveredFrom asked first end later
   are_recovered = ⊎_elim
-      (λ (either : Resumes (program asked) first). ⊎_elim (λ (r : IsRefused first). inl r)
-      (λ (it : (p : Programs first asked) × IsTaken first p.job p.begun.files.says). inr (programmed it.0 it.1)) either)
-      (λ (either : Resumes (begin asked) first). ⊎_elim (λ (r : IsRefused first). inl r)
-      (λ (it : (b : Begins first asked) × IsTaken first b.job b.begun.files.says). inr (begun it.0 it.1)) either)
+      (λ (either : Resumes (program asked) first). ⊎_elim (λ (r : IsIdle first). inl r)
+      (λ (it : (p : ProgramsJob first asked) × IsTaken first p.job p.begun.files.says). inr (programmed it.0 it.1)) either)
+      (λ (either : Resumes (begin asked) first). ⊎_elim (λ (r : IsIdle first). inl r)
+      (λ (it : (b : BeginsJob first asked) × IsTaken first b.job b.begun.files.says). inr (begun it.0 it.1)) either)
       is.keeps

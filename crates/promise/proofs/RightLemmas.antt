@@ -6,10 +6,10 @@ use Rattle.job_text.specs.Body as written
 use Rattle.job_text.specs.Jobs.{IsJob}
 use Rattle.job_text.proofs.OneTextLemmas.{one_text}
 use Rattle.promise.specs.Job.{Job}
-use Rattle.promise.specs.Texts.{Says}
+use Rattle.promise.specs.Texts.{SaysJob}
 use Rattle.promise.specs.Complete.{IsRight}
 
-pub right_as : (job : Job) (says said : Says job) → IsRight job says → IsRight job said
+pub right_as : (job : Job) (says said : SaysJob job) → IsRight job says → IsRight job said
 right_as job says said right = record {
   algorithms = right.algorithms;
   is_job = subst (λ (t : written.Job). IsJob t said.board right.algorithms) texts

@@ -6,8 +6,8 @@ use Rattle.campaign.specs.Stops.{IsAtClose, HasNoClose, IsDone, IsTold, IsEntere
 use Rattle.flash_session.specs.declared.goal.Goal.{Goal}
 use Rattle.flash_session.specs.declared.goal.Goal.TheVariants.{New, Old}
 use Rattle.command_words.specs.Files.{FilesAsked, Command, program, begin, resume, revert}
-use Rattle.promise.specs.Job.{Job, laid, aim_of}
-use Rattle.promise.specs.Promise.{Call, AtEachStop, IsRefused, IsBegun, Keeps}
+use Rattle.promise.specs.Job.{Job, laid, campaign_job}
+use Rattle.promise.specs.Promise.{Call, AtEachStop, IsIdle, IsBegun, KeepsPromise}
 
 -- A later call, of `resume` or `revert`: the call as it would be had no stop ended it, and the moment at which it ended or was stopped.
 pub record Later : Type 1 where
@@ -31,21 +31,21 @@ IsWithin call end = (call.old.moment ≤ end) × (end ≤ call.new.moment)
 
 -- Each call is entered with what the one before it left at its end; while the file stands for the job the cells may change by themselves.
 abbrev pub AllFollow : Job → BenchState → ℕ → List Later → Type 0
-AllFollow job last end [] = Unit {0}
-AllFollow job last end (next ∷ rest) =
-    IsEntered (aim_of job) last end next.call.old × IsWithin next.call next.end × AllFollow job next.call.new next.end rest
+AllFollow job new end [] = Unit {0}
+AllFollow job new end (next ∷ rest) =
+    IsEntered (campaign_job job) new end next.call.old × IsWithin next.call next.end × AllFollow job next.call.new next.end rest
 
 -- Each call keeps the promise of its command.
 abbrev pub AllKeep : List Later → Type 0
 AllKeep [] = Unit {0}
-AllKeep (next ∷ rest) = Keeps (command_to next.goal) next.call × AllKeep rest
+AllKeep (next ∷ rest) = KeepsPromise (command_to next.goal) next.call × AllKeep rest
 
 -- A later call, which is at its close from this moment on. A stop leaves the device untouched, or the job whole, or the job closed, with the
 -- goal of the last call that was at its close by then. Before its own close it leaves what one at the entry may leave, or the job whole; from
 -- there on the cells are the goal. It comes to no close on a free file, nor with status 1, 9, 11 or 12. Where it answers 0 its file was whole at
 -- the entry, and it left its own goal.
 pub record IsSafeCall (start : BenchState) (job : Job) (last : Option (List ℕ)) (next : Later) (closing : ℕ) : Type 0 where
-  pub stopped : IsSafe start (aim_of job) last next.call.old next.call.new closing (goal_of next.goal job)
+  pub stopped : IsSafe start (campaign_job job) last next.call.old next.call.new closing (goal_of next.goal job)
   pub before : AtEachStop next.call (λ moment file cells. moment < closing → Left next.call.old file cells ⊎ IsWhole job.body file)
   pub from : AtEachStop next.call (λ moment file cells. closing ≤ moment → IsAtClose job.body (goal_of next.goal job) file cells)
   pub free : IsFree next.call.old.file → next.call.new.moment < closing
@@ -65,16 +65,16 @@ pub record IsSafeFrom (asked : FilesAsked) (first : Call) (end : ℕ) (later : L
   pub job : Job
   pub begun : IsBegun first asked job
   pub closing : ℕ
-  pub stopped : IsSafe first.old (aim_of job) None first.old first.new closing (laid job)
+  pub stopped : IsSafe first.old (campaign_job job) None first.old first.new closing (laid job)
   pub from : AtEachStop first (λ moment file cells. closing ≤ moment → IsAtClose job.body (laid job) file cells)
   pub no_close : HasNoClose first.status → first.new.moment < closing
   pub safe : AllFollow job first.new end later → AllSafe first.old job (last_at None closing (laid job) end) later
 
 -- Each call is entered with what the one before it left at its end.
 abbrev pub AllEnter : BenchState → ℕ → List Later → Type 0
-AllEnter last end [] = Unit {0}
-AllEnter last end (next ∷ rest) =
-    IsTold next.call.old × ((file cells : List ℕ) → Left next.call.old file cells → last.files_at end file × last.cells_at end cells)
+AllEnter new end [] = Unit {0}
+AllEnter new end (next ∷ rest) =
+    IsTold next.call.old × ((file cells : List ℕ) → Left next.call.old file cells → new.files_at end file × new.cells_at end cells)
     × IsWithin next.call next.end × AllEnter next.call.new next.end rest
 
 -- No call answers 0, and a stop in it leaves only what one at this state may leave.
@@ -84,12 +84,12 @@ AllIdle start (next ∷ rest) = (next.call.status ≢ 0) × AtEachStop next.call
 
 -- The first call, which ended or was stopped at this moment, was refused: no job was begun, and nothing is done in the calls that follow.
 pub record IsIdleFrom (first : Call) (end : ℕ) (later : List Later) : Type 0 where
-  pub refused : IsRefused first
+  pub refused : IsIdle first
   pub idle : AllEnter first.new end later → AllIdle first.old later
 
 -- A call of `program` or `begin`, at whose entry a stop leaves no file but free ones.
 pub record IsFirst (asked : FilesAsked) (first : Call) (end : ℕ) : Type 0 where
-  pub keeps : Keeps (program asked) first ⊎ Keeps (begin asked) first
+  pub keeps : KeepsPromise (program asked) first ⊎ KeepsPromise (begin asked) first
   pub free : (file : List ℕ) → first.old.files_at first.old.moment file → IsFree file
   pub within : IsWithin first end
 

@@ -4,3 +4,4 @@ pub mod Promise
 pub mod Campaign
 pub mod Complete
 pub mod Recovery
+pub mod Made

@@ -4,23 +4,23 @@ use Rattle.job_text.specs.Files.{IsFree, IsWhole}
 use Rattle.campaign.specs.Stops.{IsDone}
 use Rattle.command_words.specs.Files.{FilesAsked, Command, program, begin, resume, revert}
 use Rattle.promise.specs.Job.{Job, laid}
-use Rattle.promise.specs.Texts.{Says}
-use Rattle.promise.specs.Promise.{Call, IsRefused, IsBegun, Programs, Begins, GoesOn}
+use Rattle.promise.specs.Texts.{SaysJob}
+use Rattle.promise.specs.Promise.{Call, IsIdle, IsBegun, ProgramsJob, BeginsJob, TakesUp}
 use Rattle.promise.specs.Complete.{NoFault, IsRight, KeepsDuties, IsComplete, Completes}
 use Rattle.promise.specs.Campaign.{Later, command_to, goal_of, IsWithin, AllFollow, AllKeep}
 
 -- A whole file of this job stands for it: its texts are those of a board and of an algorithm for each region that fits it, its image lies in
 -- the regions, its snapshot has a byte for each cell of theirs; and there are as many cells on the bench.
-pub record IsTaken (call : Call) (job : Job) (says : Says job) : Type 0 where
+pub record IsTaken (call : Call) (job : Job) (says : SaysJob job) : Type 0 where
   pub right : IsRight job says
   pub sized : length job.snapshot ≡ call.old.cell_count
 
 -- A call is refused, or keeps the promise of its command by such a job.
 abbrev pub Resumes : Command → Call → Type 0
-Resumes (program asked) call = IsRefused call ⊎ ((it : Programs call asked) × IsTaken call it.job it.begun.files.says)
-Resumes (begin asked) call = IsRefused call ⊎ ((it : Begins call asked) × IsTaken call it.job it.begun.files.says)
-Resumes resume call = IsRefused call ⊎ ((it : GoesOn call laid) × IsTaken call it.job it.carries.says)
-Resumes revert call = IsRefused call ⊎ ((it : GoesOn call (λ job. job.snapshot)) × IsTaken call it.job it.carries.says)
+Resumes (program asked) call = IsIdle call ⊎ ((it : ProgramsJob call asked) × IsTaken call it.job it.begun.files.says)
+Resumes (begin asked) call = IsIdle call ⊎ ((it : BeginsJob call asked) × IsTaken call it.job it.begun.files.says)
+Resumes resume call = IsIdle call ⊎ ((it : TakesUp call laid) × IsTaken call it.job it.carries.says)
+Resumes revert call = IsIdle call ⊎ ((it : TakesUp call (λ job. job.snapshot)) × IsTaken call it.job it.carries.says)
 Resumes _ call = Unit {0}
 
 -- ---- many calls
@@ -56,4 +56,4 @@ pub record IsRecoveredFrom (asked : FilesAsked) (first : Call) (end : ℕ) (late
 -- After any calls that keep the promise, each stopped at any moment or not, the job of the first is recovered; or the first was refused.
 abbrev pub AreRecovered : FilesAsked → Call → ℕ → List Later → Type 0
 AreRecovered asked first end later = IsFirstTaken asked first end → AllKeep later → AllComplete later
-    → IsRefused first ⊎ IsRecoveredFrom asked first end later
+    → IsIdle first ⊎ IsRecoveredFrom asked first end later
