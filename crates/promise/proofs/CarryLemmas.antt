@@ -21,10 +21,12 @@ use Rattle.command_files.specs.Call.{SinkCall, Answer, done, refused}
 use Rattle.command_files.specs.Said.{Says as SaysOn}
 use Rattle.job_commands.specs.Answers.{has_no_close}
 use Rattle.job_commands.specs.Carry as carry
+use Rattle.job_commands.specs.Work.{Work}
+use Rattle.flash_session.specs.Script.{Broken}
 use Rattle.job_commands.specs.GoOn.{goal_in, work_to, GoOnAnswers}
 use Rattle.promise.specs.Job.{Job, laid}
 use Rattle.promise.specs.Texts.{SaysJob}
-use Rattle.promise.specs.Promise.{CarriesOut, IsIdle, TakesUp}
+use Rattle.promise.specs.Promise.{CarriesOut, EndsOperation, IsIdle, TakesUp}
 use Rattle.promise.specs.Recovery.{IsTaken}
 use Rattle.promise.proofs.ClassLemmas.{IsDamagedSo, IsNoJobSo, AreBytes, something}
 use Rattle.promise.proofs.StopLemmas.{its}
@@ -54,6 +56,18 @@ says text b algorithms is = record {
 pub same_goal : (goal : Goal) (text : written.Job) (b : board.Shown) → goal_in goal text b ≡ goal_for goal (job_of text b)
 same_goal New text b = refl
 same_goal Old text b = refl
+
+-- the operation that was open at the entry ends, and leaves the cells as surveyed
+pub ends_operation : (call : answers.Call) (First : List ℕ → List ℕ → Type 0) {w : Work} {broken : Broken} → carry.Stops call.bench First w broken
+    → EndsOperation (its call) w.surveyed
+ends_operation call First stops = record {
+  end = stops.broken_off;
+  started = stops.path.started;
+  at_entry = stops.at_entry;
+  at_exit = stops.ended;
+  before = λ k f c from to f_at c_at early. stops.path.before k c from to early c_at;
+  leaves = stops.settled;
+}
 
 -- the answers with a status of those without a close
 no_close_with : (status : ℕ) (err : SinkCall) (answer : Answer) → SaysOn status err answer → HasNoClose status → has_no_close answer ≡ true

@@ -2,6 +2,7 @@
 use Rattle.std.proofs.Common.{◌≡◌, refl, sym, subst, arith, ◌-◌, ℕ, zero, suc, IsTrue, IsSome, List, [], ◌∷◌, ◌++◌, length, take, drop, Option, option_to_list}
 use Rattle.std.proofs.Common.{Some, None}
 use Rattle.board_file.specs.declared.region.Region.{Region}
+use Rattle.job_text.specs.declared.format.Format.TheVariants.{Second}
 use Rattle.job_text.specs.Jobs.{IsJob}
 use Rattle.command_words.specs.Files.{FilesAsked}
 use Rattle.command_files.specs.Inputs.{InputsCall, AreEach, FilesGiven, AreFiles}
@@ -68,3 +69,11 @@ of_files inputs asked files aim snapshot told are is has is_job =
       others = subst (λ (k : ℕ). StandUnder under (drop n asked.images) (drop k files.images)) (sym same) (stand_back under n asked.images files.images images);
       union = is.are_read.union;
     }
+
+-- it has the second format
+pub second_format : (inputs : InputsCall) (asked : FilesAsked) (files : FilesGiven) (aim : Aim) (snapshot : List ℕ) (told : IsTrue inputs.tells)
+    (are : AreFiles inputs asked files)
+    (is : IsAim asked.raw_at files aim) (has : HasTexts files aim) (is_job : IsJob (job_for files aim snapshot) aim.board aim.algorithms)
+    → (of_files inputs asked files aim snapshot told are is has is_job).says.text.format ≡ Second
+unfolding of_files
+second_format inputs asked files aim snapshot told are is has is_job = refl

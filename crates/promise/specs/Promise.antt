@@ -4,6 +4,7 @@ use Rattle.std.specs.Prelude.{codes, Option, None, if◌then◌else◌}
 use Rattle.std.specs.List.{flat_map}
 use Rattle.bench_model.specs.declared.bench.Bench.{Ghosts}
 use Rattle.bench_model.specs.State.{BenchState, Left, SameOutside}
+use Rattle.job_text.specs.declared.format.Format.TheVariants.{Second}
 use Rattle.job_text.specs.Files.{IsFree, IsWhole}
 use Rattle.report_text.specs.DoneLine.{target_head, done_line}
 use Rattle.campaign.specs.Stops.{IsUntouched, IsAtClose, HasNoClose, IsDone}
@@ -49,11 +50,25 @@ pub record CarriesOut (call : Call) (job : Job) (goal : List ℕ) (AsEntered : L
   pub from : AtEachStop call (λ moment file cells. closing ≤ moment → IsAtClose job.body goal file cells)
   pub no_close : HasNoClose call.status → call.new.moment < closing
 
--- A job of these files is begun over a free file. Its snapshot is the cells of the entry, but in the range of an operation that was open.
+-- The operation that was open at the entry ends at this moment, and leaves these cells: a stop then leaves them, and nothing else. Before it
+-- a stop leaves each cell as at the entry, but in the operation's range. It is the entry where no operation was open, and has come where none is
+-- open at the exit.
+pub record EndsOperation (call : Call) (left : List ℕ) : Type 0 where
+  pub end : ℕ
+  pub started : call.old.moment ≤ end
+  pub at_entry : call.old.operation ≡ None → end ≡ call.old.moment
+  pub at_exit : call.new.operation ≡ None → end ≤ call.new.moment
+  pub before : AtEachStop call (λ moment file cells. moment < end → SameOutside call.old.operation call.old.cells cells)
+  pub leaves : (cells : List ℕ) → end ≤ call.new.moment → call.new.cells_at end cells → cells ≡ left
+
+-- A job of these files is begun over a free file, in the second format. Its snapshot is the cells of the entry, but in the range of an operation
+-- that was open, and there it is what the end of that operation left.
 pub record IsBegun (call : Call) (asked : FilesAsked) (job : Job) : Type 0 where
   pub files : IsOfFiles call.file_under asked job
+  pub format : files.says.text.format ≡ Second
   pub free : IsFree call.old.file
   pub snapshot : SameOutside call.old.operation call.old.cells job.snapshot
+  pub operation : EndsOperation call job.snapshot
 
 -- `program` begins a job, and carries it to its image laid over the snapshot. Before its close a stop leaves it untouched, or the job whole.
 pub record ProgramsJob (call : Call) (asked : FilesAsked) : Type 0 where
