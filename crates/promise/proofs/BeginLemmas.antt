@@ -57,7 +57,8 @@ module _ (has : Refusal → Bool) (Prints : ℕ → SinkCall → Answer → Type
 
   module _ (told : IsTrue call.bench.tells) (bytes : AreBytes call.bench.before.file) (answer : Answer) (zero : call.status ≡ 0 → answer ≡ done)
       (ends : EndsOnJob has Prints Starts asked call.bench call.inputs call.out answer) (Begun : Type 0)
-      (begun : (works : Works answer) → IsFree call.bench.before.file → size_of works.holds.aim.board.regions ≡ call.bench.before.cell_count → Starts call.bench call.out works.files works.holds.aim answer → Begun) where
+      (begun : (works : Works answer) → IsFree call.bench.before.file
+      → size_of works.holds.aim.board.regions ≡ call.bench.before.cell_count → Starts call.bench call.out works.files works.holds.aim answer → Begun) where
     worked : Works answer → IsIdle (its call) ⊎ Begun
     worked works =
         let file = call.bench.before.file in

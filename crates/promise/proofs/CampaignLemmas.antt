@@ -268,7 +268,12 @@ module _ (asked : FilesAsked) (first : Call) (end : ℕ) (later : List Later) (i
 
   pub are_safe : IsIdleFrom first end later ⊎ IsSafeFrom asked first end later
   are_safe = ⊎_elim
-      (λ (either_ : IsIdle first ⊎ ProgramsJob first asked). ⊎_elim (λ (r : IsIdle first). inl (nothing_done r)) (λ (it : ProgramsJob first asked). inr (programmed it))
+      (λ (either_ : IsIdle first ⊎ ProgramsJob first asked). ⊎_elim
+      (λ (r : IsIdle first). inl (nothing_done r))
+      (λ (it : ProgramsJob first asked). inr (programmed it))
       either_)
-      (λ (either_ : IsIdle first ⊎ BeginsJob first asked). ⊎_elim (λ (r : IsIdle first). inl (nothing_done r)) (λ (it : BeginsJob first asked). inr (only_begun it)) either_)
+      (λ (either_ : IsIdle first ⊎ BeginsJob first asked). ⊎_elim
+      (λ (r : IsIdle first). inl (nothing_done r))
+      (λ (it : BeginsJob first asked). inr (only_begun it))
+      either_)
       is.keeps

@@ -80,7 +80,8 @@ no_close_with status err done says none =
 no_close_with status err (refused r) says none = absurd
     (other_status status (status_of r) says.0 (λ e. omega (arith, e)) (λ e. omega (arith, e)) (λ e. omega (arith, e)) (λ e. omega (arith, e)) none)
 
-module _ (call : answers.Call) (answer : Answer) (zero : call.status ≡ 0 → answer ≡ done) (said : SaysOn call.status call.err answer) (goal : Goal) (text : written.Job) (b : board.Shown)
+module _ (call : answers.Call) (answer : Answer) (zero : call.status ≡ 0 → answer ≡ done) (said : SaysOn call.status call.err answer) (goal : Goal)
+    (text : written.Job) (b : board.Shown)
     (algorithms : List flm.Shown) (is : IsJob text b algorithms) where
   pub carries : (First : List ℕ → List ℕ → Type 0) (surveyed : List ℕ)
       → carry.Carries call.bench call.out First (work_to goal text b algorithms surveyed) answer
@@ -122,7 +123,8 @@ goes_on goal call told bytes answers =
     let it : TakesUp (its call) (goal_for goal) = record {
       job = job_of some.job some.board;
       whole = some.whole;
-      carries = carries call answers.answer answers.zero answers.says goal some.job some.board some.algorithms some.is (Left call.bench.before) carried.0 carried.1;
+      carries = carries call answers.answer answers.zero answers.says goal some.job some.board some.algorithms some.is (Left call.bench.before) carried.0
+          carried.1;
     } in
     inr (it, taken call some.job some.board some.algorithms some.is size it.carries.says))
     (λ (other : size_of some.board.regions ≢ call.bench.before.cell_count).
