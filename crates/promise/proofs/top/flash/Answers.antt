@@ -1,4 +1,4 @@
--- `flash`: its clauses `promise`, `complete`, `answers`, `usage` and `forward`. Each asks that the call which is made is the one that is answered, part by part.
+-- `flash`: each of its clauses asks that the call which is made is the one that is answered, part by part.
 use Rattle.std.proofs.Common.{arith, Some, None}
 use Rattle.promise.proofs.TopLemmas.{answered, kept, completed, unfit, forwarded}
 use Rattle.promise.proofs.top.flash.Goals as goal
