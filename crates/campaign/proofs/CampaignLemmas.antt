@@ -1,11 +1,11 @@
 -- In every campaign each pair left is untouched, whole or finished, by induction on the list of calls.
-use Rattle.std.proofs.Common.{◌≡◌, ◌⊎◌, ⊎_elim, inl, inr, ◌≤◌, ◌<◌, ℕ, List, [], ◌∷◌, Option, Some, None, sym, ap, subst, cond, Bool, arith}
+use Rattle.std.proofs.Common.{◌≡◌, ◌⊎◌, ◌∙◌, ⊎_elim, inl, inr, ◌≤◌, ◌<◌, ℕ, List, [], ◌∷◌, Option, Some, None, sym, ap, subst, cond, Bool, arith}
 use Rattle.std.proofs.lemmas.Bool.{cases_lt, lt-leb, le-leb}
 use Rattle.bench_model.specs.History.{left}
 use Rattle.bench_model.specs.State.{BenchState, file_half, cells_half, Left}
 use Rattle.job_text.specs.Files.{IsFree, IsWhole}
 use Rattle.bench_model.specs.Pairs.{PairsInTurn}
-use Rattle.campaign.specs.Stops.{CampaignJob, IsUntouched, IsAtClose, IsDone, IsEntered, last_at, IsFinished, IsSafePair, IsSafe}
+use Rattle.campaign.specs.Stops.{CampaignJob, IsUntouched, IsAtClose, HasNoClose, IsDone, IsEntered, last_at, IsFinished, IsSafePair, IsSafe}
 use Rattle.campaign.specs.Campaign.{goal_of, LaterCall, Keeps, AllGoOn, Campaign, IsCampaign, AllSafe, IsSafeCampaign}
 
 not_yet : (last : Option (List ℕ)) (closing : ℕ) (goal : List ℕ) (k : ℕ) → k < closing → last_at last closing goal k ≡ last
@@ -31,6 +31,16 @@ in_turn start aim last old new closing goal First good run k f c from to f_at c_
     (λ (late : closing ≤ k). subst (λ (l : Option (List ℕ)). IsSafePair start aim l f c) (sym (reached last closing goal k late))
     (at_close start aim goal f c (run.from k f c late to f_at c_at)))
     (cases_lt k closing)
+
+-- a status is none of those without a close
+pub other_status : (status n : ℕ) → status ≡ n → (n ≡ 1 → ⊥) → (n ≡ 9 → ⊥) → (n ≡ 11 → ⊥) → (n ≡ 12 → ⊥) → HasNoClose status → ⊥
+other_status status n is a b c d none = ⊎_elim
+    (λ (one : status ≡ 1). a (sym is ∙ one))
+    (λ (more : (status ≡ 9) ⊎ ((status ≡ 11) ⊎ (status ≡ 12))). ⊎_elim
+    (λ (nine : status ≡ 9). b (sym is ∙ nine))
+    (λ (rest : (status ≡ 11) ⊎ (status ≡ 12)). ⊎_elim (λ (e : status ≡ 11). c (sym is ∙ e)) (λ (t : status ≡ 12). d (sym is ∙ t)) rest)
+    more)
+    none
 
 -- the file as read is free or stands for the job
 pub reads : (start : BenchState) (aim : CampaignJob) (last : Option (List ℕ)) (f c : List ℕ) → ((g : List ℕ) → left (file_half start) g → IsFree g) →

@@ -22,6 +22,10 @@ pub record IsAtClose (body goal file cells : List ℕ) : Type 0 where
   pub whole_or_closed : IsWhole body file ⊎ IsClosed body file
   pub done : cells ≡ goal
 
+-- the statuses of a call that never came to its close: out of memory, a fault of the device, a call that failed, or a mismatch
+abbrev pub HasNoClose : ℕ → Type 0
+HasNoClose status = (status ≡ 1) ⊎ ((status ≡ 9) ⊎ ((status ≡ 11) ⊎ (status ≡ 12)))
+
 -- what stands where a call of `program`, `resume` or `revert` answers 0
 pub record IsDone (body goal : List ℕ) (new : BenchState) : Type 0 where
   pub file : new.file ≡ 0 ∷ body

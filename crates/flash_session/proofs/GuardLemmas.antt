@@ -1,5 +1,5 @@
 -- One turn more of what a stop leaves.
-use Rattle.std.proofs.Common.{◌≡◌, ◌∙◌, ◌↔◌, inl, ℕ, Bool, IsTrue, List, ◌∷◌, ◌++◌, ◌+◌, drop, None, Option, refl, sym, ap, subst}
+use Rattle.std.proofs.Common.{◌≡◌, ◌∙◌, ◌↔◌, inl, ℕ, Bool, IsTrue, List, ◌∷◌, ◌++◌, ◌+◌, drop, None, Option, refl, sym, ap, subst, arith, true}
 use Rattle.bench_model.specs.History.{left, Leaves, LeftOnly}
 use Rattle.bench_model.specs.State.{SameOutside, BenchState, file_half, cells_half}
 use Rattle.bench_model.specs.Pairs.{PairsLeave}
@@ -9,6 +9,7 @@ use Rattle.job_file.specs.Stops.{IsWholeOrClosed}
 use Rattle.flash_session.specs.Moves.{Move, Stand, IsLeftOnWay}
 use Rattle.flash_session.specs.declared.cursor.Place.{Place}
 use Rattle.flash_session.specs.declared.cursor.Place.TheVariants as place
+use Rattle.flash_session.specs.declared.target_end.TargetEnd.{TargetEnd}
 use Rattle.flash_session.specs.declared.target_end.TargetEnd.TheVariants as ended
 use Rattle.flash_session.specs.declared.target_end.Turn.TheVariants as turn
 use Rattle.flash_session.specs.declared.player.Player.{Player}
@@ -16,7 +17,7 @@ use Rattle.flash_session.specs.Fit.{Fit, IsPlace}
 use Rattle.flash_session.specs.Stands.{Stands, StandsOn}
 use Rattle.flash_session.specs.Targets.{setup_now, point_for, legs_for, has_second, size_for}
 use Rattle.flash_session.specs.Turns.{IsUnended, turn_of, ClosedFile, IsDone, KeepsFile, FileTurn, Closes, GoesOn, Turns}
-use Rattle.flash_session.specs.Guarded.{HasBody, IsAtClose, FileAt, Guarded}
+use Rattle.flash_session.specs.Guarded.{HasBody, IsAtClose, has_no_close, FileAt, Guarded}
 
 pub over_going : (p : Place) → turn_of p ≡ turn.Ended → IsUnended p → ⊥
 over_going (place.Ended e) over going = going
@@ -39,6 +40,14 @@ file_closed : (body : List ℕ) (p : Place) (old new : List ℕ) → drop 1 old 
 file_closed body (place.Ended ended.Done) old new same is = is ∙ ap (λ (l : List ℕ). 0 ∷ l) same
 file_closed body (place.Ended ended.StoreFault) old new same is = subst (λ (l : List ℕ). IsWholeOrClosed l new) same is
 file_closed body p old new same is = absurd is
+
+-- a close has no other end than done and a fault of the store
+close_ends : (p : Place) (old new : List ℕ) → ClosedFile p old new → (e : TargetEnd) → p ≡ place.Ended e → has_no_close e ≡ true → ⊥
+close_ends (place.Ended ended.Done) old new is e same none =
+    let done : ended.Done ≡ e = cc in let no_ : has_no_close ended.Done ≡ true = ap has_no_close done ∙ none in cc
+close_ends (place.Ended ended.StoreFault) old new is e same none =
+    let fault : ended.StoreFault ≡ e = cc in let no_ : has_no_close ended.StoreFault ≡ true = ap has_no_close fault ∙ none in cc
+close_ends p old new is e same none = absurd is
 
 -- a job that is whole is whole at each moment before the first turn
 pub guarded_here : (body goal : List ℕ) (p : Place) (s : BenchState) → IsUnended p → IsWhole body s.file → LeftOnly s.file (file_half s)
@@ -76,7 +85,7 @@ module _ (tells : Bool) (told : IsTrue tells) (goal : List ℕ) (a : Stand) (way
         going = λ going. (keeps.read.file told ∙ whole, all);
         file = file_kept body y.place u.file keeps.other (keeps.read.file told ∙ whole);
         idle = λ done. absurd (done_closed y.place keeps.other done);
-        over = λ over. (u.moment + 1, never (HasBody body) (IsAtClose body goal) all);
+        over = λ over. (u.moment + 1, never (HasBody body) (IsAtClose body goal) all, (λ e is none. omega arith));
       }
 
   -- the close
@@ -96,7 +105,11 @@ module _ (tells : Bool) (told : IsTrue tells) (goal : List ℕ) (a : Stand) (way
         going = λ going. absurd (over_going y.place closes.over going);
         file = file_closed body y.place t.file u.file (ap (λ (f : List ℕ). drop 1 f) whole) (closes.file told);
         idle = λ done. closes.cells.operation ∙ idle;
-        over = λ over. (t.moment, in_turn (HasBody body) (IsAtClose body goal) before now);
+        over = λ over. (
+          t.moment,
+          in_turn (HasBody body) (IsAtClose body goal) before now,
+          (λ e is none. absurd (close_ends y.place t.file u.file (closes.file told) e is none)),
+        );
       }
 
   by_place : (p : Place) → x.place ≡ p → IsWhole body t.file → PairsLeave s t (HasBody body) → Guarded body goal y.place s u

@@ -1,5 +1,5 @@
 -- What a stop leaves of the job's file and of the cells, over all turns so far.
-use Rattle.std.specs.Prelude.{◌≡◌, ℕ, List, ◌∷◌, None}
+use Rattle.std.specs.Prelude.{◌≡◌, ◌<◌, ℕ, Bool, true, false, List, ◌∷◌, None}
 use Rattle.bench_model.specs.Pairs.{PairsLeave, PairsInTurn}
 use Rattle.bench_model.specs.State.{BenchState}
 use Rattle.job_text.specs.Files.{IsWhole}
@@ -29,6 +29,13 @@ FileEnd body (ended.Mismatch d) f = IsWhole body f
 FileEnd body ended.StoreFault f = IsWholeOrClosed body f
 FileEnd body ended.DeviceFault f = IsWhole body f
 
+-- the ends of a target that never came to its close
+abbrev pub has_no_close : TargetEnd → Bool
+has_no_close (ended.CallFailed number call e) = true
+has_no_close (ended.Mismatch d) = true
+has_no_close ended.DeviceFault = true
+has_no_close _ = false
+
 abbrev pub FileAt : List ℕ → Place → List ℕ → Type 0
 FileAt body (place.At c) f = IsWhole body f
 FileAt body (place.In call len left next) f = IsWhole body f
@@ -37,9 +44,11 @@ FileAt body place.Closing f = IsWhole body f
 FileAt body (place.Ended e) f = FileEnd body e f
 
 -- While a target goes on, each pair has the whole job. Once it has ended, each pair before a moment has it, and each from there on is one
--- at the close. (A target that came to no close has its moment after all of them.)
+-- at the close. (A target that came to no close has its moment after all of them: so it is
+-- after a device fault, a call that failed and a mismatch.)
 pub record Guarded (body goal : List ℕ) (p : Place) (start now : BenchState) : Type 0 where
   pub going : IsUnended p → IsWhole body now.file × PairsLeave start now (HasBody body)
   pub file : FileAt body p now.file
   pub idle : p ≡ place.Ended ended.Done → now.operation ≡ None
   pub over : turn_of p ≡ turn.Ended → (at : ℕ) × PairsInTurn start now at (HasBody body) (IsAtClose body goal)
+      × ((e : TargetEnd) → p ≡ place.Ended e → has_no_close e ≡ true → now.moment < at)

@@ -8,5 +8,4 @@ pub mod PlanLemmas
 pub mod TopLemmas
 pub mod DifferenceLemmas
 pub mod VerifyLemmas
-pub mod LawLemmas
 pub mod PlaceLemmas

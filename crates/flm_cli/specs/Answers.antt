@@ -8,7 +8,6 @@ use Rattle.command_files.specs.Call.{BenchCall, SinkCall, Call, Answer, refused}
 use Rattle.command_files.specs.Answered.{DidNothing, AnswersBy}
 use Rattle.demo_job.specs.Command.{DemoEnds}
 use Rattle.device_dump.specs.Dump.{DumpEnds}
-use Rattle.flash_session.specs.declared.goal.Goal.{Goal}
 use Rattle.flash_session.specs.declared.goal.Goal.TheVariants.{New, Old}
 use Rattle.job_commands.specs.GoOn.{GoOnEnds}
 use Rattle.job_commands.specs.Begin.{BeginEnds}
@@ -43,16 +42,3 @@ EndsOf None = EndsUnfit
 -- The call of words that ask for this, or for nothing.
 abbrev pub Answers : Call → Option Command → Type 0
 Answers call asked = AnswersBy call (EndsOf asked)
-
--- the call of words that ask for `program` or for `begin`, with these files
-abbrev pub AnswersFirst : FilesAsked → Call → Type 0
-AnswersFirst asked call = Answers call (Some (program asked)) ⊎ Answers call (Some (begin asked))
-
--- the command that goes to this goal
-abbrev pub command_to : Goal → Command
-command_to New = resume
-command_to Old = revert
-
--- the call of words that ask for it
-abbrev pub AnswersLater : Goal → Call → Type 0
-AnswersLater goal call = Answers call (Some (command_to goal))

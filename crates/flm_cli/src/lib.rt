@@ -4,11 +4,9 @@
 mod compare;
 mod comparison;
 mod inspect;
-mod law;
 mod plan;
 mod top;
 mod verify;
 
 pub use demo_job::{Demo, DemoLines, demo_run, made_cells, put_demo};
-pub use law::calls_of_flmprog_are_safe;
 pub use top::flmprog;

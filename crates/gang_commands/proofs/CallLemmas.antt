@@ -48,7 +48,7 @@ use Rattle.gang_commands.specs.Puts.{outcome_of, outcomes, Runs}
 use Rattle.gang_commands.specs.Words.{DoFit}
 use Rattle.gang_commands.specs.Works.{Carries, Comes, IsSound}
 use Rattle.gang_commands.proofs.CarryLemmas.{all_end}
-use Rattle.gang_commands.proofs.TargetLemmas.{done_first, finished_by, keeps_by, looked_on}
+use Rattle.gang_commands.proofs.TargetLemmas.{done_first, finished_by, keeps_by, same_pairs, looked_on}
 use Rattle.gang_commands.proofs.WordLemmas.{some_benches}
 
 -- ---- statuses
@@ -192,15 +192,7 @@ module _ {B : Type 0} (G : Ghosts B) (words : ℕ) (benches after : List B) (out
 
     pub unfit_keeps : AllKeep G status benches after
     unfit_keeps i d less = subst (λ (l : List B). KeepsOn status (G.state (get_or benches i d)) (G.state (get_or l i d))) (sym has.same)
-        (let s : BenchState = G.state (get_or benches i d) in
-        looked_on status s s
-        (record {
-          files = goes_here (file_half s);
-          cells = goes_here (cells_half s);
-          each = λ k f c from to f_at c_at. let is : k ≡ s.moment = omega (arith, from, to) in
-              (subst (λ (n : ℕ). s.files_at n f) is f_at, subst (λ (n : ℕ). s.cells_at n c) is c_at);
-        })
-        (λ is_zero. omega (arith, two, is_zero)))
+        (let s : BenchState = G.state (get_or benches i d) in looked_on status s s (same_pairs s) (λ is_zero. omega (arith, two, is_zero)))
 
   -- there was no memory
 

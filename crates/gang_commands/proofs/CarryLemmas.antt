@@ -185,6 +185,7 @@ module _ {B : Type 0} (G : Ghosts B) (s : BenchState) (begun : B) (t : BenchStat
       file = alone.file;
       closed = alone.idle;
       turn = alone.pairs.0;
+      no_close = alone.pairs.2;
       stops = record {
         pairs = pairs_behind s m t alone.pairs.0 (body_of stands.text) (goal_for x.job x.player m.file) (overlaid j.image j.board.regions stands.text.snapshot)
             looked.pairs since.files since.goes.moments.goes_on alone.pairs.1

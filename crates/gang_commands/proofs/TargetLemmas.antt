@@ -1,19 +1,23 @@
 -- What follows of one target's end for its bench and its status.
-use Rattle.std.proofs.Common.{◌≡◌, ⊎_elim, inl, ◌≤◌, ◌+◌, ◌∙◌, refl, sym, ap, subst, arith, true, ℕ, List}
+use Rattle.std.proofs.Common.{◌≡◌, ⊎_elim, inl, ◌≤◌, ◌<◌, ◌+◌, ◌∙◌, refl, sym, ap, subst, arith, true, ℕ, List}
 use Rattle.bench_model.specs.declared.bench.Bench.{Ghosts}
 use Rattle.bench_model.specs.Pairs.{PairsLeave}
-use Rattle.bench_model.specs.State.{BenchState, Left}
+use Rattle.bench_model.specs.State.{BenchState, file_half, cells_half, Left}
+use Rattle.bench_model.proofs.Moments.{goes_here}
 use Rattle.board_file.specs.Shown as board
+use Rattle.flm_descriptor.specs.Shown as flm
 use Rattle.byte_map.specs.Image.{Run}
 use Rattle.job_text.specs.Body as text
 use Rattle.job_text.specs.Body.{body_of}
+use Rattle.job_text.specs.Jobs.{IsJob}
 use Rattle.job_text.specs.Files.{IsFree, IsWhole}
 use Rattle.job_text.specs.Laid.{overlaid}
 use Rattle.job_text.specs.Said.{algorithms_shown}
 use Rattle.job_text.specs.Stands.{StandsFor, IsSomeJob, snapshot_in}
 use Rattle.job_text.specs.declared.job.Job.{Job}
 use Rattle.campaign.specs.Campaign.{Keeps, WorkStops}
-use Rattle.campaign.specs.Stops.{CampaignJob, IsDone}
+use Rattle.campaign.specs.Stops.{CampaignJob, HasNoClose, IsDone}
+use Rattle.campaign.proofs.CampaignLemmas.{other_status}
 use Rattle.job_file.specs.declared.fault.OpenFault.TheVariants as opening
 use Rattle.flash_session.specs.declared.fault.SessionFault.{SessionFault}
 use Rattle.flash_session.specs.declared.fault.SessionFault.TheVariants as session
@@ -25,7 +29,7 @@ use Rattle.flash_session.specs.declared.target_end.TargetEnd.{TargetEnd}
 use Rattle.flash_session.specs.declared.target_end.TargetEnd.TheVariants as ended
 use Rattle.flash_session.specs.Alone.{FollowsAs}
 use Rattle.flash_session.specs.Goals.{goal_in}
-use Rattle.flash_session.specs.Guarded.{FileEnd}
+use Rattle.flash_session.specs.Guarded.{FileEnd, has_no_close}
 use Rattle.flash_session.specs.Sessions.{job_legs}
 use Rattle.flash_session.specs.Starts.{job_start}
 use Rattle.report_text.proofs.PlainLemmas.{is_of_gang, IsOfGang}
@@ -120,6 +124,16 @@ its_done G s x t c is =
 abbrev KeepsFor : ℕ → BenchState → BenchState → CampaignJob → Type 0
 KeepsFor status s t aim = (turn : ℕ) × ((end : ℕ) → s.moment ≤ end → end ≤ t.moment → Keeps aim (as_resume status s t turn end))
 
+-- a bench that wasn't called
+pub same_pairs : (s : BenchState) → PairsLeave s s (Left s)
+same_pairs s = record {
+  files = goes_here (file_half s);
+  cells = goes_here (cells_half s);
+  each = λ k f c from to f_at c_at.
+      let is : k ≡ s.moment = omega (arith, from, to) in
+      (subst (λ (n : ℕ). s.files_at n f) is f_at, subst (λ (n : ℕ). s.cells_at n c) is c_at);
+}
+
 -- a bench that was only looked at
 looked_keeps : (status : ℕ) (s t : BenchState) (aim : CampaignJob) → PairsLeave s t (Left s) → (status ≡ 0 → ⊥) → KeepsFor status s t aim
 looked_keeps status s t aim pairs not_zero = (
@@ -190,6 +204,63 @@ keeps_by G status s x t (ended.CallFailed number call e) is comes done = one_kee
 keeps_by G status s x t (ended.Mismatch d) is comes done = one_keeps G status s x t comes done
 keeps_by G status s x t ended.StoreFault is comes done = one_keeps G status s x t comes done
 keeps_by G status s x t ended.DeviceFault is comes done = one_keeps G status s x t comes done
+
+-- Where its close begins: after the exit where the status is one without a close.
+pub record ClosesOn (status : ℕ) (s t : BenchState) (aim : CampaignJob) : Type 0 where
+  pub turn : ℕ
+  pub stops : WorkStops s t turn aim.body aim.laid
+  pub no_close : HasNoClose status → t.moment < turn
+
+abbrev pub ClosesEach : ℕ → BenchState → BenchState → Type 0
+ClosesEach status s t = (job : text.Job) (b : board.Shown) (algorithms : List flm.Shown) → IsJob job b algorithms → IsWhole (body_of job) s.file
+    → ClosesOn status s t (aim_of job b)
+
+pub looked_closes : (status : ℕ) (s t : BenchState) → PairsLeave s t (Left s) → ClosesEach status s t
+looked_closes status s t pairs job b xs is whole = record {
+  turn = t.moment + 1;
+  stops = record {
+    pairs = record {
+      started = omega (arith, pairs.files.later);
+      later = pairs.files.later;
+      before = λ k f c from to less f_at c_at. inl (pairs.each k f c from to f_at c_at);
+      from = λ k f c from to f_at c_at. absurd (omega (arith, from, to));
+    };
+  };
+  no_close = λ none. omega arith;
+}
+
+carried_closes : {B : Type 0} (G : Ghosts B) (status : ℕ) (s : BenchState) (x : Outcome) (t : BenchState) (c : Carries G s x t)
+    → (HasNoClose status → has_no_close x.end ≡ true) → ClosesEach status s t
+carried_closes G status s x t c none_is job b xs is whole =
+    let one : AreOne c.stands.text job (board.shown c.job.board) b (algorithms_shown c.job.algorithms) xs = one_job s.file c.stands.is is c.stands.whole whole in
+    subst (λ (k : text.Job). ClosesOn status s t (aim_of k b)) one.job
+    (subst (λ (y : board.Shown). ClosesOn status s t (aim_of c.stands.text y)) one.board (record {
+      turn = c.turn;
+      stops = subst
+          (λ (r : List Run). WorkStops s t c.turn (body_of c.stands.text) (overlaid r c.job.board.regions c.stands.text.snapshot))
+          (sym c.stands.image) c.stops;
+      no_close = λ none. c.no_close (none_is none);
+    }))
+
+abbrev status_with : Outcome → TargetEnd → ℕ
+status_with x e = status_before (reason_in x.regions e) 0
+
+closes_with : {B : Type 0} (G : Ghosts B) (s : BenchState) (x : Outcome) (t : BenchState) (e : TargetEnd) → x.end ≡ e → Comes G s x t e
+    → ClosesEach (status_with x e) s t
+closes_with G s x t ended.Done is c = carried_closes G 0 s x t c
+    (λ none. absurd (other_status 0 0 refl (λ q. omega (arith, q)) (λ q. omega (arith, q)) (λ q. omega (arith, q)) (λ q. omega (arith, q)) none))
+closes_with G s x t (ended.Open fault) is c = looked_closes (status_with x (ended.Open fault)) s t c.0.pairs
+closes_with G s x t (ended.Survey fault) is c = looked_closes (status_with x (ended.Survey fault)) s t c.0.pairs
+closes_with G s x t (ended.CallFailed number call e) is c = carried_closes G 11 s x t c (λ none. ap has_no_close is)
+closes_with G s x t (ended.Mismatch d) is c = carried_closes G 12 s x t c (λ none. ap has_no_close is)
+closes_with G s x t ended.StoreFault is c = carried_closes G 8 s x t c
+    (λ none. absurd (other_status 8 8 refl (λ q. omega (arith, q)) (λ q. omega (arith, q)) (λ q. omega (arith, q)) (λ q. omega (arith, q)) none))
+closes_with G s x t ended.DeviceFault is c = carried_closes G 9 s x t c (λ none. ap has_no_close is)
+
+-- by its own status
+pub closes_by : {B : Type 0} (G : Ghosts B) (s : BenchState) (x : Outcome) (t : BenchState) → Comes G s x t x.end
+    → ClosesEach (status_before (reason x) 0) s t
+closes_by G s x t comes = closes_with G s x t x.end refl comes
 
 -- its job is finished where it is done
 pub finished_by : {B : Type 0} (G : Ghosts B) (s : BenchState) (x : Outcome) (t : BenchState) → Comes G s x t x.end → x.end ≡ ended.Done

@@ -1,5 +1,5 @@
 -- What a target does on its bench whose job was carried, and what else it comes to.
-use Rattle.std.specs.Prelude.{◌≡◌, ◌≢◌, ◌⊎◌, ℕ, IsSome, List, Some, None}
+use Rattle.std.specs.Prelude.{◌≡◌, ◌≢◌, ◌⊎◌, ◌<◌, ℕ, true, IsSome, List, Some, None}
 use Rattle.bench_model.specs.declared.bench.Bench.{Ghosts}
 use Rattle.bench_model.specs.State.{BenchState}
 use Rattle.board_file.specs.Limits.{size_of}
@@ -26,7 +26,7 @@ use Rattle.readback.specs.declared.compare.Difference.{Difference}
 use Rattle.flash_session.specs.declared.target_end.TargetEnd.{TargetEnd}
 use Rattle.flash_session.specs.declared.target_end.TargetEnd.TheVariants as ended
 use Rattle.flash_session.specs.Alone.{FollowsAs}
-use Rattle.flash_session.specs.Guarded.{FileEnd}
+use Rattle.flash_session.specs.Guarded.{FileEnd, has_no_close}
 use Rattle.gang_run.specs.Opening.{IsLookedAt}
 use Rattle.gang_run.specs.Slots.{OpensWithMemory, HasMemory}
 use Rattle.job_text.specs.Laid.{address_at}
@@ -56,8 +56,9 @@ pub record Carries {B : Type 0} (G : Ghosts B) (s : BenchState) (x : Outcome) (t
   pub file : FileEnd (body_of stands.text) x.end t.file
   pub closed : x.end ≡ ended.Done → t.operation ≡ None
   -- before its own close a stop leaves what one at entry may leave, or the whole job; from there on the whole job or the closed one, with the
-  -- cells at the goal
+  -- cells at the goal; after a device fault, a call that failed and a mismatch it was never at its close
   pub turn : ℕ
+  pub no_close : has_no_close x.end ≡ true → t.moment < turn
   pub stops : WorkStops s t turn (body_of stands.text) (overlaid job.image job.board.regions stands.text.snapshot)
 
 -- An end, on a bench that tells its contents. A bench whose job wasn't opened or surveyed was only looked at, and the refusal is that of its

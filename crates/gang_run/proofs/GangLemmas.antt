@@ -724,7 +724,7 @@ alone_of a x s new arena t body whole since over =
           (ends_alone (all_legs (legs_for y.player goal)) goal a goes.more s t goes.moments ends.0 has);
       file = guarded.file;
       idle = λ done. guarded.idle (ap (λ (e : TargetEnd). place.Ended e) done);
-      pairs = guarded.over refl;
+      pairs = let over = guarded.over refl in (over.0, over.1, over.2 ends.0 refl);
       counts = subst (λ (p : Place). Counts p s t) ends.1 since.counts;
     }
 

@@ -1,5 +1,5 @@
 -- Each of many targets that are driven by turns ends as it could alone.
-use Rattle.std.specs.Prelude.{◌≡◌, ℕ, List, None}
+use Rattle.std.specs.Prelude.{◌≡◌, ◌<◌, ℕ, true, List, None}
 use Rattle.bench_model.specs.Pairs.{PairsInTurn}
 use Rattle.bench_model.specs.State.{BenchState}
 use Rattle.flash_session.specs.Moves.{Stand}
@@ -8,7 +8,7 @@ use Rattle.flash_session.specs.declared.target_end.TargetEnd.{TargetEnd}
 use Rattle.flash_session.specs.declared.target_end.TargetEnd.TheVariants as ended
 use Rattle.gang_run.specs.declared.target.GangTarget.{GangTarget}
 use Rattle.flash_session.specs.Alone.{FollowsAs}
-use Rattle.flash_session.specs.Guarded.{FileEnd, HasBody, IsAtClose}
+use Rattle.flash_session.specs.Guarded.{FileEnd, HasBody, IsAtClose, has_no_close}
 use Rattle.flash_session.specs.Rest.{all_legs}
 use Rattle.flash_session.specs.Targets.{legs_for, goal_for}
 use Rattle.gang_run.specs.declared.slot.Slot.{Slot}
@@ -16,8 +16,8 @@ use Rattle.gang_run.specs.declared.slot.Slot.TheVariants as slot
 use Rattle.gang_run.specs.Slots.{Counts}
 
 -- Its end, its cells and its moments are an outcome of its own script. Its file is closed where it is done, and stands for its job where it
--- is not; what a stop left of both is the job whole, and from a moment on the job whole or closed with the cells at the goal; a fault was
--- counted where it is the end.
+-- is not; what a stop left of both is the job whole, and from a moment on the job whole or closed with the cells at the goal, which never
+-- comes with a device fault, a call that failed or a mismatch; a fault was counted where it is the end.
 pub record EndsAlone (a : Stand) (x : GangTarget) (s : BenchState) (new : Slot) (t : BenchState) (body : List ℕ) : Type 0 where
   pub target : GangTarget
   pub is : new ≡ slot.Open target
@@ -27,4 +27,5 @@ pub record EndsAlone (a : Stand) (x : GangTarget) (s : BenchState) (new : Slot) 
   pub file : FileEnd body end t.file
   pub idle : end ≡ ended.Done → t.operation ≡ None
   pub pairs : (at : ℕ) × PairsInTurn s t at (HasBody body) (IsAtClose body (goal_for x.job x.player s.file))
+      × (has_no_close end ≡ true → t.moment < at)
   pub counts : Counts (place.Ended end) s t

@@ -106,6 +106,7 @@ module _ (tells : Bool) (a b d : BenchState) (out : SinkCall) (w : Work) (idle :
           local = λ keeps. off_then a b d off idle (IsOutsidePlanAsSurveyed w)
               (from_there (IsOutsidePlanAsSurveyed w) (rest.stops.at_entry idle) (rest.stops.local keeps)) (starts_outside w);
         };
+        no_close = rest.no_close;
         settled = inr (ended_then a b d off idle (IsOnPath w rest.broken) path);
         complete = rest.complete;
       }

@@ -62,6 +62,7 @@ ends_early tells a x out First w answer surveyed comes yield pairs off settled =
     path = off_as off (IsOnPath w nothing_broken) (starts_on_path w nothing_broken);
     local = λ keeps. off_as off (IsOutsidePlanAsSurveyed w) (starts_outside w);
   };
+  no_close = λ is. omega arith;
   settled = settled;
   complete = λ keeps. inr yield;
 }
@@ -160,6 +161,7 @@ module _ (tells sinks : Bool) (a m d : BenchState) (p q r : SinkState) (w : Work
       path = off_then a m d off idle (IsOnPath w rest.broken) rest.path (starts_on_path w rest.broken);
       local = λ keeps. off_then a m d off idle (IsOutsidePlanAsSurveyed w) (rest.local keeps) (starts_outside w);
     };
+    no_close = rest.no_close;
     settled = inr (ended_then a m d off idle (IsOnPath w rest.broken) rest.path);
     complete = rest.complete;
   }

@@ -1,6 +1,6 @@
 -- A session from its script on: entered (s), gone through its script (m), closed (d).
 use Rattle.std.proofs.Common.{◌≡◌, ⊎_elim, inl, inr, refl, ◌+◌, ◌∙◌, ℕ, Bool, false, IsTrue, List, [], ◌∷◌, drop, Option, Some, None, IfSome, IsSome, IsSomeAnd}
-use Rattle.std.proofs.Common.{is_some, sym, ap, subst}
+use Rattle.std.proofs.Common.{is_some, sym, ap, subst, arith, true}
 use Rattle.std.proofs.lemmas.Bool.{false≢true}
 use Rattle.bench_model.specs.History.{left, GoesOn, Leaves, LeftOnly}
 use Rattle.bench_model.specs.State.{BenchState, file_half, cells_half}
@@ -41,6 +41,7 @@ use Rattle.report_text.specs.Refusal.{store_fault, device_fault, output_fault, c
 use Rattle.command_files.specs.Call.{SinkCall, Answer, done, refused, bench_call, sink_call}
 use Rattle.command_files.specs.Said.{TookNothing, TookAll, TookPart}
 use Rattle.command_files.specs.Answered.{IsUnless}
+use Rattle.job_commands.specs.Answers.{has_no_close}
 use Rattle.job_commands.specs.Work.{Work, body, plan_in, plans_in, plans_of, legs_of, start_for, Ends, IsOnPath, KeepsDuties, IsOutsidePlanAsSurveyed}
 use Rattle.job_commands.specs.Carry.{HasReached, done_text}
 use Rattle.job_commands.specs.GoOn.{goal_in as text_goal_in}
@@ -80,6 +81,7 @@ module _ (tells : Bool) (w : Work) (s m : BenchState) (out : SinkCall) (answer :
     comes = comes;
     closing = m.moment + 1;
     pairs = never (λ f c. IsWhole (body w) f) (IsAtClose (body w) w.goal) (early path.goes_on);
+    no_close = λ is. omega arith;
     files_past = stay.moments.goes_on.past;
     path = path;
     local = local;
@@ -90,17 +92,18 @@ module _ (tells : Bool) (w : Work) (s m : BenchState) (out : SinkCall) (answer :
   on_through : (d : BenchState) (P : List ℕ → Type 0) → CellsStay m d → Leaves (cells_half s) (cells_half m) P → Leaves (cells_half s) (cells_half d) P
   on_through d P cells first = leaves_then P first (stays_leaves P (leaves_left P first) cells.half)
 
-  ends_in_close : (d : BenchState) (broken : Broken) → FinishComes (bench_call tells s d) out w broken answer
+  ends_in_close : (d : BenchState) (broken : Broken) → (has_no_close answer ≡ true → ⊥) → FinishComes (bench_call tells s d) out w broken answer
       → Leaves (cells_half s) (cells_half m) (IsOnPath w broken)
       → (KeepsDuties w → Leaves (cells_half s) (cells_half m) (IsOutsidePlanAsSurveyed w)) → (KeepsDuties w → IsUnless answer done)
       → CellsStay m d → PairsLeave m d (λ f c. IsWholeOrClosed (body w) f × (c ≡ w.goal)) → Finishes (bench_call tells s d) out w answer
-  ends_in_close d broken comes path local complete cells close = record {
+  ends_in_close d broken closes comes path local complete cells close = record {
     broken = broken;
     comes = comes;
     closing = m.moment;
     pairs = in_turn (λ f c. IsWhole (body w) f) (IsAtClose (body w) w.goal) (early path.goes_on)
         (pairs_as (λ f c. IsWholeOrClosed (body w) f × (c ≡ w.goal)) (IsAtClose (body w) w.goal)
         (λ f c both. record { whole_or_closed = both.0; done = both.1 }) close);
+    no_close = λ is. absurd (closes is);
     files_past = (goes_then stay.moments.goes_on close.files).past;
     path = on_through d (IsOnPath w broken) cells path;
     local = λ keeps. on_through d (IsOutsidePlanAsSurveyed w) cells (local keeps);
@@ -254,23 +257,23 @@ module _ (tells sinks : Bool) (told : IsTrue tells) (j : code.Job) (goal : Goal)
           (subst (λ (b : List ℕ). PairsLeave m d (λ f c. IsWholeOrClosed b f × (c ≡ goal_in j v.goal s.file))) behind
           (subst (λ (l : List ℕ). PairsLeave m d (λ f c. IsWholeOrClosed (drop 1 m.file) f × (c ≡ goal_in j v.goal l))) (stay.file told) pairs))
 
-      closes : (out : SinkCall) (answer : Answer) → IsUnless answer done → FinishComes (bench_call tells s d) out w f.broken answer
-          → Finishes (bench_call tells s d) out w answer
-      closes out answer due comes = ends_in_close tells w s m out answer stands.whole only stay d f.broken comes f.moments its_local (λ serves. due) cells
+      closes : (out : SinkCall) (answer : Answer) → (has_no_close answer ≡ true → ⊥) → IsUnless answer done
+          → FinishComes (bench_call tells s d) out w f.broken answer → Finishes (bench_call tells s d) out w answer
+      closes out answer its due comes = ends_in_close tells w s m out answer stands.whole only stay d f.broken its comes f.moments its_local (λ serves. due) cells
           (close_from o has close)
 
       pub ends_done : (q : SinkState) → d.file ≡ 0 ∷ drop 1 m.file → TookAll (sink_call sinks p q) done_text
           → Finishes (bench_call tells s d) (sink_call sinks p q) w done
-      ends_done q file took = closes (sink_call sinks p q) done (inl refl) (record { file = file ∙ ap (λ (b : List ℕ). 0 ∷ b) behind; reached = reached }, took)
+      ends_done q file took = closes (sink_call sinks p q) done (λ is. cc) (inl refl) (record { file = file ∙ ap (λ (b : List ℕ). 0 ∷ b) behind; reached = reached }, took)
 
       pub ends_cut : (q : SinkState) → d.file ≡ 0 ∷ drop 1 m.file → TookPart (sink_call sinks p q) done_text
           → Finishes (bench_call tells s d) (sink_call sinks p q) w (refused output_fault)
-      ends_cut q file took = closes (sink_call sinks p q) (refused output_fault) (inr refl)
+      ends_cut q file took = closes (sink_call sinks p q) (refused output_fault) (λ is. cc) (inr refl)
           (record { file = file ∙ ap (λ (b : List ℕ). 0 ∷ b) behind; reached = reached }, took)
 
       -- after a close that failed
       pub ends_unclosed : IsWholeOrClosed (drop 1 m.file) d.file → Finishes (bench_call tells s d) (sink_call sinks p p) w (refused store_fault)
-      ends_unclosed file = closes (sink_call sinks p p) (refused store_fault) (inr refl) (
+      ends_unclosed file = closes (sink_call sinks p p) (refused store_fault) (λ is. cc) (inr refl) (
         inr (
           ⊎_elim
               (λ (is : IsWhole (drop 1 m.file) d.file). inl (is ∙ ap (λ (b : List ℕ). 165 ∷ b) behind))

@@ -1,4 +1,4 @@
--- From the steps of a command on a job to its end, and that what it answers is what a campaign asks of it.
+-- From the steps of a command on a job to its end.
 pub mod TurnLemmas
 pub mod KindLemmas
 pub mod FinishLemmas
@@ -13,7 +13,5 @@ pub mod RegionLemmas
 pub mod EntryLemmas
 pub mod GoOnLemmas
 pub mod ProgramLemmas
-pub mod LawLemmas
-pub mod FollowLemmas
 pub mod FitLemmas
 pub mod PrintLemmas

@@ -1,7 +1,7 @@
 -- What an answer of the work on a job says by itself.
 use Rattle.std.specs.Prelude.{◌≢◌, Bool, true, false}
 use Rattle.flash_session.specs.Plays.{IsNotDone}
-use Rattle.report_text.specs.Refusal.{output_fault, damaged, cells_differ, call_failed, mismatch}
+use Rattle.report_text.specs.Refusal.{out_of_memory, device_fault, output_fault, damaged, cells_differ, call_failed, mismatch}
 use Rattle.command_files.specs.Call.{Answer, done, refused}
 
 -- the answers that come only after a job was begun
@@ -11,6 +11,14 @@ is_of_work (refused output_fault) = true
 is_of_work (refused (call_failed number call end)) = true
 is_of_work (refused (mismatch at wanted found)) = true
 is_of_work (refused _) = false
+
+-- the answers of a call that never came to its close
+abbrev pub has_no_close : Answer → Bool
+has_no_close (refused out_of_memory) = true
+has_no_close (refused device_fault) = true
+has_no_close (refused (call_failed number call end)) = true
+has_no_close (refused (mismatch at wanted found)) = true
+has_no_close _ = false
 
 -- the two bytes of a mismatch, the two hashes and the two numbers of cells differ, and the call that failed isn't done
 abbrev pub IsSound : Answer → Type 0

@@ -1,5 +1,5 @@
 -- What `program`, `resume` and `revert` have in common: a job is carried to its goal.
-use Rattle.std.specs.Prelude.{◌≡◌, ◌⊎◌, ◌≤◌, ◌<◌, ◌++◌, ℕ, false, List, ◌∷◌, None}
+use Rattle.std.specs.Prelude.{◌≡◌, ◌⊎◌, ◌≤◌, ◌<◌, ◌++◌, ℕ, true, false, List, ◌∷◌, None}
 use Rattle.bench_model.specs.History.{GoesOn, Leaves}
 use Rattle.bench_model.specs.State.{BenchState, file_half, cells_half, SameOutside}
 use Rattle.bench_model.specs.Pairs.{PairsInTurn}
@@ -13,7 +13,7 @@ use Rattle.report_text.specs.Refusal.{out_of_memory, input_fault, store_fault, d
 use Rattle.command_files.specs.Call.{BenchCall, SinkCall, Answer, done, refused}
 use Rattle.command_files.specs.Said.{TookNothing, TookAll, TookPart, TookPartBehind}
 use Rattle.command_files.specs.Answered.{IsUnless}
-use Rattle.job_commands.specs.Answers.{is_of_work}
+use Rattle.job_commands.specs.Answers.{is_of_work, has_no_close}
 use Rattle.job_commands.specs.Work.{Work, body, shown_plan, Ends, Fails, Misses, Breaks, IsOnPath, KeepsDuties, IsOutsidePlanAsSurveyed}
 
 -- Where a call may end, in the order of the work.
@@ -136,6 +136,8 @@ pub record Carries (bench : BenchCall) (out : SinkCall) (First : List ℕ → Li
   pub broken : Broken
   pub comes : Comes bench out w broken answer
   pub stops : Stops bench First w broken
+  -- out of memory, after a device fault, a call that failed or a mismatch the call was never at its close
+  pub no_close : has_no_close answer ≡ true → bench.after.moment < stops.closing
   -- the operation that was open at entry is broken off before anything is printed, and before each answer that comes behind the plans
   pub settled : (is_of_work answer ≡ false × TookNothing out) ⊎ (stops.broken_off ≤ bench.after.moment)
   -- algorithms that keep their duties come to their end, but for want of memory and counted faults

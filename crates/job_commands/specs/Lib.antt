@@ -9,4 +9,3 @@ pub mod Program
 pub mod Begin
 pub mod Refused
 pub mod Steps
-pub mod Law

@@ -1,5 +1,5 @@
 -- What the steps of the work on a job answer.
-use Rattle.std.specs.Prelude.{◌⊎◌, ◌≤◌, ◌↔◌, ℕ, Bool, true, false, List}
+use Rattle.std.specs.Prelude.{◌≡◌, ◌⊎◌, ◌≤◌, ◌<◌, ◌↔◌, ℕ, Bool, true, false, List}
 use Rattle.bench_model.specs.State.{cells_half}
 use Rattle.bench_model.specs.History.{Leaves}
 use Rattle.bench_model.specs.Pairs.{PairsInTurn}
@@ -20,6 +20,7 @@ use Rattle.report_text.specs.Refusal.{call_failed, mismatch}
 use Rattle.command_files.specs.Call.{BenchCall, SinkCall, Answer, done, refused}
 use Rattle.command_files.specs.Said.{TookNothing, TookAll, TookPart}
 use Rattle.command_files.specs.Answered.{store, device, output, IsCounted, IsUnless}
+use Rattle.job_commands.specs.Answers.{has_no_close}
 use Rattle.job_commands.specs.Work.{Work, body, Fails, Misses, Breaks, IsOnPath, KeepsDuties, IsOutsidePlanAsSurveyed}
 use Rattle.job_commands.specs.Carry.{HasJob, HasReached, HasClosed, Carries, done_text}
 use Rattle.job_commands.specs.GoOn.{work_to}
@@ -94,6 +95,7 @@ pub record Finishes (bench : BenchCall) (out : SinkCall) (w : Work) (answer : An
   pub comes : FinishComes bench out w broken answer
   pub closing : ℕ
   pub pairs : PairsInTurn bench.before bench.after closing (λ f c. IsWhole (body w) f) (IsAtClose (body w) w.goal)
+  pub no_close : has_no_close answer ≡ true → bench.after.moment < closing
   pub files_past : (k : ℕ) (f : List ℕ) → k ≤ bench.before.moment → bench.after.files_at k f ↔ bench.before.files_at k f
   pub path : Leaves (cells_half bench.before) (cells_half bench.after) (IsOnPath w broken)
   pub local : KeepsDuties w → Leaves (cells_half bench.before) (cells_half bench.after) (IsOutsidePlanAsSurveyed w)

@@ -1,13 +1,12 @@
 //! The commands that work on a job: `program` begins one and carries it to its image, and `begin` only begins it; `resume` and `revert`
 //! go on with the job in the file. The contracts say which answer comes when, what each leaves in file and cells and on `out`, and what a stop at any moment
-//! leaves; the law says that this is what a campaign asks of its calls.
+//! leaves.
 #![tactic(auto)]
 
 mod carry;
 mod first_commands;
 mod job_begin;
 mod later_commands;
-mod law;
 mod places;
 mod put_plans;
 mod refusals;
@@ -16,6 +15,5 @@ mod start;
 pub use first_commands::{begin, program};
 pub use job_begin::begin_job;
 pub use later_commands::go_on;
-pub use law::{Calls, OneCall, calls_are_safe, calls_keep};
 pub use places::find_address;
 pub use refusals::{session_refusal, survey_refusal};

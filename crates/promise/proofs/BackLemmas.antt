@@ -1,10 +1,9 @@
 -- Files of a command that are those of a job are right.
-use Rattle.std.proofs.Common.{◌≡◌, refl, sym, subst, arith, ap, ◌∙◌, ◌-◌, ◌≤◌, ◌<◌, ◌||◌, ℕ, zero, suc, Bool, true, IsTrue, IsSome, All, List, [], ◌∷◌, ◌++◌}
+use Rattle.std.proofs.Common.{◌≡◌, refl, sym, subst, arith, ap, ◌∙◌, ◌-◌, ◌≤◌, ◌<◌, ◌||◌, ℕ, zero, suc, Bool, true, IsTrue, IsSome, List, [], ◌∷◌, ◌++◌}
 use Rattle.std.proofs.Common.{length, take, drop, Option, option_to_list, Some, None}
 use Rattle.std.specs.List.{list_any}
 use Rattle.std.proofs.lemmas.Bool.{and_parts, eqb-true, leb-true}
 use Rattle.std.proofs.lemmas.List.{length-append}
-use Rattle.std.proofs.lemmas.List.Elements.{All-head, All-tail}
 use Rattle.byte_map.specs.Image.{Run, run_at, end_of, byte_at}
 use Rattle.byte_map.proofs.Runs.{holder, held_from, held_to}
 use Rattle.board_file.specs.declared.region.Region.{Region}
@@ -20,30 +19,29 @@ use Rattle.job_text.proofs.RegionLemmas.{same_count, same_files}
 use Rattle.command_words.specs.Files.{FilesAsked}
 use Rattle.command_files.specs.Inputs.{InputsCall, IsFile, name_at, AreEach, FilesGiven, AreFiles}
 use Rattle.command_files.specs.Files.{flm_files, image_files, AreFor, ranges_of, Aim, IsAim}
-use Rattle.job_commands.specs.Beginning.{HasTexts}
 use Rattle.promise.specs.Job.{Job}
-use Rattle.promise.specs.Texts.{Stand, Says, IsOfFiles}
+use Rattle.promise.specs.Texts.{StandUnder, SaysJob, IsOfFiles}
 
 -- ---- lists of files
 
-each_at : (inputs : InputsCall) (names files : List (List ℕ)) → Stand inputs.before.stands names files → (k : ℕ) → k < length names
+each_at : (inputs : InputsCall) (names files : List (List ℕ)) → StandUnder inputs.before.stands names files → (k : ℕ) → k < length names
     → IsFile inputs (name_at names k) (file_at files k)
 each_at inputs [] files are k less = absurd (omega (arith, less))
 each_at inputs (name ∷ names) [] are k less = absurd are
 each_at inputs (name ∷ names) (file ∷ files) are zero less = λ told. are.0
 each_at inputs (name ∷ names) (file ∷ files) are (suc k) less = each_at inputs names files are.1 k (omega (arith, less))
 
-as_many : (under : List ℕ → Option (List ℕ)) (names files : List (List ℕ)) → Stand under names files → length files ≡ length names
+as_many : (under : List ℕ → Option (List ℕ)) (names files : List (List ℕ)) → StandUnder under names files → length files ≡ length names
 as_many under [] [] are = refl
 as_many under [] (file ∷ files) are = absurd are
 as_many under (name ∷ names) [] are = absurd are
 as_many under (name ∷ names) (file ∷ files) are = omega (arith, as_many under names files are.1)
 
-are_each : (inputs : InputsCall) (names files : List (List ℕ)) → Stand inputs.before.stands names files → AreEach inputs names files
+are_each : (inputs : InputsCall) (names files : List (List ℕ)) → StandUnder inputs.before.stands names files → AreEach inputs names files
 are_each inputs names files are = record { count = as_many inputs.before.stands names files are; each = each_at inputs names files are }
 
-together : (under : List ℕ → Option (List ℕ)) (k : ℕ) (names front back : List (List ℕ)) → Stand under (take k names) front → Stand under (drop k names) back
-    → Stand under names (front ++ back)
+together : (under : List ℕ → Option (List ℕ)) (k : ℕ) (names front back : List (List ℕ)) → StandUnder under (take k names) front
+    → StandUnder under (drop k names) back → StandUnder under names (front ++ back)
 together under zero names [] back are too = too
 together under zero names (file ∷ front) back are too = absurd are
 together under (suc k) [] [] back are too = too
@@ -65,9 +63,9 @@ record HasFirst (under : List ℕ → Option (List ℕ)) (name : List ℕ) (name
   others : List (List ℕ)
   files_are : files ≡ first ∷ others
   stands : under name ≡ Some first
-  stand : Stand under names others
+  stand : StandUnder under names others
 
-has_first : (under : List ℕ → Option (List ℕ)) (name : List ℕ) (names files : List (List ℕ)) → Stand under (name ∷ names) files
+has_first : (under : List ℕ → Option (List ℕ)) (name : List ℕ) (names files : List (List ℕ)) → StandUnder under (name ∷ names) files
     → HasFirst under name names files
 has_first under name names [] are = absurd are
 has_first under name names (file ∷ files) are = record { first = file; others = files; files_are = refl; stands = are.0; stand = are.1 }
@@ -133,12 +131,10 @@ pub record AreRight (inputs : InputsCall) (asked : FilesAsked) (aim : Aim) : Typ
   pub files : FilesGiven
   pub are_files : AreFiles inputs asked files
   pub is_aim : IsAim asked.raw_at files aim
-  pub has_texts : HasTexts files aim
 
 module _ (inputs : InputsCall) (asked : FilesAsked) (job : Job) (some : IsSome asked.flm) (of : IsOfFiles inputs.before.stands asked job)
-    (algorithms : List flm.Shown) (is_job : IsJob of.says.text of.says.board algorithms)
-    (short : All (λ (file : List ℕ). length file ≤ 67108864) (of.says.text.board ∷ of.says.text.flms)) where
-  abbrev says : Says job
+    (algorithms : List flm.Shown) (is_job : IsJob of.says.text of.says.board algorithms) where
+  abbrev says : SaysJob job
   says = of.says
 
   abbrev under : List ℕ → Option (List ℕ)
@@ -155,7 +151,7 @@ module _ (inputs : InputsCall) (asked : FilesAsked) (job : Job) (some : IsSome a
 
   split : HasFirst under first.0 (take n asked.images) says.text.flms
   split = has_first under first.0 (take n asked.images) says.text.flms
-      (subst (λ (o : Option (List ℕ)). Stand under (option_to_list o ++ take n asked.images) says.text.flms) first.1 of.algorithms)
+      (subst (λ (o : Option (List ℕ)). StandUnder under (option_to_list o ++ take n asked.images) says.text.flms) first.1 of.algorithms)
 
   count : length says.text.flms ≡ length says.board.regions
   count = same_files says.text.flms algorithms is_job.algorithms
@@ -202,11 +198,5 @@ module _ (inputs : InputsCall) (asked : FilesAsked) (job : Job) (some : IsSome a
         union = subst (λ (l : List (List ℕ)). IsUnionBefore asked.raw_at l (length l) says.text.image) (sym images_are) union;
       };
       inside = lies_inside says.board.regions says.text.image is_job.suits.some is_job.suits.inside;
-    };
-    has_texts = record {
-      has_flm = refl;
-      short_board = All-head (λ (file : List ℕ). length file ≤ 67108864) says.text.board says.text.flms short;
-      short_flms = subst (λ (l : List (List ℕ)). All (λ (file : List ℕ). length file ≤ 67108864) l) (sym flms_are)
-          (All-tail (λ (file : List ℕ). length file ≤ 67108864) says.text.board says.text.flms short);
     };
   }

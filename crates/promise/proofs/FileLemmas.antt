@@ -2,16 +2,17 @@
 use Rattle.std.proofs.Common.{◌≡◌, refl, sym, subst, arith, ◌-◌, ℕ, zero, suc, IsTrue, IsSome, List, [], ◌∷◌, ◌++◌, length, take, drop, Option, option_to_list}
 use Rattle.std.proofs.Common.{Some, None}
 use Rattle.board_file.specs.declared.region.Region.{Region}
+use Rattle.job_text.specs.declared.format.Format.TheVariants.{Second}
 use Rattle.job_text.specs.Jobs.{IsJob}
 use Rattle.command_words.specs.Files.{FilesAsked}
 use Rattle.command_files.specs.Inputs.{InputsCall, AreEach, FilesGiven, AreFiles}
 use Rattle.command_files.specs.Files.{others_of, Aim, IsAim, image_files}
 use Rattle.job_commands.specs.Beginning.{HasTexts, job_for}
-use Rattle.promise.specs.Texts.{Stand, IsOfFiles}
+use Rattle.promise.specs.Texts.{StandUnder, IsOfFiles}
 use Rattle.promise.proofs.CarryLemmas.{job_of, says}
 
 stand_each : (inputs : InputsCall) (told : IsTrue inputs.tells) (names files : List (List ℕ)) → AreEach inputs names files
-    → Stand inputs.before.stands names files
+    → StandUnder inputs.before.stands names files
 stand_each inputs told [] [] are = tt
 stand_each inputs told [] (file ∷ files) are = absurd (omega (arith, are.count))
 stand_each inputs told (name ∷ names) [] are = absurd (omega (arith, are.count))
@@ -21,20 +22,21 @@ stand_each inputs told (name ∷ names) (file ∷ files) are = (
 )
 
 module _ (under : List ℕ → Option (List ℕ)) where
-  stand_both : (names files more others : List (List ℕ)) → Stand under names files → Stand under more others → Stand under (names ++ more) (files ++ others)
+  stand_both : (names files more others : List (List ℕ)) → StandUnder under names files
+      → StandUnder under more others → StandUnder under (names ++ more) (files ++ others)
   stand_both [] [] more others are too = too
   stand_both [] (file ∷ files) more others are too = absurd are
   stand_both (name ∷ names) [] more others are too = absurd are
   stand_both (name ∷ names) (file ∷ files) more others are too = (are.0, stand_both names files more others are.1 too)
 
-  stand_front : (k : ℕ) (names files : List (List ℕ)) → Stand under names files → Stand under (take k names) (take k files)
+  stand_front : (k : ℕ) (names files : List (List ℕ)) → StandUnder under names files → StandUnder under (take k names) (take k files)
   stand_front zero names files are = tt
   stand_front (suc k) [] [] are = tt
   stand_front (suc k) [] (file ∷ files) are = absurd are
   stand_front (suc k) (name ∷ names) [] are = absurd are
   stand_front (suc k) (name ∷ names) (file ∷ files) are = (are.0, stand_front k names files are.1)
 
-  stand_back : (k : ℕ) (names files : List (List ℕ)) → Stand under names files → Stand under (drop k names) (drop k files)
+  stand_back : (k : ℕ) (names files : List (List ℕ)) → StandUnder under names files → StandUnder under (drop k names) (drop k files)
   stand_back zero names files are = are
   stand_back (suc k) [] [] are = tt
   stand_back (suc k) [] (file ∷ files) are = absurd are
@@ -60,10 +62,18 @@ of_files inputs asked files aim snapshot told are is has is_job =
       says = says (job_for files aim snapshot) aim.board aim.algorithms is_job;
       board = are.board told;
       algorithms = subst
-          (λ (k : ℕ). Stand under (option_to_list asked.flm ++ take n asked.images) (option_to_list files.flm ++ take k files.images)) (sym same)
+          (λ (k : ℕ). StandUnder under (option_to_list asked.flm ++ take n asked.images) (option_to_list files.flm ++ take k files.images)) (sym same)
           (stand_both under (option_to_list asked.flm) (option_to_list files.flm) (take n asked.images) (take n files.images) first
           (stand_front under n asked.images files.images images));
       images = image_files files.flm files.images aim.board;
-      others = subst (λ (k : ℕ). Stand under (drop n asked.images) (drop k files.images)) (sym same) (stand_back under n asked.images files.images images);
+      others = subst (λ (k : ℕ). StandUnder under (drop n asked.images) (drop k files.images)) (sym same) (stand_back under n asked.images files.images images);
       union = is.are_read.union;
     }
+
+-- it has the second format
+pub second_format : (inputs : InputsCall) (asked : FilesAsked) (files : FilesGiven) (aim : Aim) (snapshot : List ℕ) (told : IsTrue inputs.tells)
+    (are : AreFiles inputs asked files)
+    (is : IsAim asked.raw_at files aim) (has : HasTexts files aim) (is_job : IsJob (job_for files aim snapshot) aim.board aim.algorithms)
+    → (of_files inputs asked files aim snapshot told are is has is_job).says.text.format ≡ Second
+unfolding of_files
+second_format inputs asked files aim snapshot told are is has is_job = refl

@@ -2,12 +2,17 @@
 mod StopLemmas
 mod RefusedLemmas
 mod ClassLemmas
+mod RightLemmas
 mod CarryLemmas
 mod FileLemmas
 mod BeginLemmas
 mod KeepLemmas
 mod CampaignLemmas
+mod RecoveryLemmas
 mod BackLemmas
 mod CompleteLemmas
 mod GangLemmas
 mod CellLemmas
+mod MomentLemmas
+mod TopLemmas
+mod MadeLemmas

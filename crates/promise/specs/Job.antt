@@ -18,8 +18,8 @@ abbrev pub laid : Job → List ℕ
 laid job = overlaid job.image job.regions job.snapshot
 
 -- A job as the calls that follow one another have it in common.
-abbrev pub aim_of : Job → CampaignJob
-aim_of job = record { body = job.body; laid = laid job; snapshot = job.snapshot }
+abbrev pub campaign_job : Job → CampaignJob
+campaign_job job = record { body = job.body; laid = laid job; snapshot = job.snapshot }
 
 -- What it is that an image is laid over cells: each becomes the image's byte at its address, and stays where the image has none.
 abbrev pub EachCellIsLaid : Type 0

@@ -3,3 +3,5 @@ pub mod Texts
 pub mod Promise
 pub mod Campaign
 pub mod Complete
+pub mod Recovery
+pub mod Made

@@ -1,82 +1,106 @@
 -- What a call of the programmer promises: what its status 0 means, and what a stop of the power leaves at any moment in it.
-use Rattle.std.specs.Prelude.{◌≡◌, ◌≢◌, ◌≤◌, ◌<◌, ◌+◌, ◌==◌, ◌⊎◌, ◌↔◌, ℕ, Bool, IsTrue, All, List, [], ◌∷◌, ◌++◌, length, get_or}
+use Rattle.std.specs.Prelude.{◌≡◌, ◌≢◌, ◌≤◌, ◌<◌, ◌+◌, ◌==◌, ◌⊎◌, ◌↔◌, ℕ, Bool, IsTrue, All, List, [], ◌∷◌, ◌++◌}
 use Rattle.std.specs.Prelude.{codes, Option, None, if◌then◌else◌}
 use Rattle.std.specs.List.{flat_map}
 use Rattle.bench_model.specs.declared.bench.Bench.{Ghosts}
 use Rattle.bench_model.specs.State.{BenchState, Left, SameOutside}
+use Rattle.job_text.specs.declared.format.Format.TheVariants.{Second}
 use Rattle.job_text.specs.Files.{IsFree, IsWhole}
 use Rattle.report_text.specs.DoneLine.{target_head, done_line}
-use Rattle.campaign.specs.Stops.{IsUntouched, IsAtClose, IsDone}
+use Rattle.campaign.specs.Stops.{IsUntouched, IsAtClose, HasNoClose, IsDone}
 use Rattle.command_words.specs.Files.{FilesAsked, Command, program, begin, resume, revert}
 use Rattle.promise.specs.Job.{Job, laid}
-use Rattle.promise.specs.Texts.{Says, IsOfFiles}
+use Rattle.promise.specs.Texts.{SaysJob, IsOfFiles}
 
--- A call: what stands under each name; job file, cells, and counts of faults at its entry and at its exit; and the status that it answers.
+-- How often something had failed, at the entry of a call and at its exit.
+pub record FaultCounts : Type 0 where
+  pub before : ℕ
+  pub after : ℕ
+
+abbrev pub fault_counts : ℕ → ℕ → FaultCounts
+fault_counts before after = record { before = before; after = after }
+
+-- A call: which file stands under each name; job file, cells, and counts of faults at its entry and at its exit; and the status that it answers.
 pub record Call : Type 1 where
-  pub under : List ℕ → Option (List ℕ)
+  pub file_under : List ℕ → Option (List ℕ)
   pub old : BenchState
   pub new : BenchState
-  pub input_faults : ℕ × ℕ
-  pub output_faults : ℕ × ℕ
+  pub input_faults : FaultCounts
+  pub output_faults : FaultCounts
   pub status : ℕ
 
 -- This holds of each moment of the call, with each file, and the cells beside it, that a stop of the power may leave then.
 abbrev pub AtEachStop : Call → (ℕ → List ℕ → List ℕ → Type 0) → Type 0
-AtEachStop call Leaves = (moment : ℕ) (file cells : List ℕ) → call.old.moment ≤ moment → moment ≤ call.new.moment
-    → call.new.files_at moment file → call.new.cells_at moment cells → Leaves moment file cells
+AtEachStop call Holds = (moment : ℕ) (file cells : List ℕ) → call.old.moment ≤ moment → moment ≤ call.new.moment
+    → call.new.files_at moment file → call.new.cells_at moment cells → Holds moment file cells
 
 -- A call does no work: it doesn't answer 0, and a stop leaves nothing that one at its entry might not have left.
-pub record IsRefused (call : Call) : Type 0 where
+pub record IsIdle (call : Call) : Type 0 where
   pub not_done : call.status ≢ 0
   pub stopped : AtEachStop call (λ moment file cells. Left call.old file cells)
 
 -- A call carries a job to a goal. With status 0 the cells are the goal, no operation is open, and the file is closed behind the job. Up to
 -- the moment of its close a stop leaves file and cells as at the entry, in the sense of the command, or the job whole in its file; from then
--- on the cells are the goal, and the file is whole or closed.
-pub record Carries (call : Call) (job : Job) (goal : List ℕ) (AsEntered : List ℕ → List ℕ → Type 0) : Type 0 where
-  pub says : Says job
+-- on the cells are the goal, and the file is whole or closed. With status 1, 9, 11 or 12 that moment never comes.
+pub record CarriesOut (call : Call) (job : Job) (goal : List ℕ) (AsEntered : List ℕ → List ℕ → Type 0) : Type 0 where
+  pub says : SaysJob job
   pub done : call.status ≡ 0 → IsDone job.body goal call.new
   pub closing : ℕ
   pub before : AtEachStop call (λ moment file cells. moment < closing → AsEntered file cells ⊎ IsWhole job.body file)
   pub from : AtEachStop call (λ moment file cells. closing ≤ moment → IsAtClose job.body goal file cells)
+  pub no_close : HasNoClose call.status → call.new.moment < closing
 
--- A job of these files is begun over a free file. Its snapshot is the cells of the entry, but in the range of an operation that was open.
+-- The operation that was open at the entry ends at this moment, and leaves these cells: a stop then leaves them, and nothing else. Before it
+-- a stop leaves each cell as at the entry, but in the operation's range. It is the entry where no operation was open, and has come where none is
+-- open at the exit.
+pub record EndsOperation (call : Call) (left : List ℕ) : Type 0 where
+  pub end : ℕ
+  pub started : call.old.moment ≤ end
+  pub at_entry : call.old.operation ≡ None → end ≡ call.old.moment
+  pub at_exit : call.new.operation ≡ None → end ≤ call.new.moment
+  pub before : AtEachStop call (λ moment file cells. moment < end → SameOutside call.old.operation call.old.cells cells)
+  pub leaves : (cells : List ℕ) → end ≤ call.new.moment → call.new.cells_at end cells → cells ≡ left
+
+-- A job of these files is begun over a free file, in the second format. Its snapshot is the cells of the entry, but in the range of an operation
+-- that was open, and there it is what the end of that operation left.
 pub record IsBegun (call : Call) (asked : FilesAsked) (job : Job) : Type 0 where
-  pub files : IsOfFiles call.under asked job
+  pub files : IsOfFiles call.file_under asked job
+  pub format : files.says.text.format ≡ Second
   pub free : IsFree call.old.file
   pub snapshot : SameOutside call.old.operation call.old.cells job.snapshot
+  pub operation : EndsOperation call job.snapshot
 
 -- `program` begins a job, and carries it to its image laid over the snapshot. Before its close a stop leaves it untouched, or the job whole.
-pub record Programs (call : Call) (asked : FilesAsked) : Type 0 where
+pub record ProgramsJob (call : Call) (asked : FilesAsked) : Type 0 where
   pub job : Job
   pub begun : IsBegun call asked job
-  pub carries : Carries call job (laid job) (IsUntouched call.old)
+  pub carries : CarriesOut call job (laid job) (IsUntouched call.old)
 
 -- `begin` begins a job, and leaves it whole.
-pub record Begins (call : Call) (asked : FilesAsked) : Type 0 where
+pub record BeginsJob (call : Call) (asked : FilesAsked) : Type 0 where
   pub job : Job
   pub begun : IsBegun call asked job
   pub done : call.status ≡ 0 → IsWhole job.body call.new.file × (call.new.cells ≡ job.snapshot) × (call.new.operation ≡ None)
   pub stopped : AtEachStop call (λ moment file cells. IsUntouched call.old file cells ⊎ IsWhole job.body file)
 
 -- `resume` and `revert` carry the job for which the file stands at entry, with the snapshot that it has there.
-pub record GoesOn (call : Call) (goal_of : Job → List ℕ) : Type 0 where
+pub record TakesUp (call : Call) (goal_of : Job → List ℕ) : Type 0 where
   pub job : Job
   pub whole : IsWhole job.body call.old.file
-  pub carries : Carries call job (goal_of job) (Left call.old)
+  pub carries : CarriesOut call job (goal_of job) (Left call.old)
 
 -- What a call promises, by the command that its words ask for. A command that isn't named here works on no job.
-abbrev pub Keeps : Command → Call → Type 0
-Keeps (program asked) call = IsRefused call ⊎ Programs call asked
-Keeps (begin asked) call = IsRefused call ⊎ Begins call asked
-Keeps resume call = IsRefused call ⊎ GoesOn call laid
-Keeps revert call = IsRefused call ⊎ GoesOn call (λ job. job.snapshot)
-Keeps _ call = AtEachStop call (λ moment file cells. Left call.old file cells)
+abbrev pub KeepsPromise : Command → Call → Type 0
+KeepsPromise (program asked) call = IsIdle call ⊎ ProgramsJob call asked
+KeepsPromise (begin asked) call = IsIdle call ⊎ BeginsJob call asked
+KeepsPromise resume call = IsIdle call ⊎ TakesUp call laid
+KeepsPromise revert call = IsIdle call ⊎ TakesUp call (λ job. job.snapshot)
+KeepsPromise _ call = AtEachStop call (λ moment file cells. Left call.old file cells)
 
 -- A call by its parts.
-abbrev pub call_of : (List ℕ → Option (List ℕ)) → BenchState → BenchState → ℕ × ℕ → ℕ × ℕ → ℕ → Call
-call_of under old new input_faults output_faults status =
-    record { under = under; old = old; new = new; input_faults = input_faults; output_faults = output_faults; status = status }
+abbrev pub call_of : (List ℕ → Option (List ℕ)) → BenchState → BenchState → FaultCounts → FaultCounts → ℕ → Call
+call_of file_under old new input_faults output_faults status =
+    record { file_under = file_under; old = old; new = new; input_faults = input_faults; output_faults = output_faults; status = status }
 
 -- ---- several benches
 
@@ -88,15 +112,22 @@ pub record BenchAnswer : Type 0 where
 -- For this bench alone the call is one of `resume`, which takes no inputs, with the status of its answer. The line is one line, begins with
 -- the bench's number, and is the one that says done exactly where that status is 0.
 pub record BenchKeeps (old new : BenchState) (number : ℕ) (answer : BenchAnswer) : Type 0 where
-  pub keeps : Keeps resume (call_of (λ name. None) old new (0, 0) (0, 0) answer.status)
+  pub keeps : KeepsPromise resume (call_of (λ name. None) old new (fault_counts 0 0) (fault_counts 0 0) answer.status)
   pub said : List ℕ
   pub line_is : answer.line ≡ target_head number ++ (said ++ codes "\n")
   pub one_line : All (λ (byte : ℕ). byte ≢ 10) said
   pub done : (answer.line ≡ done_line number) ↔ (answer.status ≡ 0)
 
+-- Each bench keeps it by its own answer, with its number, from this number on.
+abbrev pub EachKeeps : {B : Type 0} → Ghosts B → ℕ → List B → List B → List BenchAnswer → Type 0
+EachKeeps G number [] [] [] = Unit {0}
+EachKeeps G number (bench ∷ benches) (bench' ∷ benches') (answer ∷ answers) =
+    BenchKeeps (G.state bench) (G.state bench') number answer × EachKeeps G (number + 1) benches benches' answers
+EachKeeps G number _ _ _ = ⊥
+
 -- the lines, one after the other
-abbrev pub lines_of : List BenchAnswer → List ℕ
-lines_of answers = flat_map (λ (answer : BenchAnswer). answer.line) answers
+abbrev pub answer_lines : List BenchAnswer → List ℕ
+answer_lines answers = flat_map (λ (answer : BenchAnswer). answer.line) answers
 
 -- the first status that isn't 0, and 0 where each is
 abbrev pub first_status : List BenchAnswer → ℕ
@@ -106,16 +137,14 @@ first_status (answer ∷ rest) = if answer.status == 0 then first_status rest el
 -- A call answers the first status that isn't 0, and says all lines; or it answers 10, where the output failed, and says a beginning of them;
 -- or it answers 1, for want of memory, or 2, by its words, and says nothing.
 abbrev pub SaysLines : List BenchAnswer → ℕ → List ℕ → Type 0
-SaysLines answers status said = ((status ≡ first_status answers) × (said ≡ lines_of answers))
-    ⊎ (((rest : List ℕ) × (status ≡ 10) × (lines_of answers ≡ said ++ rest))
+SaysLines answers status said = ((status ≡ first_status answers) × (said ≡ answer_lines answers))
+    ⊎ (((rest : List ℕ) × (status ≡ 10) × (answer_lines answers ≡ said ++ rest))
     ⊎ (((status ≡ 1) ⊎ (status ≡ 2)) × (said ≡ [])))
 
 -- What a call for several benches promises, of what stands on the output before and after it. Benches are counted from 1.
 pub record GangKeeps {B : Type 0} (G : Ghosts B) (benches benches' : List B) (tells : Bool) (before after : List ℕ) (status : ℕ) : Type 0 where
   pub answers : List BenchAnswer
-  pub count : length answers ≡ length benches
-  pub each : (i : ℕ) (b : B) (a : BenchAnswer) → i < length benches
-      → BenchKeeps (G.state (get_or benches i b)) (G.state (get_or benches' i b)) (i + 1) (get_or answers i a)
+  pub each : EachKeeps G 1 benches benches' answers
   pub said : List ℕ
   pub says : SaysLines answers status said
   pub output : IsTrue tells → after ≡ before ++ said

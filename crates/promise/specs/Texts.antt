@@ -9,7 +9,7 @@ use Rattle.command_words.specs.Files.{FilesAsked}
 use Rattle.promise.specs.Job.{Job}
 
 -- The body of a job says its board, its image and its snapshot, and says no other job.
-pub record Says (job : Job) : Type 0 where
+pub record SaysJob (job : Job) : Type 0 where
   pub text : written.Job
   pub board : board.Shown
   pub body_is : job.body ≡ written.body_of text
@@ -20,17 +20,17 @@ pub record Says (job : Job) : Type 0 where
   pub snapshot_is : job.snapshot ≡ text.snapshot
 
 -- These files stand under these names, in order.
-abbrev pub Stand : (List ℕ → Option (List ℕ)) → List (List ℕ) → List (List ℕ) → Type 0
-Stand under [] [] = Unit {0}
-Stand under (name ∷ names) (file ∷ files) = (under name ≡ Some file) × Stand under names files
-Stand under _ _ = ⊥
+abbrev pub StandUnder : (List ℕ → Option (List ℕ)) → List (List ℕ) → List (List ℕ) → Type 0
+StandUnder file_under [] [] = Unit {0}
+StandUnder file_under (name ∷ names) (file ∷ files) = (file_under name ≡ Some file) × StandUnder file_under names files
+StandUnder file_under _ _ = ⊥
 
 -- A job is that of the files of a command: its board stands under the first name, an algorithm file for each region under the next ones,
 -- and its image is the union of the images under the others.
-pub record IsOfFiles (under : List ℕ → Option (List ℕ)) (asked : FilesAsked) (job : Job) : Type 0 where
-  pub says : Says job
-  pub board : under asked.board ≡ Some says.text.board
-  pub algorithms : Stand under (option_to_list asked.flm ++ take (length says.board.regions - 1) asked.images) says.text.flms
+pub record IsOfFiles (file_under : List ℕ → Option (List ℕ)) (asked : FilesAsked) (job : Job) : Type 0 where
+  pub says : SaysJob job
+  pub board : file_under asked.board ≡ Some says.text.board
+  pub algorithms : StandUnder file_under (option_to_list asked.flm ++ take (length says.board.regions - 1) asked.images) says.text.flms
   pub images : List (List ℕ)
-  pub others : Stand under (drop (length says.board.regions - 1) asked.images) images
+  pub others : StandUnder file_under (drop (length says.board.regions - 1) asked.images) images
   pub union : IsUnionBefore asked.raw_at images (length images) job.image

@@ -1,23 +1,39 @@
--- `flash`: its clauses `promise` and `complete`.
-use Rattle.std.proofs.Common.{Some}
-use Rattle.command_files.specs.Inputs.{inputs_call}
-use Rattle.command_files.specs.Call.{call_of, bench_call, sink_call}
-use Rattle.promise.proofs.KeepLemmas.{keeps}
-use Rattle.promise.proofs.CompleteLemmas.{completes}
+-- `flash`: each of its clauses asks that the call which is made is the one that is answered, part by part.
+use Rattle.std.proofs.Common.{arith, Some, None}
+use Rattle.promise.proofs.TopLemmas.{answered, kept, completed, resumed, unfit, forwarded}
 use Rattle.promise.proofs.top.flash.Goals as goal
 
 pub returns-clause-promise : goal.returns-clause-promise
-returns-clause-promise g c = λ told told_files command asks. keeps command
-    (call_of c.flmprog.result (bench_call g.B.Bench.tells (g.B.Bench.state c.args.bench.now) (g.B.Bench.state c.flmprog.new.bench))
-    (inputs_call g.I.Inputs.tells (g.I.Inputs.state c.args.inputs.now) (g.I.Inputs.state c.flmprog.new.inputs))
-    (sink_call g.O.Sink.tells (g.O.Sink.state c.args.out.now) (g.O.Sink.state c.flmprog.new.out))
-    (sink_call g.E.Sink.tells (g.E.Sink.state c.args.err.now) (g.E.Sink.state c.flmprog.new.err)))
-    told told_files (g.met.B.Bench.bytes c.args.bench.now told).0 (c.flmprog.ensures (Some command) asks)
+returns-clause-promise g c = λ told told_files command asks.
+    kept command told told_files (g.met.B.Bench.bytes c.args.bench.now told).0
+    (grind arith) (grind arith) (grind arith) (grind arith)
+    (grind arith) (grind arith) (grind arith) (grind arith)
+    (c.flmprog.ensures (Some command) asks)
 
 pub returns-clause-complete : goal.returns-clause-complete
-returns-clause-complete g c = λ told told_files command asks. completes command c.args.words.now
-    (call_of c.flmprog.result (bench_call g.B.Bench.tells (g.B.Bench.state c.args.bench.now) (g.B.Bench.state c.flmprog.new.bench))
-    (inputs_call g.I.Inputs.tells (g.I.Inputs.state c.args.inputs.now) (g.I.Inputs.state c.flmprog.new.inputs))
-    (sink_call g.O.Sink.tells (g.O.Sink.state c.args.out.now) (g.O.Sink.state c.flmprog.new.out))
-    (sink_call g.E.Sink.tells (g.E.Sink.state c.args.err.now) (g.E.Sink.state c.flmprog.new.err)))
-    told told_files asks (c.flmprog.ensures (Some command) asks)
+returns-clause-complete g c = λ told told_files command asks.
+    completed command c.args.words.now told told_files asks
+    (grind arith) (grind arith) (grind arith) (grind arith)
+    (grind arith) (grind arith) (grind arith) (grind arith)
+    (c.flmprog.ensures (Some command) asks)
+
+pub returns-clause-resumes : goal.returns-clause-resumes
+returns-clause-resumes g c = λ told told_files command asks.
+    resumed command told told_files (g.met.B.Bench.bytes c.args.bench.now told).0
+    (grind arith) (grind arith) (grind arith) (grind arith)
+    (grind arith) (grind arith) (grind arith) (grind arith)
+    (c.flmprog.ensures (Some command) asks)
+
+pub returns-clause-answers : goal.returns-clause-answers
+returns-clause-answers g c = λ asked given.
+    answered asked
+    (grind arith) (grind arith) (grind arith) (grind arith)
+    (grind arith) (grind arith) (grind arith) (grind arith)
+    (grind arith) (c.flmprog.ensures asked given)
+
+pub returns-clause-usage : goal.returns-clause-usage
+returns-clause-usage g c = λ none. let is = unfit _ (c.flmprog.ensures None none) in grind arith
+
+pub returns-clause-forward : goal.returns-clause-forward
+returns-clause-forward g c = λ told command asks.
+    forwarded command told (g.met.B.Bench.bytes c.args.bench.now told).0 (grind arith) (grind arith) (grind arith) (c.flmprog.ensures (Some command) asks)
