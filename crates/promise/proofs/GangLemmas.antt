@@ -31,7 +31,7 @@ use Rattle.gang_commands.proofs.TargetLemmas.{done_alone, its_reason, finished_b
 use Rattle.gang_commands.proofs.WordLemmas.{fits_or_not}
 use Rattle.command_words.specs.Files.{resume}
 use Rattle.promise.specs.Job.{laid}
-use Rattle.promise.specs.Promise.{Call, IsIdle, TakesUp, KeepsPromise, counts, call_of, BenchAnswer, BenchKeeps, EachKeeps, answer_lines}
+use Rattle.promise.specs.Promise.{Call, IsIdle, TakesUp, KeepsPromise, fault_counts, call_of, BenchAnswer, BenchKeeps, EachKeeps, answer_lines}
 use Rattle.promise.specs.Promise.{first_status, GangKeeps}
 use Rattle.promise.proofs.ClassLemmas.{IsDamagedSo, IsNoJobSo, AreBytes, never_damaged, something}
 use Rattle.promise.proofs.CarryLemmas.{job_of, says}
@@ -40,7 +40,7 @@ use Rattle.promise.proofs.CarryLemmas.{job_of, says}
 
 module _ (status : ℕ) (s t : BenchState) (keeps : KeepsOn status s t) (closes : ClosesEach status s t) where
   abbrev call : Call
-  call = call_of (λ name. None) s t (counts 0 0) (counts 0 0) status
+  call = call_of (λ name. None) s t (fault_counts 0 0) (fault_counts 0 0) status
 
   on_job : (job : Job) (b : board.Shown) (xs : List flm.Shown) → IsJob job b xs → IsWhole (body_of job) s.file
       → (status ≡ 0 → IsDone (body_of job) (aim_of job b).laid t) → TakesUp call laid

@@ -3,12 +3,12 @@ use Rattle.bench_model.specs.History.{AddsNothing}
 use Rattle.bench_model.specs.State.{cells_half, Left}
 use Rattle.bench_model.specs.Calls.{FileStays, OnlyReads}
 use Rattle.command_files.specs.Call as answers
-use Rattle.promise.specs.Promise.{Call, AtEachStop, counts, call_of}
+use Rattle.promise.specs.Promise.{Call, AtEachStop, fault_counts, call_of}
 
 -- the call as the promise sees it
 abbrev pub its : answers.Call → Call
-its call = call_of call.inputs.before.stands call.bench.before call.bench.after (counts call.inputs.before.faults call.inputs.after.faults)
-    (counts call.out.before.faults call.out.after.faults) call.status
+its call = call_of call.inputs.before.stands call.bench.before call.bench.after (fault_counts call.inputs.before.faults call.inputs.after.faults)
+    (fault_counts call.out.before.faults call.out.after.faults) call.status
 
 -- a call that leaves only what a stop at its entry might have left
 abbrev pub LeavesAsEntered : answers.Call → Type 0

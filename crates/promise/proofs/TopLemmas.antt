@@ -12,7 +12,7 @@ use Rattle.command_files.specs.Call.{bench_call, sink_call, Answer, refused}
 use Rattle.command_files.specs.Said.{Says as SaysOn}
 use Rattle.flm_cli.specs.Answers.{Answers}
 use Rattle.gang_commands.specs.Gangs as gang
-use Rattle.promise.specs.Promise.{KeepsPromise, GangKeeps, counts, call_of}
+use Rattle.promise.specs.Promise.{KeepsPromise, GangKeeps, fault_counts, call_of}
 use Rattle.promise.specs.Complete.{Completes}
 use Rattle.promise.specs.Recovery.{Resumes}
 use Rattle.promise.proofs.ClassLemmas.{AreBytes}
@@ -37,27 +37,27 @@ module _ {n n' : ℕ} {tb ti to te : Bool} {s s' t t' : BenchState} {i j : Input
   pub kept : (command : Command) → IsTrue tb → IsTrue ti → AreBytes s'.file → n ≡ n' → s ≡ s' → t ≡ t' → i.stands ≡ under → i.faults ≡ taken
       → j.faults ≡ failed → o.faults ≡ put → p.faults ≡ lost
       → Answers (answers.call_of n (bench_call tb s t) (inputs_call ti i j) (sink_call to o p) (sink_call te e f)) (Some command)
-      → KeepsPromise command (call_of under s' t' (counts taken failed) (counts put lost) n')
+      → KeepsPromise command (call_of under s' t' (fault_counts taken failed) (fault_counts put lost) n')
   kept command told told_files bytes status old new names inputs inputs' out out' it =
-      subst (KeepsPromise command) (λ k. call_of (names k) (old k) (new k) (counts (inputs k) (inputs' k)) (counts (out k) (out' k)) (status k))
+      subst (KeepsPromise command) (λ k. call_of (names k) (old k) (new k) (fault_counts (inputs k) (inputs' k)) (fault_counts (out k) (out' k)) (status k))
       (keeps command (answers.call_of n (bench_call tb s t) (inputs_call ti i j) (sink_call to o p) (sink_call te e f)) told told_files
       (subst (λ (b : BenchState). AreBytes b.file) (sym old) bytes) it)
 
   pub resumed : (command : Command) → IsTrue tb → IsTrue ti → AreBytes s'.file → n ≡ n' → s ≡ s' → t ≡ t' → i.stands ≡ under → i.faults ≡ taken
       → j.faults ≡ failed → o.faults ≡ put → p.faults ≡ lost
       → Answers (answers.call_of n (bench_call tb s t) (inputs_call ti i j) (sink_call to o p) (sink_call te e f)) (Some command)
-      → Resumes command (call_of under s' t' (counts taken failed) (counts put lost) n')
+      → Resumes command (call_of under s' t' (fault_counts taken failed) (fault_counts put lost) n')
   resumed command told told_files bytes status old new names inputs inputs' out out' it =
-      subst (Resumes command) (λ k. call_of (names k) (old k) (new k) (counts (inputs k) (inputs' k)) (counts (out k) (out' k)) (status k))
+      subst (Resumes command) (λ k. call_of (names k) (old k) (new k) (fault_counts (inputs k) (inputs' k)) (fault_counts (out k) (out' k)) (status k))
       (resumes command (answers.call_of n (bench_call tb s t) (inputs_call ti i j) (sink_call to o p) (sink_call te e f)) told told_files
       (subst (λ (b : BenchState). AreBytes b.file) (sym old) bytes) it)
 
   pub completed : (command : Command) (words : List (List ℕ)) → IsTrue tb → IsTrue ti → Asks words command → n ≡ n' → s ≡ s' → t ≡ t' → i.stands ≡ under
       → i.faults ≡ taken → j.faults ≡ failed → o.faults ≡ put → p.faults ≡ lost
       → Answers (answers.call_of n (bench_call tb s t) (inputs_call ti i j) (sink_call to o p) (sink_call te e f)) (Some command)
-      → Completes command (call_of under s' t' (counts taken failed) (counts put lost) n')
+      → Completes command (call_of under s' t' (fault_counts taken failed) (fault_counts put lost) n')
   completed command words told told_files asks status old new names inputs inputs' out out' it =
-      subst (Completes command) (λ k. call_of (names k) (old k) (new k) (counts (inputs k) (inputs' k)) (counts (out k) (out' k)) (status k))
+      subst (Completes command) (λ k. call_of (names k) (old k) (new k) (fault_counts (inputs k) (inputs' k)) (fault_counts (out k) (out' k)) (status k))
       (completes command words (answers.call_of n (bench_call tb s t) (inputs_call ti i j) (sink_call to o p) (sink_call te e f)) told told_files asks it)
 
 module _ {n began ended : ℕ} {tb ti to te : Bool} {s t : BenchState} {i j : InputsState} {o p e f : SinkState} {file : List ℕ} where

@@ -10,7 +10,7 @@ use Rattle.job_text.specs.Files.{IsFree}
 use Rattle.flash_session.specs.declared.goal.Goal.{Goal}
 use Rattle.command_words.specs.Files.{FilesAsked}
 use Rattle.promise.specs.Job.{Job}
-use Rattle.promise.specs.Promise.{Call, counts, call_of}
+use Rattle.promise.specs.Promise.{Call, fault_counts, call_of}
 use Rattle.promise.specs.Campaign.{Later, AllFollow, AllKeep, IsFirst, AreSafe}
 
 -- A stop leaves no file but free ones.
@@ -27,7 +27,7 @@ pub record IsCampaign (asked : FilesAsked) (first : Call) (last : Later) : Type 
 -- a call over a bench in memory that took these inputs and this output from the one state to the other
 abbrev pub made : MemoryBench → MemoryBench → InputsState → InputsState → SinkState → SinkState → ℕ → Call
 made old new inputs inputs' out out' status =
-    call_of inputs.stands (bench_of old) (bench_of new) (counts inputs.faults inputs'.faults) (counts out.faults out'.faults) status
+    call_of inputs.stands (bench_of old) (bench_of new) (fault_counts inputs.faults inputs'.faults) (fault_counts out.faults out'.faults) status
 
 -- There is what the first call left, and what the loss of the power made of it, so that the two calls are a campaign.
 pub record WereMade (asked : FilesAsked) (goal : Goal) (old new : MemoryBench) (inputs inputs' : InputsState) (out out' : SinkState) (first last : ℕ)

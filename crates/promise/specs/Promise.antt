@@ -17,8 +17,8 @@ pub record FaultCounts : Type 0 where
   pub before : ℕ
   pub after : ℕ
 
-abbrev pub counts : ℕ → ℕ → FaultCounts
-counts before after = record { before = before; after = after }
+abbrev pub fault_counts : ℕ → ℕ → FaultCounts
+fault_counts before after = record { before = before; after = after }
 
 -- A call: which file stands under each name; job file, cells, and counts of faults at its entry and at its exit; and the status that it answers.
 pub record Call : Type 1 where
@@ -112,7 +112,7 @@ pub record BenchAnswer : Type 0 where
 -- For this bench alone the call is one of `resume`, which takes no inputs, with the status of its answer. The line is one line, begins with
 -- the bench's number, and is the one that says done exactly where that status is 0.
 pub record BenchKeeps (old new : BenchState) (number : ℕ) (answer : BenchAnswer) : Type 0 where
-  pub keeps : KeepsPromise resume (call_of (λ name. None) old new (counts 0 0) (counts 0 0) answer.status)
+  pub keeps : KeepsPromise resume (call_of (λ name. None) old new (fault_counts 0 0) (fault_counts 0 0) answer.status)
   pub said : List ℕ
   pub line_is : answer.line ≡ target_head number ++ (said ++ codes "\n")
   pub one_line : All (λ (byte : ℕ). byte ≢ 10) said

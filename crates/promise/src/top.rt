@@ -9,7 +9,7 @@ ghost use Rattle.flm_cli.specs.Answers.{Answers};
 ghost use Rattle.gang_commands.specs.Ends.{AllFinished, AllKeep, AllServed, NoneRoseIn};
 ghost use Rattle.gang_commands.specs.Gangs as gang;
 ghost use Rattle.gang_commands.specs.Words.{DoFit};
-ghost use Rattle.promise.specs.Promise.{KeepsPromise, GangKeeps, counts, call_of};
+ghost use Rattle.promise.specs.Promise.{KeepsPromise, GangKeeps, fault_counts, call_of};
 ghost use Rattle.promise.specs.Complete.{Completes};
 ghost use Rattle.promise.specs.Recovery.{Resumes};
 
@@ -33,13 +33,13 @@ pub fn flash<B: Bench, I: Inputs, O: Sink, E: Sink>(
     requires { (command : Command) → Asks words.now command → All (I.may_take inputs.old) (names_asked command) }
     ensures promise { IsTrue B.tells → IsTrue I.tells → (command : Command) → Asks words.now command
         → KeepsPromise command (call_of (I.state inputs.old).stands (B.state bench.old) (B.state bench.new)
-        (counts (I.state inputs.old).faults (I.state inputs.new).faults) (counts (O.state out.old).faults (O.state out.new).faults) result) }
+        (fault_counts (I.state inputs.old).faults (I.state inputs.new).faults) (fault_counts (O.state out.old).faults (O.state out.new).faults) result) }
     ensures complete { IsTrue B.tells → IsTrue I.tells → (command : Command) → Asks words.now command
         → Completes command (call_of (I.state inputs.old).stands (B.state bench.old) (B.state bench.new)
-        (counts (I.state inputs.old).faults (I.state inputs.new).faults) (counts (O.state out.old).faults (O.state out.new).faults) result) }
+        (fault_counts (I.state inputs.old).faults (I.state inputs.new).faults) (fault_counts (O.state out.old).faults (O.state out.new).faults) result) }
     ensures resumes { IsTrue B.tells → IsTrue I.tells → (command : Command) → Asks words.now command
         → Resumes command (call_of (I.state inputs.old).stands (B.state bench.old) (B.state bench.new)
-        (counts (I.state inputs.old).faults (I.state inputs.new).faults) (counts (O.state out.old).faults (O.state out.new).faults) result) }
+        (fault_counts (I.state inputs.old).faults (I.state inputs.new).faults) (fault_counts (O.state out.old).faults (O.state out.new).faults) result) }
     ensures answers { (asked : Option Command) → Asked words.now asked → Answers (call.call_of result
         (call.bench_call B.tells (B.state bench.old) (B.state bench.new)) (inputs_call I.tells (I.state inputs.old) (I.state inputs.new))
         (call.sink_call O.tells (O.state out.old) (O.state out.new)) (call.sink_call E.tells (E.state err.old) (E.state err.new))) asked }
