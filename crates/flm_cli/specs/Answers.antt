@@ -1,7 +1,6 @@
 -- What a call of `flmprog` answers, by its command.
 use Rattle.std.specs.Prelude.{◌≡◌, ◌⊎◌, Option, Some, None}
 use Rattle.report_text.specs.Refusal as refusal
-use Rattle.command_words.specs.Files.{FilesAsked}
 use Rattle.command_words.specs.Words.{Command, program, begin, resume, revert, plan, verify, compare, status, inspect, dump, demo}
 use Rattle.command_files.specs.Inputs.{InputsCall, TakesNothing}
 use Rattle.command_files.specs.Call.{BenchCall, SinkCall, Call, Answer, refused}

@@ -4,8 +4,7 @@ use Rattle.std.proofs.lemmas.List.{length-map}
 use Rattle.faults.specs.Counts.{Rose}
 use Rattle.bench_model.specs.declared.bench.Bench.{Ghosts}
 use Rattle.bench_model.specs.Counted.{is_store_fault, is_device_fault, IsCounted}
-use Rattle.bench_model.specs.State.{BenchState, file_half, cells_half}
-use Rattle.bench_model.proofs.Moments.{goes_here}
+use Rattle.bench_model.specs.State.{BenchState}
 use Rattle.board_file.specs.Limits.{size_of}
 use Rattle.board_file.specs.Shown as board
 use Rattle.flm_descriptor.specs.Shown as flm

@@ -259,12 +259,13 @@ module _ (tells sinks : Bool) (told : IsTrue tells) (j : code.Job) (goal : Goal)
 
       closes : (out : SinkCall) (answer : Answer) → (has_no_close answer ≡ true → ⊥) → IsUnless answer done
           → FinishComes (bench_call tells s d) out w f.broken answer → Finishes (bench_call tells s d) out w answer
-      closes out answer its due comes = ends_in_close tells w s m out answer stands.whole only stay d f.broken its comes f.moments its_local (λ serves. due) cells
-          (close_from o has close)
+      closes out answer its due comes = ends_in_close tells w s m out answer stands.whole only stay d f.broken its comes f.moments its_local (λ serves. due)
+          cells (close_from o has close)
 
       pub ends_done : (q : SinkState) → d.file ≡ 0 ∷ drop 1 m.file → TookAll (sink_call sinks p q) done_text
           → Finishes (bench_call tells s d) (sink_call sinks p q) w done
-      ends_done q file took = closes (sink_call sinks p q) done (λ is. cc) (inl refl) (record { file = file ∙ ap (λ (b : List ℕ). 0 ∷ b) behind; reached = reached }, took)
+      ends_done q file took = closes (sink_call sinks p q) done (λ is. cc) (inl refl)
+          (record { file = file ∙ ap (λ (b : List ℕ). 0 ∷ b) behind; reached = reached }, took)
 
       pub ends_cut : (q : SinkState) → d.file ≡ 0 ∷ drop 1 m.file → TookPart (sink_call sinks p q) done_text
           → Finishes (bench_call tells s d) (sink_call sinks p q) w (refused output_fault)
