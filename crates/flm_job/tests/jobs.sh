@@ -80,11 +80,12 @@ one_region() {
 
 # Words that fit nothing.
 words() {
-    for words in '' 'job none' 'job board 1' 'job flm 3' 'job flm 1 1' 'job image' 'job image raw' 'job image hex hex' 'job snapshot' 'job snapshot bin' \
+    for words in 'job none' 'job board 1' 'job flm 3' 'job flm 1 1' 'job image' 'job image raw' 'job image hex hex' 'job snapshot' 'job snapshot bin' \
         'job -h' 'none board board'; do
         # shellcheck disable=SC2086
         refuses "words '$words'" 2 "$usage" $words
     done
+    refuses 'no name' 8 'flmprog: store fault'
 }
 
 # A job of the first format is a head without a hash and the rest of a job of one region.
@@ -163,7 +164,8 @@ END
         arm-none-eabi-as --defsym KIND=1 --defsym PAGE=64 --defsym PROG=100 --defsym ERASE=500 -o second.o second.s &&
         arm-none-eabi-ld -n -T "$data/algorithms.ld" -o second.flm second.o || exit 1
     random_bytes 1280 > two_cells && cp two_cells two_before
-    "$tool" two two_cells begin --raw-at 0x08000100 two.toml algorithm.flm second.flm image > answer 2> reason
+    objcopy -I binary -O ihex --change-addresses 0x08000100 image image.hex || exit 1
+    "$tool" two two_cells begin two.toml algorithm.flm second.flm image.hex > answer 2> reason
     same 'a job of two regions is begun' "0 begun " "$? $(cat answer) $(cat reason)"
     gives 'two regions: the board' two.toml two board
     gives 'two regions: the first FLM file' algorithm.flm two flm 1
