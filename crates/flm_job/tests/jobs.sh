@@ -1,6 +1,6 @@
 #!/bin/bash
 # Begins jobs with the built flm_tool, and has flm_job show them and give their parts: of both formats, of one region and of two, by a reader that may
-# not write, cut at each length, with one bit changed at each byte, locked, missing, and of 16 MiB. What is given is compared with what went in,
+# not write, cut at ten lengths, with one bit changed at each of 16 bytes, locked, missing, and of 16 MiB. What is given is compared with what went in,
 # and each refusal with that of `flm_tool status`. JOB is the same file before and after.
 #   bash tests/jobs.sh [PROGRAM [TOOL]]        (from crates/flm_job; else out/flm_job and ../flm_tool/out/flm_tool)
 # It wants as and ld of arm-none-eabi, python3, flock and /usr/bin/time. It works in a folder of its own, which it leaves where something is wrong,
