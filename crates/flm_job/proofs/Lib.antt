@@ -1,0 +1,2 @@
+-- How a call of `flm_job` ends.
+pub mod CallLemmas

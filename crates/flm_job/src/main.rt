@@ -1,0 +1,14 @@
+//! What is in a job file, and its parts: `flm_job JOB [board | flm [1|2] | image hex|srec | snapshot]`.
+#![tactic(auto)]
+
+mod call;
+mod read_disk;
+mod run;
+mod words;
+
+use std::process::ExitCode;
+
+/// Ends with the status of the answer.
+fn main(rt: HostRuntime) -> ExitCode {
+    run::run(rt)
+}

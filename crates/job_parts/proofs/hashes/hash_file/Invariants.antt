@@ -1,0 +1,10 @@
+-- `hash_file`: what holds at each turn of its loop, and what falls with it.
+use Rattle.std.proofs.Common.{◌-◌}
+use Rattle.job_parts.proofs.HashLemmas.{HashedSoFar}
+use Rattle.job_parts.proofs.hashes.hash_file.Given as goal
+
+abbrev pub invariant-loop-at : goal.invariant-loop-at
+invariant-loop-at g l = HashedSoFar g.B.Bench.tells (g.B.Bench.state l.fn.bench) (g.B.Bench.state l.bench) l.from l.len l.at l.window l.hasher
+
+abbrev pub decreases-loop-at : goal.decreases-loop-at
+decreases-loop-at g l = l.len - l.at

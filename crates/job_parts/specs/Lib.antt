@@ -1,0 +1,5 @@
+pub mod Board
+pub mod Lengths
+pub mod Gives
+pub mod Listing
+pub mod Parts
