@@ -1,6 +1,7 @@
 mod ListLemmas
 mod DoneLemmas
 pub mod LockstepLemmas
+mod StoreLemmas
 pub mod TargetLemmas
 mod LaidLemmas
 pub mod TickLemmas
