@@ -7,9 +7,10 @@ use crate::fuel::{capped, time_out};
 use algo_loader::Layout;
 use bench_model::{Bench, DeviceFault};
 use board_file::Board;
+use flash_driver::State;
 use flm_descriptor::Algorithm;
 use ram_arena::Arena;
-use target_core::{Frame, Machine, RunEnd, SliceEnd};
+use target_core::{AnyRegisters, Frame, Machine, RunEnd, SliceEnd};
 
 /// `BKPT #0` twice, at the return point.
 const BREAKPOINTS: [u8; 4] = [0x00, 0xBE, 0x00, 0xBE];
@@ -68,6 +69,46 @@ impl CallsIn {
         ensures { algorithm_of result.now ≡ (setup_at self.now).algorithm }
     {
         &self.algorithm
+    }
+
+    /// The machine.
+    pub fn machine(&self) -> &Machine
+        ensures { result.now ≡ self.now.machine }
+    {
+        &self.machine
+    }
+
+    /// Where the algorithm lies in the RAM.
+    pub fn layout(&self) -> &Layout
+        ensures { result.now ≡ (setup_at self.now).layout }
+    {
+        &self.layout
+    }
+
+    /// Puts the RAM and the controller to what they held between two calls, and asks no bench. No other window changes.
+    #[tactic(auto, using(crate::proofs::CallLemmas::written_whole))]
+    pub fn stand_at(
+        &mut self,
+        arena: &mut Arena,
+        window: usize,
+        ram: &[u8],
+        state: &State<AnyRegisters>,
+    )
+        requires window { Fits self.old arena.old window }
+        requires ram { length ram.now ≡ (setup_at self.old).ram_size }
+        ensures world { (cells : List ℕ) → world_at self.new arena.new window cells ≡ record (world_at self.old arena.old window cells) {
+          ram = ram.now;
+          state = state.now;
+        } }
+        ensures setup { setup_at self.new ≡ setup_at self.old }
+        ensures base { self.new.machine.ram_base ≡ self.old.machine.ram_base }
+        ensures map { unit_map self.new.machine.unit ≡ unit_map self.old.machine.unit }
+        ensures others { OnlyIn window arena.old arena.new }
+        ensures ram_stays { Fits self.new arena.new window }
+    {
+        let base = self.machine.ram_base;
+        self.machine.write_ram(arena, window, base, ram);
+        self.machine.unit.state = *state;
     }
 
     /// Puts two breakpoints to the return point, and code and data to their places.

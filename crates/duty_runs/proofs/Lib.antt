@@ -1,0 +1,4 @@
+mod AskLemmas
+mod HandLemmas
+mod GoingLemmas
+mod BackLemmas

@@ -1,0 +1,5 @@
+pub mod Asks
+pub mod States
+pub mod Hands
+pub mod Steps
+pub mod Runs
