@@ -18,7 +18,7 @@ use Rattle.job_text.specs.Jobs.{IsJob}
 use Rattle.erase_planner.specs.Plans.{Chosen}
 use Rattle.flash_session.specs.declared.goal.Goal.TheVariants.{New}
 use Rattle.report_text.specs.Shown as refusal
-use Rattle.report_text.specs.Refusal.{out_of_memory, status_of}
+use Rattle.report_text.specs.Refusal.{out_of_memory, store_fault, status_of}
 use Rattle.report_text.specs.declared.refusal.Refusal.{Refusal}
 use Rattle.command_files.specs.Inputs.{InputsCall, TakesNothing}
 use Rattle.command_files.specs.Call.{bench_call, SinkCall, sink_call, Answer, done, refused}
@@ -82,7 +82,7 @@ pub record BeginsOver {B : Type 0} (tells : Bool) (acts : B → Act → B → Ty
   pub inner : first.inner ≡ fresh
   pub calls : first.calls ≡ stop_of seed
   pub same : IsSameBench (state fresh) (stopped state first)
-  pub syncs : SyncsFirst (StopActs acts) first
+  pub syncs : SyncsFirst tells (stopped state) (StopActs acts) first begun (answer ≡ refused store_fault)
   pub parts : JobParts
   pub its_parts : ArePartsOf seed t parts
   pub begins : IsTrue tells → BeginsParts (bench_call tells (stopped state first) (stopped state begun)) silence parts answer
@@ -96,10 +96,10 @@ pub record IsLost (seed : ℕ) (t : Fixture) (fresh lost : MemoryBench) : Type 0
   pub inner : first.inner ≡ fresh
   pub calls : first.calls ≡ stop_of seed
   pub same : IsSameBench (bench_of fresh) (stopping_of first)
-  -- no call was made before the job's own, the first of which syncs the job file
-  pub syncs : SyncsFirst (StopActs memory_acts) first
   pub begun : StopBench MemoryBench
   pub answer : Answer
+  -- no call was made before the job's own, the first of which syncs the job file
+  pub syncs : SyncsFirst true stopping_of (StopActs memory_acts) first begun (answer ≡ refused store_fault)
   pub is_job : IsJob (job_of seed t) t.board (t.algorithm ∷ [])
   pub carries : Carries (bench_call true (stopping_of first) (stopping_of begun)) silence (IsUntouched (stopping_of first)) (work_of seed t) answer
   pub kind : IsOf has_work answer

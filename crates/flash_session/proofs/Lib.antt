@@ -31,5 +31,5 @@ mod Leading
 mod Passing
 mod Serving
 mod LegLemmas
-mod ServedLemmas
+pub mod ServedLemmas
 pub mod LocalLemmas

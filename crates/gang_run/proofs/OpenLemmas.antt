@@ -1,5 +1,5 @@
 -- The opening of one place of a gang.
-use Rattle.std.proofs.Common.{◌≡◌, ◌<◌, ◌+◌, ◌^◌, ◌∙◌, ℕ, Bool, IsTrue, All, List, [], ◌∷◌, length, replicate, Option, Some, None, IsSomeAnd, IfSome, Result}
+use Rattle.std.proofs.Common.{◌≡◌, ◌<◌, ◌+◌, ◌^◌, ◌∙◌, ◌++◌, ℕ, Bool, IsTrue, All, List, [], ◌∷◌, length, replicate, Option, Some, None, IsSomeAnd, IfSome, Result}
 use Rattle.std.proofs.Common.{Ok, Err, IfOk, OnOk, refl, sym, ap, subst, arith}
 use Rattle.std.proofs.lemmas.List.{length-replicate}
 use Rattle.bench_model.specs.Calls.{IsRead}
@@ -34,8 +34,8 @@ use Rattle.flash_session.specs.Rest.{all_legs}
 use Rattle.flash_session.specs.Targets.{legs_for, goal_for, point_for}
 use Rattle.gang_run.specs.declared.slot.Slot.{Slot}
 use Rattle.gang_run.specs.declared.slot.Slot.TheVariants as slot
-use Rattle.gang_run.specs.Opening.{IsLookedAt, IsUnopened, IsRefused, Begins}
-use Rattle.gang_run.specs.Opens.{ram_for, IsReadyIn, Surveys, Opens, IsUnsurveyedEnd, IsTargetOf, GivesSlot}
+use Rattle.gang_run.specs.Opening.{IsLookedAt, IsUnopened, IsRefused, Begins, unread}
+use Rattle.gang_run.specs.Opens.{ram_for, IsReadyIn, Surveys, Opens, IsUnsurveyedEnd, IsTargetOf, GivesSlot, PutsSlot}
 use Rattle.faults.specs.declared.out_of_memory.OutOfMemory.{OutOfMemory}
 use Rattle.flash_session.specs.declared.fault.SurveyFault.{SurveyFault}
 use Rattle.flash_session.specs.Parts.{IsPlayerOf}
@@ -228,3 +228,11 @@ unopened_device T tells fault s t is refused sound store device = record {
   store = subst (λ (x : SessionFault). IsCounted s.store_faults t.store_faults (is_store_fault (session_fault x))) is store;
   device = subst (λ (x : SessionFault). IsCounted s.device_faults t.device_faults (is_device_fault (session_fault x))) is device;
 }
+
+-- ---- a bench whose job file failed
+
+-- its place is put behind those before it
+pub put_unread : (p : Slot) (slots : List Slot) (sizes : List ℕ) (slots' : List Slot) (sizes' : List ℕ) (r : Result (Unit {0}) OutOfMemory)
+    → PutsSlot p slots sizes slots' sizes' r → p ≡ unread → OnOk r (slots' ≡ slots ++ (unread ∷ []))
+put_unread p slots sizes slots' sizes' (Ok u) puts is = puts.0 ∙ ap (λ (q : Slot). slots ++ (q ∷ [])) is
+put_unread p slots sizes slots' sizes' (Err e) puts is = tt

@@ -1,6 +1,7 @@
 -- The opening of a gang, bench after bench.
 use Rattle.std.proofs.Common.{◌≡◌, ◌≢◌, ◌<◌, ◌≤◌, ◌+◌, ◌*◌, ◌^◌, ◌∙◌, ⊎_elim, ℕ, Bool, All, List, [], ◌∷◌, ◌++◌, length, get_or, set, replicate, refl, sym, ap}
-use Rattle.std.proofs.Common.{subst, arith}
+use Rattle.std.proofs.Common.{subst, arith, ◌⊎◌, inl, inr, Ok}
+use Rattle.faults.specs.declared.out_of_memory.OutOfMemory.{OutOfMemory}
 use Rattle.std.proofs.lemmas.List.{length-append, length-map, length-set, get_or_append_left, get_or_push, get_or_past, get_or-map, get_or-set_other}
 use Rattle.std.proofs.lemmas.List.{get_or-set_same, get_or_read}
 use Rattle.std.proofs.lemmas.List.Elements.{All-append, All-replicate, All-rest}
@@ -11,6 +12,7 @@ use Rattle.bench_model.proofs.MemoryLemmas.{same_outside_all}
 use Rattle.bench_model.proofs.Moments.{goes_here}
 use Rattle.board_file.specs.Limits.{most_ram}
 use Rattle.job_file.specs.First.{SyncsFirst}
+use Rattle.job_file.proofs.FirstLemmas.{syncs_as}
 use Rattle.job_text.specs.Stands.{StandsFor}
 use Rattle.ram_arena.specs.Windows.{total, blank}
 use Rattle.target_core.specs.Windows.{window_of}
@@ -22,7 +24,7 @@ use Rattle.gang_run.specs.declared.gang.Gang.{Gang}
 use Rattle.gang_run.specs.declared.slot.Slot.{Slot}
 use Rattle.gang_run.specs.declared.slot.Slot.TheVariants as slot
 use Rattle.gang_run.specs.Gangs.{slot_at, OtherWindow, IsGang, AreReady}
-use Rattle.gang_run.specs.Opening.{IsLookedAt, IsRefused, IsOpened, AreOpened, AreSynced}
+use Rattle.gang_run.specs.Opening.{IsLookedAt, IsRefused, IsOpened, AreOpened, AreSynced, unread}
 use Rattle.gang_run.specs.Opens.{ram_for, IsReadyIn, Opens, sizes_with, SlotAdded, slot_in, OpensAmong, Opening}
 use Rattle.gang_run.specs.Slots.{EndsByScript, IsSlot, IsReady}
 
@@ -93,7 +95,7 @@ module _ {B : Type 0} (G : Ghosts B) where
   module _ (first now : List B) (slots : List Slot) (sizes : List ℕ) (upto : ℕ) (b b' : B) (slots' : List Slot) (sizes' : List ℕ)
       (was : Opening G first now slots sizes upto) (inside : upto < length now) (bench : b ≡ get_or now upto b)
       (added : SlotAdded G.tells slots sizes (G.state b) slots' sizes' (G.state b')) (looked : IsLookedAt G.tells (G.state b) (G.state b'))
-      (synced : SyncsFirst G.acts b) where
+      (synced : SyncsFirst G.tells G.state G.acts b b' (slots' ≡ slots ++ (unread ∷ []))) where
     abbrev after : List B
     after = set now upto b'
 
@@ -149,12 +151,19 @@ module _ {B : Type 0} (G : Ghosts B) where
         (subst (λ (c : B). IsLookedAt G.tells (G.state b) (G.state c)) (sym (now_here d)) looked)))
         (cases_lt i upto)
 
-    synced_now : (i : ℕ) (d : B) → i < upto + 1 → SyncsFirst G.acts (get_or first i d)
+    synced_now : (i : ℕ) (d : B) → i < upto + 1
+        → SyncsFirst G.tells G.state G.acts (get_or first i d) (get_or after i d) (slot_in slots' i ≡ unread)
     synced_now i d less = ⊎_elim
-        (λ (before : i < upto). was.synced i d before)
+        (λ (before : i < upto).
+        subst (λ (c : B). SyncsFirst G.tells G.state G.acts (get_or first i d) c (slot_in slots' i ≡ unread))
+        (sym (now_other i d (λ same. omega (arith, same, before))))
+        (syncs_as (was.synced i d before) (λ is. slot_before i before ∙ is)))
         (λ (past : upto ≤ i).
         let here : i ≡ upto = omega (arith, past, less) in
-        subst (λ (k : ℕ). SyncsFirst G.acts (get_or first k d)) (sym here) (subst (λ (c : B). SyncsFirst G.acts c) (sym (was_here d)) synced))
+        subst (λ (k : ℕ). SyncsFirst G.tells G.state G.acts (get_or first k d) (get_or after k d) (slot_in slots' k ≡ unread)) (sym here)
+        (subst (λ (c : B). SyncsFirst G.tells G.state G.acts c (get_or after upto d) (slot_in slots' upto ≡ unread)) (sym (was_here d))
+        (subst (λ (c : B). SyncsFirst G.tells G.state G.acts b c (slot_in slots' upto ≡ unread)) (sym (now_here d))
+        (syncs_as synced (λ is. ap (λ (l : List Slot). slot_in l upto) is ∙ get_or_push slots unread none_slot upto was.places)))))
         (cases_lt i upto)
 
     apart_here : (i : ℕ) → i ≢ upto → OtherWindow (slot_in slots' i) added.slot × OtherWindow added.slot (slot_in slots' i)
@@ -210,9 +219,33 @@ total_small (n ∷ sizes) small =
 pub sizes_fit : (sizes : List ℕ) (n : ℕ) → All (λ n. n ≤ most_ram) sizes → length sizes ≤ n → n ≤ 16 → (length sizes ≤ 64) × (total sizes ≤ 2 ^ 30)
 sizes_fit sizes n small few less = (omega (arith, few, less), omega (arith, total_small sizes small, few, less))
 
-pub all_synced : {B : Type 0} (G : Ghosts B) (first now : List B) (slots : List Slot) (sizes : List ℕ) (upto : ℕ) → Opening G first now slots sizes upto
-    → length first ≤ upto → AreSynced G first
-all_synced G first now slots sizes upto was all i d less = was.synced i d (omega (arith, less, all))
+pub all_synced : {B : Type 0} (G : Ghosts B) (first now : List B) (g : Gang) (sizes : List ℕ) (upto : ℕ) → Opening G first now g.slots.items sizes upto
+    → length first ≤ upto → AreSynced {E = OutOfMemory} G first now (Ok g)
+all_synced G first now g sizes upto was all i d less = was.synced i d (omega (arith, less, all))
+
+-- so far, the other benches are as they were
+pub synced_so_far : {B : Type 0} (G : Ghosts B) (first now : List B) (slots : List Slot) (sizes : List ℕ) (upto : ℕ) → Opening G first now slots sizes upto
+    → (i : ℕ) (d : B) → (get_or now i d ≡ get_or first i d) ⊎ SyncsFirst G.tells G.state G.acts (get_or first i d) (get_or now i d) (Unit {0})
+synced_so_far G first now slots sizes upto was i d = ⊎_elim
+    (λ (before : i < upto). inr (syncs_as (was.synced i d before) (λ is. tt)))
+    (λ (past : upto ≤ i). inl (was.still i d past))
+    (cases_lt i upto)
+
+-- where the memory ended at this bench
+pub synced_last : {B F : Type 0} (G : Ghosts B) (first now : List B) (slots : List Slot) (sizes : List ℕ) (upto : ℕ) (b b' : B)
+    → Opening G first now slots sizes upto → upto < length now → b ≡ get_or now upto b → SyncsFirst G.tells G.state G.acts b b' F
+    → (i : ℕ) (d : B) → (get_or (set now upto b') i d ≡ get_or first i d)
+    ⊎ SyncsFirst G.tells G.state G.acts (get_or first i d) (get_or (set now upto b') i d) (Unit {0})
+synced_last {B} {F} G first now slots sizes upto b b' was inside bench synced i d = ⊎_elim
+    (λ (at : i ≡ upto). inr (
+    subst (λ (k : ℕ). SyncsFirst G.tells G.state G.acts (get_or first k d) (get_or (set now upto b') k d) (Unit {0})) (sym at)
+    (subst (λ (c : B). SyncsFirst G.tells G.state G.acts c (get_or (set now upto b') upto d) (Unit {0}))
+    (get_or_read now upto b inside bench d ∙ was.still upto d (omega arith))
+    (subst (λ (c : B). SyncsFirst G.tells G.state G.acts b c (Unit {0})) (sym (get_or-set_same now upto b' d inside)) (syncs_as synced (λ is. tt))))))
+    (λ (other : i ≢ upto).
+    subst (λ (c : B). (c ≡ get_or first i d) ⊎ SyncsFirst G.tells G.state G.acts (get_or first i d) c (Unit {0}))
+    (sym (get_or-set_other now upto i b' d other)) (synced_so_far G first now slots sizes upto was i d))
+    (cases_eq i upto)
 
 module _ {B : Type 0} (G : Ghosts B) (first now : List B) (g : Gang) (sizes : List ℕ) (upto : ℕ) (was : Opening G first now g.slots.items sizes upto)
     (all : length first ≤ upto) (arena : g.arena ≡ blank sizes) where

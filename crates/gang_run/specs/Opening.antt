@@ -1,5 +1,5 @@
 -- What the opening of a gang leaves.
-use Rattle.std.specs.Prelude.{◌≡◌, ◌<◌, ℕ, Bool, IsTrue, List, length, get_or, Result, Err, None}
+use Rattle.std.specs.Prelude.{◌≡◌, ◌<◌, ◌⊎◌, ℕ, Bool, IsTrue, List, length, get_or, Result, Ok, Err, None}
 use Rattle.bench_model.specs.declared.bench.Bench.{Ghosts}
 use Rattle.bench_model.specs.Counted.{is_store_fault, is_device_fault, IsCounted}
 use Rattle.bench_model.specs.State.{SameOutside, BenchState, Left, file_half}
@@ -7,8 +7,10 @@ use Rattle.bench_model.specs.History.{LeftOnly}
 use Rattle.bench_model.specs.Pairs.{PairsLeave}
 use Rattle.board_file.specs.Shown.{shown as board_of}
 use Rattle.job_file.specs.First.{SyncsFirst}
+use Rattle.job_file.specs.declared.fault.OpenFault.TheVariants as opening
 use Rattle.job_text.specs.Stands.{StandsFor}
 use Rattle.flash_session.specs.declared.fault.SessionFault.{SessionFault}
+use Rattle.flash_session.specs.declared.fault.SessionFault.TheVariants as session
 use Rattle.flash_session.specs.declared.fault.SurveyFault.{SurveyFault}
 use Rattle.flash_session.specs.declared.goal.Goal.TheVariants as to_goal
 use Rattle.flash_session.specs.Opened.{IsJobOf, IsSessionFault, IsSoundSession, ReadsIfRefused, session_fault}
@@ -90,6 +92,14 @@ AreOpened {B} G benches g benches' = (i : ℕ) (d : B) → i < length benches �
 abbrev pub AreLookedAt : {B : Type 0} → Ghosts B → List B → List B → Type 0
 AreLookedAt {B} G benches benches' = (i : ℕ) (d : B) → i < length benches → IsLookedAt G.tells (G.state (get_or benches i d)) (G.state (get_or benches' i d))
 
--- the job file of each was synced before any other call on its bench
-abbrev pub AreSynced : {B : Type 0} → Ghosts B → List B → Type 0
-AreSynced {B} G benches = (i : ℕ) (d : B) → i < length benches → SyncsFirst G.acts (get_or benches i d)
+-- the place of a bench whose job file failed as it was opened
+abbrev pub unread : Slot
+unread = slot.Refused (ended.Open (session.Open opening.StoreFault))
+
+-- The job file of each was synced before any other call on its bench. Where that failed, its place says so. Where the memory ends, a bench is
+-- as it was, or its job file was synced first.
+abbrev pub AreSynced : {B E : Type 0} → Ghosts B → List B → List B → Result Gang E → Type 0
+AreSynced {B} G benches benches' (Ok g) = (i : ℕ) (d : B) → i < length benches
+    → SyncsFirst G.tells G.state G.acts (get_or benches i d) (get_or benches' i d) (slot_at g i ≡ unread)
+AreSynced {B} G benches benches' (Err e) = (i : ℕ) (d : B) → i < length benches
+    → (get_or benches' i d ≡ get_or benches i d) ⊎ SyncsFirst G.tells G.state G.acts (get_or benches i d) (get_or benches' i d) (Unit {0})

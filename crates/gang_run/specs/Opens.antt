@@ -23,7 +23,7 @@ use Rattle.gang_run.specs.declared.slot.Slot.{Slot}
 use Rattle.gang_run.specs.declared.slot.Slot.TheVariants as slot
 use Rattle.gang_run.specs.Gangs.{OtherWindow}
 use Rattle.gang_run.specs.Slots.{HasMemory}
-use Rattle.gang_run.specs.Opening.{IsLookedAt, IsRefused, Begins}
+use Rattle.gang_run.specs.Opening.{IsLookedAt, IsRefused, Begins, unread}
 
 -- it is a target of this job, with a player of the script that its survey planned, and with this window
 abbrev pub IsTargetOf : Job → Surveyed → (window : ℕ) → Slot → Type 0
@@ -105,7 +105,7 @@ pub record Opening {B : Type 0} (G : Ghosts B) (first now : List B) (slots : Lis
   pub places : length slots ≡ upto
   pub opened : (i : ℕ) (d : B) → i < upto → OpensAmong G.tells sizes (slot_in slots i) (G.state (get_or first i d)) (G.state (get_or now i d))
   pub looked : (i : ℕ) (d : B) → i < upto → IsLookedAt G.tells (G.state (get_or first i d)) (G.state (get_or now i d))
-  pub synced : (i : ℕ) (d : B) → i < upto → SyncsFirst G.acts (get_or first i d)
+  pub synced : (i : ℕ) (d : B) → i < upto → SyncsFirst G.tells G.state G.acts (get_or first i d) (get_or now i d) (slot_in slots i ≡ unread)
   pub still : (i : ℕ) (d : B) → upto ≤ i → get_or now i d ≡ get_or first i d
   pub apart : (i j : ℕ) → i ≢ j → OtherWindow (slot_in slots i) (slot_in slots j)
   pub few : length sizes ≤ upto

@@ -1,5 +1,5 @@
 //! A gang of targets.
-ghost use Rattle.std.specs.Prelude.{◌≡◌, ◌<◌, ◌≤◌, ℕ, List, All, true, false, length, get_or, IfOk, OnOk};
+ghost use Rattle.std.specs.Prelude.{◌≡◌, ◌<◌, ◌≤◌, ℕ, List, All, true, false, length, get_or, IfOk};
 ghost use Rattle.gang_run.specs.Gangs.{slot_at, IsGang, AreReady, OneTurn, GivesTurns, GivesRounds, one_round, AllSince, AllKept, Playing, gang_togo};
 ghost use Rattle.gang_run.specs.Opening.{AreOpened, AreLookedAt, AreSynced};
 ghost use Rattle.gang_run.specs.Slots.{slot_turn, SlotTakes, IsSlotEnd, IsSlotJob};
@@ -44,7 +44,7 @@ impl Gang {
         ensures count { IfOk result (λ gang. length benches.new ≡ length gang.slots.items) }
         ensures ready { IfOk result (λ gang. AreReady B.Bench gang benches.new) }
         ensures looked { AreLookedAt B.Bench benches.old benches.new }
-        ensures first { OnOk result (AreSynced B.Bench benches.old) }
+        ensures first { AreSynced B.Bench benches.old benches.new result }
         ensures benches { length benches.new ≡ length benches.old }
     {
         let mut slots = Vec::new(alloc);

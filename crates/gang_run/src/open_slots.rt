@@ -1,5 +1,5 @@
 //! The opening of a gang.
-ghost use Rattle.std.specs.Prelude.{◌≡◌, ◌++◌, ℕ, List, IsTrue, IsSome, IfOk, OnOk, Option, None, Err, option_to_list};
+ghost use Rattle.std.specs.Prelude.{◌≡◌, ◌++◌, ◌∷◌, [], ℕ, List, IsTrue, IsSome, IfOk, OnOk, Option, None, Ok, Err, option_to_list};
 ghost use Rattle.bench_model.specs.Calls.{IsRead};
 ghost use Rattle.bench_model.specs.History.{LeftOnly};
 ghost use Rattle.bench_model.specs.Pairs.{PairsLeave};
@@ -11,7 +11,7 @@ ghost use Rattle.job_text.specs.declared.job.Job.{Job};
 ghost use Rattle.flash_session.specs.Parts.{IsPlayerOf};
 ghost use Rattle.flash_session.specs.Sessions.{job_in, surveyed};
 ghost use Rattle.flash_session.specs.Surveys.{Surveyed};
-ghost use Rattle.gang_run.specs.Opening.{IsLookedAt};
+ghost use Rattle.gang_run.specs.Opening.{IsLookedAt, unread};
 ghost use Rattle.gang_run.specs.Opens.{IsTargetOf, GivesSlot, Surveys, Opens, PutsSlot, AddsSlot, sizes_with};
 
 use crate::slot::Slot;
@@ -88,7 +88,7 @@ fn survey_slot<B: Bench>(
 fn open_slot<B: Bench>(alloc: Global, bench: &mut B, window: usize) -> Result<Slot, OutOfMemory>
     ensures slot { IfOk result (λ slot. Opens B.tells window slot (B.state bench.old) (B.state bench.new)) }
     ensures looked { IsLookedAt B.tells (B.state bench.old) (B.state bench.new) }
-    ensures first { SyncsFirst B.acts bench.old }
+    ensures first { SyncsFirst B.tells B.state B.acts bench.old bench.new (result ≡ Ok unread) }
 {
     match Session::open(alloc, bench) {
         Ok(session) => survey_slot(alloc, bench, session, window),
@@ -136,7 +136,7 @@ pub(crate) fn add_slot<B: Bench>(
 ) -> Result<(), OutOfMemory>
     ensures added { AddsSlot B.tells slots.old.items sizes.old.items (B.state bench.old) slots.new.items sizes.new.items (B.state bench.new) result }
     ensures looked { IsLookedAt B.tells (B.state bench.old) (B.state bench.new) }
-    ensures first { SyncsFirst B.acts bench.old }
+    ensures first { SyncsFirst B.tells B.state B.acts bench.old bench.new (OnOk result (slots.new.items ≡ slots.old.items ++ (unread ∷ []))) }
 {
     match open_slot(alloc, bench, sizes.len()) {
         Ok(slot) => put_slot(slot, slots, sizes),

@@ -1,10 +1,13 @@
 -- Which refusals a step has. A command refuses as its steps do, and has no other refusal.
 use Rattle.std.proofs.Common.{◌≡◌, refl, true, ℕ}
+use Rattle.std.proofs.lemmas.Bool.{false≢true}
+use Rattle.bench_model.specs.Counted.{is_store_fault}
 use Rattle.job_file.specs.declared.fault.OpenFault.TheVariants as opening
 use Rattle.job_file.specs.declared.fault.BeginFault.{BeginFault}
 use Rattle.job_file.specs.declared.fault.BeginFault.TheVariants as beginning
+use Rattle.job_file.specs.Counted.{begin_fault}
 use Rattle.job_file.specs.Faults.{IsSoundBegin}
-use Rattle.flash_session.specs.Opened.{IsSoundSession}
+use Rattle.flash_session.specs.Opened.{IsSoundSession, session_fault}
 use Rattle.flash_session.specs.declared.fault.SessionFault.{SessionFault}
 use Rattle.flash_session.specs.declared.fault.SessionFault.TheVariants as session
 use Rattle.flash_session.specs.declared.fault.SurveyFault.{SurveyFault}
@@ -113,3 +116,15 @@ begin_command (refused r) kind = cc
 pub begin_of_program : (r : Refusal) → has_begin r ≡ true → has_program r ≡ true
 begin_of_program out_of_memory is = refl
 begin_of_program r is = cc
+
+-- the fault of the job file, and no other, is answered as that
+pub session_file_fault : (fault : SessionFault) → is_store_fault (session_fault fault) ≡ true → of_session fault ≡ store_fault
+session_file_fault session.OutOfMemory is = absurd (false≢true is)
+session_file_fault (session.Open opening.StoreFault) is = refl
+session_file_fault (session.Open fault) is = absurd (false≢true is)
+session_file_fault session.DeviceFault is = absurd (false≢true is)
+
+pub begin_file_fault : (fault : BeginFault) → is_store_fault (begin_fault fault) ≡ true → of_begin fault ≡ store_fault
+begin_file_fault beginning.StoreFault is = refl
+begin_file_fault beginning.DeviceFault is = absurd (false≢true is)
+begin_file_fault fault is = absurd (false≢true is)

@@ -9,8 +9,9 @@ ghost use Rattle.flash_session.specs.declared.goal.Goal as goals;
 ghost use Rattle.flash_session.specs.Sessions.{job_in, surveyed};
 ghost use Rattle.flash_session.specs.Surveys.{HasSurveyed};
 ghost use Rattle.command_files.specs.Answered.{IsOf, StandsEarly, on_job_file};
-ghost use Rattle.command_files.specs.Call.{bench_call, sink_call};
+ghost use Rattle.command_files.specs.Call.{bench_call, sink_call, refused};
 ghost use Rattle.command_files.specs.Shown.{answer_of};
+ghost use Rattle.report_text.specs.Refusal.{store_fault};
 ghost use Rattle.job_commands.specs.GoOn.{GoesOnFrom, has_resume};
 ghost use Rattle.job_commands.specs.Answers.{IsSound};
 ghost use Rattle.job_commands.specs.Opened.{IsOpened};
@@ -115,7 +116,7 @@ pub(crate) fn carry<'a, B: Bench, O: Sink>(
     ensures kind { IsOf has_resume (answer_of result) }
     ensures prints { PrintsWork (B.state bench.old).cell_count (sink_call O.tells (O.state out.old) (O.state out.new)) (answer_of result) }
     ensures sound { IsSound (answer_of result) }
-    ensures first { SyncsFirst B.acts bench.old }
+    ensures first { SyncsFirst B.tells B.state B.acts bench.old bench.new (answer_of result ≡ refused store_fault) }
     ensures goes_on { IsTrue B.tells → GoesOn (file_half (B.state bench.old)) (file_half (B.state bench.new)) }
     ensures counts { BenchCounted (bench_call B.tells (B.state bench.old) (B.state bench.new))
         (sink_call O.tells (O.state out.old) (O.state out.new)) (answer_of result) }

@@ -3,8 +3,9 @@ ghost use Rattle.std.specs.Prelude.{◌≡◌, true, IsTrue};
 ghost use Rattle.job_text.specs.Parts.{AreParts};
 ghost use Rattle.job_file.specs.First.{SyncsFirst};
 ghost use Rattle.command_files.specs.Answered.{IsOf, StandsEarly, on_job_file};
-ghost use Rattle.command_files.specs.Call.{bench_call, sink_call};
+ghost use Rattle.command_files.specs.Call.{bench_call, sink_call, refused};
 ghost use Rattle.command_files.specs.Shown.{answer_of};
+ghost use Rattle.report_text.specs.Refusal.{store_fault};
 ghost use Rattle.job_commands.specs.Begin.{begun_text, PrintsBegun};
 ghost use Rattle.job_commands.specs.Steps.{has_alone, has_work, begun, BenchCounted, StartsParts, BeginsParts};
 ghost use Rattle.job_commands.specs.Answers.{is_of_work, IsSound};
@@ -35,7 +36,7 @@ pub fn begin_job<'a, B: Bench, O: Sink>(
     ensures prints { PrintsWork (B.state bench.old).cell_count (sink_call O.tells (O.state out.old) (O.state out.new)) (answer_of result) }
     ensures sized { is_of_work (answer_of result) ≡ true → parts.now.size ≡ (B.state bench.old).cell_count }
     ensures sound { IsSound (answer_of result) }
-    ensures first { SyncsFirst B.acts bench.old }
+    ensures first { SyncsFirst B.tells B.state B.acts bench.old bench.new (answer_of result ≡ refused store_fault) }
     ensures counts { BenchCounted (bench_call B.tells (B.state bench.old) (B.state bench.new))
         (sink_call O.tells (O.state out.old) (O.state out.new)) (answer_of result) }
 {

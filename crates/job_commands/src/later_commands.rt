@@ -1,8 +1,10 @@
 //! `resume` and `revert`: they go on with the job in the file.
+ghost use Rattle.std.specs.Prelude.{◌≡◌};
 ghost use Rattle.job_file.specs.First.{SyncsFirst};
 ghost use Rattle.command_files.specs.Inputs.{InputsCall, TakesNothing};
-ghost use Rattle.command_files.specs.Call.{bench_call, sink_call};
+ghost use Rattle.command_files.specs.Call.{bench_call, sink_call, refused};
 ghost use Rattle.command_files.specs.Shown.{answer_of};
+ghost use Rattle.report_text.specs.Refusal.{store_fault};
 ghost use Rattle.job_commands.specs.GoOn.{GoOnEnds};
 
 use crate::carry::carry;
@@ -24,7 +26,7 @@ pub fn go_on<'a, B: Bench, O: Sink>(
         (sink_call O.tells (O.state out.old) (O.state out.new)) (answer_of result) }
 
     // The file is synced before any other call on the bench.
-    ensures first { SyncsFirst B.acts bench.old }
+    ensures first { SyncsFirst B.tells B.state B.acts bench.old bench.new (answer_of result ≡ refused store_fault) }
 {
     carry(alloc, goal, bench, out)
 }

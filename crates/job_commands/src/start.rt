@@ -4,8 +4,9 @@ ghost use Rattle.outside_io.specs.State.{SinkState};
 ghost use Rattle.job_text.specs.Parts.{AreParts};
 ghost use Rattle.job_file.specs.First.{SyncsFirst};
 ghost use Rattle.command_files.specs.Answered.{IsOf, StandsEarly, on_job_file};
-ghost use Rattle.command_files.specs.Call.{bench_call, sink_call};
+ghost use Rattle.command_files.specs.Call.{bench_call, sink_call, refused};
 ghost use Rattle.command_files.specs.Shown.{answer_of};
+ghost use Rattle.report_text.specs.Refusal.{store_fault};
 ghost use Rattle.job_commands.specs.Answers.{IsSound};
 ghost use Rattle.job_commands.specs.Steps.{has_start, BenchCounted, StartsParts};
 
@@ -30,7 +31,7 @@ pub(crate) fn start<'a, B: Bench>(
     ensures kind { IsOf has_start (answer_of result) }
     ensures sized { IsOk result → parts.now.size ≡ (B.state bench.old).cell_count }
     ensures sound { IsSound (answer_of result) }
-    ensures first { SyncsFirst B.acts bench.old }
+    ensures first { SyncsFirst B.tells B.state B.acts bench.old bench.new (answer_of result ≡ refused store_fault) }
     ensures counts { (told : Bool) (o : SinkState) → BenchCounted (bench_call B.tells (B.state bench.old) (B.state bench.new))
         (sink_call told o o) (answer_of result) }
     ensures count { (B.state bench.new).cell_count ≡ (B.state bench.old).cell_count }

@@ -1,5 +1,5 @@
 //! The call that begins a job.
-ghost use Rattle.std.specs.Prelude.{◌≡◌, ◌++◌, ◌∷◌, ℕ, List, length, false, IsTrue, IsOk, OnOk, IfOk, IfErr, None};
+ghost use Rattle.std.specs.Prelude.{◌≡◌, ◌++◌, ◌∷◌, ℕ, List, length, true, false, IsTrue, IsOk, OnOk, IfOk, IfErr, None};
 ghost use Rattle.bench_model.specs.History.{LeftOnly, Leaves, AddsNothing};
 ghost use Rattle.bench_model.specs.State.{file_half, cells_half, SameOutside};
 ghost use Rattle.bench_model.specs.Calls.{OnlyReads};
@@ -57,7 +57,7 @@ fn prepare<B: Bench>(alloc: Global, bench: &mut B, parts: &JobParts) -> Result<V
     ensures reads { OnlyReads B.tells (B.state bench.old) (B.state bench.new) }
     ensures counted { IsCounted (B.state bench.old).store_faults (B.state bench.new).store_faults (is_store_fault (fault_in begin_fault result)) }
     ensures no_device { is_device_fault (fault_in begin_fault result) ≡ false }
-    ensures first { SyncsFirst B.acts bench.old }
+    ensures first { SyncsFirst B.tells B.state B.acts bench.old bench.new (is_store_fault (fault_in begin_fault result) ≡ true) }
 {
     let class = look(alloc, bench)?;
     admit(class, parts.size, bench.cells_len())?;
@@ -128,8 +128,9 @@ pub fn begin<B: Bench>(alloc: Global, bench: &mut B, parts: &JobParts) -> Result
     ensures looked { IsTrue B.tells → (IsFree (B.state bench.old).file × (parts.now.size ≡ (B.state bench.old).cell_count) → ⊥)
         → OnlyReads B.tells (B.state bench.old) (B.state bench.new) }
 
-    // The file is synced before any other call on the bench.
-    ensures first { SyncsFirst B.acts bench.old }
+    // The file is synced before any other call on the bench, and what is refused is what a stop after that sync leaves. Where the sync fails,
+    // nothing else is called.
+    ensures first { SyncsFirst B.tells B.state B.acts bench.old bench.new (is_store_fault (fault_in begin_fault result) ≡ true) }
 
     // With `ok`, `free` and `sized`, each refusal comes exactly where it says.
     ensures refused { IsTrue B.tells → IfErr result (IsBeginFault (B.state bench.old).file parts.now.size (B.state bench.old).cell_count) }

@@ -267,7 +267,7 @@ pub(crate) fn look<B: Bench>(alloc: Global, bench: &mut B) -> Result<Class, Look
     ensures only { IsTrue B.tells → OnOk result (LeftOnly (B.state bench.old).file (file_half (B.state bench.new))) }
     ensures reads { OnlyReads B.tells (B.state bench.old) (B.state bench.new) }
     ensures counted { IsCounted (B.state bench.old).store_faults (B.state bench.new).store_faults (is_store_fault (fault_in look_fault result)) }
-    ensures first { SyncsFirst B.acts bench.old }
+    ensures first { SyncsFirst B.tells B.state B.acts bench.old bench.new (is_store_fault (fault_in look_fault result) ≡ true) }
 {
     bench.file_sync()?;
     let whole = bench.file_len()?;

@@ -1,5 +1,5 @@
 //! The call that opens a job.
-ghost use Rattle.std.specs.Prelude.{◌≡◌, ℕ, List, false, IsTrue, OnOk, IfOk, IfErr};
+ghost use Rattle.std.specs.Prelude.{◌≡◌, ℕ, List, true, false, IsTrue, OnOk, IfOk, IfErr};
 ghost use Rattle.bench_model.specs.History.{LeftOnly};
 ghost use Rattle.bench_model.specs.State.{file_half};
 ghost use Rattle.bench_model.specs.Calls.{OnlyReads};
@@ -55,8 +55,9 @@ pub fn open<B: Bench>(alloc: Global, bench: &mut B) -> Result<Job, OpenFault>
     ensures sized { IfOk result (λ job. size_of job.board.regions ≡ (B.state bench.old).cell_count) }
     ensures only { IsTrue B.tells → OnOk result (LeftOnly (B.state bench.old).file (file_half (B.state bench.new))) }
 
-    // The file is synced before any other call on the bench.
-    ensures first { SyncsFirst B.acts bench.old }
+    // The file is synced before any other call on the bench, and what is read, or refused, is what a stop after that sync leaves. Where the sync
+    // fails, nothing else is called.
+    ensures first { SyncsFirst B.tells B.state B.acts bench.old bench.new (is_store_fault (fault_in open_fault result) ≡ true) }
 
     // With `ok` and `sized`, each refusal comes exactly where it says.
     ensures refused { IsTrue B.tells → IfErr result (IsOpenFault (B.state bench.old).file (B.state bench.old).cell_count) }

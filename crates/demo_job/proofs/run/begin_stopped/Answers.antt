@@ -2,6 +2,7 @@
 use Rattle.std.proofs.Common.{◌∙◌, sym, subst, List, [], ◌∷◌}
 use Rattle.bench_model.specs.Stopped.{stopped}
 use Rattle.byte_map.specs.Image.{Run}
+use Rattle.job_file.proofs.FirstLemmas.{syncs_as}
 use Rattle.job_text.specs.Fits.{Suits}
 use Rattle.command_files.specs.Answered.{IsOf}
 use Rattle.command_files.specs.Call.{bench_call, Answer}
@@ -29,7 +30,7 @@ returns g c =
       inner = c.new-stopping.ensures.inner;
       calls = c.new-stopping.ensures.calls ∙ scene.calls;
       same = c.new-stopping.ensures.same;
-      syncs = c.begin_job.ensures.first;
+      syncs = syncs_as c.begin_job.ensures.first (λ is. c.refusal_of-refusal.ensures ∙ is);
       parts = c.parts.result;
       its_parts = record {
         board = c.parts.ensures.board;

@@ -1,10 +1,23 @@
--- `open_slot`: its clauses `slot` and `looked`, and what `survey_slot` asks for.
-use Rattle.std.proofs.Common.{refl, sym, subst, ℕ, List}
+-- `open_slot`: its clauses `slot`, `looked` and `first`, and what `survey_slot` asks for.
+use Rattle.std.proofs.Common.{refl, sym, ap, subst, arith, ℕ, List, Result, Ok}
+use Rattle.std.proofs.lemmas.Grind.{common_steps}
+use Rattle.std.proofs.lemmas.Bool.{false≢true}
+use Rattle.job_file.proofs.FirstLemmas.{is_open_fault, syncs_as, syncs_then}
 use Rattle.job_text.specs.Stands.{StandsFor}
 use Rattle.flash_session.specs.declared.session.Session.{Session}
 use Rattle.flash_session.specs.Sessions.{job_in}
 use Rattle.gang_run.proofs.OpenLemmas.{opens_then, looked_then, unopened_device}
+use Rattle.flash_session.specs.declared.fault.SessionFault.TheVariants as session
+use Rattle.flash_session.specs.declared.target_end.TargetEnd.TheVariants as ended
+use Rattle.faults.specs.declared.out_of_memory.OutOfMemory.{OutOfMemory}
+use Rattle.job_file.specs.declared.fault.OpenFault.{OpenFault}
+use Rattle.gang_run.specs.declared.slot.Slot.{Slot}
+use Rattle.gang_run.specs.declared.slot.Slot.TheVariants as slot
 use Rattle.gang_run.proofs.open_slots.open_slot.Goals as goal
+
+-- a place was made
+abbrev opened_as : Slot → Result Slot OutOfMemory
+opened_as p = Ok p
 
 pub returns-in-Ok-clause-slot : goal.returns-in-Ok-clause-slot
 returns-in-Ok-clause-slot g c =
@@ -28,3 +41,17 @@ returns-in-Err-DeviceFault-clause-slot g c =
 pub survey_slot-requires-clause-stands : goal.survey_slot-requires-clause-stands
 survey_slot-requires-clause-stands g c = λ told.
     subst (λ (f : List ℕ). StandsFor (job_in c.in-Ok.session) f) (sym (c.open.ensures.file told)) (c.in-Ok.ensures.ok told)
+
+pub returns-in-Ok-clause-first : goal.returns-in-Ok-clause-first
+returns-in-Ok-clause-first g c = syncs_then c.in-Ok.ensures.first (λ is. absurd (false≢true is)) (λ told. c.survey_slot.ensures.pairs.files)
+
+pub returns-in-Err-DeviceFault-clause-first : goal.returns-in-Err-DeviceFault-clause-first
+returns-in-Err-DeviceFault-clause-first g c = syncs_as (rw c.in-Err-DeviceFault.field-0-is at c.in-Err-DeviceFault.ensures.first) (λ is. absurd (false≢true is))
+
+pub returns-in-Err-Open-clause-first : goal.returns-in-Err-Open-clause-first
+returns-in-Err-Open-clause-first g c = rw c.in-Err-Open.field-0-is
+    (syncs_as (rw c.in-Err-Open.field-0-is at c.in-Err-Open.ensures.first)
+    (λ is. ap (λ (f : OpenFault). opened_as (slot.Refused (ended.Open (session.Open f)))) (is_open_fault c.in-Err-Open.fault is)))
+
+pub returns-in-Err-OutOfMemory-clause-first : goal.returns-in-Err-OutOfMemory-clause-first
+returns-in-Err-OutOfMemory-clause-first g c = syncs_as c.open.ensures.first (λ is. grind (arith, common_steps))

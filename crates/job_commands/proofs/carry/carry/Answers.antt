@@ -1,5 +1,7 @@
--- `carry`: its clauses `told`, `early`, `kind`, `sound`, `prints`, `goes_on` and `counts`, and what `carry_on` asks for.
-use Rattle.std.proofs.Common.{◌∙◌, refl, sym, subst, ℕ, List}
+-- `carry`: its clauses `told`, `early`, `kind`, `sound`, `prints`, `first`, `goes_on` and `counts`, and what `carry_on` asks for.
+use Rattle.std.proofs.Common.{◌∙◌, refl, sym, ap, subst, ℕ, List}
+use Rattle.std.proofs.lemmas.Bool.{false≢true}
+use Rattle.job_file.proofs.FirstLemmas.{syncs_as, syncs_then}
 use Rattle.bench_model.specs.History.{LeftOnly}
 use Rattle.bench_model.specs.State.{file_half}
 use Rattle.bench_model.proofs.Moments.{goes_then}
@@ -15,7 +17,7 @@ use Rattle.job_commands.specs.Printed.{PrintsWork}
 use Rattle.job_commands.specs.Steps.{BenchCounted}
 use Rattle.job_commands.proofs.TurnLemmas.{off_at_end}
 use Rattle.job_commands.proofs.CarryLemmas.{entered}
-use Rattle.job_commands.proofs.KindLemmas.{session_kind, session_sound}
+use Rattle.job_commands.proofs.KindLemmas.{session_kind, session_sound, session_file_fault}
 use Rattle.job_commands.proofs.PrintLemmas.{session_prints}
 use Rattle.job_commands.proofs.OpenLemmas.{refuses_open, open_stands}
 use Rattle.job_commands.proofs.CountLemmas.{counted_behind, session_counted}
@@ -100,3 +102,10 @@ returns-in-Err-clause-counts g c =
     let o = g.O.Sink.state c.args.out.now in
     subst (λ (r : Refusal). BenchCounted (bench_call g.B.Bench.tells a b) (sink_call g.O.Sink.tells o o) (refused r)) (sym c.session_refusal.ensures)
     (session_counted g.B.Bench.tells g.O.Sink.tells a b o c.in-Err.fault c.in-Err.ensures.store c.in-Err.ensures.device)
+
+pub returns-in-Ok-clause-first : goal.returns-in-Ok-clause-first
+returns-in-Ok-clause-first g c = syncs_then c.in-Ok.ensures.first (λ is. absurd (false≢true is)) c.carry_on-end.ensures.goes_on
+
+pub returns-in-Err-clause-first : goal.returns-in-Err-clause-first
+returns-in-Err-clause-first g c =
+    syncs_as c.in-Err.ensures.first (λ is. ap (λ (r : Refusal). refused r) (c.session_refusal.ensures ∙ session_file_fault c.in-Err.fault is))

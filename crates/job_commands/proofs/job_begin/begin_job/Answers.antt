@@ -1,7 +1,8 @@
--- `begin_job`: its clauses `told`, `early`, `kind`, `prints`, `sized`, `sound` and `counts`.
+-- `begin_job`: its clauses `told`, `early`, `kind`, `prints`, `sized`, `sound`, `first` and `counts`.
 use Rattle.std.proofs.Common.{refl, sym, subst, ℕ}
 use Rattle.std.proofs.lemmas.Result.{err_from_is_err_and}
 use Rattle.bench_model.specs.State.{Left}
+use Rattle.job_file.proofs.FirstLemmas.{syncs_then}
 use Rattle.job_text.specs.Parts.{job_of}
 use Rattle.flash_session.specs.declared.goal.Goal.TheVariants.{New}
 use Rattle.report_text.specs.Shown.{shown}
@@ -34,7 +35,7 @@ returns-in_err-start g c =
       prints = start_prints a.cell_count out r c.in_err-start.ensures.kind (record { taken = refl; faults = refl });
       sized = λ its. absurd (start_before r c.in_err-start.ensures.kind its);
       sound = c.in_err-start.ensures.sound;
-      first = c.start.ensures.first;
+      first = c.in_err-start.ensures.first;
       counts = c.in_err-start.ensures.counts g.O.Sink.tells o;
     })
 
@@ -95,3 +96,6 @@ returns-clause-counts g c =
     subst (λ (x : Answer). BenchCounted (bench_call g.B.Bench.tells a d) out x) (sym c.after_begin.ensures)
     (begun_counted g.B.Bench.tells a b d out (answer_of c.carry.result) (uncounted a.store_faults b.store_faults _ counts.store_count)
     (uncounted a.device_faults b.device_faults _ counts.device_count) c.carry.ensures.counts)
+
+pub returns-clause-first : goal.returns-clause-first
+returns-clause-first g c = syncs_then c.in_ok-start.ensures.first (λ is. absurd (cc)) c.carry.ensures.goes_on

@@ -1,5 +1,7 @@
--- `start`: its clauses `told`, `early`, `kind`, `sound` and `counts`.
-use Rattle.std.proofs.Common.{◌≡◌, ◌∙◌, refl, sym, subst, length, []}
+-- `start`: its clauses `told`, `early`, `kind`, `sound`, `first` and `counts`.
+use Rattle.std.proofs.Common.{◌≡◌, ◌∙◌, refl, sym, ap, subst, length, []}
+use Rattle.std.proofs.lemmas.Bool.{false≢true}
+use Rattle.job_file.proofs.FirstLemmas.{syncs_as}
 use Rattle.report_text.specs.Refusal.{Refusal}
 use Rattle.command_files.specs.Answered.{StandsEarly, IsOf, on_job_file}
 use Rattle.command_files.specs.Call.{bench_call, sink_call, refused}
@@ -7,7 +9,7 @@ use Rattle.job_commands.specs.Answers.{IsSound}
 use Rattle.job_commands.specs.Steps.{has_start, BenchCounted, StartsParts}
 use Rattle.job_commands.proofs.TurnLemmas.{off_at_end}
 use Rattle.job_commands.proofs.CarryLemmas.{entered}
-use Rattle.job_commands.proofs.KindLemmas.{begin_kind, begin_sound}
+use Rattle.job_commands.proofs.KindLemmas.{begin_kind, begin_sound, begin_file_fault}
 use Rattle.job_commands.proofs.CountLemmas.{none_counted, begin_counted}
 use Rattle.job_commands.proofs.StartLemmas.{begin_stands, refuses_begin, starts_done}
 use Rattle.job_commands.proofs.start.start.Goals as goal
@@ -64,3 +66,9 @@ returns-in-Ok-clause-counts g c = λ sinks o.
 
 pub returns-in-Ok-clause-sized : goal.returns-in-Ok-clause-sized
 returns-in-Ok-clause-sized g c = c.in-Ok.ensures.sized
+
+pub returns-in-Ok-clause-first : goal.returns-in-Ok-clause-first
+returns-in-Ok-clause-first g c = syncs_as c.in-Ok.ensures.first (λ is. absurd (false≢true is))
+
+pub returns-in-Err-clause-first : goal.returns-in-Err-clause-first
+returns-in-Err-clause-first g c = syncs_as c.in-Err.ensures.first (λ is. ap (λ (r : Refusal). refused r) (c.begin_refusal.ensures ∙ begin_file_fault c.in-Err.fault is))

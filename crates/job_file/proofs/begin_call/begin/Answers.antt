@@ -1,4 +1,4 @@
--- `begin`: its clauses `ok`, `stops`, `after`, `unopened`, `store` and `device`.
+-- `begin`: its clauses `ok`, `stops`, `after`, `unopened`, `first`, `store` and `device`.
 use Rattle.std.proofs.Common.{⊎_elim, inl, ◌≡◌, ◌++◌, ◌∷◌, ℕ, List, length, sym, refl, subst, arith, None, OnOk}
 use Rattle.std.proofs.lemmas.Result.{err_from_is_err_and}
 use Rattle.std.proofs.lemmas.Grind.{common_steps}
@@ -14,6 +14,8 @@ use Rattle.job_file.specs.Stops.{IsOfBegin, IsFreeOrWhole}
 use Rattle.job_file.proofs.PieceLemmas.{begins}
 use Rattle.job_file.proofs.UnopenedLemmas.{unopened_behind, unopened_other}
 use Rattle.job_file.proofs.CountLemmas.{counted_behind}
+use Rattle.std.proofs.lemmas.Bool.{false≢true}
+use Rattle.job_file.proofs.FirstLemmas.{syncs_then}
 use Rattle.job_file.proofs.begin_call.begin.Goals as goal
 
 pub returns-clause-ok : goal.returns-clause-ok
@@ -111,3 +113,11 @@ drop_and_put-requires-clause-free g c = λ told. subst (λ (f : List ℕ). IsFre
 
 pub returns-clause-reads : goal.returns-clause-reads
 returns-clause-reads g c = grind (arith, common_steps)
+
+pub returns-in_err-head-clause-first : goal.returns-in_err-head-clause-first
+returns-in_err-head-clause-first g c =
+    let p = err_from_is_err_and c.from_residual.result c.from_residual.ensures.1 in
+    rw (p.1, p.2) c.in_err-head.ensures.first
+
+pub returns-clause-first : goal.returns-clause-first
+returns-clause-first g c = syncs_then c.in_ok-head.ensures.first (λ is. absurd (false≢true is)) (λ told. (c.drop_and_put.ensures.stops told).goes_on)

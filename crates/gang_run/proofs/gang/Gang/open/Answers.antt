@@ -1,8 +1,9 @@
 -- `Gang::open`: its contract, that its loop keeps what it has to, that an index fits, and what `new` asks for.
 use Rattle.std.proofs.lemmas.Grind.{common_steps}
 use Rattle.std.proofs.Common.{◌≤◌, ◌^◌, ◌∙◌, ℕ, List, get_or, sym, ap, subst, arith}
+use Rattle.std.proofs.lemmas.Result.{err_from_is_err_and}
 use Rattle.ram_arena.specs.Windows.{total, blank}
-use Rattle.gang_run.proofs.OpeningLemmas.{opening_first, opening_on, looked_last, sizes_fit, all_opened, all_synced, all_ready, is_gang}
+use Rattle.gang_run.proofs.OpeningLemmas.{opening_first, opening_on, looked_last, sizes_fit, all_opened, all_synced, synced_so_far, synced_last, all_ready, is_gang}
 use Rattle.gang_run.proofs.gang.Gang.open.Goals as goal
 
 pub loop-index-init : goal.loop-index-init
@@ -14,7 +15,7 @@ loop-index-preserved g c =
     (get_or c.loop-index.benches c.loop-index.index c.index-benches-index.result) c.add_slot.new.bench c.add_slot.new.slots.items c.add_slot.new.sizes.items
     c.loop-index.invariant (omega (arith, c.loop-index.invariant.count, c.loop-index-test.true))
     (ap (λ x. get_or c.loop-index.benches c.loop-index.index x) c.index-benches-index.is) c.in-Ok.ensures.added c.add_slot.ensures.looked
-    c.add_slot.ensures.first
+    c.in-Ok.ensures.first
 
 pub returns-in-Err-clause-looked : goal.returns-in-Err-clause-looked
 returns-in-Err-clause-looked g c = λ i d less.
@@ -35,8 +36,21 @@ returns-clause-opened g c = all_opened g.B.Bench c.args.benches.now c.loop-index
 
 pub returns-clause-first : goal.returns-clause-first
 returns-clause-first g c =
-    all_synced g.B.Bench c.args.benches.now c.loop-index.benches c.loop-index.slots.items c.loop-index.sizes.items c.loop-index.index
-    c.loop-index.invariant (omega (arith, c.loop-index.invariant.count, c.loop-index-test.false))
+    all_synced g.B.Bench c.args.benches.now c.loop-index.benches (record { arena = c.in_ok-arena.arena; slots = c.loop-index.slots })
+    c.loop-index.sizes.items c.loop-index.index c.loop-index.invariant (omega (arith, c.loop-index.invariant.count, c.loop-index-test.false))
+
+pub returns-in_err-arena-clause-first : goal.returns-in_err-arena-clause-first
+returns-in_err-arena-clause-first g c =
+    let p = err_from_is_err_and c.from_residual.result c.from_residual.ensures.1 in
+    rw p.1 (λ i d less. synced_so_far g.B.Bench c.args.benches.now c.loop-index.benches c.loop-index.slots.items c.loop-index.sizes.items c.loop-index.index
+    c.loop-index.invariant i d)
+
+pub returns-in-Err-clause-first : goal.returns-in-Err-clause-first
+returns-in-Err-clause-first g c = λ i d less.
+    synced_last g.B.Bench c.args.benches.now c.loop-index.benches c.loop-index.slots.items c.loop-index.sizes.items c.loop-index.index
+    (get_or c.loop-index.benches c.loop-index.index c.index-benches-index.result) c.add_slot.new.bench
+    c.loop-index.invariant (omega (arith, c.loop-index.invariant.count, c.loop-index-test.true))
+    (ap (λ x. get_or c.loop-index.benches c.loop-index.index x) c.index-benches-index.is) c.add_slot.ensures.first i d
 
 pub returns-clause-gang : goal.returns-clause-gang
 returns-clause-gang g c = is_gang g.B.Bench c.args.benches.now c.loop-index.benches (record { arena = c.in_ok-arena.arena; slots = c.loop-index.slots })
