@@ -217,6 +217,11 @@ def cells_in(board):
     return sum(it[1] for it in board.regions)
 
 
+def visible(name):
+    """The characters of a file's name as they are shown: a control character is a dot."""
+    return ["." if ord(it) < 0x20 or ord(it) == 0x7F else it for it in name]
+
+
 # ---- what a call meets
 
 class Sink:
@@ -262,7 +267,7 @@ class Call:
         found = []
         for number, name in enumerate(names, 1):
             if name not in self.files or number == self.fails.take:
-                raise Answer(3, "cannot read ", name)
+                raise Answer(3, "cannot read ", *visible(name))
             found.append(self.files[name])
         return found
 
