@@ -218,8 +218,9 @@ def cells_in(board):
 
 
 def visible(name):
-    """The characters of a file's name as they are shown: a control character is a dot."""
-    return ["." if ord(it) < 0x20 or ord(it) == 0x7F else it for it in name]
+    """A file's name as it is shown: whole, or where it has a control character, one character after the other with a dot for each of those."""
+    shown = ["." if ord(it) < 0x20 or ord(it) == 0x7F else it for it in name]
+    return [name] if shown == list(name) else shown
 
 
 # ---- what a call meets

@@ -1,5 +1,6 @@
 -- The line of each refusal on standard error.
-use Rattle.std.specs.Prelude.{ℕ, ◌||◌, ◌==◌, nat_lt, List, [], ◌∷◌, ◌++◌, map, codes, decimal, if◌then◌else◌}
+use Rattle.std.specs.Prelude.{ℕ, List, [], ◌∷◌, ◌++◌, map, codes, decimal, if◌then◌else◌}
+use Rattle.std.specs.Char.{is_ascii_control}
 use Rattle.std.specs.List.{concat, flat_map}
 use Rattle.octets.specs.Digit.{hex_text}
 use Rattle.report_text.specs.Calls.{failed_text}
@@ -20,7 +21,7 @@ hash_text hash = flat_map (hex_text 2) hash
 
 -- A byte of a file's name as it is shown: an ASCII control character is a dot, so a line stays one line.
 abbrev pub visible : ℕ → ℕ
-visible byte = if nat_lt byte 0x20 || byte == 0x7F then 0x2E else byte
+visible byte = if is_ascii_control byte then 0x2E else byte
 
 -- what it says
 unfoldable pub reason_of : Refusal → List ℕ

@@ -1,6 +1,7 @@
 //! The refusals of the top call, and the line of each on standard error.
 ghost use Rattle.std.specs.Prelude.{◌≡◌, [], ◌∷◌};
-ghost use Rattle.std.specs.List.{flat_map};
+ghost use Rattle.std.specs.Char.{is_ascii_control};
+ghost use Rattle.std.specs.List.{flat_map, list_any};
 ghost use Rattle.outside_io.specs.Puts.{Puts};
 ghost use Rattle.report_text.specs.Refusal.{status_of, input_fault, image_too_long, other_device, no_room, not_a_job, damaged, cells_differ};
 ghost use Rattle.report_text.specs.Lines.{reason_of, line_of};
@@ -286,8 +287,19 @@ pub(crate) fn put_reason<E: Sink>(err: &mut E, refusal: &Refusal<'_>) -> Result<
 fn put_unread<E: Sink>(err: &mut E, name: &[u8]) -> Result<(), OutputFault>
     ensures { Puts E.tells (E.state err.old) (E.state err.new) (reason_of (input_fault name.now)) result }
 {
-    put_pieces(err, &[b"cannot read "])?;
-    put_visible(err, name)
+    if has_control(name) {
+        put_pieces(err, &[b"cannot read "])?;
+        put_visible(err, name)
+    } else {
+        put_pieces(err, &[b"cannot read ", name])
+    }
+}
+
+/// Whether a name has a control character.
+fn has_control(name: &[u8]) -> bool
+    ensures { result ≡ list_any is_ascii_control name.now }
+{
+    name.iter().any(|byte| byte.is_ascii_control())
 }
 
 /// Puts the bytes of a name as they are shown.
@@ -304,10 +316,7 @@ fn put_visible<E: Sink>(err: &mut E, name: &[u8]) -> Result<(), OutputFault>
 fn visible(byte: u8) -> u8
     ensures { result ≡ visible byte }
 {
-    match byte {
-        0..=0x1F | 0x7F => b'.',
-        _ => byte,
-    }
+    if byte.is_ascii_control() { b'.' } else { byte }
 }
 
 /// Puts how many bytes an image has, and for how many cells.
