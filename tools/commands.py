@@ -217,6 +217,12 @@ def cells_in(board):
     return sum(it[1] for it in board.regions)
 
 
+def visible(name):
+    """A file's name as it is shown: whole, or where it has a control character, one character after the other with a dot for each of those."""
+    shown = ["." if ord(it) < 0x20 or ord(it) == 0x7F else it for it in name]
+    return [name] if shown == list(name) else shown
+
+
 # ---- what a call meets
 
 class Sink:
@@ -262,7 +268,7 @@ class Call:
         found = []
         for number, name in enumerate(names, 1):
             if name not in self.files or number == self.fails.take:
-                raise Answer(3, "cannot read ", name)
+                raise Answer(3, "cannot read ", *visible(name))
             found.append(self.files[name])
         return found
 

@@ -1,5 +1,6 @@
 -- The line of each refusal on standard error.
-use Rattle.std.specs.Prelude.{ℕ, List, [], ◌∷◌, ◌++◌, codes, decimal}
+use Rattle.std.specs.Prelude.{ℕ, List, [], ◌∷◌, ◌++◌, map, codes, decimal, if◌then◌else◌}
+use Rattle.std.specs.Char.{is_ascii_control}
 use Rattle.std.specs.List.{concat, flat_map}
 use Rattle.octets.specs.Digit.{hex_text}
 use Rattle.report_text.specs.Calls.{failed_text}
@@ -18,11 +19,15 @@ difference_text what at wanted found = concat (what ∷ codes " at " ∷ hex_tex
 abbrev pub hash_text : List ℕ → List ℕ
 hash_text hash = flat_map (hex_text 2) hash
 
+-- A byte of a file's name as it is shown: an ASCII control character is a dot, so a line stays one line.
+abbrev pub visible : ℕ → ℕ
+visible byte = if is_ascii_control byte then 0x2E else byte
+
 -- what it says
 unfoldable pub reason_of : Refusal → List ℕ
 reason_of out_of_memory = codes "out of memory"
 reason_of usage = codes "usage: flm_tool JOB CELLS COMMAND [WORDS]"
-reason_of (input_fault name) = concat (codes "cannot read " ∷ name ∷ [])
+reason_of (input_fault name) = codes "cannot read " ++ map visible name
 reason_of (image_too_long bytes cells) = concat (codes "image: " ∷ decimal bytes ∷ codes " bytes for " ∷ decimal cells ∷ codes " cells" ∷ [])
 reason_of (image_refused name fault) = file_text name fault ++ any_text fault
 reason_of (image_misplaced fault) = codes "image: " ++ image_text fault

@@ -1,9 +1,11 @@
 //! The refusals of the top call, and the line of each on standard error.
-ghost use Rattle.std.specs.Prelude.{◌≡◌};
+ghost use Rattle.std.specs.Prelude.{◌≡◌, [], ◌∷◌};
+ghost use Rattle.std.specs.Char.{is_ascii_control};
+ghost use Rattle.std.specs.List.{flat_map, list_any};
 ghost use Rattle.outside_io.specs.Puts.{Puts};
-ghost use Rattle.report_text.specs.Refusal.{status_of, image_too_long, other_device, no_room, not_a_job, damaged, cells_differ};
+ghost use Rattle.report_text.specs.Refusal.{status_of, input_fault, image_too_long, other_device, no_room, not_a_job, damaged, cells_differ};
 ghost use Rattle.report_text.specs.Lines.{reason_of, line_of};
-ghost use Rattle.report_text.specs.Lines.{difference_text, hash_text};
+ghost use Rattle.report_text.specs.Lines.{difference_text, hash_text, visible};
 ghost use Rattle.report_text.specs.Shown.{shown};
 
 use crate::board_reason::put_board_fault;
@@ -242,7 +244,7 @@ pub(crate) fn put_reason<E: Sink>(err: &mut E, refusal: &Refusal<'_>) -> Result<
     match refusal {
         Refusal::OutOfMemory => put_pieces(err, &[b"out of memory"]),
         Refusal::Usage => put_pieces(err, &[b"usage: flm_tool JOB CELLS COMMAND [WORDS]"]),
-        Refusal::InputFault { name } => put_pieces(err, &[b"cannot read ", name.bytes()]),
+        Refusal::InputFault { name } => put_unread(err, name.bytes()),
         Refusal::ImageTooLong { bytes, cells } => put_lengths(err, *bytes, *cells),
         Refusal::ImageRefused { name, fault } => put_image_file(err, name.bytes(), *fault),
         Refusal::ImageMisplaced { fault } => {
@@ -279,6 +281,42 @@ pub(crate) fn put_reason<E: Sink>(err: &mut E, refusal: &Refusal<'_>) -> Result<
             err, b"differs", *at, *wanted, *found,
         ),
     }
+}
+
+/// Puts that the file of this name could not be read.
+fn put_unread<E: Sink>(err: &mut E, name: &[u8]) -> Result<(), OutputFault>
+    ensures { Puts E.tells (E.state err.old) (E.state err.new) (reason_of (input_fault name.now)) result }
+{
+    if has_control(name) {
+        put_pieces(err, &[b"cannot read "])?;
+        put_visible(err, name)
+    } else {
+        put_pieces(err, &[b"cannot read ", name])
+    }
+}
+
+/// Whether a name has a control character.
+fn has_control(name: &[u8]) -> bool
+    ensures { result ≡ list_any is_ascii_control name.now }
+{
+    name.iter().any(|byte| byte.is_ascii_control())
+}
+
+/// Puts the bytes of a name as they are shown.
+fn put_visible<E: Sink>(err: &mut E, name: &[u8]) -> Result<(), OutputFault>
+    ensures { Puts E.tells (E.state err.old) (E.state err.new) (flat_map (λ byte. visible byte ∷ []) name.now) result }
+{
+    for byte in name {
+        put_pieces(err, &[&[visible(*byte)]])?;
+    }
+    Ok(())
+}
+
+/// A byte of a name as it is shown.
+fn visible(byte: u8) -> u8
+    ensures { result ≡ visible byte }
+{
+    if byte.is_ascii_control() { b'.' } else { byte }
 }
 
 /// Puts how many bytes an image has, and for how many cells.

@@ -33,7 +33,7 @@ returns-in-Usage g c = puts_as (says (sym c.in-Usage.is)) c.put_pieces-in-Usage.
 
 pub returns-in-InputFault : goal.returns-in-InputFault
 unfolding reason_of
-returns-in-InputFault g c = puts_as (says (sym c.in-InputFault.is)) (rw c.bytes.ensures at c.put_pieces-in-InputFault.ensures)
+returns-in-InputFault g c = puts_as (says (sym c.in-InputFault.is)) (rw c.bytes.ensures at c.put_unread.ensures)
 
 pub returns-in-DeviceFault : goal.returns-in-DeviceFault
 unfolding reason_of

@@ -1,0 +1,20 @@
+-- `put_visible`: its contract, `Puts`, and that its loop keeps what it has to.
+use Rattle.std.proofs.Common.{[], ◌∷◌, arith}
+use Rattle.std.proofs.lemmas.Grind.{common_steps}
+use Rattle.outside_io.proofs.PutTexts.{puts_nothing, puts_more, puts_breaks, puts_failed}
+use Rattle.report_text.specs.Lines.{visible}
+use Rattle.report_text.proofs.refusal.put_visible.Goals as goal
+
+pub loop-byte-init : goal.loop-byte-init
+loop-byte-init g c = puts_nothing _ _ _
+
+pub loop-byte-preserved : goal.loop-byte-preserved
+loop-byte-preserved g c = puts_more (λ byte. visible byte ∷ []) _ _ _ c.loop-byte-test.true c.loop-byte.invariant
+    (rw c.visible.ensures at c.in_ok-put_pieces.ensures)
+
+pub returns-in_err-put_pieces : goal.returns-in_err-put_pieces
+returns-in_err-put_pieces g c = puts_failed _ c.from_residual.ensures.0
+    (puts_breaks (λ byte. visible byte ∷ []) _ _ _ c.loop-byte-test.true c.loop-byte.invariant (rw c.visible.ensures at c.in_err-put_pieces.ensures))
+
+pub returns : goal.returns
+returns g c = grind (arith, common_steps)
