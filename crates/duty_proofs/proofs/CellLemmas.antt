@@ -1,7 +1,6 @@
 -- The marks of cells as marks of bytes.
-use Rattle.std.proofs.Common.{◌≡◌, ◌<◌, ◌≤◌, ◌+◌, ◌-◌, ℕ, zero, suc, List, length, map, get_or, refl, ap, arith}
+use Rattle.std.proofs.Common.{◌≡◌, ◌<◌, ◌≤◌, ◌-◌, ℕ, zero, suc, List, length, map, get_or, refl, ap, arith}
 use Rattle.std.proofs.lemmas.List.{get_or_past, get_or-map, length-map}
-use Rattle.shadow_step.specs.declared.marks.Mark.{Mark}
 use Rattle.shadow_step.specs.declared.marks.Mark.TheVariants.{Any}
 use Rattle.duty_proofs.specs.declared.cells.CellMark.{CellMark}
 use Rattle.flash_layout.specs.declared.work.Operation.{Operation}

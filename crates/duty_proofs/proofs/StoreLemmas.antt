@@ -1,5 +1,5 @@
 -- Stores to the registers and to the cells, of a controller at hand and of one whose address register is another.
-use Rattle.std.proofs.Common.{◌≡◌, ◌<◌, ◌≤◌, ◌+◌, ◌-◌, ◌&&◌, ◌||◌, ℕ, suc, Bool, true, false, not, nat_eq, nat_le, if◌then◌else◌, List, ◌∷◌, length, take, drop}
+use Rattle.std.proofs.Common.{◌≡◌, ◌<◌, ◌≤◌, ◌+◌, ◌&&◌, ◌||◌, ℕ, suc, Bool, true, false, not, nat_eq, nat_le, if◌then◌else◌, List, ◌∷◌, length, take, drop}
 use Rattle.std.proofs.Common.{slice_index, get_or, Option, Some, None, is_some, Result, Ok, refl, sym, ap, ap₂, subst, ◌∙◌, ⊎_elim, arith}
 use Rattle.std.proofs.Common.{drop-cons}
 use Rattle.std.proofs.Common.{eq-eqb, eqb-true, drop-drop}

@@ -1,11 +1,10 @@
 -- The marks of the cells of a call before it, and what they say of the cells at hand.
-use Rattle.std.proofs.Common.{◌≡◌, ◌<◌, ◌≤◌, ◌+◌, ℕ, suc, List, [], ◌∷◌, ◌++◌, map, length, replicate, slice_index, get_or, refl, sym, ap, subst, ◌∙◌, ⊎_elim}
+use Rattle.std.proofs.Common.{◌≡◌, ◌<◌, ◌≤◌, ◌+◌, ℕ, suc, List, [], ◌∷◌, ◌++◌, map, length, replicate, slice_index, get_or, refl, sym, ap, ◌∙◌, ⊎_elim}
 use Rattle.std.proofs.Common.{arith}
 use Rattle.std.proofs.lemmas.Bool.{cases_lt}
 use Rattle.std.proofs.lemmas.List.{get_or-map, get_or-replicate, get_or_past, length-map, length-replicate, map-append}
 use Rattle.shadow_step.specs.declared.marks.Mark.{Mark}
 use Rattle.shadow_step.specs.declared.marks.Mark.TheVariants.{Page, Any}
-use Rattle.duty_proofs.specs.declared.cells.CellMark.{CellMark}
 use Rattle.duty_proofs.specs.declared.cells.CellMark.TheVariants.{Blank, Holds}
 use Rattle.duty_proofs.specs.TargetMarks.{CellSays, CellsAgree}
 use Rattle.duty_proofs.specs.Starts.{names}

@@ -11,8 +11,7 @@ use Rattle.target_core.specs.declared.unit.AnyRegisters.{AnyRegisters}
 use Rattle.target_core.specs.declared.unit.AnyRegisters.TheVariants.{Fc1, Fpec}
 use Rattle.target_core.specs.Units.{UnitState, state_op}
 use Rattle.target_core.specs.World.{World}
-use Rattle.target_core.specs.Path.{Point, whole}
-use Rattle.algo_calls.specs.declared.call.Call.{Call}
+use Rattle.target_core.specs.Path.{Point}
 use Rattle.algo_calls.specs.Setups.{Setup}
 use Rattle.algo_calls.specs.Frames.{asked, fuel_of, first_point}
 use Rattle.algo_calls.proofs.KeptLemmas.{board_in, whole_board}

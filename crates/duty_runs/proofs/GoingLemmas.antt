@@ -1,5 +1,5 @@
 -- Step by step, the run at hand of a call and every other one.
-use Rattle.std.proofs.Common.{◌≡◌, ◌≤◌, ◌+◌, ◌-◌, ℕ, zero, suc, Bool, true, false, List, length, Option, Some, None, refl, sym, ap, subst, ◌∙◌}
+use Rattle.std.proofs.Common.{◌≡◌, ◌+◌, ℕ, zero, suc, Bool, true, false, List, length, Option, Some, None, refl, sym, ap, subst, ◌∙◌}
 use Rattle.armv6m_decode.specs.declared.registers.TheConstants.{PC}
 use Rattle.flash_layout.specs.declared.work.Operation.{Operation}
 use Rattle.flash_layout.specs.Work.{range_of}

@@ -1,7 +1,7 @@
 -- What the run at hand fetches, and one step of it.
-use Rattle.std.proofs.Common.{◌≡◌, ◌≤◌, if◌then◌else◌, ◌+◌, ◌-◌, ◌*◌, ℕ, Bool, true, false, nat_eq, nat_lt, List, length, slice_index, Option, Some, None}
+use Rattle.std.proofs.Common.{◌≡◌, ◌≤◌, if◌then◌else◌, ◌+◌, ◌-◌, ◌*◌, ℕ, Bool, true, false, nat_eq, nat_lt, length, slice_index, Some, None}
 use Rattle.std.proofs.Common.{subst}
-use Rattle.std.proofs.Common.{Result, Ok, refl, sym, ap, ◌∙◌, arith}
+use Rattle.std.proofs.Common.{Ok, refl, sym, ap, ◌∙◌, arith}
 use Rattle.std.proofs.lemmas.Bool.Decides.{nat_tests}
 use Rattle.armv6m_step.specs.Access.{Load}
 use Rattle.armv6m_step.specs.Registers.{pc_of}

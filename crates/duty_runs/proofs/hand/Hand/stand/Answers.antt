@@ -1,5 +1,5 @@
 -- `Hand::stand`: its clauses `first` and `state`.
-use Rattle.std.proofs.Common.{◌≡◌, ◌∙◌, List, [], ℕ, ap, ap₂}
+use Rattle.std.proofs.Common.{◌∙◌, List, [], ℕ, ap, ap₂}
 use Rattle.target_core.specs.World.{World}
 use Rattle.target_core.specs.Units.{unit_state}
 use Rattle.algo_calls.specs.Setups.{Setup}

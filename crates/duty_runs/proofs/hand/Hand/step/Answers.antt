@@ -1,5 +1,5 @@
 -- `Hand::step`: its clause `steps`.
-use Rattle.std.proofs.Common.{◌≡◌, ◌∙◌, ℕ, Bool, if◌then◌else◌, Option, Some, None, Ok, ap, subst}
+use Rattle.std.proofs.Common.{◌≡◌, ◌∙◌, ℕ, Bool, if◌then◌else◌, Some, None, Ok, ap, subst}
 use Rattle.bench_model.specs.Shown.{bench_of}
 use Rattle.armv6m_step.specs.Access.{Load}
 use Rattle.armv6m_step.specs.Numbers.{sum}
