@@ -183,7 +183,7 @@ impl CallsIn {
         self.machine.restart(arena, window);
     }
 
-    /// The arguments of a call that is handed so many bytes.
+    /// The arguments of a call with `len` bytes.
     fn arguments(&self, call: Call, len: u32) -> Arguments
         ensures { result ≡ arguments (setup_at self.now) call len }
     {
@@ -214,7 +214,7 @@ impl CallsIn {
         }
     }
 
-    /// The frame of a call that is handed so many bytes.
+    /// The frame of a call with `len` bytes.
     fn frame(&self, call: Call, len: u32) -> Frame
         ensures regs { result.regs ≡ registers (setup_at self.now) call len }
         ensures return_at { result.return_at ≡ (setup_at self.now).layout.return_at }
@@ -282,7 +282,7 @@ impl CallsIn {
         self.fuel(*call)
     }
 
-    /// Goes on with a prepared call, by at most `steps` steps. `left` is the fuel, and falls by the steps that went. No other window changes.
+    /// Continues a prepared call by at most `steps` steps. `left` is the fuel, and falls by the steps made. No other window changes.
     pub fn slice<B: Bench>(
         &mut self,
         arena: &mut Arena,
@@ -298,7 +298,7 @@ impl CallsIn {
         self.machine.run_slice(arena, window, bench, left, steps)
     }
 
-    /// What the end of its run says of a call that was handed so many bytes.
+    /// The end of a call with `len` bytes, by the end of its run.
     pub fn end_of(&self, call: &Call, len: u32, end: RunEnd) -> CallEnd
         ensures { result ≡ call_end_of (success_of call.now len) end }
     {
@@ -405,8 +405,7 @@ impl CallsIn {
         self.call(arena, window, bench, Call::ProgramPage { at }, bytes)
     }
 
-    /// Compares the page at an address with bytes, of which there are at most as many as a page has. The algorithm has a function for it. No
-    /// other window changes.
+    /// Compares the page at an address with at most a page of bytes. The algorithm has a function for it. No other window changes.
     pub fn verify<B: Bench>(
         &mut self,
         arena: &mut Arena,

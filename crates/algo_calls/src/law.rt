@@ -20,9 +20,9 @@ ghost use Rattle.algo_calls.specs.Setups.{Setup};
 
 use bench_model::Bench;
 
-/// A call has one end, and its path is no longer than its fuel lets it be. It begins with the controller and the cells as they are. Its
-/// end is told by that of its run, and never names a return or a fault of the device as the way in which a run ended otherwise. Two calls
-/// from one target with one request end alike, unless a device failed.
+/// A call has one end, and its path is no longer than its fuel allows. The path begins with the controller and the cells as they are. The
+/// end of the run decides the end of the call. `Ended` never holds a return or a device fault. Two calls of one request from one target end
+/// alike, unless a device failed.
 pub fn calls_have_one_end<B: Bench>()
     ensures begins { (s : Setup) (w : World) (r : Request) → (path_of s w r).first.world
         ≡ record w { ram = written (s.layout.buffer_at - s.layout.return_at) r.bytes w.ram } }
@@ -50,9 +50,9 @@ pub fn calls_in_turn_compose<B: Bench>()
         → InTurn s w p q (B.state start) (B.state turn) f w' (B.state end) }
 {}
 
-/// What a reset leaves in the range of an operation that it breaks off is any bytes, and the cells outside it stay: the contents that
-/// `broken_off` makes are exactly those. No operation runs after a reset. A stop of the power at any moment of a reset leaves what one at
-/// the point of a path leaves at which the bench stood before it: so also behind a call that a device fault broke off.
+/// What a reset leaves in the range of an operation that it breaks off is any bytes, and the cells outside stay: `broken_off` makes exactly
+/// those contents. No operation runs after a reset. A stop of the power at any moment of a reset leaves what a stop at the point before the
+/// reset would leave. This also holds after a call that a device fault broke off.
 pub fn resets_break_off<B: Bench>()
     ensures stays { (operation : Option (ℕ × ℕ)) (torn cells : List ℕ) → SameOutside operation cells (broken_off operation torn cells) }
     ensures all { (operation : Option (ℕ × ℕ)) (cells left : List ℕ) → SameOutside operation cells left → left ≡ broken_off operation left cells }

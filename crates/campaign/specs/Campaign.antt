@@ -1,4 +1,4 @@
--- Campaigns: a call of `program` or `begin`, and then calls that go on with its job.
+-- Campaigns: a call of `program` or `begin`, and then calls that continue its job.
 use Rattle.std.specs.Prelude.{◌≡◌, ◌⊎◌, ◌≤◌, ◌<◌, ℕ, List, [], ◌∷◌, Option, None}
 use Rattle.bench_model.specs.History.{left}
 use Rattle.bench_model.specs.State.{BenchState, file_half, Left}

@@ -32,7 +32,7 @@ pub record IsDone (body goal : List ℕ) (new : BenchState) : Type 0 where
   pub idle : new.operation ≡ None
   pub cells : new.cells ≡ goal
 
--- the file as read and the cells as told are among what a stop may leave, as on every bench that tells its contents
+-- the file and the cells as they are now are among what a stop may leave, as on every bench that tells its contents
 pub record IsTold (b : BenchState) : Type 0 where
   pub as_read : left (file_half b) b.file
   pub as_told : left (cells_half b) b.cells

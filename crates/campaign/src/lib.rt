@@ -1,5 +1,5 @@
-//! The law over whole campaigns: a call of `program` or `begin`, and then calls of `resume` and `revert` that go on with its job,
-//! of which each may be stopped at any moment. It knows the body of a job as a list of bytes, and no instruction, plan or format.
+//! The law over whole campaigns: a call of `program` or `begin`, and then calls of `resume` and `revert` that continue its job. Each call
+//! may be stopped at any moment. The law knows the body of a job as a list of bytes, and no instruction, plan or format.
 #![tactic(auto)]
 
 ghost use Rattle.campaign.specs.Campaign.{Campaign, IsCampaign, IsSafeCampaign};

@@ -38,7 +38,7 @@ damaged_open (gate ∷ next ∷ rest) kept found is free = let opened : gate ≡
 pub one_reason : (file : List ℕ) (at other : ℕ) → IsNotAJob at file → IsNotAJob other file → at ≡ other
 one_reason file at other is too = let e : reading_of.not_a_job at ≡ reading_of.not_a_job other = sym is.shows ∙ too.shows in cc
 
--- and one that is damaged, with one pair of hashes
+-- a damaged file has one pair of hashes
 pub one_kept : (file kept found kept' found' : List ℕ) → IsDamaged kept found file → IsDamaged kept' found' file → kept ≡ kept'
 one_kept file kept found kept' found' is too = is.kept_is ∙ sym too.kept_is
 

@@ -98,7 +98,7 @@ read_at raw_at files (suc n) k whole is less = ⊎_elim
     subst (λ (i : ℕ). IsReadAt raw_at files i) here (record { whole = whole; next = is }))
     (cases_lt k n)
 
--- a clash that isn't want of memory as a fault of a file
+-- a clash that isn't "out of memory" is a fault of a file
 no_memory_of : (clash : ImageFault) (fault : AnyFault) → fault ≡ any_of clash → fault ≢ any.OutOfMemory → clash ≢ OutOfMemory
 no_memory_of clash fault is other = λ same. other (is ∙ ap any_of same)
 

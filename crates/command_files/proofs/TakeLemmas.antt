@@ -92,7 +92,7 @@ fault_before inputs names later (input_fault name) is = (
 )
 fault_before inputs names later r is = absurd is
 
--- behind names that were taken
+-- a fault after names that were taken
 pub fault_behind : {tells : Bool} {a b x : InputsState} {names files : List (List ℕ)} (c : InputsState) (more : List (List ℕ)) (r : Refusal)
     → AreEach (inputs_call tells a x) names files → ((name : List ℕ) → b.stands name ≡ a.stands name) → NoneFailed (inputs_call tells a b)
     → IsTakeFault (inputs_call tells b c) more r → IsTakeFault (inputs_call tells a c) (names ++ more) r
@@ -134,7 +134,7 @@ taken_then {tells} {start} {mid} {now} {names} {files} {done} file so_far less t
   none_failed = none_failed_then so_far.none_failed none;
 }
 
--- and then one that can't be taken
+-- names that were taken, and then one that can't be taken
 pub untaken_then : {tells : Bool} {start mid : InputsState} {names files : List (List ℕ)} {done : ℕ} (now : InputsState) (r : Refusal)
     → TakenSoFar tells start mid names files done → done < length names
     → IsTakeFault (inputs_call tells mid now) (name_at names done ∷ []) r → IsTakeFault (inputs_call tells start now) names r

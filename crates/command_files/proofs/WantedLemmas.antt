@@ -89,7 +89,7 @@ images_refusal asked files out_of_memory has is = tt
 images_refusal asked files (image_refused name fault) has is = record { has_target = has; is_wrong = is }
 images_refusal asked files r has is = absurd is
 
--- Files behind a board, of which so many are FLM files behind the first.
+-- The files after a board: the FLM files after the first, then the images.
 
 module _ (asked : FilesAsked) (files : FilesGiven) (b : board.Shown) (is_board : IsBoard files.board b) where
   pub names_refusal : (r : Refusal) → r ≡ usage → LeavesNoImage files b → IsFilesRefusal asked files r
@@ -146,7 +146,7 @@ pub unread_one : (b : board.Shown) (region : Region) (file : List ℕ) (fault : 
 unread_one b region file unread.OutOfMemory is = tt
 unread_one b region file fault is = inl (is (λ wrong. cc))
 
--- its algorithm isn't for the region
+-- a file is refused because its algorithm isn't for the region
 pub unfit_one : (b : board.Shown) (region : Region) (file : List ℕ) (algorithm : flm.Shown) (r : Refusal) → IsFlm file algorithm
     → IsUnfit b region.base region.size algorithm r → IsFlmRefusal b region file r
 unfit_one b region file algorithm out_of_memory says unfit = tt
@@ -225,7 +225,7 @@ pub size_of_two : (regions : List Region) (one two : Region) → regions ≡ one
 size_of_two regions one two are =
     ap size_of are ∙ omega (arith, sum_by-cons (λ (r : Region). r.size) one (two ∷ []), sum_by-cons (λ (r : Region). r.size) two [])
 
--- the same of their elements by place
+-- a list of one or two elements is those elements
 pub exactly_one : {A : Type 0} (xs : List A) (x : A) → length xs ≡ 1 → x ≡ get_or xs 0 x → xs ≡ x ∷ []
 exactly_one [] x one is = absurd (omega (arith, one))
 exactly_one (y ∷ []) x one is = let same : y ≡ x = sym is in cc

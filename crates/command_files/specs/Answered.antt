@@ -37,7 +37,7 @@ pub record AreCounted (bench : BenchCall) (inputs : InputsCall) (out : SinkCall)
   pub device_count : IsCounted bench.before.device_faults bench.after.device_faults device answer
   pub out_count : IsCounted out.before.faults out.after.faults output answer
 
--- Yielding: want of memory may be answered in place of any answer, and so may a fault, by its count.
+-- An answer yields if it is "out of memory", which may replace any answer, or a fault, which may do so where it is counted.
 
 abbrev pub yields : Answer → Bool
 yields (refused out_of_memory) = true
@@ -51,7 +51,7 @@ yields _ = false
 abbrev pub IsUnless : Answer → Answer → Type 0
 IsUnless answer due = (answer ≡ due) ⊎ (yields answer ≡ true)
 
--- the same, and where it yields no more was done than this
+-- the refusal that is due, or an answer that yields, in which case no more than `Done` was done
 abbrev pub Refuses : Type 0 → Answer → Refusal → Type 0
 Refuses Done answer refusal = (answer ≡ refused refusal) ⊎ ((yields answer ≡ true) × Done)
 

@@ -11,10 +11,10 @@ use Rattle.image_more.specs.Files.{IsUnionBefore}
 use Rattle.image_set.specs.Ranges.{LiesInside}
 use Rattle.command_files.specs.Inputs.{FilesGiven}
 
--- The names behind the board. Where a command has an FLM file it has one for each region of the board, which are the first of these
--- names, and the others are images; else all are images.
+-- The names after the board. A command with an FLM file has one for each region of the board: these come first, and the other names are
+-- images. Without an FLM file all names are images.
 
--- how many FLM files stand behind the first
+-- how many FLM files follow the first
 abbrev pub others_of : Option (List ℕ) → List Region → ℕ
 others_of None regions = 0
 others_of (Some first) regions = length regions - 1

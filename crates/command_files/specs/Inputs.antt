@@ -49,7 +49,7 @@ pub record AreFiles (inputs : InputsCall) (asked : FilesAsked) (files : FilesGiv
   pub flm : AreEach inputs (option_to_list asked.flm) (option_to_list files.flm)
   pub images : AreEach inputs asked.images files.images
 
--- Files of which this holds. Where the inputs tell, they stand under the names.
+-- Some files hold this property. Where the inputs tell their contents, the files are those with these names.
 pub record Given (inputs : InputsCall) (asked : FilesAsked) (Holds : FilesGiven → Type 0) : Type 0 where
   pub files : FilesGiven
   pub are_files : AreFiles inputs asked files

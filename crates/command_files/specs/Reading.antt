@@ -15,8 +15,8 @@ pub record WantAnAim (asked : FilesAsked) (Holds : FilesGiven → Aim → Type 0
   pub is_aim : IsAim asked.raw_at files aim
   pub holds : Holds files aim
 
--- When each answer comes. A refusal of files comes only where they are refused so, and every answer of the work only where
--- nothing in them is refused; `Holds` says what it then shows. A fault of the inputs or want of memory may come before.
+-- When each answer comes. A refusal of files comes only where they are refused for that reason. Every answer of the work comes only where
+-- no file is refused; `Holds` says what it then shows. An input fault or "out of memory" may come first.
 abbrev pub ShowsFiles : InputsCall → FilesAsked → (FilesGiven → Aim → Type 0) → Answer → Type 0
 ShowsFiles inputs asked Holds (refused out_of_memory) = Unit {0}
 ShowsFiles inputs asked Holds (refused (input_fault name)) = Unit {0}

@@ -28,13 +28,13 @@ pub record LeavesNoImage (files : FilesGiven) (board : board.Shown) : Type 0 whe
 
 -- Why one isn't.
 
--- its device, which is told, has another base or another size
+-- the device of an algorithm, which the refusal names, has another base or another size than the region
 pub record IsOtherDevice (base size : ℕ) (algorithm : flm.Shown) (told_base told_size : ℕ) : Type 0 where
   pub base_is : told_base ≡ algorithm.device.base
   pub size_is : told_size ≡ algorithm.device.size
   pub other : (told_base ≢ base) ⊎ (told_size ≢ size)
 
--- its device is the region, and it needs more bytes than the RAM has
+-- the device of an algorithm is the region, but the algorithm needs more bytes than the RAM has
 pub record HasNoRoom (board : board.Shown) (base size : ℕ) (algorithm : flm.Shown) (need have : ℕ) : Type 0 where
   pub base_is : algorithm.device.base ≡ base
   pub size_is : algorithm.device.size ≡ size
@@ -52,7 +52,7 @@ abbrev pub IsUnread : List ℕ → Refusal → Type 0
 IsUnread file (flm_refused fault) = flm_of file ≡ Err fault
 IsUnread file _ = ⊥
 
--- or one that isn't for the region
+-- an FLM file says an algorithm that isn't for the region
 pub record IsReadUnfit (board : board.Shown) (region : Region) (file : List ℕ) (refusal : Refusal) : Type 0 where
   pub algorithm : flm.Shown
   pub says : flm_of file ≡ Ok algorithm
@@ -100,13 +100,13 @@ pub record HasBoard (files : FilesGiven) : Type 0 where
   pub board : board.Shown
   pub is_board : IsBoardOf files board
 
--- and an algorithm for each of its regions, where there are FLM files
+-- there are a board and, where there are FLM files, an algorithm for each of its regions
 pub record HasTarget (files : FilesGiven) : Type 0 where
   pub has_board : HasBoard files
   pub algorithms : List flm.Shown
   pub are_for : AreFor has_board.board has_board.board.regions (flm_files files.flm files.images has_board.board) algorithms
 
--- and an FLM file that isn't one for its region
+-- there is a board, and an FLM file that isn't one for its region
 pub record HasNoTarget (files : FilesGiven) (refusal : Refusal) : Type 0 where
   pub has_board : HasBoard files
   pub are_not : AreNotFor has_board.board has_board.board.regions (flm_files files.flm files.images has_board.board) refusal

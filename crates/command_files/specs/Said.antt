@@ -44,7 +44,7 @@ PrintsText out text done = TookAll out text
 PrintsText out text (refused output_fault) = TookPart out text
 PrintsText out text (refused _) = TookNothing out
 
--- the same, where there is no other answer
+-- the output took a text, or a part of it where it failed; there is no other answer
 abbrev pub SaysText : SinkCall → List ℕ → Answer → Type 0
 SaysText out text done = TookAll out text
 SaysText out text (refused output_fault) = TookPart out text

@@ -58,7 +58,7 @@ pub fn take_one<'a, I: Inputs>(
     }
 }
 
-/// The same, where there is a name.
+/// Takes the file of a name, where there is one.
 fn take_optional<'a, I: Inputs>(
     alloc: Global,
     name: Option<&'a Word>,
@@ -80,7 +80,7 @@ fn take_optional<'a, I: Inputs>(
     }
 }
 
-/// The same of each name, in turn.
+/// Takes the file of each name, in turn.
 fn take_each<'a, I: Inputs>(
     alloc: Global,
     names: &Names<'a>,

@@ -23,8 +23,8 @@ pub struct TargetFiles {
     pub wanted: Wanted,
 }
 
-/// Takes the files of a command on a target in the order of its words, and then reads them. The first that can't be taken is told,
-/// and then the first refusal.
+/// Takes the files of a command on a target in the order of its words, and then reads them. It answers with the first file that can't be
+/// taken, else with the first refusal.
 pub fn read_target_files<'a, I: Inputs>(
     alloc: Global,
     names: &FileNames<'a>,

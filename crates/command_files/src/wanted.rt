@@ -36,9 +36,9 @@ pub struct Wanted {
     pub image: ByteMap,
 }
 
-/// Reads the board, then an FLM file for each of its regions where the command has one, and then each image in turn, and checks that
-/// their union lies in the board's regions. The files are those of the names. Where FLM files leave no name for an image that is
-/// answered behind the board. A board's text that is longer than 1 MiB is answered as want of memory.
+/// Reads the board, then an FLM file for each of its regions where the command has one, and then each image in turn. It checks that the
+/// images' union lies in the board's regions. Where FLM files leave no name for an image, that is answered after the board was read. A
+/// board's text longer than 1 MiB is answered as out of memory.
 pub fn read_files<'a>(
     alloc: Global,
     names: &FileNames<'a>,
@@ -75,7 +75,7 @@ pub fn cells_of(board: &Board) -> u32
     regions[0].size + regions[1].size
 }
 
-/// Reads the text of a board. One that is longer than 1 MiB is answered as want of memory, and no memory is asked for.
+/// Reads the text of a board. A text longer than 1 MiB is answered as out of memory, and no memory is asked for.
 pub fn read_text<'a>(alloc: Global, text: &[u8]) -> Result<Board, Refusal<'a>>
     ensures { ReadsBoard text.now result }
 {
@@ -89,8 +89,8 @@ pub fn read_text<'a>(alloc: Global, text: &[u8]) -> Result<Board, Refusal<'a>>
     }
 }
 
-/// How many FLM files stand behind the first: one for each further region of the board, where there is a first. A name has to be left
-/// for an image.
+/// How many FLM files follow the first: one for each further region of the board, where there is a first. At least one name is left for an
+/// image.
 fn count_others<'a>(board: &Board, files: &Files) -> Result<usize, Refusal<'a>>
     ensures count { IfOk result (λ others. others ≡ others_of files.now.flm board.now.regions) }
     ensures inside { IfOk result (λ others. others ≤ length files.now.images.items) }
@@ -203,7 +203,7 @@ fn check_algorithm<'a>(
     }
 }
 
-/// Checks that an image has a byte, and none outside the regions, of which there are one or two.
+/// Checks that an image has a byte, and none outside the regions. There are one or two regions.
 fn check_place(image: &ByteMap, regions: &[Region]) -> Result<(), ImageFault>
     requires some { 0 < length regions.now }
     requires few { length regions.now ≤ most_regions }

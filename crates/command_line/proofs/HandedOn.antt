@@ -1,4 +1,4 @@
--- What holds of a value that a call hands on. The makers of commands go on by it.
+-- What holds of a value that a function passes on from a call. The lemmas about the makers of commands use it.
 use Rattle.std.proofs.Common.{◌≡◌, ◌∙◌, ◌||◌, ap, Bool, false, Result, Ok, Err, IfOk}
 
 pub if_ok : {T E : Type 0} (r : Result T E) (P Q : T → Type 0) → ((x : T) → P x → Q x) → IfOk r P → IfOk r Q

@@ -22,6 +22,6 @@ module _ (tool a : App) (is : a ≡ tool) (words : List Text) where
       subst (λ (ws : List Text). subcommand_rows_of m ≡ subcommand_of tool ws) (map-id words)
       (subst (λ (b : App). HasMatchesOf b (map (λ w. w) words) m) is has simple).1
 
--- an error that isn't want of memory
+-- an error that isn't "out of memory"
 pub some_fault : (kinds : Kinds) (e : Error) → HasKind kinds e → kind_of e ≢ kind.OutOfMemory → kinds ≢ []
 some_fault kinds e has others none = ⊎_elim others (λ among. absurd (rw none at among)) has

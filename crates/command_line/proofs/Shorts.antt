@@ -1,4 +1,4 @@
--- A word that is text and begins with one hyphen has a character behind it.
+-- A word that is text and begins with one hyphen has a character after it.
 use Rattle.std.proofs.Common.{◌≡◌, ◌==◌, ℕ, true, List, [], ◌∷◌, Some, None, refl, ap, ◌∙◌, sym, slice_get, inl, inr, zero, suc, ◌<◌, ◌+◌, length, get_or, take}
 use Rattle.std.proofs.Common.{subst, arith}
 use Rattle.std.proofs.lemmas.Bool.{cases_Bool, eqb-true}
@@ -10,7 +10,7 @@ use Rattle.clap.specs.Lexer.{short_of, short_of_rest}
 use Rattle.command_line.specs.Scan.{Text, AreTexts}
 use Rattle.command_line.proofs.LeafWalk.{Short, Shorts}
 
--- what stands behind the hyphen isn't empty
+-- what follows the hyphen isn't empty
 abbrev Behind : Text → Text → Type 0
 Behind xs flags = (xs ≡ flags) × (y : ℕ) × (ys : Text) × (flags ≡ y ∷ ys)
 

@@ -10,7 +10,7 @@ use Rattle.std.specs.Str.{bytes_eq}
 use Rattle.clap.specs.Lexer.{long_of, long_of_rest, short_of, has_byte, name_and_value, strip_byte}
 use Rattle.command_line.specs.Scan.{Text, dashes}
 
--- a text with `=` is what stands before it, the byte, and what stands behind it
+-- a text with `=` is the part before it, the byte, and the part after it
 equals_parts : (t : Text) → has_byte 61 t ≡ true → t ≡ before_first (λ x. x == 61) t ++ 61 ∷ after_first (λ x. x == 61) t
 equals_parts [] e = cc
 equals_parts (x ∷ xs) e = elim (cases_Bool (x == 61)) [
@@ -118,7 +118,7 @@ unflagged (x ∷ y ∷ ys) plain = elim (cases_Bool (x == 45)) [
   | inr miss ↦ record { others = rw miss refl; long = rw miss refl; short = rw miss refl }
 ]
 
--- and no other
+-- a word that isn't a flag doesn't begin with a hyphen and have more after it
 pub no_flag : (w : Text) → IsUnflagged w → slice_index w 0 ≡ 45 → 1 < length w → ⊥
 no_flag [] is first long = omega (arith, long)
 no_flag (x ∷ []) is first long = omega (arith, long)

@@ -168,7 +168,7 @@ all_known = (
   ),
 )
 
--- and so of the one that was found
+-- what holds of each name holds of the one that was found
 found_one : (P : Text → Type 0) (w c : Text) (ns : List Text) → Each P ns → find (λ n. bytes_eq n w) ns ≡ Some c → P c
 found_one P w c [] each e = cc
 found_one P w c (n ∷ ns) each e = elim (cases_Bool (bytes_eq n w)) [

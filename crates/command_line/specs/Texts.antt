@@ -1,4 +1,4 @@
--- Texts behind references.
+-- Texts as values, read through references to them.
 use Rattle.std.specs.Prelude.{List, ℕ, map}
 use Rattle.std.specs.Borrow.{Bor}
 

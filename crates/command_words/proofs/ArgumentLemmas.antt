@@ -30,7 +30,7 @@ plain-one x plain = All-cons IsPlain x [] plain (All-nil IsPlain)
 dashes_option : IsOption dashes
 dashes_option = (refl, omega arith)
 
--- words in two parts, of which the second begins with the word at a place
+-- words in two parts; the second part begins with the word at place `n`
 pub in_parts : (words : Words) (n : ℕ) → n < length words → words ≡ take n words ++ get_or words n [] ∷ drop (n + 1) words
 in_parts words n less = sym (take-append-drop n words) ∙ ap (λ (l : Words). take n words ++ l) (drop-cons words n [] less)
     ∙ ap (λ (k : ℕ). take n words ++ get_or words n [] ∷ drop k words) (sym (add-one n))
@@ -53,7 +53,7 @@ positional_before before words names plain positional = ⊎_elim
     }))
     positional
 
--- what is positional among words behind others that are no options
+-- the positional words of a list that begins with words that are no options
 pub record IsBehind (before words names : Words) : Type 0 where
   pub rest : Words
   pub positional : Positional words rest

@@ -1,4 +1,4 @@
--- The words behind the name of a command, and what they were read as.
+-- The words after the name of a command, and what they were read as.
 use Rattle.std.proofs.Common.{◌≡◌, ◌∙◌, sym, ap, subst, refl, arith, inl, inr, ⊎_elim, Bool, true, false, cond, ℕ, List, [], ◌∷◌, ◌++◌, slice_index, codes}
 use Rattle.std.proofs.Common.{Option, Some, None}
 use Rattle.std.proofs.lemmas.List.{append_assoc, append-nil}
@@ -149,7 +149,7 @@ record IsRead (ws raws names : Words) (said : Said) : Type 0 where
   pub names_are : said.1 ≡ names ++ more
   pub reads : Reads ws addresses more
 
--- the word behind `--raw-at`, and what follows
+-- the word after `--raw-at`, and what follows
 record IsReadBehind (ws raws names : Words) (said : Said) : Type 0 where
   pub word : List ℕ
   pub rest : Words

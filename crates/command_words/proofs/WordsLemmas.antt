@@ -87,7 +87,7 @@ module _ (words others : List (List ℕ)) (first : List ℕ) (is : words ≡ fir
 
 -- Words that begin with the name of a command ask for what the others make of it.
 module _ (name : CommandName) (words others : List (List ℕ)) (is : words ≡ text_of name ∷ others) where
-  -- what holds of the name with which the words begin, and of the words behind it
+  -- what holds of the name at the front of the words, and of the words after it
   same_beginning : (P : CommandName → List (List ℕ) → Type 0) (command : CommandName) (rest : List (List ℕ)) → words ≡ text_of command ∷ rest → P command rest
       → P name others
   same_beginning P command rest words_are holds =
@@ -131,7 +131,7 @@ one_name_alone : (words : List (List ℕ)) (a b : List ℕ) → Positional words
 one_name_alone words a b one two =
     let same = (one_arguments words None None (a ∷ []) (b ∷ []) one two).names in cc
 
--- the words behind one name
+-- the words after one name
 same_others : (command : CommandName) (words xs ys : List (List ℕ)) → Begins command words xs → Begins command words ys → xs ≡ ys
 same_others command words xs ys one two = ap (λ (w : List (List ℕ)). drop 1 w) (sym one ∙ two)
 
@@ -184,7 +184,7 @@ same_verify words a b one two =
     let others = same_others Verify words one.others two.others one.begins two.begins in
     same_files two.others a b (subst (λ (w : List (List ℕ)). HasBoardAndImages w a) others one.names) two.names
 
--- so are a board, an FLM file and images
+-- a board, an FLM file and images are the only ones that these words give
 
 pub record IsSameTarget (f g : Option (List ℕ)) (x y : List ℕ) (is js : List (List ℕ)) : Type 0 where
   pub board : x ≡ y

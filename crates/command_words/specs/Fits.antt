@@ -1,4 +1,4 @@
--- The words behind the name of a command.
+-- The words after the name of a command.
 use Rattle.std.specs.Prelude.{ℕ, List, [], ◌∷◌, Option, Some, None}
 use Rattle.command_words.specs.Words.{form_text, Positional, HasOneNumber, HasBoardAndImages, HasTargetAndImages, Command, program, begin, resume, revert, plan}
 use Rattle.command_words.specs.Words.{verify, compare, status, inspect, dump, demo}

@@ -7,7 +7,7 @@ use Rattle.command_words.specs.Words.{IsAddress, AsksNothing}
 use Rattle.command_words.specs.declared.line.CommandLine.{CommandLine}
 use Rattle.command_words.specs.declared.line.CommandLine.TheVariants.{Faulty, Line as line_that}
 
--- the words behind the name of a command have these addresses and these positional words
+-- the words after the name of a command have these addresses and these positional words
 abbrev pub Spells : List (List ℕ) → Line → Type 0
 Spells others line = scan [] [] others ≡ Some (line.addresses.items, line.names.items)
 

@@ -97,7 +97,7 @@ fn raw_at(addresses: &[Word]) -> Option<Option<u32>>
     }
 }
 
-/// Whether there may be so many images.
+/// Whether this number of images is allowed.
 fn are_few(raw_at: Option<u32>, images: usize) -> bool
     ensures { IsTrue result ↔ AreFew raw_at images }
 {

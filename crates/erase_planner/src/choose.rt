@@ -52,7 +52,7 @@ fn takes_chip(has_chip: bool, chip_cost: u64, sectors_cost: u64) -> bool
     has_chip && chip_cost < sectors_cost
 }
 
-/// What erasing or programming so many costs, at a weight each.
+/// The cost of erasing or programming `count` sectors or pages, each with this weight.
 fn cost_of(weight: u32, count: u32) -> u64
     requires { count ≤ 1048576 }
     ensures cost { result ≡ weight * count }

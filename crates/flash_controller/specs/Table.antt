@@ -61,7 +61,7 @@ load s runs offset =
     if nat_eq offset 0 then Some 0 else if nat_eq offset 4 then Some (status s runs) else if nat_eq offset 8 then Some s.command
     else if nat_eq offset 12 then Some s.address else if nat_eq offset 16 then Some 0 else None
 
--- and what a store to it does: KEY, STATUS, CMD, ADDR, START
+-- what a store to a register does: KEY, STATUS, CMD, ADDR, START
 unfoldable pub store : FlashMap → State → Option Operation → ℕ → ℕ → Effect × State
 store map s runs offset value =
     if nat_eq offset 0 then becomes (key_stored s value) else if nat_eq offset 4 then becomes (status_stored s value)

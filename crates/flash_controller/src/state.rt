@@ -31,7 +31,7 @@ const PROGRAM: u32 = 1;
 const LAST_COMMAND: u32 = 3;
 
 impl State {
-    /// As after a reset.
+    /// The registers after a reset.
     pub fn reset() -> State
         ensures { result ≡ after_reset }
     {
@@ -66,7 +66,7 @@ impl State {
             + flag_value(!self.lock.is_unlocked(), 32)
     }
 
-    /// Whether a store of so many bytes programs a unit of the area, where no operation runs.
+    /// Whether a store of `width` bytes programs a unit of the area, where no operation runs.
     pub fn may_program(&self, area: &Area, width: u32) -> bool
         ensures { result ≡ may_program self.now area.now width }
     {

@@ -79,7 +79,7 @@ look_then tells map range s m t result idle one cause two = record {
   idle = λ told is. record { before = idle told; after = (two.idle told is).after };
 }
 
--- what a stop leaves is as told
+-- what a stop leaves is known, where the bench tells its contents
 abbrev pub Told : Bool → BenchState → Type 0
 Told tells s = (c : List ℕ) → IsTrue tells → left (cells_half s) c ↔ SameOutside s.operation s.cells c
 
@@ -93,7 +93,7 @@ touches_here tells map range s result law agrees fine = record {
   idle = λ told fault. absurd (false≢true (sym fine ∙ fault));
 }
 
--- a fault of the bus in place of which another answer is given
+-- a fault of the bus that is answered with a value instead
 pub quiet_then : {A : Type 0} (tells : Bool) (map : FlashMap) (range : Option (ℕ × ℕ)) (s t : BenchState) (e : BusEnd) (value : A) → e ≡ bus.Fault →
     Touches {A = A} tells map range s t (Err e) → Touches {A = A} tells map range s t (Ok value)
 quiet_then {A} tells map range s t e value is touch =
@@ -181,7 +181,7 @@ opens_touch tells map runs e o len s t value is may long law agrees does =
       idle = λ told fault. absurd (false≢true fault);
     }
 
--- and one that failed
+-- an effect of a store that failed
 pub fails_touch : (tells : Bool) (map : FlashMap) (runs : Option Operation) (e : Effect) (o : Operation) (len : ℕ) (s t : BenchState) (fault : DeviceFault)
     → e ≡ effect.Begins o → MayBegin (cells_in map.areas) runs e → Told tells t → Agrees tells map (range_of runs) s
     → OpensCells {T = Unit {0}} tells s t o.place len (Err fault) → Touches {A = Unit {0}} tells map (range_of runs) s t (Err bus.Device)

@@ -10,7 +10,7 @@ abbrev pub of_found : Option Found → Place
 of_found None = place.Nowhere
 of_found (Some found) = place.Flash found
 
--- What an access of so many bytes goes to. The controller's block takes words alone.
+-- What an access of `width` bytes goes to. In the controller's block only accesses of words go to a register.
 unfoldable pub place_of : FlashMap → ℕ → ℕ → Place
 place_of map at width =
     if nat_le map.base at && nat_lt (at - map.base) map.block then (if nat_eq width 4 then place.Register (at - map.base) else place.Nowhere)

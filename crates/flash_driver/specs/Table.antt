@@ -21,7 +21,7 @@ use Rattle.flash_driver.specs.Places.{place_of}
 pub record Table (R : Type 0) : Type 0 where
   -- the bytes of their block, on a board of a kind
   pub block : ControllerKind → ℕ
-  -- as after a reset, on such a board
+  -- the registers after a reset, on a board of a kind
   pub fresh : ControllerKind → R
   -- what a register answers to a load, by the operation that runs and its offset; none where there is no register
   pub load : R → Option Operation → ℕ → Option ℕ
@@ -31,7 +31,7 @@ pub record Table (R : Type 0) : Type 0 where
   pub looks : R → Area → ℕ → ℕ → Bool
   -- what such a store does, where it sees these cells (none, where it doesn't look), and the registers after it
   pub program : FlashMap → R → Found → ℕ → ℕ → List ℕ → Effect × R
-  -- as after the end of an operation
+  -- the registers after the end of an operation
   pub ended : R → R
 
 -- a map with the block of a table's registers
@@ -50,7 +50,7 @@ MayBegin cells runs _ = Unit {0}
 abbrev pub is_running : {R : Type 0} → State R → Bool
 is_running s = is_some s.operation
 
--- as after a reset: no operation runs
+-- the state after a reset, on a board of a kind: no operation runs
 abbrev pub fresh : {R : Type 0} → Table R → ControllerKind → State R
 fresh t kind = record { registers = t.fresh kind; operation = None }
 

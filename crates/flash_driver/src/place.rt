@@ -10,7 +10,7 @@ use flash_layout::{FlashMap, Found};
 pub enum Place {
     /// A word of the block, where a register may be.
     Register {
-        /// Its offset.
+        /// The offset of the word in the block.
         offset: u32,
     },
     /// A cell of the flash.
@@ -22,7 +22,7 @@ pub enum Place {
     Nowhere,
 }
 
-/// What an access of so many bytes goes to. The registers take words alone.
+/// What an access of `width` bytes goes to. In the controller's block only accesses of words go to a register.
 #[tactic(auto, unfolding(crate::specs::Places::place_of))]
 pub fn place_of(layout: &FlashMap, at: u32, width: u32) -> Place
     ensures value { result ≡ place_of (map_of layout.now) at width }

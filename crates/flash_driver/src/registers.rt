@@ -19,7 +19,7 @@ pub trait Registers: Copy {
     fn block(kind: ControllerKind) -> u32
         ensures { result ≡ table.block kind };
 
-    /// As after a reset, on a board of this kind.
+    /// The registers after a reset, on a board of this kind.
     fn fresh(kind: ControllerKind) -> Self
         ensures { result ≡ table.fresh kind };
 

@@ -8,7 +8,7 @@ use Rattle.flash_layout.specs.declared.area.Area.{Area}
 use Rattle.flash_layout.specs.declared.area.Found.{Found}
 use Rattle.flash_layout.specs.Areas.{cells_in, area_fits, all_fit, holds, find, FoundInside}
 
--- so many cells and those of the areas that are left are all
+-- the cells before area `i` and the cells of the other areas are all cells
 abbrev pub Counted : List Area → ℕ → ℕ → Type 0
 Counted areas i from = from + cells_in (drop i areas) ≡ cells_in areas
 

@@ -63,7 +63,7 @@ abbrev pub IsFirst : List Area → Area → Type 0
 IsFirst [] a = ⊥
 IsFirst (b ∷ rest) a = (b ≡ a) × (0 < a.size)
 
--- these cells are some, and lie among so many
+-- a sector's cells: there is at least one, and they lie among `cells` cells
 pub record AreInside (cells : ℕ) (s : SectorCells) : Type 0 where
   pub inside : s.place + s.len ≤ cells
   pub some : 0 < s.len

@@ -30,8 +30,8 @@ abbrev pub settles : Option Operation → Bool
 settles None = false
 settles (Some o) = nat_le o.ticks 1
 
--- A tick while an operation with so many ticks left runs, for a controller with states S. With its last tick the operation
--- settles: the controller's state is `ended`, and the cells have its bytes. Else the operation runs on with a tick less.
+-- A tick of an operation with this many ticks left, for a controller with states S. With the last tick the operation settles: the
+-- controller's state is `ended`, and the cells have the operation's bytes. Otherwise the operation runs on with one tick less.
 abbrev pub tick_at : {S : Type 0} → S → (Operation → S) → List ℕ → Operation → ℕ → S × List ℕ
 tick_at ended running cells o zero = (ended, written o.place (work_bytes o.work) cells)
 tick_at ended running cells o (suc zero) = (ended, written o.place (work_bytes o.work) cells)

@@ -102,7 +102,7 @@ later_still tells j start (a ∷ rest) c d g h (r ∷ more) one two are =
     (found_still tells j a start c d g h r one two are.0, later_still tells j (start + a.device.size) rest c d g h more one two are.1)
 later_still tells j start algorithms c d g h works one two are = absurd are
 
--- one region, and those behind it
+-- the plan of one region, followed by the plans of the regions after it
 pub found_then : (tells : Bool) (j : Job) (a : AlgorithmShown) (rest : List AlgorithmShown) (cells goal : List ℕ) (r : RegionPlan) (more : List RegionPlan)
     → IsFound tells j a 0 cells goal r → AreFound tells j a.device.size rest cells goal more
     → AreFound tells j 0 (a ∷ rest) cells goal (r ∷ more)
@@ -115,7 +115,7 @@ works_found tells j start [] cells goal [] are = tt
 works_found tells j start (a ∷ rest) cells goal (r ∷ more) are = (are.0.work, works_found tells j (start + a.device.size) rest cells goal more are.1)
 works_found tells j start algorithms cells goal works are = absurd are
 
--- a refusal that is handed on is counted as it was
+-- a refusal that a function passes on counts the same faults as before
 abbrev pub refused : (T : Type 0) → SurveyFault → Result T SurveyFault
 refused T e = Err e
 

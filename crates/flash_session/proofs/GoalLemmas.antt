@@ -22,7 +22,7 @@ over_drop image base (suc n) [] = refl
 over_drop image base (suc n) (c ∷ cells) = let e : base + 1 + n ≡ base + suc n = omega arith in over_drop image (base + 1) n cells
     ∙ ap (λ (k : ℕ). over image k (drop n cells)) e
 
--- an image over cells, and over those behind them
+-- an image laid over cells followed by more cells is the image over each of the two parts
 pub over_append : (image : List Run) (base : ℕ) (cells more : List ℕ)
     → over image base (cells ++ more) ≡ over image base cells ++ over image (base + length cells) more
 over_append image base [] more = let z : base ≡ base + 0 = omega arith in ap (λ (k : ℕ). over image k more) z
@@ -55,7 +55,7 @@ old_past size at n snapshot le =
     let e : size + (at - size) ≡ at = omega (arith, le) in
     ap (λ (l : List ℕ). take n l) (ap (λ (k : ℕ). drop k snapshot) (sym e) ∙ sym (drop-drop (at - size) size snapshot))
 
--- in it: what lies in it, and what lies behind it
+-- a place inside the region: the cells from it up to the region's end, and the cells after the region
 module _ (n at size here : ℕ) (front behind : List ℕ) (inside : at < size) (long : length front ≡ size) where
   pub both_parts : here ≡ n → n ≤ size - at → take here (drop at front) ++ take (n - here) behind ≡ take n (drop at (front ++ behind))
   both_parts is le =
@@ -87,7 +87,7 @@ over_from image base size at here snapshot inside =
     ∙ sym (over_take image (base + at) here (drop at (take size snapshot)))
     ∙ ap (λ (l : List ℕ). take here l) (sym (over_drop image base at (take size snapshot)))
 
--- what lies behind the region is the front of the cells behind it
+-- what lies after the region is the front of the cells that follow it
 pub old_behind : (size at here n : ℕ) (snapshot : List ℕ) → at < size → here ≡ min n (size - at)
     → drop here (take n (drop at snapshot)) ≡ take (n - here) (drop 0 (drop size snapshot))
 old_behind size at here n snapshot inside is = ⊎_elim

@@ -29,7 +29,7 @@ IsAmong site cells = site.start + site.layout.size ≤ length cells
 pub part_long : (site : Site) (cells : List ℕ) → IsAmong site cells → length (part site cells) ≡ site.layout.size
 part_long site cells among = omega (arith, among, length-take site.layout.size (drop site.start cells), length-drop site.start cells)
 
--- and what lies in front of it is as long as its place says
+-- the cells before a region are as many as the region's place says
 front_long : (site : Site) (cells : List ℕ) → IsAmong site cells → length (take site.start cells) ≡ site.start
 front_long site cells among = omega (arith, among, length-take site.start cells)
 
@@ -53,7 +53,7 @@ put_outside site x cells among long =
       ap (drop (site.start + site.layout.size)) (sym (append_assoc front x rest)) ∙ drop_at (front ++ x) rest (site.start + site.layout.size) ends,
     )
 
--- and there are as many
+-- putting a region's cells back keeps the number of cells
 pub put_long : (site : Site) (x cells : List ℕ) → IsAmong site cells → length x ≡ site.layout.size → length (put site x cells) ≡ length cells
 put_long site x cells among long = (put_outside site x cells among long).0
 
@@ -73,7 +73,7 @@ unfoldable pub Led : Setup → Site → List ℕ → List Duty → List ℕ → 
 Led s site cells [] want = cells ≡ want
 Led s site cells (d ∷ rest) want = (mid : List ℕ) × Does s site cells d mid × IsReady s site cells d × Led s site mid rest want
 
--- so each has at its turn what it may count on
+-- duties that lead in turn to the wanted cells: each is ready at its turn
 pub led_ready : (s : Setup) (site : Site) (ds : List Duty) (cells want : List ℕ) → Led s site cells ds want → AreReady s site cells ds
 unfolding Led AreReady
 led_ready s site [] cells want led = tt
@@ -130,7 +130,7 @@ led_checks s site held cells [] k = refl
 led_checks s site held cells (true ∷ bs) k = (cells, refl, tt, led_checks s site held cells bs (k + 1))
 led_checks s site held cells (false ∷ bs) k = led_checks s site held cells bs (k + 1)
 
--- so the third phase changes nothing
+-- the verify phase changes no cell
 pub led_verifies : (s : Setup) (site : Site) (held cells : List ℕ) (set : List Bool) → Led s site cells (works_of s site.layout held (Verifies set)) cells
 unfolding works_of
 led_verifies s site held cells set = led_checks s site held cells set 0
@@ -156,11 +156,11 @@ leads_length l empty (a ∷ rest) cells want leads = leads_length l empty rest l
 abbrev pub AreBytes : List ℕ → Type 0
 AreBytes cells = All (λ v. v < 2 ^ 8) cells
 
--- so at each place
+-- each cell of a list of bytes is below 256
 byte_at : (cells : List ℕ) (i : ℕ) → AreBytes cells → i < length cells → slice_index cells i < 2 ^ 8
 byte_at cells i bytes less = bytes i 0 less
 
--- and from each place
+-- cells that are below 256 at each place are a list of bytes
 bytes_from : (cells : List ℕ) → ((i : ℕ) → i < length cells → slice_index cells i < 2 ^ 8) → AreBytes cells
 bytes_from cells each = λ k d less. omega (arith, get_or_default_zero cells k d less, each k less)
 
@@ -172,7 +172,7 @@ sector_bytes l empty k before x small bytes acts = bytes_from x (λ i less. ⊎_
     (λ (outside : In i (range_at l.sectors k) → ⊥). omega (arith, acts.2.1 i outside, byte_at before i bytes (omega (arith, less, acts.2.0))))
     (cases_in i (range_at l.sectors k)))
 
--- and so do erased sectors
+-- erasing sectors leaves a list of bytes
 erasures_bytes : (l : Geometry) (empty : ℕ) (bs : List Bool) (k : ℕ) (cells want : List ℕ) → empty < 2 ^ 8 → AreBytes cells
     → Leads l empty cells (erasures k bs) want → AreBytes want
 unfolding Leads erasures
@@ -181,7 +181,7 @@ erasures_bytes l empty (true ∷ bs) k cells want small bytes leads =
     erasures_bytes l empty bs (k + 1) leads.0 want small (sector_bytes l empty k cells leads.0 small bytes leads.1) leads.2
 erasures_bytes l empty (false ∷ bs) k cells want small bytes leads = erasures_bytes l empty bs (k + 1) cells want small bytes leads
 
--- and an erased chip
+-- erasing the chip leaves a list of bytes
 chip_bytes : (l : Geometry) (empty : ℕ) (cells want : List ℕ) → empty < 2 ^ 8 → Leads l empty cells (EraseChip ∷ []) want → AreBytes want
 unfolding Leads Acts
 chip_bytes l empty cells want small leads = subst (λ (c : List ℕ). AreBytes c) leads.2 (bytes_from leads.0 (λ i less. omega (arith, small, leads.1.1 i less)))
@@ -204,7 +204,7 @@ part_bytes site cells among bytes = bytes_from (part site cells) (λ i less.
     let long = part_long site cells among in
     omega (arith, part_at site cells i (omega (arith, less, long)), byte_at cells (site.start + i) bytes (omega (arith, less, long, among))))
 
--- and bytes put among bytes are bytes
+-- bytes put into a list of bytes leave a list of bytes
 pub put_bytes : (site : Site) (x cells : List ℕ) → IsAmong site cells → length x ≡ site.layout.size → AreBytes cells → AreBytes x → AreBytes (put site x cells)
 put_bytes site x cells among long bytes these = bytes_from y (λ i less. ⊎_elim
     (λ (before : i < site.start).

@@ -121,7 +121,7 @@ module _ (b : BoardShown) (goal : List ℕ) where
             absurd (not_both (run x (script legs follows.broken)) _ _ one.ran follows.ends.ran)
         follows_reaches reaches x follows other stored = cc
 
-        -- and at each moment, whatever the end, a stop leaves what lies outside the plans
+        -- whatever the end is, a stop at any moment leaves the cells outside the plans as they were
         pub follows_local : (e : SessionEnd) → Follows legs goal x e start now → Leaves (cells_half start) (cells_half now) (SameBut P old)
         follows_local e follows =
             let moves = script legs follows.broken in
@@ -132,7 +132,7 @@ module _ (b : BoardShown) (goal : List ℕ) where
             was.on)
             follows.moments
 
--- ---- a region behind another one
+-- ---- a region after another one
 
 -- the cells of a later region stay when those of an earlier one are others
 part_behind : (first second : Site) (x cells : List ℕ) → IsAmong first cells → length x ≡ first.layout.size → first.start + first.layout.size ≤ second.start
@@ -145,7 +145,7 @@ part_behind first second x cells among long behind =
     let cut : (c : List ℕ) → drop second.start c ≡ drop m (drop n c) = λ c. ap (λ (k : ℕ). drop k c) (sym e) ∙ sym (drop-drop m n c) in
     ap (take second.layout.size) (cut (put first x cells) ∙ ap (drop m) same ∙ sym (cut cells))
 
--- so it is served on them as well
+-- an earlier region's new cells don't change how a later region is served
 pub later_served : (b : BoardShown) (region : ℕ) (a : AlgorithmShown) (plan : Chosen) (goal cells : List ℕ) (first : Site) (x : List ℕ) → IsAmong first cells
     → length x ≡ first.layout.size → AreBytes x
     → first.start + first.layout.size ≤ (site_of b a region).start → IsRegionServed b region a b.weights plan goal cells
@@ -176,7 +176,7 @@ one_reached n goal cells long held =
     put_first n (take n goal) cells ∙ ap (λ (l : List ℕ). take n goal ++ l) (drop_all n cells (omega (arith, held))) ∙ append-nil (take n goal)
     ∙ take_all n goal (omega (arith, long))
 
--- or two of them
+-- when both of two regions hold their parts of the goal, the cells are the goal
 pub both_reached : (n m at : ℕ) (goal cells mid : List ℕ) → at ≡ n → length goal ≡ n + m → length cells ≡ n + m → mid ≡ take n goal ++ drop n cells
     → take at mid ++ (take m (drop at goal) ++ drop (at + m) mid) ≡ goal
 both_reached n m at goal cells mid is long held mid_is =

@@ -54,7 +54,7 @@ pub read_pairs : {tells : Bool} {s t : BenchState} → IsRead tells s t → Pair
 read_pairs {tells} {s} {t} reads =
     pairs_of (left (file_half s)) (left (cells_half s)) (Left s) reads.file.moments reads.cells.moments (λ f x of_file of_cells. (of_file, of_cells))
 
--- a fault that was counted behind a call that counted none
+-- a fault that was counted after a call that counted none
 pub one_since : (a b d : ℕ) → b ≡ a → b ≤ d → Rose b d → IsCounted a d true
 one_since a b d same later rose = subst (λ (n : ℕ). IsCounted n d true) same (one_counted b d later rose)
 
@@ -74,7 +74,7 @@ pub kept_room : (n : ℕ) (window front : List ℕ) → length window ≡ 4096 �
     → length (front ++ drop n window) ≡ 4096
 kept_room n window front room le long = omega (arith, length-append front (drop n window), length-drop n window, length-take n window, room, le, long)
 
--- and so is a buffer that was lent as a whole
+-- a buffer that was lent as a whole keeps its length
 pub kept_items : (len : ℕ) (new items : List ℕ) → len ≡ length items → length new ≡ length items
     → length (take len (new ++ drop (length new) items)) ≡ length items
 kept_items len new items one two =

@@ -40,13 +40,13 @@ either_sectors : (l : Geometry) (d : Bool) (x y : Chosen) → length x.sectors �
 either_sectors l true x y one two = one
 either_sectors l false x y one two = two
 
--- and one for each page
+-- either choice between two plans has a truth value for each page
 either_pages : (l : Geometry) (d : Bool) (x y : Chosen) → length x.pages ≡ length l.pages → length y.pages ≡ length l.pages
     → length (cond d x y).pages ≡ length l.pages
 either_pages l true x y one two = one
 either_pages l false x y one two = two
 
--- so has the chosen plan: for each sector
+-- the chosen plan has a truth value for each sector
 chosen_sectors : (l : Geometry) (w : Weights) (has_chip : Bool) (empty : ℕ) (old want : List ℕ)
     → length (chosen l w has_chip empty old want).sectors ≡ length l.sectors
 unfolding chosen by_chip by_sectors
@@ -54,7 +54,7 @@ chosen_sectors l w has_chip empty old want =
     either_sectors l (takes_chip l w has_chip empty old want) (by_chip l w empty old want) (by_sectors l w empty old want)
     (length-map-range_with_len (λ (k : ℕ). false) 0 (length l.sectors)) (length-map-range_with_len (must_erase l empty old want) 0 (length l.sectors))
 
--- and for each page
+-- the chosen plan has a truth value for each page
 chosen_pages : (l : Geometry) (w : Weights) (has_chip : Bool) (empty : ℕ) (old want : List ℕ)
     → length (chosen l w has_chip empty old want).pages ≡ length l.pages
 unfolding chosen by_chip by_sectors
@@ -119,7 +119,7 @@ page_places P site goal (true ∷ bs) k all = (
 page_places P site goal (false ∷ bs) k all = page_places P site goal bs (k + 1)
     (λ j is i h. all (suc j) is i (let z : k + 1 + j ≡ k + suc j = omega arith in subst (λ (n : ℕ). In i (range_at site.layout.pages n)) z h))
 
--- and checks open none
+-- checks open no place
 check_places : (P : ℕ → Type 0) (s : Setup) (site : Site) (held : List ℕ) (bs : List Bool) (k : ℕ) → PlacesIn P site (checks s site.layout held k bs)
 unfolding checks
 check_places P s site held [] k = tt
@@ -133,7 +133,7 @@ in_sector P site plan good long covers k is i h =
     let less : k < length site.layout.sectors = omega (arith, below_length plan.sectors k is, long) in
     covers (site.start + i) (record { at = i; is = refl; inside = omega (arith, h.1, good.sectors_part.below k less); planned = inr (inl (k, is, h)) })
 
--- and so with a page
+-- the cells of a page that the plan programs are places of the plan
 in_page : (P : ℕ → Type 0) (site : Site) (plan : Chosen) → IsGeometry site.layout → length plan.pages ≡ length site.layout.pages → Covers P site plan
     → (k : ℕ) → get_or plan.pages k false ≡ true → (i : ℕ) → In i (range_at site.layout.pages k) → P (site.start + i)
 in_page P site plan good long covers k is i h =
@@ -156,7 +156,7 @@ erasing_places P s site plan held true good long covers is = (
 erasing_places P s site plan held false good long covers is =
     sector_places P site plan.sectors 0 (λ k in_set i h. in_sector P site plan good long covers k in_set i (from_zero site.layout.sectors i k h))
 
--- so does the second
+-- the program phase opens only places of the plan
 programming_places : (P : ℕ → Type 0) (s : Setup) (site : Site) (plan : Chosen) (held goal : List ℕ) → IsGeometry site.layout
     → length plan.pages ≡ length site.layout.pages → Covers P site plan
     → PlacesIn P site (works_of s site.layout held (Programs plan.pages goal))
@@ -164,7 +164,7 @@ unfolding works_of
 programming_places P s site plan held goal good long covers =
     page_places P site goal plan.pages 0 (λ k in_set i h. in_page P site plan good long covers k in_set i (from_zero site.layout.pages i k h))
 
--- and the third opens none
+-- the verify phase opens no place
 verifying_places : (P : ℕ → Type 0) (s : Setup) (site : Site) (held : List ℕ) (set : List Bool) → PlacesIn P site (works_of s site.layout held (Verifies set))
 unfolding works_of
 verifying_places P s site held set = check_places P s site held set 0
@@ -179,7 +179,7 @@ unfolding works_of
 erasing_led s site cells mid true set among leads = led_actions s site (act.EraseChip ∷ []) cells mid among leads
 erasing_led s site cells mid false set among leads = led_actions s site (erasures 0 set) cells mid among leads
 
--- and the second to those with the goal in it
+-- the program phase leads to cells with the goal in the region
 programming_led : (s : Setup) (site : Site) (cells goal : List ℕ) (set : List Bool) → IsAmong site cells
     → Leads site.layout s.algorithm.device.empty (part site cells) (writes site.layout goal 0 set) goal
     → Led s site cells (works_of s site.layout (part site cells) (Programs set goal)) (put site goal cells)
@@ -209,7 +209,7 @@ phases_are : (s : Setup) (t : RegionWork) (b : Torn) → phases s t b ≡ phase 
 unfolding phases
 phases_are s t b = refl
 
--- ---- a region's plan on cells of which its algorithm keeps its duties
+-- ---- a region's plan, where its algorithm keeps its duties on the cells
 
 -- the cells are those before the region's first call, and the goal is the region's
 pub record IsRegionServed (b : BoardShown) (region : ℕ) (a : AlgorithmShown) (w : Weights) (plan : Chosen) (goal cells : List ℕ) : Type 0 where
@@ -232,7 +232,7 @@ module _ (P : ℕ → Type 0) (old : List ℕ) (b : BoardShown) (region : ℕ) (
   abbrev mine : List ℕ
   mine = part here cells
 
-  -- behind reset and load the world is the one in which an algorithm keeps its duties
+  -- after reset and load the world is the one in which an algorithm keeps its duties
   begun_is : (x : World) → board_in x ≡ (b.ram_base, board_map b) → begun (setup_of a b) x ≡ ready b a x.cells
   begun_is x same = ap (λ (p : ℕ × FlashMap). let y : World =
       record { ram_base = p.0; ram = loaded (setup_of a b); map = p.1; state = state_reset p.1; cells = x.cells } in y) same
@@ -254,7 +254,7 @@ module _ (P : ℕ → Type 0) (old : List ℕ) (b : BoardShown) (region : ℕ) (
       (is.serves.keeps x.world.cells kind (long ∙ is.count) bytes may some (led_ready s here works x.world.cells want led)))
       led places start
 
-  -- and over cells that are known to be these
+  -- a phase of the region, where the cells before it are known
   work : (kind : Phase) (x : Stand) (torn : List ℕ) (moves : List Move) (want now held : List ℕ) → x.world.cells ≡ now → part here now ≡ held
       → board_in x.world ≡ (b.ram_base, board_map b) → state_op x.world.state ≡ None
       → moves ≡ map (move_of (setup_of a b) (device_of a)) (works_of (setup_of a b) (device_of a) held kind) → length now ≡ length cells → AreBytes now
@@ -278,7 +278,7 @@ module _ (P : ℕ → Type 0) (old : List ℕ) (b : BoardShown) (region : ℕ) (
   pages_long : length plan.pages ≡ length (device_of a).pages
   pages_long = ap (λ (p : Chosen). length p.pages) is.least.chosen ∙ chosen_pages (device_of a) w (is_some a.entries.erase_chip) a.device.empty mine goal
 
-  -- and for each sector
+  -- the sets of the plan have a truth value for each sector
   sectors_long : length plan.sectors ≡ length (device_of a).sectors
   sectors_long = ap (λ (p : Chosen). length p.sectors) is.least.chosen ∙ chosen_sectors (device_of a) w (is_some a.entries.erase_chip) a.device.empty mine goal
 

@@ -53,11 +53,11 @@ job_wanted (Err e) tells source job goal place address n file cells wanted is sa
 pub shifted : (start at n : ℕ) (xs : List ℕ) → take n (drop (start + at) xs) ≡ take n (drop at (drop start xs))
 shifted start at n xs = ap (λ (l : List ℕ). take n l) (sym (drop-drop at start xs))
 
--- the front and a part behind it
+-- the front of the cells from a place on, and the part that follows it
 pub front_and : (start at n : ℕ) (xs : List ℕ) → take at (drop start xs) ++ take n (drop (start + at) xs) ≡ take (at + n) (drop start xs)
 front_and start at n xs = ap (λ (l : List ℕ). take at (drop start xs) ++ l) (shifted start at n xs) ∙ sym (take-add at n (drop start xs))
 
--- the bytes that are wanted of cells, and of the cells behind them
+-- the bytes wanted of cells followed by more cells: those of the first part, then those of the second
 pub wanted_and : (tells : Bool) (source : Source) (place address at : ℕ) (file o w more more_wanted : List ℕ)
     → length o ≡ at → AreWanted tells source place address file o w
     → AreWanted tells source (place + at) (address + at) file more more_wanted → AreWanted tells source place address file (o ++ more) (w ++ more_wanted)

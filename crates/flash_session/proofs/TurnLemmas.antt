@@ -95,7 +95,7 @@ module _ (s : Setup) (a : Stand) (way : List Move) (made : ℕ) (w : World) (ran
       (run_then a (stand_at made w1) (way ++ (Reset s gives.torn ∷ [])) (Load s ∷ []) _ (reset_moves w1 gives)
       (run_one (stand_at made w1) (Load s) ∙ ap (λ (x : World). went_to (stand_at made x)) (sym loaded)))
 
-  -- its moments are those of where it stood
+  -- the moments of a reset are those of the point where the target stood
   pub reset_moments : (more : List Move) → Leaves (cells_half start) (cells_half end) (SameOutside start.operation start.cells)
       → Leaves (cells_half start) (cells_half end) (IsLeftOnWay a (way ++ more))
   reset_moments more moments =

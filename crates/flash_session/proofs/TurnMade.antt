@@ -431,7 +431,7 @@ module _ (tells : Bool) (goal : List ℕ) (old : Player) (arena : List (List ℕ
           (subst (λ (p : Place). IsCounted start.store_faults end.store_faults (is_store_fault (place_fault p))) (sym ready_place_is)
           (none_counted start.store_faults end.store_faults counted)) ready_told
 
-    -- its bytes could not be read
+    -- the bytes of the call could not be read
     module _ (unread : Player) (arena1 : List (List ℕ)) (same : (unread.calls ≡ old.calls) × (arena1 ≡ arena))
         (page : length unread.page.items ≡ length old.page.items)
         (unread_is : unread ≡ record old { calls = unread.calls; page = unread.page; place = place.Ended ended.StoreFault })
@@ -658,7 +658,7 @@ module _ (tells : Bool) (goal : List ℕ) (old : Player) (arena : List (List ℕ
 
     module _ (size : ℕ) (le : at + size ≤ size_for old) (some : 1 ≤ size) (finds : FindsIn tells start.cells goal at size None)
         (counted : end.device_faults ≡ start.device_faults) (stored : end.store_faults ≡ start.store_faults) where
-      -- and there are more
+      -- all cells of the window match, and more cells follow
       pub alike_turn : at + size ≢ size_for old → Turns tells goal old arena start (record old { place = place.Comparing (at + size) }) arena end
       alike_turn more = compare_turn (place.Comparing (at + size)) (omega (arith, le, more), stays_idle) refl (omega (arith, some, le))
           (none_counted start.device_faults end.device_faults counted) (none_counted start.store_faults end.store_faults stored) (λ z. z)
@@ -669,7 +669,7 @@ module _ (tells : Bool) (goal : List ℕ) (old : Player) (arena : List (List ℕ
                 (more_alike start.cells goal at size alike (found_alike tells start.cells goal at size told finds)),
           ))
 
-      -- and these were the last
+      -- all cells of the window match, and they were the last
       pub closing_turn : at + size ≡ size_for old → (IsTrue tells → length start.cells ≡ size_for old) → (IsTrue tells → length goal ≡ size_for old)
           → Turns tells goal old arena start (record old { place = place.Closing }) arena end
       closing_turn all cells_long goal_long = compare_turn place.Closing stays_idle refl (omega arith)

@@ -137,7 +137,7 @@ played_then tells goal x y z arena arena1 arena2 s t u so_far playing turn =
           (ap is_store_fault still) so_far.store turn.store;
     }
 
--- a turn to a goal that is the same where it is told
+-- a turn towards another goal that is the same wherever the bench tells its contents
 pub turns_to : (tells : Bool) (goal wanted : List ℕ) (x y : Player) (arena arena' : List (List ℕ)) (s t : BenchState) → (IsTrue tells → goal ≡ wanted)
     → Turns tells goal x arena s y arena' t → Turns tells wanted x arena s y arena' t
 turns_to tells goal wanted x y arena arena' s t same turns = record {

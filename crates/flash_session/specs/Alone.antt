@@ -9,7 +9,7 @@ use Rattle.flash_session.specs.Script.{Leg}
 use Rattle.flash_session.specs.declared.target_end.TargetEnd.{TargetEnd}
 use Rattle.flash_session.specs.declared.target_end.TargetEnd.TheVariants as ended
 
--- Its end, its cells and each of its moments are an outcome of its own script. Done is Reached.
+-- The end of a target in a gang, its cells and each of its moments are an outcome of its own script. Done is Reached.
 abbrev pub FollowsAs : List Leg → (goal : List ℕ) → Stand → TargetEnd → BenchState → BenchState → Type 0
 FollowsAs legs goal a ended.Done start now = (r : Reached) → Follows legs goal a (end.Reached r) start now
 FollowsAs legs goal a (ended.Open fault) start now = ⊥

@@ -34,7 +34,7 @@ turns_in (Reset s torn ∷ rest) = turns_in rest + 1
 turns_in (Load s ∷ rest) = turns_in rest + 1
 turns_in (Make s call bytes ∷ rest) = turns_in rest + (fuel_of s call + 2)
 
--- the most turns that a target still takes, over so many cells
+-- the most turns that a target still takes, on a device of this many cells
 abbrev pub turns_ahead : Legs → ℕ → Place → ℕ
 turns_ahead l size (place.At c) = turns_in (rest_of l c unbroken) + (size + 2)
 turns_ahead l size (place.In call len left next) = (left + 1) + (turns_in (rest_of l next unbroken) + (size + 2))
@@ -60,8 +60,8 @@ IsScriptEnd (ended.Mismatch d) = d.want ≢ d.got
 IsScriptEnd ended.StoreFault = Unit {0}
 IsScriptEnd ended.DeviceFault = Unit {0}
 
--- What an end says for itself, on every bench: a call that failed has a number, and was neither done nor broken off by a device fault; a place
--- lies in the device, where two unequal bytes are wanted and found. No operation is open behind a comparison.
+-- What an end says for itself, on every bench. A call that failed has a number; it wasn't done, and no device fault broke it off. A
+-- difference lies in the device, and its two bytes are unequal. No operation is open after a comparison.
 abbrev pub IsSoundEnd : Bool → ℕ → TargetEnd → BenchState → Type 0
 IsSoundEnd tells size ended.Done b = Unit {0}
 IsSoundEnd tells size (ended.Open fault) b = ⊥
@@ -94,7 +94,7 @@ pub record AreTwins (t : Player) : Type 0 where
   pub there : is_some t.other ≡ has_second t
   pub moved : IsThere (has_second t) t.moved
 
--- its script is one of its calls
+-- the script that a player still plays is one of the calls it holds
 pub record IsScripted (t : Player) : Type 0 where
   pub first : IsRegionPlanOn (setup_on t First) (size_for t) (length t.page.items) (region_in t.work First)
   pub second : IsTrue (has_second t) → IsRegionPlanOn (setup_on t Second) (size_for t) (length t.page.items) (region_in t.work Second)

@@ -14,7 +14,7 @@ pub record IsFound (tells : Bool) (j : Job) (a : AlgorithmShown) (start : ℕ) (
   pub bytes : IsTrue tells → All (λ v. v < 2 ^ 8) (take a.device.size (drop start cells))
   pub wanted : IsTrue tells → All (λ v. v < 2 ^ 8) (take a.device.size (drop start goal))
 
--- and so on in the regions behind it
+-- the plans of all regions in order; the first region has its cells at place `start`
 abbrev pub AreFound : Bool → Job → ℕ → List AlgorithmShown → (cells goal : List ℕ) → List RegionPlan → Type 0
 AreFound tells j start [] cells goal [] = Unit {0}
 AreFound tells j start (a ∷ rest) cells goal (r ∷ more) = IsFound tells j a start cells goal r × AreFound tells j (start + a.device.size) rest cells goal more

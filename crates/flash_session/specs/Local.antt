@@ -31,12 +31,12 @@ pub record SameBut (P : ℕ → Type 0) (old new : List ℕ) : Type 0 where
   pub long : length new ≡ length old
   pub same : (i : ℕ) → ¬ P i → slice_index new i ≡ slice_index old i
 
--- What a session does behind a survey, from one bench to the next: a script that changes cells at these places alone, or what leaves the
--- cells as they are, such as the close.
+-- What a session does after a survey, from one bench to the next: a script that changes only cells at places in P, or an action that leaves
+-- the cells as they are, such as the close.
 abbrev pub IsLocalStep : (P : ℕ → Type 0) (old new : BenchState) → Type 0
 IsLocalStep P old new = Leaves (cells_half old) (cells_half new) (SameBut P old.cells) ⊎ CellsStay old new
 
--- so from each bench to the next, any number of times
+-- a list of benches where each step from one to the next is local to the places in P
 abbrev pub AreLocalSteps : {B : Type 0} (state : B → BenchState) (P : ℕ → Type 0) → B → List B → Type 0
 AreLocalSteps state P old [] = Unit {0}
 AreLocalSteps state P old (new ∷ later) = IsLocalStep P (state old) (state new) × AreLocalSteps state P new later

@@ -33,7 +33,7 @@ IsEnd a moves goal (end.CallFailed number call e) cells = FailAt a moves number 
 IsEnd a moves goal end.DeviceFault cells = ⊥
 IsEnd a moves goal end.StoreFault cells = ⊥
 
--- and on a bench, where a fault of the device or of the job file breaks the moves off at a point of their path
+-- how a session ends on a bench: it ends as above, or a fault of the device or of the job file breaks it off at a point of the moves' path
 abbrev pub EndsIn : Stand → List Move → List ℕ → SessionEnd → BenchState → Type 0
 EndsIn a moves goal (end.Reached r) new = IsEnd a moves goal (end.Reached r) new.cells
 EndsIn a moves goal (end.Mismatch d) new = IsEnd a moves goal (end.Mismatch d) new.cells

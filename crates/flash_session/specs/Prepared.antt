@@ -8,7 +8,7 @@ use Rattle.algo_calls.specs.Frames.{asked, fuel_of, first_point}
 use Rattle.algo_calls.specs.Shows.{setup_at, point_at, world_at, Fits}
 use Rattle.flash_session.specs.Steps.{bytes_at}
 
--- it stands at the first point of the call with these bytes, which are those of the goal where they are told
+-- the target is at the first point of a call with these bytes; they are the goal's, where the bench tells its contents
 pub record IsPrepared (tells : Bool) (old : CallsIn) (arena : List (List ℕ)) (window : ℕ) (goal : List ℕ) (call : Call) (from len left : ℕ) (new : CallsIn)
     (arena' : List (List ℕ)) : Type 0 where
   pub bytes : List ℕ
@@ -22,7 +22,7 @@ pub record IsPrepared (tells : Bool) (old : CallsIn) (arena : List (List ℕ)) (
   pub only : OnlyIn window arena arena'
   pub fits : Fits new arena' window
 
--- or it is as it was, since the bytes could not be read
+-- a call was prepared, or nothing changed because the job file couldn't be read
 abbrev pub Prepares : Bool → CallsIn → List (List ℕ) → (window : ℕ) → (goal : List ℕ) → Call → (from len : ℕ) → Result ℕ StoreFault
     → CallsIn → List (List ℕ) → Type 0
 Prepares tells old arena window goal call from len (Ok left) new arena' = IsPrepared tells old arena window goal call from len left new arena'

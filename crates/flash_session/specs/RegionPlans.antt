@@ -20,8 +20,8 @@ pub record IsRegionPlanFor (a : AlgorithmShown) (p : RegionPlan) : Type 0 where
   -- what an erased cell holds is a byte
   pub empty : a.device.empty < 2 ^ 8
 
--- The plan is made from the region's cells, as they were read, to an image laid over them. Where all cells are told they are these from the
--- region's place on.
+-- The plan leads from the region's cells, as they were read, to an image laid over them. Where the bench tells its contents, these are the
+-- cells from the region's place on.
 pub record IsPlannedOver (tells : Bool) (w : Weights) (image : List Run) (all : List ℕ) (a : AlgorithmShown) (p : RegionPlan) : Type 0 where
   pub cells : List ℕ
   pub long : length cells ≡ a.device.size

@@ -14,7 +14,7 @@ use Rattle.flash_session.specs.declared.cursor.Cursor.TheVariants as at
 
 -- ---- the calls of a phase
 
--- the moves for each number from `k` on, so many of them
+-- the moves for `more` numbers from `k` on
 unfoldable pub each_from : (ℕ → List Move) → ℕ → ℕ → List Move
 each_from f k zero = []
 each_from f k (suc more) = f k ++ each_from f (k + 1) more

@@ -35,7 +35,7 @@ each_below (suc n) moves = each_below n moves ++ moves n
 
 -- ---- the phases
 
--- what Init and UnInit of a phase are told
+-- the number that Init and UnInit of a phase are given
 abbrev pub kind_of : Phase → ℕ
 kind_of stage.Erase = 1
 kind_of stage.Program = 2
@@ -81,7 +81,7 @@ unfoldable pub phase : Setup → ℕ → List ℕ → List Move → List Move
 phase s kind torn [] = []
 phase s kind torn (call ∷ calls) = Reset s torn ∷ Load s ∷ Make s (Init kind) [] ∷ ((call ∷ calls) ++ (Make s (UnInit kind) [] ∷ []))
 
--- what the resets before the phases of a region leave of an operation that they break off, of which it is the range
+-- the cells that supply the range of an operation, for the reset before each phase of a region that breaks the operation off
 pub record Torn : Type 0 where
   pub erase : List ℕ
   pub program : List ℕ
@@ -100,7 +100,7 @@ pub record Leg : Type 0 where
 abbrev pub leg : Setup → RegionWork → Leg
 leg s t = record { setup = s; region_work = t }
 
--- the same of the resets of each region in order, and of the last reset
+-- the cells for the resets of each region in order, and for the last reset
 pub record Broken : Type 0 where
   pub legs : List Torn
   pub last : List ℕ
@@ -118,8 +118,8 @@ unfoldable pub legs_of : List Leg → List Torn → List Move
 legs_of [] torn = []
 legs_of (l ∷ rest) torn = phases l.setup l.region_work (torn_first torn) ++ legs_of rest (torn_rest torn)
 
--- The whole: the regions in order, of which a board has one at least, and a reset. The targets of all regions have the board's RAM, so
--- it is that of any of them.
+-- A whole script: the regions in order (a board has at least one), then a reset. The targets of all regions share the board's RAM, so the
+-- last reset is made with the first region's setup.
 unfoldable pub script : List Leg → Broken → List Move
 script [] b = []
 script (l ∷ rest) b = legs_of (l ∷ rest) b.legs ++ (Reset l.setup b.last ∷ [])

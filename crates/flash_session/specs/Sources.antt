@@ -22,7 +22,7 @@ abbrev pub IsOverCells : Source → Type 0
 IsOverCells (from.Job job goal) = ⊥
 IsOverCells (from.Cells image) = Unit {0}
 
--- these bytes are wanted of these cells, of which the first is at this place of all cells and has this address
+-- these bytes are wanted of these cells; the first cell is at `place` among all cells and has this address
 abbrev pub AreWanted : Bool → Source → (place address : ℕ) → (file cells wanted : List ℕ) → Type 0
 AreWanted tells (from.Job job goal) place address file cells wanted = IsTrue tells → wanted ≡ take (length cells) (drop place (goal_in job.now goal file))
 AreWanted tells (from.Cells image) place address file cells wanted = wanted ≡ over image.now address cells

@@ -20,7 +20,7 @@ use Rattle.flash_session.specs.Midway.{Midway}
 use Rattle.flash_session.specs.Rest.{Legs, all_legs, rest_of}
 use Rattle.flash_session.specs.Targets.{setup_now, legs_for, point_for}
 
--- Whatever the resets that are still to come leave, there is one script that begins with these moves and goes on with the rest.
+-- Whatever cells the resets still to come leave, there is a script that begins with the moves `way` and continues with the rest.
 abbrev pub OnWay : Legs → List Move → (Broken → List Move) → Type 0
 OnWay l way later = (b : Broken) → (whole : Broken) × (script (all_legs l) whole ≡ way ++ later b)
 
@@ -56,7 +56,7 @@ pub record HasEnded (legs : List Leg) (goal : List ℕ) (a : Stand) (way : List 
   pub whole : script legs broken ≡ way ++ later
   pub ends : EndIs a (script legs broken) goal e now
 
--- After these moves, the last of which is the call that is being made, a target stands at this place of its script.
+-- After the moves `way`, which include the call in progress, a target is at this place of its script.
 abbrev pub Stands : Legs → (goal : List ℕ) → Setup → Stand → List Move → Place → ℕ → Point → ℕ → BenchState → Type 0
 Stands l goal s a way (place.At c) made here return_at now = OnWay l way (rest_of l c) × (run a way ≡ Ok (stand_at made here.world))
 Stands l goal s a way (place.In call len left next) made here return_at now = OnWay l way (rest_of l next) × InCall s a way call len left made here return_at

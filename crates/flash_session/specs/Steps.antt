@@ -43,7 +43,7 @@ has_phase t r p false = (goal : List ℕ) → phase_calls (leg_at (legs_for t go
 
 -- ---- over all regions
 
--- a call with so many bytes may be made, and the buffer has room for them
+-- a call with `len` bytes may be made, and the buffer has room for them
 pub record IsAsked (t : Player) (call : Call) (from len : ℕ) : Type 0 where
   pub within : from + len ≤ size_for t
   pub fits : len ≤ length t.page.items
@@ -71,7 +71,7 @@ IsStepOf t rest step.Last = (goal : List ℕ) (b : Broken) (torn : List ℕ) →
 abbrev pub IsStep : Player → Cursor → Step → Type 0
 IsStep t cursor x = IsStepOf t (λ goal. rest_of (legs_for t goal) cursor) x
 
--- what comes behind a region
+-- the step that comes after a region
 abbrev pub IsStepBehind : Player → RegionIndex → Step → Type 0
 IsStepBehind t r x = IsStepOf t (λ goal. later_than (legs_for t goal) r) x
 

@@ -81,7 +81,7 @@ FromCursor (at.Init r p) new = IsPreparing new
 FromCursor (at.Calls r p k) new = IsPreparing new
 FromCursor at.Last new = IsLastReset new
 
--- the next steps of a call, after which it stands in it or, where its run has ended, behind it
+-- after the next steps of a call, a target is still in the call or, where the call's run ended, at the cursor after it
 abbrev pub FromCall : (steps : ℕ) → Call → (len left : ℕ) → Cursor → Place → Type 0
 FromCall steps call len left next (place.At c) = c ≡ next
 FromCall steps call len left next (place.In call' len' left' next') = (call' ≡ call) × (len' ≡ len) × (left' + steps ≡ left) × (next' ≡ next)
@@ -99,7 +99,7 @@ IsEndAmong at (ended.Mismatch d) = (at ≤ d.at) × (d.at < at + 4096)
 IsEndAmong at ended.StoreFault = Unit {0}
 IsEndAmong at ended.DeviceFault = Unit {0}
 
--- the comparison of the next 4,096 of so many cells
+-- the comparison of the next 4,096 cells, of `size` in all
 abbrev pub FromCells : (size at : ℕ) → Place → Type 0
 FromCells size at (place.At c) = ⊥
 FromCells size at (place.In call len left next) = ⊥
@@ -124,7 +124,7 @@ IsOver (place.Comparing at) = ⊥
 IsOver place.Closing = ⊥
 IsOver (place.Ended e) = IsEndAtClose e
 
--- with so many steps asked for, over so many cells
+-- the place of a target after one turn, with `steps` steps asked for, on a device of `size` cells
 abbrev pub TakesOn : (steps size : ℕ) → Place → Place → Type 0
 TakesOn steps size (place.At c) new = FromCursor c new
 TakesOn steps size (place.In call len left next) new = FromCall steps call len left next new
@@ -134,13 +134,13 @@ TakesOn steps size (place.Ended e) new = ⊥
 
 -- ---- in a call
 
--- where a target stands behind a slice that ended so, and how many calls it has made
+-- the place of a target after a slice with this end, and the number of calls it has made
 abbrev pub IsBehind : (made : ℕ) → Call → (len left : ℕ) → Cursor → SliceEnd → Player → Type 0
 IsBehind made call len left next slice.More new = (new.place ≡ place.In call len left next) × (new.made ≡ made)
 IsBehind made call len left next (slice.Ended e) new = (new.place ≡ judged made call next (call_end_of (success_of call len) e))
     × (new.made ≡ made_by made (call_end_of (success_of call len) e))
 
--- The target went on in its call by so many steps, or by fewer where the call's run ended in them; then it was judged.
+-- The target ran `steps` steps of its call, or fewer if the call's run ended first; then the call was judged.
 pub record Slice (tells : Bool) (steps : ℕ) (call : Call) (len left : ℕ) (next : Cursor) (old : Player) (arena : List (List ℕ)) (start : BenchState)
     (new : Player) (arena' : List (List ℕ)) (end : BenchState) : Type 0 where
   pub rest : ℕ
@@ -160,7 +160,8 @@ BeginsPhase old c (at.Init r p) = IsStep old c (step.Begin r p)
 BeginsPhase old c (at.Calls r p k) = ⊥
 BeginsPhase old c at.Last = ⊥
 
--- The script comes to this call next, whose bytes are those of the goal where they are told. It stands at its first point, with its fuel.
+-- The script comes to this call next. Where the bench tells its contents, the call's bytes are the goal's. It is at its first point, with
+-- all its fuel.
 pub record IsFresh (tells : Bool) (goal : List ℕ) (old : Player) (arena : List (List ℕ)) (c : Cursor) (new : Player) (arena' : List (List ℕ))
     (call : Call) (len left : ℕ) (next : Cursor) : Type 0 where
   pub from : ℕ

@@ -33,7 +33,7 @@ pub record GoesOn (a : Stand) (way : List Move) (goal : List ℕ) (new : Player)
   pub stands : StandsOn a (way ++ more) goal new arena end
   pub moments : Leaves (cells_half start) (cells_half end) (IsLeftOnWay a (way ++ more))
 
--- its script stays
+-- a turn keeps the target's script: setups, maps, plans
 pub record SameTarget (old new : Player) : Type 0 where
   pub setups : (r : RegionIndex) → setup_on new r ≡ setup_on old r
   pub maps : (r : RegionIndex) → map_on new r ≡ map_on old r

@@ -59,7 +59,7 @@ IsEndOf (ended.Mismatch d) e = e ≡ end.Mismatch d
 IsEndOf ended.StoreFault e = e ≡ end.StoreFault
 IsEndOf ended.DeviceFault e = e ≡ end.DeviceFault
 
--- and one that stops here: none where there is more to play
+-- a target that stops at this place: it has an end only where nothing more is to be played
 abbrev pub IsStop : Place → Option SessionEnd → Type 0
 IsStop (place.At c) None = Unit {0}
 IsStop (place.In call len left next) None = Unit {0}

@@ -53,7 +53,7 @@ pub enum Cursor {
 pub enum Place {
     /// Between two moves of its script.
     At(Cursor),
-    /// In a call that was handed so many bytes, with so much fuel left. After it the target stands at the cursor.
+    /// In a call with `len` bytes and `left` steps of fuel. The next move is at the cursor.
     In {
         call: Call,
         len: u32,
@@ -78,7 +78,7 @@ pub(crate) enum Step {
         region: RegionIndex,
         phase: Phase,
     },
-    /// A call with so many bytes of the goal from this place on.
+    /// A call with `len` bytes of the goal, from this place on.
     Call {
         call: Call,
         from: u32,
@@ -89,7 +89,7 @@ pub(crate) enum Step {
     Last,
 }
 
-/// A call for a sector or a page, with so many bytes of the region's goal from this place on.
+/// A call for a sector or a page, with `len` bytes of the region's goal from this place on.
 #[derive(Clone, Copy)]
 pub(crate) struct Item {
     pub call: Call,

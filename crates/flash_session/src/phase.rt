@@ -3,11 +3,11 @@
 /// A phase of a script in a region.
 #[derive(Clone, Copy)]
 pub enum Phase {
-    /// Its sectors are erased, or the whole chip.
+    /// The region's sectors are erased, or the whole chip.
     Erase,
-    /// Its pages are programmed.
+    /// The region's pages are programmed.
     Program,
-    /// Its pages are verified.
+    /// The region's pages are verified.
     Verify,
 }
 
@@ -15,7 +15,7 @@ impl Phase {
     ghost use Rattle.std.specs.Prelude.{◌≡◌};
     ghost use Rattle.flash_session.specs.Script.{kind_of};
 
-    /// What Init and UnInit of the phase are told.
+    /// The number that Init and UnInit of the phase are given.
     pub fn kind(self) -> u32
         ensures { result ≡ kind_of self }
     {

@@ -45,9 +45,8 @@ use ram_arena::Arena;
 use std::mem;
 use target_core::{RunEnd, SliceEnd};
 
-/// A player of a script, which is lent its job, its RAM and its bench: the calls of its algorithms, of which those of the region that moved
-/// last are at hand, with the window of its RAM; what its script is made of, and a buffer for a page; how many calls were made, and where it
-/// stands.
+/// A player of a script. It is lent its job, its RAM and its bench. It keeps the calls of its algorithms, the window of its RAM, the
+/// script's plans, a buffer for a page, the number of calls made, and its place. `calls` are those of the region that moved last.
 #[derive(Drop)]
 pub struct Player {
     pub calls: CallsIn,
@@ -313,7 +312,7 @@ fn prepare_with<B: Bench>(
     }
 }
 
-/// The same with as many bytes as the call has, at the front of the buffer.
+/// Prepares a call with the bytes that it needs, read into the front of the buffer.
 fn prepare_from<B: Bench>(
     calls: &mut CallsIn,
     arena: &mut Arena,
@@ -668,8 +667,8 @@ impl Player {
         }
     }
 
-    /// The next steps of a call that runs, at most so many, or one host action of the script or of the comparison. A call whose run has
-    /// ended is judged in the same turn. It takes no memory.
+    /// Makes at most `steps` steps of a call that runs, or one host action of the script or of the comparison. A call that ends is judged
+    /// in the same turn. It takes no memory.
     fn play<B: Bench>(&mut self, job: &Job, arena: &mut Arena, bench: &mut B, steps: u64)
         requires playing { IsPlaying self.old.place }
         requires fit { Fit B.tells self.old arena.old (B.state bench.old) }

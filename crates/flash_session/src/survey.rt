@@ -29,7 +29,7 @@ use job_text::Job;
 use ram_arena::Arena;
 use std::alloc::Global;
 
-/// So many bytes, all zero.
+/// A buffer of `len` zero bytes.
 fn zeros(alloc: Global, len: usize) -> Result<Vec<u8>, OutOfMemory>
     ensures { IfOk result (λ bytes. length bytes.items ≡ len) }
 {

@@ -91,7 +91,7 @@ load s runs offset =
     else if nat_eq offset 0x0C then Some (status s runs) else if nat_eq offset 0x10 then Some (control s runs)
     else if nat_eq offset 0x14 then Some s.address else if nat_eq offset 0x1C then Some 0 else if nat_eq offset 0x20 then Some 0xFFFFFFFF else None
 
--- and what a store to it does
+-- what a store to the register at an offset does
 unfoldable pub store : FlashMap → State → Option Operation → ℕ → ℕ → Effect × State
 store map s runs offset value =
     if nat_eq offset 0x00 then becomes (access_control_stored s value) else if nat_eq offset 0x04 then becomes (key_stored s value)

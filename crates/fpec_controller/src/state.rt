@@ -45,7 +45,7 @@ fn is_erasure(operation: Option<Operation>) -> bool
 }
 
 impl State {
-    /// As after a reset.
+    /// The registers after a reset.
     pub fn reset() -> State
         ensures { result ≡ after_reset }
     {

@@ -1,4 +1,4 @@
-//! Ranges cut into pieces of one size, the last of which may be shorter. All numbers are places and lengths in bytes.
+//! Ranges cut into pieces of one size; the last piece may be shorter. All numbers are places and lengths in bytes.
 ghost use Rattle.std.specs.Prelude.{◌≡◌, ◌+◌, ◌<◌, ◌≤◌, drop, length};
 ghost use Rattle.flm_descriptor.specs.Shape.{pieces, piece, item_end, cut, pages_of};
 

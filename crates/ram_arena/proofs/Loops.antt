@@ -17,7 +17,7 @@ replicate_more : (k v : ℕ) → replicate (k + 1) v ≡ replicate k v ++ v ∷ 
 replicate_more zero v = refl
 replicate_more (suc k) v = let e : suc k + 1 ≡ suc (k + 1) = omega arith in rw e (ap (λ (l : List ℕ). v ∷ l) (replicate_more k v))
 
--- a window with so many bytes made v, and with so many bytes copied in
+-- a window whose first `k` bytes were set to `v`
 abbrev pub filled : ℕ → ℕ → List ℕ → List ℕ
 filled k v w = sets w 0 (replicate k v)
 

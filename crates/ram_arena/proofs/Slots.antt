@@ -32,7 +32,7 @@ somes_set cs full i v = ap (λ (l : List (Option ℕ)). somes (set l i (Some v))
 pub full_set : (cs : List (Option ℕ)) → IsFull cs → (i v : ℕ) → IsFull (set cs i (Some v))
 full_set cs full i v = ap (λ (l : List (Option ℕ)). set l i (Some v)) full ∙ map_set (somes cs) i v ∙ ap (map Some) (sym (somes_set cs full i v))
 
--- so many zeros, and then so many places that are not written
+-- a number of zero bytes, then a number of slots that aren't written yet
 abbrev pub zeros_to : ℕ → ℕ → List (Option ℕ)
 zeros_to zero rest = replicate rest None
 zeros_to (suc at) rest = Some 0 ∷ zeros_to at rest

@@ -148,7 +148,7 @@ blank_is (n ∷ ns) =
     let le : n ≤ round_up n + total ns = omega (arith, up n) in
     rw (zeros_take n (round_up n + total ns) le, zeros_drop (round_up n) (total ns)) (ap (λ (l : List (List ℕ)). replicate n 0 ∷ l) (blank_is ns))
 
--- a window more behind the others
+-- one more window after the others
 pub lie_more : (ws : List Window) (at : ℕ) (w : Window) → LieFrom at ws → w.from ≡ at + total (sizes_of ws) → LieFrom at (ws ++ w ∷ [])
 lie_more [] at w lie is = (is ∙ omega arith, tt)
 lie_more (v ∷ ws) at w lie is = (lie.0, lie_more ws (at + round_up v.size) w lie.1 (is ∙ omega arith))

@@ -127,7 +127,7 @@ impl Arena {
         self.windows[window].from
     }
 
-    /// The byte at a place of a window, of which it is known where it begins.
+    /// The byte at a place of a window that begins at `from`.
     pub fn load8_from(&self, from: usize, window: usize, offset: usize) -> u32
         requires from { from ≡ begin_of self.now window }
         requires window { window < length self.now }
@@ -159,7 +159,7 @@ impl Arena {
         self.bytes.load32(from + offset)
     }
 
-    /// Stores a byte at a place of a window, of which it is known where it begins.
+    /// Stores a byte at a place of a window that begins at `from`.
     pub fn store8_from(&mut self, from: usize, window: usize, offset: usize, value: u32)
         requires from { from ≡ begin_of self.old window }
         requires window { window < length self.old }

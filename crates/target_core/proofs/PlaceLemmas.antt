@@ -80,7 +80,7 @@ by_two x limit below most =
     let none : x * 2 ^ 30 % 2 ^ 32 ≡ 0 = omega (arith, high) in
     (omega (arith, none), same_or (x / 4) (x * 2 ^ 30 % 2 ^ 32) none)
 
--- so many steps, of which there is one, lie in what is reached, and the base is a multiple of a step
+-- a count of steps that isn't 0 lies within the reach, and the base is a multiple of a step
 some_step : (fits : Bool) (steps count : ℕ) (i : ℕ) → count ≡ (if fits then steps else 0) → i < count → (fits ≡ true) × (i < steps)
 some_step true steps count i is some = (refl, omega (arith, is, some))
 some_step false steps count i is some = absurd (omega (arith, is, some))

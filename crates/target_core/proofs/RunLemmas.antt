@@ -13,7 +13,7 @@ tests None = inr refl
 some_none : (o : Option RunEnd) → is_some o ≡ true → o ≡ None → ⊥
 some_none o some none = let is : is_some o ≡ false = ap is_some none in cc
 
--- where no end holds before `made` steps, and one does then, so many are made
+-- where no end holds before `made` steps, and one holds then, `made` steps are made
 from_is : (return_at fuel : ℕ) (p : Point) (k more made : ℕ) → GoesTo return_at fuel p made → is_some (end_at return_at fuel p made) ≡ true → k ≤ made →
     made ≤ k + more → steps_from return_at fuel p k more ≡ made
 unfolding steps_from
@@ -48,7 +48,7 @@ from_within return_at fuel p k (suc more) = ⊎_elim
     from_within return_at fuel p (suc k) more in omega (arith, rest)))
     (tests (end_at return_at fuel p k))
 
--- where no end holds before `made` steps, at least so many are made
+-- where no end holds before `made` steps, at least `made` steps are made
 from_least : (return_at fuel : ℕ) (p : Point) (k more made : ℕ) → GoesTo return_at fuel p made → made ≤ k + more → made ≤ steps_from return_at fuel p k more
 unfolding steps_from
 from_least return_at fuel p k zero made goes to = omega (arith, to)

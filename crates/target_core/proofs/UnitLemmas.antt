@@ -22,7 +22,7 @@ with_same b = ap (λ (n : ℕ). record (board_map b) { block = n }) (block_same 
 pub fresh_idle : (k : ControllerKind) → state_op (fresh k) ≡ None
 fresh_idle k = refl
 
--- so a bench with as many cells, on which none is open, agrees with it
+-- a bench with as many cells and no open operation agrees with a fresh unit
 pub fresh_agrees : (tells : Bool) (unit : Unit) (k : ControllerKind) (b : BenchState) → unit_state unit ≡ fresh k → b.cell_count ≡ unit_cells unit →
     b.operation ≡ None → UnitAgrees tells unit b
 fresh_agrees tells unit k b state count idle = record {

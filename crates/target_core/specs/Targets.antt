@@ -59,8 +59,8 @@ pub record SliceFrom (return_at : ℕ) (first : Point) (start : BenchState) (lef
 abbrev pub SliceGives : Standing → BenchState → ℕ → ℕ → ℕ → SliceEnd → Standing → BenchState → Type 0
 SliceGives from start left left' steps e to end = SliceFrom from.return_at (point_in from start.cells) start left left' steps e (point_in to end.cells) end
 
--- A run in slices of so many steps, one after the other, up to the one that ends it: each goes on from the point where the one before it
--- ended, on the bench and with the fuel that it left.
+-- A run in slices, one for each number of the list; the last slice ends the run. Each slice starts where the one before it ended, with the
+-- bench and the fuel that it left.
 abbrev pub Sliced : {B : Type 0} → (B → BenchState) → ℕ → List ℕ → Point → B → ℕ → RunEnd → Point → B → Type 0
 Sliced state return_at [] first start fuel e last end = ⊥
 Sliced {B} state return_at (steps ∷ more) first start fuel e last end =
