@@ -1,4 +1,4 @@
--- The table of a controller of whichever kind: that of its kind.
+-- The table of a controller of any kind: it does what the table of the controller's own kind says.
 use Rattle.std.specs.Prelude.{ℕ, Bool, List, Option}
 use Rattle.board_file.specs.declared.kind.ControllerKind.{ControllerKind}
 use Rattle.board_file.specs.declared.kind.ControllerKind.TheVariants as kind
@@ -25,7 +25,7 @@ abbrev pub any_load : AnyRegisters → Option Operation → ℕ → Option ℕ
 any_load (Fc1 s) runs offset = fc1_table.load s runs offset
 any_load (Fpec s) runs offset = fpec_table.load s runs offset
 
--- what a store does, with its registers as those of a kind
+-- the effect of a store, with the registers of one kind as registers of any kind
 abbrev pub does_as : {R : Type 0} → (R → AnyRegisters) → Effect × R → Effect × AnyRegisters
 does_as of p = (p.0, of p.1)
 

@@ -1,4 +1,4 @@
--- A run of the target as a whole.
+-- A run of the target as a whole, and its slices.
 use Rattle.std.specs.Prelude.{◌≡◌, ◌≤◌, ◌+◌, ◌-◌, ◌⊎◌, ℕ, false, List, [], ◌∷◌, replicate}
 use Rattle.bench_model.specs.State.{BenchState}
 use Rattle.armv6m_step.specs.declared.core_state.Core.{Core}
@@ -20,7 +20,7 @@ core_at regs = record { regs = regs; n = false; z = false; c = false; v = false;
 abbrev pub fresh_core : Core
 fresh_core = core_at (replicate 16 0)
 
--- a target: the core, the RAM from its base on, the controller, and where the run returns to that was started last
+-- a target: the core, the RAM from its base on, the controller, and the return point of the run that was started last
 pub record Standing : Type 0 where
   pub core : Core
   pub ram_base : ℕ
@@ -43,14 +43,14 @@ stands t = over t.machine t.arena 0
 abbrev pub after_start : Standing → Frame → Standing
 after_start t f = record t { core = core_at f.regs; return_at = f.return_at }
 
--- the point at which a target over these cells stands
+-- the point of a target over these cells
 abbrev pub point_in : Standing → List ℕ → Point
 point_in t cells = record {
   core = t.core;
   world = record { ram_base = t.ram_base; ram = t.ram; map = unit_map t.unit; state = unit_state t.unit; cells = cells };
 }
 
--- A slice of a run goes from one point to another and ends so, and the fuel that is left fell by the steps that went.
+-- A slice of a run leads from one point to another and ends in this way. The fuel left falls by the steps made.
 pub record SliceFrom (return_at : ℕ) (first : Point) (start : BenchState) (left left' steps : ℕ) (e : SliceEnd) (last : Point) (end : BenchState) : Type 0 where
   pub runs : RunsTo return_at left first (left - left') (last_of_slice e (left - left')) start end
   pub ends : SliceIs return_at left steps first (left - left') e last end
@@ -68,6 +68,6 @@ Sliced {B} state return_at (steps ∷ more) first start fuel e last end =
     ⊎ ((left : ℕ) × (between : Point) × (turn : B) × (left ≤ fuel) × SliceFrom return_at first (state start) fuel left steps slice.More between (state turn)
     × Sliced state return_at more between turn left e last end)
 
--- A slice that ended with more to do made all its steps, and left fuel: so it went on, where it was to make any.
+-- A slice that ended with more to do made all its steps and has fuel left.
 abbrev pub GoesOn : SliceEnd → ℕ → ℕ → ℕ → Type 0
 GoesOn e left left' steps = e ≡ slice.More → (1 ≤ left') × (left' + steps ≡ left)
