@@ -1,4 +1,4 @@
--- What a target that has ended has in common with a session that did the same work alone.
+-- A target that has ended has an outcome that a session alone may have for the same work.
 use Rattle.std.specs.Prelude.{ℕ, List}
 use Rattle.bench_model.specs.State.{BenchState}
 use Rattle.flash_session.specs.declared.session.Reached.{Reached}
@@ -9,7 +9,7 @@ use Rattle.flash_session.specs.Script.{Leg}
 use Rattle.flash_session.specs.declared.target_end.TargetEnd.{TargetEnd}
 use Rattle.flash_session.specs.declared.target_end.TargetEnd.TheVariants as ended
 
--- The end of a target in a gang, its cells and each of its moments are an outcome of its own script. Done is Reached.
+-- the end of a target, its cells and each of its moments are an outcome of its own script; Done stands for Reached
 abbrev pub FollowsAs : List Leg → (goal : List ℕ) → Stand → TargetEnd → BenchState → BenchState → Type 0
 FollowsAs legs goal a ended.Done start now = (r : Reached) → Follows legs goal a (end.Reached r) start now
 FollowsAs legs goal a (ended.Open fault) start now = ⊥

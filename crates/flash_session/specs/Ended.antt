@@ -1,11 +1,11 @@
--- How a target shows its end.
+-- The end that a target shows.
 use Rattle.std.specs.Prelude.{◌≡◌, Option, Some, None}
 use Rattle.std.specs.Borrow.{Bor}
 use Rattle.flash_session.specs.declared.cursor.Place.{Place}
 use Rattle.flash_session.specs.declared.cursor.Place.TheVariants as place
 use Rattle.flash_session.specs.declared.target_end.TargetEnd.{TargetEnd}
 
--- none where it hasn't ended
+-- the end that a target shows at a place, or none where it hasn't ended
 abbrev pub IsEndAt : Place → Option (Bor TargetEnd) → Type 0
 IsEndAt (place.At c) None = Unit {0}
 IsEndAt (place.At c) (Some e) = ⊥

@@ -1,4 +1,4 @@
--- What the survey of a region found.
+-- What the survey of the regions of a job found.
 use Rattle.std.specs.Prelude.{◌<◌, ◌+◌, ◌^◌, ℕ, Bool, IsTrue, All, List, [], ◌∷◌, take, drop}
 use Rattle.board_file.specs.Shown.{shown as board_of}
 use Rattle.flm_descriptor.specs.Shown.{Shown as AlgorithmShown}
@@ -7,7 +7,7 @@ use Rattle.flash_session.specs.declared.region_plan.RegionPlan.{RegionPlan}
 use Rattle.flash_session.specs.Surveys.{IsPlannedFor, planned_of}
 use Rattle.flash_session.specs.SurveyFacts.{IsRegionSurvey}
 
--- this, in a region whose cells begin at this place of all cells
+-- a plan that the survey of a region found; the region's cells begin at `start` among all cells
 pub record IsFound (tells : Bool) (j : Job) (a : AlgorithmShown) (start : ℕ) (cells goal : List ℕ) (r : RegionPlan) : Type 0 where
   pub plan : IsPlannedFor tells (board_of j.board) a (take a.device.size (drop start cells)) (take a.device.size (drop start goal)) (planned_of r)
   pub work : IsRegionSurvey a start r

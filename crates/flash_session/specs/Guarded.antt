@@ -1,4 +1,4 @@
--- What a stop leaves of the job's file and of the cells, over all turns so far.
+-- What a stop at any moment leaves of the job's file and of the cells, over all turns so far.
 use Rattle.std.specs.Prelude.{◌≡◌, ◌<◌, ℕ, Bool, true, false, List, ◌∷◌, None}
 use Rattle.bench_model.specs.Pairs.{PairsLeave, PairsInTurn}
 use Rattle.bench_model.specs.State.{BenchState}
@@ -11,15 +11,15 @@ use Rattle.flash_session.specs.declared.target_end.TargetEnd.TheVariants as ende
 use Rattle.flash_session.specs.declared.target_end.Turn.TheVariants as turn
 use Rattle.flash_session.specs.Turns.{IsUnended, turn_of}
 
--- the job with this body is whole
+-- the file and cells that a stop leaves: the job with this body is whole
 abbrev pub HasBody : List ℕ → List ℕ → List ℕ → Type 0
 HasBody body f c = IsWhole body f
 
--- from the close on: the job is whole or closed, and the cells are the goal
+-- the file and cells that a stop leaves from the close on: the job is whole or closed, and the cells are the goal
 abbrev pub IsAtClose : List ℕ → List ℕ → List ℕ → List ℕ → Type 0
 IsAtClose body goal f c = IsWholeOrClosed body f × (c ≡ goal)
 
--- what stands in the file where a target has ended so
+-- the contents of the job's file when a target has ended in this way
 abbrev pub FileEnd : List ℕ → TargetEnd → List ℕ → Type 0
 FileEnd body ended.Done f = f ≡ 0 ∷ body
 FileEnd body (ended.Open fault) f = IsWhole body f
@@ -29,7 +29,7 @@ FileEnd body (ended.Mismatch d) f = IsWhole body f
 FileEnd body ended.StoreFault f = IsWholeOrClosed body f
 FileEnd body ended.DeviceFault f = IsWhole body f
 
--- the ends of a target that never came to its close
+-- whether a target with this end never came to its close
 abbrev pub has_no_close : TargetEnd → Bool
 has_no_close (ended.CallFailed number call e) = true
 has_no_close (ended.Mismatch d) = true
@@ -43,9 +43,9 @@ FileAt body (place.Comparing at) f = IsWhole body f
 FileAt body place.Closing f = IsWhole body f
 FileAt body (place.Ended e) f = FileEnd body e f
 
--- While a target goes on, each pair has the whole job. Once it has ended, each pair before a moment has it, and each from there on is one
--- at the close. (A target that came to no close has its moment after all of them: so it is
--- after a device fault, a call that failed and a mismatch.)
+-- What a stop leaves, as a pair of file and cells. Until a target has ended, each pair has the whole job. After its end there is a moment:
+-- each pair before it has the whole job, and each pair from it on is one at the close. After a device fault, a call that failed or a
+-- mismatch, that moment lies after all others.
 pub record Guarded (body goal : List ℕ) (p : Place) (start now : BenchState) : Type 0 where
   pub going : IsUnended p → IsWhole body now.file × PairsLeave start now (HasBody body)
   pub file : FileAt body p now.file

@@ -1,4 +1,4 @@
--- How a script ends.
+-- How a script ends: with all moves made, at a call that failed, or by a fault.
 use Rattle.std.specs.Prelude.{◌≡◌, ◌≢◌, ◌<◌, ℕ, List, Option, Some, None, Ok, Err}
 use Rattle.bench_model.specs.Counted.{BenchFault, store, device}
 use Rattle.bench_model.specs.History.{Leaves}
@@ -13,19 +13,19 @@ use Rattle.flash_session.specs.Moves.{Move, Stand, failure, run, IsLeftOnWay}
 use Rattle.flash_session.specs.Plays.{BreaksOff, IsNotDone}
 use Rattle.flash_session.specs.Script.{Leg, Broken, script}
 
--- the moves go to their end, and leave these cells
+-- the moves are all made, and leave these cells
 pub record GoTo (a : Stand) (moves : List Move) (cells : List ℕ) : Type 0 where
   pub last : Stand
   pub ran : run a moves ≡ Ok last
   pub leaves : last.world.cells ≡ cells
 
--- this call is the first that isn't done, and leaves these cells
+-- a call is the first that isn't done, and leaves these cells
 pub record FailAt (a : Stand) (moves : List Move) (number : ℕ) (call : Call) (e : CallEnd) (cells : List ℕ) : Type 0 where
   pub at : World
   pub ran : run a moves ≡ Err (failure number call e at)
   pub leaves : at.cells ≡ cells
 
--- the end of moves and of the comparison after them, with the cells that are left
+-- the end of the moves and of the comparison after them, with the cells that they leave
 abbrev pub IsEnd : Stand → List Move → List ℕ → SessionEnd → List ℕ → Type 0
 IsEnd a moves goal (end.Reached r) cells = GoTo a moves cells × (cells ≡ goal)
 IsEnd a moves goal (end.Mismatch d) cells = GoTo a moves cells × DiffersFirst goal cells d
@@ -33,7 +33,7 @@ IsEnd a moves goal (end.CallFailed number call e) cells = FailAt a moves number 
 IsEnd a moves goal end.DeviceFault cells = ⊥
 IsEnd a moves goal end.StoreFault cells = ⊥
 
--- how a session ends on a bench: it ends as above, or a fault of the device or of the job file breaks it off at a point of the moves' path
+-- how a session ends on a bench: it ends as `IsEnd` says, or a fault of the device or of the job file breaks it off at a point of the path
 abbrev pub EndsIn : Stand → List Move → List ℕ → SessionEnd → BenchState → Type 0
 EndsIn a moves goal (end.Reached r) new = IsEnd a moves goal (end.Reached r) new.cells
 EndsIn a moves goal (end.Mismatch d) new = IsEnd a moves goal (end.Mismatch d) new.cells
@@ -41,8 +41,8 @@ EndsIn a moves goal (end.CallFailed number call e) new = IsEnd a moves goal (end
 EndsIn a moves goal end.DeviceFault new = BreaksOff a moves new
 EndsIn a moves goal end.StoreFault new = BreaksOff a moves new
 
--- With one choice of what broken-off operations leave, the end, the cells and each moment are those of the script of these regions. The
--- goal is that of all cells.
+-- For some choice of the bytes that broken-off operations leave, the end, the cells and each moment are those of the script of these
+-- regions. The goal is a goal for all cells.
 pub record Follows (legs : List Leg) (goal : List ℕ) (a : Stand) (e : SessionEnd) (old new : BenchState) : Type 0 where
   pub broken : Broken
   pub ends : EndsIn a (script legs broken) goal e new
@@ -55,8 +55,8 @@ end_fault (end.CallFailed number call e) = None
 end_fault end.DeviceFault = Some device
 end_fault end.StoreFault = Some store
 
--- what an end says for itself, on every bench: a place lies in the device, where two unequal bytes are wanted and found; a call that failed
--- has a number, and was neither done nor broken off by a device fault
+-- What each end of a session says, on every bench. A difference lies in the device, and its two bytes are unequal. A call that failed has a
+-- number; it wasn't done, and no device fault broke it off.
 abbrev pub IsSound : ℕ → SessionEnd → Type 0
 IsSound size (end.Reached r) = Unit {0}
 IsSound size (end.Mismatch d) = (d.at < size) × (d.want ≢ d.got)
@@ -64,7 +64,7 @@ IsSound size (end.CallFailed number call e) = IsNotDone number e
 IsSound size end.DeviceFault = Unit {0}
 IsSound size end.StoreFault = Unit {0}
 
--- the script came to its comparison
+-- an end at which the script came to its comparison
 abbrev pub IsCompared : SessionEnd → Type 0
 IsCompared (end.Reached r) = Unit {0}
 IsCompared (end.Mismatch d) = Unit {0}

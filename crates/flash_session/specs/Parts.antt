@@ -1,4 +1,4 @@
--- What a session gives up.
+-- The player that a session gives up to its caller.
 use Rattle.std.specs.Prelude.{◌≡◌, ◌<◌, ◌+◌, ◌^◌, ℕ, List, replicate}
 use Rattle.board_file.specs.Shown.{shown as board_of}
 use Rattle.board_file.specs.Limits.{size_of}
@@ -19,8 +19,8 @@ use Rattle.flash_session.specs.Starts.{start_of}
 use Rattle.flash_session.specs.Surveys.{Surveyed}
 use Rattle.flash_session.specs.Targets.{setup_now, legs_for, size_for}
 
--- A player of the script that a survey of a job planned, before its first move. With a RAM of zero bytes its machine is the board's target
--- as after a reset.
+-- A player of the script that a survey of a job planned, before its first move. With a RAM of zeros its machine is the board's target after
+-- a reset.
 pub record IsPlayerOf (j : Job) (w : Surveyed) (p : Player) : Type 0 where
   pub place : p.place ≡ place.At (at.Begin First stage.Erase)
   pub made : p.made ≡ 0

@@ -1,4 +1,4 @@
--- What the preparing of a call leaves.
+-- What preparing a call leaves.
 use Rattle.std.specs.Prelude.{◌≡◌, ℕ, Bool, IsTrue, List, length, Result, Ok, Err}
 use Rattle.bench_model.specs.declared.bench_fault.StoreFault.{StoreFault}
 use Rattle.target_core.specs.Windows.{OnlyIn}

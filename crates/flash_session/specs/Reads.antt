@@ -1,4 +1,4 @@
--- The fault of cells, or of the bytes that are wanted of them, that were not read.
+-- The fault of a read of cells, or of the bytes wanted of them.
 use Rattle.std.specs.Prelude.{Option, Some}
 use Rattle.bench_model.specs.Counted.{BenchFault, store, device}
 use Rattle.flash_session.specs.declared.windows.Unread.{Unread}

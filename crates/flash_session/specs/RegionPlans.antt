@@ -1,4 +1,4 @@
--- The work on a region: the memory for its plan, and the plan to an image laid over its cells.
+-- The memory for the plan of a region, and the plan that leads to an image laid over its cells.
 use Rattle.std.specs.Prelude.{◌≡◌, ◌<◌, ◌≤◌, ◌+◌, ◌^◌, ℕ, Bool, IsTrue, is_some, List, length, take, drop}
 use Rattle.board_file.specs.declared.board.Weights.{Weights}
 use Rattle.byte_map.specs.Image.{Run, over}
@@ -9,7 +9,7 @@ use Rattle.erase_planner.specs.Plans.{IsLeastPlan}
 use Rattle.algo_calls.specs.Duties.{device_of}
 use Rattle.flash_session.specs.declared.region_plan.RegionPlan.{RegionPlan}
 
--- the sectors and pages are those of an algorithm's device, and there is room for a plan of them
+-- a region plan has the sectors and pages of an algorithm's device, and room for a plan of them
 pub record IsRegionPlanFor (a : AlgorithmShown) (p : RegionPlan) : Type 0 where
   pub layout : p.geometry ≡ device_of a
   pub lawful : IsGeometry p.geometry
@@ -17,7 +17,7 @@ pub record IsRegionPlanFor (a : AlgorithmShown) (p : RegionPlan) : Type 0 where
   pub room : Covers p.geometry p.plan
   pub base : p.base ≡ a.device.base
   pub end : p.base + p.geometry.size ≤ 2 ^ 32
-  -- what an erased cell holds is a byte
+  -- the value of an erased cell is a byte
   pub empty : a.device.empty < 2 ^ 8
 
 -- The plan leads from the region's cells, as they were read, to an image laid over them. Where the bench tells its contents, these are the

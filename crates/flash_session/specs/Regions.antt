@@ -7,7 +7,7 @@ abbrev pub other_than : RegionIndex → RegionIndex
 other_than First = Second
 other_than Second = First
 
--- a board has this region, by whether it has a second one
+-- a board has this region; `has` says whether it has a second one
 abbrev pub IsThere : (has : Bool) → RegionIndex → Type 0
 IsThere has First = Unit {0}
 IsThere has Second = IsTrue has

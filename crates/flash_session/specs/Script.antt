@@ -1,4 +1,4 @@
--- The script: the moves by which a target is to reach the goal.
+-- The script: the moves that lead a target to its goal.
 use Rattle.std.specs.Prelude.{◌≤◌, ◌+◌, ◌-◌, ◌^◌, ℕ, zero, suc, Bool, true, false, if◌then◌else◌, IsTrue, is_some, List, [], ◌∷◌, ◌++◌, length, take, drop}
 use Rattle.std.specs.Prelude.{get_or}
 use Rattle.flm_descriptor.specs.Shape.{Range, range_at}
@@ -11,7 +11,7 @@ use Rattle.flash_session.specs.Moves.{Move, Reset, Load, Make}
 use Rattle.flash_session.specs.declared.phase.Phase.{Phase}
 use Rattle.flash_session.specs.declared.phase.Phase.TheVariants as stage
 
--- a plan of a region: its sectors and pages, the address of its first byte, and what to erase and to program
+-- a plan for a region: its sectors and pages, the address of its first byte, and what to erase and program
 pub record Planned : Type 0 where
   pub layout : Geometry
   pub base : ℕ
@@ -28,7 +28,7 @@ planned layout base plan = record { layout = layout; base = base; plan = plan }
 abbrev pub region_work : Geometry → ℕ → Chosen → List ℕ → RegionWork
 region_work layout base plan goal = record { planned = planned layout base plan; goal = goal }
 
--- the moves for each number below this, in rising order
+-- the moves for each number below `n`, in rising order
 unfoldable pub each_below : ℕ → (ℕ → List Move) → List Move
 each_below zero moves = []
 each_below (suc n) moves = each_below n moves ++ moves n
@@ -41,7 +41,7 @@ kind_of stage.Erase = 1
 kind_of stage.Program = 2
 kind_of stage.Verify = 3
 
--- ---- the erasures: of the whole chip, or sector by sector
+-- ---- erasing: the whole chip, or sector by sector
 
 abbrev pub sector_moves : Setup → Planned → ℕ → List Move
 sector_moves s p k =
@@ -50,12 +50,12 @@ sector_moves s p k =
 unfoldable pub erase_moves : Setup → Planned → List Move
 erase_moves s p = if p.plan.chip then Make s EraseChip [] ∷ [] else each_below (length p.layout.sectors) (sector_moves s p)
 
--- ---- the planned pages with their wanted bytes, to be programmed or to be verified
+-- ---- programming or verifying the planned pages with the bytes wanted of them
 
 abbrev pub page_call : Bool → ℕ → Call
 page_call verifies at = if verifies then Verify at else ProgramPage at
 
--- the bytes of a range
+-- the bytes of a range of cells
 abbrev pub bytes_of : Range → List ℕ → List ℕ
 bytes_of r cells = take (r.stop - r.start) (drop r.start cells)
 
@@ -76,12 +76,12 @@ verify_moves s t = if has_verify s then page_moves true s t else []
 
 -- ---- the whole
 
--- reset, load, Init, the calls, UnInit; a phase without calls is left out
+-- the moves of a phase: reset, load, Init, the calls, UnInit; a phase without calls has no moves
 unfoldable pub phase : Setup → ℕ → List ℕ → List Move → List Move
 phase s kind torn [] = []
 phase s kind torn (call ∷ calls) = Reset s torn ∷ Load s ∷ Make s (Init kind) [] ∷ ((call ∷ calls) ++ (Make s (UnInit kind) [] ∷ []))
 
--- the cells that supply the range of an operation, for the reset before each phase of a region that breaks the operation off
+-- for each phase of a region, the cells that its reset takes bytes from where it breaks an operation off
 pub record Torn : Type 0 where
   pub erase : List ℕ
   pub program : List ℕ
@@ -92,7 +92,7 @@ unfoldable pub phases : Setup → RegionWork → Torn → List Move
 phases s t b =
     phase s 1 b.erase (erase_moves s t.planned) ++ (phase s 2 b.program (page_moves false s t) ++ phase s 3 b.verify (verify_moves s t))
 
--- what is to be done in a region, and what the calls of its algorithm rest on
+-- what is to be done in a region, with the setup of its algorithm
 pub record Leg : Type 0 where
   pub setup : Setup
   pub region_work : RegionWork
@@ -113,7 +113,7 @@ abbrev pub torn_rest : List Torn → List Torn
 torn_rest [] = []
 torn_rest (b ∷ rest) = rest
 
--- region after region
+-- the moves of all regions in order
 unfoldable pub legs_of : List Leg → List Torn → List Move
 legs_of [] torn = []
 legs_of (l ∷ rest) torn = phases l.setup l.region_work (torn_first torn) ++ legs_of rest (torn_rest torn)
@@ -124,7 +124,7 @@ unfoldable pub script : List Leg → Broken → List Move
 script [] b = []
 script (l ∷ rest) b = legs_of (l ∷ rest) b.legs ++ (Reset l.setup b.last ∷ [])
 
--- the plan is one for this algorithm
+-- a plan fits this algorithm
 pub record IsRegionWork (s : Setup) (p : Planned) : Type 0 where
   pub end : p.base + p.layout.size ≤ 2 ^ 32
   pub pages : PagesFit s.algorithm.device.page p.layout

@@ -1,4 +1,4 @@
--- What is wanted of the cells of a region, and what a survey to it finds.
+-- What is wanted of the cells of a region, and the plan that a survey makes for it.
 use Rattle.std.specs.Prelude.{◌≡◌, ◌<◌, ◌^◌, ℕ, Bool, IsTrue, is_some, All, List, length, take, drop}
 use Rattle.bench_model.specs.State.{BenchState}
 use Rattle.board_file.specs.Limits.{size_of}
@@ -12,12 +12,12 @@ use Rattle.flash_session.specs.Goals.{goal_in}
 use Rattle.flash_session.specs.declared.region_survey.Source.{Source}
 use Rattle.flash_session.specs.declared.region_survey.Source.TheVariants as from
 
--- it says what is wanted of the cells of a bench: the goal of a job for as many cells, for which the file stands
+-- a source says what is wanted of the cells of a bench: it is an image, or the goal of a job with as many cells whose file is the bench's
 abbrev pub IsSource : Bool → Source → BenchState → Type 0
 IsSource tells (from.Job job goal) s = (size_of job.now.board.regions ≡ s.cell_count) × (IsTrue tells → StandsFor job.now s.file)
 IsSource tells (from.Cells image) s = Unit {0}
 
--- it is an image over the cells, so that nothing is read from the file
+-- a source is an image over the cells, so nothing is read from the file
 abbrev pub IsOverCells : Source → Type 0
 IsOverCells (from.Job job goal) = ⊥
 IsOverCells (from.Cells image) = Unit {0}
@@ -27,8 +27,8 @@ abbrev pub AreWanted : Bool → Source → (place address : ℕ) → (file cells
 AreWanted tells (from.Job job goal) place address file cells wanted = IsTrue tells → wanted ≡ take (length cells) (drop place (goal_in job.now goal file))
 AreWanted tells (from.Cells image) place address file cells wanted = wanted ≡ over image.now address cells
 
--- The plan is made from the cells of a region, as they were read, to what is wanted of them. Where the bench tells its cells they are these from
--- the region's place on.
+-- The plan leads from the cells of a region, as they were read, to what is wanted of them. Where the bench tells its contents, these are
+-- the cells from the region's place on.
 pub record IsMadeFrom (tells : Bool) (source : Source) (w : Weights) (a : AlgorithmShown) (l : Geometry) (start : ℕ) (s : BenchState)
     (plan : Chosen) : Type 0 where
   pub cells : List ℕ

@@ -1,4 +1,4 @@
--- Where a target stands in its script: what has been done, and what is left.
+-- The state of a target in its script: what has been done, and what is left.
 use Rattle.std.specs.Prelude.{◌≡◌, ℕ, List, [], ◌∷◌, ◌++◌, length, take, Ok}
 use Rattle.bench_model.specs.State.{BenchState}
 use Rattle.target_core.specs.World.{World}
@@ -24,11 +24,11 @@ use Rattle.flash_session.specs.Targets.{setup_now, legs_for, point_for}
 abbrev pub OnWay : Legs → List Move → (Broken → List Move) → Type 0
 OnWay l way later = (b : Broken) → (whole : Broken) × (script (all_legs l) whole ≡ way ++ later b)
 
--- no move is left
+-- the moves that are left at the end: none
 abbrev pub none : Broken → List Move
 none b = []
 
--- the last of these moves is a call that was begun, and has come to this point with so much fuel left
+-- the last of the moves `way` is a call in progress, at this point of its path and with `left` steps of fuel
 pub record InCall (s : Setup) (a : Stand) (way : List Move) (call : Call) (len left made : ℕ) (here : Point) (return_at : ℕ) : Type 0 where
   pub done : List Move
   pub bytes : List ℕ
@@ -39,7 +39,7 @@ pub record InCall (s : Setup) (a : Stand) (way : List Move) (call : Call) (len l
   pub back : return_at ≡ s.layout.return_at
   pub midway : Midway s.layout.return_at (fuel_of s call) (first_point s before (asked call bytes)) left here
 
--- an end, of a script, with the cells and the operation that it left
+-- an end of a target's script, with the cells and the operation that it left
 abbrev pub EndIs : Stand → List Move → List ℕ → TargetEnd → BenchState → Type 0
 EndIs a moves goal ended.Done now = GoTo a moves now.cells × (now.cells ≡ goal)
 EndIs a moves goal (ended.Open fault) now = ⊥
@@ -49,7 +49,7 @@ EndIs a moves goal (ended.Mismatch d) now = GoTo a moves now.cells × DiffersFir
 EndIs a moves goal ended.StoreFault now = BreaksOff a moves now
 EndIs a moves goal ended.DeviceFault now = BreaksOff a moves now
 
--- these moves are the beginning of a script that ends so
+-- the moves `way` are the beginning of a script that ends in this way
 pub record HasEnded (legs : List Leg) (goal : List ℕ) (a : Stand) (way : List Move) (e : TargetEnd) (now : BenchState) : Type 0 where
   pub broken : Broken
   pub later : List Move
@@ -65,6 +65,6 @@ Stands l goal s a way (place.Comparing at) made here return_at now = OnWay l way
 Stands l goal s a way place.Closing made here return_at now = OnWay l way none × (run a way ≡ Ok (stand_at made here.world)) × (here.world.cells ≡ goal)
 Stands l goal s a way (place.Ended e) made here return_at now = HasEnded (all_legs l) goal a way e now
 
--- a target to this goal, with its window of the arena, on a bench
+-- the state of a player with this goal, with its window of the arena, on a bench
 abbrev pub StandsOn : Stand → List Move → (goal : List ℕ) → Player → List (List ℕ) → BenchState → Type 0
 StandsOn a way goal t arena now = Stands (legs_for t goal) goal (setup_now t) a way t.place t.made (point_for t arena now.cells) t.calls.machine.return_at now

@@ -1,4 +1,4 @@
--- The next move of a script, read off the rest of it.
+-- The next move of a script, by what is left of it.
 use Rattle.std.specs.Prelude.{◌≡◌, ◌<◌, ◌≤◌, ◌+◌, ◌^◌, ℕ, Bool, true, false, List, [], ◌∷◌, length, take, drop, Option, Some, None}
 use Rattle.algo_calls.specs.declared.call.Call.{Call}
 use Rattle.algo_calls.specs.Setups.{Setup}
@@ -17,13 +17,13 @@ use Rattle.flash_session.specs.declared.player.Player.{Player}
 use Rattle.flash_session.specs.Rest.{phase_calls, leg_at, later_than, rest_of, with_torn, with_last}
 use Rattle.flash_session.specs.Targets.{setup_now, setup_on, legs_for, size_for, has_second, work_in}
 
--- the bytes of a call
+-- the goal's bytes for a call
 abbrev pub bytes_at : List ℕ → ℕ → ℕ → List ℕ
 bytes_at goal from len = take len (drop from goal)
 
 -- ---- in a region
 
--- the next of some calls, that with each goal is this one with these bytes of the region
+-- for each goal, the next of some calls is this item's call with its bytes of the region's goal
 pub record IsNext (s : Setup) (p : RegionPlan) (calls : List ℕ → ℕ → List Move) (index : ℕ) (item : Item) : Type 0 where
   pub moves : (goal : List ℕ) → calls goal index ≡ Make s item.call (bytes_at (work_in p goal).goal item.from item.len) ∷ calls goal (item.index + 1)
   pub within : item.from + item.len ≤ p.geometry.size
@@ -31,7 +31,7 @@ pub record IsNext (s : Setup) (p : RegionPlan) (calls : List ℕ → ℕ → Lis
   pub may : (bytes : List ℕ) → length bytes ≡ item.len → MayAsk s item.call bytes
   pub room : item.index + 1 < 2 ^ 32
 
--- the first call from a number on, or none
+-- the first call from a number on, or none where no call is left
 abbrev pub IsItem : Setup → RegionPlan → (List ℕ → ℕ → List Move) → ℕ → Option Item → Type 0
 IsItem s p calls index None = (goal : List ℕ) → calls goal index ≡ []
 IsItem s p calls index (Some item) = IsNext s p calls index item
@@ -49,14 +49,14 @@ pub record IsAsked (t : Player) (call : Call) (from len : ℕ) : Type 0 where
   pub fits : len ≤ length t.page.items
   pub may : (bytes : List ℕ) → length bytes ≡ len → MayAsk (setup_now t) call bytes
 
--- a target may stand here, by the region whose machine moved last
+-- a target may be at this cursor; `moved` is the region that moved last
 abbrev pub IsCursor : (has : Bool) → (moved : RegionIndex) → Cursor → Type 0
 IsCursor has moved (at.Begin r p) = IsThere has r
 IsCursor has moved (at.Init r p) = (moved ≡ r) × IsThere has r
 IsCursor has moved (at.Calls r p k) = (moved ≡ r) × IsThere has r
 IsCursor has moved at.Last = Unit {0}
 
--- the first move of these, with each goal and whatever the resets that are still to come leave
+-- the first of the moves that are left, for each goal and whatever cells the resets still to come leave
 abbrev pub IsStepOf : Player → (rest : List ℕ → Broken → List Move) → Step → Type 0
 IsStepOf t rest (step.Begin r p) =
     ((goal : List ℕ) (b : Broken) (torn : List ℕ) → rest goal (with_torn r p torn b) ≡ Reset (setup_on t r) torn ∷ Load (setup_on t r)
@@ -67,7 +67,7 @@ IsStepOf t rest (step.Call call from len next) =
     × IsAsked t call from len × IsCursor (has_second t) t.moved next
 IsStepOf t rest step.Last = (goal : List ℕ) (b : Broken) (torn : List ℕ) → rest goal (with_last torn b) ≡ Reset (setup_on t First) torn ∷ []
 
--- what comes next
+-- the next step of the script at a cursor
 abbrev pub IsStep : Player → Cursor → Step → Type 0
 IsStep t cursor x = IsStepOf t (λ goal. rest_of (legs_for t goal) cursor) x
 
@@ -75,7 +75,7 @@ IsStep t cursor x = IsStepOf t (λ goal. rest_of (legs_for t goal) cursor) x
 abbrev pub IsStepBehind : Player → RegionIndex → Step → Type 0
 IsStepBehind t r x = IsStepOf t (λ goal. later_than (legs_for t goal) r) x
 
--- the first phase of a region from one on that has calls, or none
+-- the first phase of a region, from one on, that has calls; none where no phase has
 abbrev pub IsPhaseFrom : Player → RegionIndex → Phase → Option Phase → Type 0
 IsPhaseFrom t r p None = (goal : List ℕ) (b : Broken) → rest_of (legs_for t goal) (at.Begin r p) b ≡ later_than (legs_for t goal) r b
 IsPhaseFrom t r p (Some q) = ((goal : List ℕ) (b : Broken) → rest_of (legs_for t goal) (at.Begin r p) b ≡ rest_of (legs_for t goal) (at.Begin r q) b)

@@ -1,4 +1,4 @@
--- The one thing that a turn does: by where a target stood, and where it stands then.
+-- The one thing that a turn does, by the place of the target before and after it.
 use Rattle.std.specs.Prelude.{◌≡◌, ◌≤◌, ◌<◌, ◌+◌, ℕ, Bool, IsTrue, List, length}
 use Rattle.bench_model.specs.Does.{StaysOpen}
 use Rattle.bench_model.specs.State.{BenchState}
@@ -21,7 +21,7 @@ use Rattle.flash_session.specs.Steps.{bytes_at, IsStep}
 use Rattle.flash_session.specs.Targets.{setup_now, point_for}
 use Rattle.flash_session.specs.Turns.{judged, made_by}
 
--- a phase begins, or the last reset comes
+-- a step that is no call: a phase begins, or the last reset is made
 abbrev pub IsNoCall : Step → Type 0
 IsNoCall (step.Begin r p) = Unit {0}
 IsNoCall (step.Call call from len next) = ⊥
@@ -37,21 +37,21 @@ IsLast (step.Begin r p) = ⊥
 IsLast (step.Call call from len next) = ⊥
 IsLast step.Last = Unit {0}
 
--- before a phase comes no call, and among its calls and at its Init nothing else
+-- the steps that may come at a cursor: before a phase no call, at its Init and among its calls only calls
 abbrev pub IsKind : Cursor → Step → Type 0
 IsKind (at.Begin r p) x = IsNoCall x
 IsKind (at.Init r p) x = IsCall x
 IsKind (at.Calls r p k) x = IsCall x
 IsKind at.Last x = IsLast x
 
--- it stands loaded before the Init of a phase
+-- a cursor before the Init of a phase, after reset and load
 abbrev pub IsLoaded : Cursor → Type 0
 IsLoaded (at.Begin r p) = ⊥
 IsLoaded (at.Init r p) = Unit {0}
 IsLoaded (at.Calls r p k) = ⊥
 IsLoaded at.Last = ⊥
 
--- a reset with its load, or the last reset; or a fault of the device ended it
+-- a reset with its load or the last reset was made, or a device fault ended the target
 abbrev pub IsReset : Place → Type 0
 IsReset (place.At c) = IsLoaded c
 IsReset (place.In call len left next) = ⊥
@@ -59,7 +59,7 @@ IsReset (place.Comparing at) = at ≡ 0
 IsReset place.Closing = ⊥
 IsReset (place.Ended e) = e ≡ ended.DeviceFault
 
--- the preparing of a call, or a fault of the job file
+-- a call was prepared, or a fault of the job file ended the target
 abbrev pub IsPreparing : Place → Type 0
 IsPreparing (place.At c) = ⊥
 IsPreparing (place.In call len left next) = Unit {0}
@@ -67,7 +67,7 @@ IsPreparing (place.Comparing at) = ⊥
 IsPreparing place.Closing = ⊥
 IsPreparing (place.Ended e) = e ≡ ended.StoreFault
 
--- the last reset, or a fault of the device
+-- the last reset was made, or a device fault ended the target
 abbrev pub IsLastReset : Place → Type 0
 IsLastReset (place.At c) = ⊥
 IsLastReset (place.In call len left next) = ⊥
@@ -89,7 +89,7 @@ FromCall steps call len left next (place.Comparing at) = ⊥
 FromCall steps call len left next place.Closing = ⊥
 FromCall steps call len left next (place.Ended e) = Unit {0}
 
--- one of the cells that were compared is not the goal, or they could not be compared
+-- the comparison of cells from `at` on found a difference, or a fault broke it off
 abbrev pub IsEndAmong : ℕ → TargetEnd → Type 0
 IsEndAmong at ended.Done = ⊥
 IsEndAmong at (ended.Open fault) = ⊥
@@ -107,7 +107,7 @@ FromCells size at (place.Comparing upto) = upto ≡ at + 4096
 FromCells size at place.Closing = size ≤ at + 4096
 FromCells size at (place.Ended e) = IsEndAmong at e
 
--- the job was closed, or its file failed
+-- the close ended the target: the job was closed, or a fault of the job file came
 abbrev pub IsEndAtClose : TargetEnd → Type 0
 IsEndAtClose ended.Done = Unit {0}
 IsEndAtClose (ended.Open fault) = ⊥
@@ -124,7 +124,7 @@ IsOver (place.Comparing at) = ⊥
 IsOver place.Closing = ⊥
 IsOver (place.Ended e) = IsEndAtClose e
 
--- the place of a target after one turn, with `steps` steps asked for, on a device of `size` cells
+-- the place of a target after a turn of at most `steps` steps, on a device of `size` cells
 abbrev pub TakesOn : (steps size : ℕ) → Place → Place → Type 0
 TakesOn steps size (place.At c) new = FromCursor c new
 TakesOn steps size (place.In call len left next) new = FromCall steps call len left next new
@@ -153,15 +153,15 @@ pub record Slice (tells : Bool) (steps : ℕ) (call : Call) (len left : ℕ) (ne
 
 -- ---- in any other turn
 
--- the script comes to the reset of a phase next, and it stands loaded before the Init of that phase
+-- the script comes to a phase next, and the target is then before the Init of that phase, after reset and load
 abbrev pub BeginsPhase : Player → Cursor → Cursor → Type 0
 BeginsPhase old c (at.Begin r p) = ⊥
 BeginsPhase old c (at.Init r p) = IsStep old c (step.Begin r p)
 BeginsPhase old c (at.Calls r p k) = ⊥
 BeginsPhase old c at.Last = ⊥
 
--- The script comes to this call next. Where the bench tells its contents, the call's bytes are the goal's. It is at its first point, with
--- all its fuel.
+-- The script comes to this call next. The call is at its first point, with all its fuel. Where the bench tells its contents, the call has
+-- the goal's bytes.
 pub record IsFresh (tells : Bool) (goal : List ℕ) (old : Player) (arena : List (List ℕ)) (c : Cursor) (new : Player) (arena' : List (List ℕ))
     (call : Call) (len left : ℕ) (next : Cursor) : Type 0 where
   pub from : ℕ
@@ -172,14 +172,14 @@ pub record IsFresh (tells : Bool) (goal : List ℕ) (old : Player) (arena : List
   pub are : IsTrue tells → bytes ≡ bytes_at goal from len
   pub first : (cells : List ℕ) → point_for new arena' cells ≡ first_point (setup_now old) (point_for old arena cells).world (asked call bytes)
 
--- the machine, the cells and the open operation are as they were
+-- a turn leaves the machine, the cells and the open operation as they were
 pub record IsUntouched (tells : Bool) (old : Player) (arena : List (List ℕ)) (start : BenchState) (new : Player) (arena' : List (List ℕ))
     (end : BenchState) : Type 0 where
   pub calls : new.calls ≡ old.calls
   pub ram : arena' ≡ arena
   pub stays : IsTrue tells → StaysOpen start end
 
--- The script's next move, by where it leads. A fault left all as it was.
+-- The next move of the script, by the place to which it leads. A fault leaves everything as it was.
 abbrev pub IsNextMove : Bool → (goal : List ℕ) → Player → List (List ℕ) → BenchState → Cursor → Player → List (List ℕ) → BenchState → Place → Type 0
 IsNextMove tells goal old arena start c new arena' end (place.At c') = BeginsPhase old c c'
 IsNextMove tells goal old arena start c new arena' end (place.In call len left next) = IsFresh tells goal old arena c new arena' call len left next
@@ -188,19 +188,19 @@ IsNextMove tells goal old arena start c new arena' end (place.Comparing at) = Is
 IsNextMove tells goal old arena start c new arena' end place.Closing = ⊥
 IsNextMove tells goal old arena start c new arena' end (place.Ended e) = IsUntouched tells old arena start new arena' end
 
--- From a place between two moves, the next move of the script. No call was made, nor a step of one.
+-- A turn between two moves makes the next move of the script, and no step of a call.
 pub record IsHost (tells : Bool) (goal : List ℕ) (old : Player) (arena : List (List ℕ)) (start : BenchState) (c : Cursor) (new : Player)
     (arena' : List (List ℕ)) (end : BenchState) : Type 0 where
   pub made : new.made ≡ old.made
   pub next : IsNextMove tells goal old arena start c new arena' end new.place
 
--- the comparison, or the close
+-- a turn that compares cells or closes the job
 pub record IsStill (tells : Bool) (old : Player) (arena : List (List ℕ)) (start : BenchState) (new : Player) (arena' : List (List ℕ))
     (end : BenchState) : Type 0 where
   pub made : new.made ≡ old.made
   pub untouched : IsUntouched tells old arena start new arena' end
 
--- to this goal
+-- a turn of a target with this goal, by the place from which it starts
 abbrev pub SliceOf : Bool → (goal : List ℕ) → (steps : ℕ) → Place → Player → List (List ℕ) → BenchState → Player → List (List ℕ) → BenchState → Type 0
 SliceOf tells goal steps (place.At c) old arena start new arena' end = IsHost tells goal old arena start c new arena' end
 SliceOf tells goal steps (place.In call len left next) old arena start new arena' end = Slice tells steps call len left next old arena start new arena' end

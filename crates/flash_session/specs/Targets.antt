@@ -1,4 +1,4 @@
--- What a target shows.
+-- What a target of a session shows.
 use Rattle.std.specs.Prelude.{ℕ, Bool, true, false, is_some, unwrap_or, Option, Some, None, List, [], ◌∷◌}
 use Rattle.flash_layout.specs.Maps.{FlashMap}
 use Rattle.target_core.specs.Units.{unit_map}
@@ -17,9 +17,9 @@ use Rattle.flash_session.specs.declared.player.Player.{Player}
 use Rattle.flash_session.specs.Regions.{RegionIndex, First, Second}
 use Rattle.flash_session.specs.Rest.{Legs}
 
--- ---- its calls
+-- ---- the calls of a target
 
--- the calls of the region that is asked for, where these are of the region that moved last
+-- the calls of region `r`, given the calls of the region that moved last and those of the other
 abbrev pub of_region : (r moved : RegionIndex) → CallsIn → Option CallsIn → CallsIn
 of_region First First here other = here
 of_region Second Second here other = here
@@ -28,7 +28,7 @@ of_region First Second here (Some other) = other
 of_region Second First here None = here
 of_region Second First here (Some other) = other
 
--- what the calls of each region rest on, in order
+-- the setups of the calls of each region, in order
 abbrev pub one_or_both : Bool → Setup → Setup → List Setup
 one_or_both false first second = first ∷ []
 one_or_both true first second = first ∷ second ∷ []
@@ -45,15 +45,15 @@ map_of c = unit_map c.machine.unit
 abbrev pub map_on : Player → RegionIndex → FlashMap
 map_on t r = map_of (calls_on t r)
 
--- what the calls of the region that moved last rest on
+-- the setup of the calls of the region that moved last
 abbrev pub setup_now : Player → Setup
 setup_now t = setup_at t.calls
 
--- where its machine stands, with its window of the arena and over these cells
+-- the point of a player's machine, with its window of the arena and over these cells
 abbrev pub point_for : Player → List (List ℕ) → List ℕ → Point
 point_for t arena cells = point_at t.calls arena t.window cells
 
--- ---- what its script is made of
+-- ---- the script of a target
 
 -- the plan of the first region, or of the second where there is one
 abbrev pub region_in : SessionWork → RegionIndex → RegionPlan
@@ -63,11 +63,11 @@ region_in t Second = unwrap_or t.second t.first
 abbrev pub planned_in : RegionPlan → Planned
 planned_in p = planned p.geometry p.base p.plan.made
 
--- where its cells are
+-- the site of a region's cells
 abbrev pub site_in : RegionPlan → Site
 site_in p = record { start = p.start; layout = p.geometry }
 
--- with the bytes of the goal of all cells
+-- the work on a region, with its part of the goal of all cells
 abbrev pub work_in : RegionPlan → List ℕ → RegionWork
 work_in p goal = region_work p.geometry p.base p.plan.made (part (site_in p) goal)
 
@@ -82,10 +82,10 @@ legs_for t goal = record { first = leg (setup_on t First) (work_in t.work.first 
 abbrev pub has_second : Player → Bool
 has_second t = is_some t.work.second
 
--- how many cells its board has
+-- how many cells the board of a player has
 abbrev pub size_for : Player → ℕ
 size_for t = cells_in (map_on t First).areas
 
--- the goal of its job that this file gives
+-- the goal of a player's job, from this file
 abbrev pub goal_for : Job → Player → List ℕ → List ℕ
 goal_for j t file = goal_in j t.work.goal file

@@ -1,4 +1,4 @@
--- What becomes of a target's machine between two regions.
+-- How a target's machine passes from one region to the other.
 use Rattle.std.specs.Prelude.{◌≡◌, ℕ, List, [], Option, Some, None}
 use Rattle.target_core.specs.World.{World}
 use Rattle.target_core.specs.Windows.{OnlyIn}
@@ -14,7 +14,7 @@ use Rattle.flash_session.specs.Targets.{setup_now, map_of}
 use Rattle.flash_session.specs.Turns.{SameTarget}
 use Rattle.flash_session.specs.Fit.{AreTwins}
 
--- the other machine, whose calls these are, took the place of the one that moved last, and starts as after a reset
+-- the machine with calls `c` replaces the one that moved last, and starts as after a reset
 pub record IsExchanged (old : Player) (arena : List (List ℕ)) (new : Player) (arena' : List (List ℕ)) (c : CallsIn) : Type 0 where
   pub rest : new ≡ record old { calls = new.calls; other = Some old.calls; moved = other_than old.moved }
   pub setup : setup_at new.calls ≡ setup_at c
@@ -23,7 +23,7 @@ pub record IsExchanged (old : Player) (arena : List (List ℕ)) (new : Player) (
   pub only : OnlyIn old.window arena arena'
   pub fits : Fits new.calls arena' old.window
 
--- It starts anew, as after a reset, before its first move.
+-- A target starts again before its first move, as after a reset.
 pub record Restarts (old : Player) (arena : List (List ℕ)) (new : Player) (arena' : List (List ℕ)) : Type 0 where
   pub same : SameTarget old new
   pub twins : AreTwins new
@@ -35,7 +35,7 @@ pub record Restarts (old : Player) (arena : List (List ℕ)) (new : Player) (are
       ≡ after_reset (setup_now old) (world_at old.calls arena old.window cells) None []
   pub fits : Fits new.calls arena' new.window
 
--- The machine of a region is the one that moves next, and it stands where the one that moved last was left by a reset.
+-- The machine of region `r` moves next. It has the world that a reset left on the machine that moved last.
 pub record TurnsTo (r : RegionIndex) (old : Player) (arena : List (List ℕ)) (new : Player) (arena' : List (List ℕ)) : Type 0 where
   pub same : SameTarget old new
   pub twins : AreTwins new

@@ -1,4 +1,4 @@
--- What a turn does to a target.
+-- What a turn does to a target and its bench.
 use Rattle.std.specs.Prelude.{◌≡◌, ◌<◌, ◌+◌, ℕ, Bool, IsTrue, Option, Some, None, List, ◌∷◌, ◌++◌, drop, length}
 use Rattle.bench_model.specs.History.{Leaves}
 use Rattle.bench_model.specs.State.{BenchState, file_half, cells_half}
@@ -27,13 +27,13 @@ use Rattle.flash_session.specs.Fit.{Fit, togo}
 use Rattle.flash_session.specs.Stands.{StandsOn}
 use Rattle.flash_session.specs.Targets.{setup_on, map_on}
 
--- The target went on by some moves, and each moment was that of a point of them.
+-- A target continued by some moves, and what a stop at any moment left is what a stop at a point of its moves leaves.
 pub record GoesOn (a : Stand) (way : List Move) (goal : List ℕ) (new : Player) (arena : List (List ℕ)) (start end : BenchState) : Type 0 where
   pub more : List Move
   pub stands : StandsOn a (way ++ more) goal new arena end
   pub moments : Leaves (cells_half start) (cells_half end) (IsLeftOnWay a (way ++ more))
 
--- a turn keeps the target's script: setups, maps, plans
+-- a turn keeps the target's script: its setups, maps and plans
 pub record SameTarget (old new : Player) : Type 0 where
   pub setups : (r : RegionIndex) → setup_on new r ≡ setup_on old r
   pub maps : (r : RegionIndex) → map_on new r ≡ map_on old r
@@ -47,7 +47,7 @@ IsUnended (place.Comparing at) = Unit {0}
 IsUnended place.Closing = Unit {0}
 IsUnended (place.Ended e) = ⊥
 
--- the fault that has ended a target, and that of its place
+-- the fault that ended a target, and the fault of its place
 abbrev pub target_fault : TargetEnd → Option BenchFault
 target_fault ended.Done = None
 target_fault (ended.Open fault) = session_fault fault
@@ -71,7 +71,7 @@ turn_of (place.Comparing at) = turn.More
 turn_of place.Closing = turn.More
 turn_of (place.Ended e) = turn.Ended
 
--- a call whose run has ended so is done, and the target goes on at the cursor, or the target has ended
+-- the place after a call with this end: the next cursor if the call is done, else the end of the target
 abbrev pub judged : ℕ → Call → Cursor → CallEnd → Place
 judged made call next call_end.Done = place.At next
 judged made call next (call_end.Refused r0) = place.Ended (ended.CallFailed (made + 1) call (call_end.Refused r0))
@@ -108,7 +108,7 @@ ClosedFile (place.Comparing at) old new = ⊥
 ClosedFile place.Closing old new = ⊥
 ClosedFile (place.Ended e) old new = EndFile e old new
 
--- The close leaves the job whole or closed, whenever it is stopped, and the target has ended.
+-- The close ends the target. Whenever it is stopped, it leaves the job whole or closed.
 pub record Closes (tells : Bool) (new : Place) (start end : BenchState) : Type 0 where
   pub moments : IsTrue tells → Leaves (file_half start) (file_half end) (IsWholeOrClosed (drop 1 start.file))
   pub file : IsTrue tells → ClosedFile new start.file end.file
@@ -123,7 +123,7 @@ IsDone place.Closing = ⊥
 IsDone (place.Ended ended.Done) = Unit {0}
 IsDone (place.Ended _) = ⊥
 
--- Any other turn only reads the file, and no target is done by it.
+-- A turn that isn't the close only reads the file, and doesn't end the target as done.
 pub record KeepsFile (tells : Bool) (new : Place) (start end : BenchState) : Type 0 where
   pub read : FileIsRead tells start end
   pub other : IsDone new → ⊥
@@ -135,7 +135,7 @@ FileTurn tells (place.Comparing at) new start end = KeepsFile tells new start en
 FileTurn tells place.Closing new start end = Closes tells new start end
 FileTurn tells (place.Ended e) new start end = KeepsFile tells new start end
 
--- a turn of a target that hasn't ended, to this goal
+-- a turn of a target that hasn't ended, with this goal
 pub record Turns (tells : Bool) (goal : List ℕ) (old : Player) (arena : List (List ℕ)) (start : BenchState) (new : Player) (arena' : List (List ℕ))
     (end : BenchState) : Type 0 where
   pub told : IsTrue tells → (a : Stand) (way : List Move) → StandsOn a way goal old arena start → GoesOn a way goal new arena' start end
@@ -146,6 +146,6 @@ pub record Turns (tells : Bool) (goal : List ℕ) (old : Player) (arena : List (
   pub nearer : togo new < togo old
   pub count : end.cell_count ≡ start.cell_count
   pub file : FileTurn tells old.place new.place start end
-  -- a fault is an end only where it was counted, and counted only as an end
+  -- a fault is an end exactly if it was counted
   pub device : IsCounted start.device_faults end.device_faults (is_device_fault (place_fault new.place))
   pub store : IsCounted start.store_faults end.store_faults (is_store_fault (place_fault new.place))

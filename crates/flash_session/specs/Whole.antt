@@ -1,4 +1,4 @@
--- A whole script, played by turns up to the close.
+-- A whole script, played turn by turn up to the close.
 use Rattle.std.specs.Prelude.{◌≡◌, ℕ, Bool, true, false, IsTrue, List, length, Option, Some, None}
 use Rattle.bench_model.specs.State.{BenchState}
 use Rattle.bench_model.specs.Calls.{FileIsRead}
@@ -23,7 +23,7 @@ at_close (place.Comparing at) = false
 at_close place.Closing = true
 at_close (place.Ended e) = false
 
--- there is more to play
+-- a place before the close: more is to be played
 abbrev pub IsPlaying : Place → Type 0
 IsPlaying (place.At c) = Unit {0}
 IsPlaying (place.In call len left next) = Unit {0}
@@ -31,7 +31,7 @@ IsPlaying (place.Comparing at) = Unit {0}
 IsPlaying place.Closing = ⊥
 IsPlaying (place.Ended e) = ⊥
 
--- an end that comes before the close
+-- an end before the close
 abbrev pub IsEndBefore : TargetEnd → Type 0
 IsEndBefore ended.Done = ⊥
 IsEndBefore (ended.Open fault) = ⊥
@@ -41,7 +41,7 @@ IsEndBefore (ended.Mismatch d) = Unit {0}
 IsEndBefore ended.StoreFault = Unit {0}
 IsEndBefore ended.DeviceFault = Unit {0}
 
--- a target that wasn't closed may stand here
+-- a target that hasn't been closed may be at this place
 abbrev pub IsPlayed : Place → Type 0
 IsPlayed (place.At c) = Unit {0}
 IsPlayed (place.In call len left next) = Unit {0}
@@ -49,7 +49,7 @@ IsPlayed (place.Comparing at) = Unit {0}
 IsPlayed place.Closing = Unit {0}
 IsPlayed (place.Ended e) = IsEndBefore e
 
--- how a session ends whose script ended so
+-- how a session ends if its script ended in this way
 abbrev pub IsEndOf : TargetEnd → SessionEnd → Type 0
 IsEndOf ended.Done e = ⊥
 IsEndOf (ended.Open fault) e = ⊥
@@ -59,7 +59,7 @@ IsEndOf (ended.Mismatch d) e = e ≡ end.Mismatch d
 IsEndOf ended.StoreFault e = e ≡ end.StoreFault
 IsEndOf ended.DeviceFault e = e ≡ end.DeviceFault
 
--- a target that stops at this place: it has an end only where nothing more is to be played
+-- the end of a session whose target stops at this place; none while more is to be played
 abbrev pub IsStop : Place → Option SessionEnd → Type 0
 IsStop (place.At c) None = Unit {0}
 IsStop (place.In call len left next) None = Unit {0}
@@ -68,7 +68,7 @@ IsStop place.Closing (Some e) = IsReached e
 IsStop (place.Ended t) (Some e) = IsEndOf t e
 IsStop _ _ = ⊥
 
--- Turns before the close: the target went on along its own script, over a file that was only read.
+-- Turns before the close: the target continued its own script, and the file was only read.
 pub record Played (tells : Bool) (goal : List ℕ) (old : Player) (arena : List (List ℕ)) (start : BenchState) (new : Player) (arena' : List (List ℕ))
     (end : BenchState) : Type 0 where
   pub goes : IsTrue tells → (a : Stand) (way : List Move) → StandsOn a way goal old arena start → GoesOn a way goal new arena' start end
