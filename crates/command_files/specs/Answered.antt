@@ -1,4 +1,4 @@
--- What each answer says, whatever the command.
+-- What each answer means, for every command.
 use Rattle.std.specs.Prelude.{◌≡◌, ◌≤◌, ◌<◌, ◌⊎◌, ℕ, Bool, true, false, IsTrue, List, Option, Some, None}
 use Rattle.faults.specs.Counts.{Rose}
 use Rattle.bench_model.specs.Calls.{OnlyReads}
@@ -9,7 +9,7 @@ use Rattle.command_files.specs.Inputs.{InputsCall, IsUntaken}
 use Rattle.command_files.specs.Call.{BenchCall, SinkCall, Call, IsUntouched, Answer, done, refused}
 use Rattle.command_files.specs.Said.{TookNothing, Says}
 
--- Faults.
+-- ---- faults
 
 pub data Fault : Type 0 where
   input : Fault
@@ -17,7 +17,7 @@ pub data Fault : Type 0 where
   device : Fault
   output : Fault
 
--- the fault that an answer is
+-- the fault that an answer names
 abbrev pub fault_in : Answer → Option Fault
 fault_in (refused (input_fault name)) = Some input
 fault_in (refused store_fault) = Some store
@@ -25,7 +25,7 @@ fault_in (refused device_fault) = Some device
 fault_in (refused output_fault) = Some output
 fault_in _ = None
 
--- a fault is answered only where its count rose, and where its count became greater it is answered
+-- a fault is answered only if it was counted, and each fault that is counted is answered
 pub record IsCounted (before after : ℕ) (fault : Fault) (answer : Answer) : Type 0 where
   pub later : before ≤ after
   pub only : fault_in answer ≡ Some fault → Rose before after
@@ -47,7 +47,7 @@ yields (refused device_fault) = true
 yields (refused output_fault) = true
 yields _ = false
 
--- the answer is the one that is due, or yields
+-- the answer is the one that is due, or an answer that yields
 abbrev pub IsUnless : Answer → Answer → Type 0
 IsUnless answer due = (answer ≡ due) ⊎ (yields answer ≡ true)
 
@@ -55,38 +55,38 @@ IsUnless answer due = (answer ≡ due) ⊎ (yields answer ≡ true)
 abbrev pub Refuses : Type 0 → Answer → Refusal → Type 0
 Refuses Done answer refusal = (answer ≡ refused refusal) ⊎ ((yields answer ≡ true) × Done)
 
--- What stands after the refusals that come before any work.
+-- ---- what a command leaves after a refusal that comes before any work
 
 -- the bench is as it was, and nothing went to `out`
 pub record DidNothing (bench : BenchCall) (out : SinkCall) : Type 0 where
   pub untouched : IsUntouched bench
   pub prints : TookNothing out
 
--- the job file was only looked at: where the bench tells its contents, file and cells are as they were; and nothing went to `out`
+-- the job file was only read: where the bench tells its contents, file and cells are as they were; nothing went to `out`
 pub record OnlyLooked (bench : BenchCall) (out : SinkCall) : Type 0 where
   pub reads : IsTrue bench.tells → OnlyReads bench.tells bench.before bench.after
   pub prints : TookNothing out
 
--- What a command works on: its files and the cells, the job file too, or a bench in memory of its own.
+-- What a command works on: its files and the cells, also the job file, or a bench in memory of its own.
 pub data Scope : Type 0 where
   on_files : Scope
   on_job_file : Scope
   on_own_bench : Scope
 
--- Status 7: a command that doesn't look at the job file did nothing then, and the others only looked. One on a bench of its own prints what
--- came of it.
+-- Status 7. A command that doesn't read the job file did nothing, and the others only read it. A command on a bench of its own prints the
+-- result of its work there.
 abbrev pub AtSeven : Scope → BenchCall → SinkCall → Type 0
 AtSeven on_files bench out = DidNothing bench out
 AtSeven on_job_file bench out = OnlyLooked bench out
 AtSeven on_own_bench bench out = IsTrue bench.tells → OnlyReads bench.tells bench.before bench.after
 
--- Status 1: nothing went to `out`. One on a bench of its own prints that there was no memory for the work on it.
+-- Status 1: nothing went to `out`. A command on a bench of its own prints that its work there ran out of memory.
 abbrev pub AtOne : Scope → SinkCall → Type 0
 AtOne on_files out = TookNothing out
 AtOne on_job_file out = TookNothing out
 AtOne on_own_bench out = Unit {0}
 
--- What stands after statuses 1 to 7.
+-- What a command leaves after statuses 1 to 7.
 abbrev pub StandsEarly : Scope → BenchCall → SinkCall → Answer → Type 0
 StandsEarly scope bench out (refused out_of_memory) = AtOne scope out
 StandsEarly scope bench out (refused usage) = DidNothing bench out
@@ -105,14 +105,14 @@ StandsEarly scope bench out (refused (damaged kept found)) = AtSeven scope bench
 StandsEarly scope bench out (refused (cells_differ wanted found)) = AtSeven scope bench out
 StandsEarly scope bench out _ = Unit {0}
 
--- the answer is done, or a refusal that passes the test
+-- the answer is "done", or a refusal that passes the test
 abbrev pub IsOf : (Refusal → Bool) → Answer → Type 0
 IsOf has done = Unit {0}
 IsOf has (refused refusal) = has refusal ≡ true
 
--- What holds of the work of each command of this scope that has these refusals and may ask for these files, whatever the objects tell:
--- which refusals it has, its counts of faults, what stands after an early refusal, that it asks for no other file, and that no take
--- failed but the one whose fault it answers.
+-- What holds of the work of each command of this scope, with these refusals and these file names, whatever the objects tell. It says which
+-- refusals come, how faults are counted, and what an early refusal leaves. No other file is asked for. No take failed except the one whose
+-- fault is answered.
 pub record EndsLawfully (scope : Scope) (bench : BenchCall) (inputs : InputsCall) (out : SinkCall) (has : Refusal → Bool) (names : List (List ℕ))
     (answer : Answer) : Type 0 where
   pub kind : IsOf has answer
@@ -121,10 +121,10 @@ pub record EndsLawfully (scope : Scope) (bench : BenchCall) (inputs : InputsCall
   pub untaken : (name : List ℕ) → answer ≡ refused (input_fault name) → IsUntaken inputs names name
   pub none_failed : IsTrue inputs.tells → (fault_in answer ≡ Some input → ⊥) → inputs.after.failed ≡ inputs.before.failed
 
--- A call whose work ends so: its answer, its status and its line on `err`.
+-- A call with this answer, its status and its line on `err`; its work ends as `Ends` says.
 pub record AnswersBy (call : Call) (Ends : BenchCall → InputsCall → SinkCall → Answer → Type 0) : Type 0 where
   pub answer : Answer
   pub says : Says call.status call.err answer
-  -- status 0 is nothing else than done
+  -- status 0 means "done"
   pub zero : call.status ≡ 0 → answer ≡ done
   pub ends : Ends call.bench call.inputs call.out answer

@@ -1,4 +1,4 @@
--- One call of `flmprog`, as its contract sees it.
+-- One call of `flmprog`, as its contract describes it.
 use Rattle.std.specs.Prelude.{ℕ, Bool}
 use Rattle.bench_model.specs.State.{BenchState}
 use Rattle.bench_model.specs.Calls.{FileStays, CellsStay}
@@ -6,7 +6,7 @@ use Rattle.outside_io.specs.State.{SinkState}
 use Rattle.report_text.specs.Refusal.{Refusal}
 use Rattle.command_files.specs.Inputs.{InputsCall}
 
--- What each of the four objects means at entry and at exit, and whether it tells its contents.
+-- Each of the four objects at entry and at exit, and whether it tells its contents.
 
 pub record BenchCall : Type 1 where
   pub tells : Bool
@@ -18,7 +18,7 @@ pub record SinkCall : Type 0 where
   pub before : SinkState
   pub after : SinkState
 
--- a call: its status, and the four objects that it was handed
+-- a call: its status, and the four objects that it was given
 pub record Call : Type 1 where
   pub status : ℕ
   pub bench : BenchCall

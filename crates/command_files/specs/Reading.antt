@@ -1,4 +1,4 @@
--- What a command on files answers, as far as the files go: one form for each command that has a board, images, and FLM files or none.
+-- What a command on files answers about its files: one form for every command that has a board, images, and FLM files or none.
 use Rattle.std.specs.Prelude.{IsTrue}
 use Rattle.report_text.specs.Refusal.{Refusal, out_of_memory, usage, input_fault, flm_refused, other_device, no_room, board_refused, image_refused}
 use Rattle.report_text.specs.Refusal.{image_misplaced}
@@ -9,7 +9,7 @@ use Rattle.command_files.specs.Refused.{IsRefused}
 use Rattle.command_files.specs.Call.{BenchCall, SinkCall, Answer, refused}
 use Rattle.command_files.specs.Answered.{Refuses, DidNothing}
 
--- files that are right; of them and of what they want this holds
+-- the files are right, and what holds of them and of their aim
 pub record WantAnAim (asked : FilesAsked) (Holds : FilesGiven → Aim → Type 0) (files : FilesGiven) : Type 0 where
   pub aim : Aim
   pub is_aim : IsAim asked.raw_at files aim
@@ -29,11 +29,11 @@ ShowsFiles inputs asked Holds (refused (image_refused name fault)) = Given input
 ShowsFiles inputs asked Holds (refused (image_misplaced fault)) = Given inputs asked (λ files. IsRefused asked files (image_misplaced fault))
 ShowsFiles inputs asked Holds _ = Given inputs asked (WantAnAim asked Holds)
 
--- A command on files: what each answer shows, and what comes of files that want something.
+-- A command on files: what each answer shows, and what the command does if its files are right.
 pub record AnswersFiles (bench : BenchCall) (inputs : InputsCall) (out : SinkCall) (asked : FilesAsked) (answer : Answer)
     (Holds Goes : FilesGiven → Aim → Type 0) : Type 0 where
   pub shows : ShowsFiles inputs asked Holds answer
-  -- the other direction, where the inputs tell: with these files under the names
+  -- the other direction, where the inputs tell their contents: what must happen if the names have these files
   pub refuses : (files : FilesGiven) (refusal : Refusal) → IsTrue inputs.tells → AreFiles inputs asked files → IsRefused asked files refusal
       → Refuses (DidNothing bench out) answer refusal
   pub goes : (files : FilesGiven) (aim : Aim) → IsTrue inputs.tells → AreFiles inputs asked files → IsAim asked.raw_at files aim → Goes files aim

@@ -26,7 +26,7 @@ pub record LeavesNoImage (files : FilesGiven) (board : board.Shown) : Type 0 whe
   pub has_flm : IsSome files.flm
   pub few : length files.images < length board.regions
 
--- Why one isn't.
+-- ---- why an FLM file isn't one for a region
 
 -- the device of an algorithm, which the refusal names, has another base or another size than the region
 pub record IsOtherDevice (base size : ℕ) (algorithm : flm.Shown) (told_base told_size : ℕ) : Type 0 where
@@ -61,15 +61,15 @@ pub record IsReadUnfit (board : board.Shown) (region : Region) (file : List ℕ)
 abbrev pub IsNoneFor : board.Shown → Region → List ℕ → Refusal → Type 0
 IsNoneFor board region file refusal = IsUnread file refusal ⊎ IsReadUnfit board region file refusal
 
--- the first FLM file that isn't one for the region in its place
+-- the first FLM file that isn't one for the region at its place
 abbrev pub AreNotFor : board.Shown → List Region → List (List ℕ) → Refusal → Type 0
 AreNotFor board (region ∷ regions) (file ∷ files) refusal =
     IsNoneFor board region file refusal ⊎ (((algorithm : flm.Shown) × IsOneFor board region file algorithm) × AreNotFor board regions files refusal)
 AreNotFor board regions files refusal = ⊥
 
--- The images, file after file.
+-- ---- the images, file after file
 
--- a file's image clashes with those before it
+-- the image in a file clashes with those in the files before it
 pub record Clashes (raw_at : Option ℕ) (file : List ℕ) (before : List Run) (fault : AnyFault) : Type 0 where
   pub image : List Run
   pub is_image : IsAnyImage raw_at file image
@@ -77,7 +77,7 @@ pub record Clashes (raw_at : Option ℕ) (file : List ℕ) (before : List Run) (
   pub is_clash : IsUnionFault before image clash
   pub fault_is : fault ≡ any_of clash
 
--- the first file that stands for no image, or for one that clashes with those before it; it is named
+-- the first file that has no image, or whose image clashes with those before it; the refusal names it
 pub record IsImageRefused (raw_at : Option ℕ) (names files : List (List ℕ)) (name : List ℕ) (fault : AnyFault) : Type 0 where
   pub place : ℕ
   pub inside : place < length files
@@ -87,7 +87,7 @@ pub record IsImageRefused (raw_at : Option ℕ) (names files : List (List ℕ)) 
   pub is_fault : IsAnyFault raw_at (file_at files place) fault ⊎ Clashes raw_at (file_at files place) before fault
   pub no_memory : fault ≢ OutOfMemory
 
--- The whole.
+-- ---- all reasons
 
 -- there is a board, and FLM files for its regions leave no name for an image
 pub record HasNoImage (files : FilesGiven) : Type 0 where
@@ -111,20 +111,20 @@ pub record HasNoTarget (files : FilesGiven) (refusal : Refusal) : Type 0 where
   pub has_board : HasBoard files
   pub are_not : AreNotFor has_board.board has_board.board.regions (flm_files files.flm files.images has_board.board) refusal
 
--- there is all that, and an image file is wrong
+-- the board and the algorithms are right, and an image file is wrong
 pub record HasWrongImage (asked : FilesAsked) (files : FilesGiven) (name : List ℕ) (fault : AnyFault) : Type 0 where
   pub has_target : HasTarget files
   pub is_wrong : IsImageRefused asked.raw_at (image_files files.flm asked.images has_target.has_board.board)
       (image_files files.flm files.images has_target.has_board.board) name fault
 
--- the image is empty, or has a byte outside the regions
+-- all files are right, but the image is empty or has a byte outside the regions
 pub record IsMisplaced (raw_at : Option ℕ) (files : FilesGiven) (fault : ImageFault) : Type 0 where
   pub aim : Aim
   pub are_read : AreRead raw_at files aim
   pub is_fault : IsPlaceFault aim.image (ranges_of aim.board.regions) fault
 
--- Each of these says that the earlier ones aren't so: the board comes first, then whether a name is left for an image, then each FLM file
--- in its turn with its device and its room, then the images in their order, then the place of their union.
+-- Each reason implies that the earlier ones don't apply. The order is: the board; a name left for an image; each FLM file in turn, with its
+-- device and its room; the images in turn; the place of their union.
 abbrev pub IsRefused : FilesAsked → FilesGiven → Refusal → Type 0
 IsRefused asked files (board_refused fault) = reading files.board ≡ Err fault
 IsRefused asked files usage = HasNoImage files

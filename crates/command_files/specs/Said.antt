@@ -1,4 +1,4 @@
--- What a call prints: on `out`, and on `err` where it is refused.
+-- What a call prints: on `out`, and on `err` if it is refused.
 use Rattle.std.specs.Prelude.{◌≡◌, ◌≤◌, ◌++◌, ◌⊎◌, ℕ, IsTrue, List}
 use Rattle.faults.specs.Counts.{Rose}
 use Rattle.outside_io.specs.Appends.{AppendsPart}
@@ -6,39 +6,39 @@ use Rattle.report_text.specs.Refusal.{status_of, output_fault}
 use Rattle.report_text.specs.Lines.{line_of}
 use Rattle.command_files.specs.Call.{SinkCall, Answer, done, refused}
 
--- What a sink took.
+-- ---- what a sink took
 
--- nothing, and it counted no fault
+-- the sink took nothing, and counted no fault
 pub record TookNothing (sink : SinkCall) : Type 0 where
   pub taken : sink.after.taken ≡ sink.before.taken
   pub faults : sink.after.faults ≡ sink.before.faults
 
--- the whole text, and it counted no fault
+-- the sink took the whole text, and counted no fault
 pub record TookAll (sink : SinkCall) (text : List ℕ) : Type 0 where
   pub taken : IsTrue sink.tells → sink.after.taken ≡ sink.before.taken ++ text
   pub faults : sink.after.faults ≡ sink.before.faults
 
--- a beginning of the text, where its count of faults rose
+-- the sink took the first part of the text, and counted a fault
 pub record TookPart (sink : SinkCall) (text : List ℕ) : Type 0 where
   pub taken : IsTrue sink.tells → AppendsPart text sink.before.taken sink.after.taken
   pub later : sink.before.faults ≤ sink.after.faults
   pub rose : Rose sink.before.faults sink.after.faults
 
--- this whole text and then a beginning of another, where its count of faults rose
+-- the sink took the whole of one text and the first part of another, and counted a fault
 pub record TookPartBehind (sink : SinkCall) (whole text : List ℕ) : Type 0 where
   pub taken : IsTrue sink.tells → AppendsPart text (sink.before.taken ++ whole) sink.after.taken
   pub later : sink.before.faults ≤ sink.after.faults
   pub rose : Rose sink.before.faults sink.after.faults
 
--- Status 0 says nothing on `err`. A refusal has its status, and its line goes to `err`, or a beginning of it where the
--- count of `err` rose.
+-- Status 0 prints nothing on `err`. A refusal has its own status, and its line goes to `err`. Only a first part of the line does if `err`
+-- counted a fault.
 abbrev pub Says : ℕ → SinkCall → Answer → Type 0
 Says status err done = (status ≡ 0) × TookNothing err
 Says status err (refused refusal) = (status ≡ status_of refusal) × (TookAll err (line_of refusal) ⊎ TookPart err (line_of refusal))
 
--- What an answer prints.
+-- ---- what an answer prints
 
--- a text where done, a beginning of it where `out` fails, and nothing with every other answer
+-- "done" prints a text, a fault of `out` prints its first part, and every other answer prints nothing
 abbrev pub PrintsText : SinkCall → List ℕ → Answer → Type 0
 PrintsText out text done = TookAll out text
 PrintsText out text (refused output_fault) = TookPart out text

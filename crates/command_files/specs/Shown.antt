@@ -1,4 +1,4 @@
--- The answer that a result is.
+-- The answer that a result stands for.
 use Rattle.std.specs.Prelude.{Result, Ok, Err}
 use Rattle.report_text.specs.Shown.{shown}
 use Rattle.report_text.specs.declared.refusal.Refusal.{Refusal}

@@ -1,4 +1,4 @@
--- What the steps answer that take and read a command's files.
+-- The answers of the steps that take and read a command's files.
 use Rattle.std.specs.Prelude.{◌≡◌, ◌≤◌, ◌⊎◌, ℕ, All, List, ◌∷◌, map, length, Option, option_to_list, Result, Ok, Err}
 use Rattle.std.specs.Option.{ForSome}
 use Rattle.faults.specs.Counts.{Rose}
@@ -24,9 +24,9 @@ use Rattle.command_files.specs.declared.take.Files.{Files}
 use Rattle.command_files.specs.declared.target_files.TargetFiles.{TargetFiles}
 use Rattle.command_files.specs.declared.wanted.Wanted.{Wanted}
 
--- Taking the files of some names.
+-- ---- taking the files of some names
 
--- why it ends early; no take failed where there was no memory
+-- why taking files ended early; if memory ran out, no take failed
 abbrev pub IsTakeFault : InputsCall → List (List ℕ) → refusal.Refusal → Type 0
 IsTakeFault inputs names refusal.out_of_memory = NoneFailed inputs
 IsTakeFault inputs names (refusal.input_fault name) =
@@ -41,7 +41,7 @@ TakesEach inputs names (Err e) = IsTakeFault inputs names (shown e)
 abbrev pub bytes_of : Files → FilesGiven
 bytes_of files = record { board = files.board; flm = files.flm; images = files.images.items }
 
--- each is no longer than a file may be
+-- no file is longer than 64 MiB, the longest that is allowed
 pub record AreShort (files : Files) : Type 0 where
   pub board : length files.board ≤ 67108864
   pub flm : ForSome files.flm (λ bytes. length bytes ≤ 67108864)
@@ -51,7 +51,7 @@ abbrev pub TakesFiles : InputsCall → FilesAsked → List (List ℕ) → Result
 TakesFiles inputs asked names (Ok files) = AreFiles inputs asked (bytes_of files) × NoneFailed inputs
 TakesFiles inputs asked names (Err e) = IsTakeFault inputs names (shown e)
 
--- Reading the files.
+-- ---- reading the files
 
 abbrev pub IsBoardRefusal : List ℕ → refusal.Refusal → Type 0
 IsBoardRefusal text refusal.out_of_memory = Unit {0}
@@ -66,7 +66,7 @@ abbrev pub IsFlmRefusal : board.Shown → Region → List ℕ → refusal.Refusa
 IsFlmRefusal b region file refusal.out_of_memory = Unit {0}
 IsFlmRefusal b region file r = IsNoneFor b region file r
 
--- an FLM file for a region
+-- the result of reading the FLM file of a region
 abbrev pub ReadsOne : board.Shown → Region → List ℕ → Result Algorithm Refusal → Type 0
 ReadsOne b region file (Ok algorithm) = IsOneFor b region file (flm.shown algorithm)
 ReadsOne b region file (Err e) = IsFlmRefusal b region file (shown e)
@@ -75,23 +75,23 @@ abbrev pub AreFlmRefusal : board.Shown → List (List ℕ) → refusal.Refusal �
 AreFlmRefusal b files refusal.out_of_memory = Unit {0}
 AreFlmRefusal b files r = AreNotFor b b.regions files r
 
--- one for each region of the board
+-- the result of reading an FLM file for each region of the board
 abbrev pub ReadsAlgorithms : board.Shown → List (List ℕ) → Result (List Algorithm) Refusal → Type 0
 ReadsAlgorithms b files (Ok algorithms) = AreFor b b.regions files (map flm.shown algorithms)
 ReadsAlgorithms b files (Err e) = AreFlmRefusal b files (shown e)
 
--- whether an algorithm is for a region of the board
+-- the result of checking an algorithm against a region of the board
 abbrev pub ChecksAlgorithm : board.Shown → Region → flm.Shown → Result (Unit {0}) Refusal → Type 0
 ChecksAlgorithm b region algorithm (Ok _) = IsForBoard b region.base region.size algorithm
 ChecksAlgorithm b region algorithm (Err e) = IsUnfit b region.base region.size algorithm (shown e)
 
--- a file's image was added to those before it
+-- the image in a file was added to those in the files before it
 pub record Adds (raw_at : Option ℕ) (file : List ℕ) (before after : List Run) : Type 0 where
   pub image : List Run
   pub is_image : IsAnyImage raw_at file image
   pub union : IsUnion before image after
 
--- why it was not
+-- why the image in a file wasn't added
 abbrev pub IsAddFault : Option ℕ → List ℕ → List Run → AnyFault → Type 0
 IsAddFault raw_at file before fault = IsAnyFault raw_at file fault ⊎ Clashes raw_at file before fault
 
@@ -104,7 +104,7 @@ abbrev pub ReadsImages : Option ℕ → List (List ℕ) → List (List ℕ) → 
 ReadsImages raw_at names files (Ok image) = IsUnionOf raw_at files image
 ReadsImages raw_at names files (Err e) = IsImagesRefusal raw_at names files (shown e)
 
--- what is wanted
+-- the aim of what was read
 abbrev pub aim_of : Wanted → Aim
 aim_of wanted = record {
   board = board.shown wanted.board;
@@ -120,13 +120,13 @@ abbrev pub ReadsFiles : FilesAsked → FilesGiven → Result Wanted Refusal → 
 ReadsFiles asked files (Ok wanted) = IsAim asked.raw_at files (aim_of wanted)
 ReadsFiles asked files (Err e) = IsFilesRefusal asked files (shown e)
 
--- Taking and reading the files of a command on a target.
+-- ---- taking and reading the files of a command on a target
 
--- what the files want
+-- the aim of a target's files
 abbrev pub said_aim : TargetFiles → Aim
 said_aim said = aim_of said.wanted
 
--- it is what the files say, and has the bytes of the board's text and of the FLM file of each region
+-- what was read is what the files say, with the bytes of the board's text and of each region's FLM file
 pub record AreTargetFiles (raw_at : Option ℕ) (files : FilesGiven) (said : TargetFiles) : Type 0 where
   pub is_aim : IsAim raw_at files (said_aim said)
   pub board_text : files.board ≡ said.board_text
@@ -137,7 +137,7 @@ pub record TookFiles (inputs : InputsCall) (asked : FilesAsked) (Holds : FilesGi
   pub given : Given inputs asked Holds
   pub none_failed : NoneFailed inputs
 
--- a file can't be taken, or else the files are refused
+-- the files were taken and read; else a file couldn't be taken, or the files are refused
 abbrev pub ReadsTargetFiles : InputsCall → FilesAsked → Result TargetFiles Refusal → Type 0
 ReadsTargetFiles inputs asked (Ok said) = TookFiles inputs asked (λ files. AreTargetFiles asked.raw_at files said)
 ReadsTargetFiles inputs asked (Err e) =

@@ -6,31 +6,31 @@ use Rattle.clap.specs.Lexer.{long_of, short_of}
 abbrev pub Text : Type 0
 Text = List ℕ
 
--- the addresses and the positional words
+-- the addresses and the positional words that were read
 abbrev pub Said : Type 0
 Said = List Text × List Text
 
 abbrev pub dashes : Text
 dashes = 45 ∷ 45 ∷ []
 
--- a word that begins as an option: `--raw-at`, with its address in the word or in the next
+-- a word that begins as an option: only `--raw-at` is allowed, with its address in this word or in the next
 abbrev pub option : Text × Option Text → (Text → Option Said) → Option Said → Option Said
 option (name, Some v) attached next = if bytes_eq (codes "raw-at") name then attached v else None
 option (name, None) attached next = if bytes_eq (codes "raw-at") name then next else None
 
--- a word that is not `--`
+-- a word other than `--`
 abbrev pub other : Option (Text × Option Text) → Option Text → (Text → Option Said) → Option Said → Option Said → Option Said
 other (Some p) flags attached next plain = option p attached next
 other None (Some flags) attached next plain = None
 other None None attached next plain = plain
 
--- the word that follows `--raw-at` is no option
+-- the word after `--raw-at` must not be an option
 abbrev pub address : Option (Text × Option Text) → Option Text → Option Said → Option Said
 address (Some p) flags next = None
 address None (Some flags) next = None
 address None None next = next
 
--- the words, where `raws` and `names` stand before them
+-- what the words say, after the addresses `raws` and the positional words `names`
 abbrev mutual
   pub scan : List Text → List Text → List Text → Option Said
   scan raws names [] = Some (raws, names)
@@ -52,13 +52,13 @@ commands = codes "program" ∷ codes "begin" ∷ codes "resume" ∷ codes "rever
 abbrev pub command_of : Text → Option Text
 command_of w = find (λ name. bytes_eq name w) commands
 
--- the command with its addresses and its positional words
+-- the command, with its addresses and its positional words
 abbrev pub with_command : Option Text → Option Said → Option (Text × List Text × List Text)
 with_command None said = None
 with_command (Some c) None = None
 with_command (Some c) (Some p) = Some (c, p.0, p.1)
 
--- what the words say
+-- what the words of a command line say
 abbrev pub says : List Text → Option (Text × List Text × List Text)
 says [] = None
 says (w ∷ ws) = with_command (command_of w) (scan [] [] ws)

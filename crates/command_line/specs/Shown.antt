@@ -1,4 +1,4 @@
--- A line without where it lies in memory.
+-- A line as a value, whatever its place in memory.
 use Rattle.std.specs.Prelude.{List}
 use Rattle.command_line.specs.Scan.{Text}
 use Rattle.command_line.specs.declared.line.Line.{Line}

@@ -5,7 +5,7 @@ use Rattle.command_words.specs.Words.{verify, compare, status, inspect, dump, de
 use Rattle.command_words.specs.declared.command.CommandName.{CommandName}
 use Rattle.command_words.specs.declared.command.CommandName.TheVariants.{Program, Begin, Resume, Revert, Plan, Verify, Compare, Status, Inspect, Dump, Demo}
 
--- words that make this command with such a name before them
+-- these words, after the name of a command, ask for this command
 abbrev pub Fits : CommandName → List (List ℕ) → Command → Type 0
 Fits Program others (program files) = HasTargetAndImages others files
 Fits Begin others (begin files) = HasTargetAndImages others files
@@ -20,7 +20,7 @@ Fits Dump others (dump form board) = Positional others (form_text form ∷ board
 Fits Demo others (demo seed) = HasOneNumber others seed
 Fits _ others _ = ⊥
 
--- what they make: this command, or none
+-- the command that these words ask for, or none if they fit no command
 abbrev pub Fitted : CommandName → List (List ℕ) → Option Command → Type 0
 Fitted name others (Some command) = Fits name others command
 Fitted name others None = (command : Command) → Fits name others command → ⊥

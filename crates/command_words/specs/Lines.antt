@@ -1,4 +1,4 @@
--- The line that words were read as.
+-- The line that the words of a command line were read as.
 use Rattle.std.specs.Prelude.{◌≡◌, ℕ, List, [], ◌∷◌, Option, Some, None}
 use Rattle.command_line.specs.Scan.{scan, says}
 use Rattle.command_line.specs.Shown.{shown}
@@ -11,17 +11,17 @@ use Rattle.command_words.specs.declared.line.CommandLine.TheVariants.{Faulty, Li
 abbrev pub Spells : List (List ℕ) → Line → Type 0
 Spells others line = scan [] [] others ≡ Some (line.addresses.items, line.names.items)
 
--- the address that options give: none, or just one that is written so
+-- the address that options give: none without an option, else the address in the only option
 abbrev pub Gives : List (List ℕ) → Option ℕ → Type 0
 Gives [] None = Unit {0}
 Gives (address ∷ []) (Some at) = IsAddress address at
 Gives _ _ = ⊥
 
--- the words say this line
+-- the words of the command line say this line
 abbrev pub IsLineOf : List (List ℕ) → Line → Type 0
 IsLineOf words line = says words ≡ Some (shown line)
 
--- the words were read as this
+-- the words were read as this line, or as faulty because they ask for no command
 abbrev pub IsReadAs : List (List ℕ) → CommandLine → Type 0
 IsReadAs words Faulty = AsksNothing words
 IsReadAs words (line_that line) = IsLineOf words line

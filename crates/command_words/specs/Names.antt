@@ -1,4 +1,4 @@
--- The names that a command line has.
+-- The names in a command line.
 use Rattle.std.specs.Prelude.{ℕ, List}
 use Rattle.command_words.specs.declared.names.Names.{Names}
 

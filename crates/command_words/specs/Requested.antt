@@ -1,4 +1,4 @@
--- The command that a request is.
+-- The command that a request stands for.
 use Rattle.std.specs.Prelude.{option_copied}
 use Rattle.command_words.specs.Files.{FilesAsked}
 use Rattle.command_words.specs.Words.{Command, program, begin, resume, revert, plan, verify, compare, status, inspect, dump, demo}

@@ -8,7 +8,7 @@ use Rattle.command_words.specs.declared.command.CommandName.TheVariants.{Program
 use Rattle.command_words.specs.declared.command.TextForm.{TextForm}
 use Rattle.command_words.specs.declared.command.TextForm.TheVariants.{Hex, Srec}
 
--- the first word, which names the command
+-- the first word of a command line, which names the command
 abbrev pub text_of : CommandName → List ℕ
 text_of Program = codes "program"
 text_of Begin = codes "begin"
@@ -33,12 +33,12 @@ HasNoOption words = All (λ word. IsOption word → ⊥) words
 abbrev pub dashes : List ℕ
 dashes = codes "--"
 
--- no word is an option: each is positional
+-- no word is an option, so each is positional
 pub record AllPositional (words positional : List (List ℕ)) : Type 0 where
   pub plain : HasNoOption words
   pub all : positional ≡ words
 
--- the first `--` ends the options: each other word is positional, and none before it is an option
+-- the first `--` ends the options: every other word is positional, and no word before it is an option
 pub record EndedByDashes (words positional : List (List ℕ)) : Type 0 where
   pub before : List (List ℕ)
   pub after : List (List ℕ)
@@ -50,17 +50,17 @@ pub record EndedByDashes (words positional : List (List ℕ)) : Type 0 where
 abbrev pub Positional : List (List ℕ) → List (List ℕ) → Type 0
 Positional words positional = AllPositional words positional ⊎ EndedByDashes words positional
 
--- the words are the command's name, and others
+-- the first word is the command's name, and the others follow
 abbrev pub Begins : CommandName → List (List ℕ) → List (List ℕ) → Type 0
 Begins command words others = words ≡ text_of command ∷ others
 
--- the command with no name
+-- a command line with this command and no other words
 pub record HasNoName (command : CommandName) (words : List (List ℕ)) : Type 0 where
   pub others : List (List ℕ)
   pub begins : Begins command words others
   pub none : Positional others []
 
--- the command with exactly one name
+-- a command line with this command and exactly one positional word
 pub record HasOneName (command : CommandName) (words : List (List ℕ)) (name : List ℕ) : Type 0 where
   pub others : List (List ℕ)
   pub begins : Begins command words others
@@ -74,7 +74,7 @@ IsCompare words image = HasOneName Compare words image
 abbrev pub IsInspect : List (List ℕ) → List ℕ → Type 0
 IsInspect words flm = HasOneName Inspect words flm
 
--- the word for a form of text
+-- the word for a text format
 abbrev pub form_text : TextForm → List ℕ
 form_text Hex = codes "hex"
 form_text Srec = codes "srec"
@@ -102,7 +102,7 @@ pub record IsDecimal (word : List ℕ) (at : ℕ) : Type 0 where
 abbrev pub IsAddress : List ℕ → ℕ → Type 0
 IsAddress word at = IsHexadecimal word at ⊎ IsDecimal word at
 
--- the positional words are one number, in decimal digits without a sign
+-- there is one positional word, a number in decimal digits without a sign
 pub record HasOneNumber (words : List (List ℕ)) (number : ℕ) : Type 0 where
   pub word : List ℕ
   pub one : Positional words (word ∷ [])
@@ -135,7 +135,7 @@ pub record InOneWord (option : List (List ℕ)) (at : ℕ) : Type 0 where
 abbrev pub IsRawAt : List (List ℕ) → ℕ → Type 0
 IsRawAt option at = InTwoWords option at ⊎ InOneWord option at
 
--- the option stands once, before any `--`; without it the words have the positional ones and no other option
+-- the option occurs once, before any `--`; without it the words are these positional words and no option
 pub record HasRawAt (words : List (List ℕ)) (at : ℕ) (positional : List (List ℕ)) : Type 0 where
   pub before : List (List ℕ)
   pub option : List (List ℕ)
@@ -145,17 +145,17 @@ pub record HasRawAt (words : List (List ℕ)) (at : ℕ) (positional : List (Lis
   pub plain : HasNoOption before
   pub others : Positional (before ++ after) positional
 
--- the words after the name of a command that may have this option
+-- the words after the name of a command that may have this option: its address, if any, and the positional words
 abbrev pub AreArguments : List (List ℕ) → Option ℕ → List (List ℕ) → Type 0
 AreArguments words None positional = Positional words positional
 AreArguments words (Some at) positional = HasRawAt words at positional
 
--- how many images there may be: one of raw bytes, else 1 to 16
+-- how many images are allowed: one of raw bytes, else 1 to 16
 abbrev pub AreFew : Option ℕ → ℕ → Type 0
 AreFew None images = (1 ≤ images) × (images ≤ 16)
 AreFew (Some at) images = images ≡ 1
 
--- the words after a command's name are a board and images, with as many images as there may be, and no FLM file
+-- the words after a command's name are a board and an allowed number of images, without an FLM file
 pub record HasBoardAndImages (words : List (List ℕ)) (files : FilesAsked) : Type 0 where
   pub arguments : AreArguments words files.raw_at (files.board ∷ files.images)
   pub no_flm : files.flm ≡ None
@@ -167,13 +167,13 @@ pub record IsVerify (words : List (List ℕ)) (files : FilesAsked) : Type 0 wher
   pub begins : Begins Verify words others
   pub names : HasBoardAndImages others files
 
--- the words after a command's name are a board, an FLM file and images, with as many images as there may be
+-- the words after a command's name are a board, an FLM file and an allowed number of images
 pub record HasTargetAndImages (words : List (List ℕ)) (files : FilesAsked) : Type 0 where
   pub arguments : AreArguments words files.raw_at (names_in files)
   pub has_flm : IsSome files.flm
   pub few : AreFew files.raw_at (length files.images)
 
--- the command with a board, an FLM file and images
+-- a command line with this command, a board, an FLM file and images
 pub record IsOnTarget (command : CommandName) (words : List (List ℕ)) (files : FilesAsked) : Type 0 where
   pub others : List (List ℕ)
   pub begins : Begins command words others
@@ -191,7 +191,7 @@ IsBegin words files = IsOnTarget Begin words files
 abbrev pub IsPlan : List (List ℕ) → FilesAsked → Type 0
 IsPlan words files = IsOnTarget Plan words files
 
--- What words ask for.
+-- ---- what words ask for
 
 abbrev pub Asks : List (List ℕ) → Command → Type 0
 Asks words (program files) = IsProgram words files

@@ -1,4 +1,5 @@
--- The table of the controller FC1: what its registers answer and become. The rows are those of `flash_driver/specs/Table` by `fc1_table`.
+-- The table of the controller FC1: what its registers answer, and what stores do to them. `fc1_table` gives the rows of
+-- `flash_driver/specs/Table`.
 use Rattle.std.specs.Prelude.{ℕ, Bool, true, false, not, ◌&&◌, nat_eq, nat_le, if◌then◌else◌, ◌+◌, List, Option, Some, None, is_some}
 use Rattle.flash_layout.specs.declared.area.Area.{Area}
 use Rattle.flash_layout.specs.declared.area.Found.{Found}
@@ -13,13 +14,13 @@ use Rattle.flash_driver.specs.Erasures.{all_are, erases_sector, erases_first, be
 use Rattle.flash_driver.specs.Table.{Table}
 use Rattle.flash_controller.specs.declared.state.State.{State}
 
--- After a reset: locked, no flag.
+-- The registers after a reset: locked, and no flag set.
 abbrev pub after_reset : State
 after_reset = record { lock = lock.Locked; done = false; sequence = false; range = false; not_empty = false; command = 0; address = 0 }
 
--- The registers.
+-- ---- the registers
 
--- it is unlocked, and no operation runs
+-- the controller is unlocked, and no operation runs
 abbrev pub is_ready : State → Option Operation → Bool
 is_ready s runs = is_unlocked s.lock && not (is_some runs)
 
@@ -48,7 +49,7 @@ command_stored s runs value = if is_ready s runs && nat_le value 3 then record s
 abbrev pub address_stored : State → Option Operation → ℕ → State
 address_stored s runs value = if is_ready s runs then record s { address = value } else with_sequence s
 
--- after a store to START: CMD 2 erases the sector of ADDR, or sets RANGE where ADDR lies outside the flash; CMD 3 erases the first area
+-- a store to START: CMD 2 erases the sector of ADDR, or sets RANGE where ADDR lies outside the flash; CMD 3 erases the first area
 unfoldable pub started : FlashMap → State → Option Operation → ℕ → Effect × State
 started map s runs value =
     if is_ready s runs && nat_eq value 1 && nat_eq s.command 2 then begins_or (erases_sector map s.address) s (record s { range = true })
@@ -68,12 +69,12 @@ store map s runs offset value =
     else if nat_eq offset 8 then becomes (command_stored s runs value) else if nat_eq offset 12 then becomes (address_stored s runs value)
     else if nat_eq offset 16 then started map s runs value else (effect.Fault, s)
 
--- The flash.
+-- ---- the flash
 
 abbrev pub may_program : State → Area → ℕ → Bool
 may_program s a width = is_unlocked s.lock && nat_eq s.command 1 && nat_eq width a.unit
 
--- After a store to the flash: CMD 1 programs an empty unit; a unit that isn't empty sets NOTEMPTY, and all else SEQ.
+-- A store to the flash: CMD 1 programs an empty unit. A unit that isn't empty sets NOTEMPTY; any other store sets SEQ.
 unfoldable pub program : FlashMap → State → Found → ℕ → ℕ → List ℕ → Effect × State
 program map s found width value seen =
     if may_program s found.area width then
@@ -81,7 +82,7 @@ program map s found width value seen =
     else becomes (record s { not_empty = true }))
     else becomes (with_sequence s)
 
--- the operation ends, and DONE is set
+-- the registers after the end of an operation: DONE is set
 abbrev pub done : State → State
 done s = record s { done = true }
 

@@ -1,4 +1,4 @@
--- What controllers begin.
+-- The operations that controllers begin.
 use Rattle.std.specs.Prelude.{ℕ, Bool, ◌==◌, List, [], ◌∷◌, Option, Some, None}
 use Rattle.std.specs.List.{list_all}
 use Rattle.flash_layout.specs.declared.area.Area.{Area}
@@ -10,16 +10,16 @@ use Rattle.flash_layout.specs.Maps.{FlashMap}
 use Rattle.flash_driver.specs.declared.state.Effect.{Effect}
 use Rattle.flash_driver.specs.declared.state.Effect.TheVariants as effect
 
--- the erasure of a sector
+-- the operation that erases a sector
 abbrev pub erases : ℕ → Option SectorCells → Option Operation
 erases ticks None = None
 erases ticks (Some sector) = Some (record { work = work.Fill sector.len sector.empty; place = sector.place; ticks = ticks })
 
--- that of the sector that holds an address
+-- the operation that erases the sector with this address
 abbrev pub erases_sector : FlashMap → ℕ → Option Operation
 erases_sector map at = erases map.erase_ticks (sector_of map.areas map.runs at)
 
--- that of all cells of the first area
+-- the operation that erases all cells of the first area
 abbrev pub erases_area : ℕ → List Area → Option Operation
 erases_area ticks [] = None
 erases_area ticks (a ∷ rest) = Some (record { work = work.Fill a.size a.empty; place = 0; ticks = ticks })
@@ -27,15 +27,15 @@ erases_area ticks (a ∷ rest) = Some (record { work = work.Fill a.size a.empty;
 abbrev pub erases_first : FlashMap → Option Operation
 erases_first map = erases_area map.chip_ticks map.areas
 
--- a store that does no more than to leave these registers
+-- the effect of a store that only changes the registers
 abbrev pub becomes : {R : Type 0} → R → Effect × R
 becomes r = (effect.Taken, r)
 
--- the operation is begun, and leaves these registers; or there is none, and others are left
+-- the effect of a store that begins an operation, if there is one; each case leaves its own registers
 abbrev pub begins_or : {R : Type 0} → Option Operation → R → R → Effect × R
 begins_or None r other = becomes other
 begins_or (Some o) r other = (effect.Begins o, r)
 
--- these cells hold one byte alone
+-- all of these cells hold this byte
 abbrev pub all_are : ℕ → List ℕ → Bool
 all_are empty bytes = list_all (λ b. b == empty) bytes

@@ -1,4 +1,4 @@
--- What an access goes to.
+-- What an access to an address goes to.
 use Rattle.std.specs.Prelude.{◌≡◌, ◌-◌, ℕ, ◌&&◌, nat_eq, nat_lt, nat_le, if◌then◌else◌, Option, Some, None}
 use Rattle.flash_layout.specs.declared.area.Found.{Found}
 use Rattle.flash_layout.specs.Areas.{find, FoundInside}
@@ -16,7 +16,7 @@ place_of map at width =
     if nat_le map.base at && nat_lt (at - map.base) map.block then (if nat_eq width 4 then place.Register (at - map.base) else place.Nowhere)
     else of_found (find map.areas 0 at)
 
--- a register is met by a word alone, and a cell that an access goes to lies in the cells, with the bytes of the access
+-- only a word goes to a register; an access to a cell of the flash lies among the cells
 abbrev pub PlaceInside : FlashMap → ℕ → ℕ → Place → Type 0
 PlaceInside map at width (place.Register offset) = width ≡ 4
 PlaceInside map at width (place.Flash found) = FoundInside map.areas at found

@@ -1,5 +1,5 @@
--- The table of a controller: what its registers do, and by it what each access answers and leaves, and what a tick leaves. No access changes a
--- cell: it opens an operation, which a tick settles.
+-- The table of a controller: what its registers do. From it follow the answer of each access, what it leaves, and what a tick leaves. No
+-- access changes a cell: it opens an operation, which a tick settles.
 use Rattle.std.specs.Prelude.{◌≡◌, ◌<◌, ◌≤◌, ◌+◌, ℕ, Bool, true, false, not, ◌&&◌, ◌||◌, if◌then◌else◌, List, [], Option, Some, None, is_some, Result, Ok, Err}
 use Rattle.bench_model.specs.declared.bench_fault.BusEnd.{BusEnd}
 use Rattle.bench_model.specs.declared.bench_fault.BusEnd.TheVariants as bus
@@ -17,19 +17,19 @@ use Rattle.flash_driver.specs.declared.state.Effect.{Effect}
 use Rattle.flash_driver.specs.declared.state.Effect.TheVariants as effect
 use Rattle.flash_driver.specs.Places.{place_of}
 
--- What the registers of one kind do.
+-- What the registers of one kind of controller do.
 pub record Table (R : Type 0) : Type 0 where
-  -- the bytes of their block, on a board of a kind
+  -- the number of bytes of the register block, on a board of a kind
   pub block : ControllerKind → ℕ
   -- the registers after a reset, on a board of a kind
   pub fresh : ControllerKind → R
-  -- what a register answers to a load, by the operation that runs and its offset; none where there is no register
+  -- what the register at an offset answers to a load while an operation runs or none does; none where there is no register
   pub load : R → Option Operation → ℕ → Option ℕ
-  -- what a store of a value to a register does, and the registers after it
+  -- what a store of a value to the register at an offset does, and the registers after it
   pub store : FlashMap → R → Option Operation → ℕ → ℕ → Effect × R
-  -- whether a store to a cell of an area, of a width and a value, looks at the cells there; no operation runs
+  -- whether a store of a width and a value to a cell of an area looks at the cells there, when no operation runs
   pub looks : R → Area → ℕ → ℕ → Bool
-  -- what such a store does, where it sees these cells (none, where it doesn't look), and the registers after it
+  -- what such a store does, and the registers after it; it is given the cells there, or none if it doesn't look
   pub program : FlashMap → R → Found → ℕ → ℕ → List ℕ → Effect × R
   -- the registers after the end of an operation
   pub ended : R → R
@@ -38,11 +38,11 @@ pub record Table (R : Type 0) : Type 0 where
 abbrev pub with_block : {R : Type 0} → Table R → FlashMap → FlashMap
 with_block t map = record map { block = t.block map.kind }
 
--- an operation has a cell and lies in the cells
+-- an operation has at least one cell and lies among the cells
 abbrev pub MayRun : ℕ → Operation → Type 0
 MayRun cells o = (0 < work_len o.work) × (o.place + work_len o.work ≤ cells)
 
--- an operation is begun where none runs
+-- an operation is begun only if none runs
 abbrev pub MayBegin : ℕ → Option Operation → Effect → Type 0
 MayBegin cells runs (effect.Begins o) = (runs ≡ None) × MayRun cells o
 MayBegin cells runs _ = Unit {0}
@@ -54,7 +54,7 @@ is_running s = is_some s.operation
 abbrev pub fresh : {R : Type 0} → Table R → ControllerKind → State R
 fresh t kind = record { registers = t.fresh kind; operation = None }
 
--- The rows.
+-- ---- the rows
 
 -- what a load answers; it leaves the state as it was
 abbrev pub answered : Option ℕ → Result ℕ BusEnd
@@ -81,7 +81,7 @@ begun runs _ = runs
 abbrev pub leaves : {R : Type 0} → State R → Effect × R → Stored R
 leaves s done = (answer_of done.0, record { registers = done.1; operation = begun s.operation done.0 })
 
--- the cells that a store sees
+-- the cells that a store is given: those at its place if it looks at them, else none
 abbrev pub seen : Bool → List ℕ → ℕ → ℕ → List ℕ
 seen looks cells at width = if looks then cells_at cells at width else []
 
@@ -100,32 +100,33 @@ load_row t map s cells at width = load_at t s cells width (place_of map at width
 unfoldable pub store_row : {R : Type 0} → Table R → FlashMap → State R → List ℕ → ℕ → ℕ → ℕ → Stored R
 store_row t map s cells at width value = store_at t map s cells width value (place_of map at width)
 
--- a load there looks at cells
+-- a load at this place looks at cells
 abbrev pub reads : {R : Type 0} → State R → Place → Bool
 reads s (place.Flash found) = not (is_running s)
 reads s _ = false
 
--- a store there looks at cells
+-- a store at this place looks at cells
 abbrev pub compares : {R : Type 0} → Table R → State R → ℕ → ℕ → Place → Bool
 compares t s width value (place.Flash found) = not (is_running s) && t.looks s.registers found.area width value
 compares t s width value _ = false
 
--- it begins an operation
+-- this effect begins an operation
 abbrev pub begins : Effect → Bool
 begins (effect.Begins o) = true
 begins _ = false
 
--- a store there that looks at no cell opens an operation
+-- a store at this place, without a look at cells, opens an operation
 abbrev pub opens : {R : Type 0} → Table R → FlashMap → State R → ℕ → ℕ → Place → Bool
 opens t map s width value (place.Register offset) = begins (t.store map s.registers s.operation offset value).0
 opens t map s width value (place.Flash found) = not (is_running s) && begins (t.program map s.registers found width value []).0
 opens t map s width value place.Nowhere = false
 
--- a store there asks the device
+-- a store at this place asks the device
 abbrev pub asks : {R : Type 0} → Table R → FlashMap → State R → ℕ → ℕ → Place → Bool
 asks t map s width value p = compares t s width value p || opens t map s width value p
 
--- Outside the RAM: the row, and else in a quiet range a load of 0 or a store of nothing.
+-- Outside the RAM: an access answers what its row says. In a quiet range where the row answers a fault, a load gives 0 and a store does
+-- nothing.
 
 abbrev pub or_quiet : {A : Type 0} → A → Bool → Result A BusEnd → Result A BusEnd
 or_quiet nothing true (Err bus.Fault) = Ok nothing
@@ -138,9 +139,9 @@ abbrev pub bus_store : {R : Type 0} → Table R → FlashMap → State R → Lis
 bus_store t map s cells at width value =
     (or_quiet tt (in_quiet map.quiet at) (store_row t map s cells at width value).0, (store_row t map s cells at width value).1)
 
--- The tick.
+-- ---- the tick
 
--- the operation ends; or another one is left to run
+-- the state after the end of an operation
 abbrev pub done : {R : Type 0} → Table R → State R → State R
 done t s = record { registers = t.ended s.registers; operation = None }
 

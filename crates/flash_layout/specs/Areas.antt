@@ -1,4 +1,4 @@
--- Where addresses lie: the areas of a board in order, whose cells are numbered through, and the sectors of all of them.
+-- The areas of a board in order, with their cells numbered through, and the sectors of all areas.
 use Rattle.std.specs.Prelude.{◌≡◌, ◌≤◌, ◌<◌, ◌⊎◌, ◌+◌, ◌-◌, ◌%◌, ℕ, Bool, true, ◌&&◌, ◌||◌, nat_eq, nat_lt, nat_le, if◌then◌else◌, List, [], ◌∷◌, ◌++◌, Option}
 use Rattle.std.specs.Prelude.{Some, None}
 use Rattle.board_file.specs.declared.region.Region.{Region}
@@ -8,7 +8,7 @@ use Rattle.flash_layout.specs.declared.area.Area.{Area}
 use Rattle.flash_layout.specs.declared.area.Found.{Found}
 use Rattle.flash_layout.specs.declared.area.SectorCells.{SectorCells}
 
--- the area of a region, and those of all regions
+-- the area of a region
 abbrev pub area_of : Region → Area
 area_of r = record { base = r.base; size = r.size; empty = r.empty; unit = r.unit }
 
@@ -58,7 +58,7 @@ sector_found runs (Some found) = sector_cells found.area.empty (sector_at runs f
 abbrev pub sector_of : List Area → List SectorRun → ℕ → Option SectorCells
 sector_of areas runs at = sector_found runs (find areas 0 at)
 
--- the first area, which has a byte
+-- this is the first area, and it has a byte
 abbrev pub IsFirst : List Area → Area → Type 0
 IsFirst [] a = ⊥
 IsFirst (b ∷ rest) a = (b ≡ a) × (0 < a.size)
@@ -68,14 +68,14 @@ pub record AreInside (cells : ℕ) (s : SectorCells) : Type 0 where
   pub inside : s.place + s.len ≤ cells
   pub some : 0 < s.len
 
--- An access at an address that is a multiple of its width lies in the cells.
+-- An access to an address in the flash lies among the cells, if the address is a multiple of the access's width.
 pub record FoundInside (areas : List Area) (at : ℕ) (f : Found) : Type 0 where
   pub byte : f.place + 1 ≤ cells_in areas
   pub half : at % 2 ≡ 0 → f.place + 2 ≤ cells_in areas
   pub word : at % 4 ≡ 0 → f.place + 4 ≤ cells_in areas
   pub unit : (f.area.unit ≡ 2) ⊎ (f.area.unit ≡ 4)
 
--- The sector of an address in the flash: it holds the address's cell and lies in the cells.
+-- The sector of an address in the flash contains the address's cell and lies among all cells.
 pub record SectorHolds (cells : ℕ) (f : Found) (s : SectorCells) : Type 0 where
   pub from : s.place ≤ f.place
   pub to : f.place < s.place + s.len

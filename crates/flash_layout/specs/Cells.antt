@@ -1,7 +1,7 @@
--- Cells as numbers.
+-- Cells read as numbers.
 use Rattle.std.specs.Prelude.{ℕ, ◌+◌, ◌*◌, List, [], ◌∷◌, take, drop}
 
--- the number whose bytes these are, the lowest first
+-- the number with these bytes, the lowest byte first
 abbrev pub value_of : List ℕ → ℕ
 value_of [] = 0
 value_of (b ∷ rest) = b + 0x100 * value_of rest

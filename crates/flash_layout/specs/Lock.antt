@@ -7,16 +7,16 @@ abbrev pub is_unlocked : Lock → Bool
 is_unlocked lock.Unlocked = true
 is_unlocked _ = false
 
--- the two keys unlock, one after the other; any other value bars
+-- the lock after a store to the key register: the two keys in order unlock it, and any other value bars it
 abbrev pub next_lock : Lock → ℕ → Lock
 next_lock lock.Locked value = if nat_eq value 0x45670123 then lock.FirstKey else lock.Barred
 next_lock lock.FirstKey value = if nat_eq value 0xCDEF89AB then lock.Unlocked else lock.Barred
 next_lock _ value = lock.Barred
 
--- a flag's part of a register: its bit where it is set
+-- what a flag adds to a register: its bit if the flag is set
 abbrev pub flag_value : Bool → ℕ → ℕ
 flag_value set bit = if set then bit else 0
 
--- a flag that a store clears stays unless its bit is set in the stored value
+-- a flag after a store: it is cleared where its bit is set in the stored value
 abbrev pub kept : Bool → ℕ → ℕ → Bool
 kept flag bit value = flag && nat_eq (value / bit % 2) 0

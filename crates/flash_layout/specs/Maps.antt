@@ -1,4 +1,4 @@
--- Where everything lies, the controller's kind, and how long operations take: what the tables need of a board.
+-- The map of a flash device: the controller's kind, where everything lies, and how long operations take.
 use Rattle.std.specs.Prelude.{ℕ, Bool, ◌-◌, ◌&&◌, nat_le, nat_lt, List}
 use Rattle.std.specs.List.{list_any}
 use Rattle.board_file.specs.declared.kind.ControllerKind.{ControllerKind}
@@ -10,8 +10,8 @@ use Rattle.flash_layout.specs.declared.area.Area.{Area}
 use Rattle.flash_layout.specs.declared.flash_map.FlashMap as code
 use Rattle.flash_layout.specs.Areas.{areas_of, runs_of}
 
--- the controller's kind, the areas, the sectors of all of them, the address of the controller's registers and the bytes of their block,
--- the ticks that programming a unit, erasing a sector and erasing an area take, and the quiet ranges
+-- A map has the controller's kind, the areas, the sectors of all areas, the address of the controller's registers and the bytes of their
+-- block. It also has the ticks to program a unit, erase a sector and erase an area, and the quiet ranges.
 pub record FlashMap : Type 0 where
   pub kind : ControllerKind
   pub areas : List Area
@@ -23,7 +23,7 @@ pub record FlashMap : Type 0 where
   pub chip_ticks : ℕ
   pub quiet : List QuietRange
 
--- the map as clauses have it
+-- a map of the code as a map of the specs
 abbrev pub map_of : code.FlashMap → FlashMap
 map_of l = record {
   kind = l.kind;

@@ -1,4 +1,5 @@
--- The table of the controller FPEC: what its registers answer and become. The rows are those of `flash_driver/specs/Table` by `fpec_table`.
+-- The table of the controller FPEC: what its registers answer, and what stores do to them. `fpec_table` gives the rows of
+-- `flash_driver/specs/Table`.
 use Rattle.std.specs.Prelude.{ℕ, Bool, true, false, not, ◌&&◌, ◌||◌, nat_eq, if◌then◌else◌, ◌+◌, ◌/◌, ◌%◌, List, Option, Some, None, is_some}
 use Rattle.flash_layout.specs.declared.area.Found.{Found}
 use Rattle.flash_layout.specs.declared.lock.Lock.TheVariants as lock
@@ -13,7 +14,7 @@ use Rattle.flash_driver.specs.Erasures.{all_are, erases_sector, erases_first, be
 use Rattle.flash_driver.specs.Table.{Table}
 use Rattle.fpec_controller.specs.declared.state.State.{State}
 
--- After a reset: locked, no bit and no flag.
+-- The registers after a reset: locked, with no bit and no flag set.
 abbrev pub after_reset : State
 after_reset = record {
   lock = lock.Locked;
@@ -26,9 +27,9 @@ after_reset = record {
   address = 0;
 }
 
--- The registers.
+-- ---- the registers
 
--- the operation fills its cells, as an erasure does
+-- the operation erases its cells
 abbrev pub is_fill : Work → Bool
 is_fill (work.Fill len value) = true
 is_fill _ = false
@@ -58,11 +59,12 @@ status_stored s value = record s {
   ended = kept s.ended 32 value;
 }
 
--- AR takes an address while no operation runs
+-- a store to AR: the address is taken unless an operation runs
 abbrev pub address_stored : State → Option Operation → ℕ → State
 address_stored s runs value = if is_some runs then s else record s { address = value }
 
--- an erasure is started: PER alone erases the sector of AR where AR lies in the flash, MER alone the first area, and neither or both nothing
+-- an erasure starts: PER alone erases the sector of AR if AR lies in the flash, MER alone erases the first area; neither or both erase
+-- nothing
 unfoldable pub started : FlashMap → State → Effect × State
 started map s =
     if s.erases_sector && not s.erases_all then begins_or (erases_sector map s.address) s s
@@ -76,7 +78,8 @@ has_bit value bit = nat_eq (value / bit % 2) 1
 abbrev pub with_bits : State → ℕ → State
 with_bits s value = record s { programs = has_bit value 1; erases_sector = has_bit value 2; erases_all = has_bit value 4 }
 
--- After a store to CR. While it is locked or an operation runs nothing changes; bit 7 locks it; and else bit 6 starts an erasure.
+-- A store to CR. Nothing changes while the controller is locked or an operation runs. Otherwise PG, PER and MER are taken; bit 7 locks, and
+-- else bit 6 starts an erasure.
 unfoldable pub control_stored : FlashMap → State → Option Operation → ℕ → Effect × State
 control_stored map s runs value =
     if not (is_unlocked s.lock) || is_some runs then becomes s
@@ -99,16 +102,17 @@ store map s runs offset value =
     else if nat_eq offset 0x10 then control_stored map s runs value else if nat_eq offset 0x14 then becomes (address_stored s runs value)
     else if nat_eq offset 0x1C then becomes s else if nat_eq offset 0x20 then becomes s else (effect.Fault, s)
 
--- The flash.
+-- ---- the flash
 
 abbrev pub may_program : State → Bool
 may_program s = is_unlocked s.lock && s.programs
 
--- the bits of a halfword
+-- the low halfword of a value
 abbrev pub half_of : ℕ → ℕ
 half_of value = value % 0x10000
 
--- After a store to the flash: only a halfword is taken. PG programs an erased halfword, and 0 over any; over any other halfword PGERR is set.
+-- A store to the flash. Only halfwords are taken. PG programs an erased halfword, and 0 over any halfword. Any other value over a used
+-- halfword sets PGERR.
 unfoldable pub program : FlashMap → State → Found → ℕ → ℕ → List ℕ → Effect × State
 program map s found width value seen =
     if not (nat_eq width 2) then (effect.Fault, s)
@@ -117,11 +121,11 @@ program map s found width value seen =
     (effect.Begins (record { work = work.Half value; place = found.place; ticks = map.program_ticks }), s)
     else becomes (record s { program_error = true })
 
--- a store looks at the cells that may program, and not with 0
+-- a store looks at the cells if it is a halfword other than 0 and PG may program
 abbrev pub looks : State → ℕ → ℕ → Bool
 looks s width value = nat_eq width 2 && may_program s && not (nat_eq (half_of value) 0)
 
--- the operation ends, and EOP is set
+-- the registers after the end of an operation: EOP is set
 abbrev pub done : State → State
 done s = record s { ended = true }
 

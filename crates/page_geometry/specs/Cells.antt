@@ -1,4 +1,4 @@
--- Facts on the cells of a range, as a page: whether they are all empty, and whether two contents differ there.
+-- Facts about the cells of a range, such as a page: whether all are empty, and whether two contents differ there.
 use Rattle.std.specs.Prelude.{◌≡◌, ℕ, ◌+◌, ◌-◌, if◌then◌else◌, Bool, false, not, ◌&&◌, ◌||◌, nat_eq, nat_le, List, zero, suc, slice_index}
 use Rattle.flm_descriptor.specs.Shape.{Range}
 use Rattle.page_geometry.specs.Geometry.{In}
@@ -21,7 +21,7 @@ some_in r test = some_below r.stop (λ i. nat_le r.start i && test i)
 unfoldable pub is_used : ℕ → Range → List ℕ → Bool
 is_used empty r cells = some_in r (λ i. not (nat_eq (slice_index cells i) empty))
 
--- the contents differ in the range
+-- the two contents differ in the range
 unfoldable pub differs : Range → List ℕ → List ℕ → Bool
 differs r old want = some_in r (λ i. not (nat_eq (slice_index old i) (slice_index want i)))
 

@@ -1,4 +1,4 @@
--- A device as its sectors and pages: two partitions of its places, the one within the other.
+-- The places of a device as sectors and as pages: two partitions, and each page lies in a sector.
 use Rattle.std.specs.Prelude.{◌≡◌, ℕ, ◌+◌, ◌<◌, ◌≤◌, length, List}
 use Rattle.flm_descriptor.specs.Shape.{Range, range_at, Shape, sectors, pages}
 
@@ -17,7 +17,7 @@ pub record IsPartition (size : ℕ) (rs : List Range) : Type 0 where
   pub cover : (i : ℕ) → i < size → (k : ℕ) × (k < length rs) × In i (range_at rs k)
   pub apart : (j k i : ℕ) → In i (range_at rs j) → In i (range_at rs k) → j ≡ k
 
--- the places of a device, from 0 before `size`, as sectors and as pages
+-- a device: the number of its places, its sectors and its pages
 pub record Geometry : Type 0 where
   pub size : ℕ
   pub sectors : List Range

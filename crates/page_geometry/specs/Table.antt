@@ -1,4 +1,4 @@
--- What the tables of a geometry hold: the runs of sectors, and for each its start and the numbers of its first sector and page.
+-- The tables of a geometry: the runs of sectors, and for each run its start and the numbers of its first sector and page.
 use Rattle.std.specs.Prelude.{◌≡◌, ℕ, ◌+◌, ◌<◌, ◌≤◌, min, length, List, slice_index}
 use Rattle.flm_descriptor.specs.declared.geometry.Run.{Run}
 use Rattle.flm_descriptor.specs.Shape.{sectors_of, pages_of, run_at, sectors_before, pages_before}
@@ -8,7 +8,7 @@ use Rattle.page_geometry.specs.Geometry.{Geometry, IsGeometry}
 abbrev pub runs_geometry : ℕ → ℕ → List Run → Geometry
 runs_geometry size page runs = record { size = size; sectors = sectors_of runs; pages = pages_of page (sectors_of runs) }
 
--- the runs rise from 0, each to the next one or to the device's end
+-- the runs rise from place 0; each ends where the next one starts, and the last one at the device's end
 pub record AreRuns (size : ℕ) (runs : List Run) (starts : List ℕ) : Type 0 where
   pub some : 1 ≤ length runs
   pub steps : (k : ℕ) → k < length runs → 1 ≤ (run_at runs k).step
@@ -19,14 +19,14 @@ pub record AreRuns (size : ℕ) (runs : List Run) (starts : List ℕ) : Type 0 w
   pub stops_next : (k : ℕ) → k + 1 < length runs → (run_at runs k).stop ≡ min (slice_index starts (k + 1)) size
   pub stops_last : (k : ℕ) → k + 1 ≡ length runs → (run_at runs k).stop ≡ size
 
--- for each run the number of its first sector
+-- the table of each run's first sector number
 pub record AreFirstSectors (runs : List Run) (firsts : List ℕ) : Type 0 where
   pub some : 1 ≤ length runs
   pub steps : (k : ℕ) → k < length runs → 1 ≤ (run_at runs k).step
   pub long : length firsts ≡ length runs
   pub each : (k : ℕ) → k < length runs → slice_index firsts k ≡ sectors_before runs k
 
--- for each run the number of its first page
+-- the table of each run's first page number
 pub record AreFirstPages (page : ℕ) (runs : List Run) (firsts : List ℕ) : Type 0 where
   pub page_some : 1 ≤ page
   pub some : 1 ≤ length runs
@@ -34,7 +34,7 @@ pub record AreFirstPages (page : ℕ) (runs : List Run) (firsts : List ℕ) : Ty
   pub long : length firsts ≡ length runs
   pub each : (k : ℕ) → k < length runs → slice_index firsts k ≡ pages_before page runs k
 
--- the tables are those of the runs, and within the limits
+-- the tables belong to these runs, and are within the limits
 pub record IsTable (size page : ℕ) (runs : List Run) (starts first_sectors first_pages : List ℕ) (sectors pages : ℕ) : Type 0 where
   pub page_some : 1 ≤ page
   pub page_limit : page ≤ 65536
