@@ -49,7 +49,8 @@ command_stored s runs value = if is_ready s runs && nat_le value 3 then record s
 abbrev pub address_stored : State → Option Operation → ℕ → State
 address_stored s runs value = if is_ready s runs then record s { address = value } else with_sequence s
 
--- a store to START: CMD 2 erases the sector of ADDR, or sets RANGE where ADDR lies outside the flash; CMD 3 erases the first area
+-- a store to START: CMD 2 erases the sector of ADDR, or sets RANGE if ADDR lies outside the flash; CMD 3 erases the first area; all else
+-- sets SEQ
 unfoldable pub started : FlashMap → State → Option Operation → ℕ → Effect × State
 started map s runs value =
     if is_ready s runs && nat_eq value 1 && nat_eq s.command 2 then begins_or (erases_sector map s.address) s (record s { range = true })
