@@ -1,5 +1,6 @@
 -- The opening of one place of a gang.
-use Rattle.std.proofs.Common.{◌≡◌, ◌<◌, ◌+◌, ◌^◌, ◌∙◌, ◌++◌, ℕ, Bool, IsTrue, All, List, [], ◌∷◌, length, replicate, Option, Some, None, IsSomeAnd, IfSome, Result}
+use Rattle.std.proofs.Common.{◌≡◌, ◌<◌, ◌+◌, ◌^◌, ◌∙◌, ◌++◌, ℕ, Bool, IsTrue, All, List, [], ◌∷◌, length, replicate}
+use Rattle.std.proofs.Common.{Option, Some, None, IsSomeAnd, IfSome, Result}
 use Rattle.std.proofs.Common.{Ok, Err, IfOk, OnOk, refl, sym, ap, subst, arith}
 use Rattle.std.proofs.lemmas.List.{length-replicate}
 use Rattle.bench_model.specs.Calls.{IsRead}

@@ -71,4 +71,5 @@ pub returns-in-Ok-clause-first : goal.returns-in-Ok-clause-first
 returns-in-Ok-clause-first g c = syncs_as c.in-Ok.ensures.first (λ is. absurd (false≢true is))
 
 pub returns-in-Err-clause-first : goal.returns-in-Err-clause-first
-returns-in-Err-clause-first g c = syncs_as c.in-Err.ensures.first (λ is. ap (λ (r : Refusal). refused r) (c.begin_refusal.ensures ∙ begin_file_fault c.in-Err.fault is))
+returns-in-Err-clause-first g c =
+    syncs_as c.in-Err.ensures.first (λ is. ap (λ (r : Refusal). refused r) (c.begin_refusal.ensures ∙ begin_file_fault c.in-Err.fault is))

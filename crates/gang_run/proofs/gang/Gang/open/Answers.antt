@@ -3,7 +3,8 @@ use Rattle.std.proofs.lemmas.Grind.{common_steps}
 use Rattle.std.proofs.Common.{◌≤◌, ◌^◌, ◌∙◌, ℕ, List, get_or, sym, ap, subst, arith}
 use Rattle.std.proofs.lemmas.Result.{err_from_is_err_and}
 use Rattle.ram_arena.specs.Windows.{total, blank}
-use Rattle.gang_run.proofs.OpeningLemmas.{opening_first, opening_on, looked_last, sizes_fit, all_opened, all_synced, synced_so_far, synced_last, all_ready, is_gang}
+use Rattle.gang_run.proofs.OpeningLemmas.{opening_first, opening_on, looked_last, sizes_fit, all_opened, all_ready, is_gang}
+use Rattle.gang_run.proofs.OpeningLemmas.{all_synced, synced_so_far, synced_last}
 use Rattle.gang_run.proofs.gang.Gang.open.Goals as goal
 
 pub loop-index-init : goal.loop-index-init
