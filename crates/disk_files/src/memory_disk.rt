@@ -61,23 +61,6 @@ impl<B: Bench> MemoryDisk<B> {
         }
     }
 
-    /// Gives the bench back.
-    pub fn into_bench(self) -> B
-        ensures { result ≡ self.bench }
-    {
-        let MemoryDisk {
-            bench,
-            bytes: _,
-            operation: _,
-            entry: _,
-            unsynced: _,
-            earlier: _,
-            errors: _,
-            file_whole: _,
-        } = self;
-        bench
-    }
-
     /// Puts the bytes of an open range into the bench.
     fn end_range(&mut self) -> io::Result<()>
         ensures does { ClosesRange B.tells (disk_over (B.state self.old.bench) self.old.entry self.old.bytes.items self.old.unsynced self.old.earlier
