@@ -23,7 +23,7 @@ pub record EndsUnfit (bench : BenchCall) (inputs : InputsCall) (out : SinkCall) 
   pub did : DidNothing bench out
   pub takes : TakesNothing inputs
 
--- the work of a command, or of words that fit none
+-- the work of a command, or of words that fit no command
 abbrev pub EndsOf : Option Command → BenchCall → InputsCall → SinkCall → Answer → Type 0
 EndsOf (Some (program files)) = ProgramEnds files
 EndsOf (Some (begin files)) = BeginEnds files
