@@ -44,7 +44,7 @@ more_state i first state new state_is new_is =
     let more : suc i ≡ i + 1 = omega arith in
     new_is ∙ ap next state_is ∙ sym (after_step i first) ∙ ap (λ (n : ℕ). after n first) more
 
--- so many draws behind nothing
+-- a number of draws appended to an empty list
 pub long_draws : (front : List ℕ) (n state : ℕ) (out lent : List ℕ) → front ≡ [] → out ≡ front ++ draws n state → lent ≡ out → length lent ≡ n
 long_draws front n state out lent none out_is lent_is =
     ap (λ (l : List ℕ). length l) (lent_is ∙ out_is ∙ ap (λ (l : List ℕ). l ++ draws n state) none) ∙ length-draws n state

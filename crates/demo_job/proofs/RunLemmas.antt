@@ -113,7 +113,7 @@ unfolding status_at
 status_same None = refl
 status_same (Some r) = refl
 
--- want of memory has status 1
+-- the status of a job that ran out of memory is 1
 pub want_is_one : (end : Option Refusal) → answer_in end ≡ refused out_of_memory → status_in end ≡ 1
 unfolding status_at
 want_is_one end is = sym (status_same end) ∙ ap status_at is

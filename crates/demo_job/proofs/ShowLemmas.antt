@@ -15,11 +15,11 @@ pub bytes_same : (xs ys : List ℕ) (r : Bool) → r ≡ pointwise nat_eq xs ys 
 bytes_same xs ys true is = ((λ told. same_text xs ys is), (λ same. refl))
 bytes_same xs ys false is = ((λ told. absurd (false≢true told)), (λ same. absurd (other_text xs ys is same)))
 
--- the same of lists that are these
+-- a test for equal lists also decides whether lists equal to these are equal
 pub same_as : {r : Bool} {xs ys us vs : List ℕ} → IsTrue r ↔ (xs ≡ ys) → xs ≡ us → ys ≡ vs → IsTrue r ↔ (us ≡ vs)
 same_as either left right = ((λ told. sym left ∙ either.0 told ∙ right), (λ same. either.1 (left ∙ same ∙ sym right)))
 
--- inputs of which nothing is taken
+-- inputs that nothing is taken from
 pub no_inputs : InputsCall
 no_inputs = inputs_call false (record { faults = 0; failed = []; stands = λ name. None }) (record { faults = 0; failed = []; stands = λ name. None })
 

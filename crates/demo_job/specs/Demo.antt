@@ -9,9 +9,9 @@ use Rattle.demo_job.specs.Plan.{erased, programmed}
 use Rattle.demo_job.specs.Run.{plan_of, IsLost, Resumes, status_in}
 use Rattle.demo_job.specs.declared.run.Demo.{Demo}
 
--- On a fresh bench of a seed: the numbers of the plan that is chosen from the cells that the seed makes to the image laid over them, the
--- calls after which the job was stopped, and how the resume ended, on what the loss of the power left. The cells are the image laid over
--- those that the seed makes exactly where it says so, and with status 0.
+-- What a demonstration shows, on a fresh bench of a seed. It gives the numbers of the plan that is chosen from the seed's cells to the
+-- image laid over them. It gives the number of calls after which the job was stopped, and the end of the resume, on what the loss of the
+-- power left. It says `same` exactly where the cells are the image laid over the seed's cells, and always with status 0.
 pub record Shows (seed : ℕ) (fresh : MemoryBench) (demo : Demo) : Type 0 where
   pub fixture : Fixture
   pub is_fixture : IsFixture fixture

@@ -1,4 +1,4 @@
--- The generator of a demonstration. A draw takes its state to the next, and gives the top byte of that.
+-- The generator of a demonstration. A draw takes the state to the next one, and gives the top byte of that.
 use Rattle.std.specs.Prelude.{◌+◌, ◌*◌, ◌/◌, ◌%◌, ◌^◌, ℕ, zero, suc, List, [], ◌∷◌}
 
 abbrev pub next : ℕ → ℕ
@@ -7,12 +7,12 @@ next state = (state * 1664525 + 1013904223) % 2 ^ 32
 abbrev pub byte_of : ℕ → ℕ
 byte_of state = next state / 2 ^ 24
 
--- the bytes of so many draws
+-- the bytes of a number of draws, from a state on
 unfoldable pub draws : ℕ → ℕ → List ℕ
 draws zero state = []
 draws (suc n) state = byte_of state ∷ draws n (next state)
 
--- the state after so many draws
+-- the state after a number of draws
 unfoldable pub after : ℕ → ℕ → ℕ
 after zero state = state
 after (suc n) state = after n (next state)

@@ -32,7 +32,7 @@ use Rattle.job_commands.specs.Steps.{has_work, BenchCounted, BeginsParts}
 use Rattle.demo_job.specs.Made.{cells_of, image_of, stop_of}
 use Rattle.demo_job.specs.Fixture.{board_text, Fixture}
 
--- What a sink that keeps nothing means, and a call on it.
+-- The state of a sink that keeps nothing, and a call on it.
 
 abbrev pub silent : SinkState
 silent = record { faults = 0; taken = [] }
@@ -40,7 +40,7 @@ silent = record { faults = 0; taken = [] }
 abbrev pub silence : SinkCall
 silence = sink_call false silent silent
 
--- The bench that a demonstration begins on: the cells that the seed makes, and an empty file. Nothing is pending, no operation is open
+-- The bench that a demonstration starts on: the cells that the seed makes, and an empty file. Nothing is pending, no operation is open,
 -- and no fault was counted.
 pub record IsFresh (seed : ℕ) (now : BenchState) : Type 0 where
   pub cells : now.cells ≡ cells_of seed
@@ -49,7 +49,7 @@ pub record IsFresh (seed : ℕ) (now : BenchState) : Type 0 where
   pub store : now.store_faults ≡ 0
   pub device : now.device_faults ≡ 0
 
--- The job of a seed, whose snapshot is the cells that the seed makes, and the work on it.
+-- The job of a seed, with the cells that the seed makes as its snapshot, and the work on it.
 
 abbrev pub job_of : ℕ → Fixture → Job
 job_of seed t = record { format = Second; board = board_text; flms = t.file ∷ []; image = image_of seed; snapshot = cells_of seed }
@@ -57,11 +57,11 @@ job_of seed t = record { format = Second; board = board_text; flms = t.file ∷ 
 abbrev pub work_of : ℕ → Fixture → Work
 work_of seed t = work_to New (job_of seed t) t.board (t.algorithm ∷ []) (cells_of seed)
 
--- the plan of its one region
+-- the plan of the one region of the board
 abbrev pub plan_of : ℕ → Fixture → Chosen
 plan_of seed t = (plan_in t.board 0 t.algorithm (cells_of seed) (work_of seed t).goal).plan
 
--- a bench in memory that stops, as a bench
+-- the state of a stopping bench in memory
 abbrev pub stopping_of : StopBench MemoryBench → BenchState
 stopping_of s = stopped bench_of s
 
@@ -74,8 +74,8 @@ pub record ArePartsOf (seed : ℕ) (t : Fixture) (parts : JobParts) : Type 0 whe
   pub size : t.algorithm.device.size ≡ parts.size
   pub all : parts.size ≡ 65536
 
--- The job of a seed was begun over a bench round this one that lets as many calls through as the seed says. The first call on it is the
--- job's: it syncs the job file.
+-- The job of a seed was begun over a bench that stops after as many calls as the seed says, and wraps the bench `fresh`. The first call
+-- on it is the job's: it syncs the job file.
 pub record BeginsOver {B : Type 0} (tells : Bool) (acts : B → Act → B → Type 0) (state : B → BenchState) (seed : ℕ) (t : Fixture) (fresh : B)
     (begun : StopBench B) (answer : Answer) : Type 0 where
   pub first : StopBench B
@@ -89,8 +89,8 @@ pub record BeginsOver {B : Type 0} (tells : Bool) (acts : B → Act → B → Ty
   pub kind : IsOf has_work answer
   pub counts : BenchCounted (bench_call tells (stopped state first) (stopped state begun)) silence answer
 
--- The job was begun over a bench that lets as many calls through as the seed says, with no fault of its own yet, and carried on until it
--- ended or was stopped, by a fault that this bench counted, but not for want of memory. Then the power was lost.
+-- The job was begun over a bench that stops after as many calls as the seed says, with no fault of its own yet. It was carried on until
+-- it ended or was stopped by a fault that this bench counted; it didn't run out of memory. Then the power was lost.
 pub record IsLost (seed : ℕ) (t : Fixture) (fresh lost : MemoryBench) : Type 0 where
   pub first : StopBench MemoryBench
   pub inner : first.inner ≡ fresh
@@ -98,7 +98,7 @@ pub record IsLost (seed : ℕ) (t : Fixture) (fresh lost : MemoryBench) : Type 0
   pub same : IsSameBench (bench_of fresh) (stopping_of first)
   pub begun : StopBench MemoryBench
   pub answer : Answer
-  -- no call was made before the job's own, the first of which syncs the job file
+  -- no call was made before the calls of the job, and the job's first call syncs the job file
   pub syncs : SyncsFirst true stopping_of (StopActs memory_acts) first begun (answer ≡ refused store_fault)
   pub is_job : IsJob (job_of seed t) t.board (t.algorithm ∷ [])
   pub carries : Carries (bench_call true (stopping_of first) (stopping_of begun)) silence (IsUntouched (stopping_of first)) (work_of seed t) answer
@@ -110,7 +110,7 @@ pub record IsLost (seed : ℕ) (t : Fixture) (fresh lost : MemoryBench) : Type 0
   pub rest : IsAtRest (bench_of lost)
   pub exact : bench.shown lost ≡ after_loss (bench.shown lost).file (bench.shown lost).cells (bench.shown begun.inner)
 
--- How a resume ended.
+-- How a resume ended, as an answer and as a status.
 
 abbrev pub answer_in : Option Refusal → Answer
 answer_in None = done

@@ -1,4 +1,4 @@
--- All that a demonstration is made of, but for the bench.
+-- All that a demonstration is made of, except the bench.
 use Rattle.std.specs.Prelude.{◌≡◌, ℕ, [], ◌∷◌}
 use Rattle.board_file.specs.Shown as board
 use Rattle.flm_descriptor.specs.Shown as flm
@@ -16,7 +16,7 @@ use Rattle.demo_job.specs.declared.first_plan.Counts.{Counts}
 abbrev pub fixture_of : Fixture → fixture.Fixture
 fixture_of t = record { board = board.shown t.board; file = t.flm; algorithm = flm.shown t.algorithm }
 
--- it is that of a seed, and its parts suit
+-- the scene is that of a seed, and its parts suit one another
 pub record IsScene (seed : ℕ) (scene : Scene) : Type 0 where
   pub cells : scene.made.cells.items ≡ cells_of seed
   pub image : scene.made.image ≡ image_of seed
@@ -27,7 +27,7 @@ pub record IsScene (seed : ℕ) (scene : Scene) : Type 0 where
   pub base : scene.fixture.algorithm.device.base ≡ 0x08000000
   pub size : scene.fixture.algorithm.device.size ≡ 65536
 
--- the counts of a plan
+-- the counts are those of a plan: the sectors that it erases, the pages that it programs, and its cost
 pub record IsCounted (l : Geometry) (plan : Chosen) (counts : Counts) : Type 0 where
   pub sectors : counts.sectors ≡ erased l plan
   pub pages : counts.pages ≡ programmed l plan

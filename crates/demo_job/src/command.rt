@@ -17,11 +17,11 @@ use std::alloc::Global;
 /// The longest job file, in bytes.
 const FILE_ROOM: u64 = 4_194_304;
 
-/// The room for the calls that the bench records.
+/// The room for the calls that the bench records, in its units.
 const CALL_ROOM: u64 = 400_000;
 
-/// Runs the demonstration of a seed in memory, and puts its lines. It ends as the resume in it; where there is no memory for the
-/// resume to begin it puts nothing.
+/// Runs the demonstration of a seed in memory, and puts its lines. It ends as the resume in it does. If memory runs out before the resume
+/// begins, nothing is put.
 pub fn demo<'a, O: Sink>(alloc: Global, seed: u32, out: &mut O) -> Result<(), Refusal<'a>>
     ensures { DemoSays seed (sink_call O.tells (O.state out.old) (O.state out.new)) (answer_of result) }
 {
@@ -29,7 +29,7 @@ pub fn demo<'a, O: Sink>(alloc: Global, seed: u32, out: &mut O) -> Result<(), Re
     tell(&demo, out)
 }
 
-/// Puts the lines of a demonstration, and ends as it.
+/// Puts the lines of a demonstration, and ends as the demonstration did.
 fn tell<'a, O: Sink>(demo: &Demo, out: &mut O) -> Result<(), Refusal<'a>>
     ensures { Prints (sink_call O.tells (O.state out.old) (O.state out.new)) demo.now (answer_of result) }
 {

@@ -4,10 +4,10 @@ ghost use Rattle.demo_job.specs.Generator.{next, byte_of, draws, after};
 
 use faults::OutOfMemory;
 
-/// What the state is multiplied by.
+/// The factor by which a state is multiplied.
 const MULTIPLIER: u64 = 1_664_525;
 
-/// What is added to it.
+/// The number that is then added.
 const INCREMENT: u64 = 1_013_904_223;
 
 /// The number of states.

@@ -1,4 +1,4 @@
-//! What the plan of the first run erases and programs, in numbers.
+//! What the first plan of a demonstration erases and programs, in numbers.
 ghost use Rattle.std.specs.Prelude.{◌≡◌, IfOk};
 ghost use Rattle.algo_calls.specs.Duties.{device_of};
 ghost use Rattle.flm_descriptor.specs.Shown.{shown as flm_shown};
@@ -36,7 +36,7 @@ pub(crate) fn first_plan(alloc: Global, seed: u32, scene: &Scene) -> Result<Coun
     })
 }
 
-/// The plan.
+/// The plan that is chosen from the cells of a scene to its goal.
 fn choose(alloc: Global, seed: u32, scene: &Scene, geometry: &Geometry) -> Result<Plan, OutOfMemory>
     requires scene { IsScene seed scene.now }
     requires geometry { geometry.now ≡ device_of (flm_shown scene.now.fixture.algorithm) }
@@ -57,7 +57,7 @@ fn choose(alloc: Global, seed: u32, scene: &Scene, geometry: &Geometry) -> Resul
     Ok(plan)
 }
 
-/// How many sectors are erased: all of them with the chip.
+/// How many sectors a plan erases: all of them where it erases the chip.
 #[tactic(auto, unfolding(crate::specs::Plan::erased))]
 fn sectors(geometry: &Geometry, plan: &Plan) -> u32
     ensures { result ≡ erased geometry.now plan.now.made }
@@ -74,7 +74,7 @@ fn sectors(geometry: &Geometry, plan: &Plan) -> u32
     count
 }
 
-/// How many pages are programmed.
+/// How many pages a plan programs.
 #[tactic(auto, unfolding(crate::specs::Plan::programmed))]
 fn pages(geometry: &Geometry, plan: &Plan) -> u32
     ensures { result ≡ programmed geometry.now plan.now.made }

@@ -17,7 +17,7 @@ use flm_forge::{Kind, forge, listing};
 use octets::Bytes;
 use std::alloc::Global;
 
-/// The text of the board: what it doesn't say has its default.
+/// The text of the board. What it leaves out has its default.
 pub(crate) const BOARD: &[u8] = b"\
     [ram]\n\
     base = 0x20000000\n\
@@ -28,10 +28,10 @@ pub(crate) const BOARD: &[u8] = b"\
     [controller]\n\
     base = 0x40022000\n";
 
-/// The bytes of a page.
+/// The length of a page in bytes.
 const PAGE: u32 = 1024;
 
-/// The board, the FLM file and its algorithm.
+/// A board, an FLM file, and the algorithm of that file.
 #[derive(Drop)]
 pub(crate) struct Fixture {
     pub(crate) board: Board,

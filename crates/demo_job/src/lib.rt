@@ -1,4 +1,4 @@
-//! The demonstration `demo N`, in memory: a device with old data, a job that is stopped in the middle, the power lost, and the job
+//! The demonstration `demo N`, in memory: on a device with old data a job is stopped in the middle, the power is lost, and the job is
 //! resumed. The seed N makes the cells, the image and the stop.
 #![tactic(auto)]
 

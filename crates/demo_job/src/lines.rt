@@ -13,11 +13,11 @@ pub struct DemoLines {
     pub seed: u32,
     /// How many sectors the first plan erases.
     pub sectors: u32,
-    /// How many pages it programs.
+    /// How many pages the first plan programs.
     pub pages: u32,
-    /// What it costs, in the unit of the board's weights.
+    /// What the first plan costs, in the unit of the board's weights.
     pub cost: u64,
-    /// After how many calls on the bench the job was stopped.
+    /// The number of calls on the bench after which the job was stopped.
     pub calls: u64,
     /// The status of the resume.
     pub status: u8,
@@ -48,7 +48,7 @@ fn put_number<O: Sink>(out: &mut O, name: &[u8], number: u64) -> Result<(), Outp
     put_pieces(out, &[name, digits.format(number).as_bytes(), b"\n"])
 }
 
-/// Puts the last line, where the cells are as wanted.
+/// Puts the last line if the cells are as wanted.
 #[tactic(auto, unfolding(crate::specs::Lines::same_text))]
 fn put_same<O: Sink>(out: &mut O, same: bool) -> Result<(), OutputFault>
     ensures { Puts O.tells (O.state out.old) (O.state out.new) (same_text same) result }

@@ -1,4 +1,4 @@
-//! What a seed makes: the cells, the image, and after how many calls the job is stopped.
+//! What a seed makes: the cells, the image, and the number of calls after which the job is stopped.
 ghost use Rattle.std.specs.Prelude.{◌≡◌, ◌≤◌, ◌+◌, ◌^◌, ◌++◌, [], ◌∷◌, replicate, length, IfOk, OnOk};
 ghost use Rattle.demo_job.specs.Generator.{draws};
 ghost use Rattle.demo_job.specs.Made.{sector_of, after_sector, sectors, after_sectors, cells_of, image_of, run_of, after_run, stop_from, stop_of};
@@ -14,10 +14,10 @@ pub(crate) const BASE: u32 = 0x0800_0000;
 /// How many sectors there are.
 pub(crate) const SECTORS: u32 = 64;
 
-/// The bytes of a sector.
+/// The length of a sector in bytes.
 const SECTOR_LEN: u32 = 1024;
 
-/// The bytes of the image.
+/// The length of the image in bytes.
 const IMAGE_LEN: usize = 20_480;
 
 /// The cells, the image, and how many calls on the bench go through.
@@ -54,7 +54,7 @@ pub fn made_cells(alloc: Global, seed: u32) -> Result<Vec<u8>, OutOfMemory>
     Ok(cells)
 }
 
-/// Appends so many sectors.
+/// Appends `count` sectors.
 fn put_sectors(draws: &mut Draws, cells: &mut Vec<u8>, count: u32) -> Result<(), OutOfMemory>
     ensures bytes { OnOk result (cells.new.items ≡ cells.old.items ++ sectors count draws.old.state) }
     ensures state { OnOk result (draws.new.state ≡ after_sectors count draws.old.state) }
@@ -78,7 +78,7 @@ fn put_sector(draws: &mut Draws, cells: &mut Vec<u8>) -> Result<(), OutOfMemory>
     }
 }
 
-/// Appends so many blank cells.
+/// Appends `count` blank cells.
 fn put_blank(cells: &mut Vec<u8>, count: usize) -> Result<(), OutOfMemory>
     ensures { OnOk result (cells.new.items ≡ cells.old.items ++ replicate count 255) }
 {
@@ -113,7 +113,7 @@ fn one_run(alloc: Global, at: u32, bytes: &[u8]) -> Result<ByteMap, OutOfMemory>
     }
 }
 
-/// After how many calls the job is stopped.
+/// The number of calls after which the job is stopped.
 #[tactic(auto, unfolding(crate::specs::Made::stop_from))]
 fn calls(draws: &mut Draws) -> u64
     ensures { result ≡ stop_from draws.old.state }

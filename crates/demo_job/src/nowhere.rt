@@ -2,7 +2,7 @@
 
 use outside_io::{OutputFault, Sink};
 
-/// It takes every piece, and keeps none.
+/// A sink that takes every piece and keeps none.
 #[derive(Clone, Copy)]
 pub(crate) struct Nowhere;
 

@@ -19,13 +19,13 @@ use job_commands::{begin_job, go_on};
 use report_text::Refusal;
 use std::alloc::Global;
 
-/// What the loss of the power leaves in each byte that is pending, and in each cell of an open operation.
+/// The byte that the loss of the power leaves in each pending byte, and in each cell of an open operation.
 const LOST: u8 = 0x5A;
 
-/// The status of want of memory.
+/// The status of a job that ran out of memory.
 const NO_MEMORY: u8 = 1;
 
-/// How a demonstration ended: its lines, the refusal of the resume where there is one, and the bench as the resume left it.
+/// How a demonstration ended: its lines, the refusal of the resume if there was one, and the bench as the resume left it.
 #[derive(Drop)]
 pub struct Demo {
     pub lines: DemoLines,
@@ -33,8 +33,8 @@ pub struct Demo {
     pub bench: MemoryBench,
 }
 
-/// Begins the job that a seed makes, on its bench, stops it after the calls that the seed makes, loses the power, and resumes the
-/// job on what is left. It answers want of memory only where the resume hasn't begun.
+/// Begins the seed's job on its bench, stops it after the number of calls that the seed gives, loses the power, and resumes the job on
+/// what is left. It answers `OutOfMemory` only if the resume hasn't begun.
 pub fn demo_run(alloc: Global, seed: u32, bench: MemoryBench) -> Result<Demo, OutOfMemory>
     requires { IsFresh seed (bench_of bench) }
     ensures { IfOk result (Shows seed bench) }
@@ -43,7 +43,7 @@ pub fn demo_run(alloc: Global, seed: u32, bench: MemoryBench) -> Result<Demo, Ou
     play(alloc, seed, &scene, bench)
 }
 
-/// Plays the demonstration in its scene.
+/// Runs the demonstration in its scene.
 fn play(alloc: Global, seed: u32, scene: &Scene, bench: MemoryBench) -> Result<Demo, OutOfMemory>
     requires scene { IsScene seed scene.now }
     requires fresh { IsFresh seed (bench_of bench) }
@@ -54,14 +54,14 @@ fn play(alloc: Global, seed: u32, scene: &Scene, bench: MemoryBench) -> Result<D
     Ok(resume(alloc, seed, scene, counts, lost))
 }
 
-/// A bench that stops, as the job on it left it, and the refusal of the job.
+/// A bench that stops, as the job left it, and the refusal of the job.
 #[derive(Drop)]
 pub(crate) struct Stopped<B> {
     bench: StopBench<B>,
     refusal: Option<Refusal<'static>>,
 }
 
-/// Begins the job over a bench that stops. The calls that go through are all the job's own.
+/// Begins the job over a bench that stops. Only calls of the job go through it.
 fn begin_stopped<B: Bench>(alloc: Global, seed: u32, scene: &Scene, bench: B) -> Stopped<B>
     requires { IsScene seed scene.now }
     ensures { BeginsOver B.tells B.acts B.state seed (fixture_of scene.now.fixture) bench result.bench (answer_in result.refusal) }
@@ -126,7 +126,7 @@ fn is_same(cells: &[u8], goal: &[u8]) -> bool
     cells == goal
 }
 
-/// The refusal of an end, where there is one.
+/// The refusal of an end, if there is one.
 fn refusal_of(end: Result<(), Refusal<'static>>) -> Option<Refusal<'static>>
     ensures { answer_in result ≡ answer_of end.entry }
 {

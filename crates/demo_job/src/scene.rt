@@ -1,4 +1,4 @@
-//! All that a demonstration is made of, but for the bench.
+//! All that a demonstration is made of, except the bench.
 ghost use Rattle.std.specs.Prelude.{◌≡◌, ◌≤◌, ◌+◌, ◌^◌, [], ◌∷◌, length, IfOk, IsTrue, None};
 ghost use Rattle.board_file.specs.Shown.{shown as board_shown};
 ghost use Rattle.flm_descriptor.specs.Shown.{shown as flm_shown};
@@ -40,7 +40,7 @@ pub(crate) fn set_scene(alloc: Global, seed: u32) -> Result<Scene, OutOfMemory>
     })
 }
 
-/// Whether the device of a fixture is the cells, and board, algorithm and image go together in a job. Those of a demonstration do.
+/// Whether the device of a fixture has exactly the cells, and board, algorithm and image suit one another. In a demonstration they do.
 fn fits(fixture: &Fixture, made: &Made) -> bool
     ensures base { IsTrue result → fixture.now.algorithm.device.base ≡ base }
     ensures size { IsTrue result → fixture.now.algorithm.device.size ≡ length made.now.cells.items }

@@ -58,7 +58,7 @@ module _ (bench : BenchCall) (bytes : List ℕ) where
   differ_once : IsTrue bench.tells → (p w f q x g : ℕ) → DiffersFrom bench bytes p w f → DiffersFrom bench bytes q x g → differs p w f ≡ differs q x g
   differ_once told p w f q x g one two = one_difference bench.after.cells bytes p w f q x g (as_told p w f told one) (as_told q x g told two)
 
-  -- the difference is told by its place
+  -- the difference is given by its place
   pub at_place : (place wanted found : ℕ) → DiffersFrom bench bytes place wanted found → DiffersFrom bench bytes (0 + place) wanted found
   at_place place wanted found is = subst (λ (p : ℕ). DiffersFrom bench bytes p wanted found) (sym (zero-add place)) is
 

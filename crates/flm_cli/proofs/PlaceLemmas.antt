@@ -16,7 +16,7 @@ use Rattle.flm_cli.specs.Verify.{wanted_at}
 use Rattle.job_text.specs.Laid.{address_at}
 use Rattle.flm_cli.specs.Steps.{FindsInImage, RegionAgreesBelow, IsFirstInRegion, FindsInRegion}
 
--- A place in the first region, and one behind it.
+-- A place in the first region, and a place after it.
 
 module _ (region : Region) (rest : List Region) (image : List Run) where
   wanted_first : (place : ℕ) → place < region.size → wanted_at (region ∷ rest) image place ≡ byte_at image (region.base + place)
@@ -69,7 +69,7 @@ module _ (cells : List ℕ) (start : ℕ) (region : Region) (rest : List Region)
           is.least told p byte below (sym (wanted_first region rest image p (omega (arith, below, is.inside))) ∙ held);
     }
 
-    -- one behind it does
+    -- a difference after the first region is the least one, where the first region agrees
     first_later : (IsTrue tells → RegionAgreesBelow cells start region.base image region.size) → (at wanted found : ℕ)
         → LeastFrom tells cells (start + region.size) rest image at wanted found → LeastFrom tells cells start (region ∷ rest) image at wanted found
     first_later one at wanted found is =
@@ -168,7 +168,7 @@ module _ (tells : Bool) (old now : BenchState) (regions : List Region) (image : 
   front : drop index regions ≡ region ∷ drop (index + 1) regions
   front = drop_more regions index region less ∙ ap (λ (x : Region). x ∷ drop (index + 1) regions) (sym is)
 
-  -- its cells lie among all
+  -- the cells of the region lie among all cells
   pub fits : start + (region.size + size_of (drop (index + 1) regions)) ≡ size_of regions
   fits = omega (arith, so_far.places, ap size_of front, sum_by-cons (λ (r : Region). r.size) region (drop (index + 1) regions))
 

@@ -270,7 +270,7 @@ each_by [] [] devices = refl
 each_by (r ∷ rs) (a ∷ more) devices = ap suc (each_by rs more devices.2)
 each_by regions algorithms devices = absurd devices
 
--- as many FLM files as regions
+-- there are as many FLM files as regions
 as_many : (b : board.Shown) (regions : List Region) (first : Option (List ℕ)) (others : List (List ℕ)) (algorithms : List flm.Shown) → IsSome first
     → (IsSome first → length regions ≤ length others) → 0 < length regions
     → AreFor b regions (option_to_list first ++ take (others_of first regions) others) algorithms → AreDevices regions algorithms
@@ -570,7 +570,7 @@ module _ (tells : Bool) (wanted : Wanted) (s : BenchState) (parts : List RegionP
   pub read_of : AreOf tells wanted.board.weights wanted.image s.cells wanted.board.regions (map flm.shown wanted.algorithms.items) 0 parts
   read_of = are_of tells wanted.board.weights wanted.image s.cells wanted.board.regions (map flm.shown wanted.algorithms.items) 0 parts devices are plans
 
-  -- where they are told they are these
+  -- where the bench tells its cells, these are the cells that were read
   pub read_told : (IsTrue tells → length s.cells ≡ size_of wanted.board.regions) → IsTrue tells → s.cells ≡ read_of.cells
   read_told all told = sym (read_of.told told ∙ take_all (size_of wanted.board.regions) s.cells (omega (arith, all told)))
 

@@ -52,19 +52,19 @@ module _ (tells given told : Bool) (b : BenchState) (i : InputsState) (o : SinkS
   pub unfit : EndsUnfit Bench Inputs Out (refused refusal.usage)
   unfit = record { answer_is = inl refl; did = did_nothing tells told b o; takes = took_nothing }
 
-  -- `status`, for want of memory before the file was looked at
+  -- `status` runs out of memory before it looks at the file
   status_unread : StatusEnds Bench Inputs Out (refused out_of_memory)
   status_unread =
       ends_refused tells b b Inputs took_nothing (only_reads_here tells b) told o opening.OutOfMemory (λ is. cc)
       (record { later = omega arith; on_fault = λ is. cc; on_other = λ is. refl }) (λ its. tt) tt
 
-  -- `demo`, for want of memory before it ran
+  -- `demo` runs out of memory before it runs
   demo_unbegun : (seed : ℕ) → DemoEnds seed Bench Inputs Out (refused out_of_memory)
   demo_unbegun seed =
       let did = did_nothing tells told b o in
       demo_ends Bench Inputs Out did.untouched took_nothing seed (refused out_of_memory) (inl (record { answer_is = refl; prints = did.prints }))
 
-  -- want of memory for the words, whatever they ask for
+  -- memory runs out for the words, whatever they ask for
   pub ends_unread : (IsTrue tells → length b.cells ≡ b.cell_count) → (IsTrue tells → (x : List ℕ) → left (cells_half b) x → SameOutside b.operation b.cells x)
       → (words : List (List ℕ)) → (asked : Option Command) → Asked words asked → EndsOf asked Bench Inputs Out (refused out_of_memory)
   ends_unread many exact words None given = record { answer_is = inr refl; did = did_nothing tells told b o; takes = took_nothing }

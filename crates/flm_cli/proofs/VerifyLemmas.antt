@@ -86,7 +86,7 @@ no_flm inputs asked files none are = count_none asked.flm files.flm are.flm.coun
   count_none None (Some x) same is_none = absurd (omega (arith, same))
   count_none (Some y) b same is_none = absurd (cc)
 
--- so none is refused
+-- with no FLM files, none is refused
 no_files : (b : board.Shown) (regions : List Region) (r : Refusal) → AreNotFor b regions [] r → ⊥
 no_files b [] r is = is
 no_files b (region ∷ rest) r is = is

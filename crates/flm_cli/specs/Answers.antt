@@ -17,13 +17,13 @@ use Rattle.flm_cli.specs.Inspect.{InspectEnds}
 use Rattle.flm_cli.specs.Plan.{PlanEnds}
 use Rattle.flm_cli.specs.Verify.{VerifyEnds}
 
--- The work of words that fit no command: it ends so, or for want of memory, with nothing done.
+-- The work of words that fit no command: `usage`, or out of memory, with nothing done.
 pub record EndsUnfit (bench : BenchCall) (inputs : InputsCall) (out : SinkCall) (answer : Answer) : Type 0 where
   pub answer_is : (answer ≡ refused refusal.usage) ⊎ (answer ≡ refused refusal.out_of_memory)
   pub did : DidNothing bench out
   pub takes : TakesNothing inputs
 
--- the work of a command, or of words that fit none
+-- the work of a command, or of words that fit no command
 abbrev pub EndsOf : Option Command → BenchCall → InputsCall → SinkCall → Answer → Type 0
 EndsOf (Some (program files)) = ProgramEnds files
 EndsOf (Some (begin files)) = BeginEnds files
@@ -38,6 +38,6 @@ EndsOf (Some (dump form board)) = DumpEnds form board
 EndsOf (Some (demo seed)) = DemoEnds seed
 EndsOf None = EndsUnfit
 
--- The call of words that ask for this, or for nothing.
+-- The call of words that ask for this command, or for none.
 abbrev pub Answers : Call → Option Command → Type 0
 Answers call asked = AnswersBy call (EndsOf asked)

@@ -7,11 +7,11 @@ use Rattle.command_files.specs.Call.{BenchCall, SinkCall, Answer, refused}
 use Rattle.command_files.specs.Answered.{Refuses, DidNothing, EndsLawfully, on_files}
 use Rattle.flm_cli.specs.Comparison.{ComparisonLeaves, Found, IsDue}
 
--- each byte of the file is the cell at its place, from place 0 on
+-- the bytes of the file are the cells from place 0 on
 abbrev pub CellsAre : BenchCall → List ℕ → Type 0
 CellsAre bench bytes = IsTrue bench.tells → take (length bytes) bench.after.cells ≡ bytes
 
--- the least place at which the cell isn't the byte of the file
+-- the least place at which the cell isn't the byte of the file, with the byte wanted and the byte found there
 abbrev pub DiffersFrom : BenchCall → List ℕ → ℕ → ℕ → ℕ → Type 0
 DiffersFrom bench bytes place wanted found = IsFirstDifference bench.tells bench.after.cells 0 bytes place wanted found
 
@@ -21,25 +21,25 @@ pub record IsTooLong (bench : BenchCall) (bytes : List ℕ) (count cells : ℕ) 
   pub cells_are : cells ≡ bench.before.cell_count
   pub more : cells < count
 
--- the file has a cell for each byte, and the cells were compared with it
+-- there is a cell for each byte of the file, and the cells were compared with the file
 pub record IsComparedWithFile (bench : BenchCall) (bytes : List ℕ) (answer : Answer) : Type 0 where
   pub fits : length bytes ≤ bench.before.cell_count
   pub found : Found (CellsAre bench bytes) (DiffersFrom bench bytes) answer
 
--- bytes of which this holds, which stand under the name where the inputs tell
+-- the bytes of the file under a name, which satisfy `Holds`; where the inputs tell, they are the file's bytes
 pub record OfFile (inputs : InputsCall) (name : List ℕ) (Holds : List ℕ → Type 0) : Type 0 where
   pub bytes : List ℕ
   pub file : IsFile inputs name bytes
   pub holds : Holds bytes
 
--- When each answer comes.
+-- When each answer of `compare` comes.
 abbrev pub ComesOfFile : BenchCall → InputsCall → List ℕ → Answer → Type 0
 ComesOfFile bench inputs image (refused out_of_memory) = Unit {0}
 ComesOfFile bench inputs image (refused (input_fault name)) = Unit {0}
 ComesOfFile bench inputs image (refused (image_too_long count cells)) = OfFile inputs image (λ bytes. IsTooLong bench bytes count cells)
 ComesOfFile bench inputs image answer = OfFile inputs image (λ bytes. IsComparedWithFile bench bytes answer)
 
--- The other direction: with these bytes under the name, each answer comes where it is due.
+-- The other direction: what `compare` must answer where the file under the name has these bytes.
 pub record IsDueForFile (bench : BenchCall) (out : SinkCall) (answer : Answer) (bytes : List ℕ) : Type 0 where
   pub too_long : bench.before.cell_count < length bytes
       → Refuses (DidNothing bench out) answer (image_too_long (length bytes) bench.before.cell_count)

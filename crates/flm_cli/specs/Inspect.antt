@@ -22,19 +22,19 @@ pub record IsNoAlgorithm (inputs : InputsCall) (flm : List ℕ) (fault : FlmFaul
   pub file : IsFile inputs flm bytes
   pub refuses : flm_of bytes ≡ Err fault
 
--- the whole inspection of the algorithm went to `out`
+-- the whole description of the algorithm went to `out`
 pub record IsInspected (inputs : InputsCall) (out : SinkCall) (flm : List ℕ) : Type 0 where
   pub algorithm : Shown
   pub is_algorithm : IsAlgorithm inputs flm algorithm
   pub prints : TookAll out (inspection_text algorithm)
 
--- a beginning of it did, where the count of `out` rose
+-- a beginning of the description of the algorithm went to `out`, and the count of `out` rose
 pub record IsInspectedInPart (inputs : InputsCall) (out : SinkCall) (flm : List ℕ) : Type 0 where
   pub algorithm : Shown
   pub is_algorithm : IsAlgorithm inputs flm algorithm
   pub prints : TookPart out (inspection_text algorithm)
 
--- When each answer comes, and what goes to `out` with it.
+-- When each answer of `inspect` comes, and what goes to `out` with it.
 abbrev pub ComesOfFlm : InputsCall → SinkCall → List ℕ → Answer → Type 0
 ComesOfFlm inputs out flm done = IsInspected inputs out flm
 ComesOfFlm inputs out flm (refused output_fault) = IsInspectedInPart inputs out flm
@@ -43,7 +43,7 @@ ComesOfFlm inputs out flm (refused out_of_memory) = TookNothing out
 ComesOfFlm inputs out flm (refused (input_fault name)) = TookNothing out
 ComesOfFlm inputs out flm (refused _) = ⊥
 
--- The other direction: with these bytes under the name, each answer comes where it is due.
+-- The other direction: what `inspect` must answer where the file under the name has these bytes.
 pub record IsDueForFlm (bench : BenchCall) (out : SinkCall) (answer : Answer) (bytes : List ℕ) : Type 0 where
   pub inspected : (algorithm : Shown) → flm_of bytes ≡ Ok algorithm → IsUnless answer done
   pub refuses : (fault : FlmFault) → flm_of bytes ≡ Err fault → Refuses (DidNothing bench out) answer (flm_refused fault)

@@ -24,19 +24,19 @@ use Rattle.device_dump.specs.Looks.{PrintsNothing}
 use Rattle.flm_cli.specs.Comparison.{Stands, HasOtherSize}
 use Rattle.command_files.specs.Reading.{AnswersFiles}
 
--- The plan.
+-- The plan for the cells of a region.
 
--- the plan that is chosen for cells, the first of which has the address `base`: from the cells as they are to the image laid over
--- them
+-- the plan that is chosen for cells from address `base` on: from the cells as they are to the image laid over them
 abbrev pub plan_for : Weights → flm.Shown → List Run → ℕ → List ℕ → Chosen
 plan_for weights algorithm image base cells =
     chosen (device_of algorithm) weights (is_some algorithm.entries.erase_chip) algorithm.device.empty cells (over image base cells)
 
--- its text
+-- the text of the plan that is chosen for cells from address `base` on
 abbrev pub text_for : Weights → flm.Shown → List Run → ℕ → List ℕ → List ℕ
 text_for weights algorithm image base cells = plan_text (device_of algorithm) base (plan_for weights algorithm image base cells)
 
--- The plans of regions, each for its own cells, which follow those of the one before it: the first address of each, and its text.
+-- The plans of regions, each for its own cells: the first address of each region, and the text of its plan. The cells of one region
+-- follow those of the one before it.
 abbrev pub plans_for : Weights → List Run → List Region → List flm.Shown → List ℕ → List (ℕ × List ℕ)
 plans_for weights image [] algorithms cells = []
 plans_for weights image (region ∷ regions) [] cells = []
@@ -44,23 +44,23 @@ plans_for weights image (region ∷ regions) (algorithm ∷ algorithms) cells =
     (region.base, text_for weights algorithm image region.base (take region.size cells))
     ∷ plans_for weights image regions algorithms (drop region.size cells)
 
--- the text of what files want
+-- the text of the plans for what the files want
 abbrev pub text_of : Aim → List ℕ → List ℕ
 text_of aim cells = plans_text (plans_for aim.board.weights aim.image aim.board.regions aim.algorithms cells)
 
--- What the command leaves with an answer.
+-- What `plan` leaves with an answer.
 pub record PlanLeaves (bench : BenchCall) (out : SinkCall) (answer : Answer) : Type 0 where
   pub prints : PrintsNothing out answer
   pub stands : Stands bench answer
-  -- the job file is as it was, and a stop at any moment leaves no cells that one at entry might not have left
+  -- the job file is as it was, and a stop at any moment leaves only cells that a stop at entry may leave
   pub file : FileStays bench.before bench.after
   pub count : bench.after.cell_count ≡ bench.before.cell_count
   pub stops : AddsNothing (cells_half bench.before) (cells_half bench.after)
 
--- When each answer comes, for files that are right.
+-- When each answer of `plan` comes, for files that are right.
 
--- the text of the plans went to `out`, by an algorithm for each region and made for as many cells as the regions have; where the bench
--- tells its cells they are these
+-- the text of the plans went to `out`: there is an algorithm for each region, and as many cells as the regions have; where the bench
+-- tells its cells, the plans are made from them
 pub record IsPlanned (bench : BenchCall) (out : SinkCall) (aim : Aim) (answer : Answer) : Type 0 where
   pub size : size_of aim.board.regions ≡ bench.before.cell_count
   pub each : length aim.algorithms ≡ length aim.board.regions
@@ -74,7 +74,7 @@ ShowsPlan bench out (refused (cells_differ wanted found)) aim = HasOtherSize ben
 ShowsPlan bench out (refused device_fault) aim = size_of aim.board.regions ≡ bench.before.cell_count
 ShowsPlan bench out answer aim = IsPlanned bench out aim answer
 
--- The other direction: each answer comes where it is due.
+-- The other direction: what `plan` must answer, for files that are right.
 pub record IsDueForPlan (bench : BenchCall) (out : SinkCall) (answer : Answer) (aim : Aim) : Type 0 where
   pub other_size : size_of aim.board.regions ≢ bench.before.cell_count
       → Refuses (DidNothing bench out) answer (cells_differ (size_of aim.board.regions) bench.before.cell_count)

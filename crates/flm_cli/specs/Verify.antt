@@ -14,31 +14,31 @@ use Rattle.command_files.specs.Answered.{Refuses, DidNothing, EndsLawfully, on_f
 use Rattle.flm_cli.specs.Comparison.{ComparisonLeaves, Found, IsDue, HasOtherSize}
 use Rattle.command_files.specs.Reading.{AnswersFiles}
 
--- The cells of regions against an image.
+-- The cells of regions, compared with an image.
 
--- the byte that is wanted at a place
+-- the byte that an image wants at a place among the regions' cells, if it has one there
 abbrev pub wanted_at : List Region → List Run → ℕ → Option ℕ
 wanted_at [] image place = None
 wanted_at (region ∷ regions) image place =
     if nat_lt place region.size then byte_at image (region.base + place) else wanted_at regions image (place - region.size)
 
--- below a place, each cell is the image's byte wherever it has one
+-- below the place `limit`, each cell is the image's byte wherever the image has one
 abbrev pub CellsAgreeBelow : List ℕ → List Region → List Run → ℕ → Type 0
 CellsAgreeBelow cells regions image limit =
     (place byte : ℕ) → place < limit → wanted_at regions image place ≡ Some byte → slice_index cells place ≡ byte
 
--- the same of all places
+-- at every place, the cell is the image's byte wherever the image has one
 abbrev pub CellsAgree : List ℕ → List Region → List Run → Type 0
 CellsAgree cells regions image = (place byte : ℕ) → wanted_at regions image place ≡ Some byte → slice_index cells place ≡ byte
 
--- the least place at which the cell isn't the image's byte
+-- the least place at which the cell isn't the image's byte, with the byte wanted and the byte found there
 pub record IsLeastDifference (tells : Bool) (cells : List ℕ) (regions : List Region) (image : List Run) (place wanted found : ℕ) : Type 0 where
   pub is_wanted : wanted_at regions image place ≡ Some wanted
   pub unequal : wanted ≢ found
   pub is_found : IsTrue tells → slice_index cells place ≡ found
   pub least : IsTrue tells → CellsAgreeBelow cells regions image place
 
--- the same, told by its address
+-- the least difference between cells and image, by the address of its cell
 pub record DiffersAt (bench : BenchCall) (regions : List Region) (image : List Run) (at wanted found : ℕ) : Type 0 where
   pub place : ℕ
   pub address : address_at regions place ≡ Some at
@@ -47,8 +47,8 @@ pub record DiffersAt (bench : BenchCall) (regions : List Region) (image : List R
 abbrev pub AgreesWith : BenchCall → List Region → List Run → Type 0
 AgreesWith bench regions image = IsTrue bench.tells → CellsAgree bench.after.cells regions image
 
--- What is answered for files that are right: with another number of cells than the regions have together that, and else what the
--- comparison found.
+-- What `verify` answers for files that are right: `cells_differ` where the regions have another number of cells than the bench; else what
+-- the comparison found.
 
 pub record IsComparedWithImage (bench : BenchCall) (aim : Aim) (answer : Answer) : Type 0 where
   pub size : size_of aim.board.regions ≡ bench.before.cell_count
@@ -58,7 +58,7 @@ abbrev pub Shows : BenchCall → Answer → Aim → Type 0
 Shows bench (refused (cells_differ wanted found)) aim = HasOtherSize bench aim wanted found
 Shows bench answer aim = IsComparedWithImage bench aim answer
 
--- The other direction: each answer comes where it is due.
+-- The other direction: what `verify` must answer, for files that are right.
 pub record IsDueForImage (bench : BenchCall) (out : SinkCall) (answer : Answer) (aim : Aim) : Type 0 where
   pub other_size : size_of aim.board.regions ≢ bench.before.cell_count
       → Refuses (DidNothing bench out) answer (cells_differ (size_of aim.board.regions) bench.before.cell_count)

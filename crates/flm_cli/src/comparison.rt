@@ -14,8 +14,8 @@ use report_text::{End, Refusal, put_end};
 /// How many cells are read at a time.
 pub const WINDOW: usize = 16_384;
 
-/// Ends a comparison of the cells, of which the first has the address `base`: `same` is printed where none differs, and else
-/// the difference is told by its address.
+/// Ends a comparison of the cells, where the first cell has the address `base`. It prints `same` if no cell differs; else it answers the
+/// difference with its address.
 pub fn tell_found<'a, O: Sink>(
     base: u32,
     found: Result<Option<Difference>, DeviceFault>,

@@ -1,4 +1,4 @@
-//! `inspect FLM`: what an FLM file says of itself.
+//! `inspect FLM`: prints what an FLM file says about its algorithm.
 ghost use Rattle.command_files.specs.Inputs.{inputs_call};
 ghost use Rattle.command_files.specs.Call.{bench_call, sink_call};
 ghost use Rattle.flm_cli.specs.Inspect.{InspectEnds};
@@ -12,7 +12,7 @@ use outside_io::{Inputs, Sink};
 use report_text::{Refusal, put_inspection};
 use std::alloc::Global;
 
-/// Prints the description that an FLM file has of its algorithm. The bench isn't called.
+/// Prints an FLM file's description of its algorithm. The bench isn't called.
 pub fn inspect<'a, B: Bench, I: Inputs, O: Sink>(
     alloc: Global,
     flm: &'a Word,

@@ -25,8 +25,8 @@ use outside_io::{Inputs, OutputFault, Sink};
 use report_text::{Refusal, put_plan, put_region};
 use std::alloc::Global;
 
-/// Prints the plans that are chosen to bring the union of images into the cells as they are, one for each region of the board, by the
-/// algorithm of its FLM file. The job file isn't looked at.
+/// Prints the plans that are chosen to bring the union of images into the cells as they are. There is one for each region of the board,
+/// by the algorithm of its FLM file. The job file isn't looked at.
 pub fn plan<'a, B: Bench, I: Inputs, O: Sink>(
     alloc: Global,
     names: &FileNames<'a>,
@@ -52,7 +52,7 @@ pub fn plan<'a, B: Bench, I: Inputs, O: Sink>(
     print_plans(alloc, &wanted, bench, out)
 }
 
-/// Prints the plans for a board's regions, for as many cells as these have. All memory is taken before the cells are looked at.
+/// Prints the plans for a board's regions, on a bench with as many cells. All memory is taken before the cells are looked at.
 fn print_plans<'a, B: Bench, O: Sink>(
     alloc: Global,
     wanted: &Wanted,
@@ -140,7 +140,7 @@ fn survey_parts<B: Bench>(
     Ok(())
 }
 
-/// Puts the plans: the text of the plan where there is one region, else for each in turn the line of the region and the text.
+/// Puts the plans. If there is one region, that is the text of its plan; otherwise it is for each region in turn its line and the text.
 fn put_parts<O: Sink>(out: &mut O, parts: &[RegionPlan]) -> Result<(), OutputFault>
     requires { All (λ p. p.base + p.geometry.size ≤ 2 ^ 32) parts.now }
     ensures { Puts O.tells (O.state out.old) (O.state out.new) (parts_text parts.now) result }
@@ -152,7 +152,7 @@ fn put_parts<O: Sink>(out: &mut O, parts: &[RegionPlan]) -> Result<(), OutputFau
     Ok(())
 }
 
-/// Puts the text of a plan, behind the line of its region where that is named.
+/// Puts the text of a plan, after the line of its region if `named`.
 fn put_part<O: Sink>(out: &mut O, named: bool, part: &RegionPlan) -> Result<(), OutputFault>
     requires { part.now.base + part.now.geometry.size ≤ 2 ^ 32 }
     ensures { Puts O.tells (O.state out.old) (O.state out.new) (part_text named part.now) result }

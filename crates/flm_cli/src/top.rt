@@ -24,8 +24,8 @@ use outside_io::{Inputs, Sink};
 use report_text::{Refusal, put_refusal};
 use std::alloc::Global;
 
-/// Runs the command that the words give on the bench, with its files from `inputs` and its text to `out`. Answers the
-/// status that the program ends with. Each status but 0 puts one line on `err`, whose faults change no status.
+/// Runs the command that the words give on the bench, with its files from `inputs` and its text to `out`. Answers the exit status of the
+/// program. Each status but 0 puts one line on `err`; faults of `err` change no status.
 pub fn flmprog<B: Bench, I: Inputs, O: Sink, E: Sink>(
     alloc: Global,
     words: &[Word],

@@ -1,4 +1,4 @@
-//! `verify [--raw-at ADDR] BOARD IMAGE...`: the cells against the image of files, on a board.
+//! `verify [--raw-at ADDR] BOARD IMAGE...`: compares the cells with the image of files, on a board.
 ghost use Rattle.std.specs.Prelude.{◌≡◌, All, Option, None, ◌≤◌, ◌<◌, ◌+◌, ◌^◌, ◌∷◌, [], Some, length, IsTrue, IfOk};
 ghost use Rattle.command_words.specs.Files.{names_in};
 ghost use Rattle.command_words.specs.Requested.{files_of};
@@ -23,7 +23,7 @@ use readback::{Difference, first_difference};
 use report_text::Refusal;
 use std::alloc::Global;
 
-/// Compares the cells with the union of images wherever it has a byte, and prints `same` where they agree.
+/// Compares the cells with the union of images wherever the union has a byte, and prints `same` where they agree.
 pub fn verify<'a, B: Bench, I: Inputs, O: Sink>(
     alloc: Global,
     names: &FileNames<'a>,
@@ -51,7 +51,7 @@ pub fn verify<'a, B: Bench, I: Inputs, O: Sink>(
 }
 
 /// Breaks off an open operation, and compares the cells of a board's regions with an image. The cells of the second region follow those
-/// of the first. A difference is the one at the least place, and has the address of its cell.
+/// of the first. The answer is the difference at the least place, with the address of its cell.
 pub fn find_in_image<B: Bench>(
     bench: &mut B,
     board: &Board,
@@ -66,7 +66,7 @@ pub fn find_in_image<B: Bench>(
     find_in_regions(bench, board, image, &mut [0; WINDOW])
 }
 
-/// Compares the cells of a board's regions with an image, region after region up to the first in which a cell differs.
+/// Compares the cells of a board's regions with an image, region after region, up to the first region where a cell differs.
 fn find_in_regions<B: Bench>(
     bench: &mut B,
     board: &Board,
@@ -92,8 +92,8 @@ fn find_in_regions<B: Bench>(
     Ok(None)
 }
 
-/// Compares the cells of a region, of which the first has the place `start`, with an image, from the least address on up to the first
-/// that differs.
+/// Compares the cells of a region with an image, from the least address up to the first cell that differs. The region's first cell has
+/// the place `start`.
 fn find_in_region<B: Bench>(
     bench: &mut B,
     start: u32,
@@ -118,7 +118,7 @@ fn find_in_region<B: Bench>(
     Ok(None)
 }
 
-/// The same with the bytes from one address on, as far as they lie in the region.
+/// Compares the cells of a region with the bytes of one run from one address on, as far as they lie in the region.
 fn find_in_run<B: Bench>(
     bench: &mut B,
     start: u32,

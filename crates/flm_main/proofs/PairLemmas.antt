@@ -17,7 +17,7 @@ names_all (job ∷ cells ∷ rest) = omega (arith, names_all rest)
 pub in_words : (words : List (List ℕ)) (index : ℕ) → index < length (job_names words) → 2 * index + 1 < length words
 in_words words index less = omega (arith, names_within words, less)
 
--- so many are the first 16 at most
+-- the count of pairs is the length of the first 16 job names at most
 pub count_of : (words : List (List ℕ)) (n : ℕ) → n ≤ 16 → 2 * n ≤ length words → (n ≡ 16) ⊎ (length words < 2 * n + 2) → n ≡ length (take 16 (job_names words))
 count_of words n few whole all = elim all [
   | inl is ↦ is ∙ sym (length-take-le 16 (job_names words) (omega (arith, whole, is, names_all words)))
@@ -52,7 +52,7 @@ pub names_on : {A : Type 0} (f : A → List ℕ) (items : List A) (b : A) (names
 names_on f items b names i e less q = map-append f items (b ∷ []) ∙ ap (λ l. l ++ (f b ∷ [])) e ∙ ap (λ x. take i names ++ (x ∷ [])) q
     ∙ sym (take_more names i [] less)
 
--- the same of the cells files, of which there are as many
+-- there are as many names of cells files as names of job files
 pub as_many : (words : List (List ℕ)) → length (cells_names words) ≡ length (job_names words)
 as_many [] = refl
 as_many (job ∷ []) = refl
@@ -66,7 +66,7 @@ cells_at (job ∷ cells ∷ rest) (suc index) less =
     let further : 2 * suc index + 1 ≡ suc (suc (2 * index + 1)) = omega (arith) in
     ap (λ i. get_or (job ∷ cells ∷ rest) i []) further ∙ cells_at rest index (omega (arith, less))
 
--- the first so many of two lists of one length
+-- the first elements of two lists of one length, as many of each
 pub take_as_many : {A B : Type 0} (n : ℕ) (xs : List A) (ys : List B) → length ys ≡ length xs → take (length (take n xs)) ys ≡ take n ys
 take_as_many zero xs ys same = refl
 take_as_many (suc n) [] [] same = refl

@@ -7,10 +7,10 @@ use octets::Word;
 use std::alloc::Global;
 use std::marker::Model;
 
-/// What stands in place of the job file's name where the words are for several devices.
+/// The word in place of the job file's name where the words are for several devices.
 const GANG: &str = "--gang";
 
-/// The arguments of the program, of which the first is its own name. A contract sees the list of their bytes.
+/// The arguments of the program. The first is the program's own name. A contract sees the list of their bytes.
 #[derive(Drop)]
 pub struct Arguments {
     line: Vec<Word>,
@@ -25,7 +25,7 @@ impl Model for Arguments {
 }
 
 impl Arguments {
-    /// No arguments.
+    /// An empty list of arguments.
     pub fn new(alloc: Global) -> Arguments
         ensures { result ≡ [] }
     {
@@ -42,14 +42,14 @@ impl Arguments {
         Ok(())
     }
 
-    /// The arguments that these words are.
+    /// The arguments given by these words.
     pub fn of(line: Vec<Word>) -> Arguments
         ensures { result ≡ line.items }
     {
         Arguments { line }
     }
 
-    /// The argument at this place. A missing one is empty.
+    /// The argument at this place, or an empty one if it is missing.
     fn text_at(&self, place: usize) -> &str
         ensures { result.now ≡ get_or self.now place [] }
     {
@@ -67,14 +67,14 @@ impl Arguments {
         &words[place.min(words.len())..]
     }
 
-    /// Whether they are for several devices.
+    /// Whether the arguments are for several devices.
     pub fn are_for_gang(&self) -> bool
         ensures { IsTrue result ↔ IsForGang self.now }
     {
         self.text_at(1) == GANG
     }
 
-    /// The name of the one device's job file.
+    /// The name of the device's job file.
     pub fn job(&self) -> &str
         requires { IsForGang self.now → ⊥ }
         ensures { result.now ≡ job_name self.now }
@@ -82,7 +82,7 @@ impl Arguments {
         self.text_at(1)
     }
 
-    /// The name of its cells file.
+    /// The name of the device's cells file.
     pub fn cells(&self) -> &str
         requires { IsForGang self.now → ⊥ }
         ensures { result.now ≡ cells_name self.now }
@@ -90,7 +90,7 @@ impl Arguments {
         self.text_at(2)
     }
 
-    /// Its command, with the words of that.
+    /// The command for the device, with the words of the command.
     pub fn words(&self) -> &[Word]
         requires { IsForGang self.now → ⊥ }
         ensures { result.now ≡ words_for_one self.now }
@@ -98,7 +98,7 @@ impl Arguments {
         self.words_from(3)
     }
 
-    /// The words for several devices: for each the names of its job file and its cells file, in turn.
+    /// The words for several devices: for each device the name of its job file, then the name of its cells file.
     pub fn gang_words(&self) -> &[Word]
         requires { IsForGang self.now }
         ensures { result.now ≡ words_for_gang self.now }

@@ -9,7 +9,7 @@ use faults::OutOfMemory;
 use host_files::{FileBench, ProgressLine, Purpose};
 use octets::Word;
 
-/// What a command of these words is about to do with the files.
+/// What a command of these words will do with the files.
 fn purpose_of(words: &[Word]) -> Purpose {
     match words.first() {
         Some(word) => purpose_named(word.text()),
@@ -17,7 +17,7 @@ fn purpose_of(words: &[Word]) -> Purpose {
     }
 }
 
-/// What the command of this name is about to do with them.
+/// What the command of this name will do with the files.
 fn purpose_named(command: &str) -> Purpose {
     match command {
         "program" | "begin" => Purpose::Begins,
@@ -43,7 +43,7 @@ pub fn open_one(
     Ok(bench)
 }
 
-/// The bench of the pair of this index, beside those before it.
+/// The bench of the pair with this index, opened while the earlier ones are open.
 fn open_bench(
     rt: HostRuntime,
     line: &ProgressLine,
@@ -64,7 +64,7 @@ fn open_bench(
     Ok(bench)
 }
 
-/// A bench for each whole pair of names among these words, in turn, at most 16.
+/// A bench for each complete pair of names among these words, in turn, at most 16.
 pub fn open_benches(
     rt: HostRuntime,
     line: &ProgressLine,

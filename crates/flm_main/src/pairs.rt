@@ -4,7 +4,7 @@ ghost use Rattle.flm_main.specs.Line.{job_names};
 
 use octets::Word;
 
-/// The most devices of one call.
+/// The largest number of devices in one call.
 const MOST_PAIRS: usize = 16;
 
 /// The names of a device's files.
@@ -14,14 +14,14 @@ pub struct Pair<'a> {
     pub cells: &'a Word,
 }
 
-/// How many pairs stand whole among these words, at most 16.
+/// The number of complete pairs among these words, at most 16.
 pub fn count_pairs(words: &[Word]) -> usize
     ensures { result ≡ length (take 16 (job_names words.now)) }
 {
     (words.len() / 2).min(MOST_PAIRS)
 }
 
-/// The pair of this index.
+/// The pair with this index.
 pub fn pair_at(words: &[Word], index: usize) -> Pair<'_>
     requires { 2 * index + 1 < length words.now }
     ensures job { result.job.now ≡ get_or words.now (2 * index) [] }

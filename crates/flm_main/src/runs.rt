@@ -12,15 +12,15 @@ use outside_io::Sink;
 use promise::{flash, flash_gang};
 use std::process::ExitCode;
 
-/// The status where there is no memory for the words or the benches.
+/// The status if there is no memory for the words or the benches.
 const NO_MEMORY: u8 = 1;
 
-/// The status where the standard streams can't be held.
+/// The status if the standard streams can't be held.
 const NO_STREAMS: u8 = 10;
 
-/// Runs the program's own arguments, `JOB CELLS COMMAND [WORDS]` or `--gang JOB CELLS [JOB CELLS ..]`: the status that it is to end with.
-/// Where there is no memory for the arguments that is 1. Where the standard streams can't be held no file is opened, and it is 10, as where
-/// standard output failed.
+/// Runs the program by its own arguments, `JOB CELLS COMMAND [WORDS]` or `--gang JOB CELLS [JOB CELLS ..]`, and answers its exit status.
+/// The status is 1 if there is no memory for the arguments. If the standard streams can't be held, no file is opened and the status is
+/// 10, as where standard output failed.
 pub fn run(rt: HostRuntime) -> ExitCode {
     match hold_streams(rt) {
         Ok(streams) => end(streams, read_arguments(rt)),
@@ -28,7 +28,7 @@ pub fn run(rt: HostRuntime) -> ExitCode {
     }
 }
 
-/// The end with the arguments that were read: the status of the call.
+/// Ends a call with the arguments that were read, with the status of the call.
 fn end(streams: HeldStreams, arguments: Result<Vec<Word>, OutOfMemory>) -> ExitCode
     ensures { IsErr arguments → exit_status result ≡ 1 }
 {
@@ -38,7 +38,7 @@ fn end(streams: HeldStreams, arguments: Result<Vec<Word>, OutOfMemory>) -> ExitC
     }
 }
 
-/// The end where no stream can be held.
+/// Ends a call where no stream can be held.
 fn end_without_streams(rt: HostRuntime) -> ExitCode
     ensures { exit_status result ≡ 10 }
 {
@@ -46,9 +46,9 @@ fn end_without_streams(rt: HostRuntime) -> ExitCode
     ExitCode::from(NO_STREAMS)
 }
 
-/// Runs what these arguments ask for on the files of their names, with its text on standard output and its refusal on standard error: the
-/// status of the call. Where standard error is a terminal, a line there says meanwhile how far the cells have come. Where there is no memory
-/// for the names or the benches nothing is put, and the status is 1.
+/// Runs what these arguments ask for on the files that they name, and answers the status of the call. Its text goes to standard output
+/// and its refusal to standard error. If standard error is a terminal, a line there shows the progress of the cells meanwhile. If there
+/// is no memory for the names or the benches, nothing is put and the status is 1.
 pub fn call(streams: HeldStreams, arguments: Arguments) -> u8 {
     let rt = streams.host();
     let line = ProgressLine::on_terminal(rt);
@@ -61,7 +61,7 @@ pub fn call(streams: HeldStreams, arguments: Arguments) -> u8 {
     status_of(answered)
 }
 
-/// The status of a call that was answered so.
+/// The status of a call with this answer.
 fn status_of(answered: Result<u8, OutOfMemory>) -> u8
     ensures answered { IfOk answered (λ status. result ≡ status) }
     ensures memory { IsErr answered → result ≡ 1 }
@@ -72,7 +72,7 @@ fn status_of(answered: Result<u8, OutOfMemory>) -> u8
     }
 }
 
-/// The command for one device.
+/// Runs the command for one device.
 fn call_one(rt: HostRuntime, line: &ProgressLine, arguments: &Arguments) -> Result<u8, OutOfMemory>
     requires { IsForGang arguments.now → ⊥ }
 {
@@ -92,7 +92,7 @@ fn call_one(rt: HostRuntime, line: &ProgressLine, arguments: &Arguments) -> Resu
     ))
 }
 
-/// The jobs of several devices, of which the words name the files.
+/// Carries out the jobs of several devices, on the files that the words name.
 fn call_many(rt: HostRuntime, line: &ProgressLine, words: &[Word]) -> Result<u8, OutOfMemory> {
     let mut out = StdSink::new(rt.stdout());
     let mut err = StdSink::new(rt.stderr());

@@ -73,7 +73,7 @@ begun_counted tells a b d out answer stores devices counts = record {
   out_count = counted_then out.before.faults out.before.faults out.after.faults _ answer refl counts.out_count;
 }
 
--- a count that rose with its fault, behind calls that left it as it was
+-- a count that rose with its fault, after calls that left it as it was
 raised_here : (first before after : ℕ) (fault : Fault) (answer : Answer) → before ≡ first → Rose before after → before ≤ after → fault_in answer ≡ Some fault
     → IsCounted first after fault answer
 raised_here first before after fault answer same rose later is = record {

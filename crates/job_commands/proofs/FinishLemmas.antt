@@ -157,7 +157,7 @@ module _ (tells : Bool) (told : IsTrue tells) (j : code.Job) (goal : Goal) (text
     follows_plan e s m follows = subst (λ (l : List Leg). Follows l its_work.goal (start_for its_work) e s m) legs_are
         (subst (λ (g : List ℕ). Follows (job_legs j v file) g (start_for its_work) e s m) goal_is follows)
 
-    -- as its own goal has it
+    -- the survey of the session, with the goal as the survey has it
     pub as_surveyed : HasSurveyed tells j v.goal file cells v
     as_surveyed = subst (λ (g : Goal). HasSurveyed tells j g file cells v) (sym has.goal) has
 

@@ -12,7 +12,7 @@ use Rattle.command_files.proofs.AnswerLemmas.{only_looked, plain_lawful, took_no
 use Rattle.job_commands.specs.GoOn.{GoOnEnds, has_resume}
 use Rattle.job_commands.proofs.EntryLemmas.{goes_on_unread}
 
--- for want of memory, before any work
+-- the call runs out of memory before any work
 pub ends_unread : (tells sinks : Bool) (b : BenchState) (o : SinkState) (inputs : InputsCall) (goal : Goal) → (IsTrue tells → length b.cells ≡ b.cell_count)
     → (IsTrue tells → (x : List ℕ) → left (cells_half b) x → SameOutside b.operation b.cells x) → TakesNothing inputs
     → GoOnEnds goal (bench_call tells b b) inputs (sink_call sinks o o) (refused out_of_memory)

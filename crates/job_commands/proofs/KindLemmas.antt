@@ -30,7 +30,7 @@ script_kind done kind = tt
 script_kind (refused store_fault) kind = refl
 script_kind (refused r) kind = cc
 
--- and comes late
+-- a refusal of the script comes late
 pub script_stands : (bench : BenchCall) (out : SinkCall) (answer : Answer) → IsOf has_script answer → StandsEarly on_job_file bench out answer
 script_stands bench out done kind = tt
 script_stands bench out (refused store_fault) kind = tt
@@ -101,7 +101,7 @@ alone_work (refused (call_failed number call end)) kind = refl
 alone_work (refused (mismatch at wanted found)) kind = refl
 alone_work (refused r) kind = kind
 
--- and of the command
+-- an answer of the work is one of the command
 pub program_kind : (answer : Answer) → IsOf has_work answer → IsOf has_program answer
 program_kind done kind = tt
 program_kind (refused out_of_memory) kind = refl

@@ -30,7 +30,7 @@ use Rattle.job_commands.specs.GoOn.{work_to, GoesOnFrom}
 use Rattle.job_commands.specs.Refused.{of_session, of_survey}
 use Rattle.job_commands.proofs.CarryLemmas.{no_memory, no_store, no_device, opened}
 
--- where the file stands for a job of so many cells, the work on this job is all that is to be shown
+-- where the file stands for a job of as many cells as the bench has, it is enough to show the work on this job
 pub only_stands : (tells : Bool) (a d : BenchState) (out : SinkCall) (goal : Goal) (answer : Answer) (some : IsSomeJob a.file)
     → size_of some.board.regions ≡ a.cell_count
     → (surveyed : List ℕ) → Carries (bench_call tells a d) out (Left a) (work_to goal some.job some.board some.algorithms surveyed) answer

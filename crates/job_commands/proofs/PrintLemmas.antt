@@ -158,7 +158,7 @@ module _ (sinks : Bool) (j : code.Job) (count : ℕ) (plans : List Planned) (fit
     then_prints (refused (mismatch at wanted found)) kind prints = behind prints
     then_prints (refused other) kind prints = absurd (cc)
 
--- A survey of a job for so many cells, whose plans were put.
+-- A survey of a job for `count` cells, with its plans printed.
 module _ (sinks tells : Bool) (j : code.Job) (goal : Goal) (file cells : List ℕ) (count : ℕ) (size : size_of j.board.regions ≡ count) (p q : SinkState) where
   pub cut_prints : (o : Option Surveyed) (e : OutputFault) → IsSomeAnd o (λ v. HasSurveyed tells j goal file cells v)
       → IfSome o (λ v. Puts sinks p q (plans_shown v.regions) (Err e)) → PrintsWork count (sink_call sinks p q) (refused output_fault)
@@ -188,7 +188,7 @@ plan_at (x ∷ xs) (p ∷ more) (suc n) a other are less is = plan_at xs more n 
 
 module _ (algorithms : List Algorithm) (region : ℕ) (a : Algorithm) (less : region < length algorithms) (is : a ≡ get_or algorithms region a)
     (geometry : Geometry) where
-  -- its addresses are below 2 ^ 32
+  -- the addresses of a plan's device are below 2 ^ 32
   pub fits_memory : (plan : Chosen) (o : Option Surveyed) → IsSomeAnd o (λ v. ArePlansFor (algorithms_shown algorithms) v.regions)
       → IfSome o (λ v. (other : Planned) → geometry ≡ (get_or v.regions region other).layout) → a.device.base + geometry.size ≤ 2 ^ 32
   fits_memory plan None are lays = absurd are

@@ -183,7 +183,7 @@ module _ (bench : BenchCall) (out : SinkCall) (answer : Answer) (files : FilesGi
       })
       over
 
--- So with these parts, and what the files want.
+-- The work on the parts from the files, and on what the files want.
 module _ (bench : BenchCall) (out : SinkCall) (answer : Answer) (raw_at : Option ℕ) (files : FilesGiven) (said : TargetFiles)
     (is : AreTargetFiles raw_at files said)
     (short_board : length said.board_text ≤ 67108864) (short_flm : length said.flm ≤ 67108864)

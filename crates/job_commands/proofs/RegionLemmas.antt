@@ -91,7 +91,7 @@ some_region b [] file files [] are = absurd are
 some_region b [] file files (x ∷ xs) are = absurd are
 some_region b (r ∷ rs) file files xs are = omega arith
 
--- as many as the board has regions
+-- the board has a region, and there are as many FLM files as regions
 record AreAll (b : board.Shown) (files : List (List ℕ)) : Type 0 where
   pub some : 1 ≤ length b.regions
   count : length files ≡ length b.regions

@@ -110,7 +110,7 @@ module _ (tells sinks : Bool) (a b : BenchState) (p : SinkState) (parts : JobPar
       prints = nothing;
     }
 
-    -- one that comes of any file, all of which but a free one of so many cells was only looked at
+    -- a refusal that comes of any file: unless the file is free and the numbers of cells agree, file and cells were only looked at
     looked : (r : Refusal) → yields (refused r) ≡ true → (is_of_free (refused r) ≡ true → ⊥)
         → ((IsFree a.file × (parts.size ≡ a.cell_count) → ⊥) → OnlyReads tells a b)
         → (IsFree a.file → BegunComes (bench_call tells a b) (sink_call sinks p p) [] its_job (refused r))
@@ -191,7 +191,7 @@ over_as bench out size answer step one = record {
   begins = λ known is_free sized. step known (one.begins known is_free sized);
 }
 
--- a refusal of the beginning is the same with another text behind
+-- a refusal of the beginning, with any text printed at its end
 comes_with : (bench : BenchCall) (out : SinkCall) (text : List ℕ) (job : Job) (r : Refusal) → IsOf has_start (refused r)
     → BegunComes bench out [] job (refused r)
     → BegunComes bench out text job (refused r)

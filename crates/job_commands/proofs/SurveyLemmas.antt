@@ -28,7 +28,7 @@ use Rattle.job_commands.proofs.CarryLemmas.{entered, looked, ends_in_plan, ends_
 use Rattle.job_commands.proofs.FinishLemmas.{plans_are}
 use Rattle.job_commands.proofs.OpenLemmas.{only_stands, refuses_survey}
 
--- a file that stands for a job stands for what is behind its gate
+-- a file that stands for a job is whole for the bytes after its gate
 pub whole_behind : (text file : List ℕ) → IsWhole text file → IsWhole (drop 1 file) file
 whole_behind text file whole = subst (λ (f : List ℕ). f ≡ 165 ∷ drop 1 f) (sym whole) refl
 

@@ -30,7 +30,7 @@ cells_never {a} {b} First Second one = record {
   from = λ k x from to x_at. absurd (omega (arith, from, to));
 }
 
--- two stretches, of which the second begins at the turn
+-- two stretches of the call, with the turn between them
 pub cells_in_turn : (a b c : BenchState) (First Second : List ℕ → Type 0) → Leaves (cells_half a) (cells_half b) First
     → Leaves (cells_half b) (cells_half c) Second → CellsInTurn a c b.moment First Second
 cells_in_turn a b c First Second one two = record {

@@ -4,7 +4,7 @@ use Rattle.flash_session.specs.Plays.{IsNotDone}
 use Rattle.report_text.specs.Refusal.{out_of_memory, device_fault, output_fault, damaged, cells_differ, call_failed, mismatch}
 use Rattle.command_files.specs.Call.{Answer, done, refused}
 
--- the answers that come only after a job was begun
+-- whether an answer comes only after a job was begun
 abbrev pub is_of_work : Answer → Bool
 is_of_work done = true
 is_of_work (refused output_fault) = true
@@ -12,7 +12,7 @@ is_of_work (refused (call_failed number call end)) = true
 is_of_work (refused (mismatch at wanted found)) = true
 is_of_work (refused _) = false
 
--- the answers of a call that never came to its close
+-- whether an answer comes only from a call that never reached its close
 abbrev pub has_no_close : Answer → Bool
 has_no_close (refused out_of_memory) = true
 has_no_close (refused device_fault) = true
@@ -20,7 +20,7 @@ has_no_close (refused (call_failed number call end)) = true
 has_no_close (refused (mismatch at wanted found)) = true
 has_no_close _ = false
 
--- the two bytes of a mismatch, the two hashes and the two numbers of cells differ, and the call that failed isn't done
+-- the two values of an answer differ (bytes of a mismatch, hashes, numbers of cells), and the call that failed isn't done
 abbrev pub IsSound : Answer → Type 0
 IsSound done = Unit {0}
 IsSound (refused (call_failed number call end)) = IsNotDone number end
@@ -29,7 +29,7 @@ IsSound (refused (damaged kept found)) = kept ≢ found
 IsSound (refused (cells_differ wanted found)) = wanted ≢ found
 IsSound (refused _) = Unit {0}
 
--- those that come only where the file was free: the job was begun, or there were other cells than it is for
+-- whether an answer comes only where the file was free: the job was begun, or it is for another number of cells
 abbrev pub is_of_free : Answer → Bool
 is_of_free done = true
 is_of_free (refused output_fault) = true

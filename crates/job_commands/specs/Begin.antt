@@ -1,5 +1,5 @@
--- What `begin [--raw-at ADDR] BOARD FLM... IMAGE...` answers: a job is begun, and that is all. No cell is changed but in the range of an
--- operation that was open at entry.
+-- What `begin [--raw-at ADDR] BOARD FLM... IMAGE...` answers: a job is begun, and nothing else is done. No cell changes but in the range
+-- of an operation that was open at entry.
 use Rattle.std.specs.Prelude.{◌≡◌, ◌⊎◌, ℕ, List, None, Bool, true, false}
 use Rattle.bench_model.specs.History.{LeftOnly}
 use Rattle.bench_model.specs.State.{BenchState, file_half}
@@ -21,7 +21,7 @@ use Rattle.command_files.specs.Answered.{AnswersBy, OnlyLooked}
 use Rattle.job_commands.specs.Carry.{IsAsEntered, EndsInBegin, NeverBegun, BrokenOff}
 use Rattle.job_commands.specs.Beginning.{job_for, EndsOnJob}
 
--- the line after a job that was begun
+-- the line that is printed after a job was begun
 abbrev pub begun_text : List ℕ
 begun_text = end_text Begun
 
@@ -32,9 +32,9 @@ pub record HasBegun (now : BenchState) (job : Job) : Type 0 where
   pub idle : now.operation ≡ None
   pub cells : now.cells ≡ job.snapshot
 
--- When each answer comes, and what stands and was printed then; with this text behind the beginning. For want of memory the file was only
--- looked at. A fault of the store or the device leaves the file free, or standing for the job, and one of the device comes before the gate
--- is opened. A file that couldn't be taken comes before all work, as other clauses say.
+-- When each answer of the beginning comes, and what then holds of file, cells and output; `text` is printed once the job is begun. Out of
+-- memory, the file was only looked at. A fault of the store or the device leaves the file free, or standing for the job. A fault of the
+-- device comes before the gate is opened. A file that couldn't be taken comes before all work; other clauses say so.
 abbrev pub BegunComes : BenchCall → SinkCall → List ℕ → Job → Answer → Type 0
 BegunComes bench out text job done = HasBegun bench.after job × TookAll out text
 BegunComes bench out text job (refused out_of_memory) = OnlyLooked bench out
@@ -44,21 +44,21 @@ BegunComes bench out text job (refused device_fault) = EndsInBegin bench out (bo
 BegunComes bench out text job (refused output_fault) = HasBegun bench.after job × TookPart out text
 BegunComes bench out text job (refused _) = ⊥
 
--- A job is begun, from entry to exit: its snapshot is the cells of the entry once an operation open then is broken off, which stand from
--- there on; and the pair that a stop leaves is untouched, or its file is whole.
+-- A job is begun, from entry to exit. The snapshot is the cells of the entry, after an operation open then was broken off; from there on
+-- the cells stay so. A stop leaves the pair untouched, or its file whole.
 pub record BeginsAlone (bench : BenchCall) (out : SinkCall) (text : List ℕ) (job : Job) (answer : Answer) : Type 0 where
   pub surveyed : IsAsEntered bench job.snapshot
   pub comes : BegunComes bench out text job answer
   pub pairs : PairsLeave bench.before bench.after (λ f c. IsUntouched bench.before f c ⊎ IsWhole (body_of job) f)
   pub broken_off : BrokenOff bench.before bench.after job.snapshot
 
--- The job of the files of a command is begun.
+-- The job of a command's files is begun.
 pub record Starts (bench : BenchCall) (out : SinkCall) (files : FilesGiven) (aim : Aim) (answer : Answer) : Type 0 where
   pub snapshot : List ℕ
   pub is_job : IsJob (job_for files aim snapshot) aim.board aim.algorithms
   pub begins : BeginsAlone bench out begun_text (job_for files aim snapshot) answer
 
--- What it prints: the line where done.
+-- What `begin` prints: its line where it is done.
 abbrev pub PrintsBegun : ℕ → SinkCall → Answer → Type 0
 PrintsBegun count out answer = PrintsText out begun_text answer
 
@@ -86,6 +86,6 @@ has_begin _ = false
 abbrev pub BeginEnds : FilesAsked → BenchCall → InputsCall → SinkCall → Answer → Type 0
 BeginEnds asked bench inputs out answer = EndsOnJob has_begin PrintsBegun Starts asked bench inputs out answer
 
--- a call of `begin`
+-- a call of `begin`, with its status and its line on `err`
 abbrev pub BeginAnswers : FilesAsked → Call → Type 0
 BeginAnswers asked call = AnswersBy call (BeginEnds asked)

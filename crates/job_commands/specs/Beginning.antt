@@ -1,5 +1,5 @@
--- What `program` and `begin` have in common: the files of a command say a job, with an FLM file for each region of the board, and it is
--- begun over a free file.
+-- What `program` and `begin` have in common: the files of a command describe a job, with an FLM file for each region of the board, and
+-- the job is begun over a free file.
 use Rattle.std.specs.Prelude.{◌≡◌, ◌≢◌, ◌≤◌, ◌⊎◌, ℕ, Bool, true, IsTrue, IsSome, All, List, length}
 use Rattle.board_file.specs.Limits.{size_of}
 use Rattle.job_text.specs.Files.{IsFree}
@@ -15,21 +15,22 @@ use Rattle.command_files.specs.Answered.{EndsLawfully, Refuses, DidNothing, Only
 use Rattle.command_files.specs.Reading.{AnswersFiles, WantAnAim}
 use Rattle.job_commands.specs.Answers.{is_of_work, is_of_free, IsSound}
 
--- A command has FLM files, and the texts of its job are no longer than a file that can be taken.
+-- A command has FLM files, and no text of its job is longer than a file that can be taken.
 pub record HasTexts (files : FilesGiven) (aim : Aim) : Type 0 where
   pub has_flm : IsSome files.flm
   pub short_board : length files.board ≤ 67108864
   pub short_flms : All (λ (file : List ℕ). length file ≤ 67108864) (flm_files files.flm files.images aim.board)
 
--- the job of a command's files, with this snapshot: its file has the second format, and the FLM file of each region
+-- the job of a command's files with this snapshot, in the second format, with the FLM file of each region
 abbrev pub job_for : FilesGiven → Aim → List ℕ → Job
 job_for files aim snapshot =
     record { format = Second; board = files.board; flms = flm_files files.flm files.images aim.board; image = aim.image; snapshot = snapshot }
 
--- By what the job file is, which comes before the number of cells. A file that isn't free is refused, and was only looked at, as where there
--- are other cells than the job is for; over a free file the job is begun, of which this is known.
+-- What is answered, by what the job file is; this comes before the number of cells. A file that isn't free is refused. So is a job for
+-- another number of cells than there are. In both cases file and cells were only looked at. Over a free file the job is begun, and
+-- `Begins` holds of it.
 pub record OverFile (bench : BenchCall) (out : SinkCall) (size : ℕ) (answer : Answer) (Known : Type 0) (Begins : Known → Type 0) : Type 0 where
-  -- the file was free where the job was begun, with status 0 too
+  -- a job was begun only where the file was free, with status 0 too
   pub free : is_of_free answer ≡ true → IsFree bench.before.file
   pub some_job : IsSomeJob bench.before.file → Refuses (OnlyLooked bench out) answer job_open
   pub not_job : (at : ℕ) → IsNotAJob at bench.before.file → Refuses (OnlyLooked bench out) answer (not_a_job at)
@@ -38,15 +39,15 @@ pub record OverFile (bench : BenchCall) (out : SinkCall) (size : ℕ) (answer : 
       → Refuses (OnlyLooked bench out) answer (cells_differ size bench.before.cell_count)
   pub begins : (known : Known) → IsFree bench.before.file → size ≡ bench.before.cell_count → Begins known
 
--- What comes of files that are right, where the bench tells its contents: their job is for as many cells as the regions have, and `Begins`
--- holds of it where it is begun.
+-- What follows for files that are right, where the bench tells its contents. Their job is for as many cells as the regions have, and
+-- `Begins` holds of it where it is begun.
 abbrev pub BeginsFor : (BenchCall → SinkCall → FilesGiven → Aim → Answer → Type 0) → BenchCall → SinkCall → Answer → FilesGiven → Aim → Type 0
 BeginsFor Begins bench out answer files aim =
     IsTrue bench.tells → OverFile bench out (size_of aim.board.regions) answer (HasTexts files aim) (λ has. Begins bench out files aim answer)
 
--- What an answer of the work shows, on every bench too: there were FLM files, and the texts of the job were short enough to be taken; a job
--- was begun only on as many cells as the regions have; the two bytes of a mismatch and the two hashes differ; what was printed is what the
--- answer prints with so many cells; and the work was on that.
+-- What an answer of the work shows, on every bench. There were FLM files, and the texts of the job were short enough to be taken. A job
+-- was begun only on as many cells as the regions have. The two bytes of a mismatch and the two hashes differ. What was printed is what
+-- the answer prints for that number of cells. The work was on that job.
 pub record ShowsJob (Prints : ℕ → SinkCall → Answer → Type 0) (Begins : BenchCall → SinkCall → FilesGiven → Aim → Answer → Type 0)
     (bench : BenchCall) (out : SinkCall) (answer : Answer) (files : FilesGiven) (aim : Aim) : Type 0 where
   pub has_texts : HasTexts files aim
@@ -55,13 +56,13 @@ pub record ShowsJob (Prints : ℕ → SinkCall → Answer → Type 0) (Begins : 
   pub prints : Prints bench.before.cell_count out answer
   pub works : BeginsFor Begins bench out answer files aim
 
--- Want of memory comes before any work, with nothing done, or in the work on what the files want.
+-- `OutOfMemory` comes before any work, with nothing done, or during the work on what the files want.
 abbrev pub WantsMemory : (ℕ → SinkCall → Answer → Type 0) → (BenchCall → SinkCall → FilesGiven → Aim → Answer → Type 0)
     → FilesAsked → BenchCall → InputsCall → SinkCall → Type 0
 WantsMemory Prints Begins asked bench inputs out =
     DidNothing bench out ⊎ Given inputs asked (WantAnAim asked (ShowsJob Prints Begins bench out (refused out_of_memory)))
 
--- The work of a command that has these refusals, prints so, and begins a job: all but the status and the line on `err`.
+-- The work of a command with these refusals, this output and this beginning of a job: all but the status and the line on `err`.
 pub record EndsOnJob (has : Refusal → Bool) (Prints : ℕ → SinkCall → Answer → Type 0) (Begins : BenchCall → SinkCall → FilesGiven → Aim → Answer → Type 0)
     (asked : FilesAsked) (bench : BenchCall) (inputs : InputsCall) (out : SinkCall) (answer : Answer) : Type 0 where
   pub lawful : EndsLawfully on_job_file bench inputs out has (names_in asked) answer

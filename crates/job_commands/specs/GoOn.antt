@@ -1,4 +1,4 @@
--- What `resume` and `revert` answer: they go on with the job in the file.
+-- What `resume` and `revert` answer: they continue the job in the file.
 use Rattle.std.specs.Prelude.{◌≡◌, ◌≢◌, ℕ, IsTrue, List, [], Bool, true, false}
 use Rattle.bench_model.specs.State.{Left}
 use Rattle.board_file.specs.Limits.{size_of}
@@ -21,17 +21,17 @@ use Rattle.job_commands.specs.Carry.{Carries}
 use Rattle.job_commands.specs.Answers.{IsSound}
 use Rattle.job_commands.specs.Printed.{PrintsWork}
 
--- the cells that a job is to leave: its image laid over its snapshot, or the snapshot
+-- the cells that a job must leave: its image laid over its snapshot (`New`), or its snapshot (`Old`)
 abbrev pub goal_in : Goal → Job → board.Shown → List ℕ
 goal_in New job b = overlaid job.image b.regions job.snapshot
 goal_in Old job b = job.snapshot
 
--- the work to that goal, with the cells as surveyed
+-- the work on a job to this goal, with the cells as surveyed
 abbrev pub work_to : Goal → Job → board.Shown → List flm.Shown → List ℕ → Work
 work_to goal job b algorithms surveyed = work_on job b algorithms surveyed (goal_in goal job b)
 
--- By what the file is. A file that is free, damaged or no job, or stands for a job of another number of cells, is refused, and was only
--- looked at; the job of a file is carried to the goal.
+-- What is answered, by what the file is. A file that is free, damaged or no job, or stands for a job with another number of cells, is
+-- refused after a look alone. Any other job is carried to the goal.
 pub record GoesOnFrom (goal : Goal) (bench : BenchCall) (out : SinkCall) (answer : Answer) : Type 0 where
   pub free : IsFree bench.before.file → Refuses (OnlyLooked bench out) answer no_job
   pub not_job : (at : ℕ) → IsNotAJob at bench.before.file → Refuses (OnlyLooked bench out) answer (not_a_job at)
@@ -64,6 +64,6 @@ pub record GoOnEnds (goal : Goal) (bench : BenchCall) (inputs : InputsCall) (out
   pub prints : PrintsWork bench.before.cell_count out answer
   pub told : IsTrue bench.tells → GoesOnFrom goal bench out answer
 
--- a call of `resume` or `revert`
+-- a call of `resume` or `revert`, with its status and its line on `err`
 abbrev pub GoOnAnswers : Goal → Call → Type 0
 GoOnAnswers goal call = AnswersBy call (GoOnEnds goal)

@@ -8,8 +8,8 @@ use Rattle.board_file.specs.Limits.{size_of}
 use Rattle.job_text.specs.Stands.{StandsFor}
 use Rattle.job_text.specs.declared.job.Job as code
 
--- From `a` on the job of the file was opened, which left `b`: the file as read, and the cells outside the operation that was open. A stop
--- leaves what one at the entry may leave.
+-- The job of the file was opened between the states `a` and `b`. The file is as read, and the cells outside an operation open at `a` are
+-- as they were. A stop leaves what a stop at `a` may leave.
 pub record IsOpened (a b : BenchState) (j : code.Job) : Type 0 where
   pub stands : StandsFor j a.file
   pub sized : size_of j.board.regions ≡ a.cell_count

@@ -14,31 +14,31 @@ use Rattle.command_files.specs.Said.{TookNothing, TookAll, TookPart, TookPartBeh
 use Rattle.job_commands.specs.Work.{plans_shown}
 use Rattle.job_commands.specs.Carry.{done_text}
 
--- the plan is one for the device of an algorithm
+-- the plan has the geometry and the base address of an algorithm's device
 pub record IsPlanFor (a : flm.Shown) (p : Planned) : Type 0 where
   pub layout : p.layout ≡ device_of a
   pub lawful : IsGeometry p.layout
   pub base : p.base ≡ a.device.base
 
--- each is one for the device of the algorithm in its place
+-- each plan is one for the device of the algorithm in its place
 abbrev pub ArePlansFor : List flm.Shown → List Planned → Type 0
 ArePlansFor [] [] = Unit {0}
 ArePlansFor (a ∷ rest) (p ∷ more) = IsPlanFor a p × ArePlansFor rest more
 ArePlansFor algorithms plans = ⊥
 
--- it is the plan that is chosen for the device of an algorithm by these weights, from some of its cells to some goal of them
+-- the plan is chosen for the device of an algorithm by these weights, from some contents of its cells to some goal for them
 pub record IsChosen (weights : Weights) (a : flm.Shown) (p : Planned) : Type 0 where
   pub device : IsPlanFor a p
   pub plan : IsSomePlan p.layout weights (is_some a.entries.erase_chip) a.device.empty p.plan
 
--- each is so for the device of the algorithm in its place
+-- each plan is chosen for the device of the algorithm in its place
 abbrev pub AreChosen : Weights → List flm.Shown → List Planned → Type 0
 AreChosen weights [] [] = Unit {0}
 AreChosen weights (a ∷ rest) (p ∷ more) = IsChosen weights a p × AreChosen weights rest more
 AreChosen weights algorithms plans = ⊥
 
--- The text of the plans of one region or two, which are chosen by the weights and the algorithms of some job, and which have so many cells
--- together; of the text this holds.
+-- The text of the plans of one region or two satisfies `Printed`. The plans are chosen by the weights and the algorithms of some job, and
+-- have `count` cells together.
 pub record OfSomePlans (count : ℕ) (Printed : List ℕ → Type 0) : Type 0 where
   pub job : Job
   pub plans : List Planned
@@ -48,8 +48,8 @@ pub record OfSomePlans (count : ℕ) (Printed : List ℕ → Type 0) : Type 0 wh
   pub size : sum_by (λ (p : Planned). p.layout.size) plans ≡ count
   pub printed : Printed (plans_shown plans)
 
--- The plans and `done` where done. A fault of `out` leaves a beginning of the plans, or all of them and a beginning of `done`. A fault of the
--- bench comes before the plans or behind them. What a call or the comparison ends with comes behind them, and all else before.
+-- What each answer prints. Done: the plans and `done`. A fault of `out`: a beginning of the plans, or the plans and a beginning of
+-- `done`. A fault of the bench: nothing, or the plans. A failed call or a mismatch: the plans. All other answers: nothing.
 abbrev pub PrintsWork : ℕ → SinkCall → Answer → Type 0
 PrintsWork count out done = OfSomePlans count (λ text. TookAll out (text ++ done_text))
 PrintsWork count out (refused output_fault) = OfSomePlans count (λ text. TookPart out text ⊎ TookPartBehind out text done_text)
@@ -59,6 +59,6 @@ PrintsWork count out (refused (call_failed number call end)) = OfSomePlans count
 PrintsWork count out (refused (mismatch at wanted found)) = OfSomePlans count (λ text. TookAll out text)
 PrintsWork count out (refused _) = TookNothing out
 
--- what is printed behind the plans
+-- what is printed after the plans
 abbrev pub PrintsEnd : SinkCall → Answer → Type 0
 PrintsEnd out answer = PrintsText out done_text answer

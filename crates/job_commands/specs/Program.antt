@@ -48,6 +48,6 @@ has_program _ = false
 abbrev pub ProgramEnds : FilesAsked → BenchCall → InputsCall → SinkCall → Answer → Type 0
 ProgramEnds asked bench inputs out answer = EndsOnJob has_program PrintsWork Begins asked bench inputs out answer
 
--- a call of `program`
+-- a call of `program`, with its status and its line on `err`
 abbrev pub ProgramAnswers : FilesAsked → Call → Type 0
 ProgramAnswers asked call = AnswersBy call (ProgramEnds asked)

@@ -1,4 +1,4 @@
--- The refusals that faults of the layers below are.
+-- The faults of the layers below, as refusals of the program.
 use Rattle.job_file.specs.declared.fault.BeginFault.{BeginFault}
 use Rattle.job_file.specs.declared.fault.BeginFault.TheVariants as beginning
 use Rattle.flash_session.specs.declared.fault.SessionFault.{SessionFault}
@@ -8,19 +8,19 @@ use Rattle.flash_session.specs.declared.fault.SurveyFault.TheVariants as survey
 use Rattle.report_text.specs.Refusal.{Refusal, out_of_memory, job_open, not_a_job, damaged, cells_differ, store_fault, device_fault}
 use Rattle.report_text.specs.Refused.{of_open}
 
--- a session that wasn't opened
+-- the refusal for a session that wasn't opened
 abbrev pub of_session : SessionFault → Refusal
 of_session session.OutOfMemory = out_of_memory
 of_session (session.Open fault) = of_open fault
 of_session session.DeviceFault = device_fault
 
--- a survey that wasn't made
+-- the refusal for a survey that wasn't made
 abbrev pub of_survey : SurveyFault → Refusal
 of_survey survey.OutOfMemory = out_of_memory
 of_survey survey.DeviceFault = device_fault
 of_survey survey.StoreFault = store_fault
 
--- a job that wasn't begun
+-- the refusal for a job that wasn't begun
 abbrev pub of_begin : BeginFault → Refusal
 of_begin beginning.OutOfMemory = out_of_memory
 of_begin beginning.JobOpen = job_open

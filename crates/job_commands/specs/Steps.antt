@@ -27,9 +27,9 @@ use Rattle.job_commands.specs.GoOn.{work_to}
 use Rattle.job_commands.specs.Beginning.{OverFile}
 use Rattle.job_commands.specs.Begin.{BeginsAlone}
 
--- Which refusals a step has.
+-- Which refusals each step has.
 
--- those of the script and what follows: none of them refuses the file
+-- the refusals of the script and of what follows it: none of them refuses the file
 abbrev pub has_script : Refusal → Bool
 has_script store_fault = true
 has_script device_fault = true
@@ -38,7 +38,7 @@ has_script (call_failed number call end) = true
 has_script (mismatch at wanted found) = true
 has_script _ = false
 
--- those of a job that is begun
+-- the refusals of a step that begins a job
 abbrev pub has_start : Refusal → Bool
 has_start out_of_memory = true
 has_start job_open = true
@@ -49,24 +49,25 @@ has_start store_fault = true
 has_start device_fault = true
 has_start _ = false
 
--- and where this is printed
+-- the refusals of a step that begins a job and prints so
 abbrev pub has_alone : Refusal → Bool
 has_alone output_fault = true
 has_alone refusal = has_start refusal
 
--- those of a job that is begun and carried
+-- the refusals of a step that begins a job and carries it
 abbrev pub has_work : Refusal → Bool
 has_work output_fault = true
 has_work (call_failed number call end) = true
 has_work (mismatch at wanted found) = true
 has_work refusal = has_start refusal
 
--- After a job was begun, a file that is free isn't that job any more. No bench that tells its contents comes to it.
+-- After a job was begun, a file that is free again isn't that job: it is refused as no job at offset 0. No bench that tells its contents
+-- comes to this.
 abbrev pub begun : Answer → Answer
 begun (refused no_job) = refused (not_a_job 0)
 begun answer = answer
 
--- the counts, but for that of the inputs
+-- the counts of faults of the bench and of `out`, for an answer
 pub record BenchCounted (bench : BenchCall) (out : SinkCall) (answer : Answer) : Type 0 where
   pub store_count : IsCounted bench.before.store_faults bench.after.store_faults store answer
   pub device_count : IsCounted bench.before.device_faults bench.after.device_faults device answer
@@ -74,11 +75,11 @@ pub record BenchCounted (bench : BenchCall) (out : SinkCall) (answer : Answer) :
 
 -- The work of a session.
 
--- the work on the job of a session, of which this is the text
+-- the work to a goal on the job of a session, with this job as text and these cells as surveyed
 abbrev pub session_work : Goal → code.Job → Job → List ℕ → Work
 session_work goal j text cells = work_to goal text (board.shown j.board) (algorithms_shown j.algorithms) cells
 
--- From the script on, where the plans are printed: when each answer comes.
+-- When each answer comes from the script on, where the plans were printed before.
 abbrev pub FinishComes : BenchCall → SinkCall → Work → Broken → Answer → Type 0
 FinishComes bench out w broken done = HasClosed bench.after w broken × TookAll out done_text
 FinishComes bench out w broken (refused store_fault) = ((HasJob bench.after w × Breaks w broken bench.after)
@@ -101,12 +102,12 @@ pub record Finishes (bench : BenchCall) (out : SinkCall) (w : Work) (answer : An
   pub local : KeepsDuties w → Leaves (cells_half bench.before) (cells_half bench.after) (IsOutsidePlanAsSurveyed w)
   pub complete : KeepsDuties w → IsUnless answer done
 
--- A job of these parts is begun, with this text behind: by what the file is.
+-- A job of these parts is begun, with `text` printed then; the answer is decided by what the file is.
 abbrev pub StartsParts : BenchCall → SinkCall → List ℕ → JobParts → Answer → Type 0
 StartsParts bench out text parts answer = OverFile bench out parts.size answer (AreParts parts) (λ are.
     (snapshot : List ℕ) × IsJob (job_of parts snapshot) are.board are.algorithms × BeginsAlone bench out text (job_of parts snapshot) answer)
 
--- A job of these parts is begun, and carried to its image: by what the file is.
+-- A job of these parts is begun, and carried to its image; the answer is decided by what the file is.
 abbrev pub BeginsParts : BenchCall → SinkCall → JobParts → Answer → Type 0
 BeginsParts bench out parts answer = OverFile bench out parts.size answer (AreParts parts) (λ are.
     (snapshot : List ℕ) × IsJob (job_of parts snapshot) are.board are.algorithms

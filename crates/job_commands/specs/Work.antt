@@ -21,7 +21,7 @@ use Rattle.flash_session.specs.Script.{Planned, planned, Leg, Broken, script}
 use Rattle.flash_session.specs.Sessions.{legs_for}
 use Rattle.flash_session.specs.Starts.{start_of}
 
--- A job, the board and the algorithms that its texts say, the cells as the survey found them, and the cells that it is to leave.
+-- A job, the board and the algorithms that its texts describe, the cells as the survey found them, and the cells that it must leave.
 pub record Work : Type 0 where
   pub job : Job
   pub board : board.Shown
@@ -35,14 +35,14 @@ work_on job b algorithms surveyed goal = record { job = job; board = b; algorith
 abbrev pub body : Work → List ℕ
 body w = body_of w.job
 
--- The plans.
+-- The plans of a job.
 
--- the plan that is chosen for a region of a board, from its part of these cells to its part of the goal
+-- the plan that is chosen for a region of a board, from its part of `cells` to its part of `goal`
 abbrev pub plan_in : board.Shown → ℕ → flm.Shown → (cells goal : List ℕ) → Planned
 plan_in b region a cells goal = planned (device_of a) a.device.base
     (chosen (device_of a) b.weights (is_some a.entries.erase_chip) a.device.empty (part (site_of b a region) cells) (part (site_of b a region) goal))
 
--- so for each region from this number on, of which these are the algorithms
+-- the plans that are chosen for the regions from number `region` on, with an algorithm for each
 abbrev pub plans_in : board.Shown → ℕ → List flm.Shown → (cells goal : List ℕ) → List Planned
 plans_in b region [] cells goal = []
 plans_in b region (a ∷ rest) cells goal = plan_in b region a cells goal ∷ plans_in b (region + 1) rest cells goal
@@ -55,14 +55,14 @@ plans_of w = plans_in w.board 0 w.algorithms w.surveyed w.goal
 abbrev pub shown_region : Planned → ℕ × List ℕ
 shown_region p = (p.base, plan_text p.layout p.base p.plan)
 
--- the text of plans: of one alone, or of each behind the line of its region
+-- the text of plans: that of a single plan alone, or for each plan the line of its region and its text
 abbrev pub plans_shown : List Planned → List ℕ
 plans_shown plans = plans_text (map shown_region plans)
 
 abbrev pub shown_plan : Work → List ℕ
 shown_plan w = plans_shown (plans_of w)
 
--- The script of those plans, from the cells as surveyed, with the bytes that broken-off operations leave.
+-- The script of the plans, from the cells as surveyed, with the bytes that broken-off operations leave.
 
 abbrev pub legs_of : Work → List Leg
 legs_of w = legs_for w.board 0 w.algorithms w.goal (plans_of w)
@@ -73,15 +73,15 @@ start_for w = stand_at 0 (start_of w.board w.surveyed)
 abbrev pub moves_of : Work → Broken → List Move
 moves_of w broken = script (legs_of w) broken
 
--- it goes to its end, and leaves these cells
+-- the script goes to its end, and leaves these cells
 abbrev pub Ends : Work → Broken → List ℕ → Type 0
 Ends w broken cells = GoTo (start_for w) (moves_of w broken) cells
 
--- this call is the first that isn't done, and leaves these cells
+-- this call is the first in the script that isn't done, and leaves these cells
 abbrev pub Fails : Work → Broken → ℕ → Call → CallEnd → List ℕ → Type 0
 Fails w broken number call end cells = FailAt (start_for w) (moves_of w broken) number call end cells
 
--- it goes to its end, and the cell at this address is the first that isn't as wanted
+-- the script goes to its end, and the cell at this address is the first that isn't as wanted
 pub record Misses (w : Work) (broken : Broken) (at wanted found : ℕ) (cells : List ℕ) : Type 0 where
   pub ends : Ends w broken cells
   pub difference : Difference
@@ -90,11 +90,11 @@ pub record Misses (w : Work) (broken : Broken) (at wanted found : ℕ) (cells : 
   pub wanted_is : wanted ≡ difference.want
   pub found_is : found ≡ difference.got
 
--- a fault of the device breaks it off at a point of its path
+-- a fault of the device breaks the script off at a point of its path
 abbrev pub Breaks : Work → Broken → BenchState → Type 0
 Breaks w broken now = BreaksOff (start_for w) (moves_of w broken) now
 
--- a stop at a point of its path leaves these cells
+-- a stop at a point of the script's path leaves these cells
 abbrev pub IsOnPath : Work → Broken → List ℕ → Type 0
 IsOnPath w broken cells = IsLeftOnWay (start_for w) (moves_of w broken) cells
 
@@ -104,6 +104,6 @@ IsOnPath w broken cells = IsLeftOnWay (start_for w) (moves_of w broken) cells
 abbrev pub KeepsDuties : Work → Type 0
 KeepsDuties w = AllServe w.board w.algorithms
 
--- the cells are as surveyed, but in sectors and pages of the plan of their own region
+-- the cells are as surveyed, except in sectors and pages of the plan of their own region
 abbrev pub IsOutsidePlanAsSurveyed : Work → List ℕ → Type 0
 IsOutsidePlanAsSurveyed w cells = SameBut (IsInPlans 0 (plans_of w)) w.surveyed cells

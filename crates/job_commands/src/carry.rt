@@ -1,4 +1,4 @@
-//! A job is carried to its goal.
+//! Carries a job to its goal.
 ghost use Rattle.std.specs.Prelude.{◌≡◌, IsTrue, IsSome, IsSomeAnd, None};
 ghost use Rattle.board_file.specs.Limits.{size_of};
 ghost use Rattle.bench_model.specs.History.{GoesOn, LeftOnly};
@@ -27,7 +27,7 @@ use outside_io::Sink;
 use report_text::{End, Refusal, put_end};
 use std::alloc::Global;
 
-/// Plays the script of the last survey, and closes the job where the goal is reached.
+/// Plays the script of the last survey, and closes the job once the goal is reached.
 fn finish<'a, B: Bench, O: Sink>(
     session: &mut Session,
     bench: &mut B,
@@ -70,7 +70,7 @@ fn finish<'a, B: Bench, O: Sink>(
     }
 }
 
-/// Surveys the cells for the session of the file's job, prints the plans to the goal, and goes on to the end.
+/// Surveys the cells for the session of the file's job, prints the plans to the goal, and carries them out.
 fn carry_on<'a, B: Bench, O: Sink>(
     alloc: Global,
     goal: Goal,
@@ -102,7 +102,7 @@ fn carry_on<'a, B: Bench, O: Sink>(
     finish(session, bench, out)
 }
 
-/// Opens the job of the file, surveys the cells, prints the plans to the goal, and goes on to the end.
+/// Opens the job of the file, surveys the cells, prints the plans to the goal, and carries them out.
 pub(crate) fn carry<'a, B: Bench, O: Sink>(
     alloc: Global,
     goal: Goal,

@@ -1,4 +1,4 @@
-//! The commands that begin a job of files: `program` carries it to its image, and `begin` goes no further.
+//! The commands that begin a job from files: `program` carries it to its image, and `begin` only begins it.
 ghost use Rattle.std.specs.Prelude.{◌≡◌, All, IsSome, option_copied};
 ghost use Rattle.board_file.specs.Limits.{size_of};
 ghost use Rattle.command_words.specs.Files.{names_in};
@@ -20,8 +20,8 @@ use outside_io::{Inputs, Sink};
 use report_text::Refusal;
 use std::alloc::Global;
 
-/// `program [--raw-at ADDR] BOARD FLM... IMAGE...`: begins a job over a free file, with the union of images in the regions of the board,
-/// and carries it to its end: the cells are then the image laid over what they were.
+/// `program [--raw-at ADDR] BOARD FLM... IMAGE...`: begins a job over a free file, for the union of images in the regions of the board,
+/// and carries it to its end. The cells are then the image laid over their earlier contents.
 pub fn program<'a, B: Bench, I: Inputs, O: Sink>(
     alloc: Global,
     names: &FileNames<'a>,
@@ -38,8 +38,8 @@ pub fn program<'a, B: Bench, I: Inputs, O: Sink>(
     begin_job(alloc, &parts_of(&said), bench, out)
 }
 
-/// `begin [--raw-at ADDR] BOARD FLM... IMAGE...`: begins the job that `program` begins with these names, prints `begun`, and ends: no call
-/// of an algorithm is made, and no cell changes but in the range of an operation that was open.
+/// `begin [--raw-at ADDR] BOARD FLM... IMAGE...`: begins the job that `program` begins with these names, and prints `begun`. It calls no
+/// algorithm, and changes no cell except in the range of an operation that was open.
 pub fn begin<'a, B: Bench, I: Inputs, O: Sink>(
     alloc: Global,
     names: &FileNames<'a>,
@@ -56,7 +56,7 @@ pub fn begin<'a, B: Bench, I: Inputs, O: Sink>(
     begin_alone(alloc, &parts_of(&said), bench, out)
 }
 
-/// The parts of the job that the files want.
+/// The parts of the job that the files describe.
 fn parts_of(said: &TargetFiles) -> JobParts<'_>
     ensures board { result.board.now ≡ said.now.board_text }
     ensures flm { result.flm.now ≡ said.now.flm }
@@ -73,7 +73,7 @@ fn parts_of(said: &TargetFiles) -> JobParts<'_>
     }
 }
 
-/// The bytes of a text, where there is one.
+/// The bytes of a text, if there is one.
 fn text_of(text: &Option<Bytes>) -> Option<&[u8]>
     ensures { option_copied result ≡ text.now }
 {

@@ -1,4 +1,4 @@
-//! `program` and `begin`, once their files are read.
+//! What `program` and `begin` do once their files are read.
 ghost use Rattle.std.specs.Prelude.{◌≡◌, true, IsTrue};
 ghost use Rattle.job_text.specs.Parts.{AreParts};
 ghost use Rattle.job_file.specs.First.{SyncsFirst};
@@ -44,7 +44,7 @@ pub fn begin_job<'a, B: Bench, O: Sink>(
     after_begin(carry(alloc, Goal::New, bench, out))
 }
 
-/// Begins a job of these parts over a free file, and says so.
+/// Begins a job of these parts over a free file, and prints that it did.
 pub(crate) fn begin_alone<'a, B: Bench, O: Sink>(
     alloc: Global,
     parts: &JobParts,
@@ -68,7 +68,7 @@ pub(crate) fn begin_alone<'a, B: Bench, O: Sink>(
     Ok(())
 }
 
-/// The end of the work on a job that was begun. A file that is free again, on a bench whose file others change, isn't the job.
+/// The end of the work on a job that was begun. Where others change the bench's file, it may be free again; then it isn't the job.
 fn after_begin<'a>(end: Result<(), Refusal<'a>>) -> Result<(), Refusal<'a>>
     ensures { answer_of result ≡ begun (answer_of end.entry) }
 {

@@ -1,4 +1,4 @@
-//! `resume` and `revert`: they go on with the job in the file.
+//! `resume` and `revert`, which continue the job in the file.
 ghost use Rattle.std.specs.Prelude.{◌≡◌};
 ghost use Rattle.job_file.specs.First.{SyncsFirst};
 ghost use Rattle.command_files.specs.Inputs.{InputsCall, TakesNothing};
@@ -14,8 +14,7 @@ use outside_io::Sink;
 use report_text::Refusal;
 use std::alloc::Global;
 
-/// Carries the job in the file to its image (`Goal::New`, `resume`), or back to its snapshot (`Goal::Old`, `revert`). No input is
-/// taken.
+/// Carries the job in the file to its image (`Goal::New`, `resume`), or back to its snapshot (`Goal::Old`, `revert`). No input is taken.
 pub fn go_on<'a, B: Bench, O: Sink>(
     alloc: Global,
     goal: Goal,

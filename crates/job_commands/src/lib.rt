@@ -1,6 +1,6 @@
-//! The commands that work on a job: `program` begins one and carries it to its image, and `begin` only begins it; `resume` and `revert`
-//! go on with the job in the file. The contracts say which answer comes when, what each leaves in file and cells and on `out`, and what a stop at any moment
-//! leaves.
+//! The commands that work on a job. `program` begins one and carries it to its image, and `begin` only begins it; `resume` and `revert`
+//! continue the job in the file. The contracts say when each answer comes, what it leaves in file and cells and on `out`, and what a stop
+//! at any moment leaves.
 #![tactic(auto)]
 
 mod carry;

@@ -6,7 +6,7 @@ ghost use Rattle.job_text.specs.Laid.{address_at};
 
 use board_file::Region;
 
-/// The address of a place among the cells of a board's regions: none behind the last one.
+/// The address of a place among the cells of a board's regions, or none after the last cell.
 pub fn find_address(regions: &[Region], place: u32) -> Option<u32>
     requires { All (λ r. r.base + r.size ≤ addresses) regions.now }
     ensures { result ≡ address_at regions.now place }
@@ -21,7 +21,7 @@ pub fn find_address(regions: &[Region], place: u32) -> Option<u32>
     None
 }
 
-/// The address of a place that lies among them.
+/// The address of a place among the cells of a board's regions.
 pub(crate) fn address_of(regions: &[Region], place: u32) -> u32
     requires inside { place < size_of regions.now }
     requires fit { All (λ r. r.base + r.size ≤ addresses) regions.now }

@@ -1,4 +1,4 @@
-//! The plans of a session, as they are printed.
+//! Prints the plans of a session.
 ghost use Rattle.std.specs.Prelude.{◌<◌, ◌++◌, length, get_or, IfSome, IsSomeAnd};
 ghost use Rattle.job_text.specs.Said.{algorithms_shown};
 ghost use Rattle.outside_io.specs.Puts.{Puts};
@@ -12,8 +12,8 @@ use flash_session::Session;
 use outside_io::{OutputFault, Sink};
 use report_text::{put_plan, put_region};
 
-/// Puts the plans of the last survey: the text of the plan where the board has one region, and else for each in turn the line of the region
-/// and the text. A fault may leave a beginning of it.
+/// Puts the plans of the last survey. If the board has one region, that is the text of its plan; otherwise it is for each region in turn
+/// its line and the text. A fault may leave a beginning of it.
 pub(crate) fn put_plans<O: Sink>(out: &mut O, session: &Session) -> Result<(), OutputFault>
     requires { IsSomeAnd (surveyed session.now) (λ w. ArePlansFor (algorithms_shown (job_in session.now).algorithms) w.regions) }
     ensures { IfSome (surveyed session.now) (λ w. Puts O.tells (O.state out.old) (O.state out.new) (plans_shown w.regions) result) }

@@ -1,4 +1,4 @@
-//! How a job is begun, by `program` and by `begin`.
+//! How `program` and `begin` begin a job.
 ghost use Rattle.std.specs.Prelude.{◌≡◌, Bool, [], IsTrue, IsOk};
 ghost use Rattle.outside_io.specs.State.{SinkState};
 ghost use Rattle.job_text.specs.Parts.{AreParts};
@@ -17,7 +17,7 @@ use job_text::JobParts;
 use report_text::Refusal;
 use std::alloc::Global;
 
-/// Begins a job of these parts over a free file. Nothing is printed, which is said of each sink that took nothing meanwhile.
+/// Begins a job of these parts over a free file. It prints nothing, so the clauses speak of any sink that took nothing meanwhile.
 pub(crate) fn start<'a, B: Bench>(
     alloc: Global,
     parts: &JobParts,

@@ -1,4 +1,4 @@
--- The parts of a body are put one behind the other. `put_body` and its parts write it so.
+-- The parts of a body are appended one after the other, as `put_body` and its parts write them.
 use Rattle.std.proofs.Common.{◌≡◌, ◌≤◌, ◌<◌, ◌+◌, ◌-◌, ◌*◌, ◌^◌, ◌∙◌, ℕ, Bool, IsTrue, List, [], ◌∷◌, ◌++◌, length, take, drop, Result, Ok, Err, refl, sym, ap}
 use Rattle.std.proofs.Common.{arith, append_assoc, length-append}
 use Rattle.std.specs.List.{flat_map}
@@ -23,7 +23,7 @@ use Rattle.job_file.proofs.PutLemmas.{gate_kept}
 abbrev pub well : {E : Type 0} → Result (Unit {0}) E
 well = Ok tt
 
--- two parts, one behind the other
+-- two parts are appended, one after the other
 pub appends_then : {T U : Type 0} (tells : Bool) (a b c : BenchState) (x y : List ℕ) (u : T) (r : Result U StoreFault) → Appends {T = T} tells a b x (Ok u)
     → Appends tells b c y r → Appends tells a c (x ++ y) r
 appends_then tells a b c x y u r one two = record {
@@ -59,7 +59,7 @@ appends_nothing tells s = record {
   cause = record { later = omega arith; on_fault = λ fault. absurd cc; on_ok = λ ok. refl };
 }
 
--- the same bytes, and the same answer but for its value
+-- the append of equal bytes, with another value in its Ok
 pub appends_as : {T U : Type 0} (tells : Bool) (a b : BenchState) (x y : List ℕ) (t : T) (u : U) → x ≡ y → Appends {T = T} tells a b x (Ok t)
     → Appends {T = U} tells a b y (Ok u)
 appends_as tells a b x y t u is one = record {
@@ -100,13 +100,13 @@ short_text low end (r ∷ rs) m =
 pub short_front : (rs : List Run) (n : ℕ) → AreMaximal 0 (2 ^ 32) rs → length (flat_map run_text (take n rs)) ≤ 5 * (2 ^ 32 + 1)
 short_front rs n m = short_text 0 (2 ^ 32) (take n rs) (maximal_take 0 (2 ^ 32) rs n m)
 
--- so many runs are put
+-- the first `put` runs of the image are written
 pub record RunsPut (tells : Bool) (start now : BenchState) (from at : ℕ) (image : List Run) (put : ℕ) : Type 0 where
   pub appends : Appends tells start now (flat_map run_text (take put image)) well
   pub ends : at ≡ from + length (flat_map run_text (take put image))
   pub bound : at ≤ from + 5 * (2 ^ 32 + 1)
 
--- and one more
+-- one more run is written
 pub run_put : (tells : Bool) (start now then : BenchState) (from at : ℕ) (image : List Run) (put : ℕ) (r : Run) (next : ℕ) → AreMaximal 0 (2 ^ 32) image
     → put < length image → slice_get image put ≡ Some r → RunsPut tells start now from at image put
     → Appends tells now then (run_text r) well → next ≡ at + (8 + length r.bytes) → RunsPut tells start then from next image (put + 1)
@@ -143,7 +143,7 @@ written_part tells s t at bytes r some end does = record {
 pub four_parts : (a b c d : List ℕ) → length (a ++ b ++ c ++ d) ≡ length a + length b + length c + length d
 four_parts a b c d = omega (arith, length-append (a ++ b ++ c) d, length-append (a ++ b) c, length-append a b)
 
--- where the file ends once so many cells are behind the front
+-- where the file ends once `at` cells are written after the front
 pub body_end : (front cells file : List ℕ) (at behind : ℕ) → file ≡ 0 ∷ (front ++ take at cells) → behind ≡ 1 + length front → at ≤ length cells
     → length file ≡ behind + at
 body_end front cells file at behind is begins le = omega (

@@ -1,4 +1,4 @@
--- Counts of faults, one behind the other, and of refusals that are none of the bench's faults.
+-- Counts of faults in calls that follow one another, and of refusals that are no faults of the bench.
 use Rattle.std.proofs.Common.{◌≡◌, ℕ, Bool, true, false, Ok, Err, refl, sym, subst, arith}
 use Rattle.faults.specs.Counts.{HasCause}
 use Rattle.bench_model.specs.Counted.{IsCounted, is_store_fault}
@@ -21,7 +21,7 @@ miscounted places head size OutOfMemory wrong stays = absurd wrong
 miscounted places head size StoreFault wrong stays = absurd wrong
 miscounted places head size (NotAJob at) wrong stays = stays
 
--- and where the number of files is refused
+-- a wrong number of files is no fault of the store
 pub files_miscounted : {a b : ℕ} (places : Places) (head : Head) (regions : ℕ) (e : ReadFault) → CountsFiles {T = Unit {0}} places head regions (Err e)
     → IsCounted a b false → IsCounted a b (is_store_fault (read_fault e))
 files_miscounted places head regions OutOfMemory wrong stays = absurd wrong

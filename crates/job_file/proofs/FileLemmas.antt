@@ -25,7 +25,7 @@ closed [] le = refl
 closed (b ∷ []) le = refl
 closed (b ∷ next ∷ d) le = absurd (omega arith)
 
--- a body is written behind a closed gate
+-- a torn write from byte 1 on leaves the file free while the gate is closed
 pub behind_free : (n : ℕ) (f : List ℕ) → Torn 1 n (0 ∷ []) f → IsFree f
 behind_free n f torn = free_closed f [] 0 (λ e. absurd (omega (arith, e))) torn.before
 

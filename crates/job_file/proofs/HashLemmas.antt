@@ -20,7 +20,7 @@ use Rattle.job_text.specs.Reading.{is_second, format_in, kept_in, found_in, is_d
 use Rattle.job_text.specs.Shown.{IsDamage}
 use Rattle.job_file.specs.Readers.{AreHashes, Differs}
 
--- so many bytes from 40 on are hashed
+-- the first `at` of the `count` bytes from 40 on are hashed
 pub record HashedSoFar (tells : Bool) (start now : BenchState) (count at : ℕ) (window : List ℕ) (hasher : Sha256) : Type 0 where
   pub within : at ≤ count
   pub room : length window ≡ 4096

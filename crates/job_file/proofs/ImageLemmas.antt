@@ -25,7 +25,7 @@ use Rattle.job_file.specs.Readers.{Fails, IsNoVerdict, IsPlaced, IsLaid, AddsRun
 
 -- ---- a run
 
--- so many bytes of a run are laid
+-- the first `at` of the `len` bytes of a run are added to the image
 pub record LaidSoFar (tells : Bool) (start now : BenchState) (from place len at : ℕ) (old new : List Run) (window : List ℕ) : Type 0 where
   pub within : at ≤ len
   pub room : length window ≡ 4096
@@ -55,7 +55,7 @@ stands_more from at end bytes piece file now le is same more =
     ∙ ap (λ (l : List ℕ). take (end - at) l) (sym (drop-drop at from file)))
     ∙ sym (take-add at (end - at) rest) ∙ ap (λ (k : ℕ). take k rest) m
 
--- the window's bytes lie behind all
+-- with the bytes of a window added, the image ends at the address after them
 pub behind_window : (old now : List Run) (place at : ℕ) (bytes : List ℕ) → EndBelow place old → length bytes ≡ at → now ≡ with_run old place bytes
     → EndBy (place + at) now
 behind_window old now place at bytes below long is =

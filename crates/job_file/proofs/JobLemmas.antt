@@ -1,4 +1,4 @@
--- The counts and the runs of a job, one behind the other, its head, and the class of a file.
+-- Reading a job step by step: the counts and the runs, the head, and the class of a file.
 use Rattle.std.proofs.Common.{◌≡◌, ◌≢◌, ◌⊎◌, ◌≤◌, ◌<◌, ◌+◌, ◌-◌, ◌^◌, ◌∙◌, ℕ, true, false, ltb, leb, eqb, List, [], ◌∷◌, ◌++◌, length, get_or, take, drop}
 use Rattle.std.proofs.Common.{Option, Some, None, Result, Ok, Err, refl, sym, ap, subst, arith}
 use Rattle.std.proofs.lemmas.Bool.{lt-ltb, le-ltb, le-leb, lt-leb, eq-eqb, ne_eqb}
@@ -36,7 +36,7 @@ use Rattle.job_file.specs.Readers.{IsJobBody}
 use Rattle.job_file.proofs.StepLemmas.{fails, err_through, bind_err}
 use Rattle.job_file.proofs.TextsLemmas.{fails_within}
 
--- ---- what is behind the texts
+-- ---- what follows the texts
 
 pub rest_texts : (d : ℕ) (format : Format) (h : Head) (bytes : List ℕ) (e : ReadFault) → Fails e (texts_at d (places_of format) h bytes)
     → Fails e (rest_at d format h bytes)
@@ -63,7 +63,7 @@ rest_miscounted T d format h file t end e read is =
     (λ sized some. runs_behind d format h (t, drop end file)) at err)
     (counts_fail T (places_of format) h (size_of t.board.regions) e is)
 
--- and there is a cell for each of the regions, and a run
+-- the texts were read, and the head has as many cells as the regions and at least one run
 pub record IsCountedRight (d : ℕ) (format : Format) (h : Head) (file : List ℕ) (t : Texts) (end : ℕ) : Type 0 where
   pub read : AreRead d format h file t end
   pub sized : h.cells ≡ size_of t.board.regions
@@ -226,7 +226,7 @@ text_is job format file h r may short_board short_first short_second = record {
   short_second = omega (arith, r.second_len, short_second);
 }
 
--- a body whose head is so, and what is behind the head
+-- the bytes of a body from `at` on are those up to `n`, and the rest
 split_at : (n at : ℕ) (body front : List ℕ) → at ≤ n → drop at (take n body) ≡ front → drop at body ≡ front ++ drop n body
 split_at n at body front le is =
     let m : at + (n - at) ≡ n = omega (arith, le) in
@@ -274,7 +274,7 @@ job_body job Second file h head r =
       snapshot = refl;
     }
 
--- and the file stands for it
+-- an undamaged body that is a job's by its format is the whole body of that job
 body_whole : (format : Format) (body : List ℕ) (j : Job) → format_in body ≡ format → is_damaged body ≡ false → j.format ≡ format → IsBodyOf format body j
     → body ≡ body_of j
 body_whole First body j format intact format_is whole = whole

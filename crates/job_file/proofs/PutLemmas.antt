@@ -1,4 +1,4 @@
--- A body is written behind a closed gate. While the gate is closed, whatever a stop leaves is a free file.
+-- A body is written while the gate is closed. Until the gate is opened, a stop leaves a free file.
 use Rattle.std.proofs.Common.{◌≡◌, ◌≤◌, ◌+◌, ◌-◌, ◌++◌, ◌∷◌, ◌∙◌, ℕ, List, Bool, IsTrue, length, take, drop, refl, sym, ap, subst, arith, append_assoc}
 use Rattle.std.proofs.Math.Seq.{take-add}
 use Rattle.bench_model.specs.History.{Leaves}
@@ -31,7 +31,7 @@ cells_read_stay tells a b stay = record {
       stays_adds_nothing stay.half;
 }
 
--- the front, and so many cells behind it
+-- the front and the first `at` cells are written
 pub record PutSoFar (tells : Bool) (start now : BenchState) (front window : List ℕ) (hasher : Sha256) (at : ℕ) : Type 0 where
   pub within : at ≤ start.cell_count
   pub room : length window ≡ 4096
@@ -58,7 +58,7 @@ cells_more front cells file new at end le is more =
     ∙ ap (λ (l : List ℕ). front ++ l) (sym (take-add at (end - at) cells)))
     ∙ ap (λ (k : ℕ). 0 ∷ (front ++ take k cells)) n
 
--- and their hash
+-- a hasher of the front and the first `at` cells is fed with more cells
 pub hash_more : (front cells now : List ℕ) (old new : Sha256) (at end n : ℕ) → at ≤ end → n ≡ end - at → now ≡ cells → Holds256 old (front ++ take at cells)
     → ((m : List ℕ) → Holds256 old m → Holds256 new (m ++ take n (drop at now))) → Holds256 new (front ++ take end cells)
 hash_more front cells now old new at end n le size same holds more =
@@ -88,7 +88,7 @@ gate_kept to n d f some torn = gate_in to d f some torn.before
         shorter : (l : List ℕ) → take 1 (take to l) ≡ take 1 l
         shorter l = Rattle.std.proofs.lemmas.List.take-take 1 to l some
 
--- a write behind byte 0, after the cells were read
+-- a write after byte 0 keeps the gate, also where the cells were read before it
 pub kept_by_write : (s m t : BenchState) (to n : ℕ) → 1 ≤ to → FileStays s m → Leaves (file_half m) (file_half t) (Follows (Torn to n) (file_half m))
     → Leaves (file_half s) (file_half t) (Follows KeepsGate (file_half s))
 kept_by_write s m t to n some stay moments =

@@ -56,7 +56,7 @@ at_place n k bytes = drop-drop n k bytes
 abbrev head_done : Head → List ℕ → Result (Head × List ℕ) ℕ
 head_done h rest = Ok (h, rest)
 
--- a number that stands at a place, and what is read behind it
+-- a field at a place is read, and the reading continues after it
 number_step : {A : Type 0} (d at : ℕ) (bytes rest : List ℕ) (k : ℕ × List ℕ → Result A ℕ) → rest ≡ drop at bytes → at + 4 ≤ length bytes
     → (number_at d rest >>= k) ≡ k (field32 bytes at, drop (at + 4) bytes)
 number_step d at bytes rest k is long =
@@ -84,7 +84,7 @@ first_here d bytes long =
     ∙ number_step d 19 bytes (drop 19 bytes) (λ n. head_done
     (record { board = field32 bytes 7; files = 1; first = field32 bytes 11; second = 0; runs = field32 bytes 15; cells = n.0 }) n.1) refl (omega (arith, long))
 
--- and those of the second one, from 39 on
+-- the lengths in a head of the second format, from 39 on
 abbrev second_in : List ℕ → Head
 second_in bytes = record {
   board = field32 bytes 39;
@@ -249,7 +249,7 @@ run_numbers d regions low bytes long =
     ∙ ap (λ (l : List ℕ). text_at d (field32 bytes 4) l >>= λ text. holds_or (d - length bytes) (is_placed regions low (field32 bytes 0) (field32 bytes 4)) >>=
     λ u. Ok (run_of (field32 bytes 0) text.0, text.1)) (drop-drop 4 4 bytes)
 
--- its bytes end behind the file
+-- a run that ends after the end of the file fails at the file's length
 pub run_cut : (d : ℕ) (regions : List Region) (low : ℕ) (bytes : List ℕ) → 8 ≤ length bytes → length bytes - 8 < field32 bytes 4
     → run_at d regions low bytes ≡ Err d
 run_cut d regions low bytes long short =

@@ -24,7 +24,7 @@ held_cell (r ∷ rs) at is = by_test (holds r at) refl (held_cell rs at)
         let some : list_any (λ (q : Region). holds q at) rs ≡ true = rw here at is in
         omega (arith, sum_by-cons (λ (q : Region). q.size) r rs, later some)
 
--- so the regions in which an image lies have one
+-- regions in which an image lies have at least one cell
 lying_cell : (rs : List Region) (image : List Run) → 1 ≤ length image → LiesIn rs image → 1 ≤ size_of rs
 lying_cell rs [] some lies = absurd (omega (arith, some))
 lying_cell rs (r ∷ more) some lies = held_cell rs r.at (lies.1.0 r.at (omega arith) (omega (arith, lies.0.1)))

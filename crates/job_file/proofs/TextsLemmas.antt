@@ -1,4 +1,4 @@
--- The texts of a job, one behind the other. `read_said` takes them so.
+-- The texts of a job, one after the other, as `read_said` reads them.
 use Rattle.std.proofs.Common.{◌≡◌, ◌≢◌, ◌≤◌, ◌+◌, ◌∙◌, ℕ, Bool, true, false, not, ◌||◌, cond, nat_eq, List, length, take, drop, slice_get, Option}
 use Rattle.std.proofs.Common.{Some, None, Result, Ok, Err, refl, sym, ap, subst, arith}
 use Rattle.std.proofs.lemmas.Bool.{eq-eqb, ne_eqb}
@@ -48,7 +48,7 @@ file_unread d at b region len bytes e = fails_within e (algorithm_read d at len 
     (λ k is. file_from d at b region len bytes ∙ err_through (text_at d len bytes) (λ t. read_or at (flm_of t.0)) (λ t a. fit_behind at b region t.0 t.1 a) k
     is)
 
--- the algorithm of so many bytes of a file was read
+-- the algorithm of an FLM file of `len` bytes was read at offset `at`
 pub record IsAlgorithmRead (d at len : ℕ) (file : List ℕ) (a : flm.Shown) : Type 0 where
   pub long : length file ≡ d
   pub inside : at + len ≤ d
@@ -180,13 +180,13 @@ files_uncounted d places h file b e r = fails_within e (files_checked places h (
     ∙ err_through (holds_or places.files (are_files h.files (length b.regions))) (λ c. holds_or places.second (not (nat_eq h.files 1) || nat_eq h.second 0))
     (λ c z. first_behind d places h (take h.board (drop places.front file)) (drop (places.front + h.board) file) b) k is)
 
--- and the files were counted
+-- the board was read, and the number of FLM files was checked
 pub record AreCounted (d : ℕ) (places : Places) (h : Head) (file : List ℕ) (b : board.Shown) : Type 0 where
   pub board : IsBoardRead d places h file b
   pub files : are_files h.files (length b.regions) ≡ true
   pub none : (not (nat_eq h.files 1) || nat_eq h.second 0) ≡ true
 
--- so they were, by as many regions as a board has
+-- the number of FLM files was checked against the number of the board's regions
 pub counted_by : (d : ℕ) (places : Places) (h : Head) (file : List ℕ) (b : board.Shown) {regions : List Region} → regions ≡ b.regions
     → IsBoardRead d places h file b → are_files h.files (length regions) ≡ true → (not (nat_eq h.files 1) || nat_eq h.second 0) ≡ true
     → AreCounted d places h file b
@@ -215,12 +215,12 @@ first_unread d places h file b e r =
     fails_within e first (texts_at d places h (drop places.front file))
     (λ k is. counted_behind d places h file b r ∙ bind_err first (second_behind d places h (take h.board (drop places.front file)) b) k is)
 
--- and the first file was read
+-- the number of FLM files was checked, and the first file was read
 pub record IsFirstRead (d : ℕ) (places : Places) (h : Head) (file : List ℕ) (b : board.Shown) (f : File) : Type 0 where
   pub counted : AreCounted d places h file b
   pub first : file_at d (places.front + h.board) b 0 h.first (drop (places.front + h.board) file) ≡ Ok (f, drop (places.front + h.board + h.first) file)
 
--- so it was, where the bytes are those of the file and its place is behind the board's text
+-- the first file was read, where the bytes are the file's and its place is right after the board's text
 pub first_by : (d : ℕ) (places : Places) (h : Head) (file : List ℕ) (b : board.Shown) (one : List ℕ) (k : ℕ) (a : Algorithm) → one ≡ file → k ≡ h.board
     → AreCounted d places h file b
     → file_at d (places.front + k) b 0 h.first (drop (places.front + k) one) ≡ Ok (
@@ -261,7 +261,7 @@ texts_read d places h file b f o rest r is =
     ∙ bind_is (second_at d (places.front + h.board + h.first) b h (drop (places.front + h.board + h.first) file))
     (λ g. all_is (take h.board (drop places.front file)) b f g.0 g.1) (o, rest) is
 
--- ---- files of which each fits its region
+-- ---- FLM files that fit their regions
 
 abbrev alone : Algorithm → File
 alone a = record { text = Rattle.std.proofs.Common.[]; algorithm = flm.shown a }

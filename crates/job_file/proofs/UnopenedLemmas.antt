@@ -19,7 +19,7 @@ pub unopened_other : (T : Type 0) (a b : Half) (fault : BeginFault) → is_devic
 unopened_other T a b beginning.DeviceFault other = absurd (cc)
 unopened_other T a b fault other = tt
 
--- behind calls after which a stop leaves nothing new
+-- the clause stays true where calls come first after which a stop leaves nothing new
 pub unopened_behind : {T : Type 0} (a b d : Half) (result : Result T BeginFault) → AddsNothing a b → UnopenedAtDeviceFault {T = T} b d result
     → UnopenedAtDeviceFault {T = T} a d result
 unopened_behind a b d (Err beginning.DeviceFault) adds rest =

@@ -1,4 +1,4 @@
--- The faults in the refusals of the calls on a job.
+-- The bench faults (`StoreFault`, `DeviceFault`) among the refusals of the calls on a job.
 use Rattle.std.specs.Prelude.{Bool, Option, Some, None, Result, Ok, Err}
 use Rattle.bench_model.specs.State.{BenchState}
 use Rattle.bench_model.specs.Calls.{OnlyReads}
@@ -29,7 +29,7 @@ begin_fault beginning.StoreFault = Some store
 begin_fault beginning.DeviceFault = Some device
 begin_fault _ = None
 
--- one of the two faults
+-- the refusal is a bench fault: `StoreFault` or `DeviceFault`
 abbrev pub IsFault : BeginFault → Type 0
 IsFault beginning.OutOfMemory = ⊥
 IsFault beginning.JobOpen = ⊥
@@ -39,7 +39,7 @@ IsFault (beginning.CellsDiffer said found) = ⊥
 IsFault (beginning.NotAJob at) = ⊥
 IsFault (beginning.Damaged kept found) = ⊥
 
--- with any refusal but these, file and cells were only read
+-- every refusal but `StoreFault` and `DeviceFault` comes with file and cells only read
 abbrev pub ReadsUnlessFault : {T : Type 0} → Bool → BenchState → BenchState → Result T BeginFault → Type 0
 ReadsUnlessFault tells old new (Ok x) = Unit {0}
 ReadsUnlessFault tells old new (Err beginning.OutOfMemory) = OnlyReads tells old new

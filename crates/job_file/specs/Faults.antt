@@ -1,4 +1,4 @@
--- What each refusal says.
+-- What each refusal of `open` and `begin` says about the file and the number of cells.
 use Rattle.std.specs.Prelude.{◌≡◌, ◌≢◌, ℕ, List}
 use Rattle.job_text.specs.Files.{IsFree}
 use Rattle.board_file.specs.Limits.{size_of}
@@ -12,7 +12,7 @@ use Rattle.job_file.specs.declared.fault.OpenFault.TheVariants as opening
 use Rattle.job_file.specs.declared.fault.BeginFault.{BeginFault}
 use Rattle.job_file.specs.declared.fault.BeginFault.TheVariants as beginning
 
--- a file that was not read
+-- a failed look at the file, as the refusal of `open` and as that of `begin`
 abbrev pub open_of : LookFault → OpenFault
 open_of look.OutOfMemory = opening.OutOfMemory
 open_of look.StoreFault = opening.StoreFault
@@ -21,14 +21,14 @@ abbrev pub begin_of : LookFault → BeginFault
 begin_of look.OutOfMemory = beginning.OutOfMemory
 begin_of look.StoreFault = beginning.StoreFault
 
--- the job of a file is for so many cells, and there are as many others
+-- the file stands for a job for `said` cells, the bench has `found` cells (`count`), and the two numbers differ
 pub record IsOtherSize (file : List ℕ) (count said found : ℕ) : Type 0 where
   pub some : IsSomeJob file
   pub said_is : said ≡ size_of some.board.regions
   pub found_is : found ≡ count
   pub differ : said ≢ found
 
--- what the refusals of `open` say of the file as read and of the number of cells
+-- what each refusal of `open` says of the file as read and of the number of cells
 abbrev pub IsOpenFault : List ℕ → ℕ → OpenFault → Type 0
 IsOpenFault file count opening.OutOfMemory = Unit {0}
 IsOpenFault file count opening.NoJob = IsFree file
@@ -37,7 +37,7 @@ IsOpenFault file count opening.StoreFault = Unit {0}
 IsOpenFault file count (opening.CellsDiffer said found) = IsOtherSize file count said found
 IsOpenFault file count (opening.Damaged kept found) = IsFoundDamaged kept found file
 
--- and those of `begin`, for so many cells
+-- what each refusal of `begin` says of the file as read, for a job of `size` cells on a bench of `count` cells
 abbrev pub IsBeginFault : List ℕ → ℕ → ℕ → BeginFault → Type 0
 IsBeginFault file size count beginning.OutOfMemory = Unit {0}
 IsBeginFault file size count beginning.JobOpen = IsSomeJob file
@@ -47,8 +47,8 @@ IsBeginFault file size count (beginning.CellsDiffer said found) = IsFree file ×
 IsBeginFault file size count (beginning.NotAJob at) = IsNotAJob at file
 IsBeginFault file size count (beginning.Damaged kept found) = IsFoundDamaged kept found file
 
--- What they say for themselves, on every bench: numbers of cells that differ, of which one is that of the job and the other that of the
--- device; hashes that differ.
+-- What a refusal says for itself, on every bench. `CellsDiffer` gives the number of cells of the job and that of the device, and they
+-- differ. `Damaged` gives two hashes that differ.
 
 abbrev pub IsSoundOpen : ℕ → OpenFault → Type 0
 IsSoundOpen count (opening.CellsDiffer said found) = (found ≡ count) × (said ≢ found)
@@ -67,7 +67,7 @@ IsSoundBegin size count beginning.DeviceFault = Unit {0}
 IsSoundBegin size count (beginning.NotAJob at) = Unit {0}
 IsSoundBegin size count (beginning.Damaged kept found) = kept ≢ found
 
--- hashes of which a class says that they differ
+-- the hashes of a class `Damaged` differ
 abbrev pub IsSoundClass : Class → Type 0
 IsSoundClass class.Free = Unit {0}
 IsSoundClass (class.Stands job) = Unit {0}

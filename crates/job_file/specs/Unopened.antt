@@ -5,7 +5,7 @@ use Rattle.job_file.specs.declared.fault.BeginFault.{BeginFault}
 use Rattle.job_file.specs.declared.fault.BeginFault.TheVariants as beginning
 use Rattle.job_file.specs.Stops.{IsUnopened}
 
--- it comes before the gate is opened: no stop leaves the job
+-- a device fault of `begin` comes before the gate is opened, so no stop leaves the job
 abbrev pub UnopenedAtDeviceFault : {T : Type 0} → Half → Half → Result T BeginFault → Type 0
 UnopenedAtDeviceFault start end (Ok x) = Unit {0}
 UnopenedAtDeviceFault start end (Err beginning.OutOfMemory) = Unit {0}

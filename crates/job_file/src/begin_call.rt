@@ -22,7 +22,7 @@ use bench_model::Bench;
 use job_text::{Class, JobParts, head_text};
 use std::alloc::Global;
 
-/// Whether a job for so many cells may be begun over a file of this class.
+/// Whether a job for `said` cells may be begun over a file of this class, on a bench of `found` cells.
 fn admit(class: Class, said: u32, found: u32) -> Result<(), BeginFault>
     requires { IsSoundClass class }
     ensures free { (file : List ℕ) → IsClassOf class file → OnOk result (IsFree file) }
@@ -45,7 +45,7 @@ fn admit(class: Class, said: u32, found: u32) -> Result<(), BeginFault>
     }
 }
 
-/// All that `begin` does before it touches the device, and all for which it takes memory: the head of the body that is to be written.
+/// Does all of `begin` that comes before the device is touched, and takes all its memory. Answers the head of the body to be written.
 fn prepare<B: Bench>(alloc: Global, bench: &mut B, parts: &JobParts) -> Result<Vec<u8>, BeginFault>
     requires { AreParts parts.now }
     ensures head { IfOk result (λ v. v.items ≡ head_of_parts parts.now) }
@@ -64,7 +64,7 @@ fn prepare<B: Bench>(alloc: Global, bench: &mut B, parts: &JobParts) -> Result<V
     Ok(head_text(alloc, parts)?)
 }
 
-/// Breaks an operation off, and puts the job, whose snapshot is read as it is written.
+/// Breaks off an open operation and writes the job. The snapshot is read while it is written.
 fn drop_and_put<B: Bench>(
     bench: &mut B,
     head: &[u8],
@@ -93,17 +93,18 @@ fn drop_and_put<B: Bench>(
     put_job(bench, head, parts, window)
 }
 
-/// Begins a job over a free file: the snapshot is read once nothing is open on the device, and written as it is read, some thousand
-/// cells at a time; then its hash is written, and the gate is opened last. All its memory is taken before it breaks off an operation.
+/// Begins a job over a free file. The snapshot is read once no operation is open on the device, and is written as it is read, some
+/// thousand cells at a time. Then the hash is written, and the gate is opened last. All memory is taken before an operation is broken
+/// off.
 ///
 /// # Errors
 ///
 /// `JobOpen`, `NotAJob` and `Damaged` exactly by what the file is; `CellsDiffer` exactly where the file is free and the numbers differ;
-/// `StoreFault` and `DeviceFault` only where they were counted. But for these two, file and cells are only read.
+/// `StoreFault` and `DeviceFault` only where they were counted. With any other refusal, file and cells are only read.
 pub fn begin<B: Bench>(alloc: Global, bench: &mut B, parts: &JobParts) -> Result<(), BeginFault>
     requires { AreParts parts.now }
 
-    // The cells at the end are the snapshot, whatever it answers: those of the entry outside the operation open then.
+    // With every answer, the cells at the end are the snapshot: those of the entry, except in the range of an operation open then.
     ensures same { IsTrue B.tells → SameOutside (B.state bench.old).operation (B.state bench.old).cells (B.state bench.new).cells }
     ensures ok { IsTrue B.tells → OnOk result (((B.state bench.new).file ≡ open_gate ∷ body_of (job_of parts.now (B.state bench.new).cells))
         × LeftOnly (open_gate ∷ body_of (job_of parts.now (B.state bench.new).cells)) (file_half (B.state bench.new))
@@ -112,7 +113,7 @@ pub fn begin<B: Bench>(alloc: Global, bench: &mut B, parts: &JobParts) -> Result
     ensures sized { IsOk result → parts.now.size ≡ (B.state bench.old).cell_count }
     ensures count { (B.state bench.new).cell_count ≡ (B.state bench.old).cell_count }
 
-    // A stop leaves a file that one at the entry may leave, a free file, or the whole job; and the cells as one at the entry.
+    // A stop leaves the file as one at the entry may leave it, or a free file, or the whole job. It leaves the cells as one at the entry.
     ensures stops { IsTrue B.tells → Leaves (file_half (B.state bench.old)) (file_half (B.state bench.new))
         (IsOfBegin (file_half (B.state bench.old)) (body_of (job_of parts.now (B.state bench.new).cells))) }
     ensures cells { AddsNothing (cells_half (B.state bench.old)) (cells_half (B.state bench.new)) }
@@ -120,19 +121,19 @@ pub fn begin<B: Bench>(alloc: Global, bench: &mut B, parts: &JobParts) -> Result
     // A device fault comes before the gate is opened.
     ensures unopened { IsTrue B.tells → UnopenedAtDeviceFault (file_half (B.state bench.old)) (file_half (B.state bench.new)) result }
 
-    // Whatever it answers, a file that was free is free or stands for this job.
+    // With every answer, a file that was free is free or stands for this job.
     ensures after { IsTrue B.tells → IsFree (B.state bench.old).file
         → IsFreeOrWhole (body_of (job_of parts.now (B.state bench.new).cells)) (B.state bench.new).file }
 
-    // Where the file isn't free or the numbers of cells differ, it is only looked at, whatever it answers.
+    // Where the file isn't free, or the numbers of cells differ, the file is only read, with every answer.
     ensures looked { IsTrue B.tells → (IsFree (B.state bench.old).file × (parts.now.size ≡ (B.state bench.old).cell_count) → ⊥)
         → OnlyReads B.tells (B.state bench.old) (B.state bench.new) }
 
-    // The file is synced before any other call on the bench, and what is refused is what a stop after that sync leaves. Where the sync fails,
-    // nothing else is called.
+    // The file is synced before any other call on the bench, and what is refused is what a stop after that sync leaves. If the sync
+    // fails, no other call is made.
     ensures first { SyncsFirst B.tells B.state B.acts bench.old bench.new (is_store_fault (fault_in begin_fault result) ≡ true) }
 
-    // With `ok`, `free` and `sized`, each refusal comes exactly where it says.
+    // Together with `ok`, `free` and `sized`: each refusal comes exactly where it says.
     ensures refused { IsTrue B.tells → IfErr result (IsBeginFault (B.state bench.old).file parts.now.size (B.state bench.old).cell_count) }
     ensures sound { IfErr result (IsSoundBegin parts.now.size (B.state bench.old).cell_count) }
     ensures reads { ReadsUnlessFault B.tells (B.state bench.old) (B.state bench.new) result }

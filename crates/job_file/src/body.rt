@@ -1,4 +1,5 @@
-//! The body of a job, written behind a closed gate. Nothing is synced: until a sync a stop leaves any part of it, with the gate closed.
+//! Writes the body of a job while the gate is closed. Nothing is synced: until a sync, a stop leaves any part of the body, and the gate
+//! closed.
 ghost use Rattle.std.specs.Prelude.{◌≡◌, ◌≤◌, ◌<◌, ◌+◌, ◌*◌, ◌^◌, ◌++◌, ◌∷◌, [], ℕ, List, length, take, drop, IsTrue, OnOk, IfOk, IfErr, None};
 ghost use Rattle.std.specs.List.{concat, flat_map};
 ghost use Rattle.sha2.specs.Sha256.{sha256};
@@ -21,10 +22,10 @@ use byte_map::ByteMap;
 use job_text::{JobParts, run_head};
 use sha2::{Digest, Sha256};
 
-/// Where the hash stands in the file.
+/// The offset of the hash in the file.
 const HASH_AT: u64 = 8;
 
-/// Puts bytes behind the file's end, which is behind its byte 0.
+/// Appends bytes to the file, which has at least its byte 0.
 fn append<B: Bench>(bench: &mut B, at: u64, bytes: &[u8]) -> Result<(), StoreFault>
     requires end { IsTrue B.tells → length (B.state bench.old).file ≡ at }
     requires behind { 1 ≤ at }
@@ -33,7 +34,7 @@ fn append<B: Bench>(bench: &mut B, at: u64, bytes: &[u8]) -> Result<(), StoreFau
     bench.file_write(at, bytes)
 }
 
-/// Puts a run behind the file's end: its address, its length, and its bytes.
+/// Appends a run to the file: its address, its length, and its bytes.
 fn put_run<B: Bench>(bench: &mut B, at: u64, place: u32, bytes: &[u8]) -> Result<(), StoreFault>
     requires end { IsTrue B.tells → length (B.state bench.old).file ≡ at }
     requires behind { 1 ≤ at }
@@ -47,7 +48,7 @@ fn put_run<B: Bench>(bench: &mut B, at: u64, place: u32, bytes: &[u8]) -> Result
     }
 }
 
-/// Puts the runs of an image behind the file's end, and answers where that is then.
+/// Appends the runs of an image to the file, and answers the new end of the file.
 fn put_runs<B: Bench>(bench: &mut B, from: u64, image: &ByteMap) -> Result<u64, StoreFault>
     requires end { IsTrue B.tells → length (B.state bench.old).file ≡ from }
     requires behind { 1 ≤ from }
@@ -69,7 +70,7 @@ fn put_runs<B: Bench>(bench: &mut B, from: u64, image: &ByteMap) -> Result<u64, 
     Ok(at)
 }
 
-/// Puts the FLM files behind the file's end.
+/// Appends the FLM files to the file.
 fn put_files<B: Bench>(bench: &mut B, at: u64, parts: &JobParts) -> Result<(), StoreFault>
     requires end { IsTrue B.tells → length (B.state bench.old).file ≡ at }
     requires behind { 1 ≤ at }
@@ -87,7 +88,7 @@ fn put_files<B: Bench>(bench: &mut B, at: u64, parts: &JobParts) -> Result<(), S
     }
 }
 
-/// Puts the text of a board and the FLM files behind the file's end.
+/// Appends the text of a board and the FLM files to the file.
 fn put_texts<B: Bench>(bench: &mut B, at: u64, parts: &JobParts) -> Result<(), StoreFault>
     requires end { IsTrue B.tells → length (B.state bench.old).file ≡ at }
     requires behind { 1 ≤ at }
@@ -102,7 +103,7 @@ fn put_texts<B: Bench>(bench: &mut B, at: u64, parts: &JobParts) -> Result<(), S
     }
 }
 
-/// How many bytes the FLM files have.
+/// The total length of the FLM files in bytes.
 fn files_len(parts: &JobParts) -> u64
     requires first { length parts.now.flm.now < 2 ^ 32 }
     requires second { flm_len (flms_of parts.now) 1 < 2 ^ 32 }
@@ -116,7 +117,7 @@ fn files_len(parts: &JobParts) -> u64
     }
 }
 
-/// Puts all before the snapshot behind byte 0, and answers where it ends.
+/// Writes everything before the snapshot, from byte 1 on, and answers where it ends.
 fn put_front<B: Bench>(bench: &mut B, head: &[u8], parts: &JobParts) -> Result<u64, StoreFault>
     requires parts { AreParts parts.now }
     requires head { head.now ≡ head_of_parts parts.now }
@@ -137,7 +138,7 @@ fn put_front<B: Bench>(bench: &mut B, head: &[u8], parts: &JobParts) -> Result<u
     }
 }
 
-/// Writes a body behind a closed gate, with zeros in the place of its hash, and answers the hash.
+/// Writes a body while the gate is closed, with zeros in the place of its hash, and answers the hash.
 fn put_body<B: Bench>(
     bench: &mut B,
     head: &[u8],
@@ -176,7 +177,7 @@ fn put_body<B: Bench>(
     Ok(hasher.finalize())
 }
 
-/// Writes a body behind a closed gate, and then its hash in its place.
+/// Writes a body while the gate is closed, and then its hash in its place.
 pub(crate) fn put_hashed<B: Bench>(
     bench: &mut B,
     head: &[u8],
@@ -201,7 +202,7 @@ pub(crate) fn put_hashed<B: Bench>(
     Ok(())
 }
 
-/// Puts as many cells as the window holds behind the file's end, and feeds a hasher with them.
+/// Appends to the file as many cells as the window holds, and feeds them to a hasher.
 fn copy_cells<B: Bench>(
     bench: &mut B,
     hasher: &mut Sha256,

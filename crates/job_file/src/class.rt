@@ -1,5 +1,5 @@
-//! What the file of a bench is, read from the front on. Of a job's snapshot only the length is looked at, and, in the second format, the
-//! hash of all.
+//! Decides what the file of a bench is, reading it from the front. Of a job's snapshot only the length is checked and, in the second
+//! format, the hash of everything.
 ghost use Rattle.std.specs.Prelude.{◌≡◌, ◌≤◌, ◌<◌, ◌+◌, ℕ, List, length, take, drop, true, false, IsTrue, OnOk, IfOk, IfErr};
 ghost use Rattle.bench_model.specs.History.{LeftOnly};
 ghost use Rattle.bench_model.specs.State.{file_half};
@@ -27,7 +27,7 @@ use std::alloc::Global;
 /// Byte 0 of a file whose job is open.
 const OPEN_GATE: u8 = 0xA5;
 
-/// The head of a job, from the bytes behind the gate and before the texts.
+/// The head of a job, from the bytes between the gate and the texts.
 fn judge_head(whole: u64, format: Format, bytes: &[u8]) -> Result<Head, ReadFault>
     requires { length bytes.now ≡ head_len format }
     ensures said { (body : List ℕ) → head_len format ≤ length body → bytes.now ≡ take (head_len format) body
@@ -42,7 +42,7 @@ fn judge_head(whole: u64, format: Format, bytes: &[u8]) -> Result<Head, ReadFaul
     }
 }
 
-/// The head of a job of a format, in a file of so many bytes, read into as many bytes as it has.
+/// Reads the head of a job in this format, from a file of `whole` bytes, into a buffer of the head's length.
 fn read_head_into<B: Bench>(
     bench: &mut B,
     whole: u64,
@@ -64,7 +64,7 @@ fn read_head_into<B: Bench>(
     }
 }
 
-/// The head of a job of a format, in a file of so many bytes.
+/// Reads the head of a job in this format, from a file of `whole` bytes.
 fn read_head<B: Bench>(bench: &mut B, whole: u64, format: Format) -> Result<Head, ReadFault>
     requires told { IsTrue B.tells → length (B.state bench.old).file ≡ whole }
     ensures said { IsTrue B.tells → Gives (λ h. (h, drop (places_of format).front (B.state bench.old).file)) result
@@ -97,7 +97,7 @@ fn check_counts(places: &Places, head: &Head, size: u32) -> Result<(), ReadFault
     Ok(())
 }
 
-/// What stands behind the head.
+/// Reads everything after the head.
 fn read_rest<B: Bench>(
     alloc: Global,
     bench: &mut B,
@@ -150,7 +150,7 @@ fn read_rest<B: Bench>(
     }
 }
 
-/// The job of a file of so many bytes, behind its gate, read in a format. The hash isn't looked at.
+/// Reads the job after the gate of a file of `whole` bytes, in this format. The hash isn't checked.
 fn read_job<B: Bench>(
     alloc: Global,
     bench: &mut B,
@@ -171,7 +171,7 @@ fn read_job<B: Bench>(
     }
 }
 
-/// Whether the gate of a file of so many bytes is open.
+/// Whether the gate of a file of `whole` bytes is open.
 fn is_open<B: Bench>(bench: &mut B, whole: u64) -> Result<bool, LookFault>
     requires told { IsTrue B.tells → length (B.state bench.old).file ≡ whole }
     ensures gives { IsTrue B.tells → IfOk result (IsGate (B.state bench.old).file) }
@@ -193,7 +193,7 @@ fn is_open<B: Bench>(bench: &mut B, whole: u64) -> Result<bool, LookFault>
     }
 }
 
-/// What a file of so many bytes is that has no damage behind its open gate, read in the format of its mark.
+/// What a file of `whole` bytes is, where its gate is open and it isn't damaged; it is read in the format of its mark.
 fn class_of_job<B: Bench>(
     alloc: Global,
     bench: &mut B,
@@ -219,7 +219,7 @@ fn class_of_job<B: Bench>(
     }
 }
 
-/// What a file of so many bytes is whose gate is open.
+/// What a file of `whole` bytes is, where its gate is open.
 fn read_opened<B: Bench>(
     alloc: Global,
     bench: &mut B,
@@ -245,7 +245,7 @@ fn read_opened<B: Bench>(
     }
 }
 
-/// What a file of so many bytes is.
+/// What a file of `whole` bytes is.
 fn read_class<B: Bench>(alloc: Global, bench: &mut B, whole: u64) -> Result<Class, LookFault>
     requires told { IsTrue B.tells → length (B.state bench.old).file ≡ whole }
     ensures class { IsTrue B.tells → IfOk result (λ c. IsClassOf c (B.state bench.old).file) }
@@ -260,7 +260,7 @@ fn read_class<B: Bench>(alloc: Global, bench: &mut B, whole: u64) -> Result<Clas
     }
 }
 
-/// What the file is. Once it answered Ok, a stop leaves these bytes and nothing else.
+/// What the file is. After Ok, a stop leaves these bytes and nothing else.
 pub(crate) fn look<B: Bench>(alloc: Global, bench: &mut B) -> Result<Class, LookFault>
     ensures class { IsTrue B.tells → IfOk result (λ c. IsClassOf c (B.state bench.old).file) }
     ensures sound { IfOk result IsSoundClass }

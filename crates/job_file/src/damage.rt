@@ -1,4 +1,4 @@
-//! The hash of a file of the second format, against the one that it keeps.
+//! Compares the hash of a file of the second format with the one that it keeps.
 ghost use Rattle.std.specs.Prelude.{◌≡◌, ◌≤◌, ◌<◌, ◌+◌, ◌^◌, ◌++◌, ℕ, List, length, take, drop, true, bytes_eq, IsTrue, OnOk, IfOk};
 ghost use Rattle.faults.specs.Counts.{HasCause};
 ghost use Rattle.bench_model.specs.Calls.{OnlyReads};
@@ -16,15 +16,15 @@ use sha2::{Digest, Sha256};
 /// The bytes of a file up to the end of its mark.
 const MARK_END: u64 = 8;
 
-/// The offset of the hash, and that of the first byte that it is of.
+/// The offset of the hash, and the offset of the first byte that is hashed.
 const HASH_AT: u64 = 8;
 
 const HASHED_AT: u64 = 40;
 
-/// The bytes of a file of the second format up to its texts.
+/// The length of a file of the second format up to its texts.
 const FRONT: u64 = 64;
 
-/// The format of a file of so many bytes, by its mark.
+/// The format of a file of `whole` bytes, by its mark.
 pub(crate) fn read_format<B: Bench>(bench: &mut B, whole: u64) -> Result<Format, StoreFault>
     requires told { IsTrue B.tells → length (B.state bench.old).file ≡ whole }
     ensures ok { IsTrue B.tells → IfOk result (λ f. format_in (drop 1 (B.state bench.old).file) ≡ f) }
@@ -41,7 +41,7 @@ pub(crate) fn read_format<B: Bench>(bench: &mut B, whole: u64) -> Result<Format,
     }
 }
 
-/// Feeds a hasher with as many bytes of the file, from a place on, as the window holds.
+/// Feeds a hasher with as many bytes of the file, from an offset on, as the window holds.
 fn hash_window<B: Bench>(
     bench: &mut B,
     hasher: &mut Sha256,
@@ -60,7 +60,7 @@ fn hash_window<B: Bench>(
     Ok(())
 }
 
-/// The SHA-256 of a file of so many bytes, from byte 40 on, read as many bytes at a time as the window holds.
+/// The SHA-256 of a file of `whole` bytes, from byte 40 on. It is read one window at a time.
 fn read_hash<B: Bench>(bench: &mut B, whole: u64, window: &mut [u8]) -> Result<[u8; 32], StoreFault>
     requires told { IsTrue B.tells → length (B.state bench.old).file ≡ whole }
     requires long { 40 ≤ whole }
@@ -104,7 +104,7 @@ fn are_same(one: &[u8], other: &[u8]) -> bool
     one == other
 }
 
-/// Two hashes, where they differ.
+/// The two hashes, if they differ.
 fn differing(kept: [u8; 32], found: [u8; 32]) -> Option<Damage>
     ensures { AreHashes kept found result }
 {
@@ -115,8 +115,8 @@ fn differing(kept: [u8; 32], found: [u8; 32]) -> Option<Damage>
     }
 }
 
-/// The hash that a file of the second format keeps and the one that was found, where they differ. A file of so many bytes that has no
-/// whole head isn't hashed.
+/// The hash that a file of the second format keeps and the one that was found, if they differ. A file of `whole` bytes that is too short
+/// for a head isn't hashed.
 fn compare_hashes<B: Bench>(
     bench: &mut B,
     whole: u64,
@@ -138,8 +138,7 @@ fn compare_hashes<B: Bench>(
     Ok(differing(kept, found))
 }
 
-/// The hash that a file of so many bytes keeps and the one that was found, where they differ. It is looked for in the second format
-/// alone.
+/// The hash that a file of `whole` bytes keeps and the one that was found, if they differ. Only a file of the second format has a hash.
 pub(crate) fn find_damage<B: Bench>(
     bench: &mut B,
     whole: u64,

@@ -1,4 +1,4 @@
-//! The gate of a job file: byte 0 opens the body behind it, and is opened once the body is on the disk.
+//! The gate of a job file: byte 0 opens the body that follows it. It is opened once the body is on the disk.
 ghost use Rattle.std.specs.Prelude.{◌≡◌, ◌≤◌, ◌++◌, ◌∷◌, [], length, IsTrue, OnOk, IfErr, None};
 ghost use Rattle.faults.specs.Counts.{HasCause};
 ghost use Rattle.bench_model.specs.History.{Leaves, LeftOnly};
@@ -23,9 +23,8 @@ const OPEN: u8 = 0xA5;
 /// The gate of a job that is closed, or isn't open yet.
 pub const CLOSED: u8 = 0;
 
-/// Puts a body into a free file, behind a gate that is opened last: its parts one by one, and behind them all cells, as many at a time as
-/// the window holds, and then the hash in its place. The gate is closed on the disk before the body is written, and opened once body and
-/// hash are on the disk.
+/// Writes a body into a free file, and opens the gate last. First come its parts one by one, then all cells, one window at a time, then
+/// the hash in its place. The gate is closed on the disk before the body is written, and opened once body and hash are on the disk.
 pub fn put_job<B: Bench>(
     bench: &mut B,
     head: &[u8],
@@ -55,7 +54,7 @@ pub fn put_job<B: Bench>(
     Ok(())
 }
 
-/// Leaves a free file with its byte 0 alone, which closes the gate.
+/// Cuts a free file to its byte 0, which closes the gate.
 fn shut<B: Bench>(bench: &mut B) -> Result<(), StoreFault>
     requires free { IsTrue B.tells → IsFree (B.state bench.old).file }
     requires only { IsTrue B.tells → LeftOnly (B.state bench.old).file (file_half (B.state bench.old)) }
@@ -68,7 +67,7 @@ fn shut<B: Bench>(bench: &mut B) -> Result<(), StoreFault>
     write_synced(bench, 0, &[CLOSED])
 }
 
-/// Leaves at most one byte of a free file.
+/// Cuts a free file to at most one byte.
 fn shorten<B: Bench>(bench: &mut B) -> Result<(), StoreFault>
     requires free { IsTrue B.tells → IsFree (B.state bench.old).file }
     requires only { IsTrue B.tells → LeftOnly (B.state bench.old).file (file_half (B.state bench.old)) }

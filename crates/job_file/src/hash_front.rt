@@ -1,4 +1,4 @@
-//! The hash of a body that is written, but for its snapshot.
+//! The hash of a body that is written, without its snapshot.
 ghost use Rattle.std.specs.Prelude.{◌≡◌, ◌≤◌, ◌<◌, ◌^◌, ◌++◌, ℕ, List, length, drop};
 ghost use Rattle.std.specs.List.{concat, flat_map};
 ghost use Rattle.sha2.specs.Hashers.{Holds256};
@@ -44,7 +44,7 @@ fn hash_files(hasher: &mut Sha256, parts: &JobParts)
     }
 }
 
-/// A hasher that holds what is hashed before the snapshot: the lengths, the texts and the runs.
+/// A hasher fed with everything that is hashed before the snapshot: the lengths, the texts and the runs.
 pub(crate) fn hash_front(head: &[u8], parts: &JobParts) -> Sha256
     requires parts { AreParts parts.now }
     requires head { head.now ≡ head_of_parts parts.now }

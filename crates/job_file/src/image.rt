@@ -1,4 +1,4 @@
-//! The image of a job, read from a file run by run, and each run window by window.
+//! Reads the image of a job from a file, run by run, and each run window by window.
 ghost use Rattle.std.specs.Prelude.{◌≡◌, ◌≤◌, ◌<◌, ◌+◌, ◌*◌, ◌^◌, ◌++◌, ℕ, List, length, take, drop, false, IsTrue, IfOk, IfErr, OnOk};
 ghost use Rattle.std.specs.List.{flat_map};
 ghost use Rattle.bench_model.specs.Calls.{OnlyReads};
@@ -22,10 +22,10 @@ use job_text::{add_piece, covers};
 use octets::le32;
 use std::alloc::Global;
 
-/// How many bytes stand before those of a run.
+/// The length of a run's head in bytes: its address and its length.
 const HEAD: u64 = 8;
 
-/// How many addresses there are.
+/// The number of addresses.
 const ADDRESSES: u64 = 0x1_0000_0000;
 
 /// Whether a run begins at `low` or above it, has a byte, and lies in the regions.
@@ -37,7 +37,7 @@ fn is_placed(regions: &[Region], low: u64, place: u32, len: u32) -> bool
     low <= from && 0 < len && end <= ADDRESSES && covers(regions, from, end)
 }
 
-/// The address and the length of a run from the bytes before it, which begin at a place of a file of so many bytes.
+/// The address and the length of a run, from its head, which is at offset `at` of a file of `whole` bytes.
 fn judge_run(
     head: &[u8],
     whole: u64,
@@ -67,7 +67,7 @@ fn judge_run(
     }
 }
 
-/// The address of the run that begins at a place of the file, and how many bytes it has, where it is to lie in the regions.
+/// Reads the head of the run at an offset of the file: its address and its length. The run must lie in the regions.
 fn read_run_head<B: Bench>(
     bench: &mut B,
     whole: u64,
@@ -96,7 +96,7 @@ fn read_run_head<B: Bench>(
     }
 }
 
-/// Lays as many bytes of the file behind an image as the window holds.
+/// Adds one window of the file's bytes at the end of an image.
 fn lay_window<B: Bench>(
     bench: &mut B,
     image: &mut ByteMap,
@@ -118,7 +118,7 @@ fn lay_window<B: Bench>(
     Ok(())
 }
 
-/// Lays a run of the file behind an image, which it doesn't touch.
+/// Adds a run of the file at the end of an image. It touches no run of the image.
 fn lay_run<B: Bench>(
     bench: &mut B,
     image: &mut ByteMap,
@@ -155,7 +155,7 @@ fn lay_run<B: Bench>(
     Ok(())
 }
 
-/// Reads a run, which begins at a place of the file, to behind an image: its address, and how many bytes it has.
+/// Reads the run at an offset of the file into the end of an image, and answers its address and its length.
 fn read_run<B: Bench>(
     bench: &mut B,
     image: &mut ByteMap,
@@ -184,8 +184,8 @@ fn read_run<B: Bench>(
     }
 }
 
-/// Reads so many runs from a place of the file on, of which none touches the one before it and each lies in the regions: the image that
-/// they are, and where they end.
+/// Reads `count` runs from an offset of the file on, and answers their image and where they end. No run touches the one before it, and
+/// each lies in the regions.
 pub(crate) fn read_runs<B: Bench>(
     alloc: Global,
     bench: &mut B,
@@ -204,7 +204,7 @@ pub(crate) fn read_runs<B: Bench>(
     ensures count { IfOk result (λ x. length x.0 ≡ count) }
     ensures inside { IfOk result (λ x. LiesIn regions.now x.0) }
     ensures ends { IfOk result (λ x. x.1 ≤ whole) }
-    // A run has a cell at least, and then takes nine bytes.
+    // A run covers at least one cell, so it takes at most nine bytes a cell.
     ensures taken { IfOk result (λ x. x.1 ≤ start + 9 * size_of regions.now) }
     ensures reads { OnlyReads B.tells (B.state bench.old) (B.state bench.new) }
     ensures counted { IsCounted (B.state bench.old).store_faults (B.state bench.new).store_faults (is_store_fault (fault_in read_fault result)) }

@@ -16,7 +16,7 @@ use bench_model::Bench;
 use job_text::{Class, Job};
 use std::alloc::Global;
 
-/// The job of a file of this class, for so many cells.
+/// The job of a file of this class, on a bench of `found` cells.
 fn judge(class: Class, found: u32) -> Result<Job, OpenFault>
     requires { IsSoundClass class }
     ensures ok { (file : List ℕ) → IsClassOf class file → IfOk result (λ job. StandsFor job file) }
@@ -43,23 +43,23 @@ fn judge(class: Class, found: u32) -> Result<Job, OpenFault>
     }
 }
 
-/// Opens the job for which the file stands. It syncs the file first, so that what it reads is what a stop leaves, and changes nothing: once
-/// it answered Ok, a stop leaves this file alone.
+/// Opens the job for which the file stands. It syncs the file first, so that it reads what a stop leaves, and it changes nothing. After
+/// Ok, a stop leaves this file and nothing else.
 ///
 /// # Errors
 ///
-/// `NoJob`, `NotAJob` and `Damaged` exactly by what the file is; `CellsDiffer` exactly where it stands for a job for another number of
+/// `NoJob`, `NotAJob` and `Damaged` exactly by what the file is; `CellsDiffer` exactly where it stands for a job with another number of
 /// cells; `StoreFault` only where it was counted.
 pub fn open<B: Bench>(alloc: Global, bench: &mut B) -> Result<Job, OpenFault>
     ensures ok { IsTrue B.tells → IfOk result (λ job. StandsFor job (B.state bench.old).file) }
     ensures sized { IfOk result (λ job. size_of job.board.regions ≡ (B.state bench.old).cell_count) }
     ensures only { IsTrue B.tells → OnOk result (LeftOnly (B.state bench.old).file (file_half (B.state bench.new))) }
 
-    // The file is synced before any other call on the bench, and what is read, or refused, is what a stop after that sync leaves. Where the sync
-    // fails, nothing else is called.
+    // The file is synced before any other call on the bench, and what is read, or refused, is what a stop after that sync leaves. If the
+    // sync fails, no other call is made.
     ensures first { SyncsFirst B.tells B.state B.acts bench.old bench.new (is_store_fault (fault_in open_fault result) ≡ true) }
 
-    // With `ok` and `sized`, each refusal comes exactly where it says.
+    // Together with `ok` and `sized`: each refusal comes exactly where it says.
     ensures refused { IsTrue B.tells → IfErr result (IsOpenFault (B.state bench.old).file (B.state bench.old).cell_count) }
     ensures sound { IfErr result (IsSoundOpen (B.state bench.old).cell_count) }
 

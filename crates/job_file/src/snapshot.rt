@@ -8,8 +8,8 @@ ghost use Rattle.job_text.specs.Stands.{StandsFor, snapshot_in};
 use bench_model::{Bench, StoreFault};
 use job_text::Job;
 
-/// Fills the buffer with the snapshot of a job from place `at` on. The file stands for the job, and the places are the device's. On a
-/// fault the buffer holds any bytes. It takes no memory.
+/// Fills the buffer with the snapshot of a job from place `at` on. The file stands for the job, and places are those of the device. After
+/// a fault the buffer holds arbitrary bytes. It takes no memory.
 pub fn snapshot_into<B: Bench>(
     bench: &mut B,
     job: &Job,

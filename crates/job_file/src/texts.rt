@@ -1,4 +1,4 @@
-//! The texts of a job's board and of its FLM files, read from a file, and what they say.
+//! Reads the texts of a job's board and of its FLM files from a file, and what they describe.
 ghost use Rattle.std.specs.Prelude.{◌≡◌, ◌≤◌, ◌+◌, length, drop, slice_get, false, IsTrue, IsOk, IfOk};
 ghost use Rattle.bench_model.specs.Calls.{OnlyReads};
 ghost use Rattle.board_file.specs.Shown.{shown as board_shown};
@@ -20,7 +20,7 @@ use flm_descriptor::Algorithm;
 use job_text::{Head, JobFault, Places, algorithm_in, are_files, board_in, fits_in};
 use std::alloc::Global;
 
-/// What the texts say, and where they end in the file.
+/// What the texts describe, and where they end in the file.
 #[derive(Drop)]
 pub(crate) struct Said {
     pub board: Board,
@@ -53,7 +53,7 @@ fn algorithm_of(alloc: Global, at: u64, file: Vec<u8>) -> Result<Algorithm, Read
     }
 }
 
-/// The board that the text of so many bytes at an offset describes.
+/// The board that the text of `len` bytes at an offset describes.
 fn read_board<B: Bench>(
     alloc: Global,
     bench: &mut B,
@@ -74,7 +74,7 @@ fn read_board<B: Bench>(
     }
 }
 
-/// The algorithm of the FLM file of so many bytes at an offset.
+/// The algorithm of the FLM file of `len` bytes at an offset.
 fn read_algorithm<B: Bench>(
     alloc: Global,
     bench: &mut B,
@@ -95,7 +95,7 @@ fn read_algorithm<B: Bench>(
     }
 }
 
-/// The algorithm of the FLM file of a region, which is to fit it.
+/// The algorithm of the FLM file of a region. It must fit the region.
 fn read_file<B: Bench>(
     alloc: Global,
     bench: &mut B,
@@ -124,7 +124,7 @@ fn read_file<B: Bench>(
     Ok(algorithm)
 }
 
-/// The algorithm of the second FLM file, where there are two, and where the files end.
+/// The algorithm of the second FLM file, if there are two, and where the files end.
 fn read_second<B: Bench>(
     alloc: Global,
     bench: &mut B,
@@ -152,7 +152,7 @@ fn read_second<B: Bench>(
     }
 }
 
-/// Checks the number of FLM files, of which a board of so many regions has as many, and that the length of none is 0.
+/// Checks that there is one FLM file for each of `regions` regions, and that with one file the second length is 0.
 fn check_files(places: &Places, head: &Head, regions: usize) -> Result<(), ReadFault>
     ensures { CountsFiles places.now head.now regions result }
 {
@@ -166,7 +166,7 @@ fn check_files(places: &Places, head: &Head, regions: usize) -> Result<(), ReadF
     }
 }
 
-/// What the texts say. Each FLM file is to fit its region.
+/// What the texts describe. Each FLM file must fit its region.
 pub(crate) fn read_said<B: Bench>(
     alloc: Global,
     bench: &mut B,

@@ -23,14 +23,14 @@ IsSaid out text done = TookAll out text
 IsSaid out text (refused output_fault) = TookPart out text
 IsSaid out text (refused refusal) = (yields (refused refusal) ≡ true) × TookNothing out
 
--- When each answer comes, and what goes to `out` with it. What is said of the file holds where the bench tells it.
+-- When each answer of `status` comes, and what goes to `out` with it. What is said of the file holds where the bench tells its contents.
 
--- the file stands for no job, and that was said
+-- the file is free, and the text for no job went to `out`
 pub record SaysNone (bench : BenchCall) (out : SinkCall) (answer : Answer) : Type 0 where
   pub free : IsTrue bench.tells → IsFree bench.before.file
   pub says : SaysText out no_job_text answer
 
--- the devices of algorithms, each of which is one for a region of the board
+-- the devices of algorithms, one for each region of the board
 abbrev pub devices_of : List flm.Shown → List Device
 devices_of algorithms = map (λ (algorithm : flm.Shown). algorithm.device) algorithms
 
@@ -40,7 +40,7 @@ pub record IsJobWith (devices : List Device) (image : List Run) (file : List ℕ
   pub devices_are : devices_of some.algorithms ≡ devices
   pub image_is : some.job.image ≡ image
 
--- the file stands for a job for as many cells as there are, and the text of that job went to `out`
+-- the file stands for a job for as many cells as the bench has, and the text of that job went to `out`
 pub record SaysJob (bench : BenchCall) (out : SinkCall) (answer : Answer) : Type 0 where
   pub devices : List Device
   pub image : List Run
@@ -60,7 +60,7 @@ ComesOfJobFile bench out (refused output_fault) = SaysNone bench out (refused ou
 ComesOfJobFile bench out (refused _) = ⊥
 ComesOfJobFile bench out done = SaysNone bench out done ⊎ SaysJob bench out done
 
--- The other direction: each answer comes where it is due, by what the file is.
+-- The other direction: what `status` must answer, by what the file is.
 pub record IsDueForJobFile (bench : BenchCall) (out : SinkCall) (answer : Answer) : Type 0 where
   pub free : IsFree bench.before.file → IsSaid out no_job_text answer
   pub not_job : (at : ℕ) → IsNotAJob at bench.before.file → Refuses (TookNothing out) answer (not_a_job at)
@@ -80,8 +80,8 @@ has_status store_fault = true
 has_status output_fault = true
 has_status _ = false
 
--- The work of `status`: all but the status and the line on `err`. No input is taken, and the job file is only read: file and cells are
--- as they were, and a stop at any moment leaves nothing that one at entry might not have left.
+-- The work of `status`: all but the status and the line on `err`. No input is taken, and the job file is only read. File and cells are as
+-- they were, and a stop at any moment leaves only what a stop at entry may leave.
 pub record StatusEnds (bench : BenchCall) (inputs : InputsCall) (out : SinkCall) (answer : Answer) : Type 0 where
   pub lawful : EndsLawfully on_job_file bench inputs out has_status [] answer
   pub takes : TakesNothing inputs

@@ -1,4 +1,4 @@
-//! The command `status`: the job in the file, as `job_file` opens it.
+//! The command `status`: prints the job in the file, as `job_file` opens it.
 #![tactic(auto)]
 
 mod status_command;

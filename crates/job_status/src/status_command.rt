@@ -1,4 +1,4 @@
-//! `status`: what the job file stands for.
+//! `status`: prints what the job file stands for.
 ghost use Rattle.std.specs.Prelude.{option_map};
 ghost use Rattle.report_text.specs.Job.{status_text};
 ghost use Rattle.command_files.specs.Inputs.{InputsCall, TakesNothing};
@@ -13,8 +13,8 @@ use outside_io::Sink;
 use report_text::{Refusal, put_job};
 use std::alloc::Global;
 
-/// Prints the job for which the job file stands, or that there is none. The file is only read; the cells aren't looked at, and no
-/// input is taken.
+/// Prints the job for which the job file stands, or that there is none. The file is only read, the cells aren't looked at, and no input
+/// is taken.
 pub fn status<'a, B: Bench, O: Sink>(
     alloc: Global,
     bench: &mut B,

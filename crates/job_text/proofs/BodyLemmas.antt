@@ -174,7 +174,7 @@ texts_take d places h bytes x e =
     (texts_are h bytes b.0.1 f.0.1 b.0.0 s.0 f.0.0 g.0.0 g.0.1 t0.0 (was_read places.front (reading b.0.0) s.0 s.1) t0.1
     (held places.files (are_files h.files (length s.0.regions)) c.0 c.1) (held places.second (not (nat_eq h.files 1) || nat_eq h.second 0) z.0 z.1) t1 t2)
 
--- ---- behind the head
+-- ---- after the head
 
 record RestIs (format : Format) (h : Head) (bytes : List ℕ) (x : Found) : Type 0 where
   parts : bytes ≡ tail_of x.job
@@ -482,7 +482,7 @@ rest_again d format j b algorithms format_is is =
 
 -- ---- the whole
 
--- a body of the first format is one, and of a body of the second one all behind the hash is read
+-- the body is that of a job: all of it in the first format, and in the second one its bytes after the hash
 abbrev pub BodyIs : Format → List ℕ → Job → Type 0
 BodyIs First body j = body ≡ body_of j
 BodyIs Second body j = (drop 39 body ≡ hashed_of j) × (39 < length body)
@@ -622,7 +622,7 @@ same_job j k b c a e is_j is_k same =
     front_small First = omega arith
     front_small Second = omega arith
 
--- files of which each fits its region
+-- two FLM files, or one, that fit their regions one by one all fit
 pub all_fitting : (b : board.Shown) (files : ℕ) (first : File) (o : Option File) → are_files files (length b.regions) ≡ true →
     fits_in b (slice_get b.regions 0) first.algorithm ≡ true → SecondFits b files o
     → all_fit b b.regions (said_in (files_of first o)) ≡ true

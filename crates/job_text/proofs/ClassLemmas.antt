@@ -47,7 +47,7 @@ intact_as Second j =
     no_left true b is = rw is refl
     no_left false b is = refl
 
--- behind the mark of the second format and a hash that fits stands a body
+-- with the mark of the second format, a hash that fits, and the hashed part of a job, a body is that of the job
 whole_second : (body : List ℕ) (j : Job) → is_second body ≡ true → kept_in body ≡ found_in body → drop 39 body ≡ hashed_of j → body ≡ body_in Second j
 whole_second body j marked kept rest =
     let mark : second_mark ≡ take 7 body = same_text second_mark (take 7 body) (sym marked) in
@@ -142,7 +142,7 @@ hash_fits body intact second enough = by_hash (bytes_eq (kept_in body) (found_in
         let broken : is_damaged body ≡ true = and_from _ _ (and_from _ _ (le-leb _ _ enough) second) (ap not other) in
         let both : true ≡ false = sym broken ∙ intact in absurd cc
 
--- and with the bytes that it is of it is that of a job
+-- an undamaged body of the second format, with the hashed part of a job, is the body of that job
 pub second_whole : (body : List ℕ) (j : Job) → format_in body ≡ Second → is_damaged body ≡ false → j.format ≡ Second → drop 39 body ≡ hashed_of j →
     body ≡ body_of j
 second_whole body j format intact format_is rest =
@@ -199,7 +199,7 @@ stands_class (gate ∷ next ∷ rest) x fits e = ⊎_elim
     (behind (length rest + 2) (next ∷ rest)))
     (long gate next rest)
 
--- a file behind whose open gate a body is that is read as no job has no job
+-- a file with an open gate stands for no job, if its body isn't read as one
 no_job_behind : (gate next : ℕ) (rest : List ℕ) (c : reading.Class) → gate ≡ 165 → class_behind (length rest + 2) (next ∷ rest) ≡ c →
     ((x : Found) → c ≡ stands x → ⊥) → IsNoJob (gate ∷ next ∷ rest)
 no_job_behind gate next rest c opened is never = record {
@@ -325,7 +325,7 @@ was_seen : (whole : ℕ) (r : Result Found ℕ) (s : reading.Seen) → seen_of w
 was_seen whole (Ok x) s e = (x, refl, ok_is {E = ℕ} (reading.seen whole x) s e)
 was_seen whole (Err at) s e = absurd cc
 
--- behind an open gate a job is seen
+-- an undamaged body that is read as a job has the class of that job
 pub stands_behind : (whole : ℕ) (body : List ℕ) (s : reading.Seen) → is_damaged body ≡ false → seen_of whole (job_at whole body) ≡ Ok s
     → (x : Found) × (class_behind whole body ≡ stands x) × (reading.seen whole x ≡ s)
 unfolding class_behind
@@ -342,7 +342,7 @@ class_opened (gate ∷ next ∷ rest) enough opened =
     let len : length rest + 2 ≡ length (gate ∷ next ∷ rest) = omega arith in
     ap (λ (b : Bool). cond b (class_behind (length rest + 2) (next ∷ rest)) free) (eq-eqb gate 165 opened) ∙ ap (λ (n : ℕ). class_behind n (next ∷ rest)) len
 
--- a file behind whose open gate the hash fits, and no job is read
+-- a file with an open gate and a hash that fits is no job where the reading fails
 pub not_as : (file : List ℕ) (at : ℕ) → 1 < length file → get_or file 0 0 ≡ 165 → is_damaged (drop 1 file) ≡ false →
     job_at (length file) (drop 1 file) ≡ Err at → IsNotAJob at file
 unfolding class_behind
@@ -351,7 +351,7 @@ not_as file at enough opened intact is =
     not_class file at (class_opened file enough opened
     ∙ ap (λ (b : Bool). cond b (damaged (kept_in body) (found_in body)) (class_from (job_at (length file) body))) intact ∙ ap class_from is)
 
--- a file behind whose open gate the hash doesn't fit
+-- a file with an open gate and a hash that doesn't fit is damaged
 pub damaged_as : (file : List ℕ) → 1 < length file → get_or file 0 0 ≡ 165 → is_damaged (drop 1 file) ≡ true →
     IsFoundDamaged (kept_in (drop 1 file)) (found_in (drop 1 file)) file
 unfolding class_behind

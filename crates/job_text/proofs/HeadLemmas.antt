@@ -16,7 +16,7 @@ pub record HeadFits (h : Head) : Type 0 where
   pub runs : h.runs < 2 ^ 32
   pub cells : h.cells < 2 ^ 32
 
--- the four lengths of the first format, or the six of the second, in front of what is behind them
+-- the four lengths of the first format, or the six of the second, followed by the rest
 abbrev pub four : Head → List ℕ → List ℕ
 four h rest = field h.board ++ (field h.first ++ (field h.runs ++ (field h.cells ++ rest)))
 
@@ -108,7 +108,7 @@ second_takes d bytes x fits e =
     longer front rest bytes one more is len has =
         omega (arith, ap (λ (l : List ℕ). length l) is, length-append front rest, len, ap (λ (l : List ℕ). length l) has, length-append (field one) more)
 
--- and again
+-- heads, read again from the text that they are written as
 
 pub first_again : (d : ℕ) (h : Head) (rest : List ℕ) → HeadFits h → h.files ≡ 1 → h.second ≡ 0 → first_head d (first_mark ++ four h rest) ≡ Ok (h, rest)
 unfolding first_head

@@ -18,7 +18,7 @@ use Rattle.job_text.proofs.RunLemmas.{maximal_behind, end_below_more}
 abbrev pub with_front : List Run → Result (List Run × List ℕ) ℕ → Result (List Run × List ℕ) ℕ
 with_front front read = read >>= λ x. Ok (front ++ x.0, x.1)
 
--- so many runs were taken
+-- the first `taken` runs were taken
 pub record SoFar (whole : ℕ) (regions : List Region) (from count : ℕ) (image : List Run) (rest bytes : List ℕ) (taken : ℕ) : Type 0 where
   pub said : with_front image (runs_at whole regions (count - taken) from rest) ≡ runs_at whole regions count 0 bytes
   pub inside : length rest ≤ whole

@@ -1,4 +1,4 @@
--- The parts of a job, as they are written. Writers put them one behind the other.
+-- The parts of a job, as writers append them one after the other.
 use Rattle.std.proofs.Common.{◌≡◌, ◌⊎◌, inl, inr, ◌<◌, ◌+◌, ◌^◌, ℕ, take, drop, List, [], ◌∷◌, ◌++◌, length, replicate, Option, Some, None, refl, sym, ap}
 use Rattle.std.proofs.Common.{subst, ◌∙◌, append_assoc, arith}
 use Rattle.std.specs.List.{concat, flat_map}

@@ -1,4 +1,4 @@
--- What is behind the texts of a body, one step after the other.
+-- What follows the texts of a body, one step after the other.
 use Rattle.std.proofs.Common.{◌≡◌, ◌≢◌, ◌≤◌, ◌∙◌, ℕ, Bool, ltb, eqb, List, length, map, Result, Ok, Err, refl, ap}
 use Rattle.std.proofs.lemmas.Bool.{lt-ltb, eq-eqb, ne_eqb}
 use Rattle.faults.specs.Results.{◌>>=◌}
@@ -68,7 +68,7 @@ rest_runless d format h bytes t rest read sized none =
     rest_sized d format h bytes t rest read sized
     ∙ ap (λ (n : ℕ). holds_or (places_of format).runs (ltb 0 n) >>= λ some. runs_behind d format h (t, rest)) none
 
--- and the runs fail
+-- the reading fails where the runs fail
 pub rest_runs_fail : (d : ℕ) (format : Format) (h : Head) (bytes : List ℕ) (t : Texts) (rest : List ℕ) (e : JobFault) → AreRead d format h bytes t rest
     → h.cells ≡ size_of t.board.regions → 1 ≤ h.runs → Fails e (runs_at d t.board.regions h.runs 0 rest) → Fails e (seen_of d (rest_at d format h bytes))
 rest_runs_fail d format h bytes t rest OutOfMemory read sized some fails = tt
@@ -78,7 +78,7 @@ rest_runs_fail d format h bytes t rest (NotAJob at) read sized some fails = ap (
     (holds (places_of format).runs (ltb 0 h.runs) (lt-ltb _ _ some))
     ∙ ap (λ (r : Result (List Run × List ℕ) ℕ). r >>= ends_behind d format h t) fails)
 
--- and the runs were read
+-- the texts, the counts and the runs were read
 pub record RunsAre (d : ℕ) (format : Format) (h : Head) (bytes : List ℕ) (t : Texts) (rest : List ℕ) (image : List Run) (end : List ℕ) : Type 0 where
   pub read : AreRead d format h bytes t rest
   pub sized : h.cells ≡ size_of t.board.regions

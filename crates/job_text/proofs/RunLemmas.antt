@@ -1,4 +1,4 @@
--- A run added behind the others. For `add_piece`.
+-- A run added after the others, for `add_piece`.
 use Rattle.std.proofs.Common.{◌≡◌, ◌≤◌, ◌<◌, ◌+◌, ◌-◌, ◌^◌, ℕ, zero, suc, Bool, true, false, cond, List, [], ◌∷◌, ◌++◌, length, get_or, Option, Some, None}
 use Rattle.std.proofs.Common.{refl, sym, ap, subst, ◌∙◌, inl, inr, arith, length-append}
 use Rattle.std.proofs.lemmas.Bool.{cases_lt}
@@ -29,13 +29,13 @@ same_map image r a below = by_test (holds r a) refl
     by_test true is = rw (byte_at-append image (r ∷ []) a, none_before image r a below (held_from r a is), is) refl
     by_test false is = rw (byte_at-append image (r ∷ []) a, is) (sym (or_none (byte_at image a)))
 
--- the image and behind it a run is maximal
+-- an image stays maximal when a run is added after it and touches none
 pub maximal_behind : (low end : ℕ) (image : List Run) (r : Run) → AreMaximal low end image → low ≤ r.at → EndBelow r.at image → 1 ≤ length r.bytes →
     end_of r ≤ end
     → AreMaximal low end (image ++ r ∷ [])
 maximal_behind low end image r m from below some ends = maximal_put low low end image r [] m (from, some, ends, tt) from below
 
--- what is laid behind all others stands behind them
+-- a run laid after all others becomes the last one
 pub laid_behind : (image new : List Run) (r : Run) → AreMaximal 0 (2 ^ 32) image → EndBelow r.at image → 1 ≤ length r.bytes → end_of r ≤ 2 ^ 32 →
     Lays r image new
     → new ≡ image ++ r ∷ []
@@ -43,7 +43,7 @@ laid_behind image new r m below some ends lays =
     one_list 0 (2 ^ 32) new (image ++ r ∷ []) lays.maximal (maximal_behind 0 (2 ^ 32) image r m (omega arith) below some ends)
     (λ a. lays.union a ∙ same_map image r a below)
 
--- what lies behind all others clashes with none
+-- a run after all others clashes with none
 pub no_clash : (image : List Run) (r : Run) (at old new : ℕ) → EndBy r.at image → IsFirstClash r image at old new → ⊥
 no_clash image r at old new by clash =
     let from = held_from r at clash.held in
@@ -96,7 +96,7 @@ same_map_more image r piece a below some joins = by_piece (holds piece a) refl
         ap (λ (b : Bool). cond b (Some (byte_of piece a)) (byte_at (image ++ r ∷ []) a)) out
         ∙ split r ∙ ap (or_else (byte_at image a)) (by_run (holds r a) refl out) ∙ sym (split both)
 
--- what is laid where a run behind all others ends goes on with it
+-- bytes laid where the last run ends extend that run
 laid_on : (image new : List Run) (r piece : Run) → AreMaximal 0 (2 ^ 32) image → EndBelow r.at image → 1 ≤ length r.bytes → piece.at ≡ end_of r →
     end_of piece ≤ 2 ^ 32 → Lays piece (image ++ r ∷ []) new
     → new ≡ image ++ run_of r.at (r.bytes ++ piece.bytes) ∷ []
@@ -143,7 +143,7 @@ short_runs regions rs small few m covered k lt = each 0 rs m covered k lt
         omega (arith, covers_small regions r.at (end_of r) small test)
     each low (r ∷ rs) m covered (suc k) lt = each (end_of r + 1) rs m.3 covered.1 k (omega (arith, lt))
 
--- with one run more behind them
+-- runs that end below an address, and one more run after them
 pub end_below_more : (image : List Run) (r : Run) (from next : ℕ) → EndBelow from image → from ≤ r.at → end_of r < next → EndBelow next (image ++ r ∷ [])
 end_below_more [] r from next below le less zero lt = less
 end_below_more [] r from next below le less (suc k) lt = absurd (omega arith)

@@ -25,7 +25,7 @@ IsBytes-take n bytes h i =
       | inr le ↦ rw (get_or_past (take n bytes) i 0 (omega (arith, length-take n bytes))) (omega arith)
     ]
 
--- what is behind the front of bytes
+-- what follows the front of a list of bytes is a list of bytes
 pub behind_fits : (front rest bytes : List ℕ) → bytes ≡ front ++ rest → IsBytes bytes → IsBytes rest
 behind_fits front rest bytes is fits = subst IsBytes (ap (λ (l : List ℕ). drop (length front) l) is ∙ drop_at front rest (length front) refl)
     (IsBytes-drop (length front) bytes fits)

@@ -1,4 +1,4 @@
--- The texts of a body, one behind the other. `take_texts` takes them so.
+-- The texts of a body, one after the other, as `take_texts` takes them.
 use Rattle.std.proofs.Common.{◌≡◌, ◌+◌, ◌∙◌, ℕ, Bool, true, false, not, ◌||◌, nat_eq, List, length, Option, Result, Ok, Err, refl, ap}
 use Rattle.faults.specs.Results.{◌>>=◌}
 use Rattle.board_file.specs.Shown as board
@@ -70,7 +70,7 @@ pub second_counted : (d : ℕ) (places : Places) (h : Head) (bytes text rest : L
     → are_files h.files (length b.regions) ≡ true → (not (nat_eq h.files 1) || nat_eq h.second 0) ≡ false → texts_at d places h bytes ≡ Err places.second
 second_counted d places h bytes text rest b r files some = none_read d places h bytes text rest b false r files some
 
--- and the files were counted
+-- the board was read, and the number of FLM files was checked
 pub record AreCounted (d : ℕ) (places : Places) (h : Head) (bytes text rest : List ℕ) (b : board.Shown) : Type 0 where
   pub read : IsBoardRead d places h bytes text rest b
   pub files : are_files h.files (length b.regions) ≡ true
@@ -80,7 +80,7 @@ counted : (d : ℕ) (places : Places) (h : Head) (bytes text rest : List ℕ) (b
     → texts_at d places h bytes ≡ first_behind d places h text rest b
 counted d places h bytes text rest b r = none_read d places h bytes text rest b true r.read r.files r.none
 
--- and the first file was read
+-- the number of FLM files was checked, and the first file was read
 pub record IsFirstRead (d : ℕ) (places : Places) (h : Head) (bytes text rest : List ℕ) (b : board.Shown) (f : File) (after : List ℕ) : Type 0 where
   pub counted : AreCounted d places h bytes text rest b
   pub first : file_at d (places.front + h.board) b 0 h.first rest ≡ Ok (f, after)

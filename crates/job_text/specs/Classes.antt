@@ -1,10 +1,10 @@
--- A file of bytes is one thing, and one only.
+-- Every file of bytes has exactly one class.
 use Rattle.std.specs.Prelude.{◌≡◌, ◌⊎◌, ℕ, List}
 use Rattle.job_text.specs.Files.{IsFree}
 use Rattle.job_text.specs.Stands.{IsSomeJob, IsDamaged, IsNotAJob}
 
--- The file is free, or stands for a job, or is damaged, or is no job as an offset shows. No two of these are, and it stands for one job,
--- or is damaged with one pair of hashes, or one offset shows that it is none.
+-- The file is free, or stands for a job, or is damaged, or is no job, as an offset shows. No two of these hold at once. It stands for one
+-- job only, or is damaged with one pair of hashes only, or is no job by one offset only.
 pub record HasOneClass (file : List ℕ) : Type 0 where
   pub some : IsFree file ⊎ (IsSomeJob file ⊎ (((kept : List ℕ) × (found : List ℕ) × IsDamaged kept found file) ⊎ ((at : ℕ) × IsNotAJob at file)))
   pub free_or_job : IsFree file → IsSomeJob file → ⊥

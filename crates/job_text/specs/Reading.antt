@@ -20,18 +20,18 @@ use Rattle.job_text.specs.declared.head.Head.{Head}
 use Rattle.job_text.specs.declared.head.Places.{Places}
 use Rattle.job_text.specs.Body.{Job, first_mark, second_mark}
 
--- Steps. Each answers what it reads and what is behind it, or an offset. Where the bytes end too early that is the file's
--- length, `whole`.
+-- Steps of reading. Each returns what it read and the bytes after that, or an offset. If the bytes end too early, the offset is the
+-- file's length, `whole`.
 
--- a field
+-- reads a field: a number of 32 bits
 abbrev pub number_at : ℕ → List ℕ → Result (ℕ × List ℕ) ℕ
 number_at whole bytes = if nat_lt (length bytes) 4 then Err whole else Ok (field32 bytes 0, drop 4 bytes)
 
--- so many bytes
+-- reads a text of `n` bytes
 abbrev pub text_at : ℕ → ℕ → List ℕ → Result (List ℕ × List ℕ) ℕ
 text_at whole n bytes = if nat_lt (length bytes) n then Err whole else Ok (take n bytes, drop n bytes)
 
--- the mark of format 1, which stands at 1
+-- reads the mark of format 1, which is at offset 1 of the file
 abbrev pub mark_at : List ℕ → Result (List ℕ) ℕ
 mark_at bytes = if starts_with nat_eq bytes first_mark then Ok (drop 7 bytes) else Err 1
 
@@ -40,11 +40,12 @@ abbrev pub read_or : {A E : Type 0} → ℕ → Result A E → Result A ℕ
 read_or at (Ok x) = Ok x
 read_or at (Err fault) = Err at
 
--- a check that holds, or this offset
+-- a check: it holds, or this offset is the error
 abbrev pub holds_or : ℕ → Bool → Result (Unit {0}) ℕ
 holds_or at b = if b then Ok tt else Err at
 
--- A body of format 1 doesn't write how many files there are: one. A board with more regions is shown at its text.
+-- The offsets of a format's fields. Format 1 has no field for the number of FLM files, which is one; a board with more regions is refused
+-- at its text.
 abbrev pub places_of : Format → Places
 places_of First = record { front = 24; files = 24; second = 24; runs = 16; cells = 20 }
 places_of Second = record { front = 64; files = 44; second = 52; runs = 56; cells = 60 }
@@ -58,7 +59,7 @@ first_head whole bytes = do
   n ← number_at whole r.1
   Ok (record { board = b.0; files = 1; first = f.0; second = 0; runs = r.0; cells = n.0 }, n.1)
 
--- behind the mark and the hash
+-- the head of format 2, after the mark and the hash
 unfoldable pub second_head : ℕ → List ℕ → Result (Head × List ℕ) ℕ
 second_head whole bytes = do
   marked ← text_at whole 39 bytes
@@ -81,7 +82,7 @@ abbrev pub reach : List Region → ℕ → ℕ
 reach [] at = at
 reach (r ∷ rs) at = if holds r at then r.base + r.size else reach rs at
 
--- each address from one to before another lies in one of at most two regions
+-- each address from `from` to before `to` lies in one of at most two regions
 abbrev pub covers : List Region → ℕ → ℕ → Bool
 covers regions from to = nat_le to (reach regions (reach regions from))
 
@@ -89,11 +90,11 @@ abbrev pub all_covered : List Region → List Run → Bool
 all_covered regions [] = true
 all_covered regions (r ∷ rs) = covers regions r.at (end_of r) && all_covered regions rs
 
--- the run begins at `low` or above it, has a byte, ends in memory, and lies in the regions
+-- the run begins at `low` or above it, isn't empty, ends in memory, and lies in the regions
 abbrev pub is_placed : (regions : List Region) (low at len : ℕ) → Bool
 is_placed regions low at len = nat_le low at && nat_lt 0 len && nat_le (at + len) addresses && covers regions at (at + len)
 
--- a run; a wrong one is shown by its own offset
+-- reads a run; a wrong run is refused at its own offset
 unfoldable pub run_at : ℕ → List Region → ℕ → List ℕ → Result (Run × List ℕ) ℕ
 run_at whole regions low bytes = do
   at ← number_at whole bytes
@@ -102,7 +103,7 @@ run_at whole regions low bytes = do
   placed ← holds_or (whole - length bytes) (is_placed regions low at.0 len.0)
   Ok (record { at = at.0; bytes = text.0 }, text.1)
 
--- so many runs, none of which touches the one before it
+-- reads a number of runs; no run touches the one before it
 unfoldable pub runs_at : ℕ → List Region → ℕ → ℕ → List ℕ → Result (List Run × List ℕ) ℕ
 runs_at whole regions zero low bytes = Ok ([], bytes)
 runs_at whole regions (suc n) low bytes = do
@@ -112,17 +113,17 @@ runs_at whole regions (suc n) low bytes = do
 
 -- ---- the texts
 
--- an FLM file and what it says
+-- an FLM file and the algorithm that it describes
 pub record File : Type 0 where
   pub text : List ℕ
   pub algorithm : flm.Shown
 
--- the algorithm is one for the region, where there is one
+-- there is a region, and the algorithm fits it
 abbrev pub fits_in : board.Shown → Option Region → flm.Shown → Bool
 fits_in b None a = false
 fits_in b (Some region) a = fits b region a
 
--- the file of a region, which stands at an offset
+-- reads the FLM file of a region, at offset `at`
 unfoldable pub file_at : ℕ → ℕ → board.Shown → ℕ → ℕ → List ℕ → Result (File × List ℕ) ℕ
 file_at whole at b region len bytes = do
   text ← text_at whole len bytes
@@ -130,19 +131,19 @@ file_at whole at b region len bytes = do
   fit ← holds_or at (fits_in b (slice_get b.regions region) algorithm)
   Ok (record { text = text.0; algorithm = algorithm }, text.1)
 
--- the second file, where there are two
+-- reads the second FLM file, if there are two
 unfoldable pub second_at : ℕ → ℕ → board.Shown → Head → List ℕ → Result (Option File × List ℕ) ℕ
 second_at whole at b head bytes =
     if nat_eq head.files 1 then Ok (None, bytes) else (file_at whole at b 1 head.second bytes >>= λ x. Ok (Some x.0, x.1))
 
--- the texts of the board and of the FLM files, and what they say
+-- the texts of the board and of the FLM files, with the board and the algorithms that they describe
 pub record Texts : Type 0 where
   pub board_text : List ℕ
   pub board : board.Shown
   pub first : File
   pub second : Option File
 
--- one file or two, and as many as there are regions
+-- there is one FLM file or two, and one for each region
 abbrev pub are_files : ℕ → ℕ → Bool
 are_files files regions = (nat_eq files 1 || nat_eq files 2) && nat_eq files regions
 
@@ -165,7 +166,7 @@ files_in t = files_of t.first t.second
 
 -- ---- the whole
 
--- a job, and what its texts say
+-- a job, with the board and the algorithms that its texts describe
 pub record Found : Type 0 where
   pub job : Job
   pub board : board.Shown
@@ -193,11 +194,11 @@ rest_at whole format head bytes = do
 abbrev pub is_second : List ℕ → Bool
 is_second body = starts_with nat_eq body second_mark
 
--- the format of a body by its mark; what has no mark is read as format 1
+-- the format of a body by its mark; a body without a mark is read as format 1
 abbrev pub format_in : List ℕ → Format
 format_in body = if is_second body then Second else First
 
--- the job of a file of so many bytes, from its byte 1 on; the hash of format 2 isn't looked at
+-- reads the job of a file of `whole` bytes, from its byte 1 on; the hash of format 2 isn't checked
 unfoldable pub job_as : ℕ → Format → List ℕ → Result Found ℕ
 job_as whole format body = do
   long ← holds_or whole (nat_le (places_of format).front whole)
@@ -207,18 +208,18 @@ job_as whole format body = do
 abbrev pub job_at : ℕ → List ℕ → Result Found ℕ
 job_at whole body = job_as whole (format_in body) body
 
--- the hash that a body of format 2 keeps, and that of its bytes from 40 on, counted as those of the file
+-- the hash that a body of format 2 keeps, and the hash of the file's bytes from 40 on
 abbrev pub kept_in : List ℕ → List ℕ
 kept_in body = take 32 (drop 7 body)
 
 abbrev pub found_in : List ℕ → List ℕ
 found_in body = sha256 (drop 39 body)
 
--- the body has the mark of format 2, is long enough for a head, and its hashes differ
+-- the body has the mark of format 2, is long enough for a head, and its two hashes differ
 abbrev pub is_damaged : List ℕ → Bool
 is_damaged body = nat_le 63 (length body) && is_second body && not (bytes_eq (kept_in body) (found_in body))
 
--- free, for a job, damaged with the two hashes, or not a job with the offset that shows it
+-- the class of a file: free, standing for a job, damaged with its two hashes, or no job with the offset that shows it
 pub data Class : Type 0 where
   free : Class
   stands : Found → Class
@@ -229,7 +230,7 @@ abbrev pub class_from : Result Found ℕ → Class
 class_from (Ok found) = stands found
 class_from (Err at) = not_a_job at
 
--- behind an open gate
+-- the class of a file of `whole` bytes with an open gate, by its body
 unfoldable pub class_behind : ℕ → List ℕ → Class
 class_behind whole body = if is_damaged body then damaged (kept_in body) (found_in body) else class_from (job_at whole body)
 
@@ -238,14 +239,14 @@ class_of [] = free
 class_of (gate ∷ []) = free
 class_of (gate ∷ next ∷ rest) = if gate == open_gate then class_behind (length rest + 2) (next ∷ rest) else free
 
--- what a caller sees of a job: all but its format and its texts, and of the snapshot where it begins
+-- what a caller sees of a job: all but its format and its texts, and of the snapshot only its offset
 pub record Seen : Type 0 where
   pub board : board.Shown
   pub algorithms : List flm.Shown
   pub image : List Run
   pub snapshot_at : ℕ
 
--- in a file of so many bytes
+-- a job as a caller sees it, in a file of `whole` bytes
 abbrev pub seen : ℕ → Found → Seen
 seen whole found =
     record { board = found.board; algorithms = found.algorithms; image = found.job.image; snapshot_at = whole - length found.job.snapshot }

@@ -1,4 +1,4 @@
--- What a file is, in the words of the format alone.
+-- What a job file stands for, in terms of the format alone.
 use Rattle.std.specs.Prelude.{◌≡◌, ◌≢◌, ◌≤◌, ℕ, List, [], ◌∷◌, length, take, drop}
 use Rattle.sha2.specs.Sha256.{sha256}
 use Rattle.board_file.specs.Shown as board
@@ -12,11 +12,11 @@ use Rattle.job_text.specs.Body.{Job, second_mark, body_of}
 use Rattle.job_text.specs.Jobs.{IsJob}
 use Rattle.job_text.specs.Reading.{class_of, not_a_job}
 
--- the snapshot of a job in its file
+-- the snapshot of a job, in its file
 abbrev pub snapshot_in : code.Job → List ℕ → List ℕ
 snapshot_in job file = drop job.snapshot_at file
 
--- the file stands for a job that is this one in memory
+-- the file stands for a job, and it is this job in memory
 pub record StandsFor (job : code.Job) (file : List ℕ) : Type 0 where
   pub text : Job
   pub is : IsJob text (board.shown job.board) (algorithms_shown job.algorithms)
@@ -24,7 +24,7 @@ pub record StandsFor (job : code.Job) (file : List ℕ) : Type 0 where
   pub image : text.image ≡ job.image
   pub snapshot : text.snapshot ≡ snapshot_in job file
 
--- the file stands for a job
+-- the file stands for a job, given here with its board and its algorithms
 pub record IsSomeJob (file : List ℕ) : Type 0 where
   pub job : Job
   pub board : board.Shown
@@ -32,12 +32,13 @@ pub record IsSomeJob (file : List ℕ) : Type 0 where
   pub is : IsJob job board algorithms
   pub whole : IsWhole (body_of job) file
 
--- no job has this file, and it isn't free
+-- the file stands for no job, and isn't free
 pub record IsNoJob (file : List ℕ) : Type 0 where
   pub not_free : IsFree file → ⊥
   pub no_job : (j : Job) (b : board.Shown) (algorithms : List flm.Shown) → IsJob j b algorithms → IsWhole (body_of j) file → ⊥
 
--- The gate is open before the mark of format 2 and at least a head, and the hash that the file keeps isn't that of its bytes from 40 on.
+-- The file is damaged. It has an open gate, the mark of format 2, and at least 64 bytes, and the hash that it keeps isn't that of its
+-- bytes from 40 on.
 pub record IsDamaged (kept found file : List ℕ) : Type 0 where
   pub gate : take 1 file ≡ open_gate ∷ []
   pub mark : take 7 (drop 1 file) ≡ second_mark
@@ -46,13 +47,13 @@ pub record IsDamaged (kept found file : List ℕ) : Type 0 where
   pub found_is : found ≡ sha256 (drop 40 file)
   pub differ : kept ≢ found
 
--- the file is neither free nor damaged nor stands for a job, and this offset shows the first check that fails
+-- the file isn't free, isn't damaged and stands for no job; the offset shows the first check that fails
 pub record IsNotAJob (at : ℕ) (file : List ℕ) : Type 0 where
   pub shows : class_of file ≡ not_a_job at
   pub none : IsNoJob file
   pub whole : (kept found : List ℕ) → IsDamaged kept found file → ⊥
 
--- and the file that is damaged stands for no job
+-- the file is damaged, and stands for no job
 pub record IsFoundDamaged (kept found file : List ℕ) : Type 0 where
   pub damaged : IsDamaged kept found file
   pub none : IsNoJob file

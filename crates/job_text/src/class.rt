@@ -20,7 +20,7 @@ use std::alloc::Global;
 /// Byte 0 of a file whose job is open.
 const OPEN_GATE: u8 = 0xA5;
 
-/// The algorithms that the files say.
+/// The algorithms that the FLM files describe.
 fn algorithms_in(
     alloc: Global,
     first: File,
@@ -35,7 +35,7 @@ fn algorithms_in(
     }
 }
 
-/// What stands behind the head.
+/// Reads everything after the head.
 #[tactic(auto, unfolding(crate::specs::Reading::rest_at))]
 fn read_rest(
     alloc: Global,
@@ -75,7 +75,7 @@ fn read_rest(
     })
 }
 
-/// The job of a body of a format, in a file of so many bytes.
+/// Reads the job of a body in this format, in a file of `whole` bytes.
 #[tactic(auto, unfolding(crate::specs::Reading::job_as))]
 fn read_job_as(alloc: Global, whole: u64, format: Format, body: &[u8]) -> Result<Job, JobFault>
     requires { whole ≡ length body.now + 1 }
@@ -88,7 +88,7 @@ fn read_job_as(alloc: Global, whole: u64, format: Format, body: &[u8]) -> Result
     read_rest(alloc, whole, format, head, rest)
 }
 
-/// The job of a body, in a file of so many bytes.
+/// Reads the job of a body, in a file of `whole` bytes.
 fn read_job(alloc: Global, whole: u64, body: &[u8]) -> Result<Job, JobFault>
     requires { whole ≡ length body.now + 1 }
     ensures { Gives seen_job result (seen_of whole (job_at whole body.now)) }
@@ -100,7 +100,7 @@ fn read_job(alloc: Global, whole: u64, body: &[u8]) -> Result<Job, JobFault>
     }
 }
 
-/// What a file is that has this body behind an open gate.
+/// What a file is that has an open gate and this body.
 #[tactic(auto, unfolding(crate::specs::Reading::class_behind))]
 fn read_body(alloc: Global, whole: u64, body: &[u8]) -> Result<Class, OutOfMemory>
     requires { whole ≡ length body.now + 1 }
@@ -117,7 +117,7 @@ fn read_body(alloc: Global, whole: u64, body: &[u8]) -> Result<Class, OutOfMemor
     }
 }
 
-/// What a file is as it is read.
+/// What a file is, by reading it.
 #[tactic(auto, unfolding(crate::specs::Reading::class_of))]
 fn read_class(alloc: Global, file: &[u8]) -> Result<Class, OutOfMemory>
     ensures { IfOk result (λ c. IsClass (length file.now) c (class_of file.now)) }
@@ -128,7 +128,7 @@ fn read_class(alloc: Global, file: &[u8]) -> Result<Class, OutOfMemory>
     read_body(alloc, file.len() as u64, &file[1..])
 }
 
-/// What a job file is: free, for a job, damaged, or none of these.
+/// What a job file is: free, standing for a job, damaged, or none of these.
 pub fn class_of_file(alloc: Global, file: &[u8]) -> Result<Class, OutOfMemory>
     ensures { IfOk result (λ c. IsClassOf c file.now) }
 {

@@ -1,4 +1,4 @@
-//! The steps from left to right through a file, of which each takes something from the front, and their opposites.
+//! Steps of reading a file from left to right, each taking something from the front, and the steps that write it.
 ghost use Rattle.std.specs.Prelude.{◌≡◌, ◌≤◌, ◌+◌, ◌++◌, length, IfOk, OnOk};
 ghost use Rattle.job_text.specs.Body.{field};
 ghost use Rattle.job_text.specs.Reading.{number_at, text_at, mark_at};
@@ -15,7 +15,7 @@ pub const FIRST_MARK: [u8; 7] = [70, 76, 77, 74, 79, 66, 49];
 /// What a body of the second format begins with: `FLMJOB2`.
 pub const SECOND_MARK: [u8; 7] = [70, 76, 77, 74, 79, 66, 50];
 
-/// Takes a field. `whole` is the file's length, which is answered where the bytes end too early.
+/// Takes a field. If the bytes end too early, it answers `whole`, the file's length.
 pub fn take_number(whole: u64, bytes: &[u8]) -> Result<(u32, &[u8]), JobFault>
     ensures gives { Gives (λ x. (x.0, x.1.now)) result (number_at whole bytes.now) }
     ensures shorter { IfOk result (λ x. length x.1.now ≤ length bytes.now) }
@@ -27,7 +27,7 @@ pub fn take_number(whole: u64, bytes: &[u8]) -> Result<(u32, &[u8]), JobFault>
     Ok((le32(bytes, 0), &bytes[4..]))
 }
 
-/// Takes so many bytes.
+/// Takes `len` bytes.
 pub fn take_text(whole: u64, len: u32, bytes: &[u8]) -> Result<(&[u8], &[u8]), JobFault>
     ensures gives { Gives (λ x. (x.0.now, x.1.now)) result (text_at whole len bytes.now) }
     ensures shorter { IfOk result (λ x. length x.1.now ≤ length bytes.now) }

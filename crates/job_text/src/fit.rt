@@ -1,4 +1,4 @@
-//! Whether board, algorithms and image go together in a job.
+//! Whether the board, the algorithms and the image of a job suit one another.
 ghost use Rattle.std.specs.Prelude.{◌≡◌, ◌≤◌, ◌+◌, ◌↔◌, IsTrue, length, slice_get};
 ghost use Rattle.board_file.specs.Shown.{shown as board_shown};
 ghost use Rattle.flm_descriptor.specs.Shown.{shown as flm_shown};
@@ -18,14 +18,14 @@ fn is_device_of(region: &Region, device: &Device) -> bool
     region.base == device.base && region.size == device.size
 }
 
-/// Whether an algorithm is one for a region of a board: its device is the region, and it has room on the board.
+/// Whether an algorithm serves a region of a board: its device is the region, and it has room on the board.
 pub fn fits(board: &Board, region: &Region, algorithm: &Algorithm) -> bool
     ensures { result ≡ fits (board_shown board.now) region.now (flm_shown algorithm.now) }
 {
     is_device_of(region, &algorithm.device) && place(algorithm, board).is_ok()
 }
 
-/// Whether an algorithm is one for the region of this number.
+/// Whether an algorithm serves the region with this number.
 pub fn fits_in(board: &Board, index: usize, algorithm: &Algorithm) -> bool
     ensures { result ≡ fits_in (board_shown board.now) (slice_get board.now.regions index) (flm_shown algorithm.now) }
 {
@@ -52,14 +52,14 @@ fn reach(regions: &[Region], at: u64) -> u64
     at
 }
 
-/// Whether each address from one to before another lies in one of at most two regions.
+/// Whether each address from `from` to before `to` lies in one of at most two regions.
 pub fn covers(regions: &[Region], from: u64, to: u64) -> bool
     ensures { result ≡ covers regions.now from to }
 {
     to <= reach(regions, reach(regions, from))
 }
 
-/// Whether each of so many runs of an image lies in one of at most two regions, or goes from one into the other.
+/// Whether each of the `count` runs of an image lies in one of at most two regions, or goes from one into the other.
 fn all_covered(regions: &[Region], image: &ByteMap, count: usize) -> bool
     requires { count ≡ length image.now }
     ensures { result ≡ all_covered regions.now image.now }
@@ -99,8 +99,8 @@ fn all_fit(board: &Board, algorithms: &[Algorithm]) -> bool
     true
 }
 
-/// Whether board, algorithms and image go together in a job: each region of the board has its algorithm, whose device it is
-/// and which has room in the board's RAM, and the image isn't empty and lies in the regions.
+/// Whether board, algorithms and image suit one another. Each region of the board has its algorithm: its device is the region, and it has
+/// room in the board's RAM. The image isn't empty and lies in the regions.
 pub fn suits(board: &Board, algorithms: &[Algorithm], image: &ByteMap) -> bool
     ensures { IsTrue result ↔ Suits (board_shown board.now) (algorithms_shown algorithms.now) image.now }
 {

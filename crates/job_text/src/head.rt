@@ -7,7 +7,7 @@ use crate::fault::JobFault;
 use crate::fields::{take_mark, take_number, take_text};
 use crate::format::Format;
 
-/// The lengths of the texts in bytes, how many FLM files there are, and how many runs and cells follow them.
+/// The lengths of the texts in bytes, and the numbers of FLM files, of runs and of cells.
 #[derive(Clone, Copy)]
 pub struct Head {
     pub board: u32,
@@ -18,8 +18,8 @@ pub struct Head {
     pub cells: u32,
 }
 
-/// The offset of the first text, and the offsets that show a wrong field: the number of FLM files, the second one's length,
-/// and the numbers of runs and of cells.
+/// The offset of the first text, and the offsets that show a wrong field: the number of FLM files, the length of the second one, and the
+/// numbers of runs and of cells.
 #[derive(Clone, Copy)]
 pub struct Places {
     pub front: u64,
@@ -29,11 +29,11 @@ pub struct Places {
     pub cells: u64,
 }
 
-/// The bytes of a body up to its lengths in the second format: the mark and the hash.
+/// The length of a body of the second format up to its lengths: the mark and the hash.
 const HASH_END: u32 = 39;
 
-/// The offsets of a format. The first one doesn't write how many FLM files there are; a board with more than one region is
-/// shown at its text.
+/// The offsets of a format. The first format doesn't write the number of FLM files. A board with more than one region is refused at its
+/// text.
 pub fn places_in(format: Format) -> Places
     ensures value { result ≡ places_of format }
     ensures small { result.front ≤ 64 }

@@ -21,17 +21,17 @@ pub fn cells_in(board: &Board) -> u32
     cells
 }
 
-/// A job: an image to be programmed on a board by algorithms, over the contents that the device had when the job began.
-/// Addresses are those of the board, in bytes; a cell is a byte.
+/// A job: algorithms program an image on a board, over the contents that the device had when the job began. Addresses are those of the
+/// board, in bytes; a cell is a byte.
 #[derive(Drop)]
 pub struct Job {
     /// The board.
     pub board: Board,
-    /// The algorithm of each of its regions.
+    /// The algorithm of each of the board's regions.
     pub algorithms: Algorithms,
     /// What is to be programmed, by address.
     pub image: ByteMap,
-    /// Where in the job file the snapshot begins, to the file's end: the cells as they were, region after region.
+    /// The offset of the snapshot in the job file. It goes on to the file's end: the cells as they were, region after region.
     pub snapshot_at: u64,
 
     // Each region is the device of its algorithm, which has room in the board's RAM.
@@ -41,12 +41,12 @@ pub struct Job {
     pub ghost some: { 1 ≤ length image },
     pub ghost inside: { LiesIn board.regions image } by { LiesIn-prop board.regions image },
 
-    // Heads, texts and runs before it are no longer than this.
+    // The head, the texts and the runs before the snapshot take less than 2 ^ 34 bytes.
     pub ghost early: { snapshot_at < 2 ^ 34 },
 }
 
 impl Job {
-    /// How many cells its regions have.
+    /// The total number of cells of the board's regions.
     pub fn cells(&self) -> u32
         ensures { result ≡ size_of self.now.board.regions }
     {
@@ -57,11 +57,11 @@ impl Job {
 /// What a job file is.
 #[derive(Drop)]
 pub enum Class {
-    /// It has at most one byte, or its gate is closed.
+    /// The file has at most one byte, or its gate is closed.
     Free,
-    /// Its gate is open before the body of a job.
+    /// The gate of the file is open, and the body of a job follows.
     Stands(Job),
-    /// Its gate is open before a body of the second format, whose hash isn't the one that it keeps.
+    /// The gate of the file is open, and a body of the second format follows with a hash that doesn't fit it.
     Damaged(Damage),
     /// None of these; the offset shows the first check that fails.
     NotAJob { at: u64 },

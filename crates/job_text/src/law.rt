@@ -9,29 +9,29 @@ ghost use Rattle.job_text.specs.Stands.{IsSomeJob, IsDamaged};
 ghost use Rattle.job_text.specs.declared.parts.JobParts.{JobParts};
 ghost use Rattle.job_text.specs.Parts.{job_of, AreParts};
 
-/// One body has one job. That one job has one body is plain: a body is a function of its job.
+/// A body belongs to one job only. Each job has one body, since a body is a function of its job.
 pub fn bodies_have_one_job()
     ensures { (j k : Job) (b c : board.Shown) (a e : List flm.Shown) → IsJob j b a → IsJob k c e
         → body_of j ≡ body_of k → j ≡ k }
 {}
 
-/// So it is wherever the numbers of both jobs have room in their fields, whatever their texts say.
+/// A body belongs to one job only, wherever the numbers of both jobs fit their fields, whatever their texts say.
 pub fn fields_tell_one_job()
     ensures { (j k : Job) → HasFields j → HasFields k → body_of j ≡ body_of k → j ≡ k }
 {}
 
-/// The numbers of a job have room in their fields.
+/// The numbers of a job fit their fields.
 pub fn jobs_have_fields()
     ensures { (j : Job) (b : board.Shown) (a : List flm.Shown) → IsJob j b a → HasFields j }
 {}
 
-/// With any snapshot of the size, parts make a job.
+/// Parts make a job with any snapshot of their size.
 pub fn parts_make_a_job()
     ensures { (parts : JobParts) (are : AreParts parts) (snapshot : List ℕ) → length snapshot ≡ parts.size
         → IsJob (job_of parts snapshot) are.board are.algorithms }
 {}
 
-/// Every file of bytes is free, or stands for a job, or is damaged, or is no job, and is one of these only.
+/// Every file of bytes is free, stands for a job, is damaged, or is no job, and only one of these.
 pub fn files_have_one_class()
     ensures { (file : List ℕ) → ((i : ℕ) → get_or file i 0 < 256) → HasOneClass file }
 {}

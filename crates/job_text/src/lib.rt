@@ -1,10 +1,9 @@
-//! The text of a job file: the one body of a job, and a file read as free, as one that stands for a job, as damaged, or as
-//! none of these.
+//! The text of a job file: the one body of a job, and the class of a file: free, standing for a job, damaged, or none of these.
 //!
-//! A job file is a gate, byte 0, and a body behind it. A body of the second format is the mark `FLMJOB2`, the SHA-256 of all
-//! that is behind it, six lengths, the text of a board, an FLM file for each of its regions, the runs of an image, and a
-//! snapshot of the device. The first format, which is read and not written, has the mark `FLMJOB1`, no hash, four lengths and
-//! one FLM file. A field is a number of 32 bits, the low byte first.
+//! A job file is a gate, byte 0, followed by a body. A body of the second format has these parts: the mark `FLMJOB2`, the SHA-256 of
+//! everything after the hash, and six lengths. Then come the text of a board, an FLM file for each of its regions, the runs of an image,
+//! and a snapshot of the device. The first format, which is read but not written, has the mark `FLMJOB1`, no hash, four lengths and one
+//! FLM file. A field is a number of 32 bits, the low byte first.
 #![tactic(auto)]
 
 mod algorithms;

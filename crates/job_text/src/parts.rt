@@ -1,4 +1,4 @@
-//! A body as it is written, in the second format.
+//! The body of a job as it is written, in the second format.
 ghost use Rattle.std.specs.Prelude.{◌≡◌, ◌<◌, ◌^◌, ◌++◌, length, option_copied, IfOk, OnOk};
 ghost use Rattle.job_text.specs.Body.{field, flm_len};
 ghost use Rattle.job_text.specs.Parts.{AreParts, files_with, flms_of, lengths_of, head_of_parts};
@@ -9,10 +9,10 @@ use byteorder::{ByteOrder, LittleEndian};
 use faults::OutOfMemory;
 use std::alloc::{AllocError, Global};
 
-/// The bytes of a body up to its lengths: the mark and the hash.
+/// The length of a body up to its lengths: the mark and the hash.
 const HASH_END: usize = 39;
 
-/// All of a job but its snapshot: the text of its board, an FLM file for each region, its image, and how many cells there are.
+/// All of a job but its snapshot: the text of its board, an FLM file for each region, its image, and the number of cells.
 #[derive(Clone, Copy)]
 pub struct JobParts<'a> {
     pub board: &'a [u8],
@@ -31,7 +31,7 @@ fn put_three(out: &mut Vec<u8>, first: u32, second: u32, third: u32) -> Result<(
     put_number(out, third)
 }
 
-/// Appends how many FLM files there are, and the length of each, or 0.
+/// Appends the number of FLM files, and the length of the first and of the second, or 0.
 fn put_file_lengths(
     out: &mut Vec<u8>,
     first: &[u8],
@@ -48,7 +48,7 @@ fn put_file_lengths(
     }
 }
 
-/// Appends the six lengths behind the hash.
+/// Appends the six lengths that follow the hash.
 fn put_lengths(out: &mut Vec<u8>, parts: &JobParts) -> Result<(), AllocError>
     requires board { length parts.now.board.now < 2 ^ 32 }
     requires first { length parts.now.flm.now < 2 ^ 32 }
@@ -62,7 +62,7 @@ fn put_lengths(out: &mut Vec<u8>, parts: &JobParts) -> Result<(), AllocError>
     put_number(out, parts.size)
 }
 
-/// What stands before the board's text: the mark, zeros in the place of the hash, and the six lengths, which are 63 bytes.
+/// The 63 bytes before the board's text: the mark, zeros in the place of the hash, and the six lengths.
 pub fn head_text(alloc: Global, parts: &JobParts) -> Result<Vec<u8>, OutOfMemory>
     requires { AreParts parts.now }
     ensures { IfOk result (λ v. v.items ≡ head_of_parts parts.now) }
@@ -74,7 +74,7 @@ pub fn head_text(alloc: Global, parts: &JobParts) -> Result<Vec<u8>, OutOfMemory
     Ok(out)
 }
 
-/// What stands before the bytes of a run: its address, and how many there are.
+/// The eight bytes before those of a run: its address and its length.
 pub fn run_head(at: u32, len: u32) -> [u8; 8]
     ensures { result ≡ field at ++ field len }
 {

@@ -16,10 +16,10 @@ use byte_map::{ByteMap, LayFault};
 use faults::OutOfMemory;
 use std::alloc::Global;
 
-/// How many addresses there are.
+/// The number of addresses.
 const ADDRESSES: u64 = 0x1_0000_0000;
 
-/// Takes a run: its address, its bytes, and what is behind it. It begins at `low` or above it, and each byte of it lies in a
+/// Takes a run: its address, its bytes, and the bytes after it. The run begins at `low` or above it, and each byte of it lies in a
 /// region.
 #[tactic(auto, unfolding(crate::specs::Reading::run_at))]
 fn take_run<'a>(
@@ -51,7 +51,7 @@ fn take_run<'a>(
     }
 }
 
-/// Adds bytes that lie behind all others. They go on with the run that ends where they begin, or else are a run.
+/// Adds bytes after all others. They extend the run that ends where they begin, or else are a run of their own.
 pub fn add_piece(image: &mut ByteMap, at: u32, bytes: &[u8]) -> Result<(), OutOfMemory>
     requires fits { at + length bytes.now ≤ 2 ^ 32 }
     requires behind { EndBy at image.old }
@@ -65,7 +65,7 @@ pub fn add_piece(image: &mut ByteMap, at: u32, bytes: &[u8]) -> Result<(), OutOf
     }
 }
 
-/// Adds a run that begins behind all others and touches none.
+/// Adds a run that begins after all others and touches none.
 fn add_run(image: &mut ByteMap, at: u32, bytes: &[u8]) -> Result<(), OutOfMemory>
     requires some { 1 ≤ length bytes.now }
     requires fits { at + length bytes.now ≤ 2 ^ 32 }
@@ -76,7 +76,7 @@ fn add_run(image: &mut ByteMap, at: u32, bytes: &[u8]) -> Result<(), OutOfMemory
     add_piece(image, at, bytes)
 }
 
-/// Takes so many runs, of which none touches the one before it and each lies in the regions: the image that they are.
+/// Takes `count` runs, and answers their image. No run touches the one before it, and each lies in the regions.
 pub(crate) fn take_runs<'a>(
     alloc: Global,
     whole: u64,
@@ -89,7 +89,7 @@ pub(crate) fn take_runs<'a>(
     ensures count { IfOk result (λ x. length x.0 ≡ count) }
     ensures inside { IfOk result (λ x. LiesIn regions.now x.0) }
     ensures shorter { IfOk result (λ x. length x.1.now ≤ whole) }
-    // A run has a cell at least, and then takes nine bytes.
+    // A run covers at least one cell, so it takes at most nine bytes a cell.
     ensures taken { IfOk result (λ x. length bytes.now ≤ length x.1.now + 9 * size_of regions.now) }
 {
     let mut image = ByteMap::new(alloc);

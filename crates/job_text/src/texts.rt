@@ -1,4 +1,4 @@
-//! The texts of a board and of FLM files in a body, and what they say.
+//! The texts of a board and of FLM files in a body, and what they describe.
 ghost use Rattle.std.specs.Prelude.{◌≡◌, ◌≤◌, ◌<◌, ◌+◌, length, slice_get, IfOk, IsTrue};
 ghost use Rattle.board_file.specs.Shown.{shown as board_shown};
 ghost use Rattle.board_file.specs.Text.{reading};
@@ -17,14 +17,14 @@ use board_file::{Board, BoardFault, read_board};
 use flm_descriptor::{Algorithm, FlmFault, read_flm};
 use std::alloc::Global;
 
-/// An FLM file, and what it says.
+/// An FLM file, and the algorithm that it describes.
 #[derive(Drop)]
 pub(crate) struct File<'a> {
     pub text: &'a [u8],
     pub algorithm: Algorithm,
 }
 
-/// The texts, and what they say.
+/// The texts, and what they describe.
 #[derive(Drop)]
 pub(crate) struct Said<'a> {
     pub board_text: &'a [u8],
@@ -55,7 +55,7 @@ pub fn algorithm_in(alloc: Global, at: u64, file: &[u8]) -> Result<Algorithm, Jo
     }
 }
 
-/// Takes the FLM file of a region, which begins at an offset. It is to fit the region.
+/// Takes the FLM file of a region, which begins at an offset. It must fit the region.
 #[tactic(auto, unfolding(crate::specs::Reading::file_at))]
 fn take_file<'a>(
     alloc: Global,
@@ -79,7 +79,7 @@ fn take_file<'a>(
     Ok((File { text, algorithm }, rest))
 }
 
-/// Takes the second FLM file, where there are two.
+/// Takes the second FLM file, if there are two.
 #[tactic(auto, unfolding(crate::specs::Reading::second_at))]
 fn take_second<'a>(
     alloc: Global,
@@ -101,14 +101,14 @@ fn take_second<'a>(
     Ok((Some(file), rest))
 }
 
-/// Whether there is one file or two, and as many as there are regions.
+/// Whether there is one FLM file or two, and one for each region.
 pub fn are_files(files: u32, regions: usize) -> bool
     ensures { result ≡ are_files files regions }
 {
     (files == 1 || files == 2) && files as usize == regions
 }
 
-/// Takes the texts, and what they say. Each FLM file is to fit its region.
+/// Takes the texts, and answers what they describe. Each FLM file must fit its region.
 #[tactic(auto, unfolding(crate::specs::Reading::texts_at))]
 pub(crate) fn take_texts<'a>(
     alloc: Global,

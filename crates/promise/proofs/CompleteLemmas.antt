@@ -81,7 +81,7 @@ module _ (asked : FilesAsked) (call : answers.Call) (told_files : IsTrue call.in
       subst (λ (a : Aim). Holds files a) (one_aim asked files wants.aim aim wants.is_aim is_aim) wants.holds
 
   module _ (Prints : ℕ → SinkCall → Answer → Type 0) (Starts : BenchCall → SinkCall → FilesGiven → Aim → Answer → Type 0) where
-    -- each answer but want of memory and a fault shows that the texts of the files were short enough to be taken
+    -- each answer but `out_of_memory` and a fault shows that the texts of the files were short enough to be taken
     texts : (answer : Answer) → ShowsFiles call.inputs asked (ShowsJob Prints Starts call.bench call.out answer) answer
         → IsUnless answer done ⊎ HasTexts files aim
     texts (refused out_of_memory) shows = inl (inr refl)

@@ -1,4 +1,4 @@
--- When a call comes to its end: with algorithms that keep their duties, and no fault counted, it is answered 0, or 1 for want of memory.
+-- When a call completes: with algorithms that keep their duties and no fault counted, it answers 0, or 1 if it ran out of memory.
 use Rattle.std.specs.Prelude.{◌≡◌, ◌⊎◌, List, length}
 use Rattle.faults.specs.Counts.{Rose}
 use Rattle.flm_descriptor.specs.Shown as flm
@@ -17,7 +17,7 @@ pub record NoFault (call : Call) : Type 0 where
   pub input : Rose call.input_faults.before call.input_faults.after → ⊥
   pub output : Rose call.output_faults.before call.output_faults.after → ⊥
 
--- The texts of a job suit one another: it has an algorithm for each region of its board, and its image lies in them.
+-- The texts of a job suit one another: it has an algorithm for each region of its board, and its image lies in the regions.
 pub record IsRight (job : Job) (says : SaysJob job) : Type 0 where
   pub algorithms : List flm.Shown
   pub is_job : IsJob says.text says.board algorithms
@@ -26,25 +26,25 @@ pub record IsRight (job : Job) (says : SaysJob job) : Type 0 where
 abbrev pub KeepsDuties : Job → Type 0
 KeepsDuties job = (says : SaysJob job) (right : IsRight job says) → AllServe says.board right.algorithms
 
--- The file stands for a job of as many cells as there are.
+-- The file stands for a job with as many cells as the bench has.
 pub record IsReady (call : Call) (job : Job) : Type 0 where
   pub says : SaysJob job
   pub right : IsRight job says
   pub whole : IsWhole job.body call.old.file
   pub sized : length job.snapshot ≡ call.old.cell_count
 
--- The files of a command are right, and the job file is free for a job of as many cells as there are.
+-- The files of a command are right, and the job file is free for a job with as many cells as the bench has.
 pub record IsReadyFor (call : Call) (asked : FilesAsked) (job : Job) : Type 0 where
   pub files : IsOfFiles call.file_under asked job
   pub right : IsRight job files.says
   pub free : IsFree call.old.file
   pub sized : length job.snapshot ≡ call.old.cell_count
 
--- A call is answered 0, or 1 for want of memory.
+-- A call completes: it answers 0, or 1 if it ran out of memory.
 abbrev pub IsComplete : Call → Type 0
 IsComplete call = (call.status ≡ 0) ⊎ (call.status ≡ 1)
 
--- What is asked of a call for that, by its command.
+-- What makes a call complete, by its command.
 abbrev pub Completes : Command → Call → Type 0
 Completes (program asked) call = (job : Job) → IsReadyFor call asked job → KeepsDuties job → NoFault call → IsComplete call
 Completes (begin asked) call = (job : Job) → IsReadyFor call asked job → NoFault call → IsComplete call

@@ -12,7 +12,7 @@ use Rattle.command_words.specs.Files.{FilesAsked, Command, program, begin, resum
 use Rattle.promise.specs.Job.{Job, laid}
 use Rattle.promise.specs.Texts.{SaysJob, IsOfFiles}
 
--- How often something had failed, at the entry of a call and at its exit.
+-- How many faults of one kind were counted at the entry of a call and at its exit.
 pub record FaultCounts : Type 0 where
   pub before : ℕ
   pub after : ℕ
@@ -20,7 +20,8 @@ pub record FaultCounts : Type 0 where
 abbrev pub fault_counts : ℕ → ℕ → FaultCounts
 fault_counts before after = record { before = before; after = after }
 
--- A call: which file stands under each name; job file, cells, and counts of faults at its entry and at its exit; and the status that it answers.
+-- A call: the file under each name; the job file, the cells and the counts of faults at its entry and at its exit; and the status that it
+-- answers.
 pub record Call : Type 1 where
   pub file_under : List ℕ → Option (List ℕ)
   pub old : BenchState
@@ -29,19 +30,19 @@ pub record Call : Type 1 where
   pub output_faults : FaultCounts
   pub status : ℕ
 
--- This holds of each moment of the call, with each file, and the cells beside it, that a stop of the power may leave then.
+-- `Holds` is true of each moment of the call, with each file and the cells beside it that a stop of the power may leave then.
 abbrev pub AtEachStop : Call → (ℕ → List ℕ → List ℕ → Type 0) → Type 0
 AtEachStop call Holds = (moment : ℕ) (file cells : List ℕ) → call.old.moment ≤ moment → moment ≤ call.new.moment
     → call.new.files_at moment file → call.new.cells_at moment cells → Holds moment file cells
 
--- A call does no work: it doesn't answer 0, and a stop leaves nothing that one at its entry might not have left.
+-- A call does no work: it doesn't answer 0, and a stop in it leaves only what a stop at its entry may leave.
 pub record IsIdle (call : Call) : Type 0 where
   pub not_done : call.status ≢ 0
   pub stopped : AtEachStop call (λ moment file cells. Left call.old file cells)
 
--- A call carries a job to a goal. With status 0 the cells are the goal, no operation is open, and the file is closed behind the job. Up to
--- the moment of its close a stop leaves file and cells as at the entry, in the sense of the command, or the job whole in its file; from then
--- on the cells are the goal, and the file is whole or closed. With status 1, 9, 11 or 12 that moment never comes.
+-- A call carries a job to a goal. With status 0 the cells are the goal, no operation is open, and the file is closed, with the job's body
+-- after byte 0. Before the moment `closing`, a stop leaves file and cells as at the entry, as `AsEntered` says, or the job whole in its
+-- file. From that moment on the cells are the goal, and the file is whole or closed. With status 1, 9, 11 or 12 that moment never comes.
 pub record CarriesOut (call : Call) (job : Job) (goal : List ℕ) (AsEntered : List ℕ → List ℕ → Type 0) : Type 0 where
   pub says : SaysJob job
   pub done : call.status ≡ 0 → IsDone job.body goal call.new
@@ -50,9 +51,9 @@ pub record CarriesOut (call : Call) (job : Job) (goal : List ℕ) (AsEntered : L
   pub from : AtEachStop call (λ moment file cells. closing ≤ moment → IsAtClose job.body goal file cells)
   pub no_close : HasNoClose call.status → call.new.moment < closing
 
--- The operation that was open at the entry ends at this moment, and leaves these cells: a stop then leaves them, and nothing else. Before it
--- a stop leaves each cell as at the entry, but in the operation's range. It is the entry where no operation was open, and has come where none is
--- open at the exit.
+-- The operation that was open at the entry ends at the moment `end`. A stop at that moment leaves the cells `left`, and nothing else.
+-- Before it, a stop leaves each cell as at the entry, except in the operation's range. The moment is the entry where no operation was
+-- open, and has come where none is open at the exit.
 pub record EndsOperation (call : Call) (left : List ℕ) : Type 0 where
   pub end : ℕ
   pub started : call.old.moment ≤ end
@@ -61,8 +62,8 @@ pub record EndsOperation (call : Call) (left : List ℕ) : Type 0 where
   pub before : AtEachStop call (λ moment file cells. moment < end → SameOutside call.old.operation call.old.cells cells)
   pub leaves : (cells : List ℕ) → end ≤ call.new.moment → call.new.cells_at end cells → cells ≡ left
 
--- A job of these files is begun over a free file, in the second format. Its snapshot is the cells of the entry, but in the range of an operation
--- that was open, and there it is what the end of that operation left.
+-- A job of these files is begun over a free file, in the second format. Its snapshot is the cells of the entry, except in the range of an
+-- operation that was open. There it is what the end of that operation left.
 pub record IsBegun (call : Call) (asked : FilesAsked) (job : Job) : Type 0 where
   pub files : IsOfFiles call.file_under asked job
   pub format : files.says.text.format ≡ Second
@@ -70,7 +71,8 @@ pub record IsBegun (call : Call) (asked : FilesAsked) (job : Job) : Type 0 where
   pub snapshot : SameOutside call.old.operation call.old.cells job.snapshot
   pub operation : EndsOperation call job.snapshot
 
--- `program` begins a job, and carries it to its image laid over the snapshot. Before its close a stop leaves it untouched, or the job whole.
+-- `program` begins a job, and carries it to its image laid over the snapshot. Before the close a stop leaves the device untouched, or the
+-- job whole.
 pub record ProgramsJob (call : Call) (asked : FilesAsked) : Type 0 where
   pub job : Job
   pub begun : IsBegun call asked job
@@ -83,7 +85,7 @@ pub record BeginsJob (call : Call) (asked : FilesAsked) : Type 0 where
   pub done : call.status ≡ 0 → IsWhole job.body call.new.file × (call.new.cells ≡ job.snapshot) × (call.new.operation ≡ None)
   pub stopped : AtEachStop call (λ moment file cells. IsUntouched call.old file cells ⊎ IsWhole job.body file)
 
--- `resume` and `revert` carry the job for which the file stands at entry, with the snapshot that it has there.
+-- `resume` and `revert` carry the job for which the file stands at entry, with the snapshot that the file holds.
 pub record TakesUp (call : Call) (goal_of : Job → List ℕ) : Type 0 where
   pub job : Job
   pub whole : IsWhole job.body call.old.file
@@ -104,13 +106,13 @@ call_of file_under old new input_faults output_faults status =
 
 -- ---- several benches
 
--- What a call for several benches answers for one of them: the status that it has for it alone, and the line that says what came of it.
+-- What a call for several benches answers for one of them: the status for that bench alone, and the line that reports it.
 pub record BenchAnswer : Type 0 where
   pub status : ℕ
   pub line : List ℕ
 
--- For this bench alone the call is one of `resume`, which takes no inputs, with the status of its answer. The line is one line, begins with
--- the bench's number, and is the one that says done exactly where that status is 0.
+-- For this bench alone, the call is one of `resume` that takes no inputs and has the status of its answer. The line is one line, begins
+-- with the bench's number, and is the one that says done exactly where that status is 0.
 pub record BenchKeeps (old new : BenchState) (number : ℕ) (answer : BenchAnswer) : Type 0 where
   pub keeps : KeepsPromise resume (call_of (λ name. None) old new (fault_counts 0 0) (fault_counts 0 0) answer.status)
   pub said : List ℕ
@@ -118,30 +120,30 @@ pub record BenchKeeps (old new : BenchState) (number : ℕ) (answer : BenchAnswe
   pub one_line : All (λ (byte : ℕ). byte ≢ 10) said
   pub done : (answer.line ≡ done_line number) ↔ (answer.status ≡ 0)
 
--- Each bench keeps it by its own answer, with its number, from this number on.
+-- Each bench keeps the promise by its own answer. The benches are numbered from `number` on.
 abbrev pub EachKeeps : {B : Type 0} → Ghosts B → ℕ → List B → List B → List BenchAnswer → Type 0
 EachKeeps G number [] [] [] = Unit {0}
 EachKeeps G number (bench ∷ benches) (bench' ∷ benches') (answer ∷ answers) =
     BenchKeeps (G.state bench) (G.state bench') number answer × EachKeeps G (number + 1) benches benches' answers
 EachKeeps G number _ _ _ = ⊥
 
--- the lines, one after the other
+-- the lines of all answers, one after the other
 abbrev pub answer_lines : List BenchAnswer → List ℕ
 answer_lines answers = flat_map (λ (answer : BenchAnswer). answer.line) answers
 
--- the first status that isn't 0, and 0 where each is
+-- the first status that isn't 0, or 0 where each is 0
 abbrev pub first_status : List BenchAnswer → ℕ
 first_status [] = 0
 first_status (answer ∷ rest) = if answer.status == 0 then first_status rest else answer.status
 
--- A call answers the first status that isn't 0, and says all lines; or it answers 10, where the output failed, and says a beginning of them;
--- or it answers 1, for want of memory, or 2, by its words, and says nothing.
+-- A call for several benches answers the first status that isn't 0, and prints all lines. Or the output failed: it answers 10, and prints
+-- a beginning of the lines. Or it answers 1, out of memory, or 2, by its words, and prints nothing.
 abbrev pub SaysLines : List BenchAnswer → ℕ → List ℕ → Type 0
 SaysLines answers status said = ((status ≡ first_status answers) × (said ≡ answer_lines answers))
     ⊎ (((rest : List ℕ) × (status ≡ 10) × (answer_lines answers ≡ said ++ rest))
     ⊎ (((status ≡ 1) ⊎ (status ≡ 2)) × (said ≡ [])))
 
--- What a call for several benches promises, of what stands on the output before and after it. Benches are counted from 1.
+-- What a call for several benches promises, by the contents of the output before and after it. Benches are numbered from 1.
 pub record GangKeeps {B : Type 0} (G : Ghosts B) (benches benches' : List B) (tells : Bool) (before after : List ℕ) (status : ℕ) : Type 0 where
   pub answers : List BenchAnswer
   pub each : EachKeeps G 1 benches benches' answers

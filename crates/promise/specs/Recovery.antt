@@ -1,4 +1,5 @@
--- Recovery: a job that was begun is one that `resume` and `revert` take; and wherever a stop left its file whole, they bring it to its goal.
+-- Recovery: a job that was begun is one that `resume` and `revert` accept. Wherever a stop left its file whole, they bring it to its
+-- goal.
 use Rattle.std.specs.Prelude.{◌≡◌, ◌⊎◌, ℕ, List, [], ◌∷◌, length}
 use Rattle.job_text.specs.Files.{IsFree, IsWhole}
 use Rattle.campaign.specs.Stops.{IsDone}
@@ -9,13 +10,13 @@ use Rattle.promise.specs.Promise.{Call, IsIdle, IsBegun, ProgramsJob, BeginsJob,
 use Rattle.promise.specs.Complete.{NoFault, IsRight, KeepsDuties, IsComplete, Completes}
 use Rattle.promise.specs.Campaign.{Later, command_to, goal_of, IsWithin, AllFollow, AllKeep}
 
--- A whole file of this job stands for it: its texts are those of a board and of an algorithm for each region that fits it, its image lies in
--- the regions, its snapshot has a byte for each cell of theirs; and there are as many cells on the bench.
+-- A whole file of this job stands for it. Its texts describe a board and, for each region, an algorithm that fits it. Its image lies in
+-- the regions, and its snapshot has a byte for each of their cells. The bench has as many cells.
 pub record IsTaken (call : Call) (job : Job) (says : SaysJob job) : Type 0 where
   pub right : IsRight job says
   pub sized : length job.snapshot ≡ call.old.cell_count
 
--- A call is refused, or keeps the promise of its command by such a job.
+-- A call is refused, or keeps the promise of its command by a job that stands for its file.
 abbrev pub Resumes : Command → Call → Type 0
 Resumes (program asked) call = IsIdle call ⊎ ((it : ProgramsJob call asked) × IsTaken call it.job it.begun.files.says)
 Resumes (begin asked) call = IsIdle call ⊎ ((it : BeginsJob call asked) × IsTaken call it.job it.begun.files.says)
@@ -25,19 +26,19 @@ Resumes _ call = Unit {0}
 
 -- ---- many calls
 
--- A call of `program` or `begin`, at whose entry a stop leaves no file but free ones.
+-- The first call is one of `program` or `begin`, and a stop at its entry leaves only free files.
 pub record IsFirstTaken (asked : FilesAsked) (first : Call) (end : ℕ) : Type 0 where
   pub keeps : Resumes (program asked) first ⊎ Resumes (begin asked) first
   pub free : (file : List ℕ) → first.old.files_at first.old.moment file → IsFree file
   pub within : IsWithin first end
 
--- Each call comes to its end as its command does.
+-- Each later call completes, as its command does.
 abbrev pub AllComplete : List Later → Type 0
 AllComplete [] = Unit {0}
 AllComplete (next ∷ rest) = Completes (command_to next.goal) next.call × AllComplete rest
 
--- Where the job's file is whole at the entry, and there are as many cells as there were, with algorithms that keep their duties and no fault
--- counted the call is answered 0, or 1 where it was out of memory; and with 0 the cells are the goal of the job that was begun.
+-- The job's file is whole at the entry, the number of cells is as before, the algorithms keep their duties, and no fault is counted. Then
+-- the call answers 0, or 1 if it ran out of memory; with 0 the cells are the goal of the job that was begun.
 abbrev pub Recovers : Job → ℕ → Later → Type 0
 Recovers job count next = IsWhole job.body next.call.old.file → next.call.old.cell_count ≡ count → KeepsDuties job → NoFault next.call
     → IsComplete next.call × (next.call.status ≡ 0 → IsDone job.body (goal_of next.goal job) next.call.new)
@@ -46,14 +47,15 @@ abbrev pub AllRecover : Job → ℕ → List Later → Type 0
 AllRecover job count [] = Unit {0}
 AllRecover job count (next ∷ rest) = Recovers job count next × AllRecover job count rest
 
--- The first call, which ended or was stopped at this moment, began one job, and each call that follows recovers it.
+-- The first call, which ended or was stopped at the moment `end`, began one job, and each call that follows recovers it.
 pub record IsRecoveredFrom (asked : FilesAsked) (first : Call) (end : ℕ) (later : List Later) : Type 0 where
   pub job : Job
   pub begun : IsBegun first asked job
   pub taken : IsTaken first job begun.files.says
   pub recovers : AllFollow job first.new end later → AllRecover job first.old.cell_count later
 
--- After any calls that keep the promise, each stopped at any moment or not, the job of the first is recovered; or the first was refused.
+-- After any calls that keep the promise, each stopped at any moment or not, the job of the first call is recovered; or the first call was
+-- refused.
 abbrev pub AreRecovered : FilesAsked → Call → ℕ → List Later → Type 0
 AreRecovered asked first end later = IsFirstTaken asked first end → AllKeep later → AllComplete later
     → IsIdle first ⊎ IsRecoveredFrom asked first end later

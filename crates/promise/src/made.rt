@@ -13,8 +13,8 @@ use octets::Word;
 use outside_io::{Inputs, Sink};
 use std::alloc::Global;
 
-/// Makes two calls over a bench in memory, and between them the power is lost: one of `program` or `begin`, and one of `resume` or `revert`. They
-/// are a campaign, so the law of campaigns speaks of calls that can be made. Answers the status of each.
+/// Makes two calls over a bench in memory, and loses the power between them: one of `program` or `begin`, and one of `resume` or
+/// `revert`. They are a campaign, so the law of campaigns speaks of calls that can be made. Answers the status of each.
 pub fn call_lose_call<I: Inputs, O: Sink, E: Sink>(
     alloc: Global,
     words: &[Word],

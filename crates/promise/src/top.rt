@@ -20,8 +20,8 @@ use octets::Word;
 use outside_io::{Inputs, Sink};
 use std::alloc::Global;
 
-/// Runs the command that the words give, as `flmprog` does, and keeps the promise. Words that ask for nothing are answered 2, or 1 where
-/// there is no memory.
+/// Runs the command that the words give, as `flmprog` does, and keeps the promise. Words that fit no command are answered 2, or 1 if
+/// memory runs out.
 pub fn flash<B: Bench, I: Inputs, O: Sink, E: Sink>(
     alloc: Global,
     words: &[Word],
@@ -49,7 +49,7 @@ pub fn flash<B: Bench, I: Inputs, O: Sink, E: Sink>(
     flmprog(alloc, words, bench, inputs, out, err)
 }
 
-/// Carries the job of each bench to its image, as `flmgang` does, and keeps the promise for each of them by its own line.
+/// Carries the job of each bench to its image, as `flmgang` does, and keeps the promise for each bench by its own line.
 pub fn flash_gang<B: Bench, O: Sink, E: Sink>(
     alloc: Global,
     words: &[Word],
