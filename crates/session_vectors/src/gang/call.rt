@@ -15,7 +15,7 @@ struct Streams {
     err: MemorySink,
 }
 
-/// This many words, each of which could name a file.
+/// `count` words that could name files.
 fn words_of(alloc: Global, count: usize) -> Result<Vec<Word>> {
     let mut words = Vec::new(alloc);
     for _word in 0..count {
